@@ -1,0 +1,21 @@
+-- Where a region lands that the range allows.
+use Rattle.std.proofs.Common.{◌≡◌, ℕ, ℤ, pos, negsuc, refl, ◌+◌, ◌≤◌, arith, Ok}
+use Rattle.std.proofs.lemmas.Bool.Decides.{nat_tests}
+use Rattle.archive_check.specs.Ranges.{RangeState, subtree_answer}
+
+-- the region lies at t, within the range
+pub record Lands (s : RangeState) (z : ℤ) (size t : ℕ) : Type 0 where
+  pub above : s.start ≤ t
+  pub below : t + size ≤ s.end
+
+pub lands : (s : RangeState) (z : ℤ) (size align t : ℕ) → Ok tt ≡ subtree_answer s z size align → z ≡ pos t → Lands s z size t
+lands s (negsuc n) size align t h e = cc
+lands s (pos n) size align t h e =
+    let same : n ≡ t = cc in
+    record { above = grind (arith, nat_tests); below = grind (arith, nat_tests) }
+
+-- it has a position, which an index holds
+pub lands_somewhere : (s : RangeState) (z : ℤ) (size align : ℕ) → Ok tt ≡ subtree_answer s z size align → s.end ≤ 18446744073709551615
+    → (t : ℕ) × (z ≡ pos t) × (t ≤ 18446744073709551615)
+lands_somewhere s (negsuc n) size align h small = cc
+lands_somewhere s (pos n) size align h small = (n, refl, grind (arith, nat_tests))

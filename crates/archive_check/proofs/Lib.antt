@@ -1,0 +1,3 @@
+pub mod BytesAt
+pub mod Landing
+pub mod Leaves

@@ -1,0 +1,11 @@
+pub mod Errors
+pub mod Shape
+pub mod Layout
+pub mod Expressions
+pub mod Value
+pub mod Reads
+pub mod Definitions
+pub mod Readable
+pub mod Ranges
+pub mod Told
+pub mod Schemas

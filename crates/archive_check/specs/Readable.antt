@@ -1,0 +1,37 @@
+-- What may be read of a pointee.
+use Rattle.std.specs.Prelude.{◌≡◌, ℕ, ◌+◌, ◌≤◌, ℤ, pos, negsuc, ◌+ℤ◌, List, length, IsUtf8}
+use Rattle.archive_check.specs.Shape.{Kind, leaf, str, Pointee, one, text}
+use Rattle.archive_check.specs.Layout.{kind_size}
+use Rattle.archive_check.specs.Reads.{bytes_at, u32_at, i32_at, IsLegal, IsOutOfLine, before_end, decoded_length}
+
+-- the position that a whole number is, where it is one
+abbrev pub position : ℤ → ℕ
+position (pos n) = n
+position (negsuc n) = 0
+
+-- where the offset at p leads, which counts from q
+abbrev pub target_from : List ℕ → ℕ → ℕ → ℕ
+target_from bytes q p = position (pos q +ℤ i32_at bytes p)
+
+-- `Readable bytes p P n`: the pointee P at p, of n elements or bytes where it is no single value, lies in the buffer, its leaf is legal, and its
+-- text, wherever it stands, is UTF-8. Leaves, texts and strings have a rule.
+pub data Readable (bytes : List ℕ) : ℕ → Pointee → ℕ → Type 0 where
+  readable_leaf : {p n : ℕ} {kind : Kind}
+      → p + kind_size kind ≤ length bytes
+      → IsLegal kind (bytes_at bytes p (kind_size kind))
+      → Readable bytes p (one (leaf kind)) n
+  readable_text : {p n : ℕ}
+      → p + n ≤ length bytes
+      → IsUtf8 (bytes_at bytes p n)
+      → Readable bytes p text n
+  readable_inline : {p n : ℕ}
+      → p + 8 ≤ length bytes
+      → (IsOutOfLine bytes p → ⊥)
+      → IsUtf8 (before_end (bytes_at bytes p 8))
+      → Readable bytes p (one str) n
+  readable_out_of_line : {p n t : ℕ}
+      → p + 8 ≤ length bytes
+      → IsOutOfLine bytes p
+      → pos p +ℤ i32_at bytes (p + 4) ≡ pos t
+      → Readable bytes t text (decoded_length (u32_at bytes p))
+      → Readable bytes p (one str) n

@@ -1,0 +1,93 @@
+//! Numbers and texts in bytes. Positions are in bytes from the buffer's first one.
+#![tactic(auto, unfolding(crate::specs::Reads::bytes_at, crate::specs::Reads::u32_at, crate::specs::Reads::i32_at, crate::specs::Reads::decoded_length))]
+
+ghost use Rattle.std.specs.Prelude.{◌≡◌, ◌↔◌, ◌+◌, ◌<◌, ◌≤◌, length, pos, ◌+ℤ◌, IsTrue, IsUtf8};
+ghost use Rattle.archive_check.specs.Reads.{bytes_at, u32_at, i32_at, before_end, decoded_length, IsOutOfLine};
+ghost use Rattle.archive_check.specs.Readable.{target_from};
+
+/// The number in the four bytes at `p`, the lowest first.
+pub fn read_u32(bytes: &[u8], p: usize) -> u32
+    requires { p + 4 ≤ length bytes.now }
+    ensures { result ≡ u32_at bytes.now p }
+{
+    u32::from_le_bytes([bytes[p], bytes[p + 1], bytes[p + 2], bytes[p + 3]])
+}
+
+/// The signed number in the four bytes at `p`, the lowest first.
+pub fn read_i32(bytes: &[u8], p: usize) -> i32
+    requires { p + 4 ≤ length bytes.now }
+    ensures { result ≡ i32_at bytes.now p }
+{
+    i32::from_le_bytes([bytes[p], bytes[p + 1], bytes[p + 2], bytes[p + 3]])
+}
+
+/// Where the offset at `p` leads, which counts from `q`, be it in the buffer or not.
+pub fn read_position(bytes: &[u8], q: usize, p: usize) -> i128
+    requires { p + 4 ≤ length bytes.now }
+    ensures { result ≡ pos q +ℤ i32_at bytes.now p }
+{
+    q as i128 + read_i32(bytes, p) as i128
+}
+
+/// Where the offset at `p` leads, which counts from `q` and leads into the buffer.
+pub fn read_target(bytes: &[u8], q: usize, p: usize) -> usize
+    requires within { p + 4 ≤ length bytes.now }
+    requires lands { pos q +ℤ i32_at bytes.now p ≡ pos (target_from bytes.now q p) }
+    requires fits { target_from bytes.now q p ≤ length bytes.now }
+    ensures { result ≡ target_from bytes.now q p }
+{
+    let offset = read_i32(bytes, p);
+    if offset < 0 {
+        q - offset.unsigned_abs() as usize
+    } else {
+        q + offset.unsigned_abs() as usize
+    }
+}
+
+/// Whether the string at `p` says that its text stands elsewhere.
+pub fn is_out_of_line(bytes: &[u8], p: usize) -> bool
+    requires { p < length bytes.now }
+    ensures { IsTrue result ↔ IsOutOfLine bytes.now p }
+{
+    bytes[p] & 0xc0 == 0x80
+}
+
+/// The length that the first four bytes of the out-of-line string at `p` code.
+pub fn read_coded_length(bytes: &[u8], p: usize) -> usize
+    requires { p + 4 ≤ length bytes.now }
+    ensures { result ≡ decoded_length (u32_at bytes.now p) }
+{
+    let code = read_u32(bytes, p) as usize;
+    code % 64 + code / 256 * 64
+}
+
+/// How many of the eight bytes at `p` stand before the first 0xff.
+pub fn inline_length(bytes: &[u8], p: usize) -> usize
+    requires { p + 8 ≤ length bytes.now }
+    ensures short { result ≤ 8 }
+    ensures text { bytes_at bytes.now p result ≡ before_end (bytes_at bytes.now p 8) }
+{
+    for k in 0..8 {
+        if bytes[p + k] == 0xff {
+            return k;
+        }
+    }
+    8
+}
+
+/// Whether the `n` bytes at `p` are UTF-8.
+pub fn is_text(bytes: &[u8], p: usize, n: usize) -> bool
+    requires { p + n ≤ length bytes.now }
+    ensures { IsTrue result ↔ IsUtf8 (bytes_at bytes.now p n) }
+{
+    std::str::from_utf8(&bytes[p..p + n]).is_ok()
+}
+
+/// The `n` bytes at `p`, which are UTF-8.
+pub fn read_text(bytes: &[u8], p: usize, n: usize) -> &str
+    requires within { p + n ≤ length bytes.now }
+    requires utf8 { IsUtf8 (bytes_at bytes.now p n) }
+    ensures { result.now ≡ bytes_at bytes.now p n }
+{
+    unsafe { str::from_utf8_unchecked(&bytes[p..p + n]) }
+}

@@ -1,0 +1,10 @@
+//! What archived values look like, and the check of bytes against it.
+#![tactic(auto)]
+
+pub mod bytes;
+pub mod error;
+pub mod expr;
+pub mod layout;
+pub mod shape;
+pub mod traits;
+pub mod validation;

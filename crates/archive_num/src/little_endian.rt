@@ -1,0 +1,97 @@
+//! The format of a number.
+
+ghost use Rattle.std.specs.Prelude.{◌≡◌, refl, min, ℕ, List};
+ghost use Rattle.archive_check.specs.Shape.{Kind, leaf, one};
+ghost use Rattle.archive_check.specs.Layout.{Layout};
+ghost use Rattle.archive_check.specs.Definitions.{no_definition};
+ghost use Rattle.archive_num.specs.Formats.{leaf_layout};
+
+use crate::Native;
+use archive_check::error::Error;
+use archive_check::expr::{Defs, Expr};
+use archive_check::traits::{ArchivePointee, Portable};
+use std::alloc::{AllocError, Global};
+use std::cmp::Ordering;
+use std::fmt;
+use std::hash::{Hash, Hasher};
+use std::marker::Model;
+
+/// A number as an archive holds it: its bytes, the lowest first. In a contract it is its number.
+#[derive(Clone, Copy, PartialEq, Eq, PartialOrd, Ord, Hash, Debug)]
+pub struct LittleEndian<N> {
+    number: N,
+}
+
+impl<N> Model for LittleEndian<N> {
+    ghost Value = { N };
+
+    ghost view = { λ l. l.number };
+
+    ghost inverse = { λ n. record { number = n } };
+}
+
+impl<N: Native> LittleEndian<N> {
+    /// The archived form of a number.
+    pub fn from_native(number: N) -> LittleEndian<N>
+        ensures { result ≡ number }
+    {
+        LittleEndian { number }
+    }
+
+    /// The number.
+    pub fn to_native(self) -> N
+        ensures { result ≡ self }
+    {
+        self.number
+    }
+}
+
+impl<N: Native> fmt::Display for LittleEndian<N> {
+    ghost output = { N.output };
+
+    fn fmt<W: fmt::Write>(&self, f: &mut fmt::Formatter<W>) -> fmt::Result {
+        self.number.fmt(f)
+    }
+}
+
+impl<N: Native> ArchivePointee for LittleEndian<N> {
+    type ArchivedMetadata = ();
+
+    ghost pointee = { one (leaf N.kind) };
+
+    ghost definitions = { no_definition };
+
+    ghost metadata_length = { λ _. 0 };
+
+    fn pointer_metadata(_metadata: &()) -> usize {
+        0
+    }
+}
+
+impl<N: Native> Portable for LittleEndian<N> {
+    ghost shape = { leaf N.kind };
+
+    ghost layout = { record { size = N.byte_count; align = N.byte_count } };
+
+    ghost is_one = { refl };
+
+    ghost is_align = { N.align_law };
+
+    ghost has_layout = { leaf_layout N.kind N.byte_count N.size_law N.align_law };
+
+    fn size() -> usize {
+        N::byte_count()
+    }
+
+    fn align() -> usize {
+        N::byte_count()
+    }
+
+    fn expr(_alloc: Global) -> Result<Expr, Error> {
+        Ok(Expr::Leaf(N::kind()))
+    }
+
+    fn define(_alloc: Global, _defs: &mut Defs) -> Result<(), Error> {
+        Ok(())
+    }
+}
