@@ -1,6 +1,6 @@
 //! What archived types, keys and entries tell of themselves.
 
-ghost use Rattle.std.specs.Prelude.{◌≡◌, ◌⊎◌, ℕ, min, Bool, Option, None, IfOk, IfErr};
+ghost use Rattle.std.specs.Prelude.{◌≡◌, ◌⊎◌, ℕ, min, Bool, true, Option, None, IfOk, IfErr};
 ghost use Rattle.archive_check.specs.Shape.{Shape, Pointee, one};
 ghost use Rattle.archive_check.specs.Layout.{Layout as LayoutOf};
 ghost use Rattle.archive_check.specs.Expressions.{shape_of};
@@ -11,7 +11,7 @@ ghost use Rattle.archive_check.specs.declared.error.Error.TheVariants.{OutOfMemo
 
 use crate::error::Error;
 use crate::expr::{Defs, Expr};
-use std::alloc::Global;
+use std::alloc::{Allocator, Global};
 
 /// What a pointer may lead to: an archived value, a slice or a text.
 pub trait ArchivePointee {
@@ -94,9 +94,15 @@ impl Keys for () {
     ghost state_of = { λ _ _. None };
 }
 
-impl Entries for () {
-    ghost use Rattle.std.specs.Prelude.{true};
+impl<A: Allocator> Tells for Vec<u8, A> {
+    ghost told = { λ v. record { bytes = v.items; room = None; failures = 0 } };
+}
 
+impl<A: Allocator> Keys for Vec<u8, A> {
+    ghost state_of = { λ _ _. None };
+}
+
+impl Entries for () {
     ghost entry_of = { λ _ _. None };
 
     ghost keeps = { true };

@@ -1,0 +1,27 @@
+-- What a write does to a writer.
+use Rattle.std.specs.Prelude.{◌≡◌, ℕ, ◌+◌, ◌-◌, ◌^◌, ◌<◌, ◌≤◌, ◌⊎◌, ◌%◌, List, ◌++◌, length, Option, Some, None, IfSome, ⊤}
+use Rattle.archive_check.specs.Told.{Told}
+use Rattle.archive_check.specs.declared.error.Error.{Error}
+use Rattle.archive_check.specs.declared.error.Error.TheVariants.{OutOfMemory, BufferOverflow, WriterFailed}
+
+-- ys is xs and then perhaps more
+pub record IsBeginning (xs ys : List ℕ) : Type 0 where
+  pub rest : List ℕ
+  pub whole : ys ≡ xs ++ rest
+
+-- the room falls by as many bytes as those told have grown
+abbrev pub RoomFalls : Option ℕ → Option ℕ → List ℕ → List ℕ → Type 0
+RoomFalls None new xs ys = new ≡ None
+RoomFalls (Some room) new xs ys = (length ys ≤ length xs + room) × (new ≡ Some (room - (length ys - length xs)))
+
+-- Why a write of n bytes was refused: for want of memory; for want of room; or by its device, which failed now or had failed too often.
+abbrev pub ExplainsRefusal : ℕ → ℕ → Option ℕ → ℕ → ℕ → Error → Type 0
+ExplainsRefusal n place room before after OutOfMemory = ⊤
+ExplainsRefusal n place room before after (BufferOverflow write_len cap len) =
+    (write_len ≡ n) × (len ≡ place) × IfSome room (λ r. (r < n) × (cap ≡ place + r))
+ExplainsRefusal n place room before after WriterFailed = (before < after) ⊎ (before ≡ 2 ^ 64 - 1)
+ExplainsRefusal n place room before after _ = ⊥
+
+-- how many bytes stand between n and the next multiple of a
+abbrev pub padding : ℕ → ℕ → ℕ
+padding a n = (a - n % a) % a

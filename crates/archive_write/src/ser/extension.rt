@@ -1,0 +1,64 @@
+//! What is written to every writer.
+
+ghost use Rattle.std.specs.Prelude.{◌≡◌, ◌++◌, ◌<◌, ◌≤◌, OnOk, OnErr, IfOk, IfErr, replicate};
+ghost use Rattle.archive_check.specs.Told.{KeepsKeys};
+ghost use Rattle.archive_write.specs.Written.{IsBeginning, RoomFalls, ExplainsRefusal, padding};
+
+use crate::ser::Writer;
+use archive_check::error::Error;
+use archive_check::traits::Portable;
+
+/// What every writer can do besides. Refusals are those of the writer.
+pub trait WriterExt: Writer {
+    /// Writes `n` zeros.
+    final fn pad(&mut self, n: usize) -> Result<(), Error>
+    where
+        Self: Sized,
+        requires { n < 32 }
+        ensures written { OnOk result ((Self.told self.new).bytes ≡ (Self.told self.old).bytes ++ replicate n 0) }
+        ensures kept { OnErr result (IsBeginning (Self.told self.old).bytes (Self.told self.new).bytes) }
+        ensures room { RoomFalls (Self.told self.old).room (Self.told self.new).room (Self.told self.old).bytes (Self.told self.new).bytes }
+        ensures refusal { IfErr result (ExplainsRefusal n (Self.place self.old) (Self.told self.old).room (Self.told self.old).failures (Self.told self.new).failures) }
+        ensures device { (Self.told self.old).failures ≤ (Self.told self.new).failures }
+        ensures keys { KeepsKeys (Self.state_of self.old) (Self.state_of self.new) }
+    {
+        let zeros = [0; 32];
+        self.write(&zeros[..n])
+    }
+
+    /// Writes zeros up to the next multiple of `align` bytes, and answers the position there.
+    final fn align(&mut self, align: usize) -> Result<usize, Error>
+    where
+        Self: Sized,
+        requires low { 0 < align }
+        requires high { align ≤ 32 }
+        ensures position { IfOk result (λ p. p ≡ Self.place self.new) }
+        ensures written { OnOk result ((Self.told self.new).bytes ≡ (Self.told self.old).bytes ++ replicate (padding align (Self.place self.old)) 0) }
+        ensures kept { OnErr result (IsBeginning (Self.told self.old).bytes (Self.told self.new).bytes) }
+        ensures room { RoomFalls (Self.told self.old).room (Self.told self.new).room (Self.told self.old).bytes (Self.told self.new).bytes }
+        ensures refusal { IfErr result (ExplainsRefusal (padding align (Self.place self.old)) (Self.place self.old) (Self.told self.old).room (Self.told self.old).failures (Self.told self.new).failures) }
+        ensures device { (Self.told self.old).failures ≤ (Self.told self.new).failures }
+        ensures keys { KeepsKeys (Self.state_of self.old) (Self.state_of self.new) }
+    {
+        let past = self.pos() % align;
+        self.pad((align - past) % align)?;
+        Ok(self.pos())
+    }
+
+    /// Writes zeros up to the next multiple of the alignment of `T`, and answers the position there.
+    final fn align_for<T: Portable>(&mut self) -> Result<usize, Error>
+    where
+        Self: Sized,
+        ensures position { IfOk result (λ p. p ≡ Self.place self.new) }
+        ensures written { OnOk result ((Self.told self.new).bytes ≡ (Self.told self.old).bytes ++ replicate (padding T.layout.align (Self.place self.old)) 0) }
+        ensures kept { OnErr result (IsBeginning (Self.told self.old).bytes (Self.told self.new).bytes) }
+        ensures room { RoomFalls (Self.told self.old).room (Self.told self.new).room (Self.told self.old).bytes (Self.told self.new).bytes }
+        ensures refusal { IfErr result (ExplainsRefusal (padding T.layout.align (Self.place self.old)) (Self.place self.old) (Self.told self.old).room (Self.told self.old).failures (Self.told self.new).failures) }
+        ensures device { (Self.told self.old).failures ≤ (Self.told self.new).failures }
+        ensures keys { KeepsKeys (Self.state_of self.old) (Self.state_of self.new) }
+    {
+        self.align(T::align())
+    }
+}
+
+impl<W: Writer> WriterExt for W {}

@@ -1,0 +1,104 @@
+//! A writer, an allocator and the states of shared keys, as one.
+
+ghost use Rattle.std.specs.Prelude.{◌≡◌};
+
+use crate::ser::{Positional, Writer};
+use archive_check::error::Error;
+use archive_check::traits::{Keys, Tells};
+use std::alloc::Allocator;
+
+/// What a value is serialized to.
+#[derive(Drop)]
+pub struct Serializer<W, A, S> {
+    /// What takes the bytes.
+    pub writer: W,
+    /// Where memory for resolvers comes from.
+    pub allocator: A,
+    /// The states of the shared keys; `()` where no value is shared.
+    pub sharing: S,
+}
+
+impl<W, A, S> Serializer<W, A, S> {
+    /// A serializer of these parts.
+    pub fn new(writer: W, allocator: A, sharing: S) -> Serializer<W, A, S>
+        ensures writer { result.writer ≡ writer }
+        ensures allocator { result.allocator ≡ allocator }
+        ensures sharing { result.sharing ≡ sharing }
+    {
+        Serializer {
+            writer,
+            allocator,
+            sharing,
+        }
+    }
+
+    /// The parts.
+    pub fn into_raw_parts(self) -> (W, A, S)
+        ensures { result ≡ (self.writer, self.allocator, self.sharing) }
+    {
+        let Serializer {
+            writer,
+            allocator,
+            sharing,
+        } = self;
+        (writer, allocator, sharing)
+    }
+
+    /// The writer alone.
+    pub fn into_writer(self) -> W
+    where
+        A: Drop,
+        S: Drop,
+        ensures { result ≡ self.writer }
+    {
+        let Serializer { writer, .. } = self;
+        writer
+    }
+}
+
+/// What hands out an allocator for resolvers.
+pub trait ResolverAlloc {
+    /// The allocator's type.
+    type Alloc: Allocator + Copy;
+
+    // The allocator.
+    ghost resolver_alloc: { Self → Self.Alloc };
+
+    /// The allocator.
+    fn resolver_alloc(&self) -> Self::Alloc
+        ensures { result ≡ resolver_alloc self.now };
+}
+
+impl<W, A: Allocator + Copy, S> ResolverAlloc for Serializer<W, A, S> {
+    type Alloc = A;
+
+    ghost resolver_alloc = { λ s. s.allocator };
+
+    fn resolver_alloc(&self) -> A {
+        self.allocator
+    }
+}
+
+impl<W: Positional, A, S> Positional for Serializer<W, A, S> {
+    ghost place = { λ s. W.place s.writer };
+
+    fn pos(&self) -> usize {
+        self.writer.pos()
+    }
+}
+
+impl<W: Tells, A, S> Tells for Serializer<W, A, S> {
+    ghost told = { λ s. W.told s.writer };
+}
+
+impl<W: Tells, A, S: Keys> Keys for Serializer<W, A, S> {
+    ghost state_of = { λ s. S.state_of s.sharing };
+}
+
+impl<W: Writer, A, S: Keys> Writer for Serializer<W, A, S> {
+    ghost place_law = { λ s. W.place_law s.writer };
+
+    fn write(&mut self, bytes: &[u8]) -> Result<(), Error> {
+        self.writer.write(bytes)
+    }
+}

@@ -1,0 +1,60 @@
+//! Writers.
+
+ghost use Rattle.std.specs.Prelude.{◌≡◌, ◌++◌, ◌≤◌, ℕ, None, length, OnOk, OnErr, IfErr, refl};
+ghost use Rattle.archive_check.specs.Told.{KeepsKeys};
+ghost use Rattle.archive_write.specs.Written.{IsBeginning, RoomFalls, ExplainsRefusal};
+
+use archive_check::error::Error;
+use archive_check::traits::Keys;
+use std::alloc::Allocator;
+
+/// What stands at a position.
+pub trait Positional {
+    // The position: how many bytes stand before it.
+    ghost place: { Self → ℕ };
+
+    /// The position, in bytes from the first one.
+    fn pos(&self) -> usize
+        ensures { result ≡ place self.now };
+}
+
+/// What takes bytes at its end.
+pub trait Writer: Positional + Keys {
+    /// Appends `bytes`. Refused with 1 where memory is refused, with 8 only where its room is less, and with 9 only where its device fails in this
+    /// call or has failed `u64::MAX` times. After a refusal it holds a beginning of what it was to hold, and the shared keys are as before.
+    fn write(&mut self, bytes: &[u8]) -> Result<(), Error>
+        ensures written { OnOk result ((Self.told self.new).bytes ≡ (Self.told self.old).bytes ++ bytes.now) }
+        ensures kept { OnErr result (IsBeginning (Self.told self.old).bytes (Self.told self.new).bytes) }
+        ensures room { RoomFalls (Self.told self.old).room (Self.told self.new).room (Self.told self.old).bytes (Self.told self.new).bytes }
+        ensures refusal { IfErr result (ExplainsRefusal (length bytes.now) (Self.place self.old) (Self.told self.old).room (Self.told self.old).failures (Self.told self.new).failures) }
+        ensures device { (Self.told self.old).failures ≤ (Self.told self.new).failures }
+        ensures keys { KeepsKeys (Self.state_of self.old) (Self.state_of self.new) };
+
+    ghost place_law: { (w : Self) → Self.place w ≡ length (Self.told w).bytes };
+}
+
+impl<A: Allocator> Positional for Vec<u8, A> {
+    ghost place = { λ v. length v.items };
+
+    fn pos(&self) -> usize {
+        self.len()
+    }
+}
+
+/// A vector has no limit but memory, and a refused write leaves it unchanged.
+impl<A: Allocator> Writer for Vec<u8, A> {
+    ghost place_law = { λ v. refl };
+
+    fn write(&mut self, bytes: &[u8]) -> Result<(), Error>
+        ensures written { OnOk result (self.new.items ≡ self.old.items ++ bytes.now) }
+        ensures kept { OnErr result (IsBeginning self.old.items self.new.items) }
+        ensures room { RoomFalls None None self.old.items self.new.items }
+        ensures refusal { IfErr result (ExplainsRefusal (length bytes.now) (length self.old.items) None 0 0) }
+        ensures device { 0 ≤ 0 }
+        ensures keys { KeepsKeys (λ _. None) (λ _. None) }
+        ensures unchanged { OnErr result (self.new.items ≡ self.old.items) }
+        ensures out_of_memory { IfErr result (λ e. e ≡ Error.OutOfMemory) }
+    {
+        Ok(self.extend_from_slice(bytes)?)
+    }
+}
