@@ -1,13 +1,13 @@
-// A library with one function.
+//! archive-core: values are written so that their bytes are used where they lie, and bytes are checked once before they are read.
 #![tactic(auto)]
 
-ghost use Rattle.std.specs.Prelude.{◌≡◌};
-ghost use Rattle.archive_core.specs.Echo.{echo_of};
+pub mod api;
+pub mod place;
+pub mod primitive;
+pub mod rel_ptr;
+pub mod ser;
+pub mod string;
+pub mod traits;
+pub mod view;
 
-// The `ensures` clause is the contract: what `echo` returns is `echo_of` of its argument, a definition
-// in `specs/Echo.antt`, which a caller's clause can cite too.
-pub fn echo(x: usize) -> usize
-    ensures { result ≡ echo_of x }
-{
-    x
-}
+pub use archive_check::{error, shape, validation};

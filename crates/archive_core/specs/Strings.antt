@@ -1,0 +1,15 @@
+-- The eight bytes of a string.
+use Rattle.std.specs.Prelude.{ℕ, ◌+◌, ◌-◌, ◌*◌, ◌/◌, ◌%◌, ℤ, List, ◌++◌, length, replicate}
+use Rattle.std.specs.Int.{w32, to_le_bytes, cast_unsigned}
+
+-- the number that codes the length of a text that stands elsewhere
+abbrev pub coded_length : ℕ → ℕ
+coded_length n = n % 64 + 128 + n / 64 * 256
+
+-- of an inline string
+abbrev pub inline_bytes : List ℕ → List ℕ
+inline_bytes bytes = bytes ++ replicate (8 - length bytes) 0xff
+
+-- of a string whose text has n bytes and stands so far away
+abbrev pub out_of_line_bytes : ℕ → ℤ → List ℕ
+out_of_line_bytes n offset = to_le_bytes w32 (coded_length n) ++ to_le_bytes w32 (cast_unsigned w32 offset)

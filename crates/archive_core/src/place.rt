@@ -1,0 +1,38 @@
+//! Where an archived value is to be written.
+
+ghost use Rattle.std.specs.Prelude.{◌≡◌};
+
+use std::marker::PhantomData;
+
+/// The bytes that an archived `T` is to have, and the position of the first one in the buffer. What implements `Archive` takes it apart by a
+/// pattern, so that its caller knows the bytes afterwards.
+#[derive(Drop)]
+pub struct Place<'a, T> {
+    /// The bytes, all of them 0 before something is written.
+    pub bytes: &'a mut [u8],
+    /// Where they stand, in bytes from the buffer's first one.
+    pub pos: usize,
+    of: PhantomData<T>,
+}
+
+impl<'a, T> Place<'a, T> {
+    /// The place of these bytes, which stand at `pos`.
+    pub fn new(pos: usize, bytes: &'a mut [u8]) -> Place<'a, T>
+        ensures same_reference { result.bytes.ghost_name ≡ bytes.entry.ghost_name }
+        ensures buffer { result.bytes.now ≡ bytes.old }
+        ensures position { result.pos ≡ pos }
+    {
+        Place {
+            bytes,
+            pos,
+            of: PhantomData,
+        }
+    }
+
+    /// Where it stands, in bytes from the buffer's first one.
+    pub fn pos(&self) -> usize
+        ensures { result ≡ self.now.pos }
+    {
+        self.pos
+    }
+}

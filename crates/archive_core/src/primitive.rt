@@ -1,0 +1,97 @@
+//! Numbers: their formats, and how they are archived and read back.
+
+ghost use Rattle.std.specs.Prelude.{◌≡◌, ◌⊎◌, ⊤, refl, length, IfErr};
+ghost use Rattle.archive_check.specs.Shape.{leaf, one};
+ghost use Rattle.archive_check.specs.Readable.{Readable};
+ghost use Rattle.archive_check.specs.declared.error.Error.TheVariants.{OutOfMemory, CyclicDeserialize};
+
+use crate::place::Place;
+use crate::traits::{Archive, Deserialize, Entries, Keys, Portable, Serialize};
+use crate::view::{Part, Ref};
+use archive_check::error::Error;
+use archive_write::ser::Writer;
+use std::alloc::Global;
+
+pub use archive_num::{ArchivedU32, ArchivedUsize, FixedUsize, LittleEndian, Native};
+
+/// A number that is archived as the bytes that stand for it.
+pub trait Source: Native {
+    /// Its archived type.
+    type Format: Portable;
+
+    ghost same_size: { Self.Format.layout.size ≡ Self.byte_count };
+}
+
+impl Source for u32 {
+    type Format = ArchivedU32;
+
+    ghost same_size = { refl };
+}
+
+impl<N: Source> Archive for N {
+    type Archived = N::Format;
+
+    type Resolver = ();
+
+    ghost belongs = { λ _ _. ⊤ };
+
+    fn resolve(&self, _resolver: (), place: Place<'_, N::Format>) -> Result<(), Error>
+        requires sized { length place.bytes.now ≡ N.Format.layout.size }
+        requires same_value { ⊤ }
+        ensures { length place.exit.0.now ≡ length place.entry.bytes.now }
+    {
+        let Place { bytes, .. } = place;
+        self.write_to(bytes);
+        Ok(())
+    }
+}
+
+impl<N: Source, S: Writer + Keys> Serialize<S> for N {
+    fn serialize(&self, _serializer: &mut S) -> Result<(), Error> {
+        Ok(())
+    }
+}
+
+impl<N: Native> Archive for LittleEndian<N> {
+    type Archived = LittleEndian<N>;
+
+    type Resolver = ();
+
+    ghost belongs = { λ _ _. ⊤ };
+
+    fn resolve(&self, _resolver: (), place: Place<'_, LittleEndian<N>>) -> Result<(), Error>
+        requires sized { length place.bytes.now ≡ N.byte_count }
+        requires same_value { ⊤ }
+        ensures { length place.exit.0.now ≡ length place.entry.bytes.now }
+    {
+        let Place { bytes, .. } = place;
+        self.to_native().write_to(bytes);
+        Ok(())
+    }
+}
+
+impl<N: Native, S: Writer + Keys> Serialize<S> for LittleEndian<N> {
+    fn serialize(&self, _serializer: &mut S) -> Result<(), Error> {
+        Ok(())
+    }
+}
+
+impl<N: Source, D: Entries> Deserialize<N, D> for LittleEndian<N> {
+    fn deserialize_part(_alloc: Global, part: Part<'_>, _deserializer: &mut D) -> Result<N, Error>
+        requires { ∥ Readable part.bytes.now part.pos (one (leaf N.kind)) part.len ∥₁ }
+        ensures { IfErr result (λ e. (e ≡ OutOfMemory) ⊎ (e ≡ CyclicDeserialize)) }
+    {
+        let view: Ref<'_, LittleEndian<N>> = Ref::at(part);
+        Ok(view.get())
+    }
+}
+
+impl<N: Native, D: Entries> Deserialize<LittleEndian<N>, D> for LittleEndian<N> {
+    fn deserialize_part(_alloc: Global, part: Part<'_>, _deserializer: &mut D) -> Result<LittleEndian<N>, Error>
+        requires { ∥ Readable part.bytes.now part.pos (one (leaf N.kind)) part.len ∥₁ }
+        ensures { IfErr result (λ e. (e ≡ OutOfMemory) ⊎ (e ≡ CyclicDeserialize)) }
+    {
+        let view: Ref<'_, LittleEndian<N>> = Ref::at(part);
+        Ok(LittleEndian::from_native(view.get()))
+    }
+}

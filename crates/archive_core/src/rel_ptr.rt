@@ -1,0 +1,18 @@
+//! Offsets between positions.
+
+ghost use Rattle.std.specs.Prelude.{◌≡◌, MatchResult, FitsSigned};
+ghost use Rattle.std.specs.Int.{w64};
+ghost use Rattle.archive_core.specs.Offsets.{distance};
+ghost use Rattle.archive_check.specs.declared.error.Error.TheVariants.{IsizeOverflow};
+
+use archive_check::error::Error;
+
+/// How far it is from one position to another, in bytes. Refused with 2 exactly where the difference doesn't fit `isize`.
+pub fn signed_offset(from: usize, to: usize) -> Result<isize, Error>
+    ensures { MatchResult result (λ z. z ≡ distance from to) (λ e. (e ≡ IsizeOverflow) × ¬ FitsSigned w64 (distance from to)) }
+{
+    let Ok(offset) = isize::try_from(to as i128 - from as i128) else {
+        return Err(Error::IsizeOverflow);
+    };
+    Ok(offset)
+}

@@ -1,0 +1,256 @@
+//! Strings and texts.
+
+ghost use Rattle.std.specs.Prelude.{◌≡◌, ◌⊎◌, ◌+◌, ◌<◌, ◌≤◌, OnOk, IfOk, IfErr, IsOk, IsErr, IsErrOf, length, refl, string_bytes};
+ghost use Rattle.std.proofs.Common.{inl, inr};
+ghost use Rattle.archive_check.specs.Shape.{str as str_shape, one, text};
+ghost use Rattle.archive_check.specs.Definitions.{no_definition};
+ghost use Rattle.archive_check.specs.Reads.{bytes_at, u32_at, before_end, decoded_length, IsOutOfLine};
+ghost use Rattle.archive_check.specs.Readable.{Readable, target_from};
+ghost use Rattle.archive_check.specs.declared.error.Error.TheVariants.{OutOfMemory, CyclicDeserialize, StringTooLong};
+ghost use Rattle.archive_write.specs.Written.{IsBeginning};
+ghost use Rattle.archive_core.specs.Offsets.{distance, IsTooFar};
+ghost use Rattle.archive_core.specs.Strings.{inline_bytes, out_of_line_bytes};
+
+pub mod repr;
+
+use crate::place::Place;
+use crate::primitive::ArchivedUsize;
+use crate::traits::{Archive, ArchivePointee, ArchiveUnsized, Deserialize, DeserializeUnsized, Entries, Keys, Portable, Serialize, SerializeUnsized};
+use crate::view::{Part, Ref};
+use archive_check::bytes::{inline_length, is_out_of_line, read_coded_length, read_target, read_text};
+use archive_check::error::Error;
+use archive_check::shape::{Defs, Expr};
+use archive_write::ser::Writer;
+use std::alloc::Global;
+
+/// An archived string: eight bytes at a multiple of four, which hold a text of at most eight bytes or say where a longer one stands.
+#[derive(Clone, Copy, Debug)]
+pub struct ArchivedString {
+    _private: (),
+}
+
+/// An archived text in a region of its own.
+#[derive(Clone, Copy, Debug)]
+pub struct ArchivedStr {
+    _private: (),
+}
+
+/// A borrowed text, as a source. It stands where rkyv has `str`.
+#[derive(Clone, Copy, Debug)]
+pub struct Text<'a> {
+    /// The text.
+    pub text: &'a str,
+}
+
+/// Where a long text was written.
+#[derive(Clone, Copy, Debug)]
+pub struct StringResolver {
+    pos: u32,
+}
+
+impl ArchivePointee for ArchivedString {
+    type ArchivedMetadata = ();
+
+    ghost pointee = { one str_shape };
+
+    ghost definitions = { no_definition };
+
+    ghost metadata_length = { λ _. 0 };
+
+    fn pointer_metadata(_metadata: &()) -> usize {
+        0
+    }
+}
+
+impl Portable for ArchivedString {
+    ghost shape = { str_shape };
+
+    ghost layout = { record { size = 8; align = 4 } };
+
+    ghost is_one = { refl };
+
+    ghost is_align = { inr (inr (inl refl)) };
+
+    ghost has_layout = { record { solved = λ s k. refl } };
+
+    fn size() -> usize {
+        8
+    }
+
+    fn align() -> usize {
+        4
+    }
+
+    fn expr(_alloc: Global) -> Result<Expr, Error> {
+        Ok(Expr::Str)
+    }
+
+    fn define(_alloc: Global, _defs: &mut Defs) -> Result<(), Error> {
+        Ok(())
+    }
+}
+
+impl ArchivePointee for ArchivedStr {
+    type ArchivedMetadata = ArchivedUsize;
+
+    ghost pointee = { text };
+
+    ghost definitions = { no_definition };
+
+    ghost metadata_length = { λ n. n };
+
+    fn pointer_metadata(metadata: &ArchivedUsize) -> usize {
+        metadata.to_native() as usize
+    }
+}
+
+impl<'a> ArchiveUnsized for Text<'a> {
+    type Archived = ArchivedStr;
+
+    ghost source_length = { λ t. length t.text.now };
+
+    fn archived_metadata(&self) -> Result<ArchivedUsize, Error> {
+        let Ok(len) = u32::try_from(self.text.len()) else {
+            return Err(Error::LengthTooLarge);
+        };
+        Ok(ArchivedUsize::from_native(len))
+    }
+}
+
+impl<'a, S: Writer + Keys> SerializeUnsized<S> for Text<'a> {
+    fn serialize_unsized(&self, serializer: &mut S) -> Result<usize, Error> {
+        if let Err(error) = self.archived_metadata() {
+            return Err(error);
+        }
+        let pos = serializer.pos();
+        serializer.write(self.text.as_bytes())?;
+        Ok(pos)
+    }
+}
+
+impl<D: Entries> DeserializeUnsized<String, D> for ArchivedStr {
+    fn deserialize_unsized_part(alloc: Global, part: Part<'_>, _deserializer: &mut D) -> Result<String, Error>
+        requires { ∥ Readable part.bytes.now part.pos text part.len ∥₁ }
+        ensures { IfErr result (λ e. (e ≡ OutOfMemory) ⊎ (e ≡ CyclicDeserialize)) }
+    {
+        let view: Ref<'_, ArchivedStr> = Ref::at(part);
+        Ok(String::from_str(alloc, view.as_str())?)
+    }
+}
+
+impl ArchivedString {
+    /// Writes the text, if it is longer than eight bytes. Refused with 7 exactly where it is longer than 1,073,741,823 bytes, before anything is
+    /// written, with 4 where it would stand above 4,294,967,295, or as the writer refuses.
+    pub fn serialize_from_str<S: Writer + Keys>(value: &str, serializer: &mut S) -> Result<StringResolver, Error>
+        ensures held { OnOk result (length value.now ≤ 1073741823) }
+        ensures inline { length value.now ≤ 8 → IsOk result × (S.told serializer.new ≡ S.told serializer.old) }
+        ensures too_long { 1073741823 < length value.now → IsErrOf result StringTooLong × (S.told serializer.new ≡ S.told serializer.old) }
+        ensures kept { IsBeginning (S.told serializer.old).bytes (S.told serializer.new).bytes }
+    {
+        if value.len() <= repr::INLINE_CAPACITY {
+            return Ok(StringResolver { pos: 0 });
+        }
+        if value.len() > repr::OUT_OF_LINE_CAPACITY {
+            return Err(Error::StringTooLong);
+        }
+        let pos = Text { text: value }.serialize_unsized(serializer)?;
+        let Ok(pos) = u32::try_from(pos) else {
+            return Err(Error::PositionTooLarge);
+        };
+        Ok(StringResolver { pos })
+    }
+
+    /// Writes the string's bytes over those of `place`. Refused with 2 or 3 where the offset to a long text doesn't fit; they are then unchanged.
+    pub fn resolve_from_str(value: &str, resolver: StringResolver, place: Place<'_, ArchivedString>) -> Result<(), Error>
+        requires sized { length place.bytes.now ≡ 8 }
+        requires held { length value.now ≤ 1073741823 }
+        ensures inline { length value.now ≤ 8 → IsOk result × (place.exit.0.now ≡ inline_bytes value.now) }
+        ensures elsewhere { 8 < length value.now → OnOk result (place.exit.0.now ≡ out_of_line_bytes (length value.now) (distance place.entry.pos resolver.pos)) }
+        ensures refused { IfErr result (λ e. (place.exit.0.now ≡ place.entry.bytes.now) × IsTooFar e (distance place.entry.pos resolver.pos)) }
+        ensures same_length { length place.exit.0.now ≡ length place.entry.bytes.now }
+    {
+        let Place { bytes, pos, .. } = place;
+        if value.len() <= repr::INLINE_CAPACITY {
+            repr::emplace_inline(value, bytes);
+            return Ok(());
+        }
+        repr::try_emplace_out_of_line(value, pos, resolver.pos as usize, bytes)
+    }
+}
+
+impl Archive for String {
+    type Archived = ArchivedString;
+
+    type Resolver = StringResolver;
+
+    ghost belongs = { λ s _. length (string_bytes s) ≤ 1073741823 };
+
+    fn resolve(&self, resolver: StringResolver, place: Place<'_, ArchivedString>) -> Result<(), Error>
+        requires sized { length place.bytes.now ≡ 8 }
+        requires same_value { length (string_bytes self.now) ≤ 1073741823 }
+        ensures { length place.exit.0.now ≡ length place.entry.bytes.now }
+    {
+        let Place { bytes, pos, .. } = place;
+        ArchivedString::resolve_from_str(self.as_str(), resolver, Place::new(pos, bytes))
+    }
+}
+
+impl<S: Writer + Keys> Serialize<S> for String {
+    fn serialize(&self, serializer: &mut S) -> Result<StringResolver, Error> {
+        ArchivedString::serialize_from_str(self.as_str(), serializer)
+    }
+}
+
+impl<D: Entries> Deserialize<String, D> for ArchivedString {
+    fn deserialize_part(alloc: Global, part: Part<'_>, _deserializer: &mut D) -> Result<String, Error>
+        requires { ∥ Readable part.bytes.now part.pos (one str_shape) part.len ∥₁ }
+        ensures { IfErr result (λ e. (e ≡ OutOfMemory) ⊎ (e ≡ CyclicDeserialize)) }
+    {
+        let view: Ref<'_, ArchivedString> = Ref::at(part);
+        Ok(String::from_str(alloc, view.as_str())?)
+    }
+}
+
+impl<'a> Ref<'a, ArchivedStr> {
+    /// The text.
+    pub fn as_str(self) -> &'a str
+        ensures { result.now ≡ bytes_at self.entry.bytes.now self.entry.pos self.entry.len }
+    {
+        let Part { bytes, pos, len } = self.part();
+        read_text(bytes, pos, len)
+    }
+
+    /// How many bytes the text has.
+    pub fn len(self) -> usize
+        ensures { result ≡ self.entry.len }
+    {
+        self.part().len
+    }
+}
+
+impl<'a> Ref<'a, ArchivedString> {
+    /// The text, wherever it stands.
+    pub fn as_str(self) -> &'a str
+        ensures inline { (IsOutOfLine self.entry.bytes.now self.entry.pos → ⊥) → result.now ≡ before_end (bytes_at self.entry.bytes.now self.entry.pos 8) }
+        ensures elsewhere { IsOutOfLine self.entry.bytes.now self.entry.pos → result.now
+            ≡ bytes_at self.entry.bytes.now (target_from self.entry.bytes.now self.entry.pos (self.entry.pos + 4)) (decoded_length (u32_at self.entry.bytes.now self.entry.pos)) }
+    {
+        let Part { bytes, pos, .. } = self.part();
+        if is_out_of_line(bytes, pos) {
+            return read_text(bytes, read_target(bytes, pos, pos + 4), read_coded_length(bytes, pos));
+        }
+        read_text(bytes, pos, inline_length(bytes, pos))
+    }
+
+    /// How many bytes the text has.
+    pub fn len(self) -> usize
+        ensures inline { (IsOutOfLine self.entry.bytes.now self.entry.pos → ⊥) → result ≡ length (before_end (bytes_at self.entry.bytes.now self.entry.pos 8)) }
+        ensures elsewhere { IsOutOfLine self.entry.bytes.now self.entry.pos → result ≡ decoded_length (u32_at self.entry.bytes.now self.entry.pos) }
+    {
+        let Part { bytes, pos, .. } = self.part();
+        if is_out_of_line(bytes, pos) {
+            return read_coded_length(bytes, pos);
+        }
+        inline_length(bytes, pos)
+    }
+}

@@ -1,0 +1,54 @@
+//! The eight bytes of a string.
+
+ghost use Rattle.std.specs.Prelude.{◌≡◌, ◌<◌, ◌≤◌, MatchResult, FitsSigned, length};
+ghost use Rattle.std.specs.Int.{w32};
+ghost use Rattle.archive_core.specs.Offsets.{distance, IsTooFar};
+ghost use Rattle.archive_core.specs.Strings.{inline_bytes, out_of_line_bytes, coded_length};
+
+use crate::rel_ptr::signed_offset;
+use archive_check::error::Error;
+
+/// A text of at most so many bytes stands in the string itself.
+pub const INLINE_CAPACITY: usize = 8;
+
+/// A text of more bytes than these can't be archived.
+pub const OUT_OF_LINE_CAPACITY: usize = 1_073_741_823;
+
+/// Writes a short text over the string's bytes, and 0xff over those that it leaves.
+pub fn emplace_inline(value: &str, out: &mut [u8])
+    requires short { length value.now ≤ 8 }
+    requires sized { length out.old ≡ 8 }
+    ensures { out.new ≡ inline_bytes value.now }
+{
+    let (text, unused) = out.split_at_mut(value.len());
+    text.copy_from_slice(value.as_bytes());
+    unused.fill(0xff);
+}
+
+// The first four bytes of a string whose text stands elsewhere, as a number.
+#[tactic(auto, using(crate::proofs::Coded::coded_bits))]
+fn coded(len: usize) -> u32
+    requires { len ≤ 1073741823 }
+    ensures { result ≡ coded_length len }
+{
+    ((len & 0x3f) | 0x80 | ((len & !0x3f) << 2)) as u32
+}
+
+/// Writes over the bytes of the string at `pos` that its text stands at `target`. Refused with 2 exactly where the offset doesn't fit `isize`,
+/// and else with 3 exactly where it doesn't fit 32 bits; the bytes are then unchanged.
+pub fn try_emplace_out_of_line(value: &str, pos: usize, target: usize, out: &mut [u8]) -> Result<(), Error>
+    requires long { 8 < length value.now }
+    requires held { length value.now ≤ 1073741823 }
+    requires sized { length out.old ≡ 8 }
+    ensures { MatchResult result
+        (λ _. FitsSigned w32 (distance pos target) × (out.new ≡ out_of_line_bytes (length value.now) (distance pos target)))
+        (λ e. (out.new ≡ out.old) × IsTooFar e (distance pos target)) }
+{
+    let Ok(offset) = i32::try_from(signed_offset(pos, target)?) else {
+        return Err(Error::OffsetOverflow);
+    };
+    let (length, behind) = out.split_at_mut(4);
+    length.copy_from_slice(&coded(value.len()).to_le_bytes());
+    behind.copy_from_slice(&offset.to_le_bytes());
+    Ok(())
+}

@@ -1,0 +1,90 @@
+//! Views of archived values, slices and texts.
+
+ghost use Rattle.std.specs.Prelude.{◌≡◌, ⊤};
+ghost use Rattle.archive_check.specs.Reads.{bytes_at};
+ghost use Rattle.archive_check.specs.Readable.{Readable};
+
+use archive_check::traits::ArchivePointee;
+use archive_num::{LittleEndian, Native};
+use std::alloc::AllocError;
+use std::marker::PhantomData;
+
+/// A view of an archived value, slice or text, in a buffer that was checked. It stands where rkyv has a reference to the archived type.
+pub struct Ref<'a, T: ArchivePointee> {
+    bytes: &'a [u8],
+    pos: usize,
+    len: usize,
+    of: PhantomData<T>,
+    pub ghost valid: { ∥ Readable bytes.now pos T.pointee len ∥₁ },
+}
+
+impl<'a, T: ArchivePointee> Clone for Ref<'a, T> {
+    ghost is_clone = { λ x y. y ≡ x };
+
+    ghost is_infallible = { λ _. ⊤ };
+
+    fn clone(&self) -> Result<Ref<'a, T>, AllocError> {
+        Ok(*self)
+    }
+}
+
+impl<'a, T: ArchivePointee> Copy for Ref<'a, T> {}
+
+/// Bytes, a position in them and a length, of which nothing is known: a view without its promise.
+#[derive(Clone, Copy, Debug)]
+pub struct Part<'a> {
+    /// The whole buffer.
+    pub bytes: &'a [u8],
+    /// Where the part begins, in bytes from the buffer's first one.
+    pub pos: usize,
+    /// How many elements or bytes it has; 0 for one value.
+    pub len: usize,
+}
+
+impl<'a, T: ArchivePointee> Ref<'a, T> {
+    /// Where it begins, in bytes from the buffer's first one.
+    pub fn pos(self) -> usize
+        ensures { result ≡ self.entry.pos }
+    {
+        self.pos
+    }
+
+    /// The view of a part that was checked.
+    pub fn at(part: Part<'a>) -> Ref<'a, T>
+        requires { ∥ Readable part.bytes.now part.pos T.pointee part.len ∥₁ }
+        ensures buffer { result.bytes.now ≡ part.entry.bytes.now }
+        ensures position { result.pos ≡ part.entry.pos }
+        ensures length { result.len ≡ part.entry.len }
+    {
+        Ref {
+            bytes: part.bytes,
+            pos: part.pos,
+            len: part.len,
+            of: PhantomData,
+        }
+    }
+
+    /// The part that it shows.
+    pub fn part(self) -> Part<'a>
+        ensures buffer { result.bytes.now ≡ self.entry.bytes.now }
+        ensures position { result.pos ≡ self.entry.pos }
+        ensures length { result.len ≡ self.entry.len }
+        ensures readable { ∥ Readable result.bytes.now result.pos T.pointee result.len ∥₁ }
+    {
+        Part {
+            bytes: self.bytes,
+            pos: self.pos,
+            len: self.len,
+        }
+    }
+}
+
+impl<'a, N: Native> Ref<'a, LittleEndian<N>> {
+    /// The number.
+    pub fn get(self) -> N
+        ensures { result ≡ N.number_of (bytes_at self.entry.bytes.now self.entry.pos N.byte_count) }
+    {
+        let bytes = self.bytes;
+        N::read_from(&bytes[self.pos..self.pos + N::byte_count()])
+    }
+}
