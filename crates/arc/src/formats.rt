@@ -1,0 +1,76 @@
+//! The formats that the program knows.
+
+use archive_core::api::{access, to_bytes};
+use archive_core::error::Error;
+use archive_core::primitive::ArchivedU32;
+use archive_core::string::ArchivedString;
+use std::alloc::Global;
+
+/// A format, as the second word of a command names it.
+#[derive(Clone, Copy, Debug, PartialEq, Eq)]
+pub enum Format {
+    /// `u32`, written as digits.
+    U32,
+    /// `string`, written as it stands.
+    String,
+}
+
+/// A value that a command gives.
+#[derive(Clone, Copy, Debug)]
+pub enum Value<'a> {
+    /// A number.
+    U32(u32),
+    /// A text.
+    String(&'a String),
+}
+
+impl Format {
+    /// The format of a name.
+    pub fn named(name: &str) -> Option<Format> {
+        match name {
+            "u32" => Some(Format::U32),
+            "string" => Some(Format::String),
+            _ => None,
+        }
+    }
+
+    /// The value that a word stands for.
+    pub fn value(self, word: &String) -> Option<Value<'_>> {
+        match self {
+            Format::U32 => Some(Value::U32(number(word.as_str())?)),
+            Format::String => Some(Value::String(word)),
+        }
+    }
+
+    /// Whether the bytes are an archive of the format.
+    pub fn check(self, alloc: Global, bytes: &[u8]) -> Result<(), Error> {
+        match self {
+            Format::U32 => {
+                access::<ArchivedU32>(alloc, bytes)?;
+            }
+            Format::String => {
+                access::<ArchivedString>(alloc, bytes)?;
+            }
+        }
+        Ok(())
+    }
+}
+
+impl Value<'_> {
+    /// The archive of the value.
+    pub fn write(self, alloc: Global) -> Result<Vec<u8>, Error> {
+        match self {
+            Value::U32(number) => to_bytes(alloc, &number),
+            Value::String(text) => to_bytes(alloc, text),
+        }
+    }
+}
+
+// The number of one or more digits.
+fn number(word: &str) -> Option<u32> {
+    if word.bytes().all(|byte| byte.is_ascii_digit()) {
+        word.parse().ok()
+    } else {
+        None
+    }
+}
