@@ -33,7 +33,11 @@ pub enum Error {
     StringTooLong,
     /// 8: a writer that holds `len` of at most `cap` bytes was given `write_len` more, which don't fit.
     #[error("{write_len} bytes into a buffer of {cap} that holds {len}")]
-    BufferOverflow { write_len: usize, cap: usize, len: usize },
+    BufferOverflow {
+        write_len: usize,
+        cap: usize,
+        len: usize,
+    },
     /// 9: the writer's device failed.
     #[error("the writer failed")]
     WriterFailed,
@@ -57,10 +61,18 @@ pub enum Error {
     AlreadyFinished,
     /// 16: a region of `size` bytes at `position` doesn't lie in the range `start..end`.
     #[error("a region at {position} of {size} bytes outside {start}..{end}")]
-    InvalidSubtreePointer { position: i128, size: usize, start: usize, end: usize },
+    InvalidSubtreePointer {
+        position: i128,
+        size: usize,
+        start: usize,
+        end: usize,
+    },
     /// 17: a region lies in the range, and its position is no multiple of `align`.
     #[error("a region at {position}, no multiple of {align}")]
-    UnalignedPointer { position: i128, align: usize },
+    UnalignedPointer {
+        position: i128,
+        align: usize,
+    },
     /// 18: a region is entered with no depth left.
     #[error("too deep")]
     ExceededMaximumSubtreeDepth,
@@ -81,7 +93,10 @@ pub enum Error {
     LayoutTooLarge,
     /// 24: the tag `value` names no variant of the choice `name`.
     #[error("tag {value} of {name}")]
-    InvalidDiscriminant { name: &'static str, value: u8 },
+    InvalidDiscriminant {
+        name: &'static str,
+        value: u8,
+    },
     /// 25: a bool's byte is neither 0 nor 1.
     #[error("a bool that is neither 0 nor 1")]
     InvalidBool,

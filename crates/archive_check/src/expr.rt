@@ -41,6 +41,8 @@ impl Defs {
     pub fn new(alloc: Global) -> Defs
         ensures { table_of result ≡ [] }
     {
-        Defs { items: Vec::new(alloc) }
+        Defs {
+            items: Vec::new(alloc),
+        }
     }
 }

@@ -9,14 +9,13 @@ ghost use Rattle.archive_check.specs.Schemas.{root_of};
 ghost use Rattle.archive_check.specs.declared.error.Error.TheVariants.{OutOfMemory, ShapeConflict, LayoutTooLarge};
 
 use crate::bytes::{inline_length, is_out_of_line, is_text, read_coded_length, read_position};
+pub use crate::error::Error;
+pub use crate::expr::{Def, Defs, Expr, Kind};
+pub use crate::layout::Layout;
 use crate::traits::Portable;
 use crate::validation::ArchiveContext;
 use std::alloc::Global;
 use std::ops::Range;
-
-pub use crate::error::Error;
-pub use crate::expr::{Def, Defs, Expr, Kind};
-pub use crate::layout::Layout;
 
 /// An expression, with the definitions of the names in it.
 #[derive(Debug, Drop)]
@@ -40,7 +39,11 @@ fn to_index(position: i128) -> usize
 }
 
 // Enters the region of this layout at a position.
-fn enter<C: ArchiveContext>(context: &mut C, position: i128, layout: &Layout) -> Result<Entered, Error>
+fn enter<C: ArchiveContext>(
+    context: &mut C,
+    position: i128,
+    layout: &Layout,
+) -> Result<Entered, Error>
     requires { (C.state context.old).end ≤ usize.MAX }
     ensures begin { IfOk result (λ e. position ≡ pos e.begin) }
     ensures within { IfOk result (λ e. e.begin + layout.now.size ≤ (C.state context.old).end) }
@@ -53,12 +56,20 @@ fn enter<C: ArchiveContext>(context: &mut C, position: i128, layout: &Layout) ->
 }
 
 // Whether the text of `length` bytes at a position may stand there, and is UTF-8.
-fn check_text<C: ArchiveContext>(context: &mut C, bytes: &[u8], position: i128, len: usize) -> Result<usize, Error>
+fn check_text<C: ArchiveContext>(
+    context: &mut C,
+    bytes: &[u8],
+    position: i128,
+    len: usize,
+) -> Result<usize, Error>
     requires { (C.state context.old).end ≤ length bytes.now }
     ensures begin { IfOk result (λ t. position ≡ pos t) }
     ensures readable { IfOk result (λ t. Readable bytes.now t text len) }
 {
-    let layout = Layout { size: len, align: 1 };
+    let layout = Layout {
+        size: len,
+        align: 1,
+    };
     let Entered { begin, outer } = enter(context, position, &layout)?;
     if !is_text(bytes, begin, len) {
         return Err(Error::InvalidUtf8);
@@ -88,7 +99,12 @@ fn check_string<C: ArchiveContext>(context: &mut C, bytes: &[u8], at: usize) -> 
 }
 
 // Whether the bytes at a position in the buffer are a value of this expression.
-fn check_value<C: ArchiveContext>(context: &mut C, expr: &Expr, bytes: &[u8], at: usize) -> Result<(), Error>
+fn check_value<C: ArchiveContext>(
+    context: &mut C,
+    expr: &Expr,
+    bytes: &[u8],
+    at: usize,
+) -> Result<(), Error>
     requires range { (C.state context.old).end ≤ length bytes.now }
     requires within { (names : Layouts) → at + size_of names (shape_of expr.now) ≤ length bytes.now }
     ensures { OnOk result (Readable bytes.now at (one (shape_of expr.now)) 0) }
@@ -125,7 +141,12 @@ impl Schema {
     }
 
     /// Whether `bytes` hold a value of the schema at `pos`, its root, in the order that docs/FORMAT.md gives. Refused with the first fault.
-    pub fn check<C: ArchiveContext>(&self, bytes: &[u8], pos: usize, context: &mut C) -> Result<(), Error>
+    pub fn check<C: ArchiveContext>(
+        &self,
+        bytes: &[u8],
+        pos: usize,
+        context: &mut C,
+    ) -> Result<(), Error>
         requires { (C.state context.old).end ≤ length bytes.now }
         ensures { OnOk result (Readable bytes.now pos (one (root_of self.now)) 0) }
     {

@@ -19,7 +19,10 @@ pub fn root_position<T: Portable>(len: usize) -> usize
 }
 
 // Writes what the value owns and then the value, at the next multiple of its alignment.
-fn serialize_root<S: Writer + Keys + ResolverAlloc, T: Serialize<S>>(serializer: &mut S, value: &T) -> Result<usize, Error>
+fn serialize_root<S: Writer + Keys + ResolverAlloc, T: Serialize<S>>(
+    serializer: &mut S,
+    value: &T,
+) -> Result<usize, Error>
     ensures { IsBeginning (S.told serializer.old).bytes (S.told serializer.new).bytes }
 {
     let resolver = value.serialize(serializer)?;
@@ -30,7 +33,11 @@ fn serialize_root<S: Writer + Keys + ResolverAlloc, T: Serialize<S>>(serializer:
 
 /// Appends an archive of `value` to what `writer` holds, its root at the end, and answers the writer. Memory comes from `alloc`. Refused with what
 /// the value's parts or the writer refuse with, or with 1 where memory is refused.
-pub fn to_bytes_in<W: Writer + Drop, T: Serialize<Serializer<W, Global, ()>>>(alloc: Global, value: &T, writer: W) -> Result<W, Error>
+pub fn to_bytes_in<W: Writer + Drop, T: Serialize<Serializer<W, Global, ()>>>(
+    alloc: Global,
+    value: &T,
+    writer: W,
+) -> Result<W, Error>
     ensures { IfOk result (λ w. IsBeginning (W.told writer).bytes (W.told w).bytes) }
 {
     let mut serializer = Serializer::new(writer, alloc, ());
@@ -40,13 +47,20 @@ pub fn to_bytes_in<W: Writer + Drop, T: Serialize<Serializer<W, Global, ()>>>(al
 
 /// An archive of `value`, its root at the end. Memory comes from `alloc`. Refused with what the value's parts refuse with, or with 1 where memory
 /// is refused.
-pub fn to_bytes<T: Serialize<Serializer<Vec<u8>, Global, ()>>>(alloc: Global, value: &T) -> Result<Vec<u8>, Error> {
+pub fn to_bytes<T: Serialize<Serializer<Vec<u8>, Global, ()>>>(
+    alloc: Global,
+    value: &T,
+) -> Result<Vec<u8>, Error> {
     to_bytes_in(alloc, value, Vec::new(alloc))
 }
 
 /// Checks that `bytes` are an archive whose root, a `T`, lies at `pos`, and answers the root's view. Memory for the schema comes from `alloc`:
 /// refused with 1 where it is refused, and else with the first fault of the bytes.
-pub fn access_pos<'a, T: Portable>(alloc: Global, bytes: &'a [u8], pos: usize) -> Result<Ref<'a, T>, Error>
+pub fn access_pos<'a, T: Portable>(
+    alloc: Global,
+    bytes: &'a [u8],
+    pos: usize,
+) -> Result<Ref<'a, T>, Error>
     ensures buffer { IfOk result (λ r. r.bytes.now ≡ bytes.now) }
     ensures position { IfOk result (λ r. r.pos ≡ pos) }
     ensures whole { IfOk result (λ r. r.len ≡ 0) }
@@ -68,7 +82,11 @@ pub fn access<'a, T: Portable>(alloc: Global, bytes: &'a [u8]) -> Result<Ref<'a,
 
 /// Checks that `bytes` are an archive of a `T`, its root at the end, and reads it back. `deserializer` is empty; `()` where nothing is shared.
 /// Memory comes from `alloc`: refused with 1 where it is refused, else as `access` refuses, and with 13 where a shared value holds itself.
-pub fn from_bytes<T: Archive, D: Entries>(alloc: Global, bytes: &[u8], deserializer: &mut D) -> Result<T, Error>
+pub fn from_bytes<T: Archive, D: Entries>(
+    alloc: Global,
+    bytes: &[u8],
+    deserializer: &mut D,
+) -> Result<T, Error>
 where
     T::Archived: Deserialize<T, D>,
 {

@@ -9,10 +9,9 @@ use crate::place::Place;
 use crate::traits::{Archive, Deserialize, Entries, Keys, Portable, Serialize};
 use crate::view::{Part, Ref};
 use archive_check::error::Error;
+pub use archive_num::{ArchivedU32, ArchivedUsize, FixedUsize, LittleEndian, Native};
 use archive_write::ser::Writer;
 use std::alloc::Global;
-
-pub use archive_num::{ArchivedU32, ArchivedUsize, FixedUsize, LittleEndian, Native};
 
 /// A number that is archived as the bytes that stand for it.
 pub trait Source: Native {
@@ -87,7 +86,11 @@ impl<N: Source, D: Entries> Deserialize<N, D> for LittleEndian<N> {
 }
 
 impl<N: Native, D: Entries> Deserialize<LittleEndian<N>, D> for LittleEndian<N> {
-    fn deserialize_part(_alloc: Global, part: Part<'_>, _deserializer: &mut D) -> Result<LittleEndian<N>, Error>
+    fn deserialize_part(
+        _alloc: Global,
+        part: Part<'_>,
+        _deserializer: &mut D,
+    ) -> Result<LittleEndian<N>, Error>
         requires { ∥ Readable part.bytes.now part.pos (one (leaf N.kind)) part.len ∥₁ }
         ensures { IfErr result (λ e. (e ≡ OutOfMemory) ⊎ (e ≡ CyclicDeserialize)) }
     {

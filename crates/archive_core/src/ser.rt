@@ -6,15 +6,19 @@ ghost use Rattle.archive_write.specs.Written.{IsBeginning};
 use crate::place::Place;
 use crate::traits::{Archive, Portable};
 use archive_check::error::Error;
-use std::alloc::Allocator;
-
 pub use archive_write::ser::{Positional, ResolverAlloc, Serializer, Writer, WriterExt};
+use std::alloc::Allocator;
 
 /// Regions of this size or less are resolved in a local array.
 const LOCAL_SIZE: usize = 64;
 
 // Resolves a value into bytes that stand at a position.
-fn resolve_into<T: Archive>(value: &T, resolver: T::Resolver, pos: usize, bytes: &mut [u8]) -> Result<(), Error>
+fn resolve_into<T: Archive>(
+    value: &T,
+    resolver: T::Resolver,
+    pos: usize,
+    bytes: &mut [u8],
+) -> Result<(), Error>
     requires sized { length bytes.old ≡ T.Archived.layout.size }
     requires same_value { T.belongs value.now resolver }
     ensures { length bytes.new ≡ length bytes.old }
@@ -27,7 +31,12 @@ pub trait ResolveExt: Writer {
     /// Resolves `value` into the next region and writes it; answers the region's position. The writer stands at a multiple of the archived
     /// type's alignment. Memory for a large region comes from `alloc`: refused with 1 where it is refused, with 23 where the region would end
     /// above `usize::MAX`, with what `resolve` refuses with, or as the writer refuses.
-    final fn resolve_aligned<A: Allocator + Drop, T: Archive>(&mut self, alloc: A, value: &T, resolver: T::Resolver) -> Result<usize, Error>
+    final fn resolve_aligned<A: Allocator + Drop, T: Archive>(
+        &mut self,
+        alloc: A,
+        value: &T,
+        resolver: T::Resolver,
+    ) -> Result<usize, Error>
     where
         Self: Sized,
         requires aligned { Self.place self.old % T.Archived.layout.align ≡ 0 }

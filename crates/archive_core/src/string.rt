@@ -15,9 +15,14 @@ pub mod repr;
 
 use crate::place::Place;
 use crate::primitive::ArchivedUsize;
-use crate::traits::{Archive, ArchivePointee, ArchiveUnsized, Deserialize, DeserializeUnsized, Entries, Keys, Portable, Serialize, SerializeUnsized};
+use crate::traits::{
+    Archive, ArchivePointee, ArchiveUnsized, Deserialize, DeserializeUnsized, Entries, Keys,
+    Portable, Serialize, SerializeUnsized,
+};
 use crate::view::{Part, Ref};
-use archive_check::bytes::{inline_length, is_out_of_line, read_coded_length, read_target, read_text};
+use archive_check::bytes::{
+    inline_length, is_out_of_line, read_coded_length, read_target, read_text,
+};
 use archive_check::error::Error;
 use archive_check::shape::{Defs, Expr};
 use archive_write::ser::Writer;
@@ -129,7 +134,11 @@ impl<'a, S: Writer + Keys> SerializeUnsized<S> for Text<'a> {
 }
 
 impl<D: Entries> DeserializeUnsized<String, D> for ArchivedStr {
-    fn deserialize_unsized_part(alloc: Global, part: Part<'_>, _deserializer: &mut D) -> Result<String, Error>
+    fn deserialize_unsized_part(
+        alloc: Global,
+        part: Part<'_>,
+        _deserializer: &mut D,
+    ) -> Result<String, Error>
         requires { ∥ Readable part.bytes.now part.pos text part.len ∥₁ }
         ensures { IfErr result (λ e. (e ≡ OutOfMemory) ⊎ (e ≡ CyclicDeserialize)) }
     {
@@ -141,7 +150,10 @@ impl<D: Entries> DeserializeUnsized<String, D> for ArchivedStr {
 impl ArchivedString {
     /// Writes the text, if it is longer than eight bytes. Refused with 7 exactly where it is longer than 1,073,741,823 bytes, before anything is
     /// written, with 4 where it would stand above 4,294,967,295, or as the writer refuses.
-    pub fn serialize_from_str<S: Writer + Keys>(value: &str, serializer: &mut S) -> Result<StringResolver, Error>
+    pub fn serialize_from_str<S: Writer + Keys>(
+        value: &str,
+        serializer: &mut S,
+    ) -> Result<StringResolver, Error>
         ensures held { OnOk result (length value.now ≤ 1073741823) }
         ensures inline { length value.now ≤ 8 → IsOk result × (S.told serializer.new ≡ S.told serializer.old) }
         ensures too_long { 1073741823 < length value.now → IsErrOf result StringTooLong × (S.told serializer.new ≡ S.told serializer.old) }
@@ -161,7 +173,11 @@ impl ArchivedString {
     }
 
     /// Writes the string's bytes over those of `place`. Refused with 2 or 3 where the offset to a long text doesn't fit; they are then unchanged.
-    pub fn resolve_from_str(value: &str, resolver: StringResolver, place: Place<'_, ArchivedString>) -> Result<(), Error>
+    pub fn resolve_from_str(
+        value: &str,
+        resolver: StringResolver,
+        place: Place<'_, ArchivedString>,
+    ) -> Result<(), Error>
         requires sized { length place.bytes.now ≡ 8 }
         requires held { length value.now ≤ 1073741823 }
         ensures inline { length value.now ≤ 8 → IsOk result × (place.exit.0.now ≡ inline_bytes value.now) }
@@ -185,7 +201,11 @@ impl Archive for String {
 
     ghost belongs = { λ s _. length (string_bytes s) ≤ 1073741823 };
 
-    fn resolve(&self, resolver: StringResolver, place: Place<'_, ArchivedString>) -> Result<(), Error>
+    fn resolve(
+        &self,
+        resolver: StringResolver,
+        place: Place<'_, ArchivedString>,
+    ) -> Result<(), Error>
         requires sized { length place.bytes.now ≡ 8 }
         requires same_value { length (string_bytes self.now) ≤ 1073741823 }
         ensures { length place.exit.0.now ≡ length place.entry.bytes.now }
@@ -202,7 +222,11 @@ impl<S: Writer + Keys> Serialize<S> for String {
 }
 
 impl<D: Entries> Deserialize<String, D> for ArchivedString {
-    fn deserialize_part(alloc: Global, part: Part<'_>, _deserializer: &mut D) -> Result<String, Error>
+    fn deserialize_part(
+        alloc: Global,
+        part: Part<'_>,
+        _deserializer: &mut D,
+    ) -> Result<String, Error>
         requires { ∥ Readable part.bytes.now part.pos (one str_shape) part.len ∥₁ }
         ensures { IfErr result (λ e. (e ≡ OutOfMemory) ⊎ (e ≡ CyclicDeserialize)) }
     {
@@ -237,7 +261,11 @@ impl<'a> Ref<'a, ArchivedString> {
     {
         let Part { bytes, pos, .. } = self.part();
         if is_out_of_line(bytes, pos) {
-            return read_text(bytes, read_target(bytes, pos, pos + 4), read_coded_length(bytes, pos));
+            return read_text(
+                bytes,
+                read_target(bytes, pos, pos + 4),
+                read_coded_length(bytes, pos),
+            );
         }
         read_text(bytes, pos, inline_length(bytes, pos))
     }

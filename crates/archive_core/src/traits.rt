@@ -8,16 +8,16 @@ ghost use Rattle.archive_write.specs.Written.{IsBeginning};
 use crate::place::Place;
 use crate::view::{Part, Ref};
 use archive_check::error::Error;
+pub use archive_check::traits::{ArchivePointee, Entries, Keys, Portable, Tells};
 use archive_write::ser::Writer;
 use std::alloc::Global;
-
-pub use archive_check::traits::{ArchivePointee, Entries, Keys, Portable, Tells};
 
 /// The archived type of a source.
 pub type Archived<T> = <T as Archive>::Archived;
 
 /// What stands in a pointer to an archived source beside its offset.
-pub type ArchivedMetadata<T> = <<T as ArchiveUnsized>::Archived as ArchivePointee>::ArchivedMetadata;
+pub type ArchivedMetadata<T> =
+    <<T as ArchiveUnsized>::Archived as ArchivePointee>::ArchivedMetadata;
 
 /// A source: what can be archived.
 pub trait Archive {
@@ -32,7 +32,11 @@ pub trait Archive {
 
     /// Writes the archived value over the bytes of `place`, which are zeros. Refused with 2 or 3 where an offset doesn't fit, else with what the
     /// value's parts refuse with.
-    fn resolve(&self, resolver: Self::Resolver, place: Place<'_, Self::Archived>) -> Result<(), Error>
+    fn resolve(
+        &self,
+        resolver: Self::Resolver,
+        place: Place<'_, Self::Archived>,
+    ) -> Result<(), Error>
         requires sized { length place.bytes.now ≡ Self.Archived.layout.size }
         requires same_value { belongs self.now resolver }
         ensures { length place.exit.0.now ≡ length place.entry.bytes.now };
@@ -55,7 +59,11 @@ pub trait Deserialize<T: Archive, D: Entries>: ArchivePointee {
         ensures { IfErr result (λ e. (e ≡ OutOfMemory) ⊎ (e ≡ CyclicDeserialize)) };
 
     /// The value. Memory comes from `alloc`: refused with 1 where it is refused, and with 13 where a shared value holds itself.
-    final fn deserialize(alloc: Global, view: Ref<'_, Self>, deserializer: &mut D) -> Result<T, Error>
+    final fn deserialize(
+        alloc: Global,
+        view: Ref<'_, Self>,
+        deserializer: &mut D,
+    ) -> Result<T, Error>
         ensures { IfErr result (λ e. (e ≡ OutOfMemory) ⊎ (e ≡ CyclicDeserialize)) }
     {
         Self::deserialize_part(alloc, view.part(), deserializer)
@@ -89,12 +97,20 @@ pub trait SerializeUnsized<S: Writer + Keys>: ArchiveUnsized {
 /// A pointee that can be read back as a `T`: the value, a vector of the elements, or a string.
 pub trait DeserializeUnsized<T, D: Entries>: ArchivePointee {
     /// What implements this trait writes this call, over the part of a view; callers use `deserialize_unsized`.
-    fn deserialize_unsized_part(alloc: Global, part: Part<'_>, deserializer: &mut D) -> Result<T, Error>
+    fn deserialize_unsized_part(
+        alloc: Global,
+        part: Part<'_>,
+        deserializer: &mut D,
+    ) -> Result<T, Error>
         requires { ∥ Readable part.bytes.now part.pos Self.pointee part.len ∥₁ }
         ensures { IfErr result (λ e. (e ≡ OutOfMemory) ⊎ (e ≡ CyclicDeserialize)) };
 
     /// What it reads back as. Memory comes from `alloc`: refused with 1 where it is refused, and with 13 where a shared value holds itself.
-    final fn deserialize_unsized(alloc: Global, view: Ref<'_, Self>, deserializer: &mut D) -> Result<T, Error>
+    final fn deserialize_unsized(
+        alloc: Global,
+        view: Ref<'_, Self>,
+        deserializer: &mut D,
+    ) -> Result<T, Error>
         ensures { IfErr result (λ e. (e ≡ OutOfMemory) ⊎ (e ≡ CyclicDeserialize)) }
     {
         Self::deserialize_unsized_part(alloc, view.part(), deserializer)

@@ -80,7 +80,7 @@ number_through (b ∷ bs) zero h = omega arith
 number_through bs (suc k) h =
     let ih = number_through bs k (omega arith) in
     let more : take (suc (suc k)) bs ≡ take (suc k) bs ++ get_or bs (suc k) 0 ∷ [] =
-      ap (λ (n : ℕ). take n bs) {x = suc (suc k)} {y = suc k + 1} (omega arith) ∙ take_more bs (suc k) 0 h in
+    ap (λ (n : ℕ). take n bs) {x = suc (suc k)} {y = suc k + 1} (omega arith) ∙ take_more bs (suc k) 0 h in
     let l : length (take (suc k) bs) ≡ suc k = omega (arith, length-take (suc k) bs) in
     rw (more, number-append (take (suc k) bs) (get_or bs (suc k) 0), l, ih) refl
 

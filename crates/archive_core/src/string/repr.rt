@@ -36,7 +36,12 @@ fn coded(len: usize) -> u32
 
 /// Writes over the bytes of the string at `pos` that its text stands at `target`. Refused with 2 exactly where the offset doesn't fit `isize`,
 /// and else with 3 exactly where it doesn't fit 32 bits; the bytes are then unchanged.
-pub fn try_emplace_out_of_line(value: &str, pos: usize, target: usize, out: &mut [u8]) -> Result<(), Error>
+pub fn try_emplace_out_of_line(
+    value: &str,
+    pos: usize,
+    target: usize,
+    out: &mut [u8],
+) -> Result<(), Error>
     requires long { 8 < length value.now }
     requires held { length value.now ≤ 1073741823 }
     requires sized { length out.old ≡ 8 }

@@ -13,5 +13,5 @@ inline_length-requires c = string_shown _ _ _ c.part-pos.ensures.readable
 pub returns-clause-inline : goal.returns-clause-inline
 returns-clause-inline c = λ o.
     let all : length (bytes_at c.part-pos.result.bytes.now c.part-pos.result.pos c.inline_length.result) ≡ c.inline_length.result
-          = length-bytes_at c.part-pos.result.bytes.now c.part-pos.result.pos c.inline_length.result (omega (arith, string_shown _ _ _ c.part-pos.ensures.readable, c.inline_length.ensures.short)) in
+    = length-bytes_at c.part-pos.result.bytes.now c.part-pos.result.pos c.inline_length.result (omega (arith, string_shown _ _ _ c.part-pos.ensures.readable, c.inline_length.ensures.short)) in
     sym all ∙ ap length c.inline_length.ensures.text ∙ rw (c.part-pos.ensures.buffer, c.part-pos.ensures.position) refl
