@@ -7,6 +7,8 @@ pub mod primitive;
 pub mod rel_ptr;
 pub mod ser;
 pub mod string;
+#[cfg(test)]
+mod tests;
 pub mod traits;
 pub mod view;
 

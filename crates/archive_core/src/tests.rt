@@ -1,0 +1,281 @@
+// Worked rows: values with their archives, and buffers that are refused.
+
+use crate::api::{access, access_pos, from_bytes, root_position, to_bytes, to_bytes_in};
+use crate::error::Error;
+use crate::place::Place;
+use crate::primitive::{ArchivedU32, ArchivedUsize};
+use crate::rel_ptr::signed_offset;
+use crate::ser::{Positional, ResolveExt, Serializer};
+use crate::shape::{Expr, Kind, Schema};
+use crate::string::{ArchivedStr, ArchivedString, Text, repr};
+use crate::traits::{
+    Archive, ArchivePointee, ArchiveUnsized, Deserialize, DeserializeUnsized, SerializeUnsized,
+};
+use crate::validation::ArchiveValidator;
+use crate::view::{Part, Ref};
+use std::test::Fail;
+
+#[test]
+fn texts_and_their_archives(rt: HostRuntime) -> Result<(), Fail> {
+    let rows = [
+        (
+            "hello world",
+            b"hello world\0\x8b\0\0\0\xf4\xff\xff\xff".as_slice(),
+        ),
+        ("hi", b"hi\xff\xff\xff\xff\xff\xff".as_slice()),
+        ("", b"\xff\xff\xff\xff\xff\xff\xff\xff".as_slice()),
+        ("12345678", b"12345678".as_slice()),
+        (
+            "123456789",
+            b"123456789\0\0\0\x89\0\0\0\xf4\xff\xff\xff".as_slice(),
+        ),
+        (
+            "0123456701234567012345670123456701234567012345670123456701234567",
+            b"0123456701234567012345670123456701234567012345670123456701234567\x80\x01\0\0\xc0\xff\xff\xff".as_slice(),
+        ),
+    ];
+    for (text, archive) in rows {
+        let value = String::from_str(rt.alloc(), text)?;
+        let bytes = to_bytes(rt.alloc(), &value)?;
+        assert_eq!(rt; bytes.as_slice(), archive, "writing {text:?}");
+        let view = access::<ArchivedString>(rt.alloc(), archive)?;
+        assert_eq!(rt; view.as_str(), text);
+        assert_eq!(rt; view.len(), text.len());
+        assert_eq!(rt; view.pos(), archive.len() - 8);
+        let back: String = from_bytes(rt.alloc(), archive, &mut ())?;
+        assert_eq!(rt; back.as_str(), text);
+    }
+    Ok(())
+}
+
+#[test]
+fn numbers_and_their_archives(rt: HostRuntime) -> Result<(), Fail> {
+    for (number, archive) in [
+        (42u32, b"\x2a\0\0\0".as_slice()),
+        (0, b"\0\0\0\0".as_slice()),
+        (u32::MAX, b"\xff\xff\xff\xff".as_slice()),
+    ] {
+        let bytes = to_bytes(rt.alloc(), &number)?;
+        assert_eq!(rt; bytes.as_slice(), archive, "writing {number}");
+        let view = access::<ArchivedU32>(rt.alloc(), archive)?;
+        assert_eq!(rt; view.get(), number);
+        let back: u32 = from_bytes(rt.alloc(), archive, &mut ())?;
+        assert_eq!(rt; back, number);
+        let archived = ArchivedU32::from_native(number);
+        let back: Result<ArchivedU32, Error> = from_bytes(rt.alloc(), archive, &mut ());
+        assert_eq!(rt; back, Ok(archived));
+        let again = to_bytes(rt.alloc(), &archived)?;
+        assert_eq!(rt; again.as_slice(), archive);
+    }
+    Ok(())
+}
+
+#[test]
+fn strings_that_are_refused(rt: HostRuntime) {
+    let rows = [
+        (
+            b"\x81\0\0\0\xff\xff\xff\xff".as_slice(),
+            Error::InvalidStringRepr,
+        ),
+        (
+            b"\xc0\x80\xff\xff\xff\xff\xff\xff".as_slice(),
+            Error::InvalidUtf8,
+        ),
+        (
+            b"".as_slice(),
+            Error::InvalidSubtreePointer {
+                position: 0,
+                size: 8,
+                start: 0,
+                end: 0,
+            },
+        ),
+        (
+            b"ello world\0\x8b\0\0\0\xf4\xff\xff\xff".as_slice(),
+            Error::UnalignedPointer {
+                position: 11,
+                align: 4,
+            },
+        ),
+    ];
+    for (bytes, refusal) in rows {
+        assert_eq!(rt;
+            access::<ArchivedString>(rt.alloc(), bytes).err(),
+            Some(refusal),
+            "checking {bytes:?}"
+        );
+        let back: Result<String, Error> = from_bytes(rt.alloc(), bytes, &mut ());
+        assert_eq!(rt; back.err(), Some(refusal), "reading {bytes:?}");
+    }
+}
+
+#[test]
+fn a_root_lies_where_it_is_said_to(rt: HostRuntime) -> Result<(), Fail> {
+    let bytes = b"\x00\x01\x02\x03\x04".as_slice();
+    let rows = [
+        (
+            8,
+            Error::InvalidSubtreePointer {
+                position: 8,
+                size: 4,
+                start: 0,
+                end: 5,
+            },
+        ),
+        (
+            4,
+            Error::InvalidSubtreePointer {
+                position: 4,
+                size: 4,
+                start: 0,
+                end: 5,
+            },
+        ),
+        (
+            1,
+            Error::UnalignedPointer {
+                position: 1,
+                align: 4,
+            },
+        ),
+    ];
+    for (pos, refusal) in rows {
+        assert_eq!(rt;
+            access_pos::<ArchivedU32>(rt.alloc(), bytes, pos).err(),
+            Some(refusal),
+            "at {pos}"
+        );
+    }
+    assert_eq!(rt;
+        access_pos::<ArchivedU32>(rt.alloc(), bytes, 0)?.get(),
+        0x03020100
+    );
+    for (len, root) in [(3, 0), (4, 0), (5, 1)] {
+        assert_eq!(rt; root_position::<ArchivedU32>(len), root);
+    }
+    Ok(())
+}
+
+#[test]
+fn an_archive_follows_what_the_writer_holds(rt: HostRuntime) -> Result<(), Fail> {
+    let value = String::from_str(rt.alloc(), "hello world")?;
+    let held = vec![in rt.alloc(); 0xaa, 0xbb, 0xcc]?;
+    let bytes = to_bytes_in(rt.alloc(), &value, held)?;
+    assert_eq!(rt;
+        bytes.as_slice(),
+        b"\xaa\xbb\xcchello world\0\0\x8b\0\0\0\xf3\xff\xff\xff".as_slice()
+    );
+    assert_eq!(rt;
+        access::<ArchivedString>(rt.alloc(), bytes.as_slice())?.as_str(),
+        "hello world"
+    );
+    Ok(())
+}
+
+#[test]
+fn a_text_is_a_region_of_its_own(rt: HostRuntime) -> Result<(), Fail> {
+    let mut serializer = Serializer::new(Vec::new(rt.alloc()), rt.alloc(), ());
+    let text = Text { text: "héllo" };
+    let metadata = ArchivedUsize::from_native(6);
+    assert_eq!(rt; text.archived_metadata(), Ok(metadata));
+    assert_eq!(rt; ArchivedStr::pointer_metadata(&metadata), 6);
+    let pos = text.serialize_unsized(&mut serializer)?;
+    assert_eq!(rt; pos, 0);
+    assert_eq!(rt; serializer.pos(), 6);
+    Ok(())
+}
+
+#[test]
+fn a_view_gives_its_part_and_is_copied(rt: HostRuntime) -> Result<(), Fail> {
+    let view = access::<ArchivedString>(rt.alloc(), b"12345678")?;
+    let again: Ref<'_, ArchivedString> = Ref::at(view.clone()?.part());
+    assert_eq!(rt; again.pos(), 0);
+    let value = <ArchivedString as Deserialize<String, ()>>::deserialize(
+        rt.alloc(),
+        again,
+        &mut (),
+    )?;
+    assert_eq!(rt; value.as_str(), "12345678");
+    Ok(())
+}
+
+#[test]
+fn eight_bytes_say_where_a_text_stands(rt: HostRuntime) -> Result<(), Fail> {
+    let mut bytes = [0; 8];
+    repr::emplace_inline("hi", &mut bytes);
+    assert_eq!(rt; bytes.as_slice(), b"hi\xff\xff\xff\xff\xff\xff".as_slice());
+    let text = "0123456789";
+    assert_eq!(rt;
+        repr::try_emplace_out_of_line(text, 0, 1 << 31, &mut bytes),
+        Err(Error::OffsetOverflow)
+    );
+    assert_eq!(rt; bytes.as_slice(), b"hi\xff\xff\xff\xff\xff\xff".as_slice());
+    repr::try_emplace_out_of_line(text, 12, 0, &mut bytes)?;
+    assert_eq!(rt; bytes.as_slice(), b"\x8a\0\0\0\xf4\xff\xff\xff".as_slice());
+    Ok(())
+}
+
+#[test]
+fn offsets_between_positions(rt: HostRuntime) {
+    let half = isize::MAX as usize + 1;
+    let rows = [
+        (0, 1, Ok(1)),
+        (1, 0, Ok(-1)),
+        (0, half, Err(Error::IsizeOverflow)),
+        (half, 0, Ok(isize::MIN)),
+        (half + 1, 0, Err(Error::IsizeOverflow)),
+    ];
+    for (from, to, offset) in rows {
+        assert_eq!(rt; signed_offset(from, to), offset, "from {from} to {to}");
+    }
+}
+
+#[test]
+fn a_schema_is_kept_and_checks(rt: HostRuntime) -> Result<(), Fail> {
+    let schema = Schema::of::<ArchivedString>(rt.alloc())?;
+    let layout = schema.layout(&Expr::Str)?;
+    assert_eq!(rt; (layout.size, layout.align), (8, 4));
+    let layout = schema.layout(&Expr::Leaf(Kind::U32))?;
+    assert_eq!(rt; (layout.size, layout.align), (4, 4));
+    let bytes = b"hello world\0\x8b\0\0\0\xf4\xff\xff\xff";
+    let mut context = ArchiveValidator::new(bytes);
+    schema.check(bytes, 12, &mut context)?;
+    assert_eq!(rt; context.subtrees(), 2);
+    Ok(())
+}
+
+#[test]
+fn a_place_is_resolved_and_written(rt: HostRuntime) -> Result<(), Fail> {
+    let mut bytes = [0; 4];
+    let place: Place<'_, ArchivedU32> = Place::new(8, &mut bytes);
+    assert_eq!(rt; place.pos(), 8);
+    42u32.resolve((), place)?;
+    assert_eq!(rt; bytes, [42, 0, 0, 0]);
+    let mut writer = Vec::new(rt.alloc());
+    assert_eq!(rt; writer.resolve_aligned(rt.alloc(), &42u32, ())?, 0);
+    assert_eq!(rt; writer.as_slice(), bytes.as_slice());
+    Ok(())
+}
+
+#[test]
+fn a_text_of_its_own_is_read(rt: HostRuntime) -> Result<(), Fail> {
+    let part = Part {
+        bytes: b"hello world",
+        pos: 6,
+        len: 5,
+    };
+    let view: Ref<'_, ArchivedStr> = Ref::at(part);
+    assert_eq!(rt; view.as_str(), "world");
+    assert_eq!(rt; view.len(), 5);
+    assert_eq!(rt;
+        <ArchivedStr as DeserializeUnsized<String, ()>>::deserialize_metadata(view),
+        5
+    );
+    let text = <ArchivedStr as DeserializeUnsized<String, ()>>::deserialize_unsized(
+        rt.alloc(),
+        view,
+        &mut (),
+    )?;
+    assert_eq!(rt; text.as_str(), "world");
+    Ok(())
+}
