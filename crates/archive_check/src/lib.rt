@@ -6,5 +6,7 @@ pub mod error;
 pub mod expr;
 pub mod layout;
 pub mod shape;
+#[cfg(test)]
+mod tests;
 pub mod traits;
 pub mod validation;
