@@ -3,6 +3,8 @@
 
 mod little_endian;
 mod native;
+#[cfg(test)]
+mod tests;
 
 pub use little_endian::LittleEndian;
 pub use native::Native;

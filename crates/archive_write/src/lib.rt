@@ -2,3 +2,5 @@
 #![tactic(auto)]
 
 pub mod ser;
+#[cfg(test)]
+mod tests;
