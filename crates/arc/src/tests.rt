@@ -1,0 +1,167 @@
+// Commands with what they print and the status that they end with. The words of a command stand between bars.
+
+use crate::command::run;
+use std::alloc::{AllocError, Global};
+use std::io;
+use std::test::Fail;
+
+fn words_of(alloc: Global, command: &str) -> Result<Vec<String>, AllocError> {
+    let mut words = Vec::new(alloc);
+    for word in command.split('|') {
+        words.push(String::from_str(alloc, word)?)?;
+    }
+    Ok(words)
+}
+
+// The status of a command, and what it printed.
+fn said(alloc: Global, command: &str) -> Result<(u8, Vec<u8>), AllocError> {
+    let words = words_of(alloc, command)?;
+    let mut out = Vec::new(alloc);
+    let status = run(alloc, words.as_slice(), &mut out);
+    Ok((status, out))
+}
+
+#[test]
+fn values_are_written(rt: HostRuntime) -> Result<(), Fail> {
+    let rows = [
+        ("write|u32|42", "2a000000\n"),
+        ("write|u32|0042", "2a000000\n"),
+        ("write|u32|4294967295", "ffffffff\n"),
+        (
+            "write|string|hello world",
+            "68656c6c6f20776f726c64008b000000f4ffffff\n",
+        ),
+        ("write|string|hi", "6869ffffffffffff\n"),
+        ("write|string|", "ffffffffffffffff\n"),
+        ("write|string|12345678", "3132333435363738\n"),
+        (
+            "write|string|123456789",
+            "31323334353637383900000089000000f4ffffff\n",
+        ),
+    ];
+    for (command, line) in rows {
+        let (status, out) = said(rt.alloc(), command)?;
+        assert_eq!(rt; status, 0, "{command}");
+        assert_eq!(rt; out.as_slice(), line.as_bytes(), "{command}");
+    }
+    Ok(())
+}
+
+#[test]
+fn archives_are_checked(rt: HostRuntime) -> Result<(), Fail> {
+    let rows = [
+        ("check|u32|2a000000", 0, "accepted\n"),
+        ("check|u32|2A000000", 0, "accepted\n"),
+        (
+            "check|string|68656c6c6f20776f726c64008b000000f4ffffff",
+            0,
+            "accepted\n",
+        ),
+        ("check|string|6869ffffffffffff", 0, "accepted\n"),
+        (
+            "check|string|81000000ffffffff",
+            1,
+            "refused: 29 InvalidStringRepr\n",
+        ),
+        (
+            "check|string|c080ffffffffffff",
+            1,
+            "refused: 28 InvalidUtf8\n",
+        ),
+        ("check|string|", 1, "refused: 16 InvalidSubtreePointer\n"),
+        (
+            "check|string|656c6c6f20776f726c64008b000000f4ffffff",
+            1,
+            "refused: 17 UnalignedPointer\n",
+        ),
+        ("check|u32|2a0000", 1, "refused: 16 InvalidSubtreePointer\n"),
+    ];
+    for (command, status, line) in rows {
+        let (ended, out) = said(rt.alloc(), command)?;
+        assert_eq!(rt; ended, status, "{command}");
+        assert_eq!(rt; out.as_slice(), line.as_bytes(), "{command}");
+    }
+    Ok(())
+}
+
+#[test]
+fn other_words_are_bad_arguments(rt: HostRuntime) -> Result<(), Fail> {
+    let rows = [
+        "",
+        "write",
+        "write|u32",
+        "write|u32|1|2",
+        "read|u32|1",
+        "Write|u32|1",
+        "write|u64|1",
+        "write|vec-u32|1",
+        "check|node|00",
+        "write|u32|",
+        "write|u32|+1",
+        "write|u32|-1",
+        "write|u32| 1",
+        "write|u32|1 ",
+        "write|u32|1x",
+        "write|u32|4294967296",
+        "check|string|6",
+        "check|string|6g",
+        "check|string|0x00",
+        "check|string|68 69",
+    ];
+    for command in rows {
+        let (status, out) = said(rt.alloc(), command)?;
+        assert_eq!(rt; status, 2, "{command}");
+        assert_eq!(rt; out.as_slice(), b"bad arguments\n".as_slice(), "{command}");
+    }
+    let mut out = Vec::new(rt.alloc());
+    assert_eq!(rt; run(rt.alloc(), &[], &mut out), 2);
+    assert_eq!(rt; out.as_slice(), b"bad arguments\n".as_slice());
+    Ok(())
+}
+
+// An output that fails once it was given so many pieces.
+#[derive(Drop)]
+struct FailsAfter {
+    pieces: usize,
+}
+
+impl io::Write for FailsAfter {
+    fn write(&mut self, buf: &[u8]) -> io::Result<usize> {
+        if self.pieces == 0 {
+            return Err(io::Error::from(io::ErrorKind::BrokenPipe));
+        }
+        self.pieces -= 1;
+        Ok(buf.len())
+    }
+
+    fn flush(&mut self) -> io::Result<()> {
+        if self.pieces == 0 {
+            return Err(io::Error::from(io::ErrorKind::BrokenPipe));
+        }
+        Ok(())
+    }
+}
+
+#[test]
+fn a_failing_output_is_status_1(rt: HostRuntime) -> Result<(), Fail> {
+    for (command, status) in [
+        ("write|u32|42", 0),
+        ("check|u32|2a000000", 0),
+        ("write|u32|-", 2),
+    ] {
+        let words = words_of(rt.alloc(), command)?;
+        for pieces in 0..20 {
+            let ended = run(rt.alloc(), words.as_slice(), &mut FailsAfter { pieces });
+            assert!(rt; ended == 1 || ended == status, "{command}, {pieces} pieces");
+        }
+        assert_eq!(rt;
+            run(rt.alloc(), words.as_slice(), &mut FailsAfter { pieces: 0 }),
+            1
+        );
+        assert_eq!(rt;
+            run(rt.alloc(), words.as_slice(), &mut FailsAfter { pieces: 20 }),
+            status
+        );
+    }
+    Ok(())
+}
