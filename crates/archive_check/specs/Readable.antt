@@ -1,5 +1,5 @@
 -- What may be read of a pointee.
-use Rattle.std.specs.Prelude.{◌≡◌, ℕ, ◌+◌, ◌≤◌, ℤ, pos, negsuc, ◌+ℤ◌, List, length, IsUtf8}
+use Rattle.std.specs.Prelude.{◌≡◌, ℕ, ◌+◌, ◌/◌, ◌≤◌, ◌==◌, if◌then◌else◌, ℤ, pos, negsuc, ◌+ℤ◌, List, length, slice_index, IsUtf8}
 use Rattle.archive_check.specs.Shape.{Kind, leaf, str, Pointee, one, text}
 use Rattle.archive_check.specs.Layout.{kind_size}
 use Rattle.archive_check.specs.Reads.{bytes_at, u32_at, i32_at, IsLegal, IsOutOfLine, before_end, decoded_length}
@@ -12,6 +12,13 @@ position (negsuc n) = 0
 -- where the offset at p leads, which counts from q
 abbrev pub target_from : List ℕ → ℕ → ℕ → ℕ
 target_from bytes q p = position (pos q +ℤ i32_at bytes p)
+
+-- the text of the string at p
+abbrev pub string_text : List ℕ → ℕ → List ℕ
+string_text bytes p =
+    if (slice_index bytes p / 64) == 2
+    then bytes_at bytes (target_from bytes p (p + 4)) (decoded_length (u32_at bytes p))
+    else before_end (bytes_at bytes p 8)
 
 -- `Readable bytes p P n`: the pointee P at p, of n elements or bytes where it is no single value, lies in the buffer, its leaf is legal, and its
 -- text, wherever it stands, is UTF-8. Leaves, texts and strings have a rule.

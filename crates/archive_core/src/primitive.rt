@@ -1,9 +1,9 @@
 //! Numbers: their formats, and how they are archived and read back.
 
-ghost use Rattle.std.specs.Prelude.{◌≡◌, ◌⊎◌, ⊤, refl, length, IfErr};
+ghost use Rattle.std.specs.Prelude.{◌≡◌, ⊤, refl, length, IfOk, IsOk};
 ghost use Rattle.archive_check.specs.Shape.{leaf, one};
+ghost use Rattle.archive_check.specs.Reads.{bytes_at};
 ghost use Rattle.archive_check.specs.Readable.{Readable};
-ghost use Rattle.archive_check.specs.declared.error.Error.TheVariants.{OutOfMemory, CyclicDeserialize};
 
 use crate::place::Place;
 use crate::traits::{Archive, Deserialize, Entries, Keys, Portable, Serialize};
@@ -78,7 +78,8 @@ impl<N: Native, S: Writer + Keys> Serialize<S> for LittleEndian<N> {
 impl<N: Source, D: Entries> Deserialize<N, D> for LittleEndian<N> {
     fn deserialize_part(_alloc: Global, part: Part<'_>, _deserializer: &mut D) -> Result<N, Error>
         requires { ∥ Readable part.bytes.now part.pos (one (leaf N.kind)) part.len ∥₁ }
-        ensures { IfErr result (λ e. (e ≡ OutOfMemory) ⊎ (e ≡ CyclicDeserialize)) }
+        ensures value { IfOk result (λ n. n ≡ N.number_of (bytes_at part.entry.bytes.now part.entry.pos N.byte_count)) }
+        ensures succeeds { IsOk result }
     {
         let view: Ref<'_, LittleEndian<N>> = Ref::at(part);
         Ok(view.get())
@@ -92,7 +93,8 @@ impl<N: Native, D: Entries> Deserialize<LittleEndian<N>, D> for LittleEndian<N> 
         _deserializer: &mut D,
     ) -> Result<LittleEndian<N>, Error>
         requires { ∥ Readable part.bytes.now part.pos (one (leaf N.kind)) part.len ∥₁ }
-        ensures { IfErr result (λ e. (e ≡ OutOfMemory) ⊎ (e ≡ CyclicDeserialize)) }
+        ensures value { IfOk result (λ n. n ≡ N.number_of (bytes_at part.entry.bytes.now part.entry.pos N.byte_count)) }
+        ensures succeeds { IsOk result }
     {
         let view: Ref<'_, LittleEndian<N>> = Ref::at(part);
         Ok(LittleEndian::from_native(view.get()))

@@ -1,12 +1,12 @@
 //! Strings and texts.
 
-ghost use Rattle.std.specs.Prelude.{◌≡◌, ◌⊎◌, ◌+◌, ◌<◌, ◌≤◌, OnOk, IfOk, IfErr, IsOk, IsErr, IsErrOf, length, refl, string_bytes};
+ghost use Rattle.std.specs.Prelude.{◌≡◌, ◌++◌, ◌<◌, ◌≤◌, ℕ, OnOk, IfOk, IfErr, IsOk, IsErr, IsErrOf, length, refl, string_bytes};
 ghost use Rattle.std.proofs.Common.{inl, inr};
 ghost use Rattle.archive_check.specs.Shape.{str as str_shape, one, text};
 ghost use Rattle.archive_check.specs.Definitions.{no_definition};
-ghost use Rattle.archive_check.specs.Reads.{bytes_at, u32_at, before_end, decoded_length, IsOutOfLine};
-ghost use Rattle.archive_check.specs.Readable.{Readable, target_from};
-ghost use Rattle.archive_check.specs.declared.error.Error.TheVariants.{OutOfMemory, CyclicDeserialize, StringTooLong};
+ghost use Rattle.archive_check.specs.Reads.{bytes_at};
+ghost use Rattle.archive_check.specs.Readable.{Readable, string_text};
+ghost use Rattle.archive_check.specs.declared.error.Error.TheVariants.{OutOfMemory, StringTooLong};
 ghost use Rattle.archive_write.specs.Written.{IsBeginning};
 ghost use Rattle.archive_core.specs.Offsets.{distance, IsTooFar};
 ghost use Rattle.archive_core.specs.Strings.{inline_bytes, out_of_line_bytes};
@@ -27,6 +27,7 @@ use archive_check::error::Error;
 use archive_check::shape::{Defs, Expr};
 use archive_write::ser::Writer;
 use std::alloc::Global;
+use std::marker::Model;
 
 /// An archived string: eight bytes at a multiple of four, which hold a text of at most eight bytes or say where a longer one stands.
 #[derive(Clone, Copy, Debug)]
@@ -47,10 +48,18 @@ pub struct Text<'a> {
     pub text: &'a str,
 }
 
-/// Where a long text was written.
+/// Where a long text was written. In a contract it is that position.
 #[derive(Clone, Copy, Debug)]
 pub struct StringResolver {
     pos: u32,
+}
+
+impl Model for StringResolver {
+    ghost Value = { ℕ };
+
+    ghost view = { λ r. r.pos };
+
+    ghost inverse = { λ n. record { pos = n } };
 }
 
 impl ArchivePointee for ArchivedString {
@@ -123,7 +132,12 @@ impl<'a> ArchiveUnsized for Text<'a> {
 }
 
 impl<'a, S: Writer + Keys> SerializeUnsized<S> for Text<'a> {
-    fn serialize_unsized(&self, serializer: &mut S) -> Result<usize, Error> {
+    fn serialize_unsized(&self, serializer: &mut S) -> Result<usize, Error>
+        ensures position { IfOk result (λ p. (length (S.told serializer.old).bytes ≤ p) × (p ≤ length (S.told serializer.new).bytes)) }
+        ensures here { IfOk result (λ p. p ≡ length (S.told serializer.old).bytes) }
+        ensures written { OnOk result ((S.told serializer.new).bytes ≡ (S.told serializer.old).bytes ++ self.now.text.now) }
+        ensures kept { IsBeginning (S.told serializer.old).bytes (S.told serializer.new).bytes }
+    {
         if let Err(error) = self.archived_metadata() {
             return Err(error);
         }
@@ -140,7 +154,8 @@ impl<D: Entries> DeserializeUnsized<String, D> for ArchivedStr {
         _deserializer: &mut D,
     ) -> Result<String, Error>
         requires { ∥ Readable part.bytes.now part.pos text part.len ∥₁ }
-        ensures { IfErr result (λ e. (e ≡ OutOfMemory) ⊎ (e ≡ CyclicDeserialize)) }
+        ensures value { IfOk result (λ s. string_bytes s ≡ bytes_at part.entry.bytes.now part.entry.pos part.entry.len) }
+        ensures refused { IfErr result (λ e. e ≡ OutOfMemory) }
     {
         let view: Ref<'_, ArchivedStr> = Ref::at(part);
         Ok(String::from_str(alloc, view.as_str())?)
@@ -148,7 +163,7 @@ impl<D: Entries> DeserializeUnsized<String, D> for ArchivedStr {
 }
 
 impl ArchivedString {
-    /// Writes the text, if it is longer than eight bytes. Refused with 7 exactly where it is longer than 1,073,741,823 bytes, before anything is
+    /// Writes the text, if it is longer than eight bytes, and answers where. Refused with 7 exactly where it is longer than 1,073,741,823 bytes, before anything is
     /// written, with 4 where it would stand above 4,294,967,295, or as the writer refuses.
     pub fn serialize_from_str<S: Writer + Keys>(
         value: &str,
@@ -157,6 +172,8 @@ impl ArchivedString {
         ensures held { OnOk result (length value.now ≤ 1073741823) }
         ensures inline { length value.now ≤ 8 → IsOk result × (S.told serializer.new ≡ S.told serializer.old) }
         ensures too_long { 1073741823 < length value.now → IsErrOf result StringTooLong × (S.told serializer.new ≡ S.told serializer.old) }
+        ensures elsewhere { 8 < length value.now → IfOk result (λ r. (r ≡ length (S.told serializer.old).bytes)
+            × ((S.told serializer.new).bytes ≡ (S.told serializer.old).bytes ++ value.now)) }
         ensures kept { IsBeginning (S.told serializer.old).bytes (S.told serializer.new).bytes }
     {
         if value.len() <= repr::INLINE_CAPACITY {
@@ -181,8 +198,8 @@ impl ArchivedString {
         requires sized { length place.bytes.now ≡ 8 }
         requires held { length value.now ≤ 1073741823 }
         ensures inline { length value.now ≤ 8 → IsOk result × (place.exit.0.now ≡ inline_bytes value.now) }
-        ensures elsewhere { 8 < length value.now → OnOk result (place.exit.0.now ≡ out_of_line_bytes (length value.now) (distance place.entry.pos resolver.pos)) }
-        ensures refused { IfErr result (λ e. (place.exit.0.now ≡ place.entry.bytes.now) × IsTooFar e (distance place.entry.pos resolver.pos)) }
+        ensures elsewhere { 8 < length value.now → OnOk result (place.exit.0.now ≡ out_of_line_bytes (length value.now) (distance place.entry.pos resolver)) }
+        ensures refused { IfErr result (λ e. (place.exit.0.now ≡ place.entry.bytes.now) × IsTooFar e (distance place.entry.pos resolver)) }
         ensures same_length { length place.exit.0.now ≡ length place.entry.bytes.now }
     {
         let Place { bytes, pos, .. } = place;
@@ -228,7 +245,8 @@ impl<D: Entries> Deserialize<String, D> for ArchivedString {
         _deserializer: &mut D,
     ) -> Result<String, Error>
         requires { ∥ Readable part.bytes.now part.pos (one str_shape) part.len ∥₁ }
-        ensures { IfErr result (λ e. (e ≡ OutOfMemory) ⊎ (e ≡ CyclicDeserialize)) }
+        ensures value { IfOk result (λ s. string_bytes s ≡ string_text part.entry.bytes.now part.entry.pos) }
+        ensures refused { IfErr result (λ e. e ≡ OutOfMemory) }
     {
         let view: Ref<'_, ArchivedString> = Ref::at(part);
         Ok(String::from_str(alloc, view.as_str())?)
@@ -255,9 +273,7 @@ impl<'a> Ref<'a, ArchivedStr> {
 impl<'a> Ref<'a, ArchivedString> {
     /// The text, wherever it stands.
     pub fn as_str(self) -> &'a str
-        ensures inline { (IsOutOfLine self.entry.bytes.now self.entry.pos → ⊥) → result.now ≡ before_end (bytes_at self.entry.bytes.now self.entry.pos 8) }
-        ensures elsewhere { IsOutOfLine self.entry.bytes.now self.entry.pos → result.now
-            ≡ bytes_at self.entry.bytes.now (target_from self.entry.bytes.now self.entry.pos (self.entry.pos + 4)) (decoded_length (u32_at self.entry.bytes.now self.entry.pos)) }
+        ensures { result.now ≡ string_text self.entry.bytes.now self.entry.pos }
     {
         let Part { bytes, pos, .. } = self.part();
         if is_out_of_line(bytes, pos) {
@@ -272,13 +288,8 @@ impl<'a> Ref<'a, ArchivedString> {
 
     /// How many bytes the text has.
     pub fn len(self) -> usize
-        ensures inline { (IsOutOfLine self.entry.bytes.now self.entry.pos → ⊥) → result ≡ length (before_end (bytes_at self.entry.bytes.now self.entry.pos 8)) }
-        ensures elsewhere { IsOutOfLine self.entry.bytes.now self.entry.pos → result ≡ decoded_length (u32_at self.entry.bytes.now self.entry.pos) }
+        ensures { result ≡ length (string_text self.entry.bytes.now self.entry.pos) }
     {
-        let Part { bytes, pos, .. } = self.part();
-        if is_out_of_line(bytes, pos) {
-            return read_coded_length(bytes, pos);
-        }
-        inline_length(bytes, pos)
+        self.as_str().len()
     }
 }

@@ -56,7 +56,7 @@ pub trait Deserialize<T: Archive, D: Entries>: ArchivePointee {
     /// What implements this trait writes this call, over the part of a view; callers use `deserialize`.
     fn deserialize_part(alloc: Global, part: Part<'_>, deserializer: &mut D) -> Result<T, Error>
         requires { ∥ Readable part.bytes.now part.pos Self.pointee part.len ∥₁ }
-        ensures { IfErr result (λ e. (e ≡ OutOfMemory) ⊎ (e ≡ CyclicDeserialize)) };
+        ensures refused { IfErr result (λ e. (e ≡ OutOfMemory) ⊎ (e ≡ CyclicDeserialize)) };
 
     /// The value. Memory comes from `alloc`: refused with 1 where it is refused, and with 13 where a shared value holds itself.
     final fn deserialize(
