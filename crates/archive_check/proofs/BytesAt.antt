@@ -1,5 +1,5 @@
 -- Bytes read one by one.
-use Rattle.std.proofs.Common.{◌≡◌, ℕ, zero, suc, refl, ◌+◌, ◌-◌, ◌<◌, ◌≤◌, arith, ap, sym, ◌∙◌, List, [], ◌∷◌, length, take, drop, get_or, slice_index, add-one, drop-cons, cond, nat_eq, Bool, true, false, subst, ◌≢◌}
+use Rattle.std.proofs.Common.{◌≡◌, ℕ, zero, suc, refl, ◌+◌, ◌<◌, ◌≤◌, arith, ap, sym, ◌∙◌, List, [], ◌∷◌, length, take, drop, slice_index, drop-cons, cond, nat_eq, Bool, true, false, ◌≢◌}
 use Rattle.std.proofs.lemmas.Bool.Decides.{nat_tests}
 use Rattle.std.proofs.lemmas.Grind.{common_steps}
 use Rattle.archive_check.specs.Reads.{bytes_at, before_end}

@@ -1,5 +1,5 @@
 -- Leaves in bytes.
-use Rattle.std.proofs.Common.{◌≡◌, ℕ, ◌+◌, ◌≤◌, List, length}
+use Rattle.std.proofs.Common.{ℕ, ◌+◌, ◌≤◌, List, length}
 use Rattle.archive_check.specs.Shape.{leaf, one}
 use Rattle.archive_check.specs.Layout.{kind_size}
 use Rattle.archive_check.specs.declared.expr.Kind.{Kind}

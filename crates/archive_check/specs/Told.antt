@@ -1,5 +1,5 @@
 -- What a writer tells of itself, and the states of shared keys.
-use Rattle.std.specs.Prelude.{◌≡◌, ℕ, List, [], Option, Some, None}
+use Rattle.std.specs.Prelude.{◌≡◌, ℕ, List, [], Option, None}
 
 -- the bytes that a writer holds, how many more it can take where there is a limit, and how often its device failed
 pub record Told : Type 0 where

@@ -1,9 +1,9 @@
 //! Schemas: an expression with the definitions of its names, its layout, and the check of bytes against it.
 
 ghost use Rattle.std.specs.Prelude.{◌≡◌, ◌⊎◌, ℕ, ◌+◌, ◌≤◌, ◌^◌, OnOk, IfOk, IfErr, MatchResult, length, pos};
-ghost use Rattle.archive_check.specs.Shape.{one, leaf, str, text};
-ghost use Rattle.archive_check.specs.Layout.{Layouts, kind_size, size_of, align_of};
-ghost use Rattle.archive_check.specs.Expressions.{kind_of, shape_of};
+ghost use Rattle.archive_check.specs.Shape.{one, str, text};
+ghost use Rattle.archive_check.specs.Layout.{Layouts, size_of, align_of};
+ghost use Rattle.archive_check.specs.Expressions.{shape_of};
 ghost use Rattle.archive_check.specs.Readable.{Readable};
 ghost use Rattle.archive_check.specs.Schemas.{root_of};
 ghost use Rattle.archive_check.specs.declared.error.Error.TheVariants.{OutOfMemory, ShapeConflict, LayoutTooLarge};
@@ -55,7 +55,7 @@ fn enter<C: ArchiveContext>(
     Ok(Entered { begin, outer })
 }
 
-// Whether the text of `length` bytes at a position may stand there, and is UTF-8.
+// Whether a text of `len` bytes at a position may stand there, and is UTF-8.
 fn check_text<C: ArchiveContext>(
     context: &mut C,
     bytes: &[u8],

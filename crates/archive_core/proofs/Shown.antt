@@ -9,7 +9,7 @@ use mathlib.Core.Bool.{Bool-set}
 use Rattle.archive_check.specs.Shape.{Kind, leaf, str, one, text}
 use Rattle.archive_check.specs.Layout.{kind_size}
 use Rattle.archive_check.specs.Reads.{bytes_at, u32_at, i32_at, IsLegal, IsOutOfLine, before_end, decoded_length}
-use Rattle.archive_check.specs.Readable.{Readable, readable_leaf, readable_text, readable_inline, readable_out_of_line, position, target_from}
+use Rattle.archive_check.specs.Readable.{Readable, readable_leaf, readable_text, readable_inline, readable_out_of_line, target_from}
 
 -- leaves
 

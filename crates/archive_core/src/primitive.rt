@@ -4,6 +4,7 @@ ghost use Rattle.std.specs.Prelude.{◌≡◌, ⊤, refl, length, IfOk, IsOk};
 ghost use Rattle.archive_check.specs.Shape.{leaf, one};
 ghost use Rattle.archive_check.specs.Reads.{bytes_at};
 ghost use Rattle.archive_check.specs.Readable.{Readable};
+ghost use Rattle.archive_write.specs.Written.{IsBeginning};
 
 use crate::place::Place;
 use crate::traits::{Archive, Deserialize, Entries, Keys, Portable, Serialize};
@@ -37,7 +38,9 @@ impl<N: Source> Archive for N {
     fn resolve(&self, _resolver: (), place: Place<'_, N::Format>) -> Result<(), Error>
         requires sized { length place.bytes.now ≡ N.Format.layout.size }
         requires same_value { ⊤ }
-        ensures { length place.exit.0.now ≡ length place.entry.bytes.now }
+        ensures same_length { length place.exit.0.now ≡ length place.entry.bytes.now }
+        ensures written { place.exit.0.now ≡ N.bytes_of self.now }
+        ensures succeeds { IsOk result }
     {
         let Place { bytes, .. } = place;
         self.write_to(bytes);
@@ -46,7 +49,12 @@ impl<N: Source> Archive for N {
 }
 
 impl<N: Source, S: Writer + Keys> Serialize<S> for N {
-    fn serialize(&self, _serializer: &mut S) -> Result<(), Error> {
+    fn serialize(&self, _serializer: &mut S) -> Result<(), Error>
+        ensures same_value { ⊤ }
+        ensures kept { IsBeginning (S.told _serializer.old).bytes (S.told _serializer.new).bytes }
+        ensures unchanged { S.told _serializer.new ≡ S.told _serializer.old }
+        ensures succeeds { IsOk result }
+    {
         Ok(())
     }
 }
@@ -61,7 +69,9 @@ impl<N: Native> Archive for LittleEndian<N> {
     fn resolve(&self, _resolver: (), place: Place<'_, LittleEndian<N>>) -> Result<(), Error>
         requires sized { length place.bytes.now ≡ N.byte_count }
         requires same_value { ⊤ }
-        ensures { length place.exit.0.now ≡ length place.entry.bytes.now }
+        ensures same_length { length place.exit.0.now ≡ length place.entry.bytes.now }
+        ensures written { place.exit.0.now ≡ N.bytes_of self.now }
+        ensures succeeds { IsOk result }
     {
         let Place { bytes, .. } = place;
         self.to_native().write_to(bytes);
@@ -70,7 +80,12 @@ impl<N: Native> Archive for LittleEndian<N> {
 }
 
 impl<N: Native, S: Writer + Keys> Serialize<S> for LittleEndian<N> {
-    fn serialize(&self, _serializer: &mut S) -> Result<(), Error> {
+    fn serialize(&self, _serializer: &mut S) -> Result<(), Error>
+        ensures same_value { ⊤ }
+        ensures kept { IsBeginning (S.told _serializer.old).bytes (S.told _serializer.new).bytes }
+        ensures unchanged { S.told _serializer.new ≡ S.told _serializer.old }
+        ensures succeeds { IsOk result }
+    {
         Ok(())
     }
 }

@@ -1,6 +1,6 @@
 //! Strings and texts.
 
-ghost use Rattle.std.specs.Prelude.{◌≡◌, ◌++◌, ◌<◌, ◌≤◌, ℕ, OnOk, IfOk, IfErr, IsOk, IsErr, IsErrOf, length, refl, string_bytes};
+ghost use Rattle.std.specs.Prelude.{◌≡◌, ◌++◌, ◌<◌, ◌≤◌, ℕ, OnOk, IfOk, IfErr, IsOk, IsErrOf, length, refl, string_bytes};
 ghost use Rattle.std.proofs.Common.{inl, inr};
 ghost use Rattle.archive_check.specs.Shape.{str as str_shape, one, text};
 ghost use Rattle.archive_check.specs.Definitions.{no_definition};
@@ -8,6 +8,7 @@ ghost use Rattle.archive_check.specs.Reads.{bytes_at};
 ghost use Rattle.archive_check.specs.Readable.{Readable, string_text};
 ghost use Rattle.archive_check.specs.declared.error.Error.TheVariants.{OutOfMemory, StringTooLong};
 ghost use Rattle.archive_write.specs.Written.{IsBeginning};
+ghost use Rattle.archive_core.specs.Refusals.{ExplainsTextRefusal, ExplainsStringRefusal};
 ghost use Rattle.archive_core.specs.Offsets.{distance, IsTooFar};
 ghost use Rattle.archive_core.specs.Strings.{inline_bytes, out_of_line_bytes};
 
@@ -137,6 +138,7 @@ impl<'a, S: Writer + Keys> SerializeUnsized<S> for Text<'a> {
         ensures here { IfOk result (λ p. p ≡ length (S.told serializer.old).bytes) }
         ensures written { OnOk result ((S.told serializer.new).bytes ≡ (S.told serializer.old).bytes ++ self.now.text.now) }
         ensures kept { IsBeginning (S.told serializer.old).bytes (S.told serializer.new).bytes }
+        ensures refused { IfErr result (ExplainsTextRefusal (length self.now.text.now) (S.place serializer.old) (S.told serializer.old) (S.told serializer.new)) }
     {
         if let Err(error) = self.archived_metadata() {
             return Err(error);
@@ -163,8 +165,8 @@ impl<D: Entries> DeserializeUnsized<String, D> for ArchivedStr {
 }
 
 impl ArchivedString {
-    /// Writes the text, if it is longer than eight bytes, and answers where. Refused with 7 exactly where it is longer than 1,073,741,823 bytes, before anything is
-    /// written, with 4 where it would stand above 4,294,967,295, or as the writer refuses.
+    /// Writes the text, if it is longer than eight bytes, and answers where. Refused with 7 exactly where it is longer than 1,073,741,823 bytes,
+    /// before anything is written, with 4 where it stands above 4,294,967,295, or as the writer refuses.
     pub fn serialize_from_str<S: Writer + Keys>(
         value: &str,
         serializer: &mut S,
@@ -175,6 +177,7 @@ impl ArchivedString {
         ensures elsewhere { 8 < length value.now → IfOk result (λ r. (r ≡ length (S.told serializer.old).bytes)
             × ((S.told serializer.new).bytes ≡ (S.told serializer.old).bytes ++ value.now)) }
         ensures kept { IsBeginning (S.told serializer.old).bytes (S.told serializer.new).bytes }
+        ensures refused { IfErr result (ExplainsStringRefusal (length value.now) (S.place serializer.old) (S.told serializer.old) (S.told serializer.new)) }
     {
         if value.len() <= repr::INLINE_CAPACITY {
             return Ok(StringResolver { pos: 0 });

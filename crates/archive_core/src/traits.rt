@@ -39,7 +39,7 @@ pub trait Archive {
     ) -> Result<(), Error>
         requires sized { length place.bytes.now ≡ Self.Archived.layout.size }
         requires same_value { belongs self.now resolver }
-        ensures { length place.exit.0.now ≡ length place.entry.bytes.now };
+        ensures same_length { length place.exit.0.now ≡ length place.entry.bytes.now };
 }
 
 /// A source that can be serialized to an `S`.

@@ -2,9 +2,8 @@
 use Rattle.std.specs.Prelude.{◌≡◌, ℕ}
 use Rattle.std.proofs.Common.{arith, max}
 use Rattle.archive_check.specs.Shape.{Kind, leaf}
-use Rattle.archive_check.specs.Layout.{Layout, kind_size, kind_align}
-use Rattle.archive_check.specs.Reads.{Schema}
-use Rattle.archive_check.specs.Definitions.{no_definition, Knows, HasLayout, IsAlign}
+use Rattle.archive_check.specs.Layout.{kind_size}
+use Rattle.archive_check.specs.Definitions.{no_definition, HasLayout, IsAlign}
 
 align_is : (size n : ℕ) → size ≡ n → IsAlign n → max size 1 ≡ n
 align_is size n e h = omega (arith, h)

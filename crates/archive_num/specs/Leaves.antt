@@ -1,5 +1,5 @@
 -- The laws of the numbers of the machine, by their width.
-use Rattle.std.proofs.Common.{◌≡◌, ℕ, ℤ, pos, negsuc, zero, suc, ◌*◌, ◌^◌, ◌<◌, List, length, refl, sym, ap, ◌∙◌, arith}
+use Rattle.std.proofs.Common.{◌≡◌, ℕ, ℤ, pos, negsuc, ◌^◌, ◌<◌, List, length, refl, sym, ap, ◌∙◌, arith}
 use Rattle.std.specs.Int.{Width, byte_len, cast_signed, cast_unsigned, w8, w16, w32, w64, w128}
 use mir.Val.{bits}
 use Rattle.std.specs.Char.{IsScalar}
@@ -8,7 +8,7 @@ use Rattle.std.proofs.lemmas.Bool.Decides.{nat_tests}
 use Rattle.std.specs.Int.RustNames.{FitsSigned}
 use Rattle.std.proofs.lemmas.Int.{of_z-to_z, to_z-of_z}
 use Rattle.archive_num.specs.Digits.{little_bytes, little_number, AreBytes}
-use Rattle.archive_num.specs.Numbers.{length-little_bytes, AreBytes-little_bytes, little_number-little_bytes, little_bytes-little_number, little_number-lt}
+use Rattle.archive_num.specs.Numbers.{little_number-little_bytes, little_bytes-little_number, little_number-lt}
 
 pow_bits : (w : Width) → 256 ^ byte_len w ≡ 2 ^ bits w
 pow_bits w8 = refl

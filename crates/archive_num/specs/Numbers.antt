@@ -1,9 +1,8 @@
 -- What `little_bytes` and `little_number` have to do with each other, and with the methods of std.
-use Rattle.std.proofs.Common.{◌≡◌, ℕ, zero, suc, ◌+◌, ◌-◌, ◌*◌, ◌/◌, ◌%◌, ◌^◌, ◌<◌, ◌≤◌, List, [], ◌∷◌, ◌++◌, length, take, slice_index, get_or, refl, sym, ap, ◌∙◌, arith, length-take, add-one}
-use Rattle.std.proofs.Math.Nat.{div-add-mod', div-div-eq-div-mul, div-one, mod-eq_of_lt, pow-suc, pow-succ', one-le-pow, mod-lt, mul_assoc}
+use Rattle.std.proofs.Common.{◌≡◌, ℕ, zero, suc, ◌+◌, ◌-◌, ◌*◌, ◌/◌, ◌%◌, ◌^◌, ◌<◌, List, [], ◌∷◌, ◌++◌, length, take, slice_index, get_or, refl, sym, ap, ◌∙◌, arith, length-take}
+use Rattle.std.proofs.Math.Nat.{div-add-mod', div-div-eq-div-mul, div-one, pow-suc, mod-lt, mul_assoc}
 use Rattle.std.proofs.lemmas.List.{take_more, take_all}
 use Rattle.std.proofs.lemmas.Nat.{div_below}
-use Rattle.std.specs.List.{All}
 use Rattle.std.specs.Int.{Width, byte_len, byte_at, byte_worth, bytes_low_first, sum_through, to_le_bytes, from_le_bytes}
 use Rattle.archive_num.specs.Digits.{little_bytes, little_number, AreBytes}
 

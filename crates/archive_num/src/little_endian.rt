@@ -1,8 +1,7 @@
 //! The format of a number.
 
-ghost use Rattle.std.specs.Prelude.{◌≡◌, refl, min, ℕ, List};
-ghost use Rattle.archive_check.specs.Shape.{Kind, leaf, one};
-ghost use Rattle.archive_check.specs.Layout.{Layout};
+ghost use Rattle.std.specs.Prelude.{◌≡◌, refl};
+ghost use Rattle.archive_check.specs.Shape.{leaf, one};
 ghost use Rattle.archive_check.specs.Definitions.{no_definition};
 ghost use Rattle.archive_num.specs.Formats.{leaf_layout};
 

@@ -1,6 +1,5 @@
 -- What a write does to a writer.
 use Rattle.std.specs.Prelude.{◌≡◌, ℕ, ◌+◌, ◌-◌, ◌^◌, ◌<◌, ◌≤◌, ◌⊎◌, ◌%◌, List, ◌++◌, length, Option, Some, None, IfSome, ⊤}
-use Rattle.archive_check.specs.Told.{Told}
 use Rattle.archive_check.specs.declared.error.Error.{Error}
 use Rattle.archive_check.specs.declared.error.Error.TheVariants.{OutOfMemory, BufferOverflow, WriterFailed}
 

@@ -1,4 +1,4 @@
-use Rattle.std.proofs.Common.{rules, ◌≡◌, ◌<◌, ◌≢◌, ℕ, ◌+◌, arith, slice_index}
+use Rattle.std.proofs.Common.{arith}
 use Rattle.archive_check.proofs.BytesAt.{inline_all, inline_first}
 use Rattle.archive_check.proofs.bytes.inline_length.Goals as goal
 

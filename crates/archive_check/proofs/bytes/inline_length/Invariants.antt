@@ -1,4 +1,4 @@
-use Rattle.std.proofs.Common.{◌≡◌, ◌≢◌, ◌<◌, ◌+◌, ℕ, slice_index}
+use Rattle.std.proofs.Common.{◌≢◌, ◌<◌, ◌+◌, ℕ, slice_index}
 use Rattle.archive_check.proofs.bytes.inline_length.Given as goal
 
 abbrev pub invariant-loop-k : goal.invariant-loop-k

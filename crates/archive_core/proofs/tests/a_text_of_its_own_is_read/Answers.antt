@@ -1,4 +1,4 @@
-use Rattle.std.proofs.Common.{◌≡◌, ℕ, List, refl, lit≤, [], ◌∷◌, IsUtf8}
+use Rattle.std.proofs.Common.{refl, lit≤, [], ◌∷◌, IsUtf8}
 use Rattle.archive_check.specs.Shape.{text}
 use Rattle.archive_check.specs.Reads.{bytes_at}
 use Rattle.archive_check.specs.Readable.{Readable, readable_text}

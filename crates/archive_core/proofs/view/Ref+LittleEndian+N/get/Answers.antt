@@ -1,4 +1,4 @@
-use Rattle.std.proofs.Common.{ap, ◌∙◌, ◌-◌, ◌+◌, take, drop}
+use Rattle.std.proofs.Common.{ap, ◌∙◌}
 use Rattle.archive_check.specs.Reads.{bytes_at}
 use Rattle.archive_core.proofs.Shown.{leaf_slice, slice_is}
 use Rattle.archive_core.proofs.view.Ref+LittleEndian+N.get.Goals as goal
