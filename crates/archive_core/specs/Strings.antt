@@ -1,6 +1,7 @@
 -- The eight bytes of a string.
-use Rattle.std.specs.Prelude.{ℕ, ◌+◌, ◌-◌, ◌*◌, ◌/◌, ◌%◌, ℤ, List, ◌++◌, length, replicate}
+use Rattle.std.specs.Prelude.{ℕ, ◌+◌, ◌-◌, ◌*◌, ◌/◌, ◌%◌, ℤ, List, ◌++◌, length, replicate, nat_lt, if◌then◌else◌}
 use Rattle.std.specs.Int.{w32, to_le_bytes, cast_unsigned}
+use Rattle.archive_core.specs.Offsets.{distance}
 
 -- the number that codes the length of a text that stands elsewhere
 abbrev pub coded_length : ℕ → ℕ
@@ -13,3 +14,7 @@ inline_bytes bytes = bytes ++ replicate (8 - length bytes) 0xff
 -- of a string whose text has n bytes and stands so far away
 abbrev pub out_of_line_bytes : ℕ → ℤ → List ℕ
 out_of_line_bytes n offset = to_le_bytes w32 (coded_length n) ++ to_le_bytes w32 (cast_unsigned w32 offset)
+
+-- of the string at p of a text, which stands at t if it isn't inline
+abbrev pub string_form : List ℕ → ℕ → ℕ → List ℕ
+string_form bytes p t = if nat_lt 8 (length bytes) then out_of_line_bytes (length bytes) (distance p t) else inline_bytes bytes

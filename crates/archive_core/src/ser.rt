@@ -1,6 +1,6 @@
 //! Writers, and the regions that are resolved into them.
 
-ghost use Rattle.std.specs.Prelude.{◌≡◌, ◌%◌, length, IfOk};
+ghost use Rattle.std.specs.Prelude.{◌≡◌, ◌+◌, ◌%◌, length, IfOk, OnOk};
 ghost use Rattle.archive_write.specs.Written.{IsBeginning};
 
 use crate::place::Place;
@@ -42,6 +42,7 @@ pub trait ResolveExt: Writer {
         requires aligned { Self.place self.old % T.Archived.layout.align ≡ 0 }
         requires same_value { T.belongs value.now resolver }
         ensures position { IfOk result (λ p. p ≡ Self.place self.old) }
+        ensures sized { OnOk result (length (Self.told self.new).bytes ≡ length (Self.told self.old).bytes + T.Archived.layout.size) }
         ensures kept { IsBeginning (Self.told self.old).bytes (Self.told self.new).bytes }
     {
         let pos = self.pos();

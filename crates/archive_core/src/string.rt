@@ -10,7 +10,7 @@ ghost use Rattle.archive_check.specs.declared.error.Error.TheVariants.{OutOfMemo
 ghost use Rattle.archive_write.specs.Written.{IsBeginning};
 ghost use Rattle.archive_core.specs.Refusals.{ExplainsTextRefusal, ExplainsStringRefusal};
 ghost use Rattle.archive_core.specs.Offsets.{distance, IsTooFar};
-ghost use Rattle.archive_core.specs.Strings.{inline_bytes, out_of_line_bytes};
+ghost use Rattle.archive_core.specs.Strings.{string_form};
 
 pub mod repr;
 
@@ -200,8 +200,8 @@ impl ArchivedString {
     ) -> Result<(), Error>
         requires sized { length place.bytes.now ≡ 8 }
         requires held { length value.now ≤ 1073741823 }
-        ensures inline { length value.now ≤ 8 → IsOk result × (place.exit.0.now ≡ inline_bytes value.now) }
-        ensures elsewhere { 8 < length value.now → OnOk result (place.exit.0.now ≡ out_of_line_bytes (length value.now) (distance place.entry.pos resolver)) }
+        ensures written { OnOk result (place.exit.0.now ≡ string_form value.now place.entry.pos resolver) }
+        ensures inline { length value.now ≤ 8 → IsOk result }
         ensures refused { IfErr result (λ e. (place.exit.0.now ≡ place.entry.bytes.now) × IsTooFar e (distance place.entry.pos resolver)) }
         ensures same_length { length place.exit.0.now ≡ length place.entry.bytes.now }
     {
@@ -228,7 +228,10 @@ impl Archive for String {
     ) -> Result<(), Error>
         requires sized { length place.bytes.now ≡ 8 }
         requires same_value { length (string_bytes self.now) ≤ 1073741823 }
-        ensures { length place.exit.0.now ≡ length place.entry.bytes.now }
+        ensures written { OnOk result (place.exit.0.now ≡ string_form (string_bytes self.now) place.entry.pos resolver) }
+        ensures inline { length (string_bytes self.now) ≤ 8 → IsOk result }
+        ensures refused { IfErr result (λ e. IsTooFar e (distance place.entry.pos resolver)) }
+        ensures same_length { length place.exit.0.now ≡ length place.entry.bytes.now }
     {
         let Place { bytes, pos, .. } = place;
         ArchivedString::resolve_from_str(self.as_str(), resolver, Place::new(pos, bytes))
@@ -236,7 +239,14 @@ impl Archive for String {
 }
 
 impl<S: Writer + Keys> Serialize<S> for String {
-    fn serialize(&self, serializer: &mut S) -> Result<StringResolver, Error> {
+    fn serialize(&self, serializer: &mut S) -> Result<StringResolver, Error>
+        ensures same_value { OnOk result (length (string_bytes self.now) ≤ 1073741823) }
+        ensures kept { IsBeginning (S.told serializer.old).bytes (S.told serializer.new).bytes }
+        ensures inline { length (string_bytes self.now) ≤ 8 → IsOk result × (S.told serializer.new ≡ S.told serializer.old) }
+        ensures elsewhere { 8 < length (string_bytes self.now) → IfOk result (λ r. (r ≡ length (S.told serializer.old).bytes)
+            × ((S.told serializer.new).bytes ≡ (S.told serializer.old).bytes ++ string_bytes self.now)) }
+        ensures refused { IfErr result (ExplainsStringRefusal (length (string_bytes self.now)) (S.place serializer.old) (S.told serializer.old) (S.told serializer.new)) }
+    {
         ArchivedString::serialize_from_str(self.as_str(), serializer)
     }
 }

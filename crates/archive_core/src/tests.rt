@@ -1,18 +1,26 @@
 // Worked rows: values with their archives, and buffers that are refused.
 
+ghost use Rattle.std.specs.Prelude.{◌≡◌, ⊤, refl, length};
+ghost use Rattle.std.specs.Int.{w32};
+ghost use Rattle.std.proofs.Common.{inl, inr};
+ghost use Rattle.archive_check.specs.Shape.{array, leaf, number, one, unsigned};
+ghost use Rattle.archive_check.specs.Definitions.{no_definition};
+
 use crate::api::{access, access_pos, from_bytes, root_position, to_bytes, to_bytes_in};
 use crate::error::Error;
 use crate::place::Place;
 use crate::primitive::{ArchivedU32, ArchivedUsize};
 use crate::rel_ptr::signed_offset;
 use crate::ser::{Positional, ResolveExt, Serializer};
-use crate::shape::{Expr, Kind, Schema};
+use crate::shape::{Defs, Expr, Kind, Schema};
 use crate::string::{ArchivedStr, ArchivedString, Text, repr};
 use crate::traits::{
-    Archive, ArchivePointee, ArchiveUnsized, Deserialize, DeserializeUnsized, SerializeUnsized,
+    Archive, ArchivePointee, ArchiveUnsized, Deserialize, DeserializeUnsized, Portable,
+    SerializeUnsized,
 };
 use crate::validation::ArchiveValidator;
 use crate::view::{Part, Ref};
+use std::alloc::Global;
 use std::test::Fail;
 
 #[test]
@@ -277,5 +285,82 @@ fn a_text_of_its_own_is_read(rt: HostRuntime) -> Result<(), Fail> {
         &mut (),
     )?;
     assert_eq!(rt; text.as_str(), "world");
+    Ok(())
+}
+
+// A hundred sevens: a value whose region is too large for a local array.
+struct ArchivedSevens;
+
+#[derive(Clone, Copy)]
+struct Sevens;
+
+impl ArchivePointee for ArchivedSevens {
+    type ArchivedMetadata = ();
+
+    ghost pointee = { one (array 25 (leaf (number unsigned w32))) };
+
+    ghost definitions = { no_definition };
+
+    ghost metadata_length = { λ _. 0 };
+
+    fn pointer_metadata(_metadata: &()) -> usize {
+        0
+    }
+}
+
+impl Portable for ArchivedSevens {
+    ghost shape = { array 25 (leaf (number unsigned w32)) };
+
+    ghost layout = { record { size = 100; align = 4 } };
+
+    ghost is_one = { refl };
+
+    ghost is_align = { inr (inr (inl refl)) };
+
+    ghost has_layout = { record { solved = λ s k. refl } };
+
+    fn size() -> usize {
+        100
+    }
+
+    fn align() -> usize {
+        4
+    }
+
+    // No expression says so much yet.
+    fn expr(_alloc: Global) -> Result<Expr, Error> {
+        Err(Error::OutOfMemory)
+    }
+
+    fn define(_alloc: Global, _defs: &mut Defs) -> Result<(), Error> {
+        Ok(())
+    }
+}
+
+impl Archive for Sevens {
+    type Archived = ArchivedSevens;
+
+    type Resolver = ();
+
+    ghost belongs = { λ _ _. ⊤ };
+
+    fn resolve(&self, _resolver: (), place: Place<'_, ArchivedSevens>) -> Result<(), Error>
+        requires sized { length place.bytes.now ≡ 100 }
+        requires same_value { ⊤ }
+        ensures same_length { length place.exit.0.now ≡ length place.entry.bytes.now }
+    {
+        let Place { bytes, .. } = place;
+        bytes.fill(7);
+        Ok(())
+    }
+}
+
+#[test]
+fn a_large_region_is_resolved_on_the_heap(rt: HostRuntime) -> Result<(), Fail> {
+    let mut writer = Vec::new(rt.alloc());
+    writer.resolve_aligned(rt.alloc(), &42u32, ())?;
+    assert_eq!(rt; writer.resolve_aligned(rt.alloc(), &Sevens, ())?, 4);
+    assert_eq!(rt; writer.len(), 104);
+    assert!(rt; writer.iter().skip(4).all(|byte| *byte == 7));
     Ok(())
 }
