@@ -9,13 +9,16 @@ use Rattle.archive_check.specs.declared.expr.Def.{Def}
 use Rattle.archive_check.specs.declared.expr.Defs.{Defs}
 use Rattle.archive_check.specs.Shape.{Kind, number, unsigned, Shape, leaf, str, Table}
 
+-- the leaf
 abbrev pub kind_of : KindExpr → Kind
 kind_of U32 = number unsigned w32
 
+-- the shape of an expression
 abbrev pub shape_of : Expr → Shape
 shape_of (Leaf kind) = leaf (kind_of kind)
 shape_of Str = str
 
+-- each name with the shape of its expression
 abbrev pub entries_of : List Def → Table
 entries_of [] = []
 entries_of (d ∷ ds) = (d.name.now, shape_of d.expr) ∷ entries_of ds

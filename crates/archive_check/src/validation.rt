@@ -1,6 +1,6 @@
 //! Where regions may lie: the range that a check narrows and restores.
 
-ghost use Rattle.std.specs.Prelude.{◌≡◌, ◌≢◌, ◌≤◌, ◌↔◌, OnOk, OnErr, IfOk, IsErrOf, Some, None, length};
+ghost use Rattle.std.specs.Prelude.{◌≡◌, ◌≢◌, ◌≤◌, ◌↔◌, OnOk, OnErr, IfOk, IfErr, IsErrOf, Some, None, length};
 ghost use Rattle.archive_check.specs.Ranges.{RangeState, whole, subtree_answer, pushed, pop_answer, popped};
 
 use crate::error::Error;
@@ -27,7 +27,8 @@ pub trait ArchiveContext {
         ensures refused { IsErrOf result Error.ExceededMaximumSubtreeDepth ↔ (state self.old).depth ≡ Some 1 }
         ensures outer { IfOk result (λ r. (r.start ≡ end) × (r.end ≡ (state self.old).end)) }
         ensures entered { OnOk result (state self.new ≡ pushed (state self.old) root) }
-        ensures unchanged { OnErr result ((state self.new ≡ state self.old) × IsErrOf result Error.ExceededMaximumSubtreeDepth) };
+        ensures too_deep { IfErr result (λ e. e ≡ Error.ExceededMaximumSubtreeDepth) }
+        ensures unchanged { OnErr result (state self.new ≡ state self.old) };
 
     /// Leaves a region: regions may lie in `range` again. Refused with 20 where it begins below the current end, and else with 19 where the
     /// levels left are `usize::MAX`.

@@ -4,6 +4,7 @@ ghost use Rattle.std.specs.Prelude.{◌≡◌, ⊤, refl, length, IfOk, IsOk};
 ghost use Rattle.archive_check.specs.Shape.{leaf, one};
 ghost use Rattle.archive_check.specs.Reads.{bytes_at};
 ghost use Rattle.archive_check.specs.Readable.{Readable};
+ghost use Rattle.archive_check.specs.Told.{KeepsKeys};
 ghost use Rattle.archive_write.specs.Written.{IsBeginning};
 
 use crate::place::Place;
@@ -53,6 +54,7 @@ impl<N: Source, S: Writer + Keys> Serialize<S> for N {
         ensures same_value { ⊤ }
         ensures kept { IsBeginning (S.told _serializer.old).bytes (S.told _serializer.new).bytes }
         ensures unchanged { S.told _serializer.new ≡ S.told _serializer.old }
+        ensures keys { KeepsKeys (S.state_of _serializer.old) (S.state_of _serializer.new) }
         ensures succeeds { IsOk result }
     {
         Ok(())
@@ -84,6 +86,7 @@ impl<N: Native, S: Writer + Keys> Serialize<S> for LittleEndian<N> {
         ensures same_value { ⊤ }
         ensures kept { IsBeginning (S.told _serializer.old).bytes (S.told _serializer.new).bytes }
         ensures unchanged { S.told _serializer.new ≡ S.told _serializer.old }
+        ensures keys { KeepsKeys (S.state_of _serializer.old) (S.state_of _serializer.new) }
         ensures succeeds { IsOk result }
     {
         Ok(())

@@ -1,6 +1,7 @@
 //! Writers, and the regions that are resolved into them.
 
 ghost use Rattle.std.specs.Prelude.{◌≡◌, ◌+◌, ◌%◌, length, IfOk, OnOk};
+ghost use Rattle.archive_check.specs.Told.{KeepsKeys};
 ghost use Rattle.archive_write.specs.Written.{IsBeginning};
 
 use crate::place::Place;
@@ -44,6 +45,7 @@ pub trait ResolveExt: Writer {
         ensures position { IfOk result (λ p. p ≡ Self.place self.old) }
         ensures sized { OnOk result (length (Self.told self.new).bytes ≡ length (Self.told self.old).bytes + T.Archived.layout.size) }
         ensures kept { IsBeginning (Self.told self.old).bytes (Self.told self.new).bytes }
+        ensures keys { KeepsKeys (Self.state_of self.old) (Self.state_of self.new) }
     {
         let pos = self.pos();
         let size = T::Archived::size();
