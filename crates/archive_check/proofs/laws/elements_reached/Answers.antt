@@ -1,0 +1,5 @@
+use Rattle.archive_check.proofs.Closed.{element_reached}
+use Rattle.archive_check.proofs.laws.elements_reached.Goals as goal
+
+pub returns : goal.returns
+returns c s bytes root X p n Y w k h below = element_reached s bytes h below

@@ -1,0 +1,88 @@
+//! The laws of archives. Each is what a function promises that does nothing, so that the check of this crate proves it.
+
+ghost use Rattle.archive_check.specs.Laws.{SomeMeaning, OneMeaning, AcceptedWhereWalked, FaultyNotWalked, FewSubtrees, RegionsDisjoint, LeavesInRegions, LeafEdited, LeafRevised, EmptyRunWalked, PlainRunWalked, PartsReached, OneReached, RootReached, PointersReached, WithinReached, ElementsReached};
+
+/// An accepted buffer has a meaning.
+pub fn some_meaning()
+    ensures { SomeMeaning }
+{}
+
+/// It has no other.
+pub fn one_meaning()
+    ensures { OneMeaning }
+{}
+
+/// A check's walk comes to an end exactly where the buffer is accepted and no region is too deep.
+pub fn accepted_where_walked()
+    ensures { AcceptedWhereWalked }
+{}
+
+/// A check that finds a fault finds no walk.
+pub fn faulty_not_walked()
+    ensures { FaultyNotWalked }
+{}
+
+/// A check enters few regions, whether it comes to an end or finds a fault.
+pub fn few_subtrees()
+    ensures { FewSubtrees }
+{}
+
+/// The regions of an accepted buffer, the root's with them, lie apart.
+pub fn regions_disjoint()
+    ensures { RegionsDisjoint }
+{}
+
+/// Each leaf of a byte or more lies wholly in one region.
+pub fn leaves_in_regions()
+    ensures { LeavesInRegions }
+{}
+
+/// Where legal bytes are written over a leaf, the buffer stays accepted, with the same tour, and that leaf alone is another one.
+pub fn leaf_edited()
+    ensures { LeafEdited }
+{}
+
+/// And what the buffer means changes in that leaf alone.
+pub fn leaf_revised()
+    ensures { LeafRevised }
+{}
+
+/// Where one element of size zero is walked, so is a run of them, and the walk stays where it was.
+pub fn empty_run_walked()
+    ensures { EmptyRunWalked }
+{}
+
+/// A run of plain elements in the buffer is walked, and the walk stays where it was.
+pub fn plain_run_walked()
+    ensures { PlainRunWalked }
+{}
+
+/// Each part of an archive says something.
+pub fn parts_reached()
+    ensures { PartsReached }
+{}
+
+/// It says nothing else.
+pub fn one_reached()
+    ensures { OneReached }
+{}
+
+/// The root says what the archive means.
+pub fn root_reached()
+    ensures { RootReached }
+{}
+
+/// A pointer that is followed from a part of an archive leads to a part of it.
+pub fn pointers_reached()
+    ensures { PointersReached }
+{}
+
+/// What lies in a reached value is reached.
+pub fn within_reached()
+    ensures { WithinReached }
+{}
+
+/// So are the elements of a reached run.
+pub fn elements_reached()
+    ensures { ElementsReached }
+{}
