@@ -1,6 +1,5 @@
 pub mod BytesAt
 pub mod Landing
-pub mod Leaves
 pub mod Revises
 pub mod RevisedTour
 pub mod Revised
@@ -26,3 +25,4 @@ pub mod TourAgrees
 pub mod Trails
 pub mod Exists
 pub mod Positive
+pub mod Views

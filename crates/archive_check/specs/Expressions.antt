@@ -1,22 +1,96 @@
 -- The shapes that expressions of the program stand for.
 use Rattle.std.specs.Prelude.{List, [], ◌∷◌}
-use Rattle.std.specs.Int.{w32}
+use Rattle.std.specs.Int.{Width, w8, w16, w32, w64, w128}
+use Rattle.std.specs.declared.vec.Vec.{Vec as RustVec}
+use Rattle.std.specs.declared.alloc.Global.{Global}
+use Rattle.archive_check.specs.declared.expr.IntegerKind.{IntegerKind}
+use Rattle.archive_check.specs.declared.expr.IntegerKind.TheVariants.{U8, I8, U16, I16, U32, I32, U64, I64, U128, I128}
 use Rattle.archive_check.specs.declared.expr.Kind.{Kind as KindExpr}
-use Rattle.archive_check.specs.declared.expr.Kind.TheVariants.{U32}
-use Rattle.archive_check.specs.declared.expr.Expr.{Expr}
-use Rattle.archive_check.specs.declared.expr.Expr.TheVariants.{Leaf, Str}
+use Rattle.archive_check.specs.declared.expr.Kind.TheVariants.{Unit as UnitKind, Bool as BoolKind, Char as CharKind, Number, NonZero, RawRel}
+use Rattle.archive_check.specs.declared.expr.FlavorInfo.{FlavorInfo}
+use Rattle.archive_check.specs.declared.expr.Pointee.{Pointee as PointeeExpr}
+use Rattle.archive_check.specs.declared.expr.Pointee.TheVariants as pointee
+use Rattle.archive_check.specs.declared.expr.Expr.{Expr, Row_of-Expr, end_of-Expr, more_of-Expr, Row_of-Expr-Choice-1-1, end_of-Expr-Choice-1-1, more_of-Expr-Choice-1-1}
+use Rattle.archive_check.specs.declared.expr.Expr.TheVariants as expr
 use Rattle.archive_check.specs.declared.expr.Def.{Def}
 use Rattle.archive_check.specs.declared.expr.Defs.{Defs}
-use Rattle.archive_check.specs.Shape.{Kind, number, unsigned, Shape, leaf, str, Table}
+use Rattle.archive_check.specs.Shape.{Sign, unsigned, signed, Kind, unit, bool, char, number, non_zero, raw_rel, Flavor, Shape, leaf, parts, choice, array, boxed, vec, str, shared, weak, named, Pointee, one, run, text, Parts, no_part, part, Variants, no_variant, variant, Table}
+
+-- the sign of an integer
+abbrev pub sign_of : IntegerKind → Sign
+sign_of U8 = unsigned
+sign_of U16 = unsigned
+sign_of U32 = unsigned
+sign_of U64 = unsigned
+sign_of U128 = unsigned
+sign_of I8 = signed
+sign_of I16 = signed
+sign_of I32 = signed
+sign_of I64 = signed
+sign_of I128 = signed
+
+-- its width
+abbrev pub width_of : IntegerKind → Width
+width_of U8 = w8
+width_of I8 = w8
+width_of U16 = w16
+width_of I16 = w16
+width_of U32 = w32
+width_of I32 = w32
+width_of U64 = w64
+width_of I64 = w64
+width_of U128 = w128
+width_of I128 = w128
 
 -- the leaf
 abbrev pub kind_of : KindExpr → Kind
-kind_of U32 = number unsigned w32
+kind_of UnitKind = unit
+kind_of BoolKind = bool
+kind_of CharKind = char
+kind_of (Number integer) = number (sign_of integer) (width_of integer)
+kind_of (NonZero integer) = non_zero (sign_of integer) (width_of integer)
+kind_of (RawRel integer) = raw_rel (sign_of integer) (width_of integer)
 
--- the shape of an expression
-abbrev pub shape_of : Expr → Shape
-shape_of (Leaf kind) = leaf (kind_of kind)
-shape_of Str = str
+abbrev pub flavor_of : FlavorInfo → Flavor
+flavor_of f = record { name = f.name.now; cycles = f.cycles }
+
+abbrev mutual
+  -- the shape of an expression
+  pub shape_of : Expr → Shape
+  shape_of (expr.Leaf kind) = leaf (kind_of kind)
+  shape_of (expr.Record' v row) = parts (shapes_of row)
+  shape_of (expr.Choice' name v rows) = choice name.now (variants_of rows)
+  shape_of (expr.Array' n p x) = array n (shape_of x)
+  shape_of (expr.Box' p x) = boxed (pointee_of x)
+  shape_of (expr.Vec' p x) = vec (shape_of x)
+  shape_of expr.Str = str
+  shape_of (expr.Shared' f p x) = shared (flavor_of f) (pointee_of x)
+  shape_of (expr.Weak' f p x) = weak (flavor_of f) (pointee_of x)
+  shape_of (expr.Named name) = named name.now
+
+  -- what a pointer leads to
+  pub pointee_of : PointeeExpr → Pointee
+  pointee_of (pointee.One x) = one (shape_of x)
+  pointee_of (pointee.Run x) = run (shape_of x)
+  pointee_of pointee.Text = text
+
+  pub shapes_of : {n : _} → Row_of-Expr n → Parts
+  shapes_of end_of-Expr = no_part
+  shapes_of (more_of-Expr x rest) = part (shape_of x) (shapes_of rest)
+
+  pub variants_of : {n : _} → Row_of-Expr-Choice-1-1 n → Variants
+  variants_of end_of-Expr-Choice-1-1 = no_variant
+  variants_of (more_of-Expr-Choice-1-1 v row rest) = variant (shapes_of row) (variants_of rest)
+
+-- the shapes of a list of expressions
+abbrev pub shapes_in : List Expr → Parts
+shapes_in [] = no_part
+shapes_in (x ∷ xs) = part (shape_of x) (shapes_in xs)
+
+-- the variants of a list of lists of them
+abbrev pub variants_in : List (RustVec Expr Global) → Variants
+variants_in [] = no_variant
+variants_in (v ∷ vs) = variant (shapes_in v.items) (variants_in vs)
 
 -- each name with the shape of its expression
 abbrev pub entries_of : List Def → Table

@@ -21,5 +21,8 @@ pub mod Laws
 pub mod Definitions
 pub mod Readable
 pub mod Ranges
+pub mod Met
 pub mod Told
 pub mod Schemas
+pub mod Runs
+pub mod Represents

@@ -6,8 +6,10 @@ pub mod error;
 pub mod expr;
 pub mod laws;
 pub mod layout;
+pub mod plan;
 pub mod shape;
 #[cfg(test)]
 mod tests;
 pub mod traits;
 pub mod validation;
+pub mod work;

@@ -1,0 +1,51 @@
+-- The calls on the shared positions of a check, as functions of what was met.
+use Rattle.std.specs.Ordering.{int_eq}
+use Rattle.std.specs.Prelude.{◌≡◌, ◌≢◌, ℤ, Bool, true, false, Option, Some, None, option_map, cond, Result, Ok, Err}
+use Rattle.std.specs.Map.{update}
+use Rattle.archive_check.specs.declared.error.Error.{Error}
+use Rattle.archive_check.specs.declared.error.Error.TheVariants.{OutOfMemory, NotStarted, AlreadyFinished, TypeMismatch, MetadataMismatch}
+use Rattle.archive_check.specs.declared.validation.ValidationState.{ValidationState}
+use Rattle.archive_check.specs.declared.validation.ValidationState.TheVariants.{Started, Pending, Finished}
+use Rattle.archive_check.specs.Tour.{Entry}
+
+-- how a position was first met, and whether what lies there is checked to its end
+pub record Met : Type 0 where
+  pub entry : Entry
+  pub finished : Bool
+
+-- what was met at each position
+abbrev pub Positions : Type 0
+Positions = ℤ → Option Met
+
+abbrev pub nothing_met : Positions
+nothing_met position = None
+
+-- one flavor and one pointee, as they are written
+abbrev pub SameType : Entry → Entry → Type 0
+SameType old new = (old.flavor ≡ new.flavor) × (old.pointee ≡ new.pointee)
+
+-- What is answered where a position is started: a type is tested before a length. Memory may be refused for a new one.
+abbrev pub IsStartAnswer : Option Met → Entry → Result ValidationState Error → Type 0
+IsStartAnswer met new (Ok Started) = met ≡ None
+IsStartAnswer met new (Ok Pending) = met ≡ Some (record { entry = new; finished = false })
+IsStartAnswer met new (Ok Finished) = met ≡ Some (record { entry = new; finished = true })
+IsStartAnswer None new (Err e) = e ≡ OutOfMemory
+IsStartAnswer (Some old) new (Err TypeMismatch) = SameType old.entry new → ⊥
+IsStartAnswer (Some old) new (Err MetadataMismatch) = SameType old.entry new × (old.entry.length ≢ new.length)
+IsStartAnswer (Some old) new (Err e) = ⊥
+
+-- a position that wasn't met is pending now, one that was stays as it was
+abbrev pub started_at : Option Met → Entry → Met
+started_at None new = record { entry = new; finished = false }
+started_at (Some old) new = old
+
+abbrev pub started : Positions → ℤ → Entry → Positions
+started met position new = update int_eq met position (Some (started_at (met position) new))
+
+-- what is answered where a position is finished
+abbrev pub finish_answer : Option Met → Result (Unit {0}) Error
+finish_answer None = Err NotStarted
+finish_answer (Some met) = cond met.finished (Err AlreadyFinished) (Ok tt)
+
+abbrev pub finished : Positions → ℤ → Positions
+finished met position = update int_eq met position (option_map (λ old. record { entry = old.entry; finished = true }) (met position))
