@@ -26,3 +26,6 @@ pub mod Trails
 pub mod Exists
 pub mod Positive
 pub mod Views
+pub mod Named
+pub mod Collecting
+pub mod Missing

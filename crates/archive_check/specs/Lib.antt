@@ -24,5 +24,7 @@ pub mod Ranges
 pub mod Met
 pub mod Told
 pub mod Schemas
+pub mod Names
+pub mod Sizes
 pub mod Runs
 pub mod Represents

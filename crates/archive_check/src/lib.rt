@@ -6,6 +6,7 @@ pub mod error;
 pub mod expr;
 pub mod laws;
 pub mod layout;
+pub mod names;
 pub mod plan;
 pub mod shape;
 #[cfg(test)]

@@ -1,0 +1,128 @@
+//! The names in an expression, and the order of their definitions.
+
+ghost use Rattle.std.specs.Prelude.{◌≡◌, ◌≢◌, ◌⊎◌, ◌+◌, ◌≤◌, ℕ, Bool, Some, None, OnOk, IfOk, IfErr, IfSome, IfNone, true, get_or, option_map, is_some, length};
+ghost use Rattle.archive_check.specs.Shape.{definition};
+ghost use Rattle.archive_check.specs.Expressions.{shape_of, pointee_of, shapes_in, variants_in, entries_of};
+ghost use Rattle.archive_check.specs.Names.{missing as missing_in, pointee_missing, parts_missing, variants_missing, Taken, Collected, Ordered, shapes_from};
+ghost use Rattle.archive_check.specs.Shape.{Name, Shape};
+ghost use Rattle.archive_check.specs.Defined.{Reaches, HeldIn};
+ghost use Rattle.archive_check.specs.declared.error.Error.TheVariants.{OutOfMemory, ShapeConflict, RecursiveLayout};
+
+use crate::error::Error;
+use crate::expr::{Def, Expr, Pointee};
+use std::alloc::Global;
+
+// Whether a name has a definition.
+#[tactic(auto, using(crate::proofs::Named::named))]
+fn is_defined(defs: &[Def], name: &str) -> bool
+    ensures { result ≡ is_some (definition (entries_of defs.now) name.now) }
+{
+    for i in 0..defs.len() {
+        if defs[i].name == name {
+            return true;
+        }
+    }
+    false
+}
+
+// Takes the definition of a name out of a list.
+#[tactic(auto, using(crate::proofs::Named::named))]
+fn take(defs: &mut Vec<Def>, name: &str) -> Option<Def>
+    ensures { Taken defs.old.items name.now result defs.new.items }
+{
+    for i in 0..defs.len() {
+        if defs[i].name == name {
+            return Some(defs.remove(i));
+        }
+    }
+    None
+}
+
+// The first name in an expression that has no definition; behind pointers too, where `far` says so.
+#[cycle(missing)]
+#[tactic(auto, using(crate::proofs::Views::views))]
+fn missing(expr: &Expr, defs: &[Def], far: bool) -> Option<&'static str>
+    ensures { option_map (λ name. name.now) result ≡ missing_in far (entries_of defs.now) (shape_of expr.now) }
+{
+    match expr {
+        Expr::Record(parts) => missing_part(parts, defs, far),
+        Expr::Choice(_, variants) => missing_variant(variants, defs, far),
+        Expr::Array(_, element) => missing(element, defs, far),
+        Expr::Box(pointee) | Expr::Shared(_, pointee) | Expr::Weak(_, pointee) => {
+            if far { missing_pointee(pointee, defs, far) } else { None }
+        }
+        Expr::Vec(element) => if far { missing(element, defs, far) } else { None },
+        Expr::Named(name) => if is_defined(defs, name) { None } else { Some(name) },
+        Expr::Leaf(_) | Expr::Str => None,
+    }
+}
+
+#[cycle(missing)]
+#[tactic(auto, using(crate::proofs::Views::views))]
+fn missing_pointee(pointee: &Pointee, defs: &[Def], far: bool) -> Option<&'static str>
+    ensures { option_map (λ name. name.now) result ≡ pointee_missing far (entries_of defs.now) (pointee_of pointee.now) }
+{
+    match pointee {
+        Pointee::One(expr) | Pointee::Run(expr) => missing(expr, defs, far),
+        Pointee::Text => None,
+    }
+}
+
+#[cycle(missing)]
+#[tactic(auto, using(crate::proofs::Views::views))]
+fn missing_part(parts: &[Expr], defs: &[Def], far: bool) -> Option<&'static str>
+    ensures { option_map (λ name. name.now) result ≡ parts_missing far (entries_of defs.now) (shapes_in parts.now) }
+{
+    for i in 0..parts.len() {
+        if let Some(name) = missing(&parts[i], defs, far) {
+            return Some(name);
+        }
+    }
+    None
+}
+
+#[cycle(missing)]
+#[tactic(auto, using(crate::proofs::Views::views))]
+fn missing_variant(variants: &[Vec<Expr>], defs: &[Def], far: bool) -> Option<&'static str>
+    ensures { option_map (λ name. name.now) result ≡ variants_missing far (entries_of defs.now) (variants_in variants.now) }
+{
+    for i in 0..variants.len() {
+        if let Some(name) = missing_part(&variants[i], defs, far) {
+            return Some(name);
+        }
+    }
+    None
+}
+
+// The first name without a definition in the root, at 0, or in the definition before `at`.
+fn missing_at(root: &Expr, defs: &[Def], at: usize) -> Option<&'static str>
+    requires { at ≤ length defs.now }
+    ensures { (X : Shape) → X ≡ get_or (shapes_from (shape_of root.now) defs.now) at X → option_map (λ name. name.now) result ≡ missing_in true (entries_of defs.now) X }
+{
+    if at == 0 {
+        return missing(root, defs, true);
+    }
+    missing(&defs[at - 1].expr, defs, true)
+}
+
+/// The definitions that the root reaches, each once, out of those given. Refused with 30 where one of them is missing, and with 1 where memory
+/// is refused.
+pub fn collect(alloc: Global, root: &Expr, mut rest: Vec<Def>) -> Result<Vec<Def>, Error>
+    ensures ok { IfOk result (λ found. Collected (entries_of rest.items) (shape_of root.now) (entries_of found.items)) }
+    ensures err { IfErr result (λ e. (e ≡ OutOfMemory) ⊎ ((e ≡ ShapeConflict) × (name : Name) × Reaches (entries_of rest.items) name (shape_of root.now) × (definition (entries_of rest.items) name ≡ None))) }
+{
+    let mut found = Vec::new(alloc);
+    let mut at = 0;
+    while at <= found.len() {
+        match missing_at(root, &found, at) {
+            None => at += 1,
+            Some(name) => {
+                let Some(def) = take(&mut rest, name) else {
+                    return Err(Error::ShapeConflict);
+                };
+                found.push(def)?;
+            }
+        }
+    }
+    Ok(found)
+}
