@@ -26,3 +26,4 @@ pub mod TourAgrees
 pub mod Trails
 pub mod Exists
 pub mod Positive
+pub mod LittleEndian
