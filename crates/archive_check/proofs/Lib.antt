@@ -27,3 +27,5 @@ pub mod Trails
 pub mod Exists
 pub mod Positive
 pub mod LittleEndian
+pub mod Descent
+pub mod Placed
