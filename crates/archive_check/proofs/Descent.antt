@@ -1,5 +1,6 @@
 -- Following the names that definitions hold: among few names one comes back, so one holds itself.
-use Rattle.std.proofs.Common.{◌≡◌, ◌⊎◌, inl, inr, ⊎_elim, ℕ, zero, suc, ◌≤◌, List, [], ◌∷◌, length, Some, Contains, arith, refl}
+use Rattle.std.proofs.Common.{◌≡◌, ◌⊎◌, inl, inr, ⊎_elim, ℕ, zero, suc, ◌≤◌, List, [], ◌∷◌, length, get_or, Some, Contains, arith, refl}
+use Rattle.std.proofs.lemmas.List.Elements.{Contains-get_or}
 use Rattle.archive_check.specs.Shape.{Name, Shape, Table, definition}
 use Rattle.archive_check.specs.Defined.{Holds, HeldIn, held, held_through}
 
@@ -92,3 +93,8 @@ one_comes_back table names next =
     (λ k n c l. (n, c, l))
     (λ k n c on. let (m, d, h) = next n c in on m d h)
     names (λ q c. c)
+
+-- so it is in each list of a name or more
+pub some_comes_back : (table : Table) (names : List Name) → 1 ≤ length names → ((n : Name) → Contains names n → (m : Name) × Contains names m × DefinitionHolds table n m)
+    → (q : Name) × Contains names q × LeadsTo table q q
+some_comes_back table names some next = one_comes_back table names next (get_or names 0 []) (Contains-get_or names 0 [] some)

@@ -29,3 +29,4 @@ pub mod Positive
 pub mod LittleEndian
 pub mod Descent
 pub mod Placed
+pub mod Ordered

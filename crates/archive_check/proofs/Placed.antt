@@ -1,11 +1,11 @@
 -- Names whose definitions can be laid out in so many rounds: those that a well-formed shape reaches can, in one way.
-use Rattle.std.proofs.Common.{◌≡◌, ℕ, zero, suc, ◌≤◌, List, [], ◌∷◌, map, length, Bool, true, false, cond, Some, Contains, bytes_eq, arith, refl, sym, ap, ◌∙◌}
+use Rattle.std.proofs.Common.{◌≡◌, ⊎_elim, ℕ, zero, suc, ◌≤◌, List, [], ◌∷◌, map, length, Bool, true, false, cond, Some, Contains, bytes_eq, arith, refl, sym, ap, ◌∙◌}
 use Rattle.std.proofs.lemmas.Slice.Eq.{bytes_eq-Decides}
 use Rattle.archive_check.specs.Shape.{Name, Shape, Table, definition}
 use Rattle.archive_check.specs.Layout.{Layouts, layout}
 use Rattle.archive_check.specs.Defined.{Holds, Mentions, mentions_held, Reaches, reaches, reaches_through, HeldIn, held, held_through, WellFormed, layout_or, rounds, SolvesReached}
 use Rattle.archive_check.proofs.Layouts.{layout_same}
-use Rattle.archive_check.proofs.Descent.{contains_first, contains_later, DefinitionHolds, LeadsTo, by_descent}
+use Rattle.archive_check.proofs.Descent.{contains_cases, contains_first, contains_later, DefinitionHolds, LeadsTo, by_descent}
 
 -- all that the name's definition holds can be laid out in one round less
 pub data Placed (table : Table) : ℕ → Name → Type 0 where
@@ -64,6 +64,15 @@ defined_named (d ∷ ds) name X e = go (bytes_eq d.0 name) refl e (defined_named
     go : (b : Bool) → bytes_eq d.0 name ≡ b → cond b (Some d.1) (definition ds name) ≡ Some X → (definition ds name ≡ Some X → Contains (map (λ d. d.0) ds) name) → Contains (d.0 ∷ map (λ d. d.0) ds) name
     go true is f later = let same : d.0 ≡ name = (bytes_eq-Decides d.0 name).0 is in rw same (contains_first (map (λ d. d.0) ds) name)
     go false is f later = contains_later d.0 (map (λ d. d.0) ds) name (later f)
+
+pub named_defined : (table : Table) (name : Name) → Contains (names_of table) name → (X : Shape) × (definition table name ≡ Some X)
+unfolding names_of
+named_defined [] name c = absurd (omega (arith, c.1))
+named_defined (d ∷ ds) name c = go (bytes_eq d.0 name) refl (named_defined ds name)
+  where
+    go : (b : Bool) → bytes_eq d.0 name ≡ b → (Contains (map (λ d. d.0) ds) name → (X : Shape) × (definition ds name ≡ Some X)) → (X : Shape) × (cond b (Some d.1) (definition ds name) ≡ Some X)
+    go true is later = (d.1, refl)
+    go false is later = ⊎_elim (λ same. let is_same = (bytes_eq-Decides d.0 name).1 same in absurd cc) later (contains_cases d.0 (map (λ d. d.0) ds) name c)
 
 module _ (table : Table) (X : Shape) (well : WellFormed table X) where
   holds_reached : (name other : Name) → Reaches table name X → DefinitionHolds table name other → Reaches table other X
