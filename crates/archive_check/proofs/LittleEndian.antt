@@ -29,16 +29,16 @@ little_number-lt (b ∷ bs) h =
     omega (arith, pow-suc 256 (length bs))
 
 -- as many bytes of the same number are the same
-pub little_number-one : (xs bs : List ℕ) → length xs ≡ length bs → AreBytes xs → AreBytes bs → little_number xs ≡ little_number bs → xs ≡ bs
+pub little_number-one : (xs ys : List ℕ) → length xs ≡ length ys → AreBytes xs → AreBytes ys → little_number xs ≡ little_number ys → xs ≡ ys
 little_number-one [] [] e h k same = refl
-little_number-one [] (b ∷ bs) e h k same = absurd (omega arith)
-little_number-one (a ∷ xs) [] e h k same = absurd (omega arith)
-little_number-one (a ∷ xs) (b ∷ bs) e h k same =
-    let small : a < 256 = h 0 0 (omega arith) in
-    let little : b < 256 = k 0 0 (omega arith) in
-    let low : a ≡ b = omega arith in
-    let high : little_number xs ≡ little_number bs = omega arith in
-    let rest = little_number-one xs bs (omega arith) (bytes_later a xs h) (bytes_later b bs k) high in
+little_number-one [] (y ∷ ys) e h k same = absurd (omega arith)
+little_number-one (x ∷ xs) [] e h k same = absurd (omega arith)
+little_number-one (x ∷ xs) (y ∷ ys) e h k same =
+    let small : x < 256 = h 0 0 (omega arith) in
+    let little : y < 256 = k 0 0 (omega arith) in
+    let low : x ≡ y = omega arith in
+    let high : little_number xs ≡ little_number ys = omega arith in
+    let rest = little_number-one xs ys (omega arith) (bytes_later x xs h) (bytes_later y ys k) high in
     cc
 
 byte_worth-pow : (k b : ℕ) → byte_worth k b ≡ b * 256 ^ k
@@ -83,9 +83,9 @@ some_byte w64 = omega arith
 some_byte w128 = omega arith
 
 -- so bytes that read as the same number are the same
-pub from_le_bytes-one : (w : Width) (xs bs : List ℕ) → length xs ≡ byte_len w → length bs ≡ byte_len w → AreBytes xs → AreBytes bs → from_le_bytes w xs ≡ from_le_bytes w bs → xs ≡ bs
-from_le_bytes-one w xs bs e f h k same =
-    little_number-one xs bs (e ∙ sym f) h k (sym (from_le_bytes-little w xs e (some_byte w)) ∙ same ∙ from_le_bytes-little w bs f (some_byte w))
+pub from_le_bytes-one : (w : Width) (xs ys : List ℕ) → length xs ≡ byte_len w → length ys ≡ byte_len w → AreBytes xs → AreBytes ys → from_le_bytes w xs ≡ from_le_bytes w ys → xs ≡ ys
+from_le_bytes-one w xs ys e f h k same =
+    little_number-one xs ys (e ∙ sym f) h k (sym (from_le_bytes-little w xs e (some_byte w)) ∙ same ∙ from_le_bytes-little w ys f (some_byte w))
 
 from_le_bytes-lt : (w : Width) (bs : List ℕ) → length bs ≡ byte_len w → AreBytes bs → from_le_bytes w bs < 2 ^ bits w
 from_le_bytes-lt w bs e h = rw (from_le_bytes-little w bs e (some_byte w), ← pow_bits w, ← e) (little_number-lt bs h)
@@ -94,8 +94,8 @@ cast_signed-one : (w : Width) (m n : ℕ) → m < 2 ^ bits w → n < 2 ^ bits w 
 cast_signed-one w m n h k same = sym (of_z-to_z w m h) ∙ ap (cast_unsigned w) same ∙ of_z-to_z w n k
 
 -- with a sign or without
-pub with_sign-one : (sign : Sign) (w : Width) (xs bs : List ℕ) → length xs ≡ byte_len w → length bs ≡ byte_len w → AreBytes xs → AreBytes bs
-    → with_sign sign w (from_le_bytes w xs) ≡ with_sign sign w (from_le_bytes w bs) → xs ≡ bs
-with_sign-one unsigned w xs bs e f h k same = from_le_bytes-one w xs bs e f h k cc
-with_sign-one signed w xs bs e f h k same =
-    from_le_bytes-one w xs bs e f h k (cast_signed-one w (from_le_bytes w xs) (from_le_bytes w bs) (from_le_bytes-lt w xs e h) (from_le_bytes-lt w bs f k) same)
+pub with_sign-one : (sign : Sign) (w : Width) (xs ys : List ℕ) → length xs ≡ byte_len w → length ys ≡ byte_len w → AreBytes xs → AreBytes ys
+    → with_sign sign w (from_le_bytes w xs) ≡ with_sign sign w (from_le_bytes w ys) → xs ≡ ys
+with_sign-one unsigned w xs ys e f h k same = from_le_bytes-one w xs ys e f h k cc
+with_sign-one signed w xs ys e f h k same =
+    from_le_bytes-one w xs ys e f h k (cast_signed-one w (from_le_bytes w xs) (from_le_bytes w ys) (from_le_bytes-lt w xs e h) (from_le_bytes-lt w ys f k) same)

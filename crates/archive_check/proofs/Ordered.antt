@@ -4,9 +4,9 @@ use Rattle.std.proofs.lemmas.List.Elements.{Contains-append_left, Contains-push,
 use Rattle.std.proofs.lemmas.Slice.Eq.{bytes_eq-Decides}
 use Rattle.archive_check.specs.Shape.{Name, Shape, parts, choice, array, named, Parts, no_part, part, Variants, no_variant, variant, Table, definition}
 use Rattle.archive_check.specs.Layout.{Solves}
-use Rattle.archive_check.specs.Defined.{Holds, holds_name, holds_parts, holds_choice, holds_array, PartsHold, holds_first, holds_later, VariantsHold, holds_variant, holds_other, Ranked, rounds}
-use Rattle.archive_check.proofs.Descent.{contains_cases, contains_first, contains_later, rest_of, DefinitionHolds, LeadsTo, one_comes_back}
-use Rattle.archive_check.proofs.Placed.{Placed, placed, placed_later, placed_never, placed_solved, names_of, defined_named, named_defined}
+use Rattle.archive_check.specs.Defined.{Holds, holds_name, holds_parts, holds_choice, holds_array, PartsHold, holds_first, holds_later, VariantsHold, holds_variant, holds_other, mentions_held, Reaches, WellFormed, Ranked, rounds}
+use Rattle.archive_check.proofs.Descent.{contains_cases, contains_first, contains_later, Rest, rest_of, DefinitionHolds, LeadsTo, OneComesBack, one_comes_back}
+use Rattle.archive_check.proofs.Placed.{Placed, placed, placed_later, placed_never, placed_solved, reaches_next, names_of, defined_named, named_defined}
 
 -- nothing is in order; and so is what is, with one more name whose definition holds only names that stand there
 pub data Ordered (table : Table) : List Name → Type 0 where
@@ -130,35 +130,55 @@ module _ (table : Table) (names : List Name) (closed : IsClosed table names) whe
       go : (X : Shape) → definition table n ≡ Some X → OnlyOrOther before (λ m. Holds m X) → Next ns before ⊎ Stuck ns before → Next (n ∷ ns) before ⊎ Stuck (n ∷ ns) before
       go X e (inl f) later = inl (record { name = n; shape = X; here = contains_first ns n; defined = e; only = f })
       go X e (inr other) (inl x) = inl (record { name = x.name; shape = x.shape; here = contains_later n ns x.name x.here; defined = x.defined; only = x.only })
-      go X e (inr (m, h, out)) (inr all) = inr (λ q c. ⊎_elim
-          (λ same. let e = rw same at e in (m, record { shape = X; defined = e; holds = h }, out))
-          (λ d. all q d)
-          (contains_cases n ns q c))
+      go X e (inr (m, h, out)) (inr all) =
+          let d : DefinitionHolds table n m = record { shape = X; defined = e; holds = h } in
+          inr (λ q c. ⊎_elim (λ same. (m, rw (← same) d, out)) (all q) (contains_cases n ns q c))
+
+  -- the names, some of them in order
+  record Split (before rest : List Name) : Type 0 where
+    pub ordered : Ordered table before
+    pub all : (n : Name) → Contains names n → Contains before n ⊎ Contains rest n
+    pub left : (n : Name) → Contains before n → Contains names n
+    pub right : (n : Name) → Contains rest n → Contains names n
+
+  split_next : {before rest : List Name} → Split before rest → (x : Next rest before) (r : Rest rest x.name) → Split (before ++ x.name ∷ []) r.rest
+  split_next {before = before} i x r = record {
+    ordered = ordered_next x.name i.ordered x.defined x.only;
+    all = λ n c. ⊎_elim (λ d. inl (Contains-append_left before (x.name ∷ []) n d)) (λ d. ⊎_elim (λ same. inl (rw (← same) (Contains-push before x.name))) inr (r.others n d)) (i.all n c);
+    left = λ n c. ⊎_elim (i.left n) (λ same. rw (← same) (i.right x.name x.here)) (Contains-push_cases before x.name n c);
+    right = λ n c. i.right n (r.kept n c);
+  }
+
+  split_done : {before : List Name} → Split before [] → InOrder table names
+  split_done {before = before} i = record {
+    order = before;
+    ordered = i.ordered;
+    all = λ n c. ⊎_elim (λ d. d) (λ (d : Contains [] n). absurd (omega (arith, d.1))) (i.all n c);
+    only = i.left;
+  }
+
+  split_stuck : {before : List Name} {r : Name} {rest : List Name} → Split before (r ∷ rest) → Stuck (r ∷ rest) before → OneComesBack table names
+  split_stuck {r = r} {rest = rest} i all =
+      let (q, c, l) = one_comes_back table (r ∷ rest) other r (contains_first rest r) in (q, i.right q c, l)
+    where
+      other : (n : Name) → Contains (r ∷ rest) n → (m : Name) × Contains (r ∷ rest) m × DefinitionHolds table n m
+      other n c = let (m, h, out) = all n c in (m, ⊎_elim (λ d. absurd (out d)) (λ d. d) (i.all m (closed.closed n m (i.right n c) h)), h)
+
+  arrange : (k : ℕ) (before rest : List Name) → length rest ≤ k → Split before rest → InOrder table names ⊎ OneComesBack table names
+  arrange k before [] few i = inl (split_done i)
+  arrange zero before (r ∷ rest) few i = absurd (omega arith)
+  arrange (suc k) before (r ∷ rest) few i =
+      let on = λ (x : Next (r ∷ rest) before). let t = rest_of (r ∷ rest) x.name x.here in arrange k (before ++ x.name ∷ []) t.rest (omega (arith, t.shorter)) (split_next i x t) in
+      ⊎_elim on (λ all. inr (split_stuck i all)) (next_or_stuck before (r ∷ rest) i.right)
 
   -- The names can be put in order, or one of them leads to itself.
-  arrange : (k : ℕ) (before rest : List Name) → length rest ≤ k → Ordered table before → ((n : Name) → Contains names n → Contains before n ⊎ Contains rest n)
-      → ((n : Name) → Contains before n → Contains names n) → ((n : Name) → Contains rest n → Contains names n)
-      → InOrder table names ⊎ ((q : Name) × Contains names q × LeadsTo table q q)
-  arrange k before [] few o split left right =
-      inl (record { order = before; ordered = o; all = λ n c. ⊎_elim (λ d. d) (λ (d : Contains [] n). absurd (omega (arith, d.1))) (split n c); only = left })
-  arrange zero before (r ∷ rs) few o split left right = absurd (omega arith)
-  arrange (suc k) before (r ∷ rs) few o split left right =
-      ⊎_elim
-      (λ (x : Next (r ∷ rs) before).
-      let t = rest_of (r ∷ rs) x.name x.here in
-      arrange k (before ++ x.name ∷ []) t.rest (omega (arith, t.shorter)) (ordered_next x.name o x.defined x.only)
-      (λ n c. ⊎_elim (λ d. inl (Contains-append_left before (x.name ∷ []) n d)) (λ d. ⊎_elim (λ same. inl (rw (← same) (Contains-push before x.name))) inr (t.others n d)) (split n c))
-      (λ n c. ⊎_elim (left n) (λ same. rw (← same) (right x.name x.here)) (Contains-push_cases before x.name n c))
-      (λ n c. right n (t.kept n c)))
-      (λ (all : Stuck (r ∷ rs) before).
-      let (q, c, l) = one_comes_back table (r ∷ rs)
-      (λ n c. let (m, h, out) = all n c in (m, ⊎_elim (λ d. absurd (out d)) (λ d. d) (split m (closed.closed n m (right n c) h)), h))
-      r (contains_first rs r) in
-      inr (q, right q c, l))
-      (next_or_stuck before (r ∷ rs) right)
-
-  pub in_order_or_comes_back : InOrder table names ⊎ ((q : Name) × Contains names q × LeadsTo table q q)
-  in_order_or_comes_back = arrange (length names) [] names (omega arith) ordered_none (λ n c. inr c) (λ n c. absurd (omega (arith, c.1))) (λ n c. c)
+  pub in_order_or_comes_back : InOrder table names ⊎ OneComesBack table names
+  in_order_or_comes_back = arrange (length names) [] names (omega arith) (record {
+    ordered = ordered_none;
+    all = λ n c. inr c;
+    left = λ n c. absurd (omega (arith, c.1));
+    right = λ n c. c;
+  })
 
   -- so there is an order exactly where none leads to itself
   pub in_order_where_none_comes_back : InOrder table names ↔ ((q : Name) → Contains names q → LeadsTo table q q → ⊥)
@@ -237,3 +257,30 @@ module _ (table : Table) where
       } in
       let i : InOrder table (names_of table) = (in_order_where_none_comes_back table (names_of table) closed).1 (λ q c. none q) in
       (names_before i.order, ordered_ranks i.ordered (λ n X e. i.all n (defined_named table n X e)))
+
+-- the shape reaches these names and no others, and each of them has one definition
+pub record ReachesThese (table : Table) (X : Shape) (names : List Name) : Type 0 where
+  pub all : (n : Name) → Reaches table n X → Contains names n
+  pub only : (n : Name) → Contains names n → Reaches table n X
+  pub defined : (n : Name) → Reaches table n X → (Y : Shape) × (definition table n ≡ Some Y) × ((Z : Shape) → Contains table (n, Z) → Z ≡ Y)
+
+-- Such a shape is well formed exactly where the names can be put in order.
+module _ (table : Table) (X : Shape) (names : List Name) (these : ReachesThese table X names) where
+  reached_closed : IsClosed table names
+  reached_closed = record {
+    defined = λ n c. let (Y, e, one) = these.defined n (these.only n c) in (Y, e);
+    closed = λ n m c h. these.all m (reaches_next table (these.only n c) h.defined (mentions_held h.holds));
+  }
+
+  pub well_formed_in_order : WellFormed table X ↔ InOrder table names
+  well_formed_in_order = (
+    λ well. (in_order_where_none_comes_back table names reached_closed).1 (λ q c l. well.finite q l.shape (these.only q c) l.defined l.held),
+    λ i. record {
+      defined = these.defined;
+      finite = λ n Y r e h. ordered_never table i.ordered n (i.all n (these.all n r)) (record { shape = Y; defined = e; held = h });
+    },
+  )
+
+  -- and it isn't, where one of them leads to itself
+  pub comes_back_not_well_formed : OneComesBack table names → WellFormed table X → ⊥
+  comes_back_not_well_formed (q, c, l) well = well.finite q l.shape (these.only q c) l.defined l.held
