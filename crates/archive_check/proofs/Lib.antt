@@ -29,3 +29,7 @@ pub mod Views
 pub mod Named
 pub mod Collecting
 pub mod Missing
+pub mod LittleEndian
+pub mod Descent
+pub mod Placed
+pub mod Ordered
