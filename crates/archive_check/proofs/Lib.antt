@@ -33,3 +33,4 @@ pub mod LittleEndian
 pub mod Descent
 pub mod Placed
 pub mod Ordered
+pub mod Leaves

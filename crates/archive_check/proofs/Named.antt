@@ -5,6 +5,7 @@ use Rattle.std.proofs.lemmas.Slice.Eq.{bytes_eq-Decides}
 use Rattle.std.specs.Str.{bytes_eq}
 use Rattle.std.specs.Bool.{Decides}
 use Rattle.std.specs.List.{remove}
+use Rattle.std.proofs.lemmas.List.Elements.{Contains-push_cases}
 use Rattle.archive_check.specs.declared.expr.Def.{Def}
 use Rattle.archive_check.specs.Shape.{Name, Shape, Table, definition}
 use Rattle.archive_check.specs.Expressions.{shape_of, entries_of}
@@ -62,6 +63,32 @@ append_unknown ((a, Y) ∷ ds) es n h = ⊎_elim
     (λ e. cc (sym (definition_here a n Y ds e) ∙ h))
     (λ o. definition_other a n Y (ds ++ es) o ∙ append_unknown ds es n (sym (definition_other a n Y ds o) ∙ h))
     (names_decided a n)
+
+-- one more definition, of a name that had none
+pub push_some : (ds : Table) (a : Name) (X : Shape) (n : Name) (Y : Shape) → definition ds a ≡ None → definition (ds ++ (a, X) ∷ []) n ≡ Some Y → (definition ds n ≡ Some Y) ⊎ ((a ≡ n) × (X ≡ Y))
+push_some ds a X n Y new e = by (definition ds n) refl
+  where
+  by : (o : Option Shape) → definition ds n ≡ o → (definition ds n ≡ Some Y) ⊎ ((a ≡ n) × (X ≡ Y))
+  by None is = ⊎_elim
+      (λ s. inr (s, cc (sym (definition_here a n X [] s) ∙ sym (append_unknown ds ((a, X) ∷ []) n is) ∙ e)))
+      (λ o. cc (sym (definition_other a n X [] o) ∙ sym (append_unknown ds ((a, X) ∷ []) n is) ∙ e))
+      (names_decided a n)
+  by (Some Z) is = inl (is ∙ sym (append_known ds ((a, X) ∷ []) n Z is) ∙ e)
+
+pub push_none : (ds : Table) (a : Name) (X : Shape) (n : Name) → definition (ds ++ (a, X) ∷ []) n ≡ None → (definition ds n ≡ None) × (a ≢ n)
+push_none ds a X n e = by (definition ds n) refl
+  where
+  by : (o : Option Shape) → definition ds n ≡ o → (definition ds n ≡ None) × (a ≢ n)
+  by None is = (is, λ s. cc (sym (definition_here a n X [] s) ∙ sym (append_unknown ds ((a, X) ∷ []) n is) ∙ e))
+  by (Some Z) is = cc (sym (append_known ds ((a, X) ∷ []) n Z is) ∙ e)
+
+pub push_once : (ds : Table) (a : Name) (X : Shape) (n : Name) (Y : Shape) → definition ds a ≡ None → ((m : Name) (Z : Shape) → Contains ds (m, Z) → definition ds m ≡ Some Z)
+    → Contains (ds ++ (a, X) ∷ []) (n, Y) → definition (ds ++ (a, X) ∷ []) n ≡ Some Y
+push_once ds a X n Y new once c = ⊎_elim
+    (λ old. append_known ds ((a, X) ∷ []) n Y (once n Y old))
+    (λ same. let na : a ≡ n = ap (λ (p : Name × Shape). p.0) same in
+      append_unknown ds ((a, X) ∷ []) n (ap (definition ds) (sym na) ∙ new) ∙ definition_here a n X [] na ∙ ap (λ (p : Name × Shape). Some p.1) same)
+    (Contains-push_cases ds (a, X) (n, Y) c)
 
 -- other names are defined as before where one is taken out
 pub definition-remove : (xs : List Def) (i : ℕ) (x : Def) → i < length xs → x ≡ get_or xs i x → (n : Name) → n ≢ x.name.now → definition (entries_of (remove xs i)) n ≡ definition (entries_of xs) n

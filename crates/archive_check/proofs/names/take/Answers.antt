@@ -11,7 +11,7 @@ returns-then-eq c =
     let here = one_at c.loop-i.defs.items c.loop-i.i c.remove.result c.index.result.now below c.remove.ensures.value c.index.ensures in
     taken c.args.defs.now.items c.loop-i.defs.items c.remove.new.self.items c.loop-i.i c.remove.result c.args.name.now
         c.loop-i.invariant.1 below c.remove.ensures.value
-        (ap (λ (d : Def). d.name.now) here ∙ (bytes_eq-Decides c.index.result.now.name.now c.args.name.now).0 (sym (c.if-eq.ensures tt)))
+        (ap (λ (d : Def). d.name.now) here ∙ (bytes_eq-Decides c.index.result.now.name.now c.args.name.now).0 (sym c.if-eq.ensures))
         c.loop-i.invariant.0 c.remove.ensures.items
 
 pub returns : goal.returns
