@@ -45,8 +45,8 @@ gather_start X items = record {
   within = omega arith;
 }
   where
-  no_item : {n : Name × Shape} → Contains [] n → ⊥
-  no_item h = omega (arith, h.1)
+    no_item : {n : Name × Shape} → Contains [] n → ⊥
+    no_item h = omega (arith, h.1)
 
 through : (table : Table) (m n : Name) (X Y : Shape) → Reaches table m X → definition table m ≡ Some Y → Mentions n Y → Reaches table n X
 through table m n X Y (reaches h) d k = reaches_through h d (reaches k)
@@ -57,10 +57,10 @@ place : (X : Shape) (ds : List Def) (k : ℕ) (Y : Shape) → k ≤ length ds �
 place X ds zero Y h e = inl e
 place X ds (suc k) Y h e = inr (item ds k (omega arith) e)
   where
-  item : (ds : List Def) (k : ℕ) → k < length ds → Y ≡ get_or (shapes_in_defs ds) k Y → (name : Name) × Contains (entries_of ds) (name, Y)
-  item [] k h e = absurd (omega arith)
-  item (d ∷ ds) zero h e = (d.name.now, (0, omega arith, ap (λ Z. (d.name.now, Z)) (sym e)))
-  item (d ∷ ds) (suc k) h e = let i = item ds k (omega arith) e in (i.0, contains_later (d.name.now, shape_of d.expr) (entries_of ds) (i.0, Y) i.1)
+    item : (ds : List Def) (k : ℕ) → k < length ds → Y ≡ get_or (shapes_in_defs ds) k Y → (name : Name) × Contains (entries_of ds) (name, Y)
+    item [] k h e = absurd (omega arith)
+    item (d ∷ ds) zero h e = (d.name.now, (0, omega arith, ap (λ Z. (d.name.now, Z)) (sym e)))
+    item (d ∷ ds) (suc k) h e = let i = item ds k (omega arith) e in (i.0, contains_later (d.name.now, shape_of d.expr) (entries_of ds) (i.0, Y) i.1)
 
 shapes_before : (X : Shape) (found : List Def) (d : Def) (k : ℕ) (Z : Shape) → k ≤ length found → get_or (shapes_from X (found ++ d ∷ [])) k Z ≡ get_or (shapes_from X found) k Z
 shapes_before X found d zero Z h = refl
@@ -147,9 +147,9 @@ module _ (old : Table) (X : Shape) (found rest : List Def) (at : ℕ) (g : Gathe
       pub gather_found : Gathering old X (found ++ d ∷ []) less at
       gather_found = record {
         kept = λ n Z e. ⊎_elim (g.kept n Z) (λ p. subst (λ m. definition old m ≡ Some Z) p.0 (from_old ∙ ap Some p.1))
-            (push_some (entries_of found) d.name.now (shape_of d.expr) n Z new_name (subst (λ es. definition es n ≡ Some Z) (entries_of-append found (d ∷ [])) e));
+            (push_some (entries_of found) d.name.now (shape_of d.expr) n Z (subst (λ es. definition es n ≡ Some Z) (entries_of-append found (d ∷ [])) e));
         reached = λ n Z e. ⊎_elim (g.reached n Z) (λ p. subst (λ m. Reaches old m X) p.0 reached_now)
-            (push_some (entries_of found) d.name.now (shape_of d.expr) n Z new_name (subst (λ es. definition es n ≡ Some Z) (entries_of-append found (d ∷ [])) e));
+            (push_some (entries_of found) d.name.now (shape_of d.expr) n Z (subst (λ es. definition es n ≡ Some Z) (entries_of-append found (d ∷ [])) e));
         once = λ n Z c. subst (λ es. definition es n ≡ Some Z) (sym (entries_of-append found (d ∷ []))) (push_once (entries_of found) d.name.now (shape_of d.expr) n Z new_name g.once (subst (λ es. Contains es (n, Z)) (entries_of-append found (d ∷ [])) c));
         left = λ n e. pushed_left n (subst (λ es. definition es n ≡ None) (entries_of-append found (d ∷ [])) e);
         known = λ k Z h e. subst (λ es. missing true es Z ≡ None) (sym (entries_of-append found (d ∷ []))) (pushed_known k Z h e);

@@ -34,3 +34,4 @@ pub mod Descent
 pub mod Placed
 pub mod Ordered
 pub mod Leaves
+pub mod Arranging

@@ -9,6 +9,7 @@ use Rattle.std.proofs.lemmas.List.Elements.{Contains-push_cases}
 use Rattle.archive_check.specs.declared.expr.Def.{Def}
 use Rattle.archive_check.specs.Shape.{Name, Shape, Table, definition}
 use Rattle.archive_check.specs.Expressions.{shape_of, entries_of}
+use Rattle.archive_check.proofs.Descent.{contains_cases, contains_later}
 use Rattle.archive_check.specs.Names.{Taken}
 
 -- the definition at i, and the rest
@@ -38,9 +39,9 @@ same_name a b e = (bytes_eq-Decides a b).1 e
 pub names_decided : (a b : Name) → (a ≡ b) ⊎ (a ≢ b)
 names_decided a b = by (bytes_eq a b) (bytes_eq-Decides a b)
   where
-  by : (t : Bool) → Decides t (a ≡ b) → (a ≡ b) ⊎ (a ≢ b)
-  by true d = inl (d.0 refl)
-  by false d = inr (λ e. cc (d.1 e))
+    by : (t : Bool) → Decides t (a ≡ b) → (a ≡ b) ⊎ (a ≢ b)
+    by true d = inl (d.0 refl)
+    by false d = inr (λ e. cc (d.1 e))
 
 pub definition_here : (a n : Name) (X : Shape) (ds : Table) → a ≡ n → definition ((a, X) ∷ ds) n ≡ Some X
 definition_here a n X ds e = ap (λ b. cond b (Some X) (definition ds n)) (same_name a n e)
@@ -65,29 +66,29 @@ append_unknown ((a, Y) ∷ ds) es n h = ⊎_elim
     (names_decided a n)
 
 -- one more definition, of a name that had none
-pub push_some : (ds : Table) (a : Name) (X : Shape) (n : Name) (Y : Shape) → definition ds a ≡ None → definition (ds ++ (a, X) ∷ []) n ≡ Some Y → (definition ds n ≡ Some Y) ⊎ ((a ≡ n) × (X ≡ Y))
-push_some ds a X n Y new e = by (definition ds n) refl
+pub push_some : (ds : Table) (a : Name) (X : Shape) (n : Name) (Y : Shape) → definition (ds ++ (a, X) ∷ []) n ≡ Some Y → (definition ds n ≡ Some Y) ⊎ ((a ≡ n) × (X ≡ Y))
+push_some ds a X n Y e = by (definition ds n) refl
   where
-  by : (o : Option Shape) → definition ds n ≡ o → (definition ds n ≡ Some Y) ⊎ ((a ≡ n) × (X ≡ Y))
-  by None is = ⊎_elim
-      (λ s. inr (s, cc (sym (definition_here a n X [] s) ∙ sym (append_unknown ds ((a, X) ∷ []) n is) ∙ e)))
-      (λ o. cc (sym (definition_other a n X [] o) ∙ sym (append_unknown ds ((a, X) ∷ []) n is) ∙ e))
-      (names_decided a n)
-  by (Some Z) is = inl (is ∙ sym (append_known ds ((a, X) ∷ []) n Z is) ∙ e)
+    by : (o : Option Shape) → definition ds n ≡ o → (definition ds n ≡ Some Y) ⊎ ((a ≡ n) × (X ≡ Y))
+    by None is = ⊎_elim
+        (λ s. inr (s, cc (sym (definition_here a n X [] s) ∙ sym (append_unknown ds ((a, X) ∷ []) n is) ∙ e)))
+        (λ o. cc (sym (definition_other a n X [] o) ∙ sym (append_unknown ds ((a, X) ∷ []) n is) ∙ e))
+        (names_decided a n)
+    by (Some Z) is = inl (is ∙ sym (append_known ds ((a, X) ∷ []) n Z is) ∙ e)
 
 pub push_none : (ds : Table) (a : Name) (X : Shape) (n : Name) → definition (ds ++ (a, X) ∷ []) n ≡ None → (definition ds n ≡ None) × (a ≢ n)
 push_none ds a X n e = by (definition ds n) refl
   where
-  by : (o : Option Shape) → definition ds n ≡ o → (definition ds n ≡ None) × (a ≢ n)
-  by None is = (is, λ s. cc (sym (definition_here a n X [] s) ∙ sym (append_unknown ds ((a, X) ∷ []) n is) ∙ e))
-  by (Some Z) is = cc (sym (append_known ds ((a, X) ∷ []) n Z is) ∙ e)
+    by : (o : Option Shape) → definition ds n ≡ o → (definition ds n ≡ None) × (a ≢ n)
+    by None is = (is, λ s. cc (sym (definition_here a n X [] s) ∙ sym (append_unknown ds ((a, X) ∷ []) n is) ∙ e))
+    by (Some Z) is = cc (sym (append_known ds ((a, X) ∷ []) n Z is) ∙ e)
 
 pub push_once : (ds : Table) (a : Name) (X : Shape) (n : Name) (Y : Shape) → definition ds a ≡ None → ((m : Name) (Z : Shape) → Contains ds (m, Z) → definition ds m ≡ Some Z)
     → Contains (ds ++ (a, X) ∷ []) (n, Y) → definition (ds ++ (a, X) ∷ []) n ≡ Some Y
 push_once ds a X n Y new once c = ⊎_elim
     (λ old. append_known ds ((a, X) ∷ []) n Y (once n Y old))
     (λ same. let na : a ≡ n = ap (λ (p : Name × Shape). p.0) same in
-      append_unknown ds ((a, X) ∷ []) n (ap (definition ds) (sym na) ∙ new) ∙ definition_here a n X [] na ∙ ap (λ (p : Name × Shape). Some p.1) same)
+    append_unknown ds ((a, X) ∷ []) n (ap (definition ds) (sym na) ∙ new) ∙ definition_here a n X [] na ∙ ap (λ (p : Name × Shape). Some p.1) same)
     (Contains-push_cases ds (a, X) (n, Y) c)
 
 -- other names are defined as before where one is taken out
@@ -109,15 +110,38 @@ one_at [] i x y h e f = absurd (omega arith)
 one_at (z ∷ xs) zero x y h e f = e ∙ sym f
 one_at (z ∷ xs) (suc i) x y h e f = one_at xs i x y (omega arith) e f
 
+entries_none : (i : ℕ) → remove {X = Def} [] i ≡ []
+entries_none zero = refl
+entries_none (suc i) = refl
+
+none_there : (i k : ℕ) → k < 0 → ⊥
+none_there i k h = omega arith
+
+-- what is left was there
+pub contains-remove : (xs : List Def) (i : ℕ) (p : Name × Shape) → Contains (entries_of (remove xs i)) p → Contains (entries_of xs) p
+contains-remove [] i p c = absurd (none_there i c.0 (rw (entries_none i) at c.1))
+contains-remove (d ∷ ds) zero p c = contains_later (d.name.now, shape_of d.expr) (entries_of ds) p c
+contains-remove (d ∷ ds) (suc i) p c = ⊎_elim
+    (λ here. (0, omega arith, here))
+    (λ later. contains_later (d.name.now, shape_of d.expr) (entries_of ds) p (contains-remove ds i p later))
+    (contains_cases (d.name.now, shape_of d.expr) (entries_of (remove ds i)) p c)
+
+-- the definition at i is in the list
+pub contains-at : (xs : List Def) (i : ℕ) (d : Def) → i < length xs → d ≡ get_or xs i d → Contains (entries_of xs) (d.name.now, shape_of d.expr)
+contains-at [] i d h e = absurd (omega arith)
+contains-at (x ∷ xs) zero d h e = (0, omega arith, ap (λ (y : Def). (y.name.now, shape_of y.expr)) (sym e))
+contains-at (x ∷ xs) (suc i) d h e = contains_later (x.name.now, shape_of x.expr) (entries_of xs) (d.name.now, shape_of d.expr) (contains-at xs i d (omega arith) e)
+
 -- the definition at i is that of the name, and is taken out
 pub taken : (old mid new : List Def) (i : ℕ) (x : Def) (name : Name) → mid ≡ old → i < length mid → x ≡ get_or mid i x → x.name.now ≡ name
     → definition (entries_of (drop i mid)) name ≡ definition (entries_of mid) name → new ≡ remove mid i → Taken old name (Some x) new
 taken old mid new i x name same h e is found left =
     rw (← same, left) (
-        is,
-        sym found ∙ ap (λ t. definition t name) (entries_of-drop mid i x h e) ∙ definition_here x.name.now name (shape_of x.expr) (entries_of (drop (i + 1) mid)) is,
-        length-remove mid i h,
-        λ n o. definition-remove mid i x h e n (λ s. o (s ∙ is)))
+      is,
+      sym found ∙ ap (λ t. definition t name) (entries_of-drop mid i x h e) ∙ definition_here x.name.now name (shape_of x.expr) (entries_of (drop (i + 1) mid)) is,
+      length-remove mid i h,
+      λ n o. definition-remove mid i x h e n (λ s. o (s ∙ is)),
+    )
 
 pub not_taken : (old mid : List Def) (i : ℕ) (name : Name) → mid ≡ old → length mid ≡ i → definition (entries_of (drop i mid)) name ≡ definition (entries_of mid) name → Taken old name None mid
 not_taken old mid i name same e found = (rw (← same) (sym found ∙ ap (λ t. definition t name) (entries_of-end mid i e)), same)

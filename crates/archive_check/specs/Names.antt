@@ -54,10 +54,20 @@ pub record Collected (old : Table) (X : Shape) (new : Table) : Type 0 where
   pub closed : (name : Name) (Y : Shape) → definition new name ≡ Some Y → missing true new Y ≡ None
 
 -- the same definitions, each once, and each holds only names that are defined before it
-pub record Ordered (old new : Table) : Type 0 where
+pub record Arranged (old new : Table) : Type 0 where
   pub same : (name : Name) → definition new name ≡ definition old name
   pub once : (name : Name) (Y : Shape) → Contains new (name, Y) → definition new name ≡ Some Y
   pub earlier : (k : ℕ) (name : Name) (Y : Shape) → k < length new → (name, Y) ≡ get_or new k (name, Y) → missing false (take k new) Y ≡ None
+
+-- the first of these that holds only defined names, if there is one
+abbrev pub NextReady : Table → List Def → Option ℕ → Type 0
+NextReady placed rest (Some i) = (i < length rest) × ((d : Def) → d ≡ get_or rest i d → missing false placed (shape_of d.expr) ≡ None)
+NextReady placed rest None = (k : ℕ) (d : Def) → k < length rest → d ≡ get_or rest k d → (name : Name) × (missing false placed (shape_of d.expr) ≡ Some name)
+
+-- each definition is the one of its name, and what it holds is defined
+pub record Complete (table : Table) : Type 0 where
+  pub once : (name : Name) (Y : Shape) → Contains table (name, Y) → definition table name ≡ Some Y
+  pub closed : (name : Name) (Y : Shape) → definition table name ≡ Some Y → missing false table Y ≡ None
 
 abbrev pub shapes_in_defs : List Def → List Shape
 shapes_in_defs [] = []

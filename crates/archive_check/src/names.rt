@@ -3,7 +3,7 @@
 ghost use Rattle.std.specs.Prelude.{◌≡◌, ◌≢◌, ◌⊎◌, ◌+◌, ◌≤◌, ℕ, Bool, Some, None, OnOk, IfOk, IfErr, IfSome, IfNone, true, get_or, option_map, is_some, length};
 ghost use Rattle.archive_check.specs.Shape.{definition};
 ghost use Rattle.archive_check.specs.Expressions.{shape_of, pointee_of, shapes_in, variants_in, entries_of};
-ghost use Rattle.archive_check.specs.Names.{missing as missing_in, pointee_missing, parts_missing, variants_missing, Taken, Collected, Ordered, shapes_from};
+ghost use Rattle.archive_check.specs.Names.{missing as missing_in, pointee_missing, parts_missing, variants_missing, Taken, Collected, Arranged, NextReady, Complete, shapes_from};
 ghost use Rattle.archive_check.specs.Shape.{Name, Shape};
 ghost use Rattle.archive_check.specs.Defined.{Reaches, HeldIn};
 ghost use Rattle.archive_check.specs.declared.error.Error.TheVariants.{OutOfMemory, ShapeConflict, RecursiveLayout};
@@ -49,10 +49,22 @@ fn missing(expr: &Expr, defs: &[Def], far: bool) -> Option<&'static str>
         Expr::Choice(_, variants) => missing_variant(variants, defs, far),
         Expr::Array(_, element) => missing(element, defs, far),
         Expr::Box(pointee) | Expr::Shared(_, pointee) | Expr::Weak(_, pointee) => {
-            if far { missing_pointee(pointee, defs, far) } else { None }
+            if far {
+                missing_pointee(pointee, defs, far)
+            } else {
+                None
+            }
         }
-        Expr::Vec(element) => if far { missing(element, defs, far) } else { None },
-        Expr::Named(name) => if is_defined(defs, name) { None } else { Some(name) },
+        Expr::Vec(element) => if far {
+            missing(element, defs, far)
+        } else {
+            None
+        },
+        Expr::Named(name) => if is_defined(defs, name) {
+            None
+        } else {
+            Some(name)
+        },
         Expr::Leaf(_) | Expr::Str => None,
     }
 }
@@ -125,4 +137,33 @@ pub fn collect(alloc: Global, root: &Expr, mut rest: Vec<Def>) -> Result<Vec<Def
         }
     }
     Ok(found)
+}
+
+// The first definition that holds only defined names.
+fn next_ready(placed: &[Def], rest: &[Def]) -> Option<usize>
+    ensures { NextReady (entries_of placed.now) rest.now result }
+{
+    for i in 0..rest.len() {
+        if missing(&rest[i].expr, placed, false).is_none() {
+            return Some(i);
+        }
+    }
+    None
+}
+
+/// The definitions in an order in which each holds, other than behind a pointer, only names before it. Refused with 31 where a name holds
+/// itself, and with 1 where memory is refused.
+pub fn in_order(alloc: Global, mut rest: Vec<Def>) -> Result<Vec<Def>, Error>
+    requires { Complete (entries_of rest.items) }
+    ensures ok { IfOk result (λ placed. Arranged (entries_of rest.items) (entries_of placed.items)) }
+    ensures err { IfErr result (λ e. (e ≡ OutOfMemory) ⊎ ((e ≡ RecursiveLayout) × (name : Name) × (Y : Shape) × (definition (entries_of rest.items) name ≡ Some Y) × HeldIn (entries_of rest.items) name Y)) }
+{
+    let mut placed = Vec::new(alloc);
+    while !rest.is_empty() {
+        let Some(i) = next_ready(&placed, &rest) else {
+            return Err(Error::RecursiveLayout);
+        };
+        placed.push(rest.remove(i))?;
+    }
+    Ok(placed)
 }
