@@ -35,3 +35,4 @@ pub mod Placed
 pub mod Ordered
 pub mod Leaves
 pub mod Arranging
+pub mod WellFormed

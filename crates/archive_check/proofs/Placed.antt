@@ -1,5 +1,5 @@
 -- Names whose definitions can be laid out in so many rounds: those that a well-formed shape reaches can, in one way.
-use Rattle.std.proofs.Common.{◌≡◌, ⊎_elim, ℕ, zero, suc, ◌≤◌, List, [], ◌∷◌, map, length, Bool, true, false, cond, Some, Contains, bytes_eq, arith, refl, sym, ap, ◌∙◌}
+use Rattle.std.proofs.Common.{◌≡◌, ⊎_elim, ℕ, zero, suc, ◌≤◌, List, [], ◌∷◌, ◌++◌, map, length, Bool, true, false, cond, Some, Contains, bytes_eq, arith, refl, sym, ap, ◌∙◌}
 use Rattle.std.proofs.lemmas.Slice.Eq.{bytes_eq-Decides}
 use Rattle.archive_check.specs.Shape.{Name, Shape, Table, definition}
 use Rattle.archive_check.specs.Layout.{Layouts, layout}
@@ -55,6 +55,15 @@ module _ (table : Table) where
 -- the names of the definitions
 pub names_of : Table → List Name
 names_of table = map (λ d. d.0) table
+
+pub names_of-push : (table : Table) (d : Name × Shape) → names_of (table ++ d ∷ []) ≡ names_of table ++ d.0 ∷ []
+unfolding names_of
+names_of-push [] d = refl
+names_of-push (e ∷ es) d = ap (λ ns. e.0 ∷ ns) (names_of-push es d)
+
+pub names_of-nil : names_of [] ≡ []
+unfolding names_of
+names_of-nil = refl
 
 pub defined_named : (table : Table) (name : Name) (X : Shape) → definition table name ≡ Some X → Contains (names_of table) name
 unfolding names_of
