@@ -173,3 +173,30 @@ module _ (old new : Table) (more : (n : Name) (Y : Shape) → definition old n �
     no_variant_missed far (variant ps vs) e =
         let h = or_none (parts_missing far old ps) (variants_missing far old vs) e in
         both_none (parts_missing far new ps) (variants_missing far new vs) (no_part_missed far ps h.0) (no_variant_missed far vs h.1)
+
+-- what misses none where pointers are followed misses none before them
+module _ (table : Table) where
+  mutual
+    pub none_near : (X : Shape) → missing true table X ≡ None → missing false table X ≡ None
+    none_near (parts ps) e = parts_near ps e
+    none_near (choice name vs) e = variants_near vs e
+    none_near (array n X) e = none_near X e
+    none_near (named m) e = e
+    none_near (boxed P) e = refl
+    none_near (vec X) e = refl
+    none_near (shared flavor P) e = refl
+    none_near (weak flavor P) e = refl
+    none_near (leaf kind) e = refl
+    none_near str e = refl
+
+    parts_near : (ps : Parts) → parts_missing true table ps ≡ None → parts_missing false table ps ≡ None
+    parts_near no_part e = refl
+    parts_near (part X ps) e =
+        let h = or_none (missing true table X) (parts_missing true table ps) e in
+        both_none (missing false table X) (parts_missing false table ps) (none_near X h.0) (parts_near ps h.1)
+
+    variants_near : (vs : Variants) → variants_missing true table vs ≡ None → variants_missing false table vs ≡ None
+    variants_near no_variant e = refl
+    variants_near (variant ps vs) e =
+        let h = or_none (parts_missing true table ps) (variants_missing true table vs) e in
+        both_none (parts_missing false table ps) (variants_missing false table vs) (parts_near ps h.0) (variants_near vs h.1)

@@ -9,7 +9,7 @@ use Rattle.archive_check.specs.Defined.{Holds, mentions_held, Reaches, reaches, 
 use Rattle.archive_check.specs.Definitions.{Definitions, listed, Extended, Conflicts}
 use Rattle.archive_check.specs.Names.{missing, Complete, Collected, Arranged}
 use Rattle.archive_check.proofs.Named.{names_decided, definition_here, definition_other}
-use Rattle.archive_check.proofs.Missing.{IsDefined, held_defined, mentioned_defined}
+use Rattle.archive_check.proofs.Missing.{IsDefined, held_defined, mentioned_defined, none_near}
 use Rattle.archive_check.proofs.Descent.{contains_cases, contains_first, contains_later, LeadsTo}
 use Rattle.archive_check.proofs.Placed.{names_of, names_of-push, names_of-nil, defined_named}
 use Rattle.archive_check.proofs.Ordered.{Ordered, ordered_none, ordered_next, ordered_never, ordered_solves}
@@ -148,3 +148,7 @@ module _ (D : Definitions) (X : Shape) (table : Table) (added : Extended [] D ta
       -- the definitions in order are the type's
       pub placed_listed : (n : Name) (Y : Shape) → definition placed n ≡ Some Y → definition (listed D) n ≡ Some Y
       placed_listed n Y e = looked_up n Y (collected.kept n Y (placed_kept n Y e))
+
+-- what is collected is complete
+pub collected_complete : (old : Table) (X : Shape) (new : Table) → Collected old X new → Complete new
+collected_complete old X new c = record { once = c.once; closed = λ n Y e. none_near new Y (c.closed n Y e) }
