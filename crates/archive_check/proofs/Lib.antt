@@ -26,3 +26,6 @@ pub mod Trails
 pub mod Exists
 pub mod Positive
 pub mod Views
+pub mod PlanSizes
+pub mod Represented
+pub mod Accepts
