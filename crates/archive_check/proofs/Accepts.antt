@@ -29,31 +29,42 @@ module _ (s : Schema) (bytes : List ℕ) (limit : Option ℕ) (root : ℕ) (X : 
       let same : t ≡ root = sym (pos_one target) in
       record { later = _; last = _; walk = enter {t = root} refl (rw same at above) (rw same at below) (rw same at aligned) allowed (rw same at w) }
 
+module _ (m : Checker) (j root : ℕ) (limit : Option ℕ) where
+  exact_ok : Accepts m j limit root → IsExact m j limit root (Ok tt)
+  exact_ok h = inr (λ s X plan. (λ t. h s X plan, λ a. refl))
+
+  exact_err : (error : Error) → length m.bytes.now < 2 ^ 64 → Refuses m j limit root error → IsExact m j limit root (Err error)
+  exact_err error few (fault, is, trips) = inr (λ s X plan. (λ t. cc, λ a. absurd (root_no_walk s m.bytes.now few (trips s X plan) (walks s m.bytes.now limit root X a))))
+
 module _ (m : Checker) (j root : ℕ) (r : RangeState) (met : Positions) (closed : IsClosed m) where
-  -- the root's run, with what the whole check answers
+  -- what the root's run comes to
   abbrev pub RootRuns : Outcome → Type 0
   RootRuns o = EnterRuns m [] r.depth r.end One j 1 (pos root) r.start empty o
 
-  pub run_accepts : IsWhole r met m.bytes.now → (last : ℕ) (known : Seen) → RootRuns (done last known) → Accepts m j r.depth root
-  run_accepts whole last known v s X plan =
-      let here = enter_says s plan.shapes m plan.represents closed None 0 (rw (whole.start, whole.end) at v) plan.points refl (omega arith) in
+  abbrev pub RunDone : Type 0
+  RunDone = IsFresh r met → (last : ℕ) × (known : Seen) × RootRuns (done last known)
+
+  abbrev pub RunRefused : Error → Type 0
+  RunRefused error = (error ≡ OutOfMemory) ⊎ (IsFresh r met → (f : Fault) × IsFor f error × RootRuns (refused f))
+
+  pub run_accepts : RunDone → IsWhole r met m.bytes.now → Accepts m j r.depth root
+  run_accepts runs whole s X plan =
+      let v = runs whole.fresh in
+      let here = enter_says s plan.shapes m plan.represents closed None 0 (rw (whole.start, whole.end) at v.2) plan.points refl (omega arith) in
       walked s m.bytes.now r.depth root X (entered_root s m.bytes.now r.depth root X here.1)
 
-  pub run_refuses : IsWhole r met m.bytes.now → (error : Error) (fault : Fault) → IsFor fault error → RootRuns (refused fault) → Refuses m j r.depth root error
-  run_refuses whole error fault is v =
-      (fault, is, λ s X plan. (enter_says s plan.shapes m plan.represents closed None 0 (rw (whole.start, whole.end) at v) plan.points refl (omega arith)))
+  fresh_refuses : (error : Error) → (IsFresh r met → (f : Fault) × IsFor f error × RootRuns (refused f)) → IsWhole r met m.bytes.now → Refuses m j r.depth root error
+  fresh_refuses error runs whole =
+      let v = runs whole.fresh in
+      (v.0, v.1, λ s X plan. (enter_says s plan.shapes m plan.represents closed None 0 (rw (whole.start, whole.end) at v.2) plan.points refl (omega arith)))
 
-  pub run_ok : (IsFresh r met → (last : ℕ) × (known : Seen) × RootRuns (done last known)) → IsWhole r met m.bytes.now → Accepts m j r.depth root
-  run_ok runs whole = let v = runs whole.fresh in run_accepts whole v.0 v.1 v.2
+  pub run_refuses : (error : Error) → RunRefused error → (error ≡ OutOfMemory) ⊎ (IsWhole r met m.bytes.now → Refuses m j r.depth root error)
+  run_refuses error (inl h) = inl h
+  run_refuses error (inr runs) = inr (fresh_refuses error runs)
 
-  pub run_err : (error : Error) → (error ≡ OutOfMemory) ⊎ (IsFresh r met → (f : Fault) × IsFor f error × RootRuns (refused f)) → (error ≡ OutOfMemory) ⊎ (IsWhole r met m.bytes.now → Refuses m j r.depth root error)
-  run_err error (inl h) = inl h
-  run_err error (inr runs) = inr (λ whole. let v = runs whole.fresh in run_refuses whole error v.0 v.1 v.2)
+  pub run_exact_ok : RunDone → IsWhole r met m.bytes.now → IsExact m j r.depth root (Ok tt)
+  run_exact_ok runs whole = exact_ok m j root r.depth (run_accepts runs whole)
 
-module _ (m : Checker) (j root : ℕ) (limit : Option ℕ) where
-  pub exact_ok : Accepts m j limit root → IsExact m j limit root (Ok tt)
-  exact_ok h = inr (λ s X plan. (λ t. h s X plan, λ a. refl))
-
-  pub exact_err : (error : Error) → length m.bytes.now < 2 ^ 64 → (error ≡ OutOfMemory) ⊎ Refuses m j limit root error → IsExact m j limit root (Err error)
-  exact_err error few (inl e) = inl (ap Err e)
-  exact_err error few (inr (fault, is, trips)) = inr (λ s X plan. (λ t. cc, λ a. absurd (root_no_walk s m.bytes.now few (trips s X plan) (walks s m.bytes.now limit root X a))))
+  pub run_exact_err : (error : Error) → length m.bytes.now < 2 ^ 64 → RunRefused error → IsWhole r met m.bytes.now → IsExact m j r.depth root (Err error)
+  run_exact_err error few (inl e) whole = inl (ap Err e)
+  run_exact_err error few (inr runs) whole = exact_err m j root r.depth error few (fresh_refuses error runs whole)

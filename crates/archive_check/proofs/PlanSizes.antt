@@ -37,9 +37,9 @@ fit_few size y false e h = cc
 pub times_some : (size n z : ℕ) (o : Option ℕ) → o ≡ fit size → times o n ≡ Some z → (z ≡ n * size) × (z < 18446744073709551616)
 times_some size n z None e h = none_of (nat_eq n 0) refl h
   where
-  none_of : (t : Bool) → nat_eq n 0 ≡ t → cond t (Some 0) None ≡ Some z → (z ≡ n * size) × (z < 18446744073709551616)
-  none_of true p q = let none : n ≡ 0 = grind (arith, nat_tests) in let nothing : z ≡ 0 = cc in let product : 0 * size ≡ 0 = omega arith in (nothing ∙ sym product ∙ sym (ap (λ x. x * size) none), omega (arith, nothing))
-  none_of false p q = cc
+    none_of : (t : Bool) → nat_eq n 0 ≡ t → cond t (Some 0) None ≡ Some z → (z ≡ n * size) × (z < 18446744073709551616)
+    none_of true p q = let none : n ≡ 0 = grind (arith, nat_tests) in let nothing : z ≡ 0 = cc in let product : 0 * size ≡ 0 = omega arith in (nothing ∙ sym product ∙ sym (ap (λ x. x * size) none), omega (arith, nothing))
+    none_of false p q = cc
 times_some size n z (Some y) e h =
     let same : y ≡ size = fit_some size y (nat_lt size 18446744073709551616) refl (sym e) in
     let all : z ≡ y * n = fit_some (y * n) z (nat_lt (y * n) 18446744073709551616) refl h in
@@ -58,9 +58,9 @@ times_many size n (Some y) e h =
 pub sized_takes : {m : Checker} {j size align : ℕ} → Sized m j size align → size < 18446744073709551616 → Takes m j size
 sized_takes {size = size} k few = record { node = k.node; at = k.at; size_is = k.size_is ∙ fits (nat_lt size 18446744073709551616) refl }
   where
-  fits : (t : Bool) → nat_lt size 18446744073709551616 ≡ t → (if t then Some size else None) ≡ Some size
-  fits true e = refl
-  fits false e = absurd (grind (arith, nat_tests))
+    fits : (t : Bool) → nat_lt size 18446744073709551616 ≡ t → (if t then Some size else None) ≡ Some size
+    fits true e = refl
+    fits false e = absurd (grind (arith, nat_tests))
 
 -- one of some is no more than all
 pub element_few : (n l z size : ℕ) → n ≡ l → z ≡ l * size → z < 18446744073709551616 → 0 < z → size < 18446744073709551616
