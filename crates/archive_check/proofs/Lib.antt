@@ -29,3 +29,4 @@ pub mod Views
 pub mod PlanSizes
 pub mod Represented
 pub mod Accepts
+pub mod PlanExample
