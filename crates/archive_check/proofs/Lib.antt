@@ -30,3 +30,5 @@ pub mod PlanSizes
 pub mod Represented
 pub mod Accepts
 pub mod PlanExample
+pub mod ReachedNames
+pub mod ReachedLayouts

@@ -1,0 +1,156 @@
+-- Whether a buffer is accepted is told by the definitions of the names that the expression reaches, and by no other ones.
+use Rattle.std.proofs.Common.{◌≡◌, ◌↔◌, ℕ, zero, suc, refl, sym, ap, ◌∙◌, ◌+◌, ◌*◌, ◌%◌, ◌≤◌, pos, List, [], length, Option, Some, None, arith}
+use Rattle.archive_check.specs.Shape.{Name, Shape, Pointee, one, run, text, Parts, no_part, part, Variants, variant, no_variant, variant_at, definition, vec}
+use Rattle.archive_check.specs.Layout.{Layout, up, size_of, align_of}
+use Rattle.archive_check.specs.Value.{Pointer}
+use Rattle.archive_check.specs.Reads.{Schema, LaidOut}
+use Rattle.archive_check.specs.Tour.{Seen, Accepted, pointee_size, pointee_align}
+use Rattle.archive_check.specs.Depth.{Allows, inside, AcceptedWithin}
+use Rattle.archive_check.specs.Defined.{Holds, holds_name, Mentions, mentions_held, mentions_array, mentions_parts, mentions_choice, mentions_boxed, mentions_vec, mentions_shared, mentions_weak, PointeeMentions, mentions_one, mentions_run, PartsMention, mentions_first, mentions_later, VariantsMention, mentions_variant, mentions_other, Reaches, reaches, reaches_through, WellFormed}
+use Rattle.archive_check.specs.Walk.{Walk, walk_leaf, walk_parts, walk_choice, walk_array, walk_boxed, walk_vec, walk_inline, walk_out_of_line, walk_shared, walk_null, walk_weak, walk_named, WalkParts, walk_no_part, walk_part, WalkRun, walk_none, walk_element, Follow, follow_unique, follow_new, follow_again, Enter, enter, WalkContents, walk_one, walk_run, walk_text, RootWalk}
+use Rattle.archive_check.proofs.AcceptedWalks.{walked, walks}
+use Rattle.archive_check.proofs.Layouts.{align_same, size_same}
+use Rattle.archive_check.proofs.ReachedLayouts.{reached_more, reached_layout}
+
+-- the schemas say the same of the name
+pub record SameName (s s' : Schema) (name : Name) : Type 0 where
+  pub definition_is : definition s.table name ≡ definition s'.table name
+  pub layout_is : s.layouts name ≡ s'.layouts name
+
+module _ (s s' : Schema) (X : Shape) where
+  -- the names here are reached from X
+  abbrev pub Known : Shape → Type 0
+  Known Y = (n : Name) → Mentions n Y → Reaches s.table n X
+
+  abbrev pub KnownPointee : Pointee → Type 0
+  KnownPointee P = (n : Name) → PointeeMentions n P → Reaches s.table n X
+
+  abbrev pub KnownParts : Parts → Type 0
+  KnownParts ps = (n : Name) → PartsMention n ps → Reaches s.table n X
+
+  abbrev pub KnownVariants : Variants → Type 0
+  KnownVariants vs = (n : Name) → VariantsMention n vs → Reaches s.table n X
+
+  known_variant : (vs : Variants) (tag : ℕ) (ps : Parts) → KnownVariants vs → variant_at vs tag ≡ Some ps → KnownParts ps
+  known_variant no_variant tag ps k e = cc
+  known_variant (variant qs vs) zero ps k e = let same : qs ≡ ps = cc in rw same at (λ (n : Name) (h : PartsMention n qs). k n (mentions_variant h))
+  known_variant (variant qs vs) (suc tag) ps k e = known_variant vs tag ps (λ n h. k n (mentions_other h)) e
+
+  known_text : KnownPointee text
+  known_text n h = elim h [ ]
+
+  known_run : {Y : Shape} → ((n : Name) → Mentions n (vec Y) → Reaches s.table n X) → KnownPointee (run Y)
+  known_run k n (mentions_run h) = k n (mentions_vec h)
+
+  known_defined : (name : Name) (Y : Shape) → Reaches s.table name X → definition s.table name ≡ Some Y → Known Y
+  known_defined name Y r d n h = reached_more r d h
+
+  module _ (same : (name : Name) → Reaches s.table name X → SameName s s' name) (bytes : List ℕ) where
+    same_align : (Y : Shape) → Known Y → align_of s.layouts Y ≡ align_of s'.layouts Y
+    same_align Y k = align_same s.layouts s'.layouts Y (λ n h. (same n (k n (mentions_held h))).layout_is)
+
+    same_size : (Y : Shape) → Known Y → size_of s.layouts Y ≡ size_of s'.layouts Y
+    same_size Y k = size_same s.layouts s'.layouts Y (λ n h. (same n (k n (mentions_held h))).layout_is)
+
+    same_pointee_align : (P : Pointee) → KnownPointee P → pointee_align s P ≡ pointee_align s' P
+    same_pointee_align (one Y) k = same_align Y (λ n h. k n (mentions_one h))
+    same_pointee_align (run Y) k = same_align Y (λ n h. k n (mentions_run h))
+    same_pointee_align text k = refl
+
+    same_pointee_size : (P : Pointee) (l : ℕ) → KnownPointee P → pointee_size s P l ≡ pointee_size s' P l
+    same_pointee_size (one Y) l k = same_size Y (λ n h. k n (mentions_one h))
+    same_pointee_size (run Y) l k = ap (λ x. l * x) (same_size Y (λ n h. k n (mentions_run h)))
+    same_pointee_size text l k = refl
+
+    part_again : {pending : List ℕ} {depth : Option ℕ} {stop start mid later : ℕ} {seen known last : Seen} (p at : ℕ) (Y : Shape) (ps : Parts) → Known Y
+        → Walk s' bytes pending depth stop (p + up at (align_of s.layouts Y)) Y start seen mid known
+        → WalkParts s' bytes pending depth stop p (up at (align_of s.layouts Y) + size_of s.layouts Y) ps mid known later last
+        → WalkParts s' bytes pending depth stop p at (part Y ps) start seen later last
+    part_again p at Y ps k w ws = let a = same_align Y k in let z = same_size Y k in walk_part (rw a at w) (rw (a, z) at ws)
+
+    element_again : {pending : List ℕ} {depth : Option ℕ} {stop start mid later : ℕ} {seen known last : Seen} (p n : ℕ) (Y : Shape) → Known Y
+        → Walk s' bytes pending depth stop p Y start seen mid known
+        → WalkRun s' bytes pending depth stop (p + size_of s.layouts Y) n Y mid known later last
+        → WalkRun s' bytes pending depth stop p (suc n) Y start seen later last
+    element_again p n Y k w ws = walk_element w (rw (same_size Y k) at ws)
+
+    enter_again : {pending : List ℕ} {depth : Option ℕ} {stop start mid : ℕ} {seen last : Seen} (t : ℕ) (p : Pointer) → KnownPointee p.pointee
+        → p.target ≡ pos t → start ≤ t → t + pointee_size s p.pointee p.length ≤ stop → t % pointee_align s p.pointee ≡ 0 → Allows depth 1
+        → WalkContents s' bytes pending (inside depth) t t p.pointee p.length start seen mid last
+        → Enter s' bytes pending depth stop p t start seen (t + pointee_size s p.pointee p.length) last
+    enter_again t p k e above below aligned allowed w =
+        let a = same_pointee_align p.pointee k in
+        let z = same_pointee_size p.pointee p.length k in
+        rw z (enter e above (rw z at below) (rw a at aligned) allowed w)
+
+    mutual
+      walk_again : {pending : List ℕ} {depth : Option ℕ} {stop p start later : ℕ} {seen last : Seen} {Y : Shape} → Walk s bytes pending depth stop p Y start seen later last → Known Y → Walk s' bytes pending depth stop p Y start seen later last
+      walk_again (walk_leaf h) k = walk_leaf h
+      walk_again (walk_parts w) k = walk_parts (parts_again w (λ n h. k n (mentions_parts h)))
+      walk_again (walk_choice {variants = vs} {ps = ps} e w) k = walk_choice e (parts_again w (known_variant vs _ ps (λ n h. k n (mentions_choice h)) e))
+      walk_again (walk_array w) k = walk_array (run_again w (λ n h. k n (mentions_array h)))
+      walk_again (walk_boxed w) k = walk_boxed (follow_same w (λ n h. k n (mentions_boxed h)))
+      walk_again (walk_vec w) k = walk_vec (follow_same w (λ n h. known_run k n h))
+      walk_again (walk_inline o h) k = walk_inline o h
+      walk_again (walk_out_of_line o h w) k = walk_out_of_line o h (follow_same w known_text)
+      walk_again (walk_shared w) k = walk_shared (follow_same w (λ n h. k n (mentions_shared h)))
+      walk_again (walk_null e) k = walk_null e
+      walk_again (walk_weak e w) k = walk_weak e (follow_same w (λ n h. k n (mentions_weak h)))
+      walk_again (walk_named {name = name} {X = Y} d w) k =
+          let r = k name (mentions_held holds_name) in walk_named (sym (same name r).definition_is ∙ d) (walk_again w (known_defined name Y r d))
+
+      parts_again : {pending : List ℕ} {depth : Option ℕ} {stop p at start later : ℕ} {seen last : Seen} {ps : Parts} → WalkParts s bytes pending depth stop p at ps start seen later last → KnownParts ps → WalkParts s' bytes pending depth stop p at ps start seen later last
+      parts_again walk_no_part k = walk_no_part
+      parts_again (walk_part {p = p} {at = at} {X = Y} {ps = ps} w ws) k =
+          part_again p at Y ps (λ n h. k n (mentions_first h)) (walk_again w (λ n h. k n (mentions_first h))) (parts_again ws (λ n h. k n (mentions_later h)))
+
+      run_again : {pending : List ℕ} {depth : Option ℕ} {stop p n start later : ℕ} {seen last : Seen} {Y : Shape} → WalkRun s bytes pending depth stop p n Y start seen later last → Known Y → WalkRun s' bytes pending depth stop p n Y start seen later last
+      run_again walk_none k = walk_none
+      run_again (walk_element {p = p} {n = n} {X = Y} w ws) k = element_again p n Y k (walk_again w k) (run_again ws k)
+
+      follow_same : {pending : List ℕ} {depth : Option ℕ} {stop start later : ℕ} {seen last : Seen} {p : Pointer} → Follow s bytes pending depth stop p start seen later last → KnownPointee p.pointee → Follow s' bytes pending depth stop p start seen later last
+      follow_same (follow_unique e w) k = follow_unique e (enter_same w k)
+      follow_same (follow_new e none w) k = follow_new e none (enter_same w k)
+      follow_same (follow_again e t known free) k = follow_again e t known free
+
+      enter_same : {pending : List ℕ} {depth : Option ℕ} {stop t start : ℕ} {p : Pointer} {seen last : Seen} {later : ℕ} → Enter s bytes pending depth stop p t start seen later last → KnownPointee p.pointee → Enter s' bytes pending depth stop p t start seen later last
+      enter_same (enter {t = t} {p = p} e above below aligned allowed w) k = enter_again t p k e above below aligned allowed (contents_again w k)
+
+      contents_again : {pending : List ℕ} {depth : Option ℕ} {stop t n start later : ℕ} {seen last : Seen} {P : Pointee} → WalkContents s bytes pending depth stop t P n start seen later last → KnownPointee P → WalkContents s' bytes pending depth stop t P n start seen later last
+      contents_again (walk_one w) k = walk_one (walk_again w (λ n h. k n (mentions_one h)))
+      contents_again (walk_run w) k = walk_run (run_again w (λ n h. k n (mentions_run h)))
+      contents_again (walk_text h) k = walk_text h
+
+    root_known : KnownPointee (one X)
+    root_known n (mentions_one h) = reaches h
+
+    root_again : {limit : Option ℕ} {root : ℕ} → RootWalk s bytes limit root X → RootWalk s' bytes limit root X
+    root_again w = record { later = w.later; last = w.last; walk = enter_same w.walk root_known }
+
+module _ (s s' : Schema) (X : Shape) (same : (name : Name) → Reaches s.table name X → SameName s s' name) where
+  -- both schemas reach the same names
+  reached_back : {name : Name} {Y : Shape} → Reaches s'.table name Y → Known s s' X Y → Reaches s.table name X
+  reached_back (reaches m) k = k _ m
+  reached_back (reaches_through {Y = Z} {n = n} m d r) k = let q = k n m in reached_back r (known_defined s s' X n Z q ((same n q).definition_is ∙ d))
+
+  same_back : (name : Name) → Reaches s'.table name X → SameName s' s name
+  same_back name r = let q = same name (reached_back r (λ n m. reaches m)) in record { definition_is = sym q.definition_is; layout_is = sym q.layout_is }
+
+  -- two schemas that say the same of the names reached accept the same buffers, with any limit of depth
+  pub same_accepted_within : (bytes : List ℕ) (limit : Option ℕ) (root : ℕ) → AcceptedWithin s bytes limit root X ↔ AcceptedWithin s' bytes limit root X
+  same_accepted_within bytes limit root =
+      (λ a. walked s' bytes limit root X (root_again s s' X same bytes (walks s bytes limit root X a)), λ a. walked s bytes limit root X (root_again s' s X same_back bytes (walks s' bytes limit root X a)))
+
+  pub same_accepted : (bytes : List ℕ) (root : ℕ) → Accepted s bytes root X ↔ Accepted s' bytes root X
+  same_accepted bytes root = let h = same_accepted_within bytes None root in (λ a. (h.0 (a, tt)).0, λ a. (h.1 (a, tt)).0)
+
+module _ (s s' : Schema) (X : Shape) (laid : LaidOut s) (laid' : LaidOut s') (formed : WellFormed s.table X) (same : (name : Name) → Reaches s.table name X → definition s.table name ≡ definition s'.table name) where
+  same_names : (name : Name) → Reaches s.table name X → SameName s s' name
+  same_names name r = record { definition_is = same name r; layout_is = reached_layout s s' X laid laid' formed same name r }
+
+  -- so where the names reached have the same definitions, each with its layout
+  pub same_definitions_within : (bytes : List ℕ) (limit : Option ℕ) (root : ℕ) → AcceptedWithin s bytes limit root X ↔ AcceptedWithin s' bytes limit root X
+  same_definitions_within = same_accepted_within s s' X same_names
+
+  pub same_definitions : (bytes : List ℕ) (root : ℕ) → Accepted s bytes root X ↔ Accepted s' bytes root X
+  same_definitions = same_accepted s s' X same_names
