@@ -1,5 +1,5 @@
 -- What a run from the root says of the archive.
-use Rattle.std.proofs.Common.{◌≡◌, ◌⊎◌, inl, inr, ℕ, pos, refl, sym, ap, ◌+◌, ◌<◌, ◌≤◌, ◌^◌, arith, List, [], length, Option, None, Result, Ok, Err}
+use Rattle.std.proofs.Common.{◌≡◌, ◌⊎◌, inl, inr, ℕ, pos, refl, sym, ap, ◌<◌, ◌^◌, arith, List, [], length, Option, None, Ok, Err}
 use Rattle.std.specs.FinMap.{empty}
 use Rattle.archive_check.specs.declared.error.Error.{Error}
 use Rattle.archive_check.specs.declared.error.Error.TheVariants.{OutOfMemory}
@@ -16,7 +16,7 @@ use Rattle.archive_check.specs.Fresh.{IsFresh}
 use Rattle.archive_check.specs.Faults.{IsFor}
 use Rattle.archive_check.specs.Runs.{Outcome, done, refused, EnterRuns}
 use Rattle.archive_check.specs.Closed.{IsClosed}
-use Rattle.archive_check.specs.Exact.{IsWhole, PlanOf, Accepts, Refuses, IsExact}
+use Rattle.archive_check.specs.Exact.{IsWhole, Accepts, Refuses, IsExact}
 use Rattle.archive_check.proofs.Determined.{pos_one}
 use Rattle.archive_check.proofs.AcceptedWalks.{walked, walks}
 use Rattle.archive_check.proofs.Trails.{root_no_walk}

@@ -1,5 +1,5 @@
 -- A plan of lists of bools whose rest is their own or shared: a name that holds itself behind two kinds of pointers.
-use Rattle.std.proofs.Common.{◌≡◌, ℕ, refl, sym, ap, ◌∙◌, ◌+◌, ◌<◌, ◌≤◌, arith, List, [], ◌∷◌, length, slice_index_or, Some, None, suc, zero, true, cond, Bor, bytes_eq}
+use Rattle.std.proofs.Common.{◌≡◌, ℕ, refl, sym, ap, ◌∙◌, ◌+◌, ◌<◌, ◌≤◌, arith, List, [], ◌∷◌, length, slice_index_or, Some, None, suc, zero, true, Bor, bytes_eq}
 use Rattle.std.proofs.lemmas.Slice.Eq.{bytes_eq-Decides}
 use Rattle.archive_check.specs.declared.expr.Kind.TheVariants.{Bool as BoolKind}
 use Rattle.archive_check.specs.declared.expr.FlavorInfo.{FlavorInfo}
@@ -12,13 +12,13 @@ use Rattle.archive_check.specs.declared.plan.Part.{Part as PlanPart}
 use Rattle.archive_check.specs.declared.plan.Span.{Span}
 use Rattle.archive_check.specs.declared.plan.Sort.{Sort}
 use Rattle.archive_check.specs.declared.plan.Checker.{Checker}
-use Rattle.archive_check.specs.Shape.{Name, Shape, leaf, bool, choice, boxed, shared, named, one, Parts, no_part, part, Variants, no_variant, variant, variant_at, definition}
+use Rattle.archive_check.specs.Shape.{Shape, leaf, bool, choice, boxed, shared, named, one, Parts, no_part, part, Variants, no_variant, variant, variant_at, definition}
 use Rattle.archive_check.specs.Layout.{size_of}
 use Rattle.archive_check.specs.Reads.{Schema}
 use Rattle.archive_check.specs.Expressions.{flavor_of}
 use Rattle.archive_check.specs.Runs.{IsAt, Takes}
 use Rattle.archive_check.specs.Closed.{span, PartsWithin, JobFits, SpanFits, IsClosed}
-use Rattle.archive_check.specs.Represents.{Stands, stands, stands_named, PartsStand, parts_over, parts_more, Sized, points_one, Made, made_leaf, made_choice, made_boxed, made_shared, Represents}
+use Rattle.archive_check.specs.Represents.{Stands, stands, stands_named, PartsStand, parts_over, parts_more, Sized, points_one, Made, made_leaf, made_choice, made_boxed, made_shared}
 use Rattle.archive_check.specs.Exact.{PlanOf}
 
 module _ (name : Bor (List ℕ)) (flavor : FlavorInfo) where

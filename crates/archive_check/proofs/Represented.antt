@@ -1,5 +1,5 @@
 -- What a run over a plan says, its shapes walk or trip over.
-use Rattle.std.proofs.Common.{◌≡◌, ◌≢◌, ◌⊎◌, inl, inr, ℕ, ℤ, pos, ◌+ℤ◌, refl, sym, ap, ◌∙◌, ◌+◌, ◌-◌, ◌*◌, ◌%◌, ◌<◌, ◌≤◌, ◌^◌, arith, List, [], ◌∷◌, length, length-take-le, take, drop, slice_index, Option, Some, None, suc, zero, false, Bor, IsUtf8, IsTrue, Contains}
+use Rattle.std.proofs.Common.{◌≡◌, ◌≢◌, ◌⊎◌, inl, inr, ℕ, ℤ, pos, ◌+ℤ◌, refl, sym, ap, ◌∙◌, ◌+◌, ◌-◌, ◌*◌, ◌%◌, ◌<◌, ◌≤◌, ◌^◌, arith, List, ◌∷◌, length, length-take-le, drop, slice_index, Option, Some, None, suc, zero, false, Bor, IsUtf8, IsTrue, Contains}
 use Rattle.std.specs.FinMap.{get, insert}
 use Rattle.std.specs.Int.{Width, w8, w16, w32, w64, w128, byte_len}
 use Rattle.std.proofs.lemmas.Str.{IsUtf8-nil}
@@ -11,7 +11,7 @@ use Rattle.archive_check.specs.declared.plan.Job.TheVariants.{Free, Leaf, Record
 use Rattle.archive_check.specs.declared.plan.Span.{Span}
 use Rattle.archive_check.specs.declared.plan.Sort.{Sort}
 use Rattle.archive_check.specs.declared.plan.Checker.{Checker}
-use Rattle.archive_check.specs.Shape.{Kind, unit, bool, char, number, non_zero, raw_rel, Flavor, Shape, parts, choice, named, Pointee, one, run, text, Parts, no_part, part, variant_at}
+use Rattle.archive_check.specs.Shape.{Kind, unit, bool, char, number, non_zero, raw_rel, Flavor, Shape, Pointee, one, run, text, Parts, part, variant_at}
 use Rattle.archive_check.specs.Layout.{kind_size, up, size_of, align_of}
 use Rattle.archive_check.specs.Value.{Pointer}
 use Rattle.archive_check.specs.Reads.{Schema, bytes_at, u32_at, i32_at, IsLegal, IsLegalNumber, kind_number, IsOutOfLine, before_end, decoded_length, length_at, pointer_at, string_at}
