@@ -158,17 +158,17 @@ module _ (name : Bor (List ℕ)) (flavor : FlavorInfo) where
     rest_within : (xs : List PlanPart) → xs ≡ bool_part ∷ common_part ∷ [] → PartsWithin m 3 8 xs
     rest_within xs e = rw e ((1, omega arith, bool_takes, omega arith), ((4, omega arith, common_takes, omega arith), tt))
 
-    span_fits : (k : ℕ) (x : Span) → k < 3 → IsAt m.variants.now k x → SpanFits m 3 8 x.first x.last
-    span_fits zero x lt h =
+    span_fits : (k : ℕ) (x : Span) → 0 ≤ k → k < 3 → IsAt m.variants.now k x → SpanFits m 3 8 x.first x.last
+    span_fits zero x le lt h =
         let is : x ≡ no_span = rw variants_are at h.is in
         rw is (record { last = omega arith; few = omega arith; within = tt })
-    span_fits (suc zero) x lt h =
+    span_fits (suc zero) x le lt h =
         let is : x ≡ own_span = rw variants_are at h.is in
         rw is (record { last = rw parts_are (omega arith); few = omega arith; within = all_within (span m.parts.now 0 2) (rw parts_are refl) })
-    span_fits (suc (suc zero)) x lt h =
+    span_fits (suc (suc zero)) x le lt h =
         let is : x ≡ common_span = rw variants_are at h.is in
         rw is (record { last = rw parts_are (omega arith); few = omega arith; within = rest_within (span m.parts.now 2 4) (rw parts_are refl) })
-    span_fits (suc (suc (suc k))) x lt h = absurd (omega arith)
+    span_fits (suc (suc (suc k))) x le lt h = absurd (omega arith)
 
     all_fit : (i : ℕ) (node : Node) (z : ℕ) → IsAt m.nodes.now i node → node.size ≡ Some z → JobFits m i z node.job
     all_fit zero node z h e =
