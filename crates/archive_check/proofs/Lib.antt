@@ -36,3 +36,9 @@ pub mod Ordered
 pub mod Leaves
 pub mod Arranging
 pub mod WellFormed
+pub mod PlanSizes
+pub mod Represented
+pub mod Accepts
+pub mod PlanExample
+pub mod ReachedNames
+pub mod ReachedLayouts

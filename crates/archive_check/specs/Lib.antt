@@ -22,9 +22,13 @@ pub mod Definitions
 pub mod Readable
 pub mod Ranges
 pub mod Met
+pub mod Fresh
 pub mod Told
 pub mod Schemas
 pub mod Names
 pub mod Sizes
+pub mod Faults
 pub mod Runs
+pub mod Closed
 pub mod Represents
+pub mod Exact

@@ -2,8 +2,6 @@
 use Rattle.std.specs.Prelude.{◌≡◌, ◌≢◌, ◌⊎◌, ℕ, suc, ◌+◌, ◌-◌, ◌*◌, ◌%◌, ◌<◌, ◌≤◌, ◌^◌, max, ℤ, pos, ◌+ℤ◌, List, [], ◌∷◌, length, take, drop, reverse, slice_index, slice_index_or, Option, Some, None, Result, Ok, Err, IsUtf8, Contains, IsTrue, false, cond, nat_eq, nat_lt, if◌then◌else◌, IfErr, OnOk}
 use Rattle.std.specs.declared.ops.Range.{Range}
 use Rattle.std.specs.FinMap.{get, insert}
-use Rattle.archive_check.specs.declared.error.Error.{Error}
-use Rattle.archive_check.specs.declared.error.Error.TheVariants.{OutOfMemory, InvalidSubtreePointer, UnalignedPointer, ExceededMaximumSubtreeDepth, CyclicValidate, TypeMismatch, MetadataMismatch, LayoutTooLarge, InvalidDiscriminant, InvalidBool, InvalidChar, ZeroNumber, InvalidUtf8, InvalidStringRepr}
 use Rattle.archive_check.specs.declared.expr.Kind.{Kind as KindExpr}
 use Rattle.archive_check.specs.declared.plan.Target.{Target}
 use Rattle.archive_check.specs.declared.plan.Target.TheVariants.{One, Run, Text}
@@ -18,7 +16,7 @@ use Rattle.archive_check.specs.declared.plan.Checker.{Checker}
 use Rattle.archive_check.specs.declared.work.Work.{Work}
 use Rattle.archive_check.specs.declared.work.Work.TheVariants.{Part as PartWork, Parts, Elements, Leave, Finish}
 use Rattle.archive_check.specs.Met.{SameType}
-use Rattle.archive_check.specs.Shape.{Flavor, Kind, unit, bool, char, number, non_zero, raw_rel}
+use Rattle.archive_check.specs.Shape.{Flavor}
 use Rattle.archive_check.specs.Layout.{kind_size}
 use Rattle.archive_check.specs.Reads.{bytes_at, u32_at, i32_at, IsLegal, IsOutOfLine, before_end, decoded_length}
 use Rattle.archive_check.specs.Expressions.{kind_of, flavor_of, pointee_of}
@@ -34,15 +32,6 @@ abbrev pub target_size : Target → ℕ
 target_size One = 4
 target_size Run = 8
 target_size Text = 8
-
--- the refusal of a fault
-abbrev pub illegal_error : Kind → Error
-illegal_error unit = OutOfMemory
-illegal_error bool = InvalidBool
-illegal_error char = InvalidChar
-illegal_error (number s w) = OutOfMemory
-illegal_error (non_zero s w) = ZeroNumber
-illegal_error (raw_rel s w) = OutOfMemory
 
 pub data Outcome : Type 0 where
   done : ℕ → Seen → Outcome

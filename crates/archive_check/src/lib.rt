@@ -2,6 +2,8 @@
 #![tactic(auto)]
 
 pub mod bytes;
+mod check;
+mod checked;
 pub mod error;
 pub mod expr;
 pub mod laws;

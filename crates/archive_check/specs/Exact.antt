@@ -1,0 +1,39 @@
+-- What a check of a whole archive says.
+use Rattle.std.specs.Prelude.{◌≡◌, ◌⊎◌, ◌↔◌, ℕ, List, length, Option, Result, IsOk, IsErrOf}
+use Rattle.archive_check.specs.declared.error.Error.{Error}
+use Rattle.archive_check.specs.declared.error.Error.TheVariants.{OutOfMemory}
+use Rattle.archive_check.specs.declared.plan.Target.TheVariants.{One}
+use Rattle.archive_check.specs.declared.plan.Checker.{Checker}
+use Rattle.archive_check.specs.Shape.{Shape, one}
+use Rattle.archive_check.specs.Reads.{Schema}
+use Rattle.archive_check.specs.Depth.{AcceptedWithin}
+use Rattle.archive_check.specs.Trail.{Fault, RootTrips}
+use Rattle.archive_check.specs.Ranges.{RangeState}
+use Rattle.archive_check.specs.Met.{Positions}
+use Rattle.archive_check.specs.Fresh.{IsFresh}
+use Rattle.archive_check.specs.Faults.{IsFor}
+use Rattle.archive_check.specs.Represents.{Represents, Points}
+
+-- nothing was met yet, and regions may lie in the whole buffer
+pub record IsWhole (s : RangeState) (met : Positions) (bytes : List ℕ) : Type 0 where
+  pub fresh : IsFresh s met
+  pub start : s.start ≡ 0
+  pub end : s.end ≡ length bytes
+
+-- the plan is one of a schema, and its node j stands for X
+pub record PlanOf (m : Checker) (j : ℕ) (s : Schema) (X : Shape) : Type 0 where
+  pub shapes : ℕ → Shape
+  pub represents : Represents s shapes m
+  pub points : Points s shapes m One j (one X)
+
+-- whatever the node stands for, the buffer is an archive of it, with no region too deep
+abbrev pub Accepts : Checker → ℕ → Option ℕ → ℕ → Type 0
+Accepts m j limit root = (s : Schema) (X : Shape) → PlanOf m j s X → AcceptedWithin s m.bytes.now limit root X
+
+-- whatever the node stands for, a check of it comes to the fault that the refusal says
+abbrev pub Refuses : Checker → ℕ → Option ℕ → ℕ → Error → Type 0
+Refuses m j limit root error = (fault : Fault) × IsFor fault error × ((s : Schema) (X : Shape) → PlanOf m j s X → RootTrips s m.bytes.now limit root X fault)
+
+-- the answer is Ok exactly where the buffer is an archive with no region too deep, unless memory ran out
+abbrev pub IsExact : Checker → ℕ → Option ℕ → ℕ → Result (Unit {0}) Error → Type 0
+IsExact m j limit root answer = IsErrOf answer OutOfMemory ⊎ ((s : Schema) (X : Shape) → PlanOf m j s X → IsOk answer ↔ AcceptedWithin s m.bytes.now limit root X)
