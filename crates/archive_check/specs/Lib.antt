@@ -5,6 +5,8 @@ pub mod Expressions
 pub mod Value
 pub mod Reads
 pub mod Definitions
+pub mod LeafFaults
+pub mod LeafLayout
 pub mod Readable
 pub mod Ranges
 pub mod Told
