@@ -33,9 +33,10 @@ number_of_byte bytes p h = rw (bytes_one bytes p h) refl
 
 pub bool_legal : (bytes : List ℕ) (p : ℕ) → p < length bytes → IsTrue (nat_lt (slice_index bytes p) 2) ↔ IsLegal bool (bytes_at bytes p 1)
 bool_legal bytes p h =
-    let e = number_of_byte bytes p h in
-    (λ t. legal_at bool bytes p (omega arith) (rw e (grind (arith, nat_tests))),
-     λ l. let small : slice_index bytes p < 2 = rw e at l.number in grind (arith, nat_tests))
+    let e = number_of_byte bytes p h in (
+      λ t. legal_at bool bytes p (omega arith) (rw e (grind (arith, nat_tests))),
+      λ l. let small : slice_index bytes p < 2 = rw e at l.number in grind (arith, nat_tests),
+    )
 
 some_range : (code : ℕ) (o : Option ℕ) → MatchOption o (OutOfScalarRange code) (λ _. InScalarRange code) → IsTrue (is_some o) → InScalarRange code
 some_range code (Some c) range t = range
@@ -84,9 +85,10 @@ last_index w64 i h = omega arith
 last_index w128 i h = omega arith
 
 zero_bytes : (w : Width) (bs : List ℕ) → length bs ≡ byte_len w → EachIndex bs (λ k. slice_index bs k ≡ 0) ↔ (from_le_bytes w bs ≡ 0)
-zero_bytes w bs e =
-    (λ h. sum_of_zeros (λ i. byte_worth i (slice_index bs i)) (byte_len w - 1) (λ i l. ap (byte_worth i) (h i (rw e (last_index w i l))) ∙ worth_of_zero i),
-     λ h i l. zero_worth i (slice_index bs i) (zero_in_sum (λ i. byte_worth i (slice_index bs i)) (byte_len w - 1) h i (omega arith)))
+zero_bytes w bs e = (
+  λ h. sum_of_zeros (λ i. byte_worth i (slice_index bs i)) (byte_len w - 1) (λ i l. ap (byte_worth i) (h i (rw e (last_index w i l))) ∙ worth_of_zero i),
+  λ h i l. zero_worth i (slice_index bs i) (zero_in_sum (λ i. byte_worth i (slice_index bs i)) (byte_len w - 1) h i (omega arith)),
+)
 
 slice_is : (bytes : List ℕ) (p m : ℕ) → take (p + m - p) (drop p bytes) ≡ bytes_at bytes p m
 unfolding bytes_at
@@ -104,5 +106,5 @@ unfolding kind_number
 non_zero_legal sign width bytes p n t h e zeroed =
     let zeros = zero_bytes width (bytes_at bytes p (byte_len width)) (length-bytes_at bytes p (byte_len width) h) in
     let all : IsTrue t ↔ EachIndex (bytes_at bytes p (byte_len width)) (λ k. slice_index (bytes_at bytes p (byte_len width)) k ≡ 0) =
-      rw (slice_is bytes p n, e) at zeroed in
+    rw (slice_is bytes p n, e) at zeroed in
     (λ no. legal_at (non_zero sign width) bytes p h (λ is. (not_true t).0 no (all.1 (zeros.1 is))), λ l. (not_true t).1 (λ is. l.number (zeros.0 (all.0 is))))

@@ -62,11 +62,7 @@ fn legal_or(fault: Error, is_legal: bool) -> Result<(), Error>
     ensures legal { IsOk result ↔ IsTrue is_legal }
     ensures fault { IfErr result (λ e. e ≡ fault) }
 {
-    if is_legal {
-        Ok(())
-    } else {
-        Err(fault)
-    }
+    if is_legal { Ok(()) } else { Err(fault) }
 }
 
 /// Whether the bytes at `p` are a leaf of this kind. Refused with 25 where a bool isn't 0 or 1, with 26 where a char is no Unicode scalar value, and

@@ -73,7 +73,8 @@ impl Kind {
             Kind::Unit => 0,
             Kind::Bool => 1,
             Kind::Char => 4,
-            Kind::Number(integer) | Kind::NonZero(integer) | Kind::RawRel(integer) => integer.size(),
+            Kind::Number(integer) | Kind::NonZero(integer) | Kind::RawRel(integer) =>
+                integer.size(),
         }
     }
 

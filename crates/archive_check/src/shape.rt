@@ -8,7 +8,9 @@ ghost use Rattle.archive_check.specs.Readable.{Readable};
 ghost use Rattle.archive_check.specs.Schemas.{root_of};
 ghost use Rattle.archive_check.specs.declared.error.Error.TheVariants.{OutOfMemory, ShapeConflict, LayoutTooLarge};
 
-use crate::bytes::{check_leaf, inline_length, is_out_of_line, is_text, read_coded_length, read_position};
+use crate::bytes::{
+    check_leaf, inline_length, is_out_of_line, is_text, read_coded_length, read_position,
+};
 pub use crate::error::Error;
 pub use crate::expr::{Def, Defs, Expr, IntegerKind, Kind};
 pub use crate::layout::Layout;

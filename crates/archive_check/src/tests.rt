@@ -126,7 +126,10 @@ fn bytes_are_read(rt: HostRuntime) -> Result<(), Fail> {
 
 #[test]
 fn expressions_are_compared_as_written(rt: HostRuntime) {
-    assert_eq!(rt; Expr::Leaf(Kind::Number(IntegerKind::U32)), Expr::Leaf(Kind::Number(IntegerKind::U32)));
+    assert_eq!(rt;
+        Expr::Leaf(Kind::Number(IntegerKind::U32)),
+        Expr::Leaf(Kind::Number(IntegerKind::U32))
+    );
     assert_ne!(rt; Expr::Leaf(Kind::Number(IntegerKind::U32)), Expr::Str);
     let _ = Defs::new(rt.alloc());
 }

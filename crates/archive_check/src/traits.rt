@@ -1,19 +1,19 @@
 //! What archived types, keys and entries tell of themselves.
 
-ghost use Rattle.std.specs.Prelude.{◌≡◌, ◌⊎◌, ℕ, min, Bool, true, Option, None, IfOk, IfErr, refl};
-ghost use Rattle.std.specs.Int.{w8};
-ghost use Rattle.archive_check.specs.LeafLayout.{leaf_layout, leaf_align, leaf_has_layout};
-ghost use Rattle.archive_check.specs.Shape.{Shape, Pointee, one, Kind as KindOf, leaf, unit, bool, number, unsigned, signed};
+ghost use Rattle.std.specs.Prelude.{◌≡◌, ◌⊎◌, ℕ, min, Bool, true, Option, None, IfOk, IfErr};
+ghost use Rattle.archive_check.specs.Shape.{Shape, Pointee, one};
 ghost use Rattle.archive_check.specs.Layout.{Layout as LayoutOf};
-ghost use Rattle.archive_check.specs.Expressions.{shape_of, kind_of};
-ghost use Rattle.archive_check.specs.Definitions.{Definitions, no_definition, HasLayout, IsAlign};
+ghost use Rattle.archive_check.specs.Expressions.{shape_of};
+ghost use Rattle.archive_check.specs.Definitions.{Definitions, HasLayout, IsAlign};
 ghost use Rattle.archive_check.specs.Value.{Value};
 ghost use Rattle.archive_check.specs.Told.{Told, nothing_told, KeyState};
 ghost use Rattle.archive_check.specs.declared.error.Error.TheVariants.{OutOfMemory, ShapeConflict};
 
 use crate::error::Error;
-use crate::expr::{Defs, Expr, IntegerKind, Kind};
+use crate::expr::{Defs, Expr};
 use std::alloc::{Allocator, Global};
+
+mod leaves;
 
 /// What a pointer may lead to: an archived value, a slice or a text.
 pub trait ArchivePointee {
@@ -65,90 +65,6 @@ pub trait Portable: ArchivePointee {
     ghost is_align: { IsAlign layout.align };
 
     ghost has_layout: { HasLayout Self.definitions shape layout };
-}
-
-/// A type whose values lie in an archive as one leaf each.
-pub trait Leaf {
-    // The leaf.
-    ghost leaf_kind: { KindOf };
-
-    /// The leaf.
-    fn leaf_kind() -> Kind
-        ensures { kind_of result ≡ leaf_kind };
-}
-
-impl<T: Leaf> ArchivePointee for T {
-    type ArchivedMetadata = ();
-
-    ghost pointee = { one (leaf T.leaf_kind) };
-
-    ghost definitions = { no_definition };
-
-    ghost metadata_length = { λ _. 0 };
-
-    fn pointer_metadata(_metadata: &()) -> usize {
-        0
-    }
-}
-
-impl<T: Leaf> Portable for T {
-    ghost shape = { leaf T.leaf_kind };
-
-    ghost layout = { leaf_layout T.leaf_kind };
-
-    ghost is_one = { refl };
-
-    ghost is_align = { leaf_align T.leaf_kind };
-
-    ghost has_layout = { leaf_has_layout T.leaf_kind };
-
-    fn size() -> usize {
-        T::leaf_kind().size()
-    }
-
-    fn align() -> usize {
-        T::leaf_kind().align()
-    }
-
-    fn expr(_alloc: Global) -> Result<Expr, Error> {
-        Ok(Expr::Leaf(T::leaf_kind()))
-    }
-
-    fn define(_alloc: Global, _defs: &mut Defs) -> Result<(), Error> {
-        Ok(())
-    }
-}
-
-impl Leaf for () {
-    ghost leaf_kind = { unit };
-
-    fn leaf_kind() -> Kind {
-        Kind::Unit
-    }
-}
-
-impl Leaf for bool {
-    ghost leaf_kind = { bool };
-
-    fn leaf_kind() -> Kind {
-        Kind::Bool
-    }
-}
-
-impl Leaf for u8 {
-    ghost leaf_kind = { number unsigned w8 };
-
-    fn leaf_kind() -> Kind {
-        Kind::Number(IntegerKind::U8)
-    }
-}
-
-impl Leaf for i8 {
-    ghost leaf_kind = { number signed w8 };
-
-    fn leaf_kind() -> Kind {
-        Kind::Number(IntegerKind::I8)
-    }
 }
 
 /// What tells contracts the bytes that it holds, its room and its device's failures. It has no calls.

@@ -11,9 +11,9 @@ pub returns-in-Char-clause-legal : goal.returns-in-Char-clause-legal
 returns-in-Char-clause-legal c =
     let range = c.from_u32-character.ensures in
     rw c.in-Char.is (iff_trans c.legal_or-in-Char.ensures.legal
-      (char_legal c.args.bytes.now c.args.p c.read_u32.result c.from_u32-character.result c.is_some.result (rw c.in-Char.is at c.requires) c.read_u32.ensures c.is_some.ensures range.cases range.succeeds))
+    (char_legal c.args.bytes.now c.args.p c.read_u32.result c.from_u32-character.result c.is_some.result (rw c.in-Char.is at c.requires) c.read_u32.ensures c.is_some.ensures range.cases range.succeeds))
 
 pub returns-in-NonZero-clause-legal : goal.returns-in-NonZero-clause-legal
 returns-in-NonZero-clause-legal c =
     rw c.in-NonZero.is (iff_trans c.legal_or-in-NonZero.ensures.legal
-      (non_zero_legal _ _ c.args.bytes.now c.args.p c.size.result c.is_zero.result (rw c.in-NonZero.is at c.requires) c.size.ensures c.is_zero.ensures))
+    (non_zero_legal _ _ c.args.bytes.now c.args.p c.size.result c.is_zero.result (rw c.in-NonZero.is at c.requires) c.size.ensures c.is_zero.ensures))
