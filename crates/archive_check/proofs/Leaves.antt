@@ -1,5 +1,5 @@
 -- Leaves in bytes.
-use Rattle.std.proofs.Common.{◌≡◌, inl, inr, ℕ, zero, suc, ◌+◌, ◌-◌, ◌*◌, ◌^◌, ◌<◌, ◌≤◌, ◌↔◌, List, [], ◌∷◌, length, slice_index, take, drop, refl, sym, ap, ◌∙◌, arith}
+use Rattle.std.proofs.Common.{◌≡◌, inl, inr, ℕ, zero, suc, ◌+◌, ◌-◌, ◌*◌, ◌^◌, ◌<◌, ◌≤◌, ◌↔◌, List, length, slice_index, take, drop, refl, ap, ◌∙◌, arith}
 use Rattle.std.proofs.Math.Nat.{one-le-pow, le-suc_iff, le-mul_of_pos_right}
 use Rattle.std.specs.List.{EachIndex}
 use Rattle.std.proofs.lemmas.Bool.Decides.{nat_tests}
@@ -7,7 +7,7 @@ use Rattle.std.specs.Prelude.{Bool, true, false, not, nat_lt, IsTrue, Option, So
 use Rattle.std.specs.Char.{InScalarRange, OutOfScalarRange}
 use Rattle.std.specs.Int.{Width, w8, w16, w32, w64, w128, byte_len, byte_worth, sum_through, from_le_bytes}
 use Rattle.archive_check.specs.Readable.{Readable, readable_leaf}
-use Rattle.archive_check.specs.Shape.{one, leaf, Sign, Kind, unit, bool, char, number, non_zero, raw_rel}
+use Rattle.archive_check.specs.Shape.{one, leaf, Sign, Kind, bool, char, non_zero}
 use Rattle.archive_check.specs.Layout.{kind_size}
 use Rattle.archive_check.specs.Reads.{bytes_at, u32_at, kind_number, IsLegal, IsLegalNumber}
 use Rattle.archive_check.proofs.BytesAt.{length-bytes_at, bytes_one}

@@ -15,7 +15,7 @@ use Rattle.std.specs.Coded.{le_prop}
 use mathlib.Core.Bool.{Bool-set}
 use Rattle.archive_check.specs.Shape.{Sign, unsigned, signed, unit, bool, char, number}
 use Rattle.archive_check.specs.Reads.{IsLegal, kind_number, kind_value}
-use Rattle.archive_num.specs.Numbers.{bytes_cons, length-little_bytes, from_le_bytes-little, AreBytes-little_bytes, little_number-little_bytes, little_bytes-little_number, little_number-lt}
+use Rattle.archive_num.specs.Numbers.{bytes_cons, length-little_bytes, from_le_bytes-little, little_number-little_bytes, little_bytes-little_number, little_number-lt}
 
 pow_bits : (w : Width) → 256 ^ byte_len w ≡ 2 ^ bits w
 pow_bits w8 = refl

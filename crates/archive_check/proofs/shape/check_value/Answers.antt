@@ -1,4 +1,3 @@
-use Rattle.std.proofs.Common.{rules}
 use Rattle.archive_check.specs.Layout.{Layouts}
 use Rattle.archive_check.proofs.Leaves.{readable}
 use Rattle.archive_check.proofs.shape.check_value.Goals as goal
