@@ -13,6 +13,8 @@ use crate::error::Error;
 use crate::expr::{Defs, Expr};
 use std::alloc::{Allocator, Global};
 
+mod leaves;
+
 /// What a pointer may lead to: an archived value, a slice or a text.
 pub trait ArchivePointee {
     /// What stands in a pointer beside its offset: nothing for one value, else a length.
