@@ -33,6 +33,33 @@ pub trait Writer: Positional + Keys {
     ghost place_law: { (w : Self) → Self.place w ≡ length (Self.told w).bytes };
 }
 
+/// What is borrowed stands where its owner does.
+impl<P: Positional> Positional for &P {
+    ghost place = { λ r. P.place r.now };
+
+    fn pos(&self) -> usize {
+        P::pos(&**self)
+    }
+}
+
+/// What is borrowed stands where its owner does.
+impl<P: Positional> Positional for &mut P {
+    ghost place = { λ r. P.place r.now };
+
+    fn pos(&self) -> usize {
+        P::pos(&**self)
+    }
+}
+
+/// A borrowed writer writes to its owner, which keeps the bytes when the borrow ends.
+impl<W: Writer> Writer for &mut W {
+    ghost place_law = { λ r. W.place_law r.now };
+
+    fn write(&mut self, bytes: &[u8]) -> Result<(), Error> {
+        W::write(&mut **self, bytes)
+    }
+}
+
 impl<A: Allocator> Positional for Vec<u8, A> {
     ghost place = { λ v. length v.items };
 
