@@ -32,14 +32,14 @@ impl<'a, const N: usize> From<&'a mut [u8; N]> for Buffer<'a> {
     ghost from_gives = { λ b w. (w.bytes.now ≡ b.now) × (w.len ≡ 0) };
 
     fn from(bytes: &'a mut [u8; N]) -> Buffer<'a> {
-        Buffer { bytes, len: 0 }
+        Buffer::from(bytes.as_mut_slice())
     }
 }
 
 impl<'a> Buffer<'a> {
     /// What is written.
     pub fn as_slice(&self) -> &[u8]
-        ensures { result.now ≡ take self.now.len self.now.bytes.now }
+        ensures { result.now ≡ (⟦<Buffer<'a> as Tells>⟧.told self.now).bytes }
     {
         &self.bytes[..self.len]
     }

@@ -38,7 +38,7 @@ impl<P: Positional> Positional for &P {
     ghost place = { λ r. P.place r.now };
 
     fn pos(&self) -> usize {
-        P::pos(&**self)
+        P::pos(*self)
     }
 }
 
