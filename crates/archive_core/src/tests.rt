@@ -1,6 +1,6 @@
 // Worked rows: values with their archives, and buffers that are refused.
 
-ghost use Rattle.std.specs.Prelude.{◌≡◌, ⊤, refl, length};
+ghost use Rattle.std.specs.Prelude.{◌≡◌, ⊤, refl, length, IfOk};
 ghost use Rattle.std.specs.Int.{w32};
 ghost use Rattle.std.proofs.Common.{inl, inr};
 ghost use Rattle.archive_check.specs.Shape.{array, leaf, number, one, unsigned};
@@ -219,13 +219,25 @@ fn a_buffer_leaves_the_bytes_beyond(rt: HostRuntime) -> Result<(), Fail> {
     Ok(())
 }
 
+// Writes a shared text twice. The contract of `serialize_shared` alone shows that both stand at one position.
+fn write_twice<S: Sharing + Writer>(
+    serializer: &mut S,
+    key: u64,
+    text: &Text<'_>,
+) -> Result<(usize, usize), Error>
+    ensures { IfOk result (λ p. p.0 ≡ p.1) }
+{
+    let first = serializer.serialize_shared(key, text)?;
+    let second = serializer.serialize_shared(key, text)?;
+    Ok((first, second))
+}
+
 #[test]
 fn a_shared_value_is_written_once(rt: HostRuntime) -> Result<(), Fail> {
     let sharing = Share::new(rt.alloc());
     let mut serializer = Serializer::new(Vec::new(rt.alloc()), rt.alloc(), sharing);
     let (hello, world) = (Text { text: "hello" }, Text { text: "world" });
-    assert_eq!(rt; serializer.serialize_shared(1, &hello), Ok(0));
-    assert_eq!(rt; serializer.serialize_shared(1, &hello), Ok(0));
+    assert_eq!(rt; write_twice(&mut serializer, 1, &hello), Ok((0, 0)));
     assert_eq!(rt; serializer.serialize_shared(2, &world), Ok(5));
     assert_eq!(rt; serializer.serialize_shared(1, &hello), Ok(0));
     serializer.start_sharing(3)?;

@@ -1,8 +1,8 @@
 //! The states of shared keys. A key names one value, which is written once: the key is unknown, then pending while the value is written, then
 //! finished at the value's position.
 
-ghost use Rattle.std.specs.Prelude.{◌≡◌, None, Some, OnOk, OnErr, IfOk, IfErr, nat_eq};
-ghost use Rattle.std.specs.HashMap.{get};
+ghost use Rattle.std.specs.Prelude.{◌≡◌, ◌+◌, ◌≤◌, ◌<◌, None, Some, OnOk, OnErr, IfOk, IfErr, IsOk, nat_eq};
+ghost use Rattle.std.specs.HashMap.{get, spare};
 ghost use Rattle.archive_check.specs.Told.{KeepsKeys, nothing_told};
 ghost use Rattle.archive_write.specs.Sharing.{start_answer, started, finish_answer, IsSet, KnowsNone};
 
@@ -82,9 +82,10 @@ impl<A: Allocator + Clone> Share<A> {
         }
     }
 
-    /// Knows no key, and has room for `capacity` of them. Refused with 1 where memory is refused.
+    /// Knows no key, and has room for `capacity` of them: no start of so many keys is refused. Refused with 1 where memory is refused.
     pub fn with_capacity(alloc: A, capacity: usize) -> Result<Share<A>, Error>
         ensures fresh { IfOk result (λ s. KnowsNone (⟦<Share<A> as Keys>⟧.state_of s)) }
+        ensures room { IfOk result (λ s. capacity ≤ spare s.states) }
         ensures refusal { IfErr result (λ e. e ≡ Error.OutOfMemory) }
     {
         Ok(Share {
@@ -92,9 +93,10 @@ impl<A: Allocator + Clone> Share<A> {
         })
     }
 
-    /// Forgets every key, so that it serves for another archive. Takes no memory.
+    /// Forgets every key, so that it serves for another archive. Takes no memory, and keeps what it has.
     pub fn clear(&mut self)
-        ensures { KnowsNone (⟦<Share<A> as Keys>⟧.state_of self.new) }
+        ensures fresh { KnowsNone (⟦<Share<A> as Keys>⟧.state_of self.new) }
+        ensures room { spare self.old.states ≤ spare self.new.states }
     {
         self.states.clear();
     }
@@ -109,8 +111,17 @@ impl<A: Allocator + Clone> Keys for Share<A> {
     ghost state_of = { λ s. get nat_eq s.states };
 }
 
+/// A start takes memory only where no room is left; it uses up room for one key at most. A finish uses up none.
 impl<A: Allocator + Clone> Sharing for Share<A> {
-    fn start_sharing(&mut self, key: u64) -> Result<SharingState, Error> {
+    fn start_sharing(&mut self, key: u64) -> Result<SharingState, Error>
+        ensures answer { IfOk result (λ s. s ≡ start_answer (get nat_eq self.old.states key)) }
+        ensures after { OnOk result (IsSet (get nat_eq self.old.states) key (started (get nat_eq self.old.states key)) (get nat_eq self.new.states)) }
+        ensures unchanged { OnErr result (KeepsKeys (get nat_eq self.old.states) (get nat_eq self.new.states)) }
+        ensures refusal { IfErr result (λ e. (e ≡ Error.OutOfMemory) × (get nat_eq self.old.states key ≡ None)) }
+        ensures told { nothing_told ≡ nothing_told }
+        ensures served { 0 < spare self.old.states → IsOk result }
+        ensures room { spare self.old.states ≤ spare self.new.states + 1 }
+    {
         match self.states.get(&key) {
             Some(None) => return Ok(SharingState::Pending),
             Some(Some(pos)) => return Ok(SharingState::Finished(*pos)),
@@ -122,7 +133,13 @@ impl<A: Allocator + Clone> Sharing for Share<A> {
         Ok(SharingState::Started)
     }
 
-    fn finish_sharing(&mut self, key: u64, pos: usize) -> Result<(), Error> {
+    fn finish_sharing(&mut self, key: u64, pos: usize) -> Result<(), Error>
+        ensures answer { result ≡ finish_answer (get nat_eq self.old.states key) }
+        ensures after { OnOk result (IsSet (get nat_eq self.old.states) key (Some (Some pos)) (get nat_eq self.new.states)) }
+        ensures unchanged { OnErr result (KeepsKeys (get nat_eq self.old.states) (get nat_eq self.new.states)) }
+        ensures told { nothing_told ≡ nothing_told }
+        ensures room { spare self.new.states ≡ spare self.old.states }
+    {
         match self.states.get_mut(&key) {
             None => Err(Error::NotStarted),
             Some(Some(_)) => Err(Error::AlreadyFinished),
