@@ -1,6 +1,6 @@
 //! A writer over bytes that are lent to it.
 
-ghost use Rattle.std.specs.Prelude.{◌≡◌, ◌+◌, ◌-◌, ◌≤◌, ◌++◌, ◌↔◌, length, take, drop, None, Some, OnOk, OnErr, IfErr, IsOk};
+ghost use Rattle.std.specs.Prelude.{◌≡◌, ◌+◌, ◌-◌, ◌≤◌, ◌++◌, ◌↔◌, length, take, drop, false, IsTrue, None, Some, OnOk, OnErr, IfErr, IsOk, IsErrOf};
 ghost use Rattle.std.proofs.Common.{sym};
 ghost use Rattle.std.proofs.lemmas.List.{length-take-le};
 ghost use Rattle.archive_check.specs.Told.{KeepsKeys};
@@ -63,6 +63,8 @@ impl<'a> Keys for Buffer<'a> {
 
 /// A write is refused with 8 exactly where the bytes don't fit, and then changes nothing. It takes no memory.
 impl<'a> Writer for Buffer<'a> {
+    ghost takes_memory = { false };
+
     ghost place_law = { λ b. sym (length-take-le b.len b.bytes.now b.in_bounds) };
 
     fn write(&mut self, bytes: &[u8]) -> Result<(), Error>
@@ -72,6 +74,7 @@ impl<'a> Writer for Buffer<'a> {
         ensures refusal { IfErr result (ExplainsRefusal (length bytes.now) self.old.len (Some (length self.old.bytes.now - self.old.len)) 0 0) }
         ensures device { 0 ≤ 0 }
         ensures keys { KeepsKeys (λ _. None) (λ _. None) }
+        ensures memory { IsErrOf result Error.OutOfMemory → IsTrue false }
         ensures fits { IsOk result ↔ (self.old.len + length bytes.now ≤ length self.old.bytes.now) }
         ensures overflow { IfErr result (λ e. e ≡ Error.BufferOverflow (length bytes.now) (length self.old.bytes.now) self.old.len) }
         ensures unchanged { OnErr result ((self.new.bytes.now ≡ self.old.bytes.now) × (self.new.len ≡ self.old.len)) }

@@ -1,6 +1,6 @@
 // A writer whose device fails.
 
-ghost use Rattle.std.specs.Prelude.{None, length, refl};
+ghost use Rattle.std.specs.Prelude.{None, length, refl, true};
 
 use crate::ser::{Positional, Writer};
 use crate::tests::write_string;
@@ -33,6 +33,8 @@ impl Keys for Failing {
 }
 
 impl Writer for Failing {
+    ghost takes_memory = { true };
+
     ghost place_law = { λ w. refl };
 
     fn write(&mut self, bytes: &[u8]) -> Result<(), Error> {

@@ -1,5 +1,8 @@
 // Vectors, buffers, what borrows them, and serializers.
 
+ghost use Rattle.std.specs.Prelude.{◌<◌, ◌≤◌, ◌-◌, length, IsOk};
+ghost use Rattle.archive_write.specs.Written.{padding};
+
 use crate::ser::{Buffer, Positional, ResolverAlloc, Serializer, Writer, WriterExt};
 use crate::tests::write_string;
 use archive_check::error::Error;
@@ -32,10 +35,21 @@ fn a_serializer_passes_on_to_its_writer(rt: HostRuntime) -> Result<(), Fail> {
     Ok(())
 }
 
+// Over a buffer that has room for them, zeros are written. The contracts alone show it: a buffer asks for no memory, and its device never fails.
+fn align_within(buffer: &mut Buffer<'_>, align: usize) -> Result<usize, Error>
+    requires low { 0 < align }
+    requires high { align ≤ 32 }
+    requires fits { padding align buffer.old.len ≤ length buffer.old.bytes.now - buffer.old.len }
+    ensures { IsOk result }
+{
+    buffer.align(align)
+}
+
 #[test]
 fn a_buffer_takes_what_fits(rt: HostRuntime) -> Result<(), Fail> {
     let mut bytes = [0xcc; 4];
     let mut buffer = Buffer::from(&mut bytes);
+    assert_eq!(rt; align_within(&mut buffer, 4), Ok(0));
     assert_eq!(rt; buffer.write(b""), Ok(()));
     assert_eq!(rt; buffer.as_slice(), b"".as_slice());
     let refusal = Error::BufferOverflow {
