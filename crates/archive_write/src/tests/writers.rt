@@ -16,9 +16,22 @@ fn a_vector_takes_bytes_and_padding(rt: HostRuntime) -> Result<(), Fail> {
     assert_eq!(rt; bytes.align(4)?, 8);
     assert_eq!(rt; bytes.align(8)?, 8);
     bytes.write(b"")?;
-    (&mut bytes).pad(3)?;
-    assert_eq!(rt; (&bytes).pos(), 11);
+    bytes.pad(3)?;
     assert_eq!(rt; bytes.as_slice(), b"hello\0\0\0\0\0\0".as_slice());
+    Ok(())
+}
+
+fn position_of<P: Positional>(of: &P) -> usize {
+    of.pos()
+}
+
+#[test]
+fn what_is_borrowed_is_as_its_owner(rt: HostRuntime) -> Result<(), Fail> {
+    let mut bytes = Vec::new(rt.alloc());
+    assert_eq!(rt; write_string(&mut &mut bytes)?, 12);
+    assert_eq!(rt; bytes.pos(), 20);
+    assert_eq!(rt; position_of(&&bytes), 20);
+    assert_eq!(rt; position_of(&&mut bytes), 20);
     Ok(())
 }
 
