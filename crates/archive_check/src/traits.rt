@@ -109,3 +109,13 @@ impl Entries for () {
 
     ghost keeps = { true };
 }
+
+/// What is borrowed tells what its owner does.
+impl<W: Tells> Tells for &mut W {
+    ghost told = { λ r. W.told r.now };
+}
+
+/// What is borrowed has its owner's keys.
+impl<S: Keys> Keys for &mut S {
+    ghost state_of = { λ r. S.state_of r.now };
+}

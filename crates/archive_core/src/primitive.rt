@@ -1,10 +1,11 @@
 //! Numbers, bools, chars and `()`: their formats, and how they are archived and read back.
 
-ghost use Rattle.std.specs.Prelude.{◌≡◌, ⊤, length, IfOk, IsOk};
+ghost use Rattle.std.specs.Prelude.{◌≡◌, ⊤, refl, length, IfOk, IfErr, IsOk};
 ghost use Rattle.archive_check.specs.Shape.{leaf, one};
 ghost use Rattle.archive_check.specs.Reads.{bytes_at};
 ghost use Rattle.archive_check.specs.Readable.{Readable};
 ghost use Rattle.archive_check.specs.Told.{KeepsKeys};
+ghost use Rattle.archive_write.specs.Sharing.{KeepsKnown, IsNoMisuse};
 ghost use Rattle.archive_write.specs.Written.{IsBeginning};
 
 use crate::place::Place;
@@ -65,6 +66,8 @@ impl<N: Source, S: Writer + Keys> Serialize<S> for N {
     fn serialize(&self, _serializer: &mut S) -> Result<(), Error>
         ensures same_value { ⊤ }
         ensures kept { IsBeginning (S.told _serializer.old).bytes (S.told _serializer.new).bytes }
+        ensures known { KeepsKnown (S.state_of _serializer.old) (S.state_of _serializer.new) }
+        ensures no_misuse { IfErr result IsNoMisuse }
         ensures unchanged { S.told _serializer.new ≡ S.told _serializer.old }
         ensures keys { KeepsKeys (S.state_of _serializer.old) (S.state_of _serializer.new) }
         ensures succeeds { IsOk result }
@@ -97,6 +100,8 @@ impl<N: Native, S: Writer + Keys> Serialize<S> for LittleEndian<N> {
     fn serialize(&self, _serializer: &mut S) -> Result<(), Error>
         ensures same_value { ⊤ }
         ensures kept { IsBeginning (S.told _serializer.old).bytes (S.told _serializer.new).bytes }
+        ensures known { KeepsKnown (S.state_of _serializer.old) (S.state_of _serializer.new) }
+        ensures no_misuse { IfErr result IsNoMisuse }
         ensures unchanged { S.told _serializer.new ≡ S.told _serializer.old }
         ensures keys { KeepsKeys (S.state_of _serializer.old) (S.state_of _serializer.new) }
         ensures succeeds { IsOk result }
