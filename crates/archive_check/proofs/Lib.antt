@@ -1,5 +1,7 @@
 pub mod BytesAt
 pub mod Landing
+pub mod Leaves
+pub mod Encodings
 pub mod Revises
 pub mod RevisedTour
 pub mod Revised
@@ -33,7 +35,6 @@ pub mod LittleEndian
 pub mod Descent
 pub mod Placed
 pub mod Ordered
-pub mod Leaves
 pub mod Arranging
 pub mod WellFormed
 pub mod PlanSizes

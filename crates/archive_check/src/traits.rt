@@ -1,7 +1,7 @@
 //! What archived types, keys and entries tell of themselves.
 
-ghost use Rattle.std.specs.Prelude.{◌≡◌, ◌⊎◌, ℕ, min, Bool, true, Option, None, List, Contains, OnOk, IfOk, IfErr};
-ghost use Rattle.archive_check.specs.Shape.{Shape, Pointee, one};
+ghost use Rattle.std.specs.Prelude.{◌≡◌, ◌⊎◌, ℕ, min, Bool, true, Option, None, Contains, OnOk, IfOk, IfErr};
+ghost use Rattle.archive_check.specs.Shape.{Name, Shape, Pointee, one};
 ghost use Rattle.archive_check.specs.Layout.{Layout as LayoutOf};
 ghost use Rattle.archive_check.specs.Expressions.{shape_of, table_of};
 ghost use Rattle.archive_check.specs.Definitions.{Definitions, HasLayout, IsAlign, listed, Extended, Conflicts};
@@ -13,6 +13,8 @@ ghost use Rattle.archive_check.specs.declared.error.Error.TheVariants.{OutOfMemo
 use crate::error::Error;
 use crate::expr::{Defs, Expr};
 use std::alloc::{Allocator, Global};
+
+mod leaves;
 
 /// What a pointer may lead to: an archived value, a slice or a text.
 pub trait ArchivePointee {
@@ -66,7 +68,7 @@ pub trait Portable: ArchivePointee {
 
     ghost has_layout: { HasLayout Self.definitions shape layout };
 
-    ghost no_others: { (name : List ℕ) (X : Shape) → Contains (listed Self.definitions) (name, X) → Reaches (listed Self.definitions) name shape };
+    ghost no_others: { (name : Name) (X : Shape) → Contains (listed Self.definitions) (name, X) → Reaches (listed Self.definitions) name shape };
 }
 
 /// What tells contracts the bytes that it holds, its room and its device's failures. It has no calls.
@@ -110,4 +112,14 @@ impl Entries for () {
     ghost entry_of = { λ _ _. None };
 
     ghost keeps = { true };
+}
+
+/// What is borrowed tells what its owner does.
+impl<W: Tells> Tells for &mut W {
+    ghost told = { λ r. W.told r.now };
+}
+
+/// What is borrowed has its owner's keys.
+impl<S: Keys> Keys for &mut S {
+    ghost state_of = { λ r. S.state_of r.now };
 }

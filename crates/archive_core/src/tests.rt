@@ -1,6 +1,6 @@
 // Worked rows: values with their archives, and buffers that are refused.
 
-ghost use Rattle.std.specs.Prelude.{◌≡◌, ⊤, refl, length};
+ghost use Rattle.std.specs.Prelude.{◌≡◌, ⊤, refl, length, IfOk};
 ghost use Rattle.std.specs.Int.{w32};
 ghost use Rattle.std.proofs.Common.{inl, inr};
 ghost use Rattle.archive_check.specs.Shape.{array, leaf, number, one, unsigned};
@@ -11,8 +11,9 @@ use crate::error::Error;
 use crate::place::Place;
 use crate::primitive::{ArchivedU32, ArchivedUsize};
 use crate::rel_ptr::signed_offset;
-use crate::ser::{Positional, ResolveExt, Serializer};
+use crate::ser::{Buffer, Positional, ResolveExt, Serializer, Writer};
 use crate::shape::{Defs, Expr, Kind, Schema};
+use crate::sharing::{Share, Sharing, SharingExt};
 use crate::string::{ArchivedStr, ArchivedString, Text, repr};
 use crate::traits::{
     Archive, ArchivePointee, ArchiveUnsized, Deserialize, DeserializeUnsized, Portable,
@@ -176,6 +177,77 @@ fn an_archive_follows_what_the_writer_holds(rt: HostRuntime) -> Result<(), Fail>
     assert_eq!(rt;
         access::<ArchivedString>(rt.alloc(), bytes.as_slice())?.as_str(),
         "hello world"
+    );
+    Ok(())
+}
+
+// Writes an archive of the value to a borrowed writer.
+fn write_to<W: Writer>(alloc: Global, value: &String, writer: &mut W) -> Result<(), Error> {
+    to_bytes_in(alloc, value, writer)?;
+    Ok(())
+}
+
+#[test]
+fn a_buffer_keeps_what_was_written_before_a_refusal(rt: HostRuntime) -> Result<(), Fail> {
+    let value = String::from_str(rt.alloc(), "hello world")?;
+    let mut bytes = [0xcc; 16];
+    let mut buffer = Buffer::from(&mut bytes);
+    let refusal = Error::BufferOverflow {
+        write_len: 8,
+        cap: 16,
+        len: 12,
+    };
+    assert_eq!(rt; write_to(rt.alloc(), &value, &mut buffer), Err(refusal));
+    assert_eq!(rt; buffer.as_slice(), b"hello world\0".as_slice());
+    assert_eq!(rt;
+        bytes.as_slice(),
+        b"hello world\0\xcc\xcc\xcc\xcc".as_slice()
+    );
+    Ok(())
+}
+
+#[test]
+fn a_buffer_leaves_the_bytes_beyond(rt: HostRuntime) -> Result<(), Fail> {
+    let value = String::from_str(rt.alloc(), "hello world")?;
+    let mut bytes = [0xcc; 256];
+    let buffer = to_bytes_in(rt.alloc(), &value, Buffer::from(&mut bytes))?;
+    let archive = b"hello world\0\x8b\0\0\0\xf4\xff\xff\xff".as_slice();
+    assert_eq!(rt; buffer.as_slice(), archive);
+    let (written, beyond) = bytes.split_at(20);
+    assert_eq!(rt; written, archive);
+    assert!(rt; beyond.iter().all(|byte| *byte == 0xcc));
+    Ok(())
+}
+
+// Writes a shared text twice. The contract of `serialize_shared` alone shows that both stand at one position.
+fn write_twice<S: Sharing + Writer>(
+    serializer: &mut S,
+    key: u64,
+    text: &Text<'_>,
+) -> Result<(usize, usize), Error>
+    ensures { IfOk result (λ p. p.0 ≡ p.1) }
+{
+    let first = serializer.serialize_shared(key, text)?;
+    let second = serializer.serialize_shared(key, text)?;
+    Ok((first, second))
+}
+
+#[test]
+fn a_shared_value_is_written_once(rt: HostRuntime) -> Result<(), Fail> {
+    let sharing = Share::new(rt.alloc());
+    let mut serializer = Serializer::new(Vec::new(rt.alloc()), rt.alloc(), sharing);
+    let (hello, world) = (Text { text: "hello" }, Text { text: "world" });
+    assert_eq!(rt; write_twice(&mut serializer, 1, &hello), Ok((0, 0)));
+    assert_eq!(rt; serializer.serialize_shared(2, &world), Ok(5));
+    assert_eq!(rt; serializer.serialize_shared(1, &hello), Ok(0));
+    serializer.start_sharing(3)?;
+    assert_eq!(rt;
+        serializer.serialize_shared(3, &hello),
+        Err(Error::CyclicSerialize)
+    );
+    assert_eq!(rt;
+        serializer.into_writer().as_slice(),
+        b"helloworld".as_slice()
     );
     Ok(())
 }

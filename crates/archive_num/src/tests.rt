@@ -1,7 +1,7 @@
 // Numbers as bytes.
 
 use crate::{ArchivedU32, Native};
-use archive_check::expr::{Defs, Expr, Kind};
+use archive_check::expr::{Defs, Expr, IntegerKind, Kind};
 use archive_check::traits::{ArchivePointee, Portable};
 use std::test::Fail;
 
@@ -30,9 +30,15 @@ fn numbers_and_their_bytes(rt: HostRuntime) -> Result<(), Fail> {
 
 #[test]
 fn a_number_is_a_leaf_of_four_bytes(rt: HostRuntime) -> Result<(), Fail> {
-    assert_eq!(rt; (u32::byte_count(), u32::kind()), (4, Kind::U32));
+    assert_eq!(rt;
+        (u32::byte_count(), u32::kind()),
+        (4, Kind::Number(IntegerKind::U32))
+    );
     assert_eq!(rt; (ArchivedU32::size(), ArchivedU32::align()), (4, 4));
-    assert_eq!(rt; ArchivedU32::expr(rt.alloc())?, Expr::Leaf(Kind::U32));
+    assert_eq!(rt;
+        ArchivedU32::expr(rt.alloc())?,
+        Expr::Leaf(Kind::Number(IntegerKind::U32))
+    );
     ArchivedU32::define(rt.alloc(), &mut Defs::new(rt.alloc()))?;
     assert_eq!(rt; ArchivedU32::pointer_metadata(&()), 0);
     Ok(())
