@@ -4,6 +4,7 @@ ghost use Rattle.std.specs.Prelude.{◌≡◌, ◌++◌, ◌<◌, ◌≤◌, ℕ
 ghost use Rattle.std.proofs.Common.{inl, inr};
 ghost use Rattle.archive_check.specs.Shape.{str as str_shape, one, text};
 ghost use Rattle.archive_check.specs.Definitions.{no_definition};
+ghost use Rattle.archive_check.specs.LeafLayout.{no_definition_reached};
 ghost use Rattle.archive_check.specs.Reads.{bytes_at};
 ghost use Rattle.archive_check.specs.Readable.{Readable, string_text};
 ghost use Rattle.archive_check.specs.declared.error.Error.TheVariants.{OutOfMemory, StringTooLong};
@@ -89,6 +90,8 @@ impl Portable for ArchivedString {
     ghost is_align = { inr (inr (inl refl)) };
 
     ghost has_layout = { record { solved = λ s k. refl } };
+
+    ghost no_others = { no_definition_reached str };
 
     fn size() -> usize {
         8

@@ -391,6 +391,8 @@ impl Portable for ArchivedSevens {
 
     ghost has_layout = { record { solved = λ s k. refl } };
 
+    ghost no_others = { no_definition_reached str };
+
     fn size() -> usize {
         100
     }

@@ -3,7 +3,7 @@
 ghost use Rattle.std.specs.Prelude.{◌≡◌, false, ⊤, refl};
 ghost use Rattle.archive_check.specs.Shape.{leaf, one, non_zero};
 ghost use Rattle.archive_check.specs.Definitions.{no_definition};
-ghost use Rattle.archive_check.specs.LeafLayout.{leaf_layout, leaf_align, leaf_has_layout};
+ghost use Rattle.archive_check.specs.LeafLayout.{leaf_layout, leaf_align, leaf_has_layout, no_definition_reached};
 ghost use Rattle.archive_check.specs.Expressions.{kind_of};
 ghost use Rattle.archive_num.specs.Digits.{is_zero};
 
@@ -100,6 +100,8 @@ impl<N: Integer> Portable for NonZero<N> {
     ghost is_align = { leaf_align (non_zero N.sign N.width) };
 
     ghost has_layout = { leaf_has_layout (non_zero N.sign N.width) };
+
+    ghost no_others = { no_definition_reached (leaf (non_zero N.sign N.width)) };
 
     fn size() -> usize {
         non_zero_kind::<N>().size()

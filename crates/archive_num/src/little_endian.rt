@@ -3,7 +3,7 @@
 ghost use Rattle.std.specs.Prelude.{◌≡◌, refl};
 ghost use Rattle.archive_check.specs.Shape.{leaf, one};
 ghost use Rattle.archive_check.specs.Definitions.{no_definition};
-ghost use Rattle.archive_check.specs.LeafLayout.{leaf_layout, leaf_align, leaf_has_layout};
+ghost use Rattle.archive_check.specs.LeafLayout.{leaf_layout, leaf_align, leaf_has_layout, no_definition_reached};
 
 use crate::Native;
 use archive_check::error::Error;
@@ -77,6 +77,8 @@ impl<N: Native> Portable for LittleEndian<N> {
     ghost is_align = { leaf_align N.kind };
 
     ghost has_layout = { leaf_has_layout N.kind };
+
+    ghost no_others = { no_definition_reached (leaf N.kind) };
 
     fn size() -> usize {
         N::kind().size()
