@@ -26,3 +26,10 @@ pub mod Trails
 pub mod Exists
 pub mod Positive
 pub mod Views
+pub mod Costs
+pub mod Turning
+pub mod Meeting
+pub mod Entering
+pub mod LegalBytes
+pub mod Following
+pub mod Steps

@@ -26,3 +26,7 @@ pub mod Told
 pub mod Schemas
 pub mod Runs
 pub mod Represents
+pub mod Closed
+pub mod Faults
+pub mod Fresh
+pub mod Turns

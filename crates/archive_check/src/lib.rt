@@ -2,10 +2,12 @@
 #![tactic(auto)]
 
 pub mod bytes;
+pub mod check;
 pub mod error;
 pub mod expr;
 pub mod laws;
 pub mod layout;
+pub mod leaf;
 pub mod plan;
 pub mod shape;
 #[cfg(test)]

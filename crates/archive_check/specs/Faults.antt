@@ -1,0 +1,21 @@
+-- Which refusal says which fault.
+use Rattle.std.specs.Prelude.{◌≡◌, ℕ, pos, List}
+use Rattle.std.specs.Borrow.{Bor}
+use Rattle.archive_check.specs.declared.error.Error.{Error}
+use Rattle.archive_check.specs.declared.error.Error.TheVariants.{InvalidSubtreePointer, UnalignedPointer, ExceededMaximumSubtreeDepth, CyclicValidate, TypeMismatch, MetadataMismatch, LayoutTooLarge, InvalidDiscriminant, InvalidUtf8, InvalidStringRepr}
+use Rattle.archive_check.specs.Trail.{Fault, too_large, outside, unaligned, too_deep, cyclic, other_type, other_length, illegal, no_such_variant, no_text, no_string}
+use Rattle.archive_check.specs.Runs.{illegal_error}
+
+-- the refusal says the fault
+abbrev pub IsFor : Fault → Error → Type 0
+IsFor too_large e = e ≡ LayoutTooLarge
+IsFor (outside where_to size start stop) e = e ≡ InvalidSubtreePointer where_to size start stop
+IsFor (unaligned t align) e = e ≡ UnalignedPointer (pos t) align
+IsFor too_deep e = e ≡ ExceededMaximumSubtreeDepth
+IsFor cyclic e = e ≡ CyclicValidate
+IsFor other_type e = e ≡ TypeMismatch
+IsFor other_length e = e ≡ MetadataMismatch
+IsFor (illegal kind) e = e ≡ illegal_error kind
+IsFor (no_such_variant name tag) e = (b : Bor (List ℕ)) × (e ≡ InvalidDiscriminant b tag) × (b.now ≡ name)
+IsFor no_text e = e ≡ InvalidUtf8
+IsFor no_string e = e ≡ InvalidStringRepr

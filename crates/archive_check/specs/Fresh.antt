@@ -1,0 +1,10 @@
+-- A check that begins.
+use Rattle.std.specs.Prelude.{◌≡◌, ◌≢◌, ℕ, ◌<◌, ℤ, Some, None}
+use Rattle.archive_check.specs.Ranges.{RangeState}
+use Rattle.archive_check.specs.Met.{Positions}
+
+-- nothing was met yet, and levels are left
+pub record IsFresh (s : RangeState) (met : Positions) : Type 0 where
+  pub nothing : (position : ℤ) → met position ≡ None
+  pub levels : s.depth ≢ Some 0
+  pub few : (d : ℕ) → s.depth ≡ Some d → d < 18446744073709551616
