@@ -48,15 +48,15 @@ astray m j n target s (negsuc k) size align e reg h =
     (outside (negsuc k) size s.start s.end, cc, λ pending seen. enter_outside reg (λ t is above below. negative k t is))
 astray m j n target s (pos k) size align e reg h = astray_by m j n target s k size align e reg (nat_le s.start k) (nat_le (k + size) s.end) (nat_eq (k % align) 0) refl refl refl h
   where
-  astray_by : (m : Checker) (j n : ℕ) (target : Target) (s : RangeState) (k : ℕ) (size align : ℕ) (e : Error) → RegionIs m j n (Some size) align → (a b d : Bool) → nat_le s.start k ≡ a → nat_le (k + size) s.end ≡ b → nat_eq (k % align) 0 ≡ d → Err e ≡ subtree_answer s (pos k) size align
-      → (f : Fault) × IsFor f e × ((pending : List ℕ) (seen : Seen) → EnterRuns m pending s.depth s.end target j n (pos k) s.start seen (refused f))
-  astray_by m j n target s k size align e reg true true true p q r h = absurd (grind (arith, nat_tests))
-  astray_by m j n target s k size align e reg true true false p q r h =
-      (unaligned k align, grind (arith, nat_tests), λ pending seen. enter_unaligned reg refl (grind (arith, nat_tests)) (grind (arith, nat_tests)) (grind (arith, nat_tests)))
-  astray_by m j n target s k size align e reg true false d p q r h =
-      (outside (pos k) size s.start s.end, grind (arith, nat_tests), λ pending seen. enter_outside reg (λ t is above below. let same : k ≡ t = pos_same k t is in grind (arith, nat_tests)))
-  astray_by m j n target s k size align e reg false b d p q r h =
-      (outside (pos k) size s.start s.end, grind (arith, nat_tests), λ pending seen. enter_outside reg (λ t is above below. let same : k ≡ t = pos_same k t is in grind (arith, nat_tests)))
+    astray_by : (m : Checker) (j n : ℕ) (target : Target) (s : RangeState) (k : ℕ) (size align : ℕ) (e : Error) → RegionIs m j n (Some size) align → (a b d : Bool) → nat_le s.start k ≡ a → nat_le (k + size) s.end ≡ b → nat_eq (k % align) 0 ≡ d → Err e ≡ subtree_answer s (pos k) size align
+        → (f : Fault) × IsFor f e × ((pending : List ℕ) (seen : Seen) → EnterRuns m pending s.depth s.end target j n (pos k) s.start seen (refused f))
+    astray_by m j n target s k size align e reg true true true p q r h = absurd (grind (arith, nat_tests))
+    astray_by m j n target s k size align e reg true true false p q r h =
+        (unaligned k align, grind (arith, nat_tests), λ pending seen. enter_unaligned reg refl (grind (arith, nat_tests)) (grind (arith, nat_tests)) (grind (arith, nat_tests)))
+    astray_by m j n target s k size align e reg true false d p q r h =
+        (outside (pos k) size s.start s.end, grind (arith, nat_tests), λ pending seen. enter_outside reg (λ t is above below. let same : k ≡ t = pos_same k t is in grind (arith, nat_tests)))
+    astray_by m j n target s k size align e reg false b d p q r h =
+        (outside (pos k) size s.start s.end, grind (arith, nat_tests), λ pending seen. enter_outside reg (λ t is above below. let same : k ≡ t = pos_same k t is in grind (arith, nat_tests)))
 
 -- the last level lets no region be entered
 last_level : (d : Option ℕ) → d ≡ Some 1 → Allows d 1 → ⊥
@@ -131,18 +131,26 @@ module _ (m : Checker) (s s' : RangeState) (met met' : Positions) (j n : ℕ) (z
   agreed new e f a = rw (h.depth, h.same, e, f) (agrees_inside a (allows a h.deep))
 
   pub entered_empty : (target : Target) → size ≡ 0 → Leads m (Entering m target j n z) (stage s met old) (stage s' met' mid)
-  entered_empty target none seen a =
-      (seen, agreed mid (ap pending_in h.list) (ap regions_in h.list) a,
-        λ o r. entering {target = target} (enter_empty m h.region h.lands.above h.lands.below h.lands.aligned (allows a h.deep) none (moved h.list r)))
+  entered_empty target none seen a = (
+    seen,
+    agreed mid (ap pending_in h.list) (ap regions_in h.list) a,
+    λ o r. entering {target = target} (enter_empty m h.region h.lands.above h.lands.below h.lands.aligned (allows a h.deep) none (moved h.list r)),
+  )
 
   pub entered_text : IsUtf8 (bytes_at m.bytes.now t size) → Leads m (Entering m Text j n z) (stage s met old) (stage s' met' mid)
-  entered_text utf seen a =
-      (seen, agreed mid (ap pending_in h.list) (ap regions_in h.list) a,
-        λ o r. entering {target = Text} (enter_text m h.region h.lands.above h.lands.below h.lands.aligned (allows a h.deep) utf (moved h.list r)))
+  entered_text utf seen a = (
+    seen,
+    agreed mid (ap pending_in h.list) (ap regions_in h.list) a,
+    λ o r. entering {target = Text} (enter_text m h.region h.lands.above h.lands.below h.lands.aligned (allows a h.deep) utf (moved h.list r)),
+  )
 
   pub entered_no_text : (IsUtf8 (bytes_at m.bytes.now t size) → ⊥) → IsStopped m Text j n z s InvalidUtf8
-  entered_no_text wrong = inr (λ some. (no_text, refl, λ pending seen.
-      enter_stop h.region h.lands.target h.lands.above h.lands.below h.lands.aligned (levels_allow s.depth some h.deep) (contents_no_text wrong)))
+  entered_no_text wrong = inr (λ some. (
+    no_text,
+    refl,
+    λ pending seen.
+        enter_stop h.region h.lands.target h.lands.above h.lands.below h.lands.aligned (levels_allow s.depth some h.deep) (contents_no_text wrong),
+  ))
 
   module _ (new : List Work) (lt : 0 < size) where
     region_takes : (y : ℕ) × Takes m j y × (n * y ≡ size)
@@ -152,15 +160,19 @@ module _ (m : Checker) (s s' : RangeState) (met met' : Positions) (j n : ℕ) (z
 
     pub entered_one : new ≡ PartWork j t ∷ mid → Leads m (Entering m One j n z) (stage s met old) (stage s' met' new)
     entered_one e seen a =
-        let list : new ≡ PartWork j t ∷ Leave (t + size) s.end ∷ old = e ∙ ap (λ w. PartWork j t ∷ w) h.list in
-        (seen, agreed new (ap pending_in list) (ap regions_in list) a,
-          λ o r. entering {target = One} (enter_one m h.region h.lands.above h.lands.below h.lands.aligned (allows a h.deep) lt (moved list r)))
+        let list : new ≡ PartWork j t ∷ Leave (t + size) s.end ∷ old = e ∙ ap (λ w. PartWork j t ∷ w) h.list in (
+          seen,
+          agreed new (ap pending_in list) (ap regions_in list) a,
+          λ o r. entering {target = One} (enter_one m h.region h.lands.above h.lands.below h.lands.aligned (allows a h.deep) lt (moved list r)),
+        )
 
     pub entered_run : new ≡ Elements j n t ∷ mid → Leads m (Entering m Run j n z) (stage s met old) (stage s' met' new)
     entered_run e seen a =
-        let list : new ≡ Elements j n t ∷ Leave (t + size) s.end ∷ old = e ∙ ap (λ w. Elements j n t ∷ w) h.list in
-        (seen, agreed new (ap pending_in list) (ap regions_in list) a,
-          λ o r. entering {target = Run} (enter_run m h.region h.lands.above h.lands.below h.lands.aligned (allows a h.deep) lt (moved list r)))
+        let list : new ≡ Elements j n t ∷ Leave (t + size) s.end ∷ old = e ∙ ap (λ w. Elements j n t ∷ w) h.list in (
+          seen,
+          agreed new (ap pending_in list) (ap regions_in list) a,
+          λ o r. entering {target = Run} (enter_run m h.region h.lands.above h.lands.below h.lands.aligned (allows a h.deep) lt (moved list r)),
+        )
 
     pub entered_one_ready : Ready m s old → n ≡ 1 → new ≡ PartWork j t ∷ mid → Ready m s' new
     entered_one_ready r one e =
@@ -183,12 +195,12 @@ module _ (m : Checker) (s s' : RangeState) (met met' : Positions) (j n : ℕ) (z
     pub entered_one_ends : j < length m.nodes.now → new ≡ PartWork j t ∷ mid → cost m s'.end new ≤ power (level (length m.nodes.now) s.end 0 0) + cost m s.end old
     entered_one_ends known e =
         rw (e ∙ ap (λ w. PartWork j t ∷ w) h.list) (falls_enter (level (length m.nodes.now) s'.end j 18446744073709551616) (level (length m.nodes.now) s.end 0 0) (cost m s.end old)
-          (level_end (length m.nodes.now) s.end s'.end 0 0 j 18446744073709551616 (omega (arith, h.end, h.lands.below)) (omega arith) (omega arith)))
+        (level_end (length m.nodes.now) s.end s'.end 0 0 j 18446744073709551616 (omega (arith, h.end, h.lands.below)) (omega arith) (omega arith)))
 
     pub entered_run_ends : j < length m.nodes.now → n < 18446744073709551616 → new ≡ Elements j n t ∷ mid → cost m s'.end new ≤ power (level (length m.nodes.now) s.end 0 0) + cost m s.end old
     entered_run_ends known few e =
         rw (e ∙ ap (λ w. Elements j n t ∷ w) h.list) (falls_enter (level (length m.nodes.now) s'.end (j + 1) n) (level (length m.nodes.now) s.end 0 0) (cost m s.end old)
-          (level_end (length m.nodes.now) s.end s'.end 0 0 (j + 1) n (omega (arith, h.end, h.lands.below)) (omega arith) (omega arith)))
+        (level_end (length m.nodes.now) s.end s'.end 0 0 (j + 1) n (omega (arith, h.end, h.lands.below)) (omega arith) (omega arith)))
 
 pub not_true : (b : Bool) → b ≡ false → IsTrue b → ⊥
 not_true b e h = cc

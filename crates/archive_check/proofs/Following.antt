@@ -24,7 +24,7 @@ use Rattle.archive_check.proofs.Meeting.{agrees_same, SeenAs, seen_as, met_none,
 use Rattle.archive_check.proofs.Turning.{turn_new}
 
 module _ (m : Checker) (s : RangeState) (met : Positions) (old : List Work) (k j p n l : ℕ) (target : Target) (z : ℤ) (sort : Sort)
-  (at : IsAt m.sorts.now k sort) (n_is : n ≡ count_at m.bytes.now p target) (l_is : l ≡ length_of m.bytes.now p target) (z_is : z ≡ pos p +ℤ i32_at m.bytes.now p) where
+    (at : IsAt m.sorts.now k sort) (n_is : n ≡ count_at m.bytes.now p target) (l_is : l ≡ length_of m.bytes.now p target) (z_is : z ≡ pos p +ℤ i32_at m.bytes.now p) where
   abbrev here : Entry
   here = entry_for sort l
 
@@ -40,22 +40,22 @@ module _ (m : Checker) (s : RangeState) (met : Positions) (old : List Work) (k j
   seen_at : (seen : Seen) (e : Entry) (over : Bool) (a : Agreeing (stage s met old) seen) → met z ≡ Some (record { entry = e; finished = over }) → Seen_at seen e over a
   seen_at seen e over a is = seen_at_by z refl
     where
-    seen_at_by : (q : ℤ) → z ≡ q → Seen_at seen e over a
-    seen_at_by (pos t) same = record { t = t; target_is = same; seen_is = seen_as a t e over (ap met (sym same) ∙ is) }
-    seen_at_by (negsuc t) same = absurd (let none = a.before t in let some = ap met (sym same) ∙ is in cc)
+      seen_at_by : (q : ℤ) → z ≡ q → Seen_at seen e over a
+      seen_at_by (pos t) same = record { t = t; target_is = same; seen_is = seen_as a t e over (ap met (sym same) ∙ is) }
+      seen_at_by (negsuc t) same = absurd (let none = a.before t in let some = ap met (sym same) ∙ is in cc)
 
   pub follow_refuses : (e : Error) → IsStartAnswer (met z) here (Err e) → Refuses (Following m k target j p) (stage s met old) e
   follow_refuses e h = answered (met z) refl e h
     where
-    answered : (o : Option Met) → met z ≡ o → (e : Error) → IsStartAnswer o here (Err e) → Refuses (Following m k target j p) (stage s met old) e
-    answered None is e h = inl h
-    answered (Some was) is TypeMismatch h = inr (λ seen a.
-        let at_t = seen_at seen was.entry was.finished a is in
-        (other_type, refl, following (stops (follow_type at at_t.target_is at_t.seen_is.is h))))
-    answered (Some was) is MetadataMismatch h = inr (λ seen a.
-        let at_t = seen_at seen was.entry was.finished a is in
-        (other_length, refl, following (stops (follow_length at at_t.target_is at_t.seen_is.is h.0 h.1))))
-    answered (Some was) is e h = absurd h
+      answered : (o : Option Met) → met z ≡ o → (e : Error) → IsStartAnswer o here (Err e) → Refuses (Following m k target j p) (stage s met old) e
+      answered None is e h = inl h
+      answered (Some was) is TypeMismatch h = inr (λ seen a.
+          let at_t = seen_at seen was.entry was.finished a is in
+          (other_type, refl, following (stops (follow_type at at_t.target_is at_t.seen_is.is h))))
+      answered (Some was) is MetadataMismatch h = inr (λ seen a.
+          let at_t = seen_at seen was.entry was.finished a is in
+          (other_length, refl, following (stops (follow_length at at_t.target_is at_t.seen_is.is h.0 h.1))))
+      answered (Some was) is e h = absurd h
 
   pub follow_cyclic : met z ≡ Some (record { entry = here; finished = false }) → sort.flavor.cycles ≡ false → Refuses (Following m k target j p) (stage s met old) CyclicValidate
   follow_cyclic is none = inr (λ seen a.
@@ -69,9 +69,9 @@ module _ (m : Checker) (s : RangeState) (met : Positions) (old : List Work) (k j
         let again : Agreeing (stage s1 met1 old) seen = rw (same, starts) (agrees_same (started_again a z here _ is) a) in
         (seen, again, λ o r. following (and_then (follow_again at at_t.target_is at_t.seen_is.is (free_of over at_t.seen_is.gone free)) (rw same at r)))
       where
-      free_of : {A : Type 0} (b : Bool) → (b ≡ true → A → ⊥) → (b ≡ false → IsTrue sort.flavor.cycles) → (A → ⊥) ⊎ IsTrue sort.flavor.cycles
-      free_of true gone cycles = inl (gone refl)
-      free_of false gone cycles = inr (cycles refl)
+        free_of : {A : Type 0} (b : Bool) → (b ≡ true → A → ⊥) → (b ≡ false → IsTrue sort.flavor.cycles) → (A → ⊥) ⊎ IsTrue sort.flavor.cycles
+        free_of true gone cycles = inl (gone refl)
+        free_of false gone cycles = inr (cycles refl)
 
     module _ (new : met z ≡ None) where
       refused_by : {f : Fault} → ((pending : List ℕ) (seen : Seen) → EnterRuns m pending s.depth s.end target j n z s.start seen (refused f)) → (seen : Seen) → Agreeing (stage s met old) seen → (q : ℤ) → z ≡ q → FollowRuns m (pending_in old) s.depth s.end k target j n l z s.start seen (refused f)

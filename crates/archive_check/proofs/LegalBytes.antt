@@ -33,9 +33,9 @@ zero_sum : (f : ℕ → ℕ) (k : ℕ) → sum_through f k ≡ 0 → (i : ℕ) �
 zero_sum f zero e i lt = let first : i ≡ 0 = omega arith in ap f first ∙ e
 zero_sum f (suc k) e i lt = at (zero_sum f k (omega arith) i) (nat_eq i (suc k)) refl
   where
-  at : (i < suc k → f i ≡ 0) → (b : Bool) → nat_eq i (suc k) ≡ b → f i ≡ 0
-  at before true q = let last : i ≡ suc k = grind (arith, nat_tests) in ap f last ∙ omega arith
-  at before false q = let other : i ≢ suc k = grind (arith, nat_tests) in before (omega arith)
+    at : (i < suc k → f i ≡ 0) → (b : Bool) → nat_eq i (suc k) ≡ b → f i ≡ 0
+    at before true q = let last : i ≡ suc k = grind (arith, nat_tests) in ap f last ∙ omega arith
+    at before false q = let other : i ≢ suc k = grind (arith, nat_tests) in before (omega arith)
 
 power_some : (k : ℕ) → 0 < 256 ^ k
 power_some zero = omega arith
@@ -60,17 +60,17 @@ byte_in bytes p n i h = grind (arith, common_steps)
 some_or_none : (f : ℕ → ℕ) (n : ℕ) → ((i : ℕ) × (i < n) × (f i ≢ 0)) ⊎ ((i : ℕ) → i < n → f i ≡ 0)
 some_or_none f zero = inr (λ i lt. absurd (omega arith))
 some_or_none f (suc n) = elim (some_or_none f n) [
-    | inl h ↦ inl (h.0, omega (arith, h.1), h.2)
-    | inr h ↦ last (f n) refl h
-  ]
+  | inl h ↦ inl (h.0, omega (arith, h.1), h.2)
+  | inr h ↦ last (f n) refl h
+]
   where
-  last : (b : ℕ) → f n ≡ b → ((i : ℕ) → i < n → f i ≡ 0) → ((i : ℕ) × (i < suc n) × (f i ≢ 0)) ⊎ ((i : ℕ) → i < suc n → f i ≡ 0)
-  last zero e h = inr (λ i lt. all (nat_eq i n) i lt refl)
-    where
-    all : (b : Bool) (i : ℕ) → i < suc n → nat_eq i n ≡ b → f i ≡ 0
-    all true i lt q = let same : i ≡ n = grind (arith, nat_tests) in ap f same ∙ e
-    all false i lt q = let other : i ≢ n = grind (arith, nat_tests) in h i (omega arith)
-  last (suc b) e h = inl (n, omega arith, λ q. omega arith)
+    last : (b : ℕ) → f n ≡ b → ((i : ℕ) → i < n → f i ≡ 0) → ((i : ℕ) × (i < suc n) × (f i ≢ 0)) ⊎ ((i : ℕ) → i < suc n → f i ≡ 0)
+    last zero e h = inr (λ i lt. all (nat_eq i n) i lt refl)
+      where
+        all : (b : Bool) (i : ℕ) → i < suc n → nat_eq i n ≡ b → f i ≡ 0
+        all true i lt q = let same : i ≡ n = grind (arith, nat_tests) in ap f same ∙ e
+        all false i lt q = let other : i ≢ n = grind (arith, nat_tests) in h i (omega arith)
+    last (suc b) e h = inl (n, omega arith, λ q. omega arith)
 
 width_some : (w : Width) → 0 < byte_len w
 width_some w8 = omega arith
@@ -84,15 +84,16 @@ pub legal_non_zero : (s : Sign) (w : Width) (bytes : List ℕ) (p n : ℕ) → n
     × (IsLegal (non_zero s w) (bytes_at bytes p (byte_len w)) → (i : ℕ) × (i < n) × (slice_index bytes (p + i) ≢ 0))
 unfolding kind_number
 legal_non_zero s w bytes p n e room =
-    let worth = λ (i : ℕ). byte_worth i (slice_index (bytes_at bytes p (byte_len w)) i) in
-    (λ (i, lt, some). record {
-      size = bytes_long bytes p (byte_len w) room;
-      number = λ zeroed. some (sym (byte_in bytes p (byte_len w) i (omega arith)) ∙ worth_zero i _ (zero_sum worth (byte_len w - 1) zeroed i (omega arith)));
-    },
-    λ l. elim (some_or_none (λ i. slice_index bytes (p + i)) n) [
-      | inl h ↦ h
-      | inr none ↦ absurd (l.number (sum_zero worth (byte_len w - 1) (λ i lt. zero_worth i _ (byte_in bytes p (byte_len w) i (omega (arith, width_some w)) ∙ none i (omega (arith, width_some w))))))
-    ])
+    let worth = λ (i : ℕ). byte_worth i (slice_index (bytes_at bytes p (byte_len w)) i) in (
+      λ (i, lt, some). record {
+        size = bytes_long bytes p (byte_len w) room;
+        number = λ zeroed. some (sym (byte_in bytes p (byte_len w) i (omega arith)) ∙ worth_zero i _ (zero_sum worth (byte_len w - 1) zeroed i (omega arith)));
+      },
+      λ l. elim (some_or_none (λ i. slice_index bytes (p + i)) n) [
+        | inl h ↦ h
+        | inr none ↦ absurd (l.number (sum_zero worth (byte_len w - 1) (λ i lt. zero_worth i _ (byte_in bytes p (byte_len w) i (omega (arith, width_some w)) ∙ none i (omega (arith, width_some w))))))
+      ],
+    )
 
 -- any bytes are such a leaf
 abbrev pub IsAny : KindExpr → Type 0

@@ -33,3 +33,4 @@ pub mod Entering
 pub mod LegalBytes
 pub mod Following
 pub mod Steps
+pub mod Running

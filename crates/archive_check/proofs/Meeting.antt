@@ -36,9 +36,9 @@ same_or_not t q = elim (nat_eq t q) as (λ b. nat_eq t q ≡ b → (t ≡ q) ⊎
 contains_or_not : (ts : List ℕ) (q : ℕ) → Contains ts q ⊎ (Contains ts q → ⊥)
 contains_or_not [] q = inr (λ h. let lt = h.1 in omega arith)
 contains_or_not (t ∷ ts) q = elim (same_or_not t q) [
-    | inl e ↦ inl (0, omega arith, e)
-    | inr other ↦ elim (contains_or_not ts q) [ inl h ↦ inl (contains_tail t q ts h) | inr none ↦ inr (λ h. none (contains_other t q ts other h)) ]
-  ]
+  | inl e ↦ inl (0, omega arith, e)
+  | inr other ↦ elim (contains_or_not ts q) [ inl h ↦ inl (contains_tail t q ts h) | inr none ↦ inr (λ h. none (contains_other t q ts other h)) ]
+]
 
 -- positions
 
@@ -116,11 +116,11 @@ module _ {d : Option ℕ} {met : Positions} {pd : List ℕ} {r : ℕ} {seen : Se
       elim (get seen t) as (λ g. get seen t ≡ g → SeenAs t e b) [
         | None ↦ λ none. absurd (met_not t e b is none)
         | Some old ↦ λ some. elim (contains_or_not pd t) [
-            | inl inside ↦ let same = entry_same t e old b false is (h.begun t old some inside) in
-                record { is = some ∙ ap Some same.0; here = λ q. inside; gone = λ q. absurd (let c = same.1 in cc) }
-            | inr outside ↦ let same = entry_same t e old b true is (h.over t old some outside) in
-                record { is = some ∙ ap Some same.0; here = λ q. absurd (let c = same.1 in cc); gone = λ q. outside }
-          ]
+          | inl inside ↦ let same = entry_same t e old b false is (h.begun t old some inside) in
+              record { is = some ∙ ap Some same.0; here = λ q. inside; gone = λ q. absurd (let c = same.1 in cc) }
+          | inr outside ↦ let same = entry_same t e old b true is (h.over t old some outside) in
+              record { is = some ∙ ap Some same.0; here = λ q. absurd (let c = same.1 in cc); gone = λ q. outside }
+        ]
       ] refl
 
   pub met_none : (t : ℕ) → met (pos t) ≡ None → get seen t ≡ None
@@ -128,9 +128,9 @@ module _ {d : Option ℕ} {met : Positions} {pd : List ℕ} {r : ℕ} {seen : Se
       elim (get seen t) as (λ g. get seen t ≡ g → get seen t ≡ None) [
         | None ↦ λ none. none
         | Some old ↦ λ some. elim (contains_or_not pd t) [
-            | inl inside ↦ absurd (let x = h.begun t old some inside in cc)
-            | inr outside ↦ absurd (let x = h.over t old some outside in cc)
-          ]
+          | inl inside ↦ absurd (let x = h.begun t old some inside in cc)
+          | inr outside ↦ absurd (let x = h.over t old some outside in cc)
+        ]
       ] refl
 
   -- a new position is started
@@ -140,24 +140,24 @@ module _ {d : Option ℕ} {met : Positions} {pd : List ℕ} {r : ℕ} {seen : Se
       record {
         before = λ n. update_apart met (pos t) (negsuc n) (Some (started_at (met (pos t)) e)) (signs_apart t n) ∙ h.before n;
         new = λ q is. elim (same_or_not t q) [
-            | inl same ↦ absurd (let here = insert_here seen t e in let gone : get (insert seen t e) t ≡ None = ap (λ k. get (insert seen t e) k) same ∙ is in cc)
-            | inr other ↦ update_apart met (pos t) (pos q) (Some (started_at (met (pos t)) e)) (pos_apart t q other) ∙ h.new q (sym (insert_apart seen t q e other) ∙ is)
-          ];
+          | inl same ↦ absurd (let here = insert_here seen t e in let gone : get (insert seen t e) t ≡ None = ap (λ k. get (insert seen t e) k) same ∙ is in cc)
+          | inr other ↦ update_apart met (pos t) (pos q) (Some (started_at (met (pos t)) e)) (pos_apart t q other) ∙ h.new q (sym (insert_apart seen t q e other) ∙ is)
+        ];
         begun = λ q old is inside. elim (same_or_not t q) [
-            | inl same ↦
-                let here : get (insert seen t e) q ≡ Some e = rw (← same) (insert_here seen t e) in
-                let equal : ◌≡◌ {A = Entry} e old = some_same (sym here ∙ is) in
-                ap (λ k. started met (pos t) e (pos k)) (sym same) ∙ update_here met (pos t) (Some (started_at (met (pos t)) e)) ∙ ap (λ o. Some (started_at o e)) none ∙ ap (λ k. Some (record { entry = k; finished = false })) equal
-            | inr other ↦ update_apart met (pos t) (pos q) (Some (started_at (met (pos t)) e)) (pos_apart t q other) ∙ h.begun q old (sym (insert_apart seen t q e other) ∙ is) (contains_other t q pd other inside)
-          ];
+          | inl same ↦
+              let here : get (insert seen t e) q ≡ Some e = rw (← same) (insert_here seen t e) in
+              let equal : ◌≡◌ {A = Entry} e old = some_same (sym here ∙ is) in
+              ap (λ k. started met (pos t) e (pos k)) (sym same) ∙ update_here met (pos t) (Some (started_at (met (pos t)) e)) ∙ ap (λ o. Some (started_at o e)) none ∙ ap (λ k. Some (record { entry = k; finished = false })) equal
+          | inr other ↦ update_apart met (pos t) (pos q) (Some (started_at (met (pos t)) e)) (pos_apart t q other) ∙ h.begun q old (sym (insert_apart seen t q e other) ∙ is) (contains_other t q pd other inside)
+        ];
         over = λ q old is outside. elim (same_or_not t q) [
-            | inl same ↦ absurd (outside (0, omega arith, same))
-            | inr other ↦ update_apart met (pos t) (pos q) (Some (started_at (met (pos t)) e)) (pos_apart t q other) ∙ h.over q old (sym (insert_apart seen t q e other) ∙ is) (λ k. outside (contains_tail t q pd k))
-          ];
+          | inl same ↦ absurd (outside (0, omega arith, same))
+          | inr other ↦ update_apart met (pos t) (pos q) (Some (started_at (met (pos t)) e)) (pos_apart t q other) ∙ h.over q old (sym (insert_apart seen t q e other) ∙ is) (λ k. outside (contains_tail t q pd k))
+        ];
         known = λ q inside is. elim (same_or_not t q) [
-            | inl same ↦ let here : get (insert seen t e) q ≡ Some e = rw (← same) (insert_here seen t e) in cc
-            | inr other ↦ h.known q (contains_other t q pd other inside) (sym (insert_apart seen t q e other) ∙ is)
-          ];
+          | inl same ↦ let here : get (insert seen t e) q ≡ Some e = rw (← same) (insert_here seen t e) in cc
+          | inr other ↦ h.known q (contains_other t q pd other inside) (sym (insert_apart seen t q e other) ∙ is)
+        ];
         once = (λ inside. h.known t inside there, h.once);
         levels = h.levels;
         few = h.few;
@@ -175,11 +175,11 @@ module _ {d : Option ℕ} {met : Positions} {pd : List ℕ} {r : ℕ} {seen : Se
   pub allows : (d ≡ Some 1 → ⊥) → Allows d 1
   allows not = allows_by d refl
     where
-    allows_by : (o : Option ℕ) → o ≡ d → Allows o 1
-    allows_by None is = tt
-    allows_by (Some zero) is = absurd (h.levels (sym is))
-    allows_by (Some (suc zero)) is = absurd (not (sym is))
-    allows_by (Some (suc (suc n))) is = omega arith
+      allows_by : (o : Option ℕ) → o ≡ d → Allows o 1
+      allows_by None is = tt
+      allows_by (Some zero) is = absurd (h.levels (sym is))
+      allows_by (Some (suc zero)) is = absurd (not (sym is))
+      allows_by (Some (suc (suc n))) is = omega arith
 
   pub agrees_inside : Allows d 1 → Agrees (one_less d) met pd (1 + r) seen
   agrees_inside deep = record {
@@ -193,13 +193,13 @@ module _ {d : Option ℕ} {met : Positions} {pd : List ℕ} {r : ℕ} {seen : Se
     few = λ n is. inside_few d n deep h.few is;
   }
     where
-    inside_levels : (o : Option ℕ) → Allows o 1 → one_less o ≢ Some 0
-    inside_levels None a e = cc
-    inside_levels (Some n) a e = let zeroed : n - 1 ≡ 0 = cc in omega arith
+      inside_levels : (o : Option ℕ) → Allows o 1 → one_less o ≢ Some 0
+      inside_levels None a e = cc
+      inside_levels (Some n) a e = let zeroed : n - 1 ≡ 0 = cc in omega arith
 
-    inside_few : (o : Option ℕ) (n : ℕ) → Allows o 1 → ((k : ℕ) → o ≡ Some k → k + r < 18446744073709551616) → one_less o ≡ Some n → n + (1 + r) < 18446744073709551616
-    inside_few None n a few e = cc
-    inside_few (Some k) n a few e = let less : k - 1 ≡ n = cc in let most = few k refl in omega arith
+      inside_few : (o : Option ℕ) (n : ℕ) → Allows o 1 → ((k : ℕ) → o ≡ Some k → k + r < 18446744073709551616) → one_less o ≡ Some n → n + (1 + r) < 18446744073709551616
+      inside_few None n a few e = cc
+      inside_few (Some k) n a few e = let less : k - 1 ≡ n = cc in let most = few k refl in omega arith
 
 module _ {d : Option ℕ} {met : Positions} {t : ℕ} {rest : List ℕ} {r : ℕ} {seen : Seen} (h : Agrees d met (t ∷ rest) r seen) where
   over_of : Met → Met
@@ -210,20 +210,20 @@ module _ {d : Option ℕ} {met : Positions} {t : ℕ} {rest : List ℕ} {r : ℕ
   agrees_finished = record {
     before = λ n. update_apart met (pos t) (negsuc n) (option_map (λ old. record { entry = old.entry; finished = true }) (met (pos t))) (signs_apart t n) ∙ h.before n;
     new = λ q is. elim (same_or_not t q) [
-        | inl same ↦ absurd (h.known q (0, omega arith, same) is)
-        | inr other ↦ update_apart met (pos t) (pos q) (option_map (λ old. record { entry = old.entry; finished = true }) (met (pos t))) (pos_apart t q other) ∙ h.new q is
-      ];
+      | inl same ↦ absurd (h.known q (0, omega arith, same) is)
+      | inr other ↦ update_apart met (pos t) (pos q) (option_map (λ old. record { entry = old.entry; finished = true }) (met (pos t))) (pos_apart t q other) ∙ h.new q is
+    ];
     begun = λ q e is inside. elim (same_or_not t q) [
-        | inl same ↦ absurd (h.once.0 (rw (← same) at inside))
-        | inr other ↦ update_apart met (pos t) (pos q) (option_map (λ old. record { entry = old.entry; finished = true }) (met (pos t))) (pos_apart t q other) ∙ h.begun q e is (contains_tail t q rest inside)
-      ];
+      | inl same ↦ absurd (h.once.0 (rw (← same) at inside))
+      | inr other ↦ update_apart met (pos t) (pos q) (option_map (λ old. record { entry = old.entry; finished = true }) (met (pos t))) (pos_apart t q other) ∙ h.begun q e is (contains_tail t q rest inside)
+    ];
     over = λ q e is outside. elim (same_or_not t q) [
-        | inl same ↦
-            ap (λ k. finished met (pos t) (pos k)) (sym same)
-            ∙ update_here met (pos t) (option_map (λ old. record { entry = old.entry; finished = true }) (met (pos t)))
-            ∙ ap (option_map (λ old. record { entry = old.entry; finished = true })) (ap (λ k. met (pos k)) same ∙ h.begun q e is (0, omega arith, same))
-        | inr other ↦ update_apart met (pos t) (pos q) (option_map (λ old. record { entry = old.entry; finished = true }) (met (pos t))) (pos_apart t q other) ∙ h.over q e is (λ k. outside (contains_other t q rest other k))
-      ];
+      | inl same ↦
+          ap (λ k. finished met (pos t) (pos k)) (sym same)
+          ∙ update_here met (pos t) (option_map (λ old. record { entry = old.entry; finished = true }) (met (pos t)))
+          ∙ ap (option_map (λ old. record { entry = old.entry; finished = true })) (ap (λ k. met (pos k)) same ∙ h.begun q e is (0, omega arith, same))
+      | inr other ↦ update_apart met (pos t) (pos q) (option_map (λ old. record { entry = old.entry; finished = true }) (met (pos t))) (pos_apart t q other) ∙ h.over q e is (λ k. outside (contains_other t q rest other k))
+    ];
     known = λ q inside. h.known q (contains_tail t q rest inside);
     once = h.once.1;
     levels = h.levels;
@@ -260,13 +260,13 @@ agrees_outside r {d = d} h = record {
   few = λ n is. more_few d n h.few is;
 }
   where
-  more_levels : (o : Option ℕ) → one_more o ≢ Some 0
-  more_levels None e = cc
-  more_levels (Some n) e = let zeroed : n + 1 ≡ 0 = cc in omega arith
+    more_levels : (o : Option ℕ) → one_more o ≢ Some 0
+    more_levels None e = cc
+    more_levels (Some n) e = let zeroed : n + 1 ≡ 0 = cc in omega arith
 
-  more_few : (o : Option ℕ) (n : ℕ) → ((k : ℕ) → o ≡ Some k → k + (1 + r) < 18446744073709551616) → one_more o ≡ Some n → n + r < 18446744073709551616
-  more_few None n few e = cc
-  more_few (Some k) n few e = let more : k + 1 ≡ n = cc in let most = few k refl in omega arith
+    more_few : (o : Option ℕ) (n : ℕ) → ((k : ℕ) → o ≡ Some k → k + (1 + r) < 18446744073709551616) → one_more o ≡ Some n → n + r < 18446744073709551616
+    more_few None n few e = cc
+    more_few (Some k) n few e = let more : k + 1 ≡ n = cc in let most = few k refl in omega arith
 
 pub inside_more : (d : Option ℕ) → d ≡ inside (one_more d)
 inside_more None = refl

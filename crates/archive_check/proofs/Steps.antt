@@ -65,8 +65,11 @@ module _ (m : Checker) (s : RangeState) (met : Positions) where
         → Keeps m (Listing m) (stage s met (PartWork i p ∷ old)) y result
     enter_keeps (Ok u) target j n z turn leads stopped = (λ seen a. let go = leads seen a in (go.0, go.1, λ o r. turn seen o (go.2 o r)), tt)
     enter_keeps (Err e) target j n z turn leads (inl memory) = (tt, inl memory)
-    enter_keeps (Err e) target j n z turn leads (inr stopped) = (tt, inr (λ seen a.
-        let f = stopped a.levels in (f.0, f.1, turn seen (refused f.0) (stops (f.2 (pending_in old) seen)))))
+    enter_keeps (Err e) target j n z turn leads (inr stopped) = (
+      tt,
+      inr (λ seen a.
+          let f = stopped a.levels in (f.0, f.1, turn seen (refused f.0) (stops (f.2 (pending_in old) seen)))),
+    )
 
     pub pointer_keeps : (result : Result (Unit {0}) Error) (target : Target) (j n : ℕ) (z : ℤ) → IsNode m i (PointerJob target j) → n ≡ count_at m.bytes.now p target → z ≡ pos p +ℤ i32_at m.bytes.now p
         → OnOk result (Leads m (Entering m target j n z) (stage s met old) y) → IfErr result (λ e. IsStopped m target j n z s e)
@@ -113,9 +116,9 @@ module _ (m : Checker) (s : RangeState) (met : Positions) where
         let n = length m.nodes.now in
         let xs = span m.parts.now (a + 1) b in
         rw (e, span_next m.parts.now a b x lt le at)
-          (falls_two (level n s.end x.node 18446744073709551616) (level n s.end (rank xs) (b - (a + 1))) (level n s.end (max (x.node + 1) (rank xs)) (b - a)) (cost m s.end old)
-            (level_node n s.end (max (x.node + 1) (rank xs)) (b - a) x.node 18446744073709551616 (omega arith) (omega arith))
-            (level_same n s.end (max (x.node + 1) (rank xs)) (rank xs) (b - a) (b - (a + 1)) (omega arith) (omega arith)))
+        (falls_two (level n s.end x.node 18446744073709551616) (level n s.end (rank xs) (b - (a + 1))) (level n s.end (max (x.node + 1) (rank xs)) (b - a)) (cost m s.end old)
+        (level_node n s.end (max (x.node + 1) (rank xs)) (b - a) x.node 18446744073709551616 (omega arith) (omega arith))
+        (level_same n s.end (max (x.node + 1) (rank xs)) (rank xs) (b - a) (b - (a + 1)) (omega arith) (omega arith)))
 
     pub elements_ready : (j n p z : ℕ) (x : Node) → Ready m s (Elements j n p ∷ old) → 0 < n → IsAt m.nodes.now j x → ((y : ℕ) → x.size ≡ Some y → z ≡ y) → new ≡ PartWork j p ∷ Elements j (n - 1) (p + z) ∷ old → Ready m s new
     elements_ready j n p z x r lt at size e =
@@ -137,8 +140,8 @@ module _ (m : Checker) (s : RangeState) (met : Positions) where
     elements_ends j n p q few lt e =
         let k = length m.nodes.now in
         rw e (falls_two (level k s.end j 18446744073709551616) (level k s.end (j + 1) (n - 1)) (level k s.end (j + 1) n) (cost m s.end old)
-          (level_node k s.end (j + 1) n j 18446744073709551616 (omega arith) (omega arith))
-          (level_same k s.end (j + 1) (j + 1) n (n - 1) (omega arith) (omega arith)))
+        (level_node k s.end (j + 1) n j 18446744073709551616 (omega arith) (omega arith))
+        (level_same k s.end (j + 1) (j + 1) n (n - 1) (omega arith) (omega arith)))
 
   module _ (old : List Work) where
     pub parts_over_leads : (a b p : ℕ) → b ≤ a → Leads m (Listing m) (stage s met (Parts a b p ∷ old)) (stage s met old)
@@ -187,7 +190,7 @@ module _ (m : Checker) (s : RangeState) (old : List Work) (i p z a b : ℕ) (new
   span_ends =
       let n = length m.nodes.now in
       rw e (falls_one (level n s.end (rank (span m.parts.now a b)) (b - a)) (level n s.end i 18446744073709551616) (cost m s.end old)
-        (level_same n s.end i (rank (span m.parts.now a b)) 18446744073709551616 (b - a) (rank_from m i z (span m.parts.now a b) fits.within) (omega (arith, fits.few))))
+      (level_same n s.end i (rank (span m.parts.now a b)) 18446744073709551616 (b - a) (rank_from m i z (span m.parts.now a b) fits.within) (omega (arith, fits.few))))
 
 module _ (m : Checker) (s : RangeState) (old : List Work) (i p z n j : ℕ) (new : List Work) (fits : ArrayFits m i z n j) (e : new ≡ Elements j n p ∷ old) where
   pub array_ready : Ready m s (PartWork i p ∷ old) → p + z ≤ length m.bytes.now → Ready m s new
@@ -200,16 +203,16 @@ module _ (m : Checker) (s : RangeState) (old : List Work) (i p z n j : ℕ) (new
   array_ends =
       let k = length m.nodes.now in
       rw e (falls_one (level k s.end (j + 1) n) (level k s.end i 18446744073709551616) (cost m s.end old)
-        (level_same k s.end i (j + 1) 18446744073709551616 n (omega (arith, fits.earlier)) fits.few))
+      (level_same k s.end i (j + 1) 18446744073709551616 n (omega (arith, fits.earlier)) fits.few))
 
 pub pointer_ends : (m : Checker) (s s' : RangeState) (old new : List Work) (i p : ℕ) (r : Result (Unit {0}) Error) → OnOk r (cost m s'.end new ≤ power (level (length m.nodes.now) s.end 0 0) + cost m s.end old) → OnOk r (cost m s'.end new < cost m s.end (PartWork i p ∷ old))
 pointer_ends m s s' old new i p (Ok u) h =
     falls_under (cost m s'.end new) (level (length m.nodes.now) s.end 0 0) (level (length m.nodes.now) s.end i 18446744073709551616) (cost m s.end old) h
-      (level_same (length m.nodes.now) s.end i 0 18446744073709551616 0 (omega arith) (omega arith))
+    (level_same (length m.nodes.now) s.end i 0 18446744073709551616 0 (omega arith) (omega arith))
 pointer_ends m s s' old new i p (Err e) h = tt
 
 pub shared_ends : (m : Checker) (s s' : RangeState) (old new : List Work) (i p : ℕ) (r : Result (Unit {0}) Error) → OnOk r (cost m s'.end new ≤ 1 + (power (level (length m.nodes.now) s.end 0 0) + cost m s.end old)) → OnOk r (cost m s'.end new < cost m s.end (PartWork i p ∷ old))
 shared_ends m s s' old new i p (Ok u) h =
     falls_shared (cost m s'.end new) (level (length m.nodes.now) s.end 0 0) (level (length m.nodes.now) s.end i 18446744073709551616) (cost m s.end old) h
-      (level_same (length m.nodes.now) s.end i 0 18446744073709551616 0 (omega arith) (omega arith))
+    (level_same (length m.nodes.now) s.end i 0 18446744073709551616 0 (omega arith) (omega arith))
 shared_ends m s s' old new i p (Err e) h = tt

@@ -124,8 +124,8 @@ Entering m target j n where_to x seen o =
 abbrev pub Following : Checker → ℕ → Target → ℕ → ℕ → Stage → Seen → Outcome → Type 0
 Following m k target j p x seen o =
     Then m (pending_in x.work) x.range.depth x.range.end
-      (FollowRuns m (pending_in x.work) x.range.depth x.range.end k target j (count_at m.bytes.now p target) (length_of m.bytes.now p target) (pos p +ℤ i32_at m.bytes.now p) x.range.start seen)
-      x.work o
+    (FollowRuns m (pending_in x.work) x.range.depth x.range.end k target j (count_at m.bytes.now p target) (length_of m.bytes.now p target) (pos p +ℤ i32_at m.bytes.now p) x.range.start seen)
+    x.work o
 
 -- whatever comes of the list that is left came of what was before, and the context agrees again
 abbrev pub Leads : Checker → (Stage → Seen → Outcome → Type 0) → Stage → Stage → Type 0

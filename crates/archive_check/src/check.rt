@@ -14,7 +14,9 @@ ghost use Rattle.archive_check.specs.Faults.{IsFor};
 ghost use Rattle.archive_check.specs.Fresh.{IsFresh};
 ghost use Rattle.archive_check.specs.Turns.{PointeeFits, Ready, stage, Listing, Entering, Following, Leads, Keeps, IsStopped, power, level, cost};
 
-use crate::bytes::{inline_length, is_out_of_line, is_text, read_coded_length, read_i32, read_position, read_u32};
+use crate::bytes::{
+    inline_length, is_out_of_line, is_text, read_coded_length, read_i32, read_position, read_u32,
+};
 use crate::error::Error;
 use crate::layout::Layout;
 use crate::leaf::check_leaf;
@@ -97,7 +99,10 @@ impl Checker<'_> {
         let Some(size) = times(node.size, count) else {
             return Err(Error::LayoutTooLarge);
         };
-        let layout = Layout { size, align: node.align };
+        let layout = Layout {
+            size,
+            align: node.align,
+        };
         if let Err(error) = context.check_subtree_ptr(position, &layout) {
             return Err(error);
         }
@@ -106,7 +111,13 @@ impl Checker<'_> {
             Err(error) => return Err(error),
             Ok(range) => range,
         };
-        push(work, Work::Leave { start: range.start, end: range.end })?;
+        push(
+            work,
+            Work::Leave {
+                start: range.start,
+                end: range.end,
+            },
+        )?;
         if size == 0 {
             return Ok(());
         }
@@ -118,11 +129,24 @@ impl Checker<'_> {
                 Ok(())
             }
             Target::One => {
-                push(work, Work::Part { node: pointee, at: begin })?;
+                push(
+                    work,
+                    Work::Part {
+                        node: pointee,
+                        at: begin,
+                    },
+                )?;
                 Ok(())
             }
             Target::Run => {
-                push(work, Work::Elements { node: pointee, left: count, at: begin })?;
+                push(
+                    work,
+                    Work::Elements {
+                        node: pointee,
+                        left: count,
+                        at: begin,
+                    },
+                )?;
                 Ok(())
             }
         }
@@ -153,7 +177,11 @@ impl Checker<'_> {
             self.enter(Target::Text, pointee, length, position, work, context)
         } else {
             let length = inline_length(self.bytes, at);
-            if is_text(self.bytes, at, length) { Ok(()) } else { Err(Error::InvalidUtf8) }
+            if is_text(self.bytes, at, length) {
+                Ok(())
+            } else {
+                Err(Error::InvalidUtf8)
+            }
         }
     }
 
@@ -190,7 +218,11 @@ impl Checker<'_> {
                 self.enter(target, pointee, count, position, work, context)
             }
             Ok(ValidationState::Pending) => {
-                if kind.flavor.cycles { Ok(()) } else { Err(Error::CyclicValidate) }
+                if kind.flavor.cycles {
+                    Ok(())
+                } else {
+                    Err(Error::CyclicValidate)
+                }
             }
             Ok(ValidationState::Finished) => Ok(()),
         }
@@ -220,7 +252,14 @@ impl Checker<'_> {
                 Ok(())
             }
             Job::Record { first, last } => {
-                push(work, Work::Parts { first, last, base: at })?;
+                push(
+                    work,
+                    Work::Parts {
+                        first,
+                        last,
+                        base: at,
+                    },
+                )?;
                 Ok(())
             }
             Job::Choice { name, first, last } => {
@@ -229,11 +268,25 @@ impl Checker<'_> {
                     return Err(Error::InvalidDiscriminant { name, value: tag });
                 }
                 let variant = self.variants[first + tag as usize];
-                push(work, Work::Parts { first: variant.first, last: variant.last, base: at })?;
+                push(
+                    work,
+                    Work::Parts {
+                        first: variant.first,
+                        last: variant.last,
+                        base: at,
+                    },
+                )?;
                 Ok(())
             }
             Job::Array { count, element } => {
-                push(work, Work::Elements { node: element, left: count, at })?;
+                push(
+                    work,
+                    Work::Elements {
+                        node: element,
+                        left: count,
+                        at,
+                    },
+                )?;
                 Ok(())
             }
             Job::Pointer { target, pointee } => {
@@ -242,10 +295,16 @@ impl Checker<'_> {
                 self.enter(target, pointee, count, position, work, context)
             }
             Job::Str { pointee } => self.open_text(node, at, pointee, work, context),
-            Job::Shared { sort, target, pointee } => {
-                self.follow(sort, target, pointee, at, work, context)
-            }
-            Job::Weak { sort, target, pointee } => {
+            Job::Shared {
+                sort,
+                target,
+                pointee,
+            } => { self.follow(sort, target, pointee, at, work, context) }
+            Job::Weak {
+                sort,
+                target,
+                pointee,
+            } => {
                 if read_i32(self.bytes, at) == 1 {
                     return Ok(());
                 }
@@ -274,8 +333,21 @@ impl Checker<'_> {
                     return Ok(());
                 }
                 let part = self.parts[first];
-                push(work, Work::Parts { first: first + 1, last, base })?;
-                push(work, Work::Part { node: part.node, at: base + part.offset })?;
+                push(
+                    work,
+                    Work::Parts {
+                        first: first + 1,
+                        last,
+                        base,
+                    },
+                )?;
+                push(
+                    work,
+                    Work::Part {
+                        node: part.node,
+                        at: base + part.offset,
+                    },
+                )?;
                 Ok(())
             }
             Work::Elements { node, left, at } => {
@@ -287,7 +359,14 @@ impl Checker<'_> {
                     return Ok(());
                 }
                 let size = element.size.unwrap_or(0);
-                push(work, Work::Elements { node, left: left - 1, at: at + size })?;
+                push(
+                    work,
+                    Work::Elements {
+                        node,
+                        left: left - 1,
+                        at: at + size,
+                    },
+                )?;
                 push(work, Work::Part { node, at })?;
                 Ok(())
             }
@@ -326,7 +405,9 @@ impl Checker<'_> {
             return Err(error);
         }
         while let Some(entry) = work.pop() {
-            self.step(entry, &mut work, context)?;
+            if let Err(error) = self.step(entry, &mut work, context) {
+                return Err(error);
+            }
         }
         Ok(())
     }

@@ -7,6 +7,6 @@ returns-in_default c = record {
   ok = tt;
   err = (
     illegal_zero c.args.kind c.args.bytes.now c.args.at c.requires c.in_default.not-Bool c.in_default.not-Char (λ u. not_true c.is_legal.result c.if-is_legal.false (c.is_legal.ensures.1 u)),
-    λ u. not_true c.is_legal.result c.if-is_legal.false (c.is_legal.ensures.1 u)
+    λ u. not_true c.is_legal.result c.if-is_legal.false (c.is_legal.ensures.1 u),
   );
 }

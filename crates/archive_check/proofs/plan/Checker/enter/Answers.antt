@@ -14,7 +14,7 @@ pub returns-in_default-clause-stopped : goal.returns-in_default-clause-stopped
 returns-in_default-clause-stopped g c =
     let al = (slice_index_or c.args.self.now.nodes.now c.args.pointee c.index-self-pointee.result).align in
     let reg : RegionIs c.args.self.now c.args.pointee c.args.count None al =
-        record { node = c.index-self-pointee.result; at = record { below = c.requires.pointee.known; is = c.index-self-pointee.is }; size_is = ap (λ q. times q.size c.args.count) c.index-self-pointee.is ∙ sym c.times.ensures ∙ c.in_default.is; align_is = ap (λ q. q.align) c.index-self-pointee.is } in
+    record { node = c.index-self-pointee.result; at = record { below = c.requires.pointee.known; is = c.index-self-pointee.is }; size_is = ap (λ q. times q.size c.args.count) c.index-self-pointee.is ∙ sym c.times.ensures ∙ c.in_default.is; align_is = ap (λ q. q.align) c.index-self-pointee.is } in
     inr (λ some. (too_large, refl, λ pending seen. enter_too_large reg))
 
 pub returns-in-Err-clause-stopped : goal.returns-in-Err-clause-stopped
@@ -22,7 +22,7 @@ returns-in-Err-clause-stopped g c =
     let s = g.C.Context.state c.args.context.now in
     let al = (slice_index_or c.args.self.now.nodes.now c.args.pointee c.index-self-pointee.result).align in
     let reg : RegionIs c.args.self.now c.args.pointee c.args.count (Some c.in-Some.size) al =
-        record { node = c.index-self-pointee.result; at = record { below = c.requires.pointee.known; is = c.index-self-pointee.is }; size_is = ap (λ q. times q.size c.args.count) c.index-self-pointee.is ∙ sym c.times.ensures ∙ c.in-Some.is; align_is = ap (λ q. q.align) c.index-self-pointee.is } in
+    record { node = c.index-self-pointee.result; at = record { below = c.requires.pointee.known; is = c.index-self-pointee.is }; size_is = ap (λ q. times q.size c.args.count) c.index-self-pointee.is ∙ sym c.times.ensures ∙ c.in-Some.is; align_is = ap (λ q. q.align) c.index-self-pointee.is } in
     let v : Err c.in-Err.error ≡ subtree_answer s c.args.position c.in-Some.size al = c.in-Err.ensures.answer ∙ ap (λ q. subtree_answer s q c.in-Some.size al) (to_z-of_z w128 c.args.position c.ranges.position) in
     inr (λ some. astray c.args.self.now c.args.pointee c.args.count c.args.target s c.args.position c.in-Some.size al c.in-Err.error reg v)
 
@@ -31,7 +31,7 @@ returns-in-Err-push_subtree_range-clause-stopped g c =
     let s = g.C.Context.state c.args.context.now in
     let al = (slice_index_or c.args.self.now.nodes.now c.args.pointee c.index-self-pointee.result).align in
     let reg : RegionIs c.args.self.now c.args.pointee c.args.count (Some c.in-Some.size) al =
-        record { node = c.index-self-pointee.result; at = record { below = c.requires.pointee.known; is = c.index-self-pointee.is }; size_is = ap (λ q. times q.size c.args.count) c.index-self-pointee.is ∙ sym c.times.ensures ∙ c.in-Some.is; align_is = ap (λ q. q.align) c.index-self-pointee.is } in
+    record { node = c.index-self-pointee.result; at = record { below = c.requires.pointee.known; is = c.index-self-pointee.is }; size_is = ap (λ q. times q.size c.args.count) c.index-self-pointee.is ∙ sym c.times.ensures ∙ c.in-Some.is; align_is = ap (λ q. q.align) c.index-self-pointee.is } in
     let z = to_z-of_z w128 c.args.position c.ranges.position in
     let at = lands s c.args.position c.in-Some.size al c.place-begin.result _ (sym z ∙ c.place-begin.ensures) (c.in_default-check_subtree_ptr.ensures.answer ∙ ap (λ q. subtree_answer s q c.in-Some.size al) z) in
     let deep : s.depth ≡ Some 1 = ap (λ r. r.depth) (sym c.check_subtree_ptr.ensures.unchanged) ∙ c.in-Err-push_subtree_range.ensures.refused.0 (ap Err c.in-Err-push_subtree_range.ensures.too_deep) in
@@ -63,7 +63,7 @@ returns-then-size-eq0-clause-ends g c =
     let old = reverse c.args.work.now.items in
     let mid = reverse c.push.new.work.items in
     let h = entered m s (st c.check_subtree_ptr.new.self) s' seen (met c.check_subtree_ptr.new.self) seen' c.args.pointee c.args.count c.args.position _ c.in-Some.size c.place-begin.result c.in-Ok.range.start c.in-Ok.range.end old mid c.index-self-pointee.result _ c.requires.pointee.known c.index-self-pointee.is (sym c.times.ensures ∙ c.in-Some.is) (to_z-of_z w128 c.args.position c.ranges.position) c.place-begin.ensures c.in_default-check_subtree_ptr.ensures.answer c.check_subtree_ptr.ensures.unchanged c.in-Ok.ensures.entered c.check_subtree_ptr.ensures.positions c.in-Ok.ensures.positions (λ e. not_err c.in-Ok.range ExceededMaximumSubtreeDepth (c.in-Ok.ensures.refused.1 e)) c.in-Ok.ensures.outer c.in_ok-push.ensures.ok in
-    entered_ends m s s' seen seen' c.args.pointee c.args.count c.args.position c.in-Some.size _ c.place-begin.result old mid h 
+    entered_ends m s s' seen seen' c.args.pointee c.args.count c.args.position c.in-Some.size _ c.place-begin.result old mid h
 
 pub returns-then-not-is_text-clause-stopped : goal.returns-then-not-is_text-clause-stopped
 returns-then-not-is_text-clause-stopped g c =
@@ -105,7 +105,7 @@ returns-else-not-is_text-clause-ends g c =
     let old = reverse c.args.work.now.items in
     let mid = reverse c.push.new.work.items in
     let h = entered m s (st c.check_subtree_ptr.new.self) s' seen (met c.check_subtree_ptr.new.self) seen' c.args.pointee c.args.count c.args.position _ c.in-Some.size c.place-begin.result c.in-Ok.range.start c.in-Ok.range.end old mid c.index-self-pointee.result _ c.requires.pointee.known c.index-self-pointee.is (sym c.times.ensures ∙ c.in-Some.is) (to_z-of_z w128 c.args.position c.ranges.position) c.place-begin.ensures c.in_default-check_subtree_ptr.ensures.answer c.check_subtree_ptr.ensures.unchanged c.in-Ok.ensures.entered c.check_subtree_ptr.ensures.positions c.in-Ok.ensures.positions (λ e. not_err c.in-Ok.range ExceededMaximumSubtreeDepth (c.in-Ok.ensures.refused.1 e)) c.in-Ok.ensures.outer c.in_ok-push.ensures.ok in
-    entered_ends m s s' seen seen' c.args.pointee c.args.count c.args.position c.in-Some.size _ c.place-begin.result old mid h 
+    entered_ends m s s' seen seen' c.args.pointee c.args.count c.args.position c.in-Some.size _ c.place-begin.result old mid h
 
 pub returns-in_ok-push-in-One-clause-ready : goal.returns-in_ok-push-in-One-clause-ready
 returns-in_ok-push-in-One-clause-ready g c =

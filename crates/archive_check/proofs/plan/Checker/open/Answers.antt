@@ -281,7 +281,9 @@ returns-then-read_i32-eq1-clause-runs g c =
     let old = reverse c.args.work.now.items in
     let f = c.requires.ready.fits.0 in
     let is : IsNode m c.args.node (Weak c.in-Weak.sort c.in-Weak.target c.in-Weak.pointee) = record { node = c.index-self-node.result; at = record { below = f.takes.at.below; is = c.index-self-node.is }; job_is = ap (λ q. q.job) c.index-self-node.is ∙ c.in-Weak.is } in
-    (node_leads m s seen old c.args.node c.args.at (λ known. run_null is ?), tt)
+    let fits : SFits w32 c.read_i32.result = record { sfits = c.read_i32.type_inv } in
+    let null = sym c.read_i32.ensures ∙ sym (to_z-of_z w32 c.read_i32.result fits) ∙ ap (to_z w32) c.if-read_i32-eq1.true in
+    (node_leads m s seen old c.args.node c.args.at (λ known. run_null is null), tt)
 
 pub returns-then-read_i32-eq1-clause-ends : goal.returns-then-read_i32-eq1-clause-ends
 returns-then-read_i32-eq1-clause-ends g c =
@@ -297,7 +299,7 @@ returns-else-read_i32-eq1-clause-runs g c =
     let old = reverse c.args.work.now.items in
     let f = c.requires.ready.fits.0 in
     let is : IsNode m c.args.node (Weak c.in-Weak.sort c.in-Weak.target c.in-Weak.pointee) = record { node = c.index-self-node.result; at = record { below = f.takes.at.below; is = c.index-self-node.is }; job_is = ap (λ q. q.job) c.index-self-node.is ∙ c.in-Weak.is } in
-    weak_keeps m s seen old c.args.node c.args.at (stage (st c.follow-in-Weak.new.context) (met c.follow-in-Weak.new.context) (reverse c.follow-in-Weak.new.work.items)) c.follow-in-Weak.result c.in-Weak.target c.in-Weak.sort c.in-Weak.pointee is ? c.follow-in-Weak.ensures.runs
+    weak_keeps m s seen old c.args.node c.args.at (stage (st c.follow-in-Weak.new.context) (met c.follow-in-Weak.new.context) (reverse c.follow-in-Weak.new.work.items)) c.follow-in-Weak.result c.in-Weak.target c.in-Weak.sort c.in-Weak.pointee is (λ e. c.if-read_i32-eq1.false (ap (of_z w32) (c.read_i32.ensures ∙ e))) c.follow-in-Weak.ensures.runs
 
 pub returns-else-read_i32-eq1-clause-ends : goal.returns-else-read_i32-eq1-clause-ends
 returns-else-read_i32-eq1-clause-ends g c =

@@ -14,7 +14,7 @@ abbrev pub invariant-loop-entry : goal.invariant-loop-entry
 invariant-loop-entry g l =
     Ready l.self (g.C.Context.state l.context) (reverse l.work.items)
     × (IsFresh (g.C.Context.state l.fn.context) (g.C.Context.positions l.fn.context)
-        → (seen : Seen)
-        × Agreeing (stage (g.C.Context.state l.context) (g.C.Context.positions l.context) (reverse l.work.items)) seen
-        × ((o : Outcome) → Listing l.self (stage (g.C.Context.state l.context) (g.C.Context.positions l.context) (reverse l.work.items)) seen o
-          → EnterRuns l.self [] (g.C.Context.state l.fn.context).depth (g.C.Context.state l.fn.context).end One l.root 1 (pos l.at) (g.C.Context.state l.fn.context).start empty o))
+    → (seen : Seen)
+    × Agreeing (stage (g.C.Context.state l.context) (g.C.Context.positions l.context) (reverse l.work.items)) seen
+    × ((o : Outcome) → Listing l.self (stage (g.C.Context.state l.context) (g.C.Context.positions l.context) (reverse l.work.items)) seen o
+    → EnterRuns l.self [] (g.C.Context.state l.fn.context).depth (g.C.Context.state l.fn.context).end One l.root 1 (pos l.at) (g.C.Context.state l.fn.context).start empty o))
