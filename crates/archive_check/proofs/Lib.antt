@@ -43,3 +43,11 @@ pub mod Accepts
 pub mod PlanExample
 pub mod ReachedNames
 pub mod ReachedLayouts
+pub mod Costs
+pub mod Turning
+pub mod Meeting
+pub mod Entering
+pub mod LegalBytes
+pub mod Following
+pub mod Steps
+pub mod Running

@@ -34,3 +34,4 @@ pub mod Runs
 pub mod Closed
 pub mod Represents
 pub mod Exact
+pub mod Turns

@@ -9,6 +9,7 @@ pub mod expr;
 pub mod laws;
 pub mod layout;
 pub mod names;
+pub mod leaf;
 pub mod plan;
 pub mod shape;
 #[cfg(test)]
