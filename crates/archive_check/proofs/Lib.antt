@@ -26,3 +26,5 @@ pub mod Trails
 pub mod Exists
 pub mod Positive
 pub mod Views
+pub mod Sizes
+pub mod Same

@@ -2,6 +2,7 @@ pub mod Errors
 pub mod Shape
 pub mod Layout
 pub mod Defined
+pub mod Same
 pub mod Expressions
 pub mod Value
 pub mod Reads

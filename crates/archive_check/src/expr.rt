@@ -1,8 +1,13 @@
 //! Expressions: what the bytes of an archived type are read as.
 
-ghost use Rattle.std.specs.Prelude.{◌≡◌, []};
-ghost use Rattle.archive_check.specs.Expressions.{table_of};
+ghost use Rattle.std.specs.Prelude.{◌≡◌, ◌↔◌, IsTrue, IfOk};
+ghost use Rattle.std.specs.Cmp.{on_equiv, partial_equiv_from_equiv};
+ghost use Rattle.std.specs.Ordering.{on};
+ghost use Rattle.archive_check.specs.Expressions.{shape_of, pointee_of, shapes_in, variants_in};
+ghost use Rattle.archive_check.specs.Same.{same_shape, same_pointee, same_parts, same_variants, same_shape-equiv, same_pointee-equiv};
 
+pub use crate::defs::{Def, Defs};
+use crate::error::Error;
 use std::alloc::Global;
 
 /// A kind of integer, by its sign and its width in bits.
@@ -94,28 +99,97 @@ pub enum Pointee {
     Text,
 }
 
-/// The expression that a name stands for.
-#[derive(Debug, Drop)]
-pub struct Def {
-    /// The name.
-    pub name: &'static str,
-    /// What it stands for.
-    pub expr: Expr,
+/// Two expressions are equal where they are written alike; names are compared as names.
+impl PartialEq for Expr {
+    ghost eq = { on shape_of same_shape };
+
+    ghost laws = { partial_equiv_from_equiv (on_equiv shape_of same_shape-equiv) };
+
+    fn eq(&self, other: &Expr) -> bool {
+        same_expressions(self, other)
+    }
 }
 
-/// The definitions of names.
-#[derive(Debug, Drop)]
-pub struct Defs {
-    items: Vec<Def>,
+impl Eq for Expr {
+    ghost laws = { on_equiv shape_of same_shape-equiv };
 }
 
-impl Defs {
-    /// No definition. Memory comes from `alloc`, and none is taken yet.
-    pub fn new(alloc: Global) -> Defs
-        ensures { table_of result ≡ [] }
-    {
-        Defs {
-            items: Vec::new(alloc),
+/// Two pointees are equal where they are written alike.
+impl PartialEq for Pointee {
+    ghost eq = { on pointee_of same_pointee };
+
+    ghost laws = { partial_equiv_from_equiv (on_equiv pointee_of same_pointee-equiv) };
+
+    fn eq(&self, other: &Pointee) -> bool {
+        same_pointees(self, other)
+    }
+}
+
+impl Eq for Pointee {
+    ghost laws = { on_equiv pointee_of same_pointee-equiv };
+}
+
+#[cycle(same)]
+#[tactic(auto, using(crate::proofs::Views::views, crate::proofs::Sizes::sizes, crate::proofs::Same::same))]
+fn same_expressions(a: &Expr, b: &Expr) -> bool
+    ensures { result ≡ same_shape (shape_of a.now) (shape_of b.now) }
+{
+    match (a, b) {
+        (Expr::Leaf(x), Expr::Leaf(y)) => x == y,
+        (Expr::Record(x), Expr::Record(y)) => same_lists(x, y),
+        (Expr::Choice(m, x), Expr::Choice(n, y)) => m == n && same_variant_lists(x, y),
+        (Expr::Array(m, x), Expr::Array(n, y)) => m == n && same_expressions(x, y),
+        (Expr::Box(x), Expr::Box(y)) => same_pointees(x, y),
+        (Expr::Vec(x), Expr::Vec(y)) => same_expressions(x, y),
+        (Expr::Str, Expr::Str) => true,
+        (Expr::Shared(f, x), Expr::Shared(g, y)) => f == g && same_pointees(x, y),
+        (Expr::Weak(f, x), Expr::Weak(g, y)) => f == g && same_pointees(x, y),
+        (Expr::Named(m), Expr::Named(n)) => m == n,
+        _ => false,
+    }
+}
+
+#[cycle(same)]
+#[tactic(auto, using(crate::proofs::Views::views, crate::proofs::Sizes::sizes, crate::proofs::Same::same))]
+fn same_pointees(a: &Pointee, b: &Pointee) -> bool
+    ensures { result ≡ same_pointee (pointee_of a.now) (pointee_of b.now) }
+{
+    match (a, b) {
+        (Pointee::One(x), Pointee::One(y)) => same_expressions(x, y),
+        (Pointee::Run(x), Pointee::Run(y)) => same_expressions(x, y),
+        (Pointee::Text, Pointee::Text) => true,
+        _ => false,
+    }
+}
+
+#[cycle(same)]
+#[tactic(auto, using(crate::proofs::Views::views, crate::proofs::Sizes::sizes, crate::proofs::Same::same))]
+fn same_lists(a: &[Expr], b: &[Expr]) -> bool
+    ensures { result ≡ same_parts (shapes_in a.now) (shapes_in b.now) }
+{
+    if a.len() != b.len() {
+        return false;
+    }
+    for i in 0..a.len() {
+        if !same_expressions(&a[i], &b[i]) {
+            return false;
         }
     }
+    true
+}
+
+#[cycle(same)]
+#[tactic(auto, using(crate::proofs::Views::views, crate::proofs::Sizes::sizes, crate::proofs::Same::same))]
+fn same_variant_lists(a: &[Vec<Expr>], b: &[Vec<Expr>]) -> bool
+    ensures { result ≡ same_variants (variants_in a.now) (variants_in b.now) }
+{
+    if a.len() != b.len() {
+        return false;
+    }
+    for i in 0..a.len() {
+        if !same_lists(&a[i], &b[i]) {
+            return false;
+        }
+    }
+    true
 }

@@ -2,6 +2,7 @@
 #![tactic(auto)]
 
 pub mod bytes;
+pub mod defs;
 pub mod error;
 pub mod expr;
 pub mod laws;
