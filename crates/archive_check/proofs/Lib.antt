@@ -28,3 +28,4 @@ pub mod Positive
 pub mod Views
 pub mod Sizes
 pub mod Same
+pub mod Copies
