@@ -29,3 +29,4 @@ pub mod Views
 pub mod Sizes
 pub mod Same
 pub mod Copies
+pub mod Tables

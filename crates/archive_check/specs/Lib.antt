@@ -4,6 +4,7 @@ pub mod Layout
 pub mod Defined
 pub mod Same
 pub mod Expressions
+pub mod Added
 pub mod Value
 pub mod Reads
 pub mod Tour

@@ -210,4 +210,4 @@ same_shape-equiv = decided same_shape same_shape-Decides
 pub same_pointee-equiv : IsEquivalence same_pointee
 same_pointee-equiv = decided same_pointee same_pointee-Decides
 
-pub ruleset shapes_decided = (same_shape-Decides, same_pointee-Decides)
+pub ruleset shapes_decided = (same_shape-Decides, same_pointee-Decides, same_flavor-Decides)
