@@ -24,6 +24,7 @@ pub mod Definitions
 pub mod Readable
 pub mod Ranges
 pub mod Met
+pub mod Kept
 pub mod Told
 pub mod Schemas
 pub mod Runs

@@ -1,14 +1,12 @@
 //! Expressions: what the bytes of an archived type are read as.
 
-ghost use Rattle.std.specs.Prelude.{◌≡◌, ◌↔◌, IsTrue, IfOk, IfErr};
+ghost use Rattle.std.specs.Prelude.{◌≡◌, ◌↔◌, IsTrue, IfOk};
 ghost use Rattle.std.specs.Cmp.{on_equiv, partial_equiv_from_equiv};
 ghost use Rattle.std.specs.Ordering.{on};
 ghost use Rattle.archive_check.specs.Expressions.{shape_of, pointee_of, shapes_in, variants_in};
 ghost use Rattle.archive_check.specs.Same.{same_shape, same_pointee, same_parts, same_variants, same_shape-equiv, same_pointee-equiv};
-ghost use Rattle.archive_check.specs.declared.error.Error.TheVariants.{OutOfMemory};
 
 pub use crate::defs::{Def, Defs};
-use crate::error::Error;
 use std::alloc::{AllocError, Global};
 
 /// A kind of integer, by its sign and its width in bits.
@@ -138,23 +136,21 @@ impl Eq for Pointee {
     ghost laws = { on_equiv pointee_of same_pointee-equiv };
 }
 
-impl Expr {
-    /// A copy, written alike. Memory comes from `alloc`; refused with 1 where it is refused, and never else.
-    pub fn try_clone(&self, alloc: Global) -> Result<Expr, Error>
-        ensures copied { IfOk result (λ e. shape_of e ≡ shape_of self.now) }
-        ensures refused { IfErr result (λ e. e ≡ OutOfMemory) }
-    {
-        Ok(copy_expression(alloc, self)?)
+/// A copy is written alike. Its memory comes from the allocators of what is copied; it is refused where they refuse.
+impl Clone for Expr {
+    ghost is_clone = { λ a b. shape_of b ≡ shape_of a };
+
+    fn clone(&self) -> Result<Expr, AllocError> {
+        copy_expression(self)
     }
 }
 
-impl Pointee {
-    /// A copy, written alike. Memory comes from `alloc`; refused with 1 where it is refused, and never else.
-    pub fn try_clone(&self, alloc: Global) -> Result<Pointee, Error>
-        ensures copied { IfOk result (λ p. pointee_of p ≡ pointee_of self.now) }
-        ensures refused { IfErr result (λ e. e ≡ OutOfMemory) }
-    {
-        Ok(copy_pointee(alloc, self)?)
+/// A copy is written alike. Its memory comes from the allocators of what is copied; it is refused where they refuse.
+impl Clone for Pointee {
+    ghost is_clone = { λ a b. pointee_of b ≡ pointee_of a };
+
+    fn clone(&self) -> Result<Pointee, AllocError> {
+        copy_pointee(self)
     }
 }
 
@@ -225,34 +221,37 @@ fn same_variant_lists(a: &[Vec<Expr>], b: &[Vec<Expr>]) -> bool
 
 #[cycle(copy)]
 #[tactic(auto, using(crate::proofs::Views::views, crate::proofs::Sizes::sizes, crate::proofs::Copies::copies))]
-fn copy_expression(alloc: Global, expr: &Expr) -> Result<Expr, AllocError>
+fn copy_expression(expr: &Expr) -> Result<Expr, AllocError>
     ensures { IfOk result (λ e. shape_of e ≡ shape_of expr.now) }
 {
     match expr {
         Expr::Leaf(kind) => Ok(Expr::Leaf(*kind)),
-        Expr::Record(parts) => Ok(Expr::Record(copy_parts(alloc, parts)?)),
-        Expr::Choice(name, variants) => Ok(Expr::Choice(*name, copy_variants(alloc, variants)?)),
+        Expr::Record(parts) => Ok(Expr::Record(copy_parts(*parts.allocator(), parts)?)),
+        Expr::Choice(name, variants) => Ok(Expr::Choice(
+            *name,
+            copy_variants(*variants.allocator(), variants)?,
+        )),
         Expr::Array(count, x) => Ok(Expr::Array(
             *count,
-            Box::new(alloc, copy_expression(alloc, x)?)?,
+            Box::new(*Box::allocator(x), copy_expression(x)?)?,
         )),
-        Expr::Box(x) => Ok(Expr::Box(Box::new(alloc, copy_pointee(alloc, x)?)?)),
-        Expr::Vec(x) => Ok(Expr::Vec(Box::new(alloc, copy_expression(alloc, x)?)?)),
+        Expr::Box(x) => Ok(Expr::Box(Box::new(*Box::allocator(x), copy_pointee(x)?)?)),
+        Expr::Vec(x) => Ok(Expr::Vec(Box::new(*Box::allocator(x), copy_expression(x)?)?)),
         Expr::Str => Ok(Expr::Str),
-        Expr::Shared(f, x) => Ok(Expr::Shared(*f, Box::new(alloc, copy_pointee(alloc, x)?)?)),
-        Expr::Weak(f, x) => Ok(Expr::Weak(*f, Box::new(alloc, copy_pointee(alloc, x)?)?)),
+        Expr::Shared(f, x) => Ok(Expr::Shared(*f, Box::new(*Box::allocator(x), copy_pointee(x)?)?)),
+        Expr::Weak(f, x) => Ok(Expr::Weak(*f, Box::new(*Box::allocator(x), copy_pointee(x)?)?)),
         Expr::Named(name) => Ok(Expr::Named(*name)),
     }
 }
 
 #[cycle(copy)]
 #[tactic(auto, using(crate::proofs::Views::views, crate::proofs::Sizes::sizes, crate::proofs::Copies::copies))]
-fn copy_pointee(alloc: Global, pointee: &Pointee) -> Result<Pointee, AllocError>
+fn copy_pointee(pointee: &Pointee) -> Result<Pointee, AllocError>
     ensures { IfOk result (λ p. pointee_of p ≡ pointee_of pointee.now) }
 {
     match pointee {
-        Pointee::One(x) => Ok(Pointee::One(copy_expression(alloc, x)?)),
-        Pointee::Run(x) => Ok(Pointee::Run(copy_expression(alloc, x)?)),
+        Pointee::One(x) => Ok(Pointee::One(copy_expression(x)?)),
+        Pointee::Run(x) => Ok(Pointee::Run(copy_expression(x)?)),
         Pointee::Text => Ok(Pointee::Text),
     }
 }
@@ -262,9 +261,9 @@ fn copy_pointee(alloc: Global, pointee: &Pointee) -> Result<Pointee, AllocError>
 fn copy_parts(alloc: Global, parts: &[Expr]) -> Result<Vec<Expr>, AllocError>
     ensures { IfOk result (λ v. shapes_in v.items ≡ shapes_in parts.now) }
 {
-    let mut copies = Vec::new(alloc);
+    let mut copies = Vec::with_capacity(alloc, parts.len())?;
     for i in 0..parts.len() {
-        copies.push(copy_expression(alloc, &parts[i])?)?;
+        copies.push(copy_expression(&parts[i])?)?;
     }
     Ok(copies)
 }
@@ -274,7 +273,7 @@ fn copy_parts(alloc: Global, parts: &[Expr]) -> Result<Vec<Expr>, AllocError>
 fn copy_variants(alloc: Global, variants: &[Vec<Expr>]) -> Result<Vec<Vec<Expr>>, AllocError>
     ensures { IfOk result (λ v. variants_in v.items ≡ variants_in variants.now) }
 {
-    let mut copies = Vec::new(alloc);
+    let mut copies = Vec::with_capacity(alloc, variants.len())?;
     for i in 0..variants.len() {
         copies.push(copy_parts(alloc, &variants[i])?)?;
     }

@@ -9,6 +9,7 @@ pub mod laws;
 pub mod layout;
 pub mod plan;
 pub mod shape;
+pub mod shared;
 #[cfg(test)]
 mod tests;
 pub mod traits;
