@@ -30,3 +30,4 @@ pub mod Sizes
 pub mod Same
 pub mod Copies
 pub mod Tables
+pub mod KeptPositions
