@@ -14,4 +14,5 @@ pub mod shared;
 mod tests;
 pub mod traits;
 pub mod validation;
+pub mod validator;
 pub mod work;
