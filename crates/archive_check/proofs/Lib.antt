@@ -31,3 +31,4 @@ pub mod Same
 pub mod Copies
 pub mod Tables
 pub mod KeptPositions
+pub mod SubtreeSteps

@@ -25,6 +25,7 @@ pub mod Readable
 pub mod Ranges
 pub mod Met
 pub mod Kept
+pub mod InSubtree
 pub mod Told
 pub mod Schemas
 pub mod Runs

@@ -10,6 +10,7 @@ pub mod layout;
 pub mod plan;
 pub mod shape;
 pub mod shared;
+pub mod subtree;
 #[cfg(test)]
 mod tests;
 pub mod traits;
