@@ -1,5 +1,6 @@
 -- A call within a region: the check of the region, its push, the call and the pop, up to the first of them that is refused.
 use Rattle.std.specs.Prelude.{◌≡◌, ℕ, ◌+◌, ℤ, pos, Option, Some, Result, Ok, Err}
+use Rattle.std.specs.Borrow.{MutBor}
 use Rattle.archive_check.specs.declared.error.Error.{Error}
 use Rattle.archive_check.specs.declared.error.Error.TheVariants.{ExceededMaximumSubtreeDepth}
 use Rattle.archive_check.specs.Ranges.{RangeState, subtree_answer, pushed, pop_answer, popped}
@@ -10,6 +11,11 @@ module _ {C : Type 0} (state : C → RangeState) (positions : C → Positions) w
   pub record IsAt (c : C) (s : RangeState) (d : C) : Type 0 where
     pub state_is : state c ≡ s
     pub positions_are : positions c ≡ positions d
+
+  -- the call may be made in each context that an accepted region's push leaves
+  abbrev pub IsCallable : (MutBor C → Type 0) → C → ℤ → ℕ → ℕ → Type 0
+  IsCallable May old position size align =
+      (inner : MutBor C) (root : ℕ) → subtree_answer (state old) position size align ≡ Ok tt → position ≡ pos root → IsAt inner.now (pushed (state old) root) old → May inner
 
   -- `InSubtree Call Gives old position size align result new`: what is answered and left where the call answers and leaves as `Call` says, and
   -- a refusal of the context gives one of the call's as `Gives` says
