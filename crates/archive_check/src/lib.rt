@@ -13,6 +13,10 @@ pub mod shared;
 pub mod subtree;
 #[cfg(test)]
 mod tests;
+#[cfg(test)]
+mod tests_contexts;
+#[cfg(test)]
+mod tests_expressions;
 pub mod traits;
 pub mod validation;
 pub mod validator;
