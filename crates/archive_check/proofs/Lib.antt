@@ -51,3 +51,9 @@ pub mod LegalBytes
 pub mod Following
 pub mod Steps
 pub mod Running
+pub mod Sizes
+pub mod Same
+pub mod Copies
+pub mod Tables
+pub mod KeptPositions
+pub mod SubtreeSteps

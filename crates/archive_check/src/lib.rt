@@ -4,6 +4,7 @@
 pub mod bytes;
 mod check;
 mod checked;
+pub mod defs;
 pub mod error;
 pub mod expr;
 pub mod laws;
@@ -12,8 +13,15 @@ pub mod names;
 pub mod leaf;
 pub mod plan;
 pub mod shape;
+pub mod shared;
+pub mod subtree;
 #[cfg(test)]
 mod tests;
+#[cfg(test)]
+mod tests_contexts;
+#[cfg(test)]
+mod tests_expressions;
 pub mod traits;
 pub mod validation;
+pub mod validator;
 pub mod work;

@@ -1,5 +1,5 @@
 use Rattle.std.proofs.Common.{◌∙◌, ap, sym, true}
-use Rattle.archive_check.specs.declared.expr.Def.{Def}
+use Rattle.archive_check.specs.declared.defs.Def.{Def}
 use Rattle.archive_check.specs.Expressions.{shape_of, entries_of}
 use Rattle.archive_check.specs.Names.{missing as missing_in}
 use Rattle.archive_check.proofs.Collecting.{shape_behind}

@@ -1,6 +1,6 @@
 use Rattle.std.proofs.Common.{◌≡◌, ◌<◌, length, arith, sym, ap, ◌∙◌}
 use Rattle.std.proofs.lemmas.Slice.Eq.{bytes_eq-Decides}
-use Rattle.archive_check.specs.declared.expr.Def.{Def}
+use Rattle.archive_check.specs.declared.defs.Def.{Def}
 use Rattle.archive_check.proofs.Named.{one_at, taken, not_taken}
 use Rattle.archive_check.proofs.names.take.Goals as goal
 
