@@ -26,3 +26,4 @@ pub mod Trails
 pub mod Exists
 pub mod Positive
 pub mod Views
+pub mod Fitting

@@ -34,7 +34,7 @@ pub record VariantsFit (m : Checker) (i z a b : ℕ) : Type 0 where
   pub tag : 0 < z
   pub last : b ≤ length m.variants.now
   pub few : b < 18446744073709551616
-  pub fits : (k : ℕ) (x : Span) → k < b → IsAt m.variants.now k x → SpanFits m i z x.first x.last
+  pub fits : (k : ℕ) (x : Span) → a ≤ k → k < b → IsAt m.variants.now k x → SpanFits m i z x.first x.last
 
 -- the job of the node i keeps to its z bytes
 abbrev pub JobFits : Checker → ℕ → ℕ → Job → Type 0

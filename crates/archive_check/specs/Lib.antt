@@ -25,8 +25,10 @@ pub mod Met
 pub mod Fresh
 pub mod Told
 pub mod Schemas
+pub mod Sizes
 pub mod Faults
 pub mod Runs
+pub mod Fitting
 pub mod Closed
 pub mod Represents
 pub mod Exact

@@ -8,6 +8,7 @@ pub mod laws;
 pub mod layout;
 pub mod plan;
 pub mod shape;
+pub mod sizes;
 #[cfg(test)]
 mod tests;
 pub mod traits;
