@@ -29,6 +29,7 @@ pub mod Sizes
 pub mod Faults
 pub mod Runs
 pub mod Fitting
+pub mod Growing
 pub mod Closed
 pub mod Represents
 pub mod Exact

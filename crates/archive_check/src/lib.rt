@@ -4,6 +4,7 @@
 pub mod bytes;
 pub mod error;
 pub mod expr;
+pub mod growing;
 pub mod laws;
 pub mod layout;
 pub mod plan;
