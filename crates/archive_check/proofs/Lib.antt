@@ -27,3 +27,4 @@ pub mod Exists
 pub mod Positive
 pub mod Views
 pub mod Fitting
+pub mod GoingOn

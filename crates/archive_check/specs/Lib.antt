@@ -32,4 +32,5 @@ pub mod Fitting
 pub mod Growing
 pub mod Closed
 pub mod Represents
+pub mod Compiled
 pub mod Exact
