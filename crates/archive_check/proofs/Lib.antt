@@ -28,3 +28,5 @@ pub mod Positive
 pub mod Views
 pub mod Fitting
 pub mod GoingOn
+pub mod Adding
+pub mod FreeWalks
