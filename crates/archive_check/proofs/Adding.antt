@@ -137,13 +137,13 @@ module _ {names : List Known} {gives : List Shape} {a b c : Lists} (f : Adds nam
       → ((m : Checker) (l : Layouts) → Follows c m → Knows names l done m → (size ≡ fits (size_of l X)) × (align ≡ align_of l X))
       → ((m : Checker) → Follows c m → Below names m → (z : ℕ) → size ≡ Some z → 0 < z → JobFits m (length b.nodes) z job)
       → ((s : Schema) (shapes : ℕ → Shape) (m : Checker) → Follows c m → Settled names s shapes m → Given shapes (length a.nodes) gives → MadeTo s shapes m (length b.nodes) → (z : ℕ) → size ≡ Some z → (free ≡ true) ⊎ (z ≡ 0) → Made s shapes m Free X)
-      → ((s : Schema) (shapes : ℕ → Shape) (m : Checker) → Follows c m → Settled names s shapes m → Given shapes (length a.nodes) gives → (z : ℕ) → size ≡ Some z → Made s shapes m job X)
+      → ((s : Schema) (shapes : ℕ → Shape) (m : Checker) → Follows c m → Settled names s shapes m → Given shapes (length a.nodes) gives → (z : ℕ) → size ≡ Some z → 0 < z → Made s shapes m job X)
       → Compiled names done X a c j
   compiled_made {size = size} {free = free} {job = job} X p count lay closed make_free make = compiled_push f X p.pushed count lay
       (λ m g w z e. unless_job free size job p.made p.which (λ q. JobFits m (length b.nodes) z q) (λ h. tt) (λ n. closed m g w z e (some_positive z e n)))
       (λ s shapes m g t given k z e. unless_job free size job p.made p.which (λ q. Made s shapes m q X)
         (λ h. make_free s shapes m g t given k z e (⊎_elim (λ y. inl y) (λ y. inr (y z e)) h))
-        (λ n. make s shapes m g t given z e))
+        (λ n. make s shapes m g t given z e (some_positive z e n)))
       (λ e. unless_job free size job p.made p.which (λ q. q ≡ Free) (λ h. refl) (λ n. absurd (n e)))
 
 -- an expression's node stands for it

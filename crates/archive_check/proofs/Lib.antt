@@ -30,3 +30,4 @@ pub mod Fitting
 pub mod GoingOn
 pub mod Adding
 pub mod FreeWalks
+pub mod Compiled
