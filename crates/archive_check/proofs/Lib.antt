@@ -31,3 +31,5 @@ pub mod GoingOn
 pub mod Adding
 pub mod FreeWalks
 pub mod Compiled
+pub mod Pointing
+pub mod Rows
