@@ -64,28 +64,28 @@ module _ {b c : Lists} {size : Option ℕ} {align j : ℕ} {job : Job} (p : IsPu
   push_closed : ((z : ℕ) → size ≡ Some z → JobFits m (length b.nodes) z job) → ClosedTo m (length b.nodes) → ClosedTo m (length c.nodes)
   push_closed f k = record {
     fits = λ i node z lt at e. ⊎_elim
-      (λ h. k.fits i node z h at e)
-      (λ h. let q = new_node i node lt h at in
+        (λ h. k.fits i node z h at e)
+        (λ h. let q = new_node i node lt h at in
         let there = f z (sym p.size_is ∙ ap (λ (n : Node). n.size) (sym q.1) ∙ e) in
         subst (λ w. JobFits m i z w) (sym p.job_is ∙ ap (λ (n : Node). n.job) (sym q.1)) (subst (λ w. JobFits m w z job) (sym q.0) there))
-      (cases_lt i (length b.nodes));
+        (cases_lt i (length b.nodes));
   }
 
   push_made : {s : Schema} {shapes : ℕ → Shape} (X : Shape) → shapes (length b.nodes) ≡ X → size ≡ fits (size_of s.layouts X) → ((z : ℕ) → size ≡ Some z → Made s shapes m job X)
       → (size ≡ Some 0 → job ≡ Free) → MadeTo s shapes m (length b.nodes) → MadeTo s shapes m (length c.nodes)
   push_made {s} {shapes} X is lay make empty k = record {
     made = λ i node z lt at e. ⊎_elim
-      (λ h. k.made i node z h at e)
-      (λ h. let q = new_node i node lt h at in
+        (λ h. k.made i node z h at e)
+        (λ h. let q = new_node i node lt h at in
         let sized = sym p.size_is ∙ ap (λ (n : Node). n.size) (sym q.1) ∙ e in
         let here : X ≡ shapes i = sym is ∙ ap shapes (sym q.0) in
         subst (λ Y. (size_of s.layouts Y ≡ z) × Made s shapes m node.job Y) here
-          (some_is (sym lay ∙ sized), subst (λ w. Made s shapes m w X) (sym p.job_is ∙ ap (λ (n : Node). n.job) (sym q.1)) (make z sized)))
-      (cases_lt i (length b.nodes));
+        (some_is (sym lay ∙ sized), subst (λ w. Made s shapes m w X) (sym p.job_is ∙ ap (λ (n : Node). n.job) (sym q.1)) (make z sized)))
+        (cases_lt i (length b.nodes));
     empty = λ i node lt at e. ⊎_elim
-      (λ h. k.empty i node h at e)
-      (λ h. let q = new_node i node lt h at in ap (λ (n : Node). n.job) q.1 ∙ p.job_is ∙ empty (sym p.size_is ∙ ap (λ (n : Node). n.size) (sym q.1) ∙ e))
-      (cases_lt i (length b.nodes));
+        (λ h. k.empty i node h at e)
+        (λ h. let q = new_node i node lt h at in ap (λ (n : Node). n.job) q.1 ∙ p.job_is ∙ empty (sym p.size_is ∙ ap (λ (n : Node). n.size) (sym q.1) ∙ e))
+        (cases_lt i (length b.nodes));
   }
 
 module _ {names : List Known} {gives : List Shape} {a b c : Lists} (f : Adds names gives a b) where
@@ -100,9 +100,9 @@ module _ {names : List Known} {gives : List Shape} {a b c : Lists} (f : Adds nam
     count = omega (arith, f.count, pushed_count p, length-append gives (X ∷ []));
     closed = λ m g w k. push_closed p m g (closed m g w) (f.closed m (grows_trans (pushed_grows p) g) w k);
     made = λ s shapes m g t given k.
-      let first = given_first (X ∷ []) given in
-      let old = f.made s shapes m (grows_trans (pushed_grows p) g) t first k in
-      push_made p m g X (given_last gives (length b.nodes) f.count given) (lay s shapes m g t) (make s shapes m g t first old) empty old;
+        let first = given_first (X ∷ []) given in
+        let old = f.made s shapes m (grows_trans (pushed_grows p) g) t first k in
+        push_made p m g X (given_last gives (length b.nodes) f.count given) (lay s shapes m g t) (make s shapes m g t first old) empty old;
   }
 
   pub compiled_push : {done : ℕ} {size : Option ℕ} {align j : ℕ} {job : Job} (X : Shape) → IsPushed b c size align job j → length gives + 1 ≡ count_of X
@@ -112,15 +112,15 @@ module _ {names : List Known} {gives : List Shape} {a b c : Lists} (f : Adds nam
       → (size ≡ Some 0 → job ≡ Free)
       → Compiled names done X a c j
   compiled_push {done = done} {j = j} X p count lay closed make empty =
-    let last : j ≡ length a.nodes + length gives = omega (arith, p.is, f.count) in
-    record {
-      gives = gives ++ X ∷ [];
-      gives_count = length-append gives (X ∷ []) ∙ count;
-      adds = adds_push X p closed (λ s shapes m g t. (lay m s.layouts g (knows_settled done t)).0) make empty;
-      below = omega (arith, pushed_is p);
-      root = inr (pushed_is p, omega (arith, last), λ shapes given. given_last gives j last given);
-      lays = λ m l g k. let q = lay m l g k in record { node = p.node; at = at_more g.nodes (pushed_at p); size_is = p.size_is ∙ q.0; align_is = p.align_is ∙ q.1 };
-    }
+      let last : j ≡ length a.nodes + length gives = omega (arith, p.is, f.count) in
+      record {
+        gives = gives ++ X ∷ [];
+        gives_count = length-append gives (X ∷ []) ∙ count;
+        adds = adds_push X p closed (λ s shapes m g t. (lay m s.layouts g (knows_settled done t)).0) make empty;
+        below = omega (arith, pushed_is p);
+        root = inr (pushed_is p, omega (arith, last), λ shapes given. given_last gives j last given);
+        lays = λ m l g k. let q = lay m l g k in record { node = p.node; at = at_more g.nodes (pushed_at p); size_is = p.size_is ∙ q.0; align_is = p.align_is ∙ q.1 };
+      }
 
 -- a job, or none
 pub unless_job : (free : Bool) (size : Option ℕ) (job made : Job) → Unless free size job made → (P : Job → Type 0)
@@ -142,8 +142,8 @@ module _ {names : List Known} {gives : List Shape} {a b c : Lists} (f : Adds nam
   compiled_made {size = size} {free = free} {job = job} X p count lay closed make_free make = compiled_push f X p.pushed count lay
       (λ m g w z e. unless_job free size job p.made p.which (λ q. JobFits m (length b.nodes) z q) (λ h. tt) (λ n. closed m g w z e (some_positive z e n)))
       (λ s shapes m g t given k z e. unless_job free size job p.made p.which (λ q. Made s shapes m q X)
-        (λ h. make_free s shapes m g t given k z e (⊎_elim (λ y. inl y) (λ y. inr (y z e)) h))
-        (λ n. make s shapes m g t given z e (some_positive z e n)))
+      (λ h. make_free s shapes m g t given k z e (⊎_elim (λ y. inl y) (λ y. inr (y z e)) h))
+      (λ n. make s shapes m g t given z e (some_positive z e n)))
       (λ e. unless_job free size job p.made p.which (λ q. q ≡ Free) (λ h. refl) (λ n. absurd (n e)))
 
 -- an expression's node stands for it

@@ -57,7 +57,7 @@ span_within {m} {i} {z} {a} {b} last few h = record {
   last = last;
   few = few;
   within = all_within m i z (span m.parts.now a b) (λ k x at.
-    let t = at_taken (b - a) (drop a m.parts.now) k x at in h (a + k) x (omega arith) (omega (arith, t.0)) (at_dropped a m.parts.now k x t.1));
+      let t = at_taken (b - a) (drop a m.parts.now) k x at in h (a + k) x (omega arith) (omega (arith, t.0)) (at_dropped a m.parts.now k x t.1));
 }
 
 pub fits_wider : {m : Checker} {i k z y : ℕ} {x : PlanPart} → i ≤ k → z ≤ y → PartFits m i z x → PartFits m k y x
@@ -86,38 +86,40 @@ module _ {names : List Known} {done : ℕ} {a b c : Lists} where
   pub compiled_record : {ps : Parts} {laid : Laid} {size : Option ℕ} {j : ℕ} → CompiledParts names done 0 ps a b laid → size ≡ rounded laid.end laid.align
       → IsMade b c size laid.align laid.free (Record laid.first laid.last) j → Compiled names done (parts ps) a c j
   compiled_record {ps = ps} {laid = laid} {size = size} f es p =
-    let grown = pushed_grows p.pushed in
-    let split : (z : ℕ) → size ≡ Some z → (e : ℕ) × (laid.end ≡ Some e) × (e ≤ z) × (z ≡ up e laid.align) = λ z e. rounded_some laid.end laid.align z f.positive (sym es ∙ e) in
-    compiled_made f.adds (parts ps) p (ap (λ n. n + 1) f.gives_count)
+      let grown = pushed_grows p.pushed in
+      let split : (z : ℕ) → size ≡ Some z → (e : ℕ) × (laid.end ≡ Some e) × (e ≤ z) × (z ≡ up e laid.align) = λ z e. rounded_some laid.end laid.align z f.positive (sym es ∙ e) in
+      compiled_made f.adds (parts ps) p (ap (λ n. n + 1) f.gives_count)
       (λ m l g n. let k = f.lays m l (grows_trans grown g) n in
-        (es ∙ ap (λ o. rounded o laid.align) k.0 ∙ rounded_fits (parts_end l 0 ps) laid.align f.positive ∙ ap (λ x. fits (up (parts_end l 0 ps) x)) k.1, k.1))
-      (λ m g w z e pos. let q = split z e in
-        (pos, span_within (omega (arith, f.last, goes_longer grown.parts, goes_longer g.parts)) f.few
-          (λ k x from to at. fits_wider (omega arith) q.2 (f.parts_fit m (grows_trans grown g) q.0 q.1 k x from to at))))
+      (es ∙ ap (λ o. rounded o laid.align) k.0 ∙ rounded_fits (parts_end l 0 ps) laid.align f.positive ∙ ap (λ x. fits (up (parts_end l 0 ps) x)) k.1, k.1))
+      (λ m g w z e pos. let q = split z e in (
+        pos,
+        span_within (omega (arith, f.last, goes_longer grown.parts, goes_longer g.parts)) f.few
+            (λ k x from to at. fits_wider (omega arith) q.2 (f.parts_fit m (grows_trans grown g) q.0 q.1 k x from to at)),
+      ))
       (λ s shapes m g t given k z e h. let q = split z e in
-        let over = grows_trans grown g in
-        let lays = f.lays m s.layouts over (knows_settled done t) in
-        let whole : q.0 ≡ parts_end s.layouts 0 ps = sym (some_is (sym lays.0 ∙ q.1)) in
-        made_free (λ bytes pending depth stop p start seen le. walk_parts (any_parts k t.laid_out (f.stand s shapes m over t given q.0 q.1) (parts_are_free f over k q.1 q.2 h) bytes pending depth stop p start seen
-          (omega (arith, round_up (parts_end s.layouts 0 ps) laid.align f.positive, ap (λ x. up (parts_end s.layouts 0 ps) x) lays.1, le)))))
+      let over = grows_trans grown g in
+      let lays = f.lays m s.layouts over (knows_settled done t) in
+      let whole : q.0 ≡ parts_end s.layouts 0 ps = sym (some_is (sym lays.0 ∙ q.1)) in
+      made_free (λ bytes pending depth stop p start seen le. walk_parts (any_parts k t.laid_out (f.stand s shapes m over t given q.0 q.1) (parts_are_free f over k q.1 q.2 h) bytes pending depth stop p start seen
+      (omega (arith, round_up (parts_end s.layouts 0 ps) laid.align f.positive, ap (λ x. up (parts_end s.layouts 0 ps) x) lays.1, le)))))
       (λ s shapes m g t given z e pos. let q = split z e in made_record (f.stand s shapes m (grows_trans grown g) t given q.0 q.1))
 
   -- variants
   pub compiled_choice : {name : Bor (List ℕ)} {vs : Variants} {laid : Laid} {size : Option ℕ} {free : Bool} {j : ℕ} → CompiledVariants names done vs a b laid → size ≡ rounded laid.end laid.align → (free ≡ true → ⊥)
       → IsMade b c size laid.align free (Choice name laid.first laid.last) j → Compiled names done (choice name.now vs) a c j
   compiled_choice {name = name} {vs = vs} {laid = laid} {size = size} f es never p =
-    let grown = pushed_grows p.pushed in
-    let split : (z : ℕ) → size ≡ Some z → (e : ℕ) × (laid.end ≡ Some e) × (e ≤ z) × (z ≡ up e laid.align) = λ z e. rounded_some laid.end laid.align z f.positive (sym es ∙ e) in
-    compiled_made f.adds (choice name.now vs) p (ap (λ n. n + 1) f.gives_count)
+      let grown = pushed_grows p.pushed in
+      let split : (z : ℕ) → size ≡ Some z → (e : ℕ) × (laid.end ≡ Some e) × (e ≤ z) × (z ≡ up e laid.align) = λ z e. rounded_some laid.end laid.align z f.positive (sym es ∙ e) in
+      compiled_made f.adds (choice name.now vs) p (ap (λ n. n + 1) f.gives_count)
       (λ m l g n. let k = f.lays m l (grows_trans grown g) n in
-        (es ∙ ap (λ o. rounded o laid.align) k.0 ∙ rounded_fits (variants_end l vs) laid.align f.positive ∙ ap (λ x. fits (up (variants_end l vs) x)) k.1, k.1))
+      (es ∙ ap (λ o. rounded o laid.align) k.0 ∙ rounded_fits (variants_end l vs) laid.align f.positive ∙ ap (λ x. fits (up (variants_end l vs) x)) k.1, k.1))
       (λ m g w z e pos. let q = split z e in
-        record {
-          tag = pos;
-          last = omega (arith, f.last, goes_longer grown.variants, goes_longer g.variants);
-          few = f.few;
-          fits = λ k x from to at. span_wider (omega arith) q.2 (f.variants_fit m (grows_trans grown g) q.0 q.1 k x from to at);
-        })
+      record {
+        tag = pos;
+        last = omega (arith, f.last, goes_longer grown.variants, goes_longer g.variants);
+        few = f.few;
+        fits = λ k x from to at. span_wider (omega arith) q.2 (f.variants_fit m (grows_trans grown g) q.0 q.1 k x from to at);
+      })
       (λ s shapes m g t given k z e h. let q = split z e in ⊎_elim (λ y. absurd (never y)) (λ y. absurd (omega (arith, f.tag q.0 q.1, q.2, y))) h)
       (λ s shapes m g t given z e pos. let q = split z e in made_choice (f.stand s shapes m (grows_trans grown g) t given q.0 q.1) f.others)
 
@@ -159,10 +161,10 @@ pub compiled_array : {names : List Known} {done : ℕ} {a b c : Lists} {X : Shap
 compiled_array {done = done} {X = X} {n = n} {here = here} {free = free} f at few es job p =
     let grown = pushed_grows p.pushed in
     compiled_made f.adds (array n X) p (ap (λ n. n + 1) f.gives_count)
-      (λ m l g k. let q = element_sized f at m l (grows_trans grown g) k in (es ∙ ap (λ o. times o n) q.0 ∙ times_fits (size_of l X) n, q.1))
-      (λ m g w z e pos. (pos, array_fits f at m (grows_trans grown g) here.size n z refl few (sym es ∙ e) pos))
-      (λ s shapes m g t given k z e h. element_free f at (grows_trans grown g) t given k here.size free n z refl (sym es ∙ e) job h)
-      (λ s shapes m g t given z e pos. made_array (stands_of f t given) (element_takes f at (grows_trans grown g) t here.size n z refl (sym es ∙ e) pos))
+    (λ m l g k. let q = element_sized f at m l (grows_trans grown g) k in (es ∙ ap (λ o. times o n) q.0 ∙ times_fits (size_of l X) n, q.1))
+    (λ m g w z e pos. (pos, array_fits f at m (grows_trans grown g) here.size n z refl few (sym es ∙ e) pos))
+    (λ s shapes m g t given k z e h. element_free f at (grows_trans grown g) t given k here.size free n z refl (sym es ∙ e) job h)
+    (λ s shapes m g t given z e pos. made_array (stands_of f t given) (element_takes f at (grows_trans grown g) t here.size n z refl (sym es ∙ e) pos))
 
 -- a name
 pub compiled_name : {names : List Known} {done : ℕ} {name : Name} {a : Lists} {j : ℕ} → done ≤ length a.nodes → node_of names name ≡ Some j → j < done → Compiled names done (named name) a a j

@@ -66,7 +66,7 @@ module _ {s : Schema} {shapes : ℕ → Shape} {m : Checker} {n : ℕ} (made : M
       let size = ap (λ (w : Node). w.size) (same_at f.0.at takes.at) ∙ takes.size_is in
       let within : p + up at (align_of s.layouts X) + size_of s.layouts X ≤ length bytes = omega (arith, parts_end_le s laid ps (up at (align_of s.layouts X) + size_of s.layouts X)) in
       walk_part (any_stands st f.1 f.0.node (size_of s.layouts X) f.0.at f.0.job_is size bytes pending depth stop (p + up at (align_of s.layouts X)) start seen within)
-        (any_parts laid rest (λ k y from to h. free k y (omega arith) to h) bytes pending depth stop p start seen le)
+      (any_parts laid rest (λ k y from to h. free k y (omega arith) to h) bytes pending depth stop p start seen le)
 
 pub any_run : {s : Schema} {X : Shape} → AnyBytes s X (size_of s.layouts X) → (n : ℕ) (bytes pending : List ℕ) (depth : Option ℕ) (stop p start : ℕ) (seen : Seen)
     → p + n * size_of s.layouts X ≤ length bytes → WalkRun s bytes pending depth stop p n X start seen start seen

@@ -79,7 +79,7 @@ module _ {names : List Known} {done : ℕ} {a b c : Lists} {j i : ℕ} where
       (λ s shapes m g u given. made_str (byte_sized q m (grows_trans (pushed_grows p) g)))
 
 module _ {names : List Known} {a b c : Lists} {i k : ℕ} {P : Pointee} {target : Target} {sort : Sort} {flavor : FlavorInfo}
-      (t : Leads names P a b target i) (q : IsSorted b c sort k) (ef : sort.flavor ≡ flavor) (ep : pointee_of sort.pointee ≡ P) where
+    (t : Leads names P a b target i) (q : IsSorted b c sort k) (ef : sort.flavor ≡ flavor) (ep : pointee_of sort.pointee ≡ P) where
   shared_adds : Adds names t.gives a c
   shared_adds = adds_same t.adds (sorted_grows q) q.nodes
 
@@ -99,13 +99,13 @@ module _ {names : List Known} {a b c : Lists} {i k : ℕ} {P : Pointee} {target 
         (λ l. (sym t.size_is, refl))
         (λ m g w z le. let h = grows_trans (pushed_grows p) g in let there = sort_at m h in (le, there.below, t.below m (over m h) w))
         (λ s shapes m g u given. let h = grows_trans (pushed_grows p) g in
-          let made : Made s shapes m (Shared k target i) (shared (flavor_of sort.flavor) (pointee_of sort.pointee)) = made_shared (sort_at m h) (sort_points m h u given) in
-          subst (λ F. Made s shapes m (Shared k target i) (shared (flavor_of F) P)) ef (subst (λ Q. Made s shapes m (Shared k target i) (shared (flavor_of sort.flavor) Q)) ep made))
+        let made : Made s shapes m (Shared k target i) (shared (flavor_of sort.flavor) (pointee_of sort.pointee)) = made_shared (sort_at m h) (sort_points m h u given) in
+        subst (λ F. Made s shapes m (Shared k target i) (shared (flavor_of F) P)) ef (subst (λ Q. Made s shapes m (Shared k target i) (shared (flavor_of sort.flavor) Q)) ep made))
 
     pub compiled_weak : IsPushed c d (Some (target_size target)) 4 (Weak k target i) j → Compiled names done (weak (flavor_of flavor) P) a d j
     compiled_weak p = compiled_pointer shared_adds (weak (flavor_of flavor) P) (target_size target) p (ap (λ n. n + 1) t.gives_count) (target_few target).0 (target_few target).1
         (λ l. (sym t.size_is, refl))
         (λ m g w z le. let h = grows_trans (pushed_grows p) g in let there = sort_at m h in (le, there.below, t.below m (over m h) w))
         (λ s shapes m g u given. let h = grows_trans (pushed_grows p) g in
-          let made : Made s shapes m (Weak k target i) (weak (flavor_of sort.flavor) (pointee_of sort.pointee)) = made_weak (sort_at m h) (sort_points m h u given) in
-          subst (λ F. Made s shapes m (Weak k target i) (weak (flavor_of F) P)) ef (subst (λ Q. Made s shapes m (Weak k target i) (weak (flavor_of sort.flavor) Q)) ep made))
+        let made : Made s shapes m (Weak k target i) (weak (flavor_of sort.flavor) (pointee_of sort.pointee)) = made_weak (sort_at m h) (sort_points m h u given) in
+        subst (λ F. Made s shapes m (Weak k target i) (weak (flavor_of F) P)) ef (subst (λ Q. Made s shapes m (Weak k target i) (weak (flavor_of sort.flavor) Q)) ep made))

@@ -164,7 +164,7 @@ pub record SpansAre (names : List Known) (done : ℕ) (all rest : Variants) (a b
   pub tag : (e : ℕ) → end ≡ Some e → 0 < e
   pub row_fits : (m : Checker) → Follows b m → (e : ℕ) → end ≡ Some e → (k : ℕ) (x : Span) → IsAt row k x → SpanFits m (length b.nodes) e x.first x.last
   pub lays : (m : Checker) (l : Layouts) → Follows b m → Knows names l done m
-      → ((at : ℕ) × (end ≡ fits at) × (variants_end l all ≡ max at (variants_end l rest))) × (variants_align l all ≡ max align (variants_align l rest))
+      → ((at : ℕ) × (1 ≤ at) × (end ≡ fits at) × (variants_end l all ≡ max at (variants_end l rest))) × (variants_align l all ≡ max align (variants_align l rest))
   pub stand : (s : Schema) (shapes : ℕ → Shape) (m : Checker) → Follows b m → Settled names s shapes m → Given shapes (length a.nodes) gives
       → (e : ℕ) → end ≡ Some e → (k : ℕ) (x : Span) → IsAt row k x → IsVariant s shapes m all k x
   pub others : (k : ℕ) → variant_at all (length row + k) ≡ variant_at rest k

@@ -1,5 +1,5 @@
 -- Plans that grow.
-use Rattle.std.specs.Prelude.{◌≡◌, ◌≢◌, ◌⊎◌, ℕ, ◌+◌, max, List, [], ◌∷◌, ◌++◌, length, Bool, true, Option, Some, None, cond, bytes_eq}
+use Rattle.std.specs.Prelude.{◌≡◌, ◌≢◌, ◌⊎◌, ℕ, ◌+◌, ◌<◌, max, List, [], ◌∷◌, ◌++◌, length, Bool, true, Option, Some, None, cond, bytes_eq}
 use Rattle.archive_check.specs.declared.plan.Job.{Job}
 use Rattle.archive_check.specs.declared.plan.Job.TheVariants.{Free}
 use Rattle.archive_check.specs.declared.plan.Node.{Node}
@@ -106,3 +106,22 @@ pub record IsListed (laid : Laid) (spans next : Spans) : Type 0 where
   pub items_are : next.items.items ≡ spans.items.items ++ span ∷ []
   pub end_is : next.end ≡ greater_of spans.end laid.end
   pub align_is : next.align ≡ max spans.align laid.align
+
+-- a row stands in a plan
+pub record PartsLaid (a b : Lists) (row : Row) (laid : Laid) : Type 0 where
+  pub extended : IsExtended a b row.parts.items []
+  pub first_is : laid.first ≡ length a.parts
+  pub last_is : laid.last ≡ length b.parts
+  pub few : laid.last < 18446744073709551616
+  pub end_is : laid.end ≡ row.end
+  pub align_is : laid.align ≡ row.align
+  pub free_is : laid.free ≡ row.free
+
+-- so do variants
+pub record SpansLaid (a b : Lists) (spans : Spans) (laid : Laid) : Type 0 where
+  pub extended : IsExtended a b [] spans.items.items
+  pub first_is : laid.first ≡ length a.variants
+  pub last_is : laid.last ≡ length b.variants
+  pub few : laid.last < 18446744073709551616
+  pub end_is : laid.end ≡ spans.end
+  pub align_is : laid.align ≡ spans.align

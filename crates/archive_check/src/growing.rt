@@ -4,7 +4,7 @@ ghost use Rattle.std.specs.Prelude.{◌≡◌, ◌≢◌, ◌⊎◌, ◌<◌, �
 ghost use Rattle.archive_check.specs.Layout.{kind_size, kind_align};
 ghost use Rattle.archive_check.specs.Expressions.{kind_of};
 ghost use Rattle.archive_check.specs.Plain.{is_plain_kind};
-ghost use Rattle.archive_check.specs.Growing.{node_of, lists_of, no_lists, IsPushed, IsSorted, IsExtended, Unless, IsMade, IsPlaced, IsListed};
+ghost use Rattle.archive_check.specs.Growing.{node_of, lists_of, no_lists, IsPushed, IsSorted, Unless, IsMade, IsPlaced, IsListed, PartsLaid, SpansLaid};
 ghost use Rattle.archive_check.specs.declared.plan.Job.TheVariants.{Free};
 
 use crate::error::Error;
@@ -216,8 +216,7 @@ impl Spans {
 
 /// The parts of a row, behind those of a plan.
 pub fn extend_parts(plan: &mut Plan, row: &Row) -> Result<Laid, Error>
-    ensures extended { OnOk result (IsExtended (lists_of plan.old) (lists_of plan.new) row.now.parts.items []) }
-    ensures laid { IfOk result (λ l. (l.first ≡ length plan.old.parts.items) × (l.last ≡ length plan.new.parts.items) × (l.end ≡ row.now.end) × (l.align ≡ row.now.align) × (l.free ≡ row.now.free)) }
+    ensures { IfOk result (λ laid. PartsLaid (lists_of plan.old) (lists_of plan.new) row.now laid) }
 {
     let first = plan.parts.len();
     plan.parts.extend_from_slice(&row.parts)?;
@@ -232,8 +231,7 @@ pub fn extend_parts(plan: &mut Plan, row: &Row) -> Result<Laid, Error>
 
 /// Variants, behind those of a plan.
 pub fn extend_variants(plan: &mut Plan, spans: &Spans) -> Result<Laid, Error>
-    ensures extended { OnOk result (IsExtended (lists_of plan.old) (lists_of plan.new) [] spans.now.items.items) }
-    ensures laid { IfOk result (λ l. (l.first ≡ length plan.old.variants.items) × (l.last ≡ length plan.new.variants.items) × (l.end ≡ spans.now.end) × (l.align ≡ spans.now.align)) }
+    ensures { IfOk result (λ laid. SpansLaid (lists_of plan.old) (lists_of plan.new) spans.now laid) }
 {
     let first = plan.variants.len();
     plan.variants.extend_from_slice(&spans.items)?;
