@@ -33,3 +33,4 @@ pub mod FreeWalks
 pub mod Compiled
 pub mod Pointing
 pub mod Rows
+pub mod Cases

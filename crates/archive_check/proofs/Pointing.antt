@@ -63,9 +63,9 @@ module _ {names : List Known} {gives : List Shape} {a b c : Lists} (f : Adds nam
       (λ e. let same : size ≡ 0 = cc in absurd (omega arith))
 
 module _ {names : List Known} {done : ℕ} {a b c : Lists} {j i : ℕ} where
-  pub compiled_boxed : {P : Pointee} {target : Target} → Leads names P a b target i → IsPushed b c (Some (target_size target)) 4 (PointerJob target i) j → Compiled names done (boxed P) a c j
-  compiled_boxed {P} {target} t p = compiled_pointer t.adds (boxed P) (target_size target) p (ap (λ n. n + 1) t.gives_count) (target_few target).0 (target_few target).1
-      (λ l. (sym t.size_is, refl)) (λ m g w z le. (le, t.below m (grows_trans (pushed_grows p) g) w))
+  pub compiled_boxed : {P : Pointee} {target : Target} {size : ℕ} → Leads names P a b target i → size ≡ target_size target → IsPushed b c (Some size) 4 (PointerJob target i) j → Compiled names done (boxed P) a c j
+  compiled_boxed {P} {target} {size} t es p = compiled_pointer t.adds (boxed P) size p (ap (λ n. n + 1) t.gives_count) (omega (arith, es, (target_few target).0)) (omega (arith, es, (target_few target).1))
+      (λ l. (sym t.size_is ∙ sym es, refl)) (λ m g w z le. (omega (arith, es, le), t.below m (grows_trans (pushed_grows p) g) w))
       (λ s shapes m g u given. made_boxed (t.points s shapes m (grows_trans (pushed_grows p) g) u given))
 
   pub compiled_vec : {X : Shape} → Targets names X a b i → IsPushed b c (Some 8) 4 (PointerJob Run i) j → Compiled names done (vec X) a c j
@@ -94,18 +94,18 @@ module _ {names : List Known} {a b c : Lists} {i k : ℕ} {P : Pointee} {target 
     sort_points {s} {shapes} u given = subst (λ Q. Points s shapes m target i Q) (sym ep) (t.points s shapes m over u given)
 
   module _ {done : ℕ} {d : Lists} {j : ℕ} where
-    pub compiled_shared : IsPushed c d (Some (target_size target)) 4 (Shared k target i) j → Compiled names done (shared (flavor_of flavor) P) a d j
-    compiled_shared p = compiled_pointer shared_adds (shared (flavor_of flavor) P) (target_size target) p (ap (λ n. n + 1) t.gives_count) (target_few target).0 (target_few target).1
-        (λ l. (sym t.size_is, refl))
-        (λ m g w z le. let h = grows_trans (pushed_grows p) g in let there = sort_at m h in (le, there.below, t.below m (over m h) w))
+    pub compiled_shared : {size : ℕ} → size ≡ target_size target → IsPushed c d (Some size) 4 (Shared k target i) j → Compiled names done (shared (flavor_of flavor) P) a d j
+    compiled_shared {size} es p = compiled_pointer shared_adds (shared (flavor_of flavor) P) size p (ap (λ n. n + 1) t.gives_count) (omega (arith, es, (target_few target).0)) (omega (arith, es, (target_few target).1))
+        (λ l. (sym t.size_is ∙ sym es, refl))
+        (λ m g w z le. let h = grows_trans (pushed_grows p) g in let there = sort_at m h in (omega (arith, es, le), there.below, t.below m (over m h) w))
         (λ s shapes m g u given. let h = grows_trans (pushed_grows p) g in
         let made : Made s shapes m (Shared k target i) (shared (flavor_of sort.flavor) (pointee_of sort.pointee)) = made_shared (sort_at m h) (sort_points m h u given) in
         subst (λ F. Made s shapes m (Shared k target i) (shared (flavor_of F) P)) ef (subst (λ Q. Made s shapes m (Shared k target i) (shared (flavor_of sort.flavor) Q)) ep made))
 
-    pub compiled_weak : IsPushed c d (Some (target_size target)) 4 (Weak k target i) j → Compiled names done (weak (flavor_of flavor) P) a d j
-    compiled_weak p = compiled_pointer shared_adds (weak (flavor_of flavor) P) (target_size target) p (ap (λ n. n + 1) t.gives_count) (target_few target).0 (target_few target).1
-        (λ l. (sym t.size_is, refl))
-        (λ m g w z le. let h = grows_trans (pushed_grows p) g in let there = sort_at m h in (le, there.below, t.below m (over m h) w))
+    pub compiled_weak : {size : ℕ} → size ≡ target_size target → IsPushed c d (Some size) 4 (Weak k target i) j → Compiled names done (weak (flavor_of flavor) P) a d j
+    compiled_weak {size} es p = compiled_pointer shared_adds (weak (flavor_of flavor) P) size p (ap (λ n. n + 1) t.gives_count) (omega (arith, es, (target_few target).0)) (omega (arith, es, (target_few target).1))
+        (λ l. (sym t.size_is ∙ sym es, refl))
+        (λ m g w z le. let h = grows_trans (pushed_grows p) g in let there = sort_at m h in (omega (arith, es, le), there.below, t.below m (over m h) w))
         (λ s shapes m g u given. let h = grows_trans (pushed_grows p) g in
         let made : Made s shapes m (Weak k target i) (weak (flavor_of sort.flavor) (pointee_of sort.pointee)) = made_weak (sort_at m h) (sort_points m h u given) in
         subst (λ F. Made s shapes m (Weak k target i) (weak (flavor_of F) P)) ef (subst (λ Q. Made s shapes m (Weak k target i) (weak (flavor_of sort.flavor) Q)) ep made))

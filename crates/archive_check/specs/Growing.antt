@@ -12,7 +12,9 @@ use Rattle.archive_check.specs.declared.growing.Known.{Known}
 use Rattle.archive_check.specs.declared.growing.Row.{Row}
 use Rattle.archive_check.specs.declared.growing.Spans.{Spans}
 use Rattle.archive_check.specs.declared.growing.Laid.{Laid}
-use Rattle.archive_check.specs.Shape.{Name}
+use Rattle.archive_check.specs.Shape.{Name, Pointee}
+use Rattle.archive_check.specs.Expressions.{pointee_of}
+use Rattle.archive_check.specs.declared.expr.FlavorInfo.{FlavorInfo}
 use Rattle.archive_check.specs.Runs.{IsAt}
 use Rattle.archive_check.specs.Fitting.{rounded, sum_of, greater_of}
 
@@ -68,6 +70,13 @@ pub record IsSorted (a b : Lists) (sort : Sort) (k : ℕ) : Type 0 where
   pub parts : b.parts ≡ a.parts
   pub variants : b.variants ≡ a.variants
   pub is : k ≡ length a.sorts
+
+-- one sort more, of this flavor and this pointee
+pub record IsCopied (a b : Lists) (flavor : FlavorInfo) (P : Pointee) (k : ℕ) : Type 0 where
+  pub sort : Sort
+  pub sorted : IsSorted a b sort k
+  pub flavor_is : sort.flavor ≡ flavor
+  pub pointee_is : pointee_of sort.pointee ≡ P
 
 -- so many parts and variants more
 pub record IsExtended (a b : Lists) (parts : List Part) (variants : List Span) : Type 0 where

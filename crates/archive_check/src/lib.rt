@@ -2,14 +2,16 @@
 #![tactic(auto)]
 
 pub mod bytes;
+mod compile;
+mod copy;
 pub mod error;
 pub mod expr;
-pub mod growing;
+mod growing;
 pub mod laws;
 pub mod layout;
 pub mod plan;
 pub mod shape;
-pub mod sizes;
+mod sizes;
 #[cfg(test)]
 mod tests;
 pub mod traits;

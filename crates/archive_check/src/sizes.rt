@@ -108,7 +108,8 @@ pub fn greater(a: Option<usize>, b: Option<usize>) -> Option<usize>
 
 /// What so many of a size take.
 pub fn times(size: Option<usize>, count: usize) -> Option<usize>
-    ensures { result ≡ times_of size count }
+    ensures total { result ≡ times_of size count }
+    ensures few { count < 18446744073709551616 }
 {
     match size {
         None => { if count == 0 { Some(0) } else { None } }
