@@ -34,3 +34,4 @@ pub mod Compiled
 pub mod Pointing
 pub mod Rows
 pub mod Cases
+pub mod Numbered

@@ -33,4 +33,5 @@ pub mod Growing
 pub mod Closed
 pub mod Represents
 pub mod Compiled
+pub mod Numbered
 pub mod Exact

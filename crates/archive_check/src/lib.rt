@@ -4,6 +4,7 @@
 pub mod bytes;
 mod compile;
 mod copy;
+mod counting;
 pub mod error;
 pub mod expr;
 mod growing;
