@@ -50,7 +50,7 @@ at_second [] ys k x h a = let e : k ≡ k - 0 = omega arith in subst (λ i. IsAt
 at_second (z ∷ xs) ys zero x h a = absurd (omega (arith, h))
 at_second (z ∷ xs) ys (suc k) x h a = let e : k - length xs ≡ suc k - suc (length xs) = omega arith in subst (λ i. IsAt ys i x) e (at_second xs ys k x (omega (arith, h)) (record { below = omega (arith, a.below); is = a.is }))
 
-same_get : {A : Type 0} (xs : List A) (i : ℕ) (x y : A) → i < length xs → slice_index_or xs i x ≡ slice_index_or xs i y
+pub same_get : {A : Type 0} (xs : List A) (i : ℕ) (x y : A) → i < length xs → slice_index_or xs i x ≡ slice_index_or xs i y
 same_get [] i x y h = absurd (omega arith)
 same_get (z ∷ xs) zero x y h = refl
 same_get (z ∷ xs) (suc i) x y h = same_get xs i x y (omega arith)
@@ -85,7 +85,7 @@ grows_refl a = record { nodes = goes_refl a.nodes; parts = goes_refl a.parts; va
 pub grows_trans : {a b c : Lists} → Grows a b → Grows b c → Grows a c
 grows_trans g h = record { nodes = goes_trans g.nodes h.nodes; parts = goes_trans g.parts h.parts; variants = goes_trans g.variants h.variants; sorts = goes_trans g.sorts h.sorts }
 
-same_goes : {A : Type 0} {xs ys : List A} → ys ≡ xs → Goes xs ys
+pub same_goes : {A : Type 0} {xs ys : List A} → ys ≡ xs → Goes xs ys
 same_goes {xs = xs} e = record { more = []; is = e ∙ sym (append-nil xs) }
 
 -- one node more

@@ -34,4 +34,5 @@ pub mod Closed
 pub mod Represents
 pub mod Compiled
 pub mod Numbered
+pub mod Planned
 pub mod Exact
