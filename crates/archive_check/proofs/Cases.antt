@@ -16,6 +16,9 @@ module _ {names : List Known} {a b : Lists} {j : ℕ} where
   pub as_shape : {done : ℕ} {X Y : Shape} → X ≡ Y → Compiled names done Y a b j → Compiled names done X a b j
   as_shape {done} e c = subst (λ Z. Compiled names done Z a b j) (sym e) c
 
+  pub as_done : {done n : ℕ} {X : Shape} → done ≡ n → Compiled names done X a b j → Compiled names n X a b j
+  as_done {X = X} e c = subst (λ n. Compiled names n X a b j) e c
+
   pub as_target : {X Y : Shape} → X ≡ Y → Targets names Y a b j → Targets names X a b j
   as_target e c = subst (λ Z. Targets names Z a b j) (sym e) c
 
