@@ -35,7 +35,12 @@ pub mod Names
 pub mod Sizes
 pub mod Faults
 pub mod Runs
+pub mod Fitting
+pub mod Growing
 pub mod Closed
 pub mod Represents
+pub mod Compiled
+pub mod Numbered
+pub mod Planned
 pub mod Exact
 pub mod Turns

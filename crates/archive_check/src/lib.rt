@@ -5,16 +5,21 @@ pub mod bytes;
 mod check;
 mod checked;
 pub mod defs;
+mod compile;
+mod counting;
 pub mod error;
 pub mod expr;
+mod growing;
 pub mod laws;
 pub mod layout;
 pub mod names;
 pub mod leaf;
 pub mod plan;
+pub mod planning;
 pub mod shape;
 pub mod shared;
 pub mod subtree;
+mod sizes;
 #[cfg(test)]
 mod tests;
 #[cfg(test)]

@@ -1,0 +1,116 @@
+-- Names with their nodes, and definitions.
+use Rattle.std.proofs.Common.{◌≡◌, ◌≢◌, ◌⊎◌, inl, inr, ⊎_elim, ℕ, zero, suc, refl, sym, ap, ◌∙◌, subst, ◌+◌, ◌-◌, ◌<◌, ◌≤◌, arith, List, [], ◌∷◌, ◌++◌, length, Bool, true, false, cond, bytes_eq, Option, Some, None, length-append, Bor}
+use Rattle.archive_check.specs.declared.defs.Def.{Def}
+use Rattle.archive_check.specs.declared.growing.Known.{Known}
+use Rattle.archive_check.specs.Shape.{Name, Shape, named, definition}
+use Rattle.archive_check.specs.Expressions.{shape_of, entries_of}
+use Rattle.archive_check.specs.Runs.{IsAt}
+use Rattle.archive_check.specs.Growing.{node_of}
+use Rattle.archive_check.specs.Compiled.{count_of}
+use Rattle.archive_check.specs.Numbered.{start_of, FirstAt, IsRootOf, RootIs, IsNumbered}
+use Rattle.archive_check.proofs.GoingOn.{at_more, at_less, at_last, same_at, some_at}
+
+at_tail : {A : Type 0} {x y : A} {xs : List A} {i : ℕ} → IsAt (y ∷ xs) (suc i) x → IsAt xs i x
+at_tail h = record { below = omega (arith, h.below); is = h.is }
+
+at_cons : {A : Type 0} {x : A} {xs : List A} {i : ℕ} (y : A) → IsAt xs i x → IsAt (y ∷ xs) (suc i) x
+at_cons y h = record { below = omega (arith, h.below); is = h.is }
+
+-- where the next nodes begin
+pub start_next : (ds : List Def) (i : ℕ) (d : Def) → IsAt ds i d → start_of ds (i + 1) ≡ start_of ds i + count_of (shape_of d.expr)
+start_next [] i d h = absurd (omega (arith, h.below))
+start_next (x ∷ ds) zero d h = let e : d ≡ x = h.is in let one : start_of (x ∷ ds) (suc zero) ≡ count_of (shape_of x.expr) + 0 = refl in omega (arith, one, ap (λ (y : Def). count_of (shape_of y.expr)) e)
+start_next (x ∷ ds) (suc i) d h = let n : suc i + 1 ≡ suc (i + 1) = omega arith in omega (arith, start_next ds i d (at_tail h), ap (start_of (x ∷ ds)) n)
+
+pub start_later : (ds : List Def) (i k : ℕ) → i ≤ k → start_of ds i ≤ start_of ds k
+start_later ds zero k h = omega arith
+start_later [] (suc i) zero h = omega arith
+start_later [] (suc i) (suc k) h = omega arith
+start_later (x ∷ ds) (suc i) zero h = absurd (omega arith)
+start_later (x ∷ ds) (suc i) (suc k) h = omega (arith, start_later ds i k (omega arith))
+
+-- what is looked for is found at its first entry
+first_here : (k : Known) (ks : List Known) (name : Name) (j : ℕ) → bytes_eq k.name.now name ≡ true → Some k.node ≡ Some j → FirstAt (k ∷ ks) name 0 j
+first_here k ks name j e f = record { known = k; at = record { below = omega arith; is = refl }; node_is = cc; same = e; others = λ p x h a. absurd (omega arith) }
+
+first_there : (k : Known) (ks : List Known) (name : Name) (q j : ℕ) → bytes_eq k.name.now name ≡ false → FirstAt ks name q j → FirstAt (k ∷ ks) name (suc q) j
+first_there k ks name q j e f = record { known = f.known; at = at_cons k f.at; node_is = f.node_is; same = f.same; others = others }
+  where
+    others : (p : ℕ) (x : Known) → p < suc q → IsAt (k ∷ ks) p x → bytes_eq x.name.now name ≡ false
+    others zero x h a = ap (λ (y : Known). bytes_eq y.name.now name) a.is ∙ e
+    others (suc p) x h a = f.others p x (omega arith) (at_tail a)
+
+pub first_at : (names : List Known) (name : Name) (j : ℕ) → node_of names name ≡ Some j → (q : ℕ) × FirstAt names name q j
+first_at [] name j e = absurd (cc e)
+first_at (k ∷ ks) name j e = by (λ f. first_at ks name j f) (bytes_eq k.name.now name) refl
+  where
+    by : (node_of ks name ≡ Some j → (q : ℕ) × FirstAt ks name q j) → (b : Bool) → bytes_eq k.name.now name ≡ b → (q : ℕ) × FirstAt (k ∷ ks) name q j
+    by later true h = let f : Some k.node ≡ Some j = sym (ap (λ b. cond b (Some k.node) (node_of ks name)) h) ∙ e in (0, first_here k ks name j h f)
+    by later false h = let f : node_of ks name ≡ Some j = sym (ap (λ b. cond b (Some k.node) (node_of ks name)) h) ∙ e in let r = later f in (suc r.0, first_there k ks name r.0 j h r.1)
+
+pub node_of_first : (names : List Known) (name : Name) (q j : ℕ) → FirstAt names name q j → node_of names name ≡ Some j
+node_of_first [] name q j f = absurd (omega (arith, f.at.below))
+node_of_first (k ∷ ks) name zero j f =
+    let same : f.known ≡ k = f.at.is in
+    let here : bytes_eq k.name.now name ≡ true = sym (ap (λ (y : Known). bytes_eq y.name.now name) same) ∙ f.same in
+    ap (λ b. cond b (Some k.node) (node_of ks name)) here ∙ ap Some (sym (ap (λ (y : Known). y.node) same) ∙ f.node_is)
+node_of_first (k ∷ ks) name (suc q) j f =
+    let there : bytes_eq k.name.now name ≡ false = f.others 0 k (omega arith) (record { below = omega arith; is = refl }) in
+    ap (λ b. cond b (Some k.node) (node_of ks name)) there
+    ∙ node_of_first ks name q j (record { known = f.known; at = at_tail f.at; node_is = f.node_is; same = f.same; others = λ p x h a. f.others (suc p) x (omega arith) (at_cons k a) })
+
+pub first_more : {names : List Known} (more : List Known) {name : Name} {q j : ℕ} → FirstAt names name q j → FirstAt (names ++ more) name q j
+first_more {names} more f = record {
+  known = f.known;
+  at = at_more (record { more = more; is = refl }) f.at;
+  node_is = f.node_is;
+  same = f.same;
+  others = λ p k h a. f.others p k h (at_less (record { more = more; is = refl }) (omega (arith, f.at.below)) a);
+}
+
+-- the definition of a name is that of its first entry
+pub definition_is : (ds : List Def) (names : List Known) → ((i : ℕ) (d : Def) (k : Known) → IsAt ds i d → IsAt names i k → k.name.now ≡ d.name.now)
+    → (name : Name) (q j : ℕ) (d : Def) → FirstAt names name q j → IsAt ds q d → definition (entries_of ds) name ≡ Some (shape_of d.expr)
+definition_is [] names same name q j d f a = absurd (omega (arith, a.below))
+definition_is (x ∷ ds) [] same name q j d f a = absurd (omega (arith, f.at.below))
+definition_is (x ∷ ds) (k ∷ ks) same name zero j d f a =
+    let here : bytes_eq x.name.now name ≡ true = sym (ap (λ n. bytes_eq n name) (same 0 x f.known (record { below = omega arith; is = refl }) f.at)) ∙ f.same in
+    ap (λ b. cond b (Some (shape_of x.expr)) (definition (entries_of ds) name)) here ∙ ap (λ (y : Def). Some (shape_of y.expr)) (sym a.is)
+definition_is (x ∷ ds) (k ∷ ks) same name (suc q) j d f a =
+    let other : bytes_eq k.name.now name ≡ false = f.others 0 k (omega arith) (record { below = omega arith; is = refl }) in
+    let there : bytes_eq x.name.now name ≡ false = sym (ap (λ n. bytes_eq n name) (same 0 x k (record { below = omega arith; is = refl }) (record { below = omega arith; is = refl }))) ∙ other in
+    ap (λ b. cond b (Some (shape_of x.expr)) (definition (entries_of ds) name)) there
+    ∙ definition_is ds ks (λ i y l h g. same (suc i) y l (at_cons x h) (at_cons k g)) name q j d
+    (record { known = f.known; at = at_tail f.at; node_is = f.node_is; same = f.same; others = λ p y h g. f.others (suc p) y (omega arith) (at_cons k g) }) (at_tail a)
+
+-- one definition more
+root_more : {names : List Known} (more : List Known) (i start : ℕ) (X : Shape) (j : ℕ) → IsRootOf names i start X j → IsRootOf (names ++ more) i start X j
+root_more more i start X j (inl h) = inl (h.0, h.1, (h.2.0, h.2.1, first_more more h.2.2))
+root_more more i start X j (inr h) = inr h
+
+found_root : (names : List Known) (i start : ℕ) (X : Shape) (j : ℕ) → length names ≡ i → RootIs names start X j → IsRootOf names i start X j
+found_root names i start X j e (inl h) = let f = first_at names h.0 j h.2 in inl (h.0, h.1, (f.0, omega (arith, e, f.1.at.below), f.1))
+found_root names i start X j e (inr h) = inr h
+
+pub numbered_next : {defs : List Def} {names new : List Known} {i start : ℕ} {d : Def} (k : Known) → IsNumbered defs names i → start ≡ start_of defs i → IsAt defs i d → k.name.now ≡ d.name.now
+    → RootIs names start (shape_of d.expr) k.node → new ≡ names ++ k ∷ [] → IsNumbered defs new (i + 1)
+numbered_next {defs} {names} {new} {i} {start} {d} k r es at en root e =
+    subst (λ ks. IsNumbered defs ks (i + 1)) (sym e) (record {
+      count = omega (arith, length-append names (k ∷ []), r.count);
+      name_is = λ p x y h g. ⊎_elim
+          (λ lt. r.name_is p x y h (at_less (record { more = k ∷ []; is = refl }) lt g))
+          (λ q. let here : p ≡ i = q.0 ∙ r.count in
+          let same : x ≡ d = same_at (subst (λ n. IsAt defs n x) here h) at in
+          ap (λ (z : Known). z.name.now) q.1 ∙ en ∙ ap (λ (z : Def). z.name.now) (sym same))
+          (at_last names k y p g);
+      root_is = λ p x y h g. ⊎_elim
+          (λ lt. root_more (k ∷ []) p (start_of defs p) (shape_of x.expr) y.node (r.root_is p x y h (at_less (record { more = k ∷ []; is = refl }) lt g)))
+          (λ q. let here : p ≡ i = q.0 ∙ r.count in
+          let same : x ≡ d = same_at (subst (λ n. IsAt defs n x) here h) at in
+          let old : IsRootOf names i start (shape_of d.expr) k.node = found_root names i start (shape_of d.expr) k.node r.count root in
+          let here_root : IsRootOf names p (start_of defs p) (shape_of d.expr) k.node =
+          subst (λ n. IsRootOf names n (start_of defs n) (shape_of d.expr) k.node) (sym here) (subst (λ n. IsRootOf names i n (shape_of d.expr) k.node) es old) in
+          root_more (k ∷ []) p (start_of defs p) (shape_of x.expr) y.node
+          (subst (λ (z : Def). IsRootOf names p (start_of defs p) (shape_of z.expr) y.node) (sym same) (subst (λ (z : Known). IsRootOf names p (start_of defs p) (shape_of d.expr) z.node) (sym q.1) here_root)))
+          (at_last names k y p g);
+    })

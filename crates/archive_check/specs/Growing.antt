@@ -1,0 +1,136 @@
+-- Plans that grow.
+use Rattle.std.specs.Prelude.{◌≡◌, ◌≢◌, ◌⊎◌, ℕ, ◌+◌, ◌<◌, max, List, [], ◌∷◌, ◌++◌, length, Bool, true, Option, Some, None, cond, bytes_eq}
+use Rattle.archive_check.specs.declared.plan.Job.{Job}
+use Rattle.archive_check.specs.declared.plan.Job.TheVariants.{Free}
+use Rattle.archive_check.specs.declared.plan.Node.{Node}
+use Rattle.archive_check.specs.declared.plan.Part.{Part}
+use Rattle.archive_check.specs.declared.plan.Span.{Span}
+use Rattle.archive_check.specs.declared.plan.Sort.{Sort}
+use Rattle.archive_check.specs.declared.plan.Plan.{Plan}
+use Rattle.archive_check.specs.declared.plan.Checker.{Checker}
+use Rattle.archive_check.specs.declared.growing.Known.{Known}
+use Rattle.archive_check.specs.declared.growing.Row.{Row}
+use Rattle.archive_check.specs.declared.growing.Spans.{Spans}
+use Rattle.archive_check.specs.declared.growing.Laid.{Laid}
+use Rattle.archive_check.specs.Shape.{Name, Pointee}
+use Rattle.archive_check.specs.Expressions.{pointee_of}
+use Rattle.archive_check.specs.declared.expr.FlavorInfo.{FlavorInfo}
+use Rattle.archive_check.specs.Runs.{IsAt}
+use Rattle.archive_check.specs.Fitting.{rounded, sum_of, greater_of}
+
+-- the node of a name: of the first that is called so
+abbrev pub node_of : List Known → Name → Option ℕ
+node_of [] name = None
+node_of (k ∷ ks) name = cond (bytes_eq k.name.now name) (Some k.node) (node_of ks name)
+
+pub record Lists : Type 0 where
+  pub nodes : List Node
+  pub parts : List Part
+  pub variants : List Span
+  pub sorts : List Sort
+
+abbrev pub lists_of : Plan → Lists
+lists_of p = record { nodes = p.nodes.items; parts = p.parts.items; variants = p.variants.items; sorts = p.sorts.items }
+
+abbrev pub lists_in : Checker → Lists
+lists_in m = record { nodes = m.nodes.now; parts = m.parts.now; variants = m.variants.now; sorts = m.sorts.now }
+
+-- a plan without anything
+abbrev pub no_lists : Lists
+no_lists = record { nodes = []; parts = []; variants = []; sorts = [] }
+
+-- one list goes on from another
+pub record Goes {A : Type 0} (xs ys : List A) : Type 0 where
+  pub more : List A
+  pub is : ys ≡ xs ++ more
+
+-- so do all of a plan's
+pub record Grows (a b : Lists) : Type 0 where
+  pub nodes : Goes a.nodes b.nodes
+  pub parts : Goes a.parts b.parts
+  pub variants : Goes a.variants b.variants
+  pub sorts : Goes a.sorts b.sorts
+
+-- one node more
+pub record IsPushed (a b : Lists) (size : Option ℕ) (align : ℕ) (job : Job) (j : ℕ) : Type 0 where
+  pub node : Node
+  pub nodes : b.nodes ≡ a.nodes ++ node ∷ []
+  pub parts : b.parts ≡ a.parts
+  pub variants : b.variants ≡ a.variants
+  pub sorts : b.sorts ≡ a.sorts
+  pub is : j ≡ length a.nodes
+  pub size_is : node.size ≡ size
+  pub align_is : node.align ≡ align
+  pub job_is : node.job ≡ job
+
+-- one sort more
+pub record IsSorted (a b : Lists) (sort : Sort) (k : ℕ) : Type 0 where
+  pub sorts : b.sorts ≡ a.sorts ++ sort ∷ []
+  pub nodes : b.nodes ≡ a.nodes
+  pub parts : b.parts ≡ a.parts
+  pub variants : b.variants ≡ a.variants
+  pub is : k ≡ length a.sorts
+
+-- one sort more, of this flavor and this pointee
+pub record IsCopied (a b : Lists) (flavor : FlavorInfo) (P : Pointee) (k : ℕ) : Type 0 where
+  pub sort : Sort
+  pub sorted : IsSorted a b sort k
+  pub flavor_is : sort.flavor ≡ flavor
+  pub pointee_is : pointee_of sort.pointee ≡ P
+
+-- so many parts and variants more
+pub record IsExtended (a b : Lists) (parts : List Part) (variants : List Span) : Type 0 where
+  pub nodes_are : b.nodes ≡ a.nodes
+  pub parts_are : b.parts ≡ a.parts ++ parts
+  pub variants_are : b.variants ≡ a.variants ++ variants
+  pub sorts_are : b.sorts ≡ a.sorts
+
+-- a job, or none where there is nothing to check
+abbrev pub Unless : Bool → Option ℕ → Job → Job → Type 0
+Unless free size job made = ((made ≡ Free) × ((free ≡ true) ⊎ ((z : ℕ) → size ≡ Some z → z ≡ 0))) ⊎ ((made ≡ job) × (size ≢ Some 0))
+
+-- the node of what is laid out
+pub record IsMade (a b : Lists) (size : Option ℕ) (align : ℕ) (free : Bool) (job : Job) (j : ℕ) : Type 0 where
+  pub made : Job
+  pub which : Unless free size job made
+  pub pushed : IsPushed a b size align made j
+
+-- a part more, behind those of a row
+pub record IsPlaced (node : ℕ) (here : Node) (row next : Row) : Type 0 where
+  pub last : Part
+  pub offset : Option ℕ
+  pub offset_is : offset ≡ rounded row.end here.align
+  pub node_is : last.node ≡ node
+  pub begins : (o : ℕ) → offset ≡ Some o → last.offset ≡ o
+  pub parts_are : next.parts.items ≡ row.parts.items ++ last ∷ []
+  pub end_is : next.end ≡ sum_of offset here.size
+  pub align_is : next.align ≡ max row.align here.align
+  pub still_free : next.free ≡ true → (row.free ≡ true) × (here.job ≡ Free)
+
+-- a variant more
+pub record IsListed (laid : Laid) (spans next : Spans) : Type 0 where
+  pub span : Span
+  pub first_is : span.first ≡ laid.first
+  pub last_is : span.last ≡ laid.last
+  pub items_are : next.items.items ≡ spans.items.items ++ span ∷ []
+  pub end_is : next.end ≡ greater_of spans.end laid.end
+  pub align_is : next.align ≡ max spans.align laid.align
+
+-- a row stands in a plan
+pub record PartsLaid (a b : Lists) (row : Row) (laid : Laid) : Type 0 where
+  pub extended : IsExtended a b row.parts.items []
+  pub first_is : laid.first ≡ length a.parts
+  pub last_is : laid.last ≡ length b.parts
+  pub few : laid.last < 18446744073709551616
+  pub end_is : laid.end ≡ row.end
+  pub align_is : laid.align ≡ row.align
+  pub free_is : laid.free ≡ row.free
+
+-- so do variants
+pub record SpansLaid (a b : Lists) (spans : Spans) (laid : Laid) : Type 0 where
+  pub extended : IsExtended a b [] spans.items.items
+  pub first_is : laid.first ≡ length a.variants
+  pub last_is : laid.last ≡ length b.variants
+  pub few : laid.last < 18446744073709551616
+  pub end_is : laid.end ≡ spans.end
+  pub align_is : laid.align ≡ spans.align

@@ -1,0 +1,120 @@
+//! How many nodes expressions are compiled to, and which is whose.
+
+ghost use Rattle.std.specs.Prelude.{ℕ, ◌≡◌, ◌+◌, IfOk, length};
+ghost use Rattle.archive_check.specs.Expressions.{shape_of, pointee_of, shapes_in, variants_in};
+ghost use Rattle.archive_check.specs.Compiled.{count_of, count_pointee as pointee_count, counts_of, variant_counts_of};
+ghost use Rattle.archive_check.specs.Numbered.{RootIs, IsNumbered};
+
+use crate::error::Error;
+use crate::expr::{Def, Expr, Pointee};
+use crate::growing::{Known, find};
+use std::alloc::Global;
+
+// So many and so many. More than addresses are, there is no memory for.
+fn add(a: usize, b: usize) -> Result<usize, Error>
+    ensures { IfOk result (λ n. n ≡ a + b) }
+{
+    a.checked_add(b).ok_or(Error::OutOfMemory)
+}
+
+/// How many nodes an expression is compiled to. Refused with 1 where that is above `usize::MAX`.
+#[cycle(count)]
+#[tactic(auto, using(crate::proofs::Views::views))]
+pub fn count(expr: &Expr) -> Result<usize, Error>
+    ensures { IfOk result (λ n. n ≡ count_of (shape_of expr.now)) }
+{
+    match expr {
+        Expr::Leaf(_) => Ok(1),
+        Expr::Record(parts) => {
+            let parts = count_parts(parts)?;
+            add(parts, 1)
+        }
+        Expr::Choice(_, variants) => {
+            let variants = count_variants(variants)?;
+            add(variants, 1)
+        }
+        Expr::Array(_, x) | Expr::Vec(x) => {
+            let element = count(x)?;
+            add(element, 1)
+        }
+        Expr::Box(x) | Expr::Shared(_, x) | Expr::Weak(_, x) => {
+            let pointee = count_pointee(x)?;
+            add(pointee, 1)
+        }
+        Expr::Str => Ok(2),
+        Expr::Named(_) => Ok(0),
+    }
+}
+
+// How many nodes a pointee is compiled to.
+#[cycle(count)]
+#[tactic(auto, using(crate::proofs::Views::views))]
+fn count_pointee(pointee: &Pointee) -> Result<usize, Error>
+    ensures { IfOk result (λ n. n ≡ pointee_count (pointee_of pointee.now)) }
+{
+    match pointee {
+        Pointee::One(x) | Pointee::Run(x) => count(x),
+        Pointee::Text => Ok(1),
+    }
+}
+
+// How many nodes parts are compiled to.
+#[cycle(count)]
+#[tactic(auto, using(crate::proofs::Views::views))]
+fn count_parts(parts: &[Expr]) -> Result<usize, Error>
+    ensures { IfOk result (λ n. n ≡ counts_of (shapes_in parts.now)) }
+{
+    let mut total = 0;
+    for i in 0..parts.len() {
+        let more = count(&parts[i])?;
+        total = add(total, more)?;
+    }
+    Ok(total)
+}
+
+// How many nodes variants are compiled to.
+#[cycle(count)]
+#[tactic(auto, using(crate::proofs::Views::views))]
+fn count_variants(variants: &[Vec<Expr>]) -> Result<usize, Error>
+    ensures { IfOk result (λ n. n ≡ variant_counts_of (variants_in variants.now)) }
+{
+    let mut total = 0;
+    for i in 0..variants.len() {
+        let more = count_parts(&variants[i])?;
+        total = add(total, more)?;
+    }
+    Ok(total)
+}
+
+// The node of an expression whose nodes begin at `start`, and where they end. Refused with 31 where it is a name that isn't known yet.
+fn root(names: &[Known], expr: &Expr, start: usize) -> Result<(usize, usize), Error>
+    ensures { IfOk result (λ r. RootIs names.now start (shape_of expr.now) r.0 × (r.1 ≡ start + count_of (shape_of expr.now))) }
+{
+    let more = count(expr)?;
+    let end = add(start, more)?;
+    if let Expr::Named(name) = expr {
+        return match find(names, name) {
+            None => Err(Error::RecursiveLayout),
+            Some(node) => Ok((node, end)),
+        };
+    }
+    Ok((end - 1, end))
+}
+
+/// The nodes that definitions are compiled to, one after another. Memory comes from `alloc`. Refused with 1 where memory is refused, and with
+/// 31 where one is a name that isn't defined before it.
+pub fn number(alloc: Global, defs: &[Def]) -> Result<Vec<Known>, Error>
+    ensures { IfOk result (λ names. IsNumbered defs.now names.items (length defs.now)) }
+{
+    let mut names: Vec<Known> = Vec::new(alloc);
+    let mut start = 0;
+    for i in 0..defs.len() {
+        let (node, end) = root(&names, &defs[i].expr, start)?;
+        names.push(Known {
+            name: defs[i].name,
+            node,
+        })?;
+        start = end;
+    }
+    Ok(names)
+}

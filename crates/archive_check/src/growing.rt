@@ -1,0 +1,245 @@
+//! Plans that grow: everything is added behind what there is, and nothing is changed.
+
+ghost use Rattle.std.specs.Prelude.{◌≡◌, ◌≢◌, ◌⊎◌, ◌<◌, ◌≤◌, ℕ, true, IfOk, OnOk, length, [], Some, None};
+ghost use Rattle.archive_check.specs.Layout.{kind_size, kind_align};
+ghost use Rattle.archive_check.specs.Expressions.{kind_of};
+ghost use Rattle.archive_check.specs.Plain.{is_plain_kind};
+ghost use Rattle.archive_check.specs.Growing.{node_of, lists_of, no_lists, IsPushed, IsSorted, Unless, IsMade, IsPlaced, IsListed, PartsLaid, SpansLaid};
+ghost use Rattle.archive_check.specs.declared.plan.Job.TheVariants.{Free};
+
+use crate::error::Error;
+use crate::expr::{FlavorInfo, Kind, Pointee};
+use crate::plan::{Job, Node, Part, Plan, Sort, Span};
+use crate::sizes::{end_of, greater, is_plain, leaf_size, offset_of};
+use std::alloc::Global;
+
+/// A name, and the node that its definition is or will be.
+#[derive(Debug, Clone, Copy)]
+pub struct Known {
+    /// The name.
+    pub name: &'static str,
+    /// The node's index.
+    pub node: usize,
+}
+
+/// Parts that are laid out one behind another.
+#[derive(Debug, Drop)]
+pub struct Row {
+    /// The parts.
+    pub parts: Vec<Part>,
+    /// Where they end.
+    pub end: Option<usize>,
+    /// The greatest alignment.
+    pub align: usize,
+    /// Whether each of them has nothing to check.
+    pub free: bool,
+}
+
+/// Variants, each laid out for itself.
+#[derive(Debug, Drop)]
+pub struct Spans {
+    /// Their parts.
+    pub items: Vec<Span>,
+    /// Where the longest ends.
+    pub end: Option<usize>,
+    /// The greatest alignment.
+    pub align: usize,
+}
+
+/// Parts or variants that stand in a plan, from `first` up to `last`.
+#[derive(Debug, Clone, Copy)]
+pub struct Laid {
+    /// The first.
+    pub first: usize,
+    /// Behind the last.
+    pub last: usize,
+    /// Where they end.
+    pub end: Option<usize>,
+    /// The greatest alignment.
+    pub align: usize,
+    /// Whether each has nothing to check.
+    pub free: bool,
+}
+
+impl Plan {
+    /// A plan without a node.
+    pub fn new(alloc: Global) -> Plan
+        ensures { lists_of result ≡ no_lists }
+    {
+        Plan {
+            nodes: Vec::new(alloc),
+            parts: Vec::new(alloc),
+            variants: Vec::new(alloc),
+            sorts: Vec::new(alloc),
+        }
+    }
+}
+
+/// The node of the first of the names that is this one.
+pub fn find(names: &[Known], name: &str) -> Option<usize>
+    ensures { result ≡ node_of names.now name.now }
+{
+    match names {
+        [] => None,
+        [first, rest @ ..] => {
+            if first.name == name {
+                return Some(first.node);
+            }
+            find(rest, name)
+        }
+    }
+}
+
+/// One node more.
+pub fn push(plan: &mut Plan, size: Option<usize>, align: usize, job: Job) -> Result<usize, Error>
+    requires { 0 < align }
+    ensures { IfOk result (λ j. IsPushed (lists_of plan.old) (lists_of plan.new) size align job j) }
+{
+    let node = plan.nodes.len();
+    plan.nodes.push(Node { size, align, job })?;
+    Ok(node)
+}
+
+/// One sort more.
+pub fn push_sort(plan: &mut Plan, flavor: FlavorInfo, pointee: Pointee) -> Result<usize, Error>
+    ensures { IfOk result (λ k. IsSorted (lists_of plan.old) (lists_of plan.new) (record { flavor = flavor; pointee = pointee }) k) }
+{
+    let sort = plan.sorts.len();
+    plan.sorts.push(Sort { flavor, pointee })?;
+    Ok(sort)
+}
+
+// A job, or none where there is nothing to check: any bytes are legal, or there are none.
+fn unless_free(free: bool, size: Option<usize>, job: Job) -> Job
+    ensures { Unless free size job result }
+{
+    match size {
+        Some(0) | None => Job::Free,
+        Some(_) => { if free { Job::Free } else { job } }
+    }
+}
+
+/// A node of what is laid out, with nothing to check where that is free.
+pub fn push_laid(
+    plan: &mut Plan,
+    size: Option<usize>,
+    align: usize,
+    free: bool,
+    job: Job,
+) -> Result<usize, Error>
+    requires { 0 < align }
+    ensures { IfOk result (λ j. IsMade (lists_of plan.old) (lists_of plan.new) size align free job j) }
+{
+    let made = unless_free(free, size, job);
+    push(plan, size, align, made)
+}
+
+/// A leaf's node.
+pub fn push_leaf(plan: &mut Plan, kind: Kind) -> Result<usize, Error>
+    ensures { IfOk result (λ j. IsMade (lists_of plan.old) (lists_of plan.new) (Some (kind_size (kind_of kind))) (kind_align (kind_of kind)) (is_plain_kind (kind_of kind)) (Job.Leaf kind) j) }
+{
+    let size = leaf_size(kind);
+    push_laid(
+        plan,
+        Some(size),
+        size.max(1),
+        is_plain(kind),
+        Job::Leaf(kind),
+    )
+}
+
+/// Whether there is nothing to check.
+pub fn is_free(job: Job) -> bool
+    ensures { result ≡ true → job ≡ Free }
+{
+    matches!(job, Job::Free)
+}
+
+impl Row {
+    /// No part, at an offset.
+    pub fn new(alloc: Global, start: usize) -> Row
+        ensures parts { result.parts.items ≡ [] }
+        ensures end { result.end ≡ Some start }
+        ensures align { result.align ≡ 1 }
+    {
+        Row {
+            parts: Vec::new(alloc),
+            end: Some(start),
+            align: 1,
+            free: true,
+        }
+    }
+
+    /// One part more, which is a node.
+    pub fn place(&mut self, node: usize, here: Node) -> Result<(), Error>
+        ensures { OnOk result (IsPlaced node here self.old self.new) }
+    {
+        let offset = offset_of(self.end, here.align);
+        self.parts.push(Part {
+            offset: offset.unwrap_or(0),
+            node,
+        })?;
+        self.end = end_of(offset, here.size);
+        self.align = self.align.max(here.align);
+        self.free = self.free && is_free(here.job);
+        Ok(())
+    }
+}
+
+impl Spans {
+    /// No variant. A tag takes one byte.
+    pub fn new(alloc: Global) -> Spans
+        ensures items { result.items.items ≡ [] }
+        ensures end { result.end ≡ Some 1 }
+        ensures align { result.align ≡ 1 }
+    {
+        Spans {
+            items: Vec::new(alloc),
+            end: Some(1),
+            align: 1,
+        }
+    }
+
+    /// One variant more.
+    pub fn list(&mut self, laid: Laid) -> Result<(), Error>
+        ensures { OnOk result (IsListed laid self.old self.new) }
+    {
+        self.items.push(Span {
+            first: laid.first,
+            last: laid.last,
+        })?;
+        self.end = greater(self.end, laid.end);
+        self.align = self.align.max(laid.align);
+        Ok(())
+    }
+}
+
+/// The parts of a row, behind those of a plan.
+pub fn extend_parts(plan: &mut Plan, row: &Row) -> Result<Laid, Error>
+    ensures { IfOk result (λ laid. PartsLaid (lists_of plan.old) (lists_of plan.new) row.now laid) }
+{
+    let first = plan.parts.len();
+    plan.parts.extend_from_slice(&row.parts)?;
+    Ok(Laid {
+        first,
+        last: plan.parts.len(),
+        end: row.end,
+        align: row.align,
+        free: row.free,
+    })
+}
+
+/// Variants, behind those of a plan.
+pub fn extend_variants(plan: &mut Plan, spans: &Spans) -> Result<Laid, Error>
+    ensures { IfOk result (λ laid. SpansLaid (lists_of plan.old) (lists_of plan.new) spans.now laid) }
+{
+    let first = plan.variants.len();
+    plan.variants.extend_from_slice(&spans.items)?;
+    Ok(Laid {
+        first,
+        last: plan.variants.len(),
+        end: spans.end,
+        align: spans.align,
+        free: false,
+    })
+}

@@ -1,0 +1,118 @@
+//! Sizes in bytes. None: above `usize::MAX`.
+
+ghost use Rattle.std.specs.Prelude.{◌≡◌, ◌↔◌, ◌<◌, ◌≤◌, IsTrue};
+ghost use Rattle.std.specs.Int.{byte_len};
+ghost use Rattle.archive_check.specs.Layout.{up as up_to, kind_size};
+ghost use Rattle.archive_check.specs.Expressions.{kind_of, width_of};
+ghost use Rattle.archive_check.specs.Runs.{times as times_of, target_size};
+ghost use Rattle.archive_check.specs.Plain.{is_plain_kind};
+ghost use Rattle.archive_check.specs.Fitting.{fits, rounded, sum_of, greater_of};
+
+use crate::expr::{IntegerKind, Kind};
+use crate::plan::Target;
+
+// How many bytes an integer takes.
+fn integer_size(integer: IntegerKind) -> usize
+    ensures { result ≡ byte_len (width_of integer) }
+{
+    match integer {
+        IntegerKind::U8 | IntegerKind::I8 => 1,
+        IntegerKind::U16 | IntegerKind::I16 => 2,
+        IntegerKind::U32 | IntegerKind::I32 => 4,
+        IntegerKind::U64 | IntegerKind::I64 => 8,
+        IntegerKind::U128 | IntegerKind::I128 => 16,
+    }
+}
+
+/// How many bytes a leaf takes.
+pub fn leaf_size(kind: Kind) -> usize
+    ensures { result ≡ kind_size (kind_of kind) }
+{
+    match kind {
+        Kind::Unit => 0,
+        Kind::Bool => 1,
+        Kind::Char => 4,
+        Kind::Number(integer) | Kind::NonZero(integer) | Kind::RawRel(integer) => integer_size(
+            integer,
+        ),
+    }
+}
+
+/// Whether any bytes of its size are a leaf.
+pub fn is_plain(kind: Kind) -> bool
+    ensures { result ≡ is_plain_kind (kind_of kind) }
+{
+    matches!(kind, Kind::Unit | Kind::Number(_) | Kind::RawRel(_))
+}
+
+/// How many bytes a pointer takes: an offset's four, and four for the length where there is one.
+pub fn pointer_size(target: Target) -> usize
+    ensures { result ≡ target_size target }
+{
+    match target {
+        Target::One => 4,
+        Target::Run | Target::Text => 8,
+    }
+}
+
+// A number, where it fits.
+fn narrow(n: u128) -> Option<usize>
+    ensures { result ≡ fits n }
+{
+    if n < 0x1_0000_0000_0000_0000 {
+        Some(n as usize)
+    } else {
+        None
+    }
+}
+
+// The least multiple of an alignment that is at least a number.
+fn up(n: usize, align: usize) -> Option<usize>
+    requires { 0 < align }
+    ensures { result ≡ fits (up_to n align) }
+{
+    narrow((n as u128 + (align as u128 - 1)) / align as u128 * align as u128)
+}
+
+/// Where what is aligned so begins, behind an end.
+#[tactic(auto, using(crate::proofs::Fitting::fitting))]
+pub fn offset_of(end: Option<usize>, align: usize) -> Option<usize>
+    requires { 0 < align }
+    ensures { result ≡ rounded end align }
+{
+    match end {
+        None => None,
+        Some(end) => up(end, align),
+    }
+}
+
+/// Where what has a size ends.
+pub fn end_of(offset: Option<usize>, size: Option<usize>) -> Option<usize>
+    ensures { result ≡ sum_of offset size }
+{
+    match (offset, size) {
+        (Some(offset), Some(size)) => offset.checked_add(size),
+        _ => None,
+    }
+}
+
+/// The greater of two ends.
+pub fn greater(a: Option<usize>, b: Option<usize>) -> Option<usize>
+    ensures { result ≡ greater_of a b }
+{
+    match (a, b) {
+        (Some(a), Some(b)) => Some(a.max(b)),
+        _ => None,
+    }
+}
+
+/// What so many of a size take.
+pub fn times(size: Option<usize>, count: usize) -> Option<usize>
+    ensures total { result ≡ times_of size count }
+    ensures few { count < 18446744073709551616 }
+{
+    match size {
+        None => { if count == 0 { Some(0) } else { None } }
+        Some(size) => narrow(size as u128 * count as u128),
+    }
+}
