@@ -67,3 +67,4 @@ pub mod Rows
 pub mod Cases
 pub mod Numbered
 pub mod Planned
+pub mod Suiting

@@ -76,3 +76,8 @@ shapes_in_defs (d ∷ ds) = shape_of d.expr ∷ shapes_in_defs ds
 -- the root's shape, and those of the definitions
 abbrev pub shapes_from : Shape → List Def → List Shape
 shapes_from X ds = X ∷ shapes_in_defs ds
+
+-- each name that the expression or a definition mentions is defined
+pub record HasAll (table : Table) (X : Shape) : Type 0 where
+  pub root : missing true table X ≡ None
+  pub closed : (name : Name) (Y : Shape) → definition table name ≡ Some Y → missing true table Y ≡ None
