@@ -24,5 +24,6 @@ pub mod Inside
 pub mod Agrees
 pub mod TourAgrees
 pub mod Trails
+pub mod Faults
 pub mod Exists
 pub mod Positive

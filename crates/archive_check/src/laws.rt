@@ -1,6 +1,6 @@
 //! The laws of archives. Each is what a function promises that does nothing, so that the check of this crate proves it.
 
-ghost use Rattle.archive_check.specs.Laws.{SomeMeaning, OneMeaning, AcceptedWhereWalked, FaultyNotWalked, FewSubtrees, RegionsDisjoint, LeavesInRegions, LeafEdited, LeafRevised, EmptyRunWalked, PlainRunWalked, PartsReached, OneReached, RootReached, PointersReached, WithinReached, ElementsReached};
+ghost use Rattle.archive_check.specs.Laws.{SomeMeaning, OneMeaning, AcceptedWhereWalked, FaultyNotWalked, FewSubtrees, RegionsDisjoint, LeavesInRegions, LeafEdited, LeafRevised, EmptyRunWalked, PlainRunWalked, PartsReached, OneReached, RootReached, PointersReached, WithinReached, ElementsReached, OneReading, OneTour, OneFault};
 
 /// An accepted buffer has a meaning.
 pub fn some_meaning()
@@ -85,4 +85,19 @@ pub fn within_reached()
 /// So are the elements of a reached run.
 pub fn elements_reached()
     ensures { ElementsReached }
+{}
+
+/// The bytes at a position say one thing.
+pub fn one_reading()
+    ensures { OneReading }
+{}
+
+/// Pointers are followed on one tour.
+pub fn one_tour()
+    ensures { OneTour }
+{}
+
+/// A check finds one fault.
+pub fn one_fault()
+    ensures { OneFault }
 {}
