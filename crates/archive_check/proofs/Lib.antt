@@ -24,6 +24,7 @@ pub mod Inside
 pub mod Agrees
 pub mod TourAgrees
 pub mod Trails
+pub mod Positions
 pub mod Faults
 pub mod Exists
 pub mod Positive

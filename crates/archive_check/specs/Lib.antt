@@ -23,3 +23,5 @@ pub mod Readable
 pub mod Ranges
 pub mod Told
 pub mod Schemas
+pub mod Started
+pub mod Pooled

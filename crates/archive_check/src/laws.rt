@@ -1,6 +1,6 @@
 //! The laws of archives. Each is what a function promises that does nothing, so that the check of this crate proves it.
 
-ghost use Rattle.archive_check.specs.Laws.{SomeMeaning, OneMeaning, AcceptedWhereWalked, FaultyNotWalked, FewSubtrees, RegionsDisjoint, LeavesInRegions, LeafEdited, LeafRevised, EmptyRunWalked, PlainRunWalked, PartsReached, OneReached, RootReached, PointersReached, WithinReached, ElementsReached, OneReading, OneTour, OneFault};
+ghost use Rattle.archive_check.specs.Laws.{SomeMeaning, OneMeaning, AcceptedWhereWalked, FaultyNotWalked, FewSubtrees, RegionsDisjoint, LeavesInRegions, LeafEdited, LeafRevised, EmptyRunWalked, PlainRunWalked, PartsReached, OneReached, RootReached, PointersReached, WithinReached, ElementsReached, OneReading, OneTour, OneFault, OneStartAnswer, RefusedChangesNothing};
 
 /// An accepted buffer has a meaning.
 pub fn some_meaning()
@@ -100,4 +100,14 @@ pub fn one_tour()
 /// A check finds one fault.
 pub fn one_fault()
     ensures { OneFault }
+{}
+
+/// A start of a shared position has one answer.
+pub fn one_start_answer()
+    ensures { OneStartAnswer }
+{}
+
+/// A refused call on shared positions or on pooled ones changes nothing.
+pub fn refused_changes_nothing()
+    ensures { RefusedChangesNothing }
 {}
