@@ -7,7 +7,7 @@ use Rattle.std.specs.Ordering.{int_eq}
 use Rattle.archive_check.specs.declared.error.Error.{Error}
 use Rattle.archive_check.specs.Shape.{Flavor, Pointee}
 use Rattle.archive_check.specs.Value.{Value}
-use Rattle.archive_check.specs.Started.{Started, Positions, Progress, StartAnswer, start_new, start_other_type, start_other_length, start_known, started, after_start, finish_answer, done, after_finish}
+use Rattle.archive_check.specs.Started.{Started, Positions, Progress, StartAnswer, start_new, start_other_type, start_other_length, start_known, entered, after_start, finish_answer, done, after_finish}
 use Rattle.archive_check.specs.Pooled.{EntryState, Entries, finish_answer as pool_finish_answer, given, after_finish as after_pool_finish}
 
 pub one_start : {flavor : Flavor} {P : Pointee} {n : ℕ} {known : Option Started} {a b : Result Progress Error} → StartAnswer flavor P n known a → StartAnswer flavor P n known b → a ≡ b
@@ -36,12 +36,12 @@ same_int a b h = (Decides-int_eq a b).0 h
 same_nat : (a b : ℕ) → nat_eq a b ≡ true → a ≡ b
 same_nat a b h = eqb-true a b h
 
-unstarted : {flavor : Flavor} {P : Pointee} {n : ℕ} {known : Option Started} {e : Error} → StartAnswer flavor P n known (Err e) → started flavor P n known ≡ known
+unstarted : {flavor : Flavor} {P : Pointee} {n : ℕ} {known : Option Started} {e : Error} → StartAnswer flavor P n known (Err e) → entered flavor P n known ≡ known
 unstarted (start_other_type h) = refl
 unstarted (start_other_length t h) = refl
 
 pub refused_start : (known : Positions) (flavor : Flavor) (P : Pointee) (t : ℤ) (n : ℕ) (e : Error) → StartAnswer flavor P n (known t) (Err e) → (q : ℤ) → after_start known flavor P t n q ≡ known q
-refused_start known flavor P t n e h q = same_update int_eq same_int known t (started flavor P n (known t)) (unstarted h) q
+refused_start known flavor P t n e h q = same_update int_eq same_int known t (entered flavor P n (known t)) (unstarted h) q
 
 pub refused_finish : (known : Positions) (t : ℤ) (e : Error) → finish_answer (known t) ≡ Err e → (q : ℤ) → after_finish known t q ≡ known q
 refused_finish known t e h q = same_update int_eq same_int known t (done (known t)) (is_done (known t) h) q

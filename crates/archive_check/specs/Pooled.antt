@@ -17,11 +17,11 @@ nothing_pooled t = None
 
 -- what a start answers
 pub data PoolAnswer : Type 0 where
-  new pending : PoolAnswer
+  started pending : PoolAnswer
   finished : Value → PoolAnswer
 
 abbrev pub pool_answer : EntryState → PoolAnswer
-pool_answer None = new
+pool_answer None = started
 pool_answer (Some None) = pending
 pool_answer (Some (Some v)) = finished v
 

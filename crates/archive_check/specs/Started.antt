@@ -21,9 +21,9 @@ Positions = ℤ → Option Started
 abbrev pub nothing_started : Positions
 nothing_started t = None
 
--- how far a position was when it was started
+-- what a start that is not refused answers: the position is started now, or was before and is pending or finished
 pub data Progress : Type 0 where
-  new pending finished : Progress
+  started pending finished : Progress
 
 abbrev pub progress : Started → Progress
 progress e = cond e.finished finished pending
@@ -32,20 +32,20 @@ progress e = cond e.finished finished pending
 abbrev pub IsOfType : Started → Flavor → Pointee → Type 0
 IsOfType e flavor P = (e.flavor ≡ flavor) × (e.pointee ≡ P)
 
--- What a start answers, by what is known of the position: it is new, or of another type, or else of another length, or else as far as it is.
+-- What a start answers, by what is known of the position: nothing yet, or another type, or else another length, or else how far it is.
 pub data StartAnswer (flavor : Flavor) (P : Pointee) (n : ℕ) : Option Started → Result Progress Error → Type 0 where
-  start_new : StartAnswer flavor P n None (Ok new)
+  start_new : StartAnswer flavor P n None (Ok started)
   start_other_type : {e : Started} → (IsOfType e flavor P → ⊥) → StartAnswer flavor P n (Some e) (Err TypeMismatch)
   start_other_length : {e : Started} → IsOfType e flavor P → e.length ≢ n → StartAnswer flavor P n (Some e) (Err MetadataMismatch)
   start_known : {e : Started} → IsOfType e flavor P → e.length ≡ n → StartAnswer flavor P n (Some e) (Ok (progress e))
 
 -- a start leaves a new position pending, and others as they are
-abbrev pub started : Flavor → Pointee → ℕ → Option Started → Option Started
-started flavor P n None = Some (record { flavor = flavor; pointee = P; length = n; finished = false })
-started flavor P n (Some e) = Some e
+abbrev pub entered : Flavor → Pointee → ℕ → Option Started → Option Started
+entered flavor P n None = Some (record { flavor = flavor; pointee = P; length = n; finished = false })
+entered flavor P n (Some e) = Some e
 
 abbrev pub after_start : Positions → Flavor → Pointee → ℤ → ℕ → Positions
-after_start known flavor P t n = update int_eq known t (started flavor P n (known t))
+after_start known flavor P t n = update int_eq known t (entered flavor P n (known t))
 
 -- what a finish answers
 abbrev pub finish_answer : Option Started → Result (Unit {0}) Error

@@ -1,6 +1,6 @@
 //! The laws of archives. Each is what a function promises that does nothing, so that the check of this crate proves it.
 
-ghost use Rattle.archive_check.specs.Laws.{SomeMeaning, OneMeaning, AcceptedWhereWalked, FaultyNotWalked, FewSubtrees, RegionsDisjoint, LeavesInRegions, LeafEdited, LeafRevised, EmptyRunWalked, PlainRunWalked, PartsReached, OneReached, RootReached, PointersReached, WithinReached, ElementsReached, OneReading, OneTour, OneFault, OneStartAnswer, RefusedChangesNothing};
+ghost use Rattle.archive_check.specs.Laws.{SomeMeaning, OneMeaning, AcceptedWhereWalked, FaultyNotWalked, FewSubtrees, RegionsDisjoint, LeavesInRegions, LeafEdited, LeafRevised, EmptyRunWalked, PlainRunWalked, PartsReached, OneReached, RootReached, PointersReached, WithinReached, ElementsReached, OneReading, OneTour, OneFault, OneStartAnswer, RefusedChangesNothing, SameItself, SameBack, SameThen};
 
 /// An accepted buffer has a meaning.
 pub fn some_meaning()
@@ -110,4 +110,19 @@ pub fn one_start_answer()
 /// A refused call on shared positions or on pooled ones changes nothing.
 pub fn refused_changes_nothing()
     ensures { RefusedChangesNothing }
+{}
+
+/// Each meaning is the same as itself.
+pub fn same_itself()
+    ensures { SameItself }
+{}
+
+/// Sameness goes both ways.
+pub fn same_back()
+    ensures { SameBack }
+{}
+
+/// It goes on from one meaning to the next.
+pub fn same_then()
+    ensures { SameThen }
 {}
