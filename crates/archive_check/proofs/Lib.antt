@@ -25,6 +25,7 @@ pub mod Agrees
 pub mod TourAgrees
 pub mod Trails
 pub mod Positions
+pub mod ReachedMeanings
 pub mod Sameness
 pub mod Faults
 pub mod Exists

@@ -1,6 +1,6 @@
 //! The laws of archives. Each is what a function promises that does nothing, so that the check of this crate proves it.
 
-ghost use Rattle.archive_check.specs.Laws.{SomeMeaning, OneMeaning, AcceptedWhereWalked, FaultyNotWalked, FewSubtrees, RegionsDisjoint, LeavesInRegions, LeafEdited, LeafRevised, EmptyRunWalked, PlainRunWalked, PartsReached, OneReached, RootReached, PointersReached, WithinReached, ElementsReached, OneReading, OneTour, OneFault, OneStartAnswer, RefusedChangesNothing, SameItself, SameBack, SameThen};
+ghost use Rattle.archive_check.specs.Laws.{SomeMeaning, OneMeaning, AcceptedWhereWalked, FaultyNotWalked, FewSubtrees, RegionsDisjoint, LeavesInRegions, LeafEdited, LeafRevised, EmptyRunWalked, PlainRunWalked, PartsReached, OneReached, RootReached, PointersReached, WithinReached, ElementsReached, OneReading, OneTour, OneFault, OneStartAnswer, RefusedChangesNothing, SameItself, SameBack, SameThen, OneReachedMeaning};
 
 /// An accepted buffer has a meaning.
 pub fn some_meaning()
@@ -125,4 +125,9 @@ pub fn same_back()
 /// It goes on from one meaning to the next.
 pub fn same_then()
     ensures { SameThen }
+{}
+
+/// What is reached says nothing else, its map included.
+pub fn one_reached_meaning()
+    ensures { OneReachedMeaning }
 {}
