@@ -30,3 +30,7 @@ pub mod Sameness
 pub mod Faults
 pub mod Exists
 pub mod Positive
+pub mod LittleEndian
+pub mod Descent
+pub mod Placed
+pub mod Ordered

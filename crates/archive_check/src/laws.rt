@@ -1,6 +1,6 @@
 //! The laws of archives. Each is what a function promises that does nothing, so that the check of this crate proves it.
 
-ghost use Rattle.archive_check.specs.Laws.{SomeMeaning, OneMeaning, AcceptedWhereWalked, FaultyNotWalked, FewSubtrees, RegionsDisjoint, LeavesInRegions, LeafEdited, LeafRevised, EmptyRunWalked, PlainRunWalked, PartsReached, OneReached, RootReached, PointersReached, WithinReached, ElementsReached, OneReading, OneTour, OneFault, OneStartAnswer, RefusedChangesNothing, SameItself, SameBack, SameThen, OneReachedMeaning};
+ghost use Rattle.archive_check.specs.Laws.{SomeMeaning, OneMeaning, AcceptedWhereWalked, FaultyNotWalked, FewSubtrees, RegionsDisjoint, LeavesInRegions, LeafEdited, LeafRevised, EmptyRunWalked, PlainRunWalked, PartsReached, OneReached, RootReached, PointersReached, WithinReached, ElementsReached, OneEncoding, PartsInside, SomeLayouts, OneLayout, OneReading, OneTour, OneFault, OneStartAnswer, RefusedChangesNothing, SameItself, SameBack, SameThen, OneReachedMeaning};
 
 /// An accepted buffer has a meaning.
 pub fn some_meaning()
@@ -85,6 +85,26 @@ pub fn within_reached()
 /// So are the elements of a reached run.
 pub fn elements_reached()
     ensures { ElementsReached }
+{}
+
+/// Different legal bytes of a leaf have different values.
+pub fn one_encoding()
+    ensures { OneEncoding }
+{}
+
+/// What lies within a value lies within its bytes.
+pub fn parts_inside()
+    ensures { PartsInside }
+{}
+
+/// The names that a well-formed shape reaches have layouts, no alignment being 0.
+pub fn some_layouts()
+    ensures { SomeLayouts }
+{}
+
+/// They have no others, nor has the shape.
+pub fn one_layout()
+    ensures { OneLayout }
 {}
 
 /// The bytes at a position say one thing.
