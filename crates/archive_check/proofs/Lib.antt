@@ -25,6 +25,7 @@ pub mod Agrees
 pub mod TourAgrees
 pub mod Trails
 pub mod Positions
+pub mod NamesKnown
 pub mod ReachedMeanings
 pub mod Sameness
 pub mod Faults
