@@ -26,6 +26,7 @@ pub mod TourAgrees
 pub mod Trails
 pub mod Positions
 pub mod NamesKnown
+pub mod NamesReached
 pub mod ReachedMeanings
 pub mod Sameness
 pub mod Faults

@@ -1,14 +1,14 @@
 -- A meaning is closed: each name that stands in it is known.
-use Rattle.std.proofs.Common.{◌≡◌, ℕ, pos, List, [], ◌∷◌, ◌++◌, Option, Some, None, Bool, true, false, cond, nat_cmp, refl, sym, ap, ◌∙◌}
-use Rattle.std.specs.FinMap.{get, insert, get-insert, get-empty}
+use Rattle.std.proofs.Common.{◌≡◌, ℕ, pos, List, [], ◌∷◌, ◌++◌, Some, None, Bool, true, false, cond, nat_cmp, refl, sym, ◌∙◌}
+use Rattle.std.specs.FinMap.{get, insert, get-insert}
 use Rattle.std.specs.Cmp.{nat_cmp_total}
 use Rattle.std.specs.Ordering.{eq_by_cmp}
 use Rattle.archive_check.specs.Shape.{Shape, Parts, Pointee, Flavor}
-use Rattle.archive_check.specs.Value.{Pointer, Value, Values, hole, shared_value, value, pointers, all_pointers}
+use Rattle.archive_check.specs.Value.{Pointer, Value, Values, hole, pointers, all_pointers}
 use Rattle.archive_check.specs.Reads.{Schema, Reads, reads_leaf, reads_parts, reads_choice, reads_array, reads_boxed, reads_vec, reads_inline, reads_out_of_line, reads_shared, reads_null, reads_weak, reads_named, ReadsParts, reads_no_part, reads_part, ReadsRun, reads_none, reads_element}
-use Rattle.archive_check.specs.Tour.{Region, Contents, contents_one, contents_run, contents_text, Leads, Entry, Seen, entry, Tour, tour_end, tour_unique, tour_new, tour_again, Accepted}
-use Rattle.archive_check.specs.Denotes.{Meaning, Fills, fills_number, fills_product, fills_case, fills_list, fills_text, fills_box, fills_null, fills_shared_value, fills_unique, fills_shared, FillsAll, fills_no_value, fills_value, Knows, Denotes}
-use Rattle.archive_check.specs.Reached.{Names, names_itself, names_product, names_case, names_list, names_box, NamesAmong, names_first, names_later, LeadsTo, leads_at_once, leads_through}
+use Rattle.archive_check.specs.Tour.{Region, Contents, contents_one, contents_run, contents_text, Leads, Entry, Seen, entry, Tour, tour_end, tour_unique, tour_new, tour_again}
+use Rattle.archive_check.specs.Denotes.{Fills, fills_number, fills_product, fills_case, fills_list, fills_text, fills_box, fills_null, fills_shared_value, fills_unique, fills_shared, FillsAll, fills_no_value, fills_value}
+use Rattle.archive_check.specs.Reached.{Names, names_itself, names_product, names_case, names_list, names_box, NamesAmong, names_first, names_later}
 use Rattle.archive_check.proofs.Determined.{contents_one_value, pos_one, leads_position, leads_value}
 use Rattle.archive_check.proofs.Exists.{same_key}
 use Rattle.archive_check.proofs.RevisedTour.{inserted_has, tour_grows}

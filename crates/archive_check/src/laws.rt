@@ -1,6 +1,6 @@
 //! The laws of archives. Each is what a function promises that does nothing, so that the check of this crate proves it.
 
-ghost use Rattle.archive_check.specs.Laws.{SomeMeaning, OneMeaning, AcceptedWhereWalked, FaultyNotWalked, FewSubtrees, RegionsDisjoint, LeavesInRegions, LeafEdited, LeafRevised, EmptyRunWalked, PlainRunWalked, PartsReached, OneReached, RootReached, PointersReached, WithinReached, ElementsReached, OneEncoding, PartsInside, SomeLayouts, OneLayout, OneReading, OneTour, OneFault, OneStartAnswer, RefusedChangesNothing, SameItself, SameBack, SameThen, OneReachedMeaning};
+ghost use Rattle.archive_check.specs.Laws.{SomeMeaning, OneMeaning, AcceptedWhereWalked, FaultyNotWalked, FewSubtrees, RegionsDisjoint, LeavesInRegions, LeafEdited, LeafRevised, EmptyRunWalked, PlainRunWalked, PartsReached, OneReached, RootReached, PointersReached, WithinReached, ElementsReached, OneEncoding, PartsInside, SomeLayouts, OneLayout, OneReading, OneTour, OneFault, OneStartAnswer, RefusedChangesNothing, SameItself, SameBack, SameThen, OneReachedMeaning, NamesKnown, RootReachedMeaning};
 
 /// An accepted buffer has a meaning.
 pub fn some_meaning()
@@ -150,4 +150,14 @@ pub fn same_then()
 /// What is reached says nothing else, its map included.
 pub fn one_reached_meaning()
     ensures { OneReachedMeaning }
+{}
+
+/// Each name that what an archive means leads to is known to it.
+pub fn names_known()
+    ensures { NamesKnown }
+{}
+
+/// It knows no others: the root says what the archive means, its map included.
+pub fn root_reached_meaning()
+    ensures { RootReachedMeaning }
 {}
