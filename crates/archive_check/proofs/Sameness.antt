@@ -1,7 +1,10 @@
 -- Meanings that are the same but for names.
-use Rattle.std.proofs.Common.{◌≡◌, ℕ, refl, sym, ap, ap₂, ◌∙◌}
+use Rattle.std.proofs.Common.{◌≡◌, ℕ, Some, refl, sym, ap, ap₂, ◌∙◌}
 use Rattle.archive_check.specs.Value.{Value, Values, number, product, case, list, text_value, box, null, shared_value, hole, no_value, value}
+use Rattle.archive_check.specs.Tour.{Entry}
+use Rattle.std.specs.FinMap.{get}
 use Rattle.archive_check.specs.Denotes.{Meaning, rename, rename_all, Same}
+use Rattle.archive_check.specs.Reached.{Names, names_itself, names_product, names_case, names_list, names_box, NamesAmong, names_first, names_later}
 
 mutual
   pub rename_same : (v : Value) → rename (λ t. t) v ≡ v
@@ -62,4 +65,36 @@ same_then {a} {b} {c} h k = record {
       let first = k.back t e v known in
       let second = h.back (k.from t) e (rename k.from v) (first.1) in
       (ap k.to (second.0) ∙ first.0, rw (← rename_again k.from h.from v) (second.1));
+}
+
+-- where the names in a value stay, the value does
+mutual
+  pub rename_stays : (f : ℕ → ℕ) (v : Value) → ((t : ℕ) → Names t v → f t ≡ t) → rename f v ≡ v
+  rename_stays f (number z) h = refl
+  rename_stays f (product vs) h = ap product (rename_all_stays f vs (λ t n. h t (names_product n)))
+  rename_stays f (case tag vs) h = ap (case tag) (rename_all_stays f vs (λ t n. h t (names_case n)))
+  rename_stays f (list vs) h = ap list (rename_all_stays f vs (λ t n. h t (names_list n)))
+  rename_stays f (text_value text) h = refl
+  rename_stays f (box v) h = ap box (rename_stays f v (λ t n. h t (names_box n)))
+  rename_stays f null h = refl
+  rename_stays f (shared_value name) h = ap shared_value (h name names_itself)
+  rename_stays f (hole p) h = refl
+
+  pub rename_all_stays : (f : ℕ → ℕ) (vs : Values) → ((t : ℕ) → NamesAmong t vs → f t ≡ t) → rename_all f vs ≡ vs
+  rename_all_stays f no_value h = refl
+  rename_all_stays f (value v vs) h = ap₂ value (rename_stays f v (λ t n. h t (names_first n))) (rename_all_stays f vs (λ t n. h t (names_later n)))
+
+-- a renaming of the entries, both ways, that fits a value whose names are known
+pub same_by : (a b : Meaning) (to from : ℕ → ℕ) → b.value ≡ rename to a.value
+    → ((t : ℕ) (e : Entry) (v : Value) → get a.shared t ≡ Some (e, v) → (from (to t) ≡ t) × (get b.shared (to t) ≡ Some (e, rename to v)))
+    → ((t : ℕ) (e : Entry) (v : Value) → get b.shared t ≡ Some (e, v) → (to (from t) ≡ t) × (get a.shared (from t) ≡ Some (e, rename from v)))
+    → ((t : ℕ) → Names t a.value → (e : Entry) × (v : Value) × (get a.shared t ≡ Some (e, v)))
+    → Same a b
+same_by a b to from values there back known = record {
+  to = to;
+  from = from;
+  value = values;
+  value_back = sym (ap (rename from) values ∙ rename_again to from a.value ∙ rename_stays (λ t. from (to t)) a.value (λ t n. let (e, v, k) = known t n in (there t e v k).0));
+  there = there;
+  back = back;
 }
