@@ -24,7 +24,8 @@ pub mod Inside
 pub mod Agrees
 pub mod TourAgrees
 pub mod Trails
-pub mod Positions
+pub mod PooledPositions
+pub mod StartedPositions
 pub mod NamesKnown
 pub mod NamesReached
 pub mod ReachedMeanings

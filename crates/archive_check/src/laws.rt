@@ -1,6 +1,6 @@
 //! The laws of archives. Each is what a function promises that does nothing, so that the check of this crate proves it.
 
-ghost use Rattle.archive_check.specs.Laws.{SomeMeaning, OneMeaning, AcceptedWhereWalked, FaultyNotWalked, FewSubtrees, RegionsDisjoint, LeavesInRegions, LeafEdited, LeafRevised, EmptyRunWalked, PlainRunWalked, PartsReached, OneReached, RootReached, PointersReached, WithinReached, ElementsReached, OneEncoding, PartsInside, SomeLayouts, OneLayout, OneReading, OneTour, OneFault, OneStartAnswer, RefusedChangesNothing, SameItself, SameBack, SameThen, OneReachedMeaning, NamesKnown, RootReachedMeaning};
+ghost use Rattle.archive_check.specs.Laws.{SomeMeaning, OneMeaning, AcceptedWhereWalked, FaultyNotWalked, FewSubtrees, RegionsDisjoint, LeavesInRegions, LeafEdited, LeafRevised, EmptyRunWalked, PlainRunWalked, PartsReached, OneReached, RootReached, PointersReached, WithinReached, ElementsReached, OneEncoding, PartsInside, SomeLayouts, OneLayout, OneReading, OneTour, OneFault, OneStartAnswer, RefusedKeepsStarted, RefusedKeepsPooled, SameItself, SameBack, SameThen, OneReachedMeaning, NamesKnown, RootReachedMeaning};
 
 /// An accepted buffer has a meaning.
 pub fn some_meaning()
@@ -127,9 +127,14 @@ pub fn one_start_answer()
     ensures { OneStartAnswer }
 {}
 
-/// A refused call on shared positions or on pooled ones changes nothing.
-pub fn refused_changes_nothing()
-    ensures { RefusedChangesNothing }
+/// A refused call on a shared position changes nothing.
+pub fn refused_keeps_started()
+    ensures { RefusedKeepsStarted }
+{}
+
+/// Nor does one on a pooled position.
+pub fn refused_keeps_pooled()
+    ensures { RefusedKeepsPooled }
 {}
 
 /// Each meaning is the same as itself.

@@ -1,4 +1,4 @@
-use Rattle.archive_check.proofs.Positions.{one_start}
+use Rattle.archive_check.proofs.StartedPositions.{one_start}
 use Rattle.archive_check.proofs.laws.one_start_answer.Goals as goal
 
 pub returns : goal.returns

@@ -1,14 +1,11 @@
--- What is answered on shared and pooled positions.
-use Rattle.std.proofs.Common.{◌≡◌, ℕ, ℤ, Bool, true, false, cond, Option, Some, None, Result, Err, refl, sym, nat_eq}
-use Rattle.std.specs.Map.{update}
-use Rattle.std.proofs.lemmas.Bool.{eqb-true}
+-- What is answered on shared positions.
+use Rattle.std.proofs.Common.{◌≡◌, ℕ, ℤ, Bool, true, false, Option, Some, None, Result, Err, refl, sym}
 use Rattle.std.proofs.lemmas.Bool.Decides.{Decides-int_eq}
 use Rattle.std.specs.Ordering.{int_eq}
 use Rattle.archive_check.specs.declared.error.Error.{Error}
 use Rattle.archive_check.specs.Shape.{Flavor, Pointee}
-use Rattle.archive_check.specs.Value.{Value}
 use Rattle.archive_check.specs.Started.{Started, Positions, Progress, StartAnswer, start_new, start_other_type, start_other_length, start_known, entered, after_start, finish_answer, done, after_finish}
-use Rattle.archive_check.specs.Pooled.{EntryState, Entries, finish_answer as pool_finish_answer, given, after_finish as after_pool_finish}
+use Rattle.archive_check.proofs.PooledPositions.{same_update}
 
 pub one_start : {flavor : Flavor} {P : Pointee} {n : ℕ} {known : Option Started} {a b : Result Progress Error} → StartAnswer flavor P n known a → StartAnswer flavor P n known b → a ≡ b
 one_start start_new start_new = refl
@@ -22,19 +19,8 @@ one_start (start_known t h) (start_other_type k) = absurd (k t)
 one_start (start_known t h) (start_other_length u k) = absurd (k h)
 one_start (start_known t h) (start_known u k) = refl
 
--- where nothing is put in place of what is there, nothing changes
-same_update : {K X : Type 0} (e : K → K → Bool) (same : (a b : K) → e a b ≡ true → a ≡ b) (f : K → Option X) (k : K) (w : Option X) → w ≡ f k → (q : K) → update e f k w q ≡ f q
-same_update e same f k w is q = by_test (e k q) refl
-  where
-    by_test : (b : Bool) → e k q ≡ b → cond b w (f q) ≡ f q
-    by_test true h = rw (same k q h) at is
-    by_test false h = refl
-
 same_int : (a b : ℤ) → int_eq a b ≡ true → a ≡ b
 same_int a b h = (Decides-int_eq a b).0 h
-
-same_nat : (a b : ℕ) → nat_eq a b ≡ true → a ≡ b
-same_nat a b h = eqb-true a b h
 
 unstarted : {flavor : Flavor} {P : Pointee} {n : ℕ} {known : Option Started} {e : Error} → StartAnswer flavor P n known (Err e) → entered flavor P n known ≡ known
 unstarted (start_other_type h) = refl
@@ -53,11 +39,3 @@ refused_finish known t e h q = same_update int_eq same_int known t (done (known 
     is_done : (k : Option Started) → finish_answer k ≡ Err e → done k ≡ k
     is_done None h = refl
     is_done (Some old) h = stays old old.finished refl h
-
-pub refused_pool_finish : (entries : Entries) (t : ℕ) (v : Value) (e : Error) → pool_finish_answer (entries t) ≡ Err e → (q : ℕ) → after_pool_finish entries t v q ≡ entries q
-refused_pool_finish entries t v e h q = same_update nat_eq same_nat entries t (given v (entries t)) (is_given (entries t) h) q
-  where
-    is_given : (k : EntryState) → pool_finish_answer k ≡ Err e → given v k ≡ k
-    is_given None h = refl
-    is_given (Some None) h = cc
-    is_given (Some (Some w)) h = refl
