@@ -1,6 +1,7 @@
 pub mod BytesAt
 pub mod Landing
 pub mod Leaves
+pub mod Encodings
 pub mod Revises
 pub mod RevisedTour
 pub mod Revised
