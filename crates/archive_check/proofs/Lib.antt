@@ -29,6 +29,7 @@ pub mod PooledPositions
 pub mod StartedPositions
 pub mod NamesKnown
 pub mod NamesReached
+pub mod Selected
 pub mod ReachedMeanings
 pub mod Sameness
 pub mod Faults

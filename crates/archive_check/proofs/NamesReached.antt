@@ -19,7 +19,7 @@ use Rattle.archive_check.proofs.NamesKnown.{reads_no_names, KnownAt, filled_know
 abbrev pub Shared : Type 0
 Shared = FinMap nat_cmp (Entry × Value)
 
-same_some : {A : Type 0} {a b : A} → Some a ≡ Some b → a ≡ b
+pub same_some : {A : Type 0} {a b : A} → Some a ≡ Some b → a ≡ b
 same_some e = cc
 
 nothing_met : (t : ℕ) (e : Entry) → get {R = nat_cmp} empty t ≡ Some e → ⊥

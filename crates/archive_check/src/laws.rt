@@ -1,6 +1,6 @@
 //! The laws of archives. Each is what a function promises that does nothing, so that the check of this crate proves it.
 
-ghost use Rattle.archive_check.specs.Laws.{SomeMeaning, OneMeaning, AcceptedWhereWalked, FaultyNotWalked, FewSubtrees, RegionsDisjoint, LeavesInRegions, LeafEdited, LeafRevised, EmptyRunWalked, PlainRunWalked, PartsReached, OneReached, RootReached, PointersReached, WithinReached, ElementsReached, OneEncoding, PartsInside, SomeLayouts, OneLayout, OneReading, OneTour, OneFault, OneStartAnswer, RefusedKeepsStarted, RefusedKeepsPooled, SameItself, SameBack, SameThen, OneReachedMeaning, NamesKnown, RootReachedMeaning};
+ghost use Rattle.archive_check.specs.Laws.{SomeMeaning, OneMeaning, AcceptedWhereWalked, FaultyNotWalked, FewSubtrees, RegionsDisjoint, LeavesInRegions, LeafEdited, LeafRevised, EmptyRunWalked, PlainRunWalked, PartsReached, OneReached, RootReached, PointersReached, WithinReached, ElementsReached, OneEncoding, PartsInside, SomeLayouts, OneLayout, OneReading, OneTour, OneFault, OneStartAnswer, RefusedKeepsStarted, RefusedKeepsPooled, SameItself, SameBack, SameThen, PartsReachedMeaning, OneReachedMeaning, NamesKnown, RootReachedMeaning};
 
 /// An accepted buffer has a meaning.
 pub fn some_meaning()
@@ -152,7 +152,12 @@ pub fn same_then()
     ensures { SameThen }
 {}
 
-/// What is reached says nothing else, its map included.
+/// Each part of an archive says something, a map included.
+pub fn parts_reached_meaning()
+    ensures { PartsReachedMeaning }
+{}
+
+/// It says nothing else.
 pub fn one_reached_meaning()
     ensures { OneReachedMeaning }
 {}
