@@ -8,6 +8,8 @@ use Rattle.archive_check.specs.Value.{number, case, list, null, shared_value, no
 use Rattle.archive_check.specs.Reads.{Schema, bytes_at, u32_at, i32_at, kind_value, reads_leaf, reads_parts, reads_choice, reads_shared, reads_null, reads_named, reads_no_part, reads_part, reads_none, reads_element}
 use Rattle.archive_check.specs.Tour.{Entry, contents_one, contents_run, tour_end, tour_new, tour_again}
 use Rattle.archive_check.specs.Walk.{walk_leaf, walk_shared, follow_new, enter, walk_one, walk_run}
+use Rattle.archive_check.specs.Leaves.{edit}
+use Rattle.archive_check.specs.Written.{TightFrom}
 use Rattle.archive_check.specs.Trail.{cyclic, other_type, other_length, trips_within, trips_one, trips_parts, trips_later, trips_first, trips_shared, trips_type, trips_length, trips_cycle, trips_new, trips_named, trips_choice}
 use Rattle.archive_check.specs.Denotes.{Denotes, fills_number, fills_product, fills_case, fills_list, fills_null, fills_shared, fills_no_value, fills_value}
 use Rattle.archive_check.proofs.Exists.{knows_insert}
@@ -26,6 +28,17 @@ ten = 0x0a ∷ 0x00 ∷ 0x00 ∷ 0x00 ∷ 0xfc ∷ 0xff ∷ 0xff ∷ 0xff ∷ 0x
 abbrev pub OneTen : Type 0
 OneTen = Denotes no_names ten 4 (pair (shared rc (one u32)) (shared rc (one u32)))
     (record { value = both (shared_value 0) (shared_value 0); shared = insert empty 0 (known_as rc (one u32) 0, number (pos 10)) })
+
+-- 42 in place of the 10, which both pointers then say
+abbrev pub forty_two : List ℕ
+forty_two = 0x2a ∷ 0x00 ∷ 0x00 ∷ 0x00 ∷ 0xfc ∷ 0xff ∷ 0xff ∷ 0xff ∷ 0xf8 ∷ 0xff ∷ 0xff ∷ 0xff ∷ []
+
+abbrev pub Edited : Type 0
+Edited = edit ten 0 (0x2a ∷ 0x00 ∷ 0x00 ∷ 0x00 ∷ []) ≡ forty_two
+
+abbrev pub OneFortyTwo : Type 0
+OneFortyTwo = Denotes no_names forty_two 4 (pair (shared rc (one u32)) (shared rc (one u32)))
+    (record { value = both (shared_value 0) (shared_value 0); shared = insert empty 0 (known_as rc (one u32) 0, number (pos 42)) })
 
 -- it is of one type
 abbrev pub TwoTypes : Type 0
@@ -117,6 +130,25 @@ one_ten = record {
   shared = knows_insert no_names ten empty empty 0 (known_as rc (one u32) 0) (number (pos 10)) (number (pos 10)) (contents_one (reads_leaf (record { size = refl; number = tt }))) fills_number (shares_nothing no_names ten);
 }
 
+pub edited : Edited
+edited = refl
+
+pub one_forty_two : OneFortyTwo
+unfolding bytes_at u32_at i32_at kind_value
+one_forty_two = record {
+  accepted = record {
+    value = _;
+    regions = _;
+    seen = _;
+    flat = record { fits = lit≤ tt; reads = reads_parts (reads_part reads_shared (reads_part reads_shared reads_no_part)); holes = refl };
+    tour = tour_new {t = 0} refl unmet (record { target = refl; fits = lit≤ tt; contents = contents_one (reads_leaf (record { size = refl; number = tt })) }) tour_end
+        (tour_again refl refl (met _) (inl (not_within 0)) tour_end);
+    rising = (lit≤ tt, refl, (lit≤ tt, refl, lit≤ tt));
+  };
+  root_value = fills_product (fills_value (fills_shared refl refl) (fills_value (fills_shared refl refl) fills_no_value));
+  shared = knows_insert no_names forty_two empty empty 0 (known_as rc (one u32) 0) (number (pos 42)) (number (pos 42)) (contents_one (reads_leaf (record { size = refl; number = tt }))) fills_number (shares_nothing no_names forty_two);
+}
+
 pub two_types : TwoTypes
 unfolding bytes_at u32_at i32_at
 two_types = refused (lit≤ tt) (trips_within refl (lit≤ tt) (lit≤ tt) refl tt (trips_one (trips_parts (trips_later
@@ -205,3 +237,12 @@ cyclic_accepted = record {
   shared = knows_insert (sharing_itself cycles) ring empty empty 0 (known_as cycles (one (named all_values)) 0) _ _
       (contents_one (reads_named refl (reads_choice refl (reads_part reads_shared reads_no_part)))) (fills_case (fills_value (fills_shared refl refl) fills_no_value)) (shares_nothing (sharing_itself cycles) ring);
 }
+
+-- a byte stands behind a shared region that has none
+pub unit_tight : TightFrom 0 one_unit.accepted
+unfolding one_unit
+unit_tight = (refl, (refl, refl))
+
+pub none_and_one_tight : TightFrom 0 none_and_one_accepted.accepted
+unfolding none_and_one_accepted
+none_and_one_tight = (refl, (refl, (refl, refl)))

@@ -8,6 +8,7 @@ use Rattle.archive_check.specs.Value.{text_value}
 use Rattle.archive_check.specs.Reads.{bytes_at, u32_at, i32_at, decoded_length, reads_out_of_line, reads_inline}
 use Rattle.archive_check.specs.Tour.{contents_text, tour_end, tour_unique}
 use Rattle.archive_check.specs.Denotes.{fills_text, fills_unique}
+use Rattle.archive_check.specs.Written.{TightFrom}
 use Rattle.archive_check.specs.Trail.{outside, unaligned, no_string, no_text, trips_within, trips_one, trips_short, trips_inline, trips_range, trips_align}
 use Rattle.archive_check.proofs.Examples.Terms.{no_names, Says, Refused, refused, shares_nothing}
 
@@ -82,6 +83,11 @@ out_of_line = record {
   root_value = fills_unique {t = 0} refl (record { target = refl; fits = lit≤ tt; contents = contents_text is_hello }) fills_text;
   shared = shares_nothing no_names hello;
 }
+
+-- nothing could stand closer
+pub hello_tight : TightFrom 0 out_of_line.accepted
+unfolding out_of_line
+hello_tight = (refl, (refl, refl))
 
 pub not_aligned : NotAligned
 not_aligned = refused (lit≤ tt) (trips_align {t = 11} refl (lit≤ tt) (lit≤ tt) (λ e. cc))
