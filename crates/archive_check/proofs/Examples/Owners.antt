@@ -3,14 +3,14 @@ use Rattle.std.proofs.Common.{ℕ, List, [], ◌∷◌, take, pos, refl, arith, 
 use Rattle.std.specs.FinMap.{empty}
 use Rattle.archive_check.specs.Shape.{Name, Shape, array, boxed, vec, choice, named, one, run, no_part, part, no_variant, variant}
 use Rattle.archive_check.specs.Value.{Pointer, case, list, box, hole, no_value, value}
-use Rattle.archive_check.specs.Reads.{Schema, bytes_at, u32_at, i32_at, kind_value, pointer_at, Reads, reads_leaf, reads_choice, reads_boxed, reads_vec, reads_named, reads_no_part, reads_part, reads_none, reads_element}
+use Rattle.archive_check.specs.Reads.{Schema, LaidOut, bytes_at, u32_at, i32_at, kind_value, pointer_at, Reads, reads_leaf, reads_choice, reads_boxed, reads_vec, reads_named, reads_no_part, reads_part, reads_none, reads_element}
 use Rattle.archive_check.specs.Tour.{Region, region_at, root_region, Contents, contents_one, contents_run, Tour, tour_end, tour_unique, Rising, Accepted}
 use Rattle.archive_check.specs.Walk.{walk_leaf, walk_boxed, walk_vec, follow_unique, enter, walk_one, walk_run, RootWalk}
 use Rattle.archive_check.specs.Trail.{outside, no_such_variant, trips_within, trips_one, trips_array, trips_later_element, trips_element, trips_boxed, trips_unique, trips_range, trips_named, trips_choice, trips_tag, trips_first}
 use Rattle.archive_check.specs.Denotes.{fills_number, fills_case, fills_list, fills_box, fills_unique, fills_no_value, fills_value}
 use Rattle.archive_check.proofs.AcceptedWalks.{walked}
 use Rattle.archive_check.proofs.Runs.{empty_run, plain_run}
-use Rattle.archive_check.proofs.Examples.Terms.{u8, u32, nothing, option, numbers, no_names, Says, Refused, refused, shares_nothing, laid_out}
+use Rattle.archive_check.proofs.Examples.Terms.{u8, u32, nothing, option, numbers, no_names, Says, Refused, refused, shares_nothing, laid_out, one_definition}
 
 -- two numbers, and at 8 their vector
 abbrev pub one_two : List ℕ
@@ -89,6 +89,9 @@ nodes = record {
   table = (node, choice node (variant no_part (variant (part (boxed (one (named node))) no_part) no_variant))) ∷ [];
   layouts = λ name. record { size = 8; align = 4 };
 }
+
+abbrev pub NodesLayout : Type 0
+NodesLayout = LaidOut nodes
 
 abbrev pub one_node : List ℕ
 one_node = 0x00 ∷ 0x00 ∷ 0x00 ∷ 0x00 ∷ 0x00 ∷ 0x00 ∷ 0x00 ∷ 0x00 ∷ 0x01 ∷ 0x00 ∷ 0x00 ∷ 0x00 ∷ 0xf4 ∷ 0xff ∷ 0xff ∷ 0xff ∷ []
@@ -187,6 +190,9 @@ none_with_more_accepted = record {
 
 pub no_third_variant : NoThirdVariant
 no_third_variant = refused (lit≤ tt) (trips_within refl (lit≤ tt) (lit≤ tt) refl tt (trips_one (trips_tag refl)))
+
+pub nodes_layout : NodesLayout
+nodes_layout = record { solves = λ name X d. one_definition node name _ X _ d refl; aligned = λ name. lit≤ tt }
 
 pub one_node_accepted : OneNode
 unfolding bytes_at u32_at i32_at

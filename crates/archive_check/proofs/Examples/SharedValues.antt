@@ -5,7 +5,7 @@ use Rattle.std.specs.Cmp.{nat_cmp_total}
 use Rattle.std.specs.FinMap.{empty, insert, get, get-insert, get-empty}
 use Rattle.archive_check.specs.Shape.{Name, Flavor, choice, shared, weak, named, Pointee, one, run, no_part, part, no_variant, variant}
 use Rattle.archive_check.specs.Value.{number, case, list, null, shared_value, no_value, value}
-use Rattle.archive_check.specs.Reads.{Schema, bytes_at, u32_at, i32_at, kind_value, reads_leaf, reads_parts, reads_choice, reads_shared, reads_null, reads_named, reads_no_part, reads_part, reads_none, reads_element}
+use Rattle.archive_check.specs.Reads.{Schema, LaidOut, bytes_at, u32_at, i32_at, kind_value, reads_leaf, reads_parts, reads_choice, reads_shared, reads_null, reads_named, reads_no_part, reads_part, reads_none, reads_element}
 use Rattle.archive_check.specs.Tour.{Entry, contents_one, contents_run, tour_end, tour_new, tour_again}
 use Rattle.archive_check.specs.Walk.{walk_leaf, walk_shared, follow_new, enter, walk_one, walk_run}
 use Rattle.archive_check.specs.Leaves.{edit}
@@ -14,7 +14,7 @@ use Rattle.archive_check.specs.Trail.{cyclic, other_type, other_length, trips_wi
 use Rattle.archive_check.specs.Denotes.{Denotes, fills_number, fills_product, fills_case, fills_list, fills_null, fills_shared, fills_no_value, fills_value}
 use Rattle.archive_check.proofs.Exists.{knows_insert}
 use Rattle.archive_check.proofs.Runs.{plain_run}
-use Rattle.archive_check.proofs.Examples.Terms.{u8, u32, i32, nothing, pair, both, numbers, rc, no_names, Refused, refused, shares_nothing, laid_out}
+use Rattle.archive_check.proofs.Examples.Terms.{u8, u32, i32, nothing, pair, both, numbers, rc, no_names, Refused, refused, shares_nothing, laid_out, one_definition}
 
 -- how a pointer of the flavor knows a shared pointee
 abbrev pub known_as : Flavor → Pointee → ℕ → Entry
@@ -40,7 +40,7 @@ abbrev pub OneFortyTwo : Type 0
 OneFortyTwo = Denotes no_names forty_two 4 (pair (shared rc (one u32)) (shared rc (one u32)))
     (record { value = both (shared_value 0) (shared_value 0); shared = insert empty 0 (known_as rc (one u32) 0, number (pos 42)) })
 
--- it is of one type
+-- a shared value is of one type
 abbrev pub TwoTypes : Type 0
 TwoTypes = Refused no_names ten 4 (pair (shared rc (one u32)) (shared rc (one i32))) other_type
 
@@ -87,6 +87,9 @@ sharing_itself flavor = record {
   layouts = λ name. record { size = 8; align = 4 };
 }
 
+abbrev pub ItsLayout : Type 0
+ItsLayout = (flavor : Flavor) → LaidOut (sharing_itself flavor)
+
 abbrev pub ring : List ℕ
 ring = 0x00 ∷ 0x00 ∷ 0x00 ∷ 0xff ∷ 0xfc ∷ 0xff ∷ 0xff ∷ 0xff ∷ 0x00 ∷ 0x00 ∷ 0xf6 ∷ 0xff ∷ 0xf4 ∷ 0xff ∷ 0xff ∷ 0xff ∷ []
 
@@ -113,6 +116,9 @@ unmet = get-empty nat_cmp 0
 
 not_within : (t : ℕ) → Contains [] t → ⊥
 not_within t (k, below, same) = absurd (omega arith)
+
+pub its_layout : ItsLayout
+its_layout flavor = record { solves = λ name X d. one_definition all_values name _ X _ d refl; aligned = λ name. lit≤ tt }
 
 pub one_ten : OneTen
 unfolding bytes_at u32_at i32_at kind_value

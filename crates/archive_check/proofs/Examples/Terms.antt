@@ -1,8 +1,9 @@
 -- The words that the examples share.
-use Rattle.std.proofs.Common.{ℕ, pos, ◌<◌, ◌^◌, List, [], ◌∷◌, length, codes, None, false, refl, w8, w32, arith}
+use Rattle.std.proofs.Common.{◌≡◌, Bool, true, bytes_eq, ℕ, pos, ◌<◌, ◌^◌, List, [], ◌∷◌, length, codes, Some, None, false, refl, w8, w32, arith}
 use Rattle.std.specs.Ordering.{nat_cmp}
 use Rattle.std.specs.FinMap.{empty, get, get-empty}
-use Rattle.archive_check.specs.Shape.{unit, unsigned, signed, number as number_kind, Flavor, Shape, leaf, parts, choice, no_part, part, no_variant, variant}
+use Rattle.archive_check.specs.Shape.{Name, definition, unit, unsigned, signed, number as number_kind, Flavor, Shape, leaf, parts, choice, no_part, part, no_variant, variant}
+use Rattle.archive_check.specs.Layout.{Layout, layout}
 use Rattle.archive_check.specs.Value.{Value, number, product, Values, no_value, value}
 use Rattle.archive_check.specs.Reads.{Schema, LaidOut}
 use Rattle.archive_check.specs.Tour.{Entry, Accepted}
@@ -59,3 +60,11 @@ shares_nothing s bytes t = rw (get-empty {X = Entry} nat_cmp t) (rw (get-empty {
 
 pub laid_out : LaidOut no_names
 laid_out = record { solves = λ name X e. cc; aligned = λ name. omega arith }
+
+-- where one name is defined, the layout of its definition is that of each name that has one
+pub one_definition : (defined name : Name) (Y X : Shape) (L : Layout) → definition ((defined, Y) ∷ []) name ≡ Some X → L ≡ layout (λ n. L) Y → L ≡ layout (λ n. L) X
+one_definition defined name Y X L d is = by_name (bytes_eq defined name) refl
+  where
+    by_name : (b : Bool) → bytes_eq defined name ≡ b → L ≡ layout (λ n. L) X
+    by_name true e = let same : X ≡ Y = cc in rw same is
+    by_name false e = let never : ⊥ = cc in absurd never
