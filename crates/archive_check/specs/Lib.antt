@@ -44,3 +44,4 @@ pub mod Numbered
 pub mod Planned
 pub mod Exact
 pub mod Turns
+pub mod Pooled
