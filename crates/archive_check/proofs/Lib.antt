@@ -75,3 +75,4 @@ pub mod Cases
 pub mod Numbered
 pub mod Planned
 pub mod Suiting
+pub mod ClosedAgain

@@ -90,7 +90,7 @@ held_within old new kept closed (held_through {Y = Y} {n = m} h d r) none =
     held_through h (e ∙ ap Some same) (held_within old new kept closed r (ap (missing true new) (sym same) ∙ closed m Z e))
 
 -- and what is reached is defined there
-reached_within : (old new : Table) → ((n : Name) (Y : Shape) → definition new n ≡ Some Y → definition old n ≡ Some Y) → ((n : Name) (Y : Shape) → definition new n ≡ Some Y → missing true new Y ≡ None)
+pub reached_within : (old new : Table) → ((n : Name) (Y : Shape) → definition new n ≡ Some Y → definition old n ≡ Some Y) → ((n : Name) (Y : Shape) → definition new n ≡ Some Y → missing true new Y ≡ None)
     → {n : Name} {X : Shape} → Reaches old n X → missing true new X ≡ None → IsDefined new n
 reached_within old new kept closed (reaches h) none = mentioned_defined new _ h none
 reached_within old new kept closed (reaches_through {Y = Y} {n = m} h d r) none =

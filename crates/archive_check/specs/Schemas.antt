@@ -1,4 +1,5 @@
--- What a schema of the program stands for, and what its check says.
+-- What a schema of the program stands for, and what its check says. What it says is a fact, so it stands between ∥ and ∥₁: there is a tour, or a
+-- trail, and which one doesn't matter, since there is no other.
 use Rattle.std.specs.Prelude.{◌≡◌, ◌⊎◌, ◌↔◌, ℕ, List, Option, Some, Result, IsOk, IsErrOf}
 use Rattle.archive_check.specs.declared.error.Error.{Error}
 use Rattle.archive_check.specs.declared.error.Error.TheVariants.{OutOfMemory}
@@ -25,12 +26,12 @@ pub record Suits (s : RustSchema) (t : Schema) : Type 0 where
 
 -- whatever suits the schema, the buffer is an archive of its root, with no region too deep
 abbrev pub Accepts : RustSchema → List ℕ → Option ℕ → ℕ → Type 0
-Accepts s bytes limit root = (t : Schema) → Suits s t → AcceptedWithin t bytes limit root (root_of s)
+Accepts s bytes limit root = (t : Schema) → Suits s t → ∥ AcceptedWithin t bytes limit root (root_of s) ∥₁
 
 -- whatever suits the schema, a check of its root comes to the fault that the refusal says
 abbrev pub Refuses : RustSchema → List ℕ → Option ℕ → ℕ → Error → Type 0
-Refuses s bytes limit root error = (fault : Fault) × IsFor fault error × ((t : Schema) → Suits s t → RootTrips t bytes limit root (root_of s) fault)
+Refuses s bytes limit root error = (fault : Fault) × IsFor fault error × ((t : Schema) → Suits s t → ∥ RootTrips t bytes limit root (root_of s) fault ∥₁)
 
 -- the answer is Ok exactly where the buffer is an archive with no region too deep, unless memory ran out
 abbrev pub IsExact : RustSchema → List ℕ → Option ℕ → ℕ → Result (Unit {0}) Error → Type 0
-IsExact s bytes limit root answer = IsErrOf answer OutOfMemory ⊎ ((t : Schema) → Suits s t → IsOk answer ↔ AcceptedWithin t bytes limit root (root_of s))
+IsExact s bytes limit root answer = IsErrOf answer OutOfMemory ⊎ ((t : Schema) → Suits s t → IsOk answer ↔ ∥ AcceptedWithin t bytes limit root (root_of s) ∥₁)

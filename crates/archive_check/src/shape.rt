@@ -18,7 +18,7 @@ pub struct Schema {
     plan: Plan,
     node: usize,
     ghost complete: { HasAll (entries_of definitions.items) (shape_of root) },
-    ghost planned: { IsPlan definitions.items (shape_of root) plan node },
+    ghost planned: { ∥ IsPlan definitions.items (shape_of root) plan node ∥₁ },
 }
 
 impl Schema {
