@@ -6,6 +6,8 @@ use Rattle.archive_check.specs.declared.error.Error.TheVariants.{OutOfMemory}
 use Rattle.archive_check.specs.declared.shape.Schema.{Schema as RustSchema}
 use Rattle.archive_check.specs.Shape.{Name, Shape, Table, definition}
 use Rattle.archive_check.specs.Expressions.{shape_of, entries_of}
+use Rattle.archive_check.specs.Defined.{WellFormed}
+use Rattle.archive_check.specs.Definitions.{Definitions, listed}
 use Rattle.archive_check.specs.Reads.{Schema, LaidOut}
 use Rattle.archive_check.specs.Depth.{AcceptedWithin}
 use Rattle.archive_check.specs.Trail.{Fault, RootTrips}
@@ -35,3 +37,9 @@ Refuses s bytes limit root error = (fault : Fault) × IsFor fault error × ((t :
 -- the answer is Ok exactly where the buffer is an archive with no region too deep, unless memory ran out
 abbrev pub IsExact : RustSchema → List ℕ → Option ℕ → ℕ → Result (Unit {0}) Error → Type 0
 IsExact s bytes limit root answer = IsErrOf answer OutOfMemory ⊎ ((t : Schema) → Suits s t → IsOk answer ↔ ∥ AcceptedWithin t bytes limit root (root_of s) ∥₁)
+
+-- the schema is that of a shape and the definitions that come with it: those that the shape reaches
+pub record IsSchemaOf (s : RustSchema) (X : Shape) (D : Definitions) : Type 0 where
+  pub root : root_of s ≡ X
+  pub known : (name : Name) (Y : Shape) → definition (table_in s) name ≡ Some Y → definition (listed D) name ≡ Some Y
+  pub well_formed : WellFormed (listed D) X

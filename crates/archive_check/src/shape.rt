@@ -7,8 +7,11 @@ ghost use Rattle.archive_check.specs.Planned.{IsPlan};
 pub use crate::error::Error;
 pub use crate::expr::{Def, Defs, Expr, FlavorInfo, IntegerKind, Kind, Pointee};
 pub use crate::layout::Layout;
+use crate::names::definitions_of;
 use crate::plan::{Checker, Plan};
+use crate::traits::Portable;
 use crate::validation::{ArchiveContext, SharedContext};
+use std::alloc::Global;
 
 /// An expression, with the definitions of the names that it reaches. It is compiled once, and checks any number of buffers.
 #[derive(Drop)]
@@ -22,10 +25,29 @@ pub struct Schema {
 }
 
 impl Schema {
-    ghost use Rattle.std.specs.Prelude.{◌≡◌, ◌⊎◌, ◌≤◌, length, OnOk, IfErr};
+    ghost use Rattle.std.specs.Prelude.{◌≡◌, ◌⊎◌, ◌≤◌, length, OnOk, IfOk, IfErr};
     ghost use Rattle.archive_check.specs.declared.error.Error.TheVariants.{OutOfMemory};
     ghost use Rattle.archive_check.specs.Exact.{IsWhole};
-    ghost use Rattle.archive_check.specs.Schemas.{Accepts, Refuses, IsExact};
+    ghost use Rattle.archive_check.specs.Schemas.{Accepts, Refuses, IsExact, IsSchemaOf};
+    ghost use Rattle.archive_check.specs.Names.{ExplainsNoSchema};
+
+    /// The schema of `T`: its expression and the definitions of all names that it reaches, compiled. Memory comes from `alloc`, also that which a
+    /// check takes. Refused with 1 where memory is refused, with 30 exactly where a name that is reached has none or two definitions, and else with
+    /// 31 exactly where a name holds itself other than behind a pointer.
+    pub fn of<T: Portable>(alloc: Global) -> Result<Schema, Error>
+        ensures made { IfOk result (λ s. IsSchemaOf s T.shape T.definitions) }
+        ensures refused { IfErr result (λ e. ExplainsNoSchema T.shape T.definitions e) }
+    {
+        let root = T::expr(alloc)?;
+        let definitions = definitions_of::<T>(alloc, &root)?;
+        let (plan, node) = Plan::of(alloc, &definitions, &root)?;
+        Ok(Schema {
+            root,
+            definitions,
+            plan,
+            node,
+        })
+    }
 
     /// Whether `bytes` hold a value of the schema at `pos`, in the order that docs/FORMAT.md gives. In a context for these bytes that met nothing
     /// yet the answer is exact: Ok where the buffer is an archive with its root there and with no region too deep, and else the refusal of the
