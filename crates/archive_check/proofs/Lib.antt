@@ -35,4 +35,4 @@ pub mod Pointing
 pub mod Rows
 pub mod Cases
 pub mod Numbered
-pub mod Planned
+pub mod Waiting

@@ -6,7 +6,7 @@ use Rattle.archive_check.specs.Shape.{Name, Shape, named, definition}
 use Rattle.archive_check.specs.Expressions.{shape_of, entries_of}
 use Rattle.archive_check.specs.Runs.{IsAt}
 use Rattle.archive_check.specs.Growing.{node_of}
-use Rattle.archive_check.specs.Compiled.{count_of}
+use Rattle.archive_check.specs.Counts.{count_of}
 use Rattle.archive_check.specs.Numbered.{start_of, FirstAt, IsRootOf, RootIs, IsNumbered}
 use Rattle.archive_check.proofs.GoingOn.{at_more, at_less, at_last, same_at, some_at}
 

@@ -6,7 +6,7 @@ use Rattle.archive_check.specs.Shape.{Name, Shape, named}
 use Rattle.archive_check.specs.Expressions.{shape_of}
 use Rattle.archive_check.specs.Runs.{IsAt}
 use Rattle.archive_check.specs.Growing.{node_of}
-use Rattle.archive_check.specs.Compiled.{count_of}
+use Rattle.archive_check.specs.Counts.{count_of}
 
 -- where the nodes of the definition i begin
 abbrev pub start_of : List Def → ℕ → ℕ

@@ -2,7 +2,6 @@
 #![tactic(auto)]
 
 pub mod bytes;
-mod compile;
 mod copy;
 mod counting;
 pub mod error;
@@ -11,8 +10,8 @@ mod growing;
 pub mod laws;
 pub mod layout;
 pub mod plan;
-pub mod planning;
 pub mod shape;
+mod queue;
 mod sizes;
 #[cfg(test)]
 mod tests;

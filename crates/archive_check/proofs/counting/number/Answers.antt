@@ -2,7 +2,7 @@ use Rattle.std.proofs.Common.{◌≡◌, ◌+◌, ap, sym, ◌∙◌, subst, ari
 use Rattle.archive_check.specs.declared.expr.Def.{Def}
 use Rattle.archive_check.specs.Expressions.{shape_of}
 use Rattle.archive_check.specs.Runs.{IsAt}
-use Rattle.archive_check.specs.Compiled.{count_of}
+use Rattle.archive_check.specs.Counts.{count_of}
 use Rattle.archive_check.specs.Numbered.{RootIs, start_of}
 use Rattle.archive_check.proofs.GoingOn.{same_at}
 use Rattle.archive_check.proofs.Numbered.{numbered_next, start_next}
