@@ -140,7 +140,7 @@ module _ {names : List Known} {gives : List Shape} {v w : Waits} {a b c : Lists}
         gives_count = length-append gives (X ∷ []) ∙ count;
         adds = adds_push X p closed (λ s shapes m g t. (lay m s.layouts g (knows_settled done t)).0) make empty;
         waits_few = few;
-      below = omega (arith, pushed_is p);
+        below = omega (arith, pushed_is p);
         root = inr (pushed_is p, omega (arith, last), λ shapes given. given_last gives j last given);
         lays = λ m l g k. let q = lay m l g k in record { node = p.node; at = at_more g.nodes (pushed_at p); size_is = p.size_is ∙ q.0; align_is = p.align_is ∙ q.1 };
       }

@@ -32,7 +32,10 @@ use Rattle.archive_check.proofs.Adding.{adds_refl, adds_same, adds_push, compile
 -- what a pointer leads to, as one value or as a run of them
 pub leads_one : {names : List Known} {X : Shape} {v w : Waits} {a : Lists} {j : ℕ} → Targets names X v w a j → Leads names (one X) v w a a One j
 leads_one t = record {
-  gives = []; gives_count = refl; adds = t.adds; waits_few = omega (arith, t.waits_few);
+  gives = [];
+  gives_count = refl;
+  adds = t.adds;
+  waits_few = omega (arith, t.waits_few);
   below = λ m g. t.below m;
   size_is = refl;
   points = λ s shapes m g u given. points_one (t.sized s shapes m u) (t.stands s shapes m u);
@@ -40,7 +43,10 @@ leads_one t = record {
 
 pub leads_run : {names : List Known} {X : Shape} {v w : Waits} {a : Lists} {j : ℕ} → Targets names X v w a j → Leads names (run X) v w a a Run j
 leads_run t = record {
-  gives = []; gives_count = refl; adds = t.adds; waits_few = omega (arith, t.waits_few);
+  gives = [];
+  gives_count = refl;
+  adds = t.adds;
+  waits_few = omega (arith, t.waits_few);
   below = λ m g. t.below m;
   size_is = refl;
   points = λ s shapes m g u given. points_run (t.sized s shapes m u) (t.stands s shapes m u);

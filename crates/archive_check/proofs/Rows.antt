@@ -162,7 +162,7 @@ module _ {names : List Known} {done start : ℕ} {all : Parts} {v w : Waits} {a 
         gives = r.gives;
         gives_count = omega (arith, r.left);
         adds = adds_same r.adds grown p.extended.nodes_are;
-      waits_few = omega (arith, r.waits_few);
+        waits_few = omega (arith, r.waits_few);
         positive = omega (arith, r.positive, p.align_is);
         last = omega (arith, p.last_is);
         few = p.few;
@@ -261,7 +261,7 @@ module _ {names : List Known} {done : ℕ} {all : Variants} {v w : Waits} {a c d
         gives = r.gives;
         gives_count = omega (arith, r.left);
         adds = adds_same r.adds grown p.extended.nodes_are;
-      waits_few = omega (arith, r.waits_few);
+        waits_few = omega (arith, r.waits_few);
         positive = omega (arith, r.positive, p.align_is);
         last = omega (arith, p.last_is);
         few = p.few;

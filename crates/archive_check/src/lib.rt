@@ -2,6 +2,7 @@
 #![tactic(auto)]
 
 pub mod bytes;
+mod compile;
 mod copy;
 mod counting;
 pub mod error;
@@ -10,8 +11,8 @@ mod growing;
 pub mod laws;
 pub mod layout;
 pub mod plan;
-pub mod shape;
 mod queue;
+pub mod shape;
 mod sizes;
 #[cfg(test)]
 mod tests;

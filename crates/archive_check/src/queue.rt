@@ -8,7 +8,7 @@ ghost use Rattle.archive_check.specs.Queued.{waits_of, no_waits, IsQueued};
 use crate::counting::root;
 use crate::error::Error;
 use crate::expr::Expr;
-use crate::growing::{find, Known};
+use crate::growing::{Known, find};
 use std::alloc::Global;
 
 /// An expression, and the node that it is to be compiled to.
