@@ -3,15 +3,15 @@
 ghost use Rattle.std.specs.Prelude.{ℕ, ◌≡◌, ◌+◌, IfOk, length};
 ghost use Rattle.archive_check.specs.Expressions.{shape_of, pointee_of, shapes_in, variants_in};
 ghost use Rattle.archive_check.specs.Counts.{count_of, count_pointee as pointee_count, counts_of, variant_counts_of};
-ghost use Rattle.archive_check.specs.Numbered.{RootIs, IsNumbered};
+ghost use Rattle.archive_check.specs.Numbered.{RootIs, IsNumbered, def_shapes, start_of};
 
 use crate::error::Error;
 use crate::expr::{Def, Expr, Pointee};
 use crate::growing::{Known, find};
 use std::alloc::Global;
 
-// So many and so many. More than addresses are, there is no memory for.
-fn add(a: usize, b: usize) -> Result<usize, Error>
+/// So many and so many. Refused with 1 where that is above `usize::MAX`: there is no memory for it.
+pub fn add(a: usize, b: usize) -> Result<usize, Error>
     ensures { IfOk result (λ n. n ≡ a + b) }
 {
     a.checked_add(b).ok_or(Error::OutOfMemory)
@@ -97,20 +97,17 @@ pub fn root(names: &[Known], expr: &Expr, start: usize) -> Result<(usize, usize)
     Ok((end - 1, end))
 }
 
-/// The nodes that definitions are compiled to, one after another. Memory comes from `alloc`. Refused with 1 where memory is refused, and with
-/// 31 where one is a name that isn't defined before it.
-pub fn number(alloc: Global, defs: &[Def]) -> Result<Vec<Known>, Error>
-    ensures { IfOk result (λ names. IsNumbered defs.now names.items (length defs.now)) }
+/// The nodes that definitions are compiled to, one after another, and how many there are. Memory comes from `alloc`. Refused with 1 where
+/// memory is refused, and with 31 where one is a name that isn't defined before it.
+pub fn number(alloc: Global, defs: &[Def]) -> Result<(Vec<Known>, usize), Error>
+    ensures { IfOk result (λ r. IsNumbered defs.now r.0.items (length defs.now) × (r.1 ≡ start_of (def_shapes defs.now) (length defs.now))) }
 {
     let mut names: Vec<Known> = Vec::new(alloc);
     let mut start = 0;
     for i in 0..defs.len() {
         let (node, end) = root(&names, &defs[i].expr, start)?;
-        names.push(Known {
-            name: defs[i].name,
-            node,
-        })?;
+        names.push(Known { name: defs[i].name, node })?;
         start = end;
     }
-    Ok(names)
+    Ok((names, start))
 }
