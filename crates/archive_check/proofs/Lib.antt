@@ -36,3 +36,5 @@ pub mod Rows
 pub mod Cases
 pub mod Numbered
 pub mod Waiting
+pub mod Chained
+pub mod Planned

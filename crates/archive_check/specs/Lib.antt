@@ -36,4 +36,5 @@ pub mod Counts
 pub mod Queued
 pub mod Compiled
 pub mod Numbered
+pub mod Planned
 pub mod Exact
