@@ -12,7 +12,7 @@ use Rattle.archive_check.specs.Growing.{node_of, Lists, no_lists, Goes, Grows}
 use Rattle.archive_check.specs.Queued.{Wait, Waits, no_waits, waits_in, wait_shapes, waits_size}
 use Rattle.archive_check.specs.Compiled.{Given, Adds, Compiled}
 use Rattle.archive_check.specs.Numbered.{def_shapes, start_of, FirstAt, IsRootOf}
-use Rattle.archive_check.specs.Planned.{Kept, Chained}
+use Rattle.archive_check.specs.Planned.{Kept, Chained, Finishes, FinishesTo}
 use Rattle.archive_check.proofs.GoingOn.{same_at, at_less, at_last, at_end, grows_refl, grows_trans}
 use Rattle.archive_check.proofs.Adding.{given_first, given_second, adds_refl, adds_trans}
 use Rattle.archive_check.proofs.Numbered.{def_shapes-append, start_next, start_prefix, node_of_first}
@@ -41,24 +41,34 @@ chained_next {names} {Xs} {base} {v} {w} {b} {c} {X} {j} r f =
       gives_count = length-append r.gives f.gives ∙ ap₂ (λ x y. x + y) (r.gives_count ∙ sym front) f.gives_count ∙ sym whole ∙ ap (start_of (Xs ++ X ∷ [])) (sym size);
       adds = adds_trans r.adds f.adds;
       each = λ p x at. ⊎_elim
-        (λ q.
+          (λ q.
           let k = r.each p x (at_less (record { more = X ∷ []; is = refl }) q at) in
           let same : start_of Xs p ≡ start_of (Xs ++ X ∷ []) p = sym (start_prefix Xs (X ∷ []) p (omega (arith, q))) in
           record {
-            before = k.before; after = k.after; waits = k.waits; later = k.later; node = k.node; compiled = k.compiled;
+            before = k.before;
+            after = k.after;
+            waits = k.waits;
+            later = k.later;
+            node = k.node;
+            compiled = k.compiled;
             starts = k.starts ∙ same;
             grows = grows_trans k.grows f.adds.grows;
             given = λ shapes given. k.given shapes (given_first f.gives given);
           })
-        (λ q.
+          (λ q.
           let new : Kept names X (start_of (Xs ++ X ∷ []) p) w c (r.gives ++ f.gives) = record {
-            before = b; after = c; waits = v; later = w; node = j; compiled = f;
+            before = b;
+            after = c;
+            waits = v;
+            later = w;
+            node = j;
+            compiled = f;
             starts = here ∙ (let z : 0 + length r.gives ≡ length r.gives = omega arith in z) ∙ r.gives_count ∙ sym front ∙ ap (start_of (Xs ++ X ∷ [])) (sym q.0);
             grows = grows_refl c;
             given = λ shapes given. given_second r.gives (length b.nodes) here given;
           } in
           subst (λ y. Kept names y (start_of (Xs ++ X ∷ []) p) w c (r.gives ++ f.gives)) (sym q.1) new)
-        (at_last Xs X x p at);
+          (at_last Xs X x p at);
     }
 
 -- the first i + 1
@@ -102,7 +112,7 @@ pub waits_next : {names : List Known} {base : ℕ} {v w : Waits} {b c : Lists} {
     → Compiled names (length b.nodes) x.shape v w b c j → Chained names (Xs ++ wait_shapes (take (i + 1) w.items)) base w c
 waits_next {names} {base} {v} {w} {b} {c} Xs i x r at f =
     let e : Xs ++ wait_shapes (take (i + 1) w.items) ≡ (Xs ++ wait_shapes (take i v.items)) ++ x.shape ∷ [] =
-        ap (λ l. Xs ++ l) (ap wait_shapes (later_take i x f.adds.waits_go at) ∙ wait_shapes-append (take i v.items) (x ∷ [])) ∙ sym (append_assoc Xs (wait_shapes (take i v.items)) (x.shape ∷ [])) in
+    ap (λ l. Xs ++ l) (ap wait_shapes (later_take i x f.adds.waits_go at) ∙ wait_shapes-append (take i v.items) (x ∷ [])) ∙ sym (append_assoc Xs (wait_shapes (take i v.items)) (x.shape ∷ [])) in
     subst (λ Ys. Chained names Ys base w c) (sym e) (chained_next r f)
 
 -- less is left to compile
@@ -115,16 +125,16 @@ pub waits_fall : {names : List Known} {done i : ℕ} {v w : Waits} {b c : Lists}
     → waits_size w.items - waits_size (take (i + 1) w.items) < waits_size v.items - waits_size (take i v.items)
 waits_fall {i = i} {v = v} {w = w} {x = x} at f =
     let e : waits_size (take (i + 1) w.items) ≡ waits_size (take i v.items) + (shape_size x.shape + 1) =
-        ap waits_size (later_take i x f.adds.waits_go at) ∙ waits_size-append (take i v.items) (x ∷ []) ∙ (let z : waits_size (take i v.items) + (shape_size x.shape + 1 + 0) ≡ waits_size (take i v.items) + (shape_size x.shape + 1) = omega arith in z) in
+    ap waits_size (later_take i x f.adds.waits_go at) ∙ waits_size-append (take i v.items) (x ∷ []) ∙ (let z : waits_size (take i v.items) + (shape_size x.shape + 1 + 0) ≡ waits_size (take i v.items) + (shape_size x.shape + 1) = omega arith in z) in
     let old : waits_size (take (i + 1) v.items) ≡ waits_size (take i v.items) + (shape_size x.shape + 1) =
-        ap waits_size (take_next v.items i x at) ∙ waits_size-append (take i v.items) (x ∷ []) ∙ (let z : waits_size (take i v.items) + (shape_size x.shape + 1 + 0) ≡ waits_size (take i v.items) + (shape_size x.shape + 1) = omega arith in z) in
+    ap waits_size (take_next v.items i x at) ∙ waits_size-append (take i v.items) (x ∷ []) ∙ (let z : waits_size (take i v.items) + (shape_size x.shape + 1 + 0) ≡ waits_size (take i v.items) + (shape_size x.shape + 1) = omega arith in z) in
     omega (arith, e, old, take_size v.items (i + 1), f.waits_few)
 
 -- the node that was counted is the one that was compiled
 pub root_same : {names : List Known} {done : ℕ} {v w : Waits} {a b : Lists} {j : ℕ} (i start : ℕ) (X : Shape) (k : ℕ) → Compiled names done X v w a b j → length a.nodes ≡ start → IsRootOf names i start X k → k ≡ j
 root_same {names} {a = a} {b = b} {j = j} i start X k c e (inl h) = ⊎_elim
     (λ r. let same : h.0 ≡ r.0 = (let both : named h.0 ≡ named r.0 = sym h.1 ∙ r.1 in cc) in
-      let found : Some k ≡ Some j = sym (node_of_first names h.0 h.2.0 k h.2.2) ∙ ap (node_of names) same ∙ r.2 in cc)
+    let found : Some k ≡ Some j = sym (node_of_first names h.0 h.2.0 k h.2.2) ∙ ap (node_of names) same ∙ r.2 in cc)
     (λ r. absurd (omega (arith, r.0, r.1, c.adds.count, c.gives_count, ap count_of h.1)))
     c.root
 root_same {names} {a = a} {b = b} {j = j} i start X k c e (inr h) = ⊎_elim
@@ -136,12 +146,25 @@ root_same {names} {a = a} {b = b} {j = j} i start X k c e (inr h) = ⊎_elim
 pub compiled_same : {names : List Known} {done n : ℕ} {v w v' w' : Waits} {a b c d : Lists} {j k : ℕ} (X : Shape) → Compiled names done X v w a b j → Compiled names n X v' w' c d k → length a.nodes ≡ length c.nodes → j ≡ k
 compiled_same {names} {a = a} {b = b} {c = c} {d = d} {j = j} {k = k} X f g e = ⊎_elim
     (λ h. ⊎_elim
-      (λ r. let same : h.0 ≡ r.0 = (let both : named h.0 ≡ named r.0 = sym h.1 ∙ r.1 in cc) in
-        let found : Some j ≡ Some k = sym h.2 ∙ ap (node_of names) same ∙ r.2 in cc)
-      (λ r. absurd (omega (arith, r.0, r.1, g.adds.count, g.gives_count, ap count_of h.1)))
-      g.root)
+    (λ r. let same : h.0 ≡ r.0 = (let both : named h.0 ≡ named r.0 = sym h.1 ∙ r.1 in cc) in
+    let found : Some j ≡ Some k = sym h.2 ∙ ap (node_of names) same ∙ r.2 in cc)
+    (λ r. absurd (omega (arith, r.0, r.1, g.adds.count, g.gives_count, ap count_of h.1)))
+    g.root)
     (λ h. ⊎_elim
-      (λ r. absurd (omega (arith, h.0, h.1, f.adds.count, f.gives_count, ap count_of r.1)))
-      (λ r. omega (arith, h.0, r.0, f.adds.count, f.gives_count, g.adds.count, g.gives_count, e))
-      g.root)
+    (λ r. absurd (omega (arith, h.0, h.1, f.adds.count, f.gives_count, ap count_of r.1)))
+    (λ r. omega (arith, h.0, r.0, f.adds.count, f.gives_count, g.adds.count, g.gives_count, e))
+    g.root)
     f.root
+
+-- nothing of what waits is compiled yet, and then one more, and all
+pub finishes_start : (names : List Known) (v : Waits) (a : Lists) → FinishesTo names 0 v v a a
+finishes_start names v a = record { grows_to = grows_refl a; chained_to = λ Xs base r. subst (λ Ys. Chained names Ys base v a) (sym (append-nil Xs)) r }
+
+pub finishes_next : {names : List Known} {u v w : Waits} {a b c : Lists} {j : ℕ} (i : ℕ) (x : Wait) → FinishesTo names i u v a b → IsAt v.items i x → Compiled names (length b.nodes) x.shape v w b c j → FinishesTo names (i + 1) u w a c
+finishes_next i x r at f = record { grows_to = grows_trans r.grows_to f.adds.grows; chained_to = λ Xs base k. waits_next Xs i x (r.chained_to Xs base k) at f }
+
+pub finishes_end : {names : List Known} {u v : Waits} {a b : Lists} (i : ℕ) → FinishesTo names i u v a b → length v.items ≤ i → Finishes names u v a b
+finishes_end {names} {u} {v} {a} {b} i r h = record {
+  grows = r.grows_to;
+  chained = λ Xs base k. subst (λ ws. Chained names (Xs ++ wait_shapes ws) base v b) (take_all v.items i h) (r.chained_to Xs base k);
+}

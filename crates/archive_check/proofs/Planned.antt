@@ -17,11 +17,11 @@ use Rattle.archive_check.specs.Growing.{node_of, Lists, no_lists, lists_of, list
 use Rattle.archive_check.specs.Queued.{Wait, Waits, no_waits, wait_shapes, Reserved}
 use Rattle.archive_check.specs.Compiled.{Follows, Below, Knows, Settled, Given, ClosedTo, MadeTo, Compiled}
 use Rattle.archive_check.specs.Numbered.{def_shapes, start_of, FirstAt, IsRootOf, IsNumbered}
-use Rattle.archive_check.specs.Planned.{IsOf, IsPlan, Kept, Chained}
+use Rattle.archive_check.specs.Planned.{IsOf, IsPlan, Kept, Chained, Finishes}
 use Rattle.archive_check.proofs.GoingOn.{same_get, same_goes, some_at, at_more, at_behind, at_end, goes_longer, grows_trans}
 use Rattle.archive_check.proofs.Adding.{given_first, given_second, stands_of}
 use Rattle.archive_check.proofs.Numbered.{def_at, def_count, start_next, start_later, start_prefix, start_behind, first_at, definition_is}
-use Rattle.archive_check.proofs.Chained.{root_same, compiled_same}
+use Rattle.archive_check.proofs.Chained.{root_same, compiled_same, chained_next}
 
 layout_sized : {m : Checker} {j : ℕ} (l : Layouts) (name : Name) (X : Shape) → l name ≡ layout l X → Sized m j (size_of l X) (align_of l X) → Sized m j (l name).size (l name).align
 layout_sized l name X e t = record { node = t.node; at = t.at; size_is = t.size_is ∙ ap (λ w. fits w.size) (sym e); align_is = t.align_is ∙ ap (λ w. w.align) (sym e) }
@@ -60,7 +60,7 @@ abbrev all_shapes : List Def → Shape → Waits → List Shape
 all_shapes defs X w = (def_shapes defs ++ X ∷ []) ++ wait_shapes w.items
 
 module _ {names : List Known} {defs : List Def} {w : Waits} {base : ℕ} {b : Lists} (X : Shape)
-      (num : IsNumbered defs names (length defs)) (chain : Chained names (all_shapes defs X w) base w b) (base_is : base ≡ start_of (def_shapes defs) (length defs) + count_of X) where
+    (num : IsNumbered defs names (length defs)) (chain : Chained names (all_shapes defs X w) base w b) (base_is : base ≡ start_of (def_shapes defs) (length defs) + count_of X) where
   front_count : length (def_shapes defs ++ X ∷ []) ≡ length defs + 1
   front_count = length-append (def_shapes defs) (X ∷ []) ∙ ap (λ n. n + 1) (def_count defs)
 
@@ -111,10 +111,10 @@ module _ {names : List Known} {defs : List Def} {w : Waits} {base : ℕ} {b : Li
   names_below zero name q j lt f = absurd (omega (arith, lt))
   names_below (suc r) name q j lt f =
       let d = defined_at f in ⊎_elim
-        (λ h. let later = names_below r h.0 h.2.0 f.known.node (omega (arith, lt, h.2.1)) h.2.2 in omega (arith, later, f.node_is))
-        (λ h. let last = start_later (def_shapes defs) (q + 1) (length defs) (omega (arith, d.1.below)) in
-          omega (arith, h.0, h.1, last, start_next (def_shapes defs) q (shape_of d.0.expr) (def_at defs q d.1), f.node_is))
-        (num.root_is q d.0 f.known d.1 f.at)
+      (λ h. let later = names_below r h.0 h.2.0 f.known.node (omega (arith, lt, h.2.1)) h.2.2 in omega (arith, later, f.node_is))
+      (λ h. let last = start_later (def_shapes defs) (q + 1) (length defs) (omega (arith, d.1.below)) in
+      omega (arith, h.0, h.1, last, start_next (def_shapes defs) q (shape_of d.0.expr) (def_at defs q d.1), f.node_is))
+      (num.root_is q d.0 f.known d.1 f.at)
 
   name_below : (name : Name) (j : ℕ) → node_of names name ≡ Some j → j < start_of (def_shapes defs) (length defs)
   name_below name j e = let f = first_at names name j e in names_below (suc f.0) name f.0 j (omega arith) f.1
@@ -123,8 +123,8 @@ module _ {names : List Known} {defs : List Def} {w : Waits} {base : ℕ} {b : Li
     all_below : Below names w.items m
     all_below = record {
       names_below = λ name j e.
-        let c = root_kept in
-        omega (arith, name_below name j e, c.starts, c.compiled.adds.count, goes_longer c.grows.nodes, goes_longer g.nodes);
+          let c = root_kept in
+          omega (arith, name_below name j e, c.starts, c.compiled.adds.count, goes_longer c.grows.nodes, goes_longer g.nodes);
       waits_below = λ k x at. let c = wait_kept k x at in omega (arith, wait_same k x at, c.compiled.below, goes_longer c.grows.nodes, goes_longer g.nodes);
     }
 
@@ -143,26 +143,26 @@ module _ {names : List Known} {defs : List Def} {w : Waits} {base : ℕ} {b : Li
           let d = defined_at f in
           let is : s.layouts name ≡ layout s.layouts (shape_of d.0.expr) = laid.solves name (shape_of d.0.expr) (definition_at f d.0 d.1) in
           ⊎_elim
-            (λ h. node_sized f.node_is (layout_sized s.layouts name (shape_of d.0.expr) is (old q d.0 f.known h d.1 f.at)))
-            (λ h. ⊎_elim
-              (λ k. node_sized f.node_is (layout_sized s.layouts name (named k.0) (is ∙ ap (layout s.layouts) k.1)
-                (name_sized p old r k.0 k.2.0 f.known.node (omega (arith, lt, k.2.1)) k.2.2 (omega (arith, f.node_is, below)))))
-              (λ k. absurd (omega (arith, k.1, f.node_is, below, start_later (def_shapes defs) p q h)))
-              (num.root_is q d.0 f.known d.1 f.at))
-            (cases_lt q p)
+          (λ h. node_sized f.node_is (layout_sized s.layouts name (shape_of d.0.expr) is (old q d.0 f.known h d.1 f.at)))
+          (λ h. ⊎_elim
+          (λ k. node_sized f.node_is (layout_sized s.layouts name (named k.0) (is ∙ ap (layout s.layouts) k.1)
+          (name_sized p old r k.0 k.2.0 f.known.node (omega (arith, lt, k.2.1)) k.2.2 (omega (arith, f.node_is, below)))))
+          (λ k. absurd (omega (arith, k.1, f.node_is, below, start_later (def_shapes defs) p q h)))
+          (num.root_is q d.0 f.known d.1 f.at))
+          (cases_lt q p)
 
       all_laid : (p : ℕ) → p ≤ length defs → AreLaid p
       all_laid zero few q d k lt at kt = absurd (omega (arith, lt))
       all_laid (suc p) few q d k lt at kt = ⊎_elim
           (λ h. all_laid p (omega arith) q d k h at kt)
           (λ h.
-            let e : q ≡ p = omega (arith, lt, h) in
-            let c = def_kept q d at in
-            let old : AreLaid p = all_laid p (omega arith) in
-            let known : Knows names s.layouts (length c.before.nodes) m = λ name j n below.
-                let f = first_at names name j n in name_sized p old (suc f.0) name f.0 j (omega arith) f.1 (omega (arith, below, c.starts, ap (start_of (def_shapes defs)) e)) in
-            let same : k.node ≡ c.node = root_same q (start_of (def_shapes defs) q) (shape_of d.expr) k.node c.compiled c.starts (num.root_is q d k at kt) in
-            node_sized (sym same) (c.compiled.lays m s.layouts (grows_trans c.grows g) known))
+          let e : q ≡ p = omega (arith, lt, h) in
+          let c = def_kept q d at in
+          let old : AreLaid p = all_laid p (omega arith) in
+          let known : Knows names s.layouts (length c.before.nodes) m = λ name j n below.
+          let f = first_at names name j n in name_sized p old (suc f.0) name f.0 j (omega arith) f.1 (omega (arith, below, c.starts, ap (start_of (def_shapes defs)) e)) in
+          let same : k.node ≡ c.node = root_same q (start_of (def_shapes defs) q) (shape_of d.expr) k.node c.compiled c.starts (num.root_is q d k at kt) in
+          node_sized (sym same) (c.compiled.lays m s.layouts (grows_trans c.grows g) known))
           (cases_lt q p)
 
       all_known : (name : Name) (j : ℕ) → node_of names name ≡ Some j → Sized m j (s.layouts name).size (s.layouts name).align
@@ -179,9 +179,9 @@ module _ {names : List Known} {defs : List Def} {w : Waits} {base : ℕ} {b : Li
             let c = def_kept q d.0 d.1 in
             let same = root_same q (start_of (def_shapes defs) q) (shape_of d.0.expr) f.known.node c.compiled c.starts (num.root_is q d.0 f.known d.1 f.at) in
             subst (λ i. Stands s shapes (named name) i) f.node_is (⊎_elim
-              (λ k. stands_named is (subst (λ Y. Stands s shapes Y f.known.node) (sym k.1) (name_stands r k.0 k.2.0 f.known.node (omega (arith, lt, k.2.1)) k.2.2)))
-              (λ k. stands_named is (kept_stands c given same k.0 k.1))
-              (num.root_is q d.0 f.known d.1 f.at))
+            (λ k. stands_named is (subst (λ Y. Stands s shapes Y f.known.node) (sym k.1) (name_stands r k.0 k.2.0 f.known.node (omega (arith, lt, k.2.1)) k.2.2)))
+            (λ k. stands_named is (kept_stands c given same k.0 k.1))
+            (num.root_is q d.0 f.known d.1 f.at))
 
         settled : Settled names w.items s shapes m
         settled = record {
@@ -212,21 +212,29 @@ planned {defs = defs} {w = w} {base = base} {j = j} {b = b} X plan num chain bas
     record {
       below = omega (arith, root.below, goes_longer grows.nodes);
       closed = λ m o.
-        let g = plan_follows m plan o in
-        let none : ClosedTo m 0 = record { fits = λ i node z lt at e. absurd (omega (arith, lt)) } in
-        let all = chain.adds.closed m g (all_below X num chain base_is m g) none in
-        record { fits = λ i node z at e. all.fits i node z (omega (arith, at.below, ap length o.nodes)) at e };
+          let g = plan_follows m plan o in
+          let none : ClosedTo m 0 = record { fits = λ i node z lt at e. absurd (omega (arith, lt)) } in
+          let all = chain.adds.closed m g (all_below X num chain base_is m g) none in
+          record { fits = λ i node z at e. all.fits i node z (omega (arith, at.below, ap length o.nodes)) at e };
       plan_of = λ m s o table laid.
-        let g = plan_follows m plan o in
-        let shapes : ℕ → Shape = shape_at chain.gives in
-        let given = all_given chain.gives in
-        let t = settled X num chain base_is m g s table laid shapes given in
-        let none : MadeTo s shapes m 0 = record { made = λ i node z lt at e. absurd (omega (arith, lt)); empty = λ i node lt at e. absurd (omega (arith, lt)) } in
-        let all = chain.adds.made s shapes m g t given none in
-        record {
-          shapes = shapes;
-          represents = record { made = λ i node z at e. all.made i node z (omega (arith, at.below, ap length o.nodes)) at e };
-          points = points_one (root.lays m s.layouts (grows_trans grows g) (λ name i n below. t.sized name i n))
-            (subst (λ i. Stands s shapes X i) (sym same) (root_stands kept t given));
-        };
+          let g = plan_follows m plan o in
+          let shapes : ℕ → Shape = shape_at chain.gives in
+          let given = all_given chain.gives in
+          let t = settled X num chain base_is m g s table laid shapes given in
+          let none : MadeTo s shapes m 0 = record { made = λ i node z lt at e. absurd (omega (arith, lt)); empty = λ i node lt at e. absurd (omega (arith, lt)) } in
+          let all = chain.adds.made s shapes m g t given none in
+          record {
+            shapes = shapes;
+            represents = record { made = λ i node z at e. all.made i node z (omega (arith, at.below, ap length o.nodes)) at e };
+            points = points_one (root.lays m s.layouts (grows_trans grows g) (λ name i n below. t.sized name i n))
+                (subst (λ i. Stands s shapes X i) (sym same) (root_stands kept t given));
+          };
     }
+
+-- the definitions, then the root, then what waits
+pub all_planned : {names : List Known} {defs : List Def} {v u w : Waits} {base j : ℕ} {b c : Lists} (X : Shape) (plan : Plan) → IsNumbered defs names (length defs) → Chained names (def_shapes defs) base v b
+    → base ≡ start_of (def_shapes defs) (length defs) + count_of X → Compiled names (length b.nodes) X v u b c j → Finishes names u w c (lists_of plan) → IsPlan defs X plan j
+all_planned {defs = defs} {base = base} X plan num chain base_is root rest =
+    let front = chained_next chain root in
+    let starts = ap (start_of (def_shapes defs)) (def_count defs) in
+    planned X plan num (rest.chained (def_shapes defs ++ X ∷ []) base front) base_is root (omega (arith, chain.adds.count, chain.gives_count, starts)) rest.grows

@@ -1,5 +1,5 @@
 -- Plans of an expression and the definitions of its names.
-use Rattle.std.specs.Prelude.{◌≡◌, ℕ, ◌<◌, List, [], length}
+use Rattle.std.specs.Prelude.{◌≡◌, ℕ, ◌<◌, List, [], ◌++◌, length, take}
 use Rattle.archive_check.specs.declared.expr.Def.{Def}
 use Rattle.archive_check.specs.declared.plan.Plan.{Plan}
 use Rattle.archive_check.specs.declared.plan.Checker.{Checker}
@@ -11,7 +11,7 @@ use Rattle.archive_check.specs.Runs.{IsAt}
 use Rattle.archive_check.specs.Closed.{IsClosed}
 use Rattle.archive_check.specs.Exact.{PlanOf}
 use Rattle.archive_check.specs.Growing.{Lists, no_lists, Goes, Grows}
-use Rattle.archive_check.specs.Queued.{Waits, no_waits}
+use Rattle.archive_check.specs.Queued.{Waits, no_waits, wait_shapes}
 use Rattle.archive_check.specs.Compiled.{Given, Adds, Compiled}
 use Rattle.archive_check.specs.Numbered.{start_of}
 
@@ -46,3 +46,13 @@ pub record Chained (names : List Known) (Xs : List Shape) (base : ℕ) (w : Wait
   pub gives_count : length gives ≡ start_of Xs (length Xs)
   pub adds : Adds names gives (no_waits base) w no_lists b
   pub each : (i : ℕ) (X : Shape) → IsAt Xs i X → Kept names X (start_of Xs i) w b gives
+
+-- from v and a on, all that waits is compiled: behind whatever was before, if nothing of v was
+pub record Finishes (names : List Known) (v w : Waits) (a b : Lists) : Type 0 where
+  pub grows : Grows a b
+  pub chained : (Xs : List Shape) (base : ℕ) → Chained names Xs base v a → Chained names (Xs ++ wait_shapes w.items) base w b
+
+-- the same, as far as the first i
+pub record FinishesTo (names : List Known) (i : ℕ) (v w : Waits) (a b : Lists) : Type 0 where
+  pub grows_to : Grows a b
+  pub chained_to : (Xs : List Shape) (base : ℕ) → Chained names Xs base v a → Chained names (Xs ++ wait_shapes (take i w.items)) base w b

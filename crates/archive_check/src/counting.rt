@@ -106,7 +106,10 @@ pub fn number(alloc: Global, defs: &[Def]) -> Result<(Vec<Known>, usize), Error>
     let mut start = 0;
     for i in 0..defs.len() {
         let (node, end) = root(&names, &defs[i].expr, start)?;
-        names.push(Known { name: defs[i].name, node })?;
+        names.push(Known {
+            name: defs[i].name,
+            node,
+        })?;
         start = end;
     }
     Ok((names, start))

@@ -11,6 +11,7 @@ mod growing;
 pub mod laws;
 pub mod layout;
 pub mod plan;
+pub mod planning;
 mod queue;
 pub mod shape;
 mod sizes;
