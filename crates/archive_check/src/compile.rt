@@ -14,7 +14,7 @@ use crate::growing::{
 };
 use crate::plan::{Job, Plan, Target};
 use crate::queue::{Queue, wait};
-use crate::sizes::{offset_of, pointer_size, times};
+use crate::extents::{offset_of, pointer_size, times};
 use std::alloc::Global;
 
 // A sort more, with a copy of its pointee.

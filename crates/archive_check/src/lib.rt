@@ -7,6 +7,7 @@ mod copy;
 mod counting;
 pub mod error;
 pub mod expr;
+mod extents;
 mod growing;
 pub mod laws;
 pub mod layout;
@@ -14,7 +15,6 @@ pub mod plan;
 pub mod planning;
 mod queue;
 pub mod shape;
-mod sizes;
 #[cfg(test)]
 mod tests;
 pub mod traits;
