@@ -1,6 +1,6 @@
 -- Expressions that are compiled one after another.
 use Rattle.std.proofs.Common.{◌≡◌, ◌⊎◌, inl, inr, ⊎_elim, ℕ, zero, suc, refl, sym, ap, ap₂, ◌∙◌, subst, ◌+◌, ◌-◌, ◌<◌, ◌≤◌, arith, List, [], ◌∷◌, ◌++◌, length, take, drop, slice_index_or, Option, Some, None, length-append, append_assoc, append-nil}
-use Rattle.archive_check.specs.declared.expr.Def.{Def}
+use Rattle.archive_check.specs.declared.defs.Def.{Def}
 use Rattle.archive_check.specs.declared.growing.Known.{Known}
 use Rattle.archive_check.specs.declared.queue.Waiting.{Waiting}
 use Rattle.archive_check.specs.Shape.{Name, Shape, named}

@@ -38,3 +38,9 @@ pub mod Numbered
 pub mod Waiting
 pub mod Chained
 pub mod Planned
+pub mod Sizes
+pub mod Same
+pub mod Copies
+pub mod Tables
+pub mod KeptPositions
+pub mod SubtreeSteps

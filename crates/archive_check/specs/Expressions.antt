@@ -12,8 +12,8 @@ use Rattle.archive_check.specs.declared.expr.Pointee.{Pointee as PointeeExpr}
 use Rattle.archive_check.specs.declared.expr.Pointee.TheVariants as pointee
 use Rattle.archive_check.specs.declared.expr.Expr.{Expr, Row_of-Expr, end_of-Expr, more_of-Expr, Row_of-Expr-Choice-1-1, end_of-Expr-Choice-1-1, more_of-Expr-Choice-1-1}
 use Rattle.archive_check.specs.declared.expr.Expr.TheVariants as expr
-use Rattle.archive_check.specs.declared.expr.Def.{Def}
-use Rattle.archive_check.specs.declared.expr.Defs.{Defs}
+use Rattle.archive_check.specs.declared.defs.Def.{Def}
+use Rattle.archive_check.specs.declared.defs.Defs.{Defs}
 use Rattle.archive_check.specs.Shape.{Sign, unsigned, signed, Kind, unit, bool, char, number, non_zero, raw_rel, Flavor, Shape, leaf, parts, choice, array, boxed, vec, str, shared, weak, named, Pointee, one, run, text, Parts, no_part, part, Variants, no_variant, variant, Table}
 
 -- the sign of an integer

@@ -2,7 +2,9 @@ pub mod Errors
 pub mod Shape
 pub mod Layout
 pub mod Defined
+pub mod Same
 pub mod Expressions
+pub mod Added
 pub mod Value
 pub mod Reads
 pub mod Tour
@@ -23,6 +25,8 @@ pub mod Readable
 pub mod Ranges
 pub mod Met
 pub mod Fresh
+pub mod Kept
+pub mod InSubtree
 pub mod Told
 pub mod Schemas
 pub mod Sizes

@@ -8,25 +8,20 @@ ghost use Rattle.archive_check.specs.Compiled.{Compiled, Leads, CompiledParts, C
 
 use crate::error::Error;
 use crate::expr::{Expr, FlavorInfo, Pointee};
+use crate::extents::{offset_of, pointer_size, times};
 use crate::growing::{
     Known, Laid, Row, Spans, extend_parts, extend_variants, find, is_free, push, push_laid,
     push_leaf, push_sort,
 };
 use crate::plan::{Job, Plan, Target};
 use crate::queue::{Queue, wait};
-use crate::extents::{offset_of, pointer_size, times};
 use std::alloc::Global;
 
 // A sort more, with a copy of its pointee.
-fn copy_sort(
-    alloc: Global,
-    plan: &mut Plan,
-    flavor: FlavorInfo,
-    pointee: &Pointee,
-) -> Result<usize, Error>
+fn copy_sort(plan: &mut Plan, flavor: FlavorInfo, pointee: &Pointee) -> Result<usize, Error>
     ensures { IfOk result (λ k. IsCopied (lists_of plan.old) (lists_of plan.new) flavor (pointee_of pointee.now) k) }
 {
-    let copy = pointee.try_clone(alloc)?;
+    let copy = pointee.clone()?;
     push_sort(plan, flavor, copy)
 }
 
@@ -143,7 +138,7 @@ pub fn compile<'e>(
         }
         Expr::Shared(flavor, x) => {
             let (target, pointee) = compile_pointee(names, x, plan, queue)?;
-            let sort = copy_sort(alloc, plan, *flavor, x)?;
+            let sort = copy_sort(plan, *flavor, x)?;
             push(
                 plan,
                 Some(pointer_size(target)),
@@ -157,7 +152,7 @@ pub fn compile<'e>(
         }
         Expr::Weak(flavor, x) => {
             let (target, pointee) = compile_pointee(names, x, plan, queue)?;
-            let sort = copy_sort(alloc, plan, *flavor, x)?;
+            let sort = copy_sort(plan, *flavor, x)?;
             push(
                 plan,
                 Some(pointer_size(target)),

@@ -5,8 +5,9 @@ ghost use Rattle.archive_check.specs.Expressions.{shape_of, pointee_of, shapes_i
 ghost use Rattle.archive_check.specs.Counts.{count_of, count_pointee as pointee_count, counts_of, variant_counts_of};
 ghost use Rattle.archive_check.specs.Numbered.{RootIs, IsNumbered, def_shapes, start_of};
 
+use crate::defs::Def;
 use crate::error::Error;
-use crate::expr::{Def, Expr, Pointee};
+use crate::expr::{Expr, Pointee};
 use crate::growing::{Known, find};
 use std::alloc::Global;
 

@@ -1,9 +1,13 @@
 //! Expressions: what the bytes of an archived type are read as.
 
-ghost use Rattle.std.specs.Prelude.{◌≡◌, []};
-ghost use Rattle.archive_check.specs.Expressions.{table_of};
+ghost use Rattle.std.specs.Prelude.{◌≡◌, ◌↔◌, IsTrue, IfOk};
+ghost use Rattle.std.specs.Cmp.{on_equiv, partial_equiv_from_equiv};
+ghost use Rattle.std.specs.Ordering.{on};
+ghost use Rattle.archive_check.specs.Expressions.{shape_of, pointee_of, shapes_in, variants_in};
+ghost use Rattle.archive_check.specs.Same.{same_shape, same_pointee, same_parts, same_variants, same_shape-equiv, same_pointee-equiv};
 
-use std::alloc::Global;
+pub use crate::defs::{Def, Defs};
+use std::alloc::{AllocError, Global};
 
 /// A kind of integer, by its sign and its width in bits.
 #[derive(Debug, Clone, Copy, PartialEq, Eq)]
@@ -94,28 +98,184 @@ pub enum Pointee {
     Text,
 }
 
-/// The expression that a name stands for.
-#[derive(Debug, Drop)]
-pub struct Def {
-    /// The name.
-    pub name: &'static str,
-    /// What it stands for.
-    pub expr: Expr,
-}
+/// Two expressions are equal where they are written alike; names are compared as names.
+impl PartialEq for Expr {
+    ghost eq = { on shape_of same_shape };
 
-/// The definitions of names.
-#[derive(Debug, Drop)]
-pub struct Defs {
-    items: Vec<Def>,
-}
+    ghost laws = { partial_equiv_from_equiv (on_equiv shape_of same_shape-equiv) };
 
-impl Defs {
-    /// No definition. Memory comes from `alloc`, and none is taken yet.
-    pub fn new(alloc: Global) -> Defs
-        ensures { table_of result ≡ [] }
+    #[tactic(auto, using(crate::specs::Same::shapes_decided))]
+    fn eq(&self, other: &Expr) -> bool
+        ensures decides { result ≡ on shape_of same_shape self.now other.now }
+        ensures exact { IsTrue result ↔ shape_of self.now ≡ shape_of other.now }
     {
-        Defs {
-            items: Vec::new(alloc),
+        same_expressions(self, other)
+    }
+}
+
+impl Eq for Expr {
+    ghost laws = { on_equiv shape_of same_shape-equiv };
+}
+
+/// Two pointees are equal where they are written alike.
+impl PartialEq for Pointee {
+    ghost eq = { on pointee_of same_pointee };
+
+    ghost laws = { partial_equiv_from_equiv (on_equiv pointee_of same_pointee-equiv) };
+
+    #[tactic(auto, using(crate::specs::Same::shapes_decided))]
+    fn eq(&self, other: &Pointee) -> bool
+        ensures decides { result ≡ on pointee_of same_pointee self.now other.now }
+        ensures exact { IsTrue result ↔ pointee_of self.now ≡ pointee_of other.now }
+    {
+        same_pointees(self, other)
+    }
+}
+
+impl Eq for Pointee {
+    ghost laws = { on_equiv pointee_of same_pointee-equiv };
+}
+
+/// A copy is written alike. Its memory comes from the allocators of what is copied; it is refused where they refuse.
+impl Clone for Expr {
+    ghost is_clone = { λ a b. shape_of b ≡ shape_of a };
+
+    fn clone(&self) -> Result<Expr, AllocError> {
+        copy_expression(self)
+    }
+}
+
+/// A copy is written alike. Its memory comes from the allocators of what is copied; it is refused where they refuse.
+impl Clone for Pointee {
+    ghost is_clone = { λ a b. pointee_of b ≡ pointee_of a };
+
+    fn clone(&self) -> Result<Pointee, AllocError> {
+        copy_pointee(self)
+    }
+}
+
+#[cycle(same)]
+#[tactic(auto, using(crate::proofs::Views::views, crate::proofs::Sizes::sizes, crate::proofs::Same::same))]
+fn same_expressions(a: &Expr, b: &Expr) -> bool
+    ensures { result ≡ same_shape (shape_of a.now) (shape_of b.now) }
+{
+    match (a, b) {
+        (Expr::Leaf(x), Expr::Leaf(y)) => x == y,
+        (Expr::Record(x), Expr::Record(y)) => same_lists(x, y),
+        (Expr::Choice(m, x), Expr::Choice(n, y)) => m == n && same_variant_lists(x, y),
+        (Expr::Array(m, x), Expr::Array(n, y)) => m == n && same_expressions(x, y),
+        (Expr::Box(x), Expr::Box(y)) => same_pointees(x, y),
+        (Expr::Vec(x), Expr::Vec(y)) => same_expressions(x, y),
+        (Expr::Str, Expr::Str) => true,
+        (Expr::Shared(f, x), Expr::Shared(g, y)) => f == g && same_pointees(x, y),
+        (Expr::Weak(f, x), Expr::Weak(g, y)) => f == g && same_pointees(x, y),
+        (Expr::Named(m), Expr::Named(n)) => m == n,
+        _ => false,
+    }
+}
+
+#[cycle(same)]
+#[tactic(auto, using(crate::proofs::Views::views, crate::proofs::Sizes::sizes, crate::proofs::Same::same))]
+fn same_pointees(a: &Pointee, b: &Pointee) -> bool
+    ensures { result ≡ same_pointee (pointee_of a.now) (pointee_of b.now) }
+{
+    match (a, b) {
+        (Pointee::One(x), Pointee::One(y)) => same_expressions(x, y),
+        (Pointee::Run(x), Pointee::Run(y)) => same_expressions(x, y),
+        (Pointee::Text, Pointee::Text) => true,
+        _ => false,
+    }
+}
+
+#[cycle(same)]
+#[tactic(auto, using(crate::proofs::Views::views, crate::proofs::Sizes::sizes, crate::proofs::Same::same))]
+fn same_lists(a: &[Expr], b: &[Expr]) -> bool
+    ensures { result ≡ same_parts (shapes_in a.now) (shapes_in b.now) }
+{
+    if a.len() != b.len() {
+        return false;
+    }
+    for i in 0..a.len() {
+        if !same_expressions(&a[i], &b[i]) {
+            return false;
         }
     }
+    true
+}
+
+#[cycle(same)]
+#[tactic(auto, using(crate::proofs::Views::views, crate::proofs::Sizes::sizes, crate::proofs::Same::same))]
+fn same_variant_lists(a: &[Vec<Expr>], b: &[Vec<Expr>]) -> bool
+    ensures { result ≡ same_variants (variants_in a.now) (variants_in b.now) }
+{
+    if a.len() != b.len() {
+        return false;
+    }
+    for i in 0..a.len() {
+        if !same_lists(&a[i], &b[i]) {
+            return false;
+        }
+    }
+    true
+}
+
+#[cycle(copy)]
+#[tactic(auto, using(crate::proofs::Views::views, crate::proofs::Sizes::sizes, crate::proofs::Copies::copies))]
+fn copy_expression(expr: &Expr) -> Result<Expr, AllocError>
+    ensures { IfOk result (λ e. shape_of e ≡ shape_of expr.now) }
+{
+    match expr {
+        Expr::Leaf(kind) => Ok(Expr::Leaf(*kind)),
+        Expr::Record(parts) => Ok(Expr::Record(copy_parts(*parts.allocator(), parts)?)),
+        Expr::Choice(name, variants) => Ok(Expr::Choice(
+            *name,
+            copy_variants(*variants.allocator(), variants)?,
+        )),
+        Expr::Array(count, x) => Ok(Expr::Array(
+            *count,
+            Box::new(*Box::allocator(x), copy_expression(x)?)?,
+        )),
+        Expr::Box(x) => Ok(Expr::Box(Box::new(*Box::allocator(x), copy_pointee(x)?)?)),
+        Expr::Vec(x) => Ok(Expr::Vec(Box::new(*Box::allocator(x), copy_expression(x)?)?)),
+        Expr::Str => Ok(Expr::Str),
+        Expr::Shared(f, x) => Ok(Expr::Shared(*f, Box::new(*Box::allocator(x), copy_pointee(x)?)?)),
+        Expr::Weak(f, x) => Ok(Expr::Weak(*f, Box::new(*Box::allocator(x), copy_pointee(x)?)?)),
+        Expr::Named(name) => Ok(Expr::Named(*name)),
+    }
+}
+
+#[cycle(copy)]
+#[tactic(auto, using(crate::proofs::Views::views, crate::proofs::Sizes::sizes, crate::proofs::Copies::copies))]
+fn copy_pointee(pointee: &Pointee) -> Result<Pointee, AllocError>
+    ensures { IfOk result (λ p. pointee_of p ≡ pointee_of pointee.now) }
+{
+    match pointee {
+        Pointee::One(x) => Ok(Pointee::One(copy_expression(x)?)),
+        Pointee::Run(x) => Ok(Pointee::Run(copy_expression(x)?)),
+        Pointee::Text => Ok(Pointee::Text),
+    }
+}
+
+#[cycle(copy)]
+#[tactic(auto, using(crate::proofs::Views::views, crate::proofs::Sizes::sizes, crate::proofs::Copies::copies))]
+fn copy_parts(alloc: Global, parts: &[Expr]) -> Result<Vec<Expr>, AllocError>
+    ensures { IfOk result (λ v. shapes_in v.items ≡ shapes_in parts.now) }
+{
+    let mut copies = Vec::with_capacity(alloc, parts.len())?;
+    for i in 0..parts.len() {
+        copies.push(copy_expression(&parts[i])?)?;
+    }
+    Ok(copies)
+}
+
+#[cycle(copy)]
+#[tactic(auto, using(crate::proofs::Views::views, crate::proofs::Sizes::sizes, crate::proofs::Copies::copies))]
+fn copy_variants(alloc: Global, variants: &[Vec<Expr>]) -> Result<Vec<Vec<Expr>>, AllocError>
+    ensures { IfOk result (λ v. variants_in v.items ≡ variants_in variants.now) }
+{
+    let mut copies = Vec::with_capacity(alloc, variants.len())?;
+    for i in 0..variants.len() {
+        copies.push(copy_parts(alloc, &variants[i])?)?;
+    }
+    Ok(copies)
 }

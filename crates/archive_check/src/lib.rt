@@ -3,8 +3,8 @@
 
 pub mod bytes;
 mod compile;
-mod copy;
 mod counting;
+pub mod defs;
 pub mod error;
 pub mod expr;
 mod extents;
@@ -15,8 +15,15 @@ pub mod plan;
 pub mod planning;
 mod queue;
 pub mod shape;
+pub mod shared;
+pub mod subtree;
 #[cfg(test)]
 mod tests;
+#[cfg(test)]
+mod tests_contexts;
+#[cfg(test)]
+mod tests_expressions;
 pub mod traits;
 pub mod validation;
+pub mod validator;
 pub mod work;

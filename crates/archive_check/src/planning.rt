@@ -11,8 +11,9 @@ ghost use Rattle.archive_check.specs.Planned.{IsPlan, Chained, Finishes};
 
 use crate::compile::compile;
 use crate::counting::{add, count, number};
+use crate::defs::Def;
 use crate::error::Error;
-use crate::expr::{Def, Expr};
+use crate::expr::Expr;
 use crate::growing::Known;
 use crate::plan::Plan;
 use crate::queue::Queue;

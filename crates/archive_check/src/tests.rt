@@ -2,7 +2,7 @@
 
 use crate::bytes;
 use crate::error::Error;
-use crate::expr::{Defs, Expr, Kind};
+use crate::expr::{Defs, Expr, IntegerKind, Kind};
 use crate::layout::Layout;
 use crate::validation::{ArchiveContext, ArchiveValidator};
 use std::ops::Range;
@@ -126,7 +126,10 @@ fn bytes_are_read(rt: HostRuntime) -> Result<(), Fail> {
 
 #[test]
 fn expressions_are_compared_as_written(rt: HostRuntime) {
-    assert_eq!(rt; Expr::Leaf(Kind::U32), Expr::Leaf(Kind::U32));
-    assert_ne!(rt; Expr::Leaf(Kind::U32), Expr::Str);
+    assert_eq!(rt;
+        Expr::Leaf(Kind::Number(IntegerKind::U32)),
+        Expr::Leaf(Kind::Number(IntegerKind::U32))
+    );
+    assert_ne!(rt; Expr::Leaf(Kind::Number(IntegerKind::U32)), Expr::Str);
     let _ = Defs::new(rt.alloc());
 }

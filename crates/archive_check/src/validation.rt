@@ -1,6 +1,6 @@
 //! What a check keeps: the range that regions may lie in, and the shared positions that it came to.
 
-ghost use Rattle.std.specs.Prelude.{◌≡◌, ◌≢◌, ◌≤◌, ◌↔◌, OnOk, OnErr, IfOk, IfErr, IsErrOf, Some, None, length};
+ghost use Rattle.std.specs.Prelude.{◌≡◌, ◌≢◌, ◌<◌, ◌≤◌, ◌↔◌, OnOk, OnErr, IfOk, IfErr, IsErrOf, Some, None, length};
 ghost use Rattle.archive_check.specs.Expressions.{flavor_of, pointee_of};
 ghost use Rattle.archive_check.specs.Met.{Positions, nothing_met, IsStartAnswer, started, finish_answer, finished};
 ghost use Rattle.archive_check.specs.Ranges.{RangeState, whole, subtree_answer, pushed, pop_answer, popped};
@@ -8,6 +8,9 @@ ghost use Rattle.archive_check.specs.Ranges.{RangeState, whole, subtree_answer, 
 use crate::error::Error;
 use crate::expr::{FlavorInfo, Pointee};
 use crate::layout::Layout;
+pub use crate::shared::SharedValidator;
+pub use crate::subtree::ArchiveContextExt;
+pub use crate::validator::Validator;
 use std::marker::{Model, PhantomData};
 use std::ops::Range;
 
@@ -27,6 +30,7 @@ pub trait ArchiveContext: Context {
     /// `position` is no multiple of its alignment.
     fn check_subtree_ptr(&mut self, position: i128, layout: &Layout) -> Result<(), Error>
         ensures answer { result ≡ subtree_answer (Self.state self.old) position layout.now.size layout.now.align }
+        ensures fits { OnOk result ((Self.state self.old).end < 18446744073709551616) }
         ensures unchanged { Self.state self.new ≡ Self.state self.old }
         ensures positions { Self.positions self.new ≡ Self.positions self.old };
 

@@ -1,5 +1,5 @@
 use Rattle.std.proofs.Common.{rules, ◌≡◌, ap, length, [], refl}
-use Rattle.archive_check.specs.declared.expr.Def.{Def}
+use Rattle.archive_check.specs.declared.defs.Def.{Def}
 use Rattle.archive_check.specs.Expressions.{shape_of}
 use Rattle.archive_check.specs.Growing.{lists_of}
 use Rattle.archive_check.specs.Queued.{waits_of}
