@@ -73,6 +73,8 @@ pub mod Pointing
 pub mod Rows
 pub mod Cases
 pub mod Numbered
+pub mod Waiting
+pub mod Chained
 pub mod Planned
 pub mod Suiting
 pub mod ClosedAgain

@@ -39,6 +39,8 @@ pub mod Fitting
 pub mod Growing
 pub mod Closed
 pub mod Represents
+pub mod Counts
+pub mod Queued
 pub mod Compiled
 pub mod Numbered
 pub mod Planned

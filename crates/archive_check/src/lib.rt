@@ -9,6 +9,7 @@ mod counting;
 pub mod defs;
 pub mod error;
 pub mod expr;
+mod extents;
 mod growing;
 pub mod laws;
 pub mod layout;
@@ -16,9 +17,9 @@ pub mod leaf;
 pub mod names;
 pub mod plan;
 pub mod planning;
+mod queue;
 pub mod shape;
 pub mod shared;
-mod sizes;
 pub mod subtree;
 #[cfg(test)]
 mod tests;

@@ -19,7 +19,7 @@ use std::hash::{BuildHasherDefault, FoldHasher};
 
 /// What is kept of a shared position: its type, by its place in the list of types, its length, and whether it is finished.
 #[derive(Debug, Clone, Copy)]
-pub struct Kept {
+struct Kept {
     sort: usize,
     length: usize,
     finished: bool,
