@@ -26,6 +26,7 @@ pub mod Ranges
 pub mod Met
 pub mod Kept
 pub mod InSubtree
+pub mod Validators
 pub mod Told
 pub mod Schemas
 pub mod Runs
