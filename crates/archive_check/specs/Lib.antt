@@ -29,6 +29,7 @@ pub mod Met
 pub mod Fresh
 pub mod Kept
 pub mod InSubtree
+pub mod Validators
 pub mod Told
 pub mod Schemas
 pub mod Names
