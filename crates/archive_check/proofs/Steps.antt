@@ -1,6 +1,7 @@
 -- What each turn keeps.
-use Rattle.std.proofs.Common.{◌≡◌, ◌≢◌, ◌⊎◌, inl, inr, ℕ, zero, suc, ℤ, pos, ◌+ℤ◌, refl, sym, ap, ap₂, ◌∙◌, subst, ◌+◌, ◌-◌, ◌*◌, ◌<◌, ◌≤◌, max, arith, List, [], ◌∷◌, length, take, drop, slice_index, slice_index_or, drop-cons, Option, Some, None, Result, Ok, Err, Bor, OnOk, IfErr}
+use Rattle.std.proofs.Common.{◌≡◌, ◌≢◌, ◌⊎◌, inl, inr, ℕ, zero, suc, ℤ, pos, ◌+ℤ◌, refl, sym, ap, ap₂, ◌∙◌, subst, ◌+◌, ◌-◌, ◌*◌, ◌<◌, ◌≤◌, max, arith, List, [], ◌∷◌, length, take, drop, slice_index, slice_index_or, drop-cons, Option, Some, None, Result, Ok, Err, Bor, OnSome, IfNone}
 use Rattle.archive_check.specs.declared.error.Error.{Error}
+use Rattle.archive_check.specs.declared.error.Error.TheVariants.{OutOfMemory}
 use Rattle.archive_check.specs.declared.plan.Target.{Target}
 use Rattle.archive_check.specs.declared.plan.Target.TheVariants.{Text}
 use Rattle.archive_check.specs.declared.plan.Job.{Job}
@@ -60,40 +61,40 @@ module _ (m : Checker) (s : RangeState) (met : Positions) where
   node_refuses old i p f e is run = inr (λ seen a. (f, is, list_part_stop (run seen)))
 
   module _ (old : List Work) (i p : ℕ) (y : Stage) where
-    enter_keeps : (result : Result (Unit {0}) Error) (target : Target) (j n : ℕ) (z : ℤ) → ((seen : Seen) (o : Outcome) → Entering m target j n z (stage s met old) seen o → Listing m (stage s met (PartWork i p ∷ old)) seen o)
-        → OnOk result (Leads m (Entering m target j n z) (stage s met old) y) → IfErr result (λ e. IsStopped m target j n z s e)
-        → Keeps m (Listing m) (stage s met (PartWork i p ∷ old)) y result
-    enter_keeps (Ok u) target j n z turn leads stopped = (λ seen a. let go = leads seen a in (go.0, go.1, λ o r. turn seen o (go.2 o r)), tt)
-    enter_keeps (Err e) target j n z turn leads (inl memory) = (tt, inl memory)
-    enter_keeps (Err e) target j n z turn leads (inr stopped) = (
+    enter_keeps : (result : Option (Unit {0})) (fault : Error) (target : Target) (j n : ℕ) (z : ℤ) → ((seen : Seen) (o : Outcome) → Entering m target j n z (stage s met old) seen o → Listing m (stage s met (PartWork i p ∷ old)) seen o)
+        → OnSome result (Leads m (Entering m target j n z) (stage s met old) y) → IfNone result (IsStopped m target j n z s fault)
+        → Keeps m (Listing m) (stage s met (PartWork i p ∷ old)) y result fault
+    enter_keeps (Some u) fault target j n z turn leads stopped = (λ seen a. let go = leads seen a in (go.0, go.1, λ o r. turn seen o (go.2 o r)), tt)
+    enter_keeps None fault target j n z turn leads (inl memory) = (tt, inl memory)
+    enter_keeps None fault target j n z turn leads (inr stopped) = (
       tt,
       inr (λ seen a.
           let f = stopped a.levels in (f.0, f.1, turn seen (refused f.0) (stops (f.2 (pending_in old) seen)))),
     )
 
-    pub pointer_keeps : (result : Result (Unit {0}) Error) (target : Target) (j n : ℕ) (z : ℤ) → IsNode m i (PointerJob target j) → n ≡ count_at m.bytes.now p target → z ≡ pos p +ℤ i32_at m.bytes.now p
-        → OnOk result (Leads m (Entering m target j n z) (stage s met old) y) → IfErr result (λ e. IsStopped m target j n z s e)
-        → Keeps m (Listing m) (stage s met (PartWork i p ∷ old)) y result
-    pointer_keeps result target j n z is en ez leads stopped = enter_keeps result target j n z (λ seen o t. turn_pointer m is (rw (en, ez) at t)) leads stopped
+    pub pointer_keeps : (result : Option (Unit {0})) (fault : Error) (target : Target) (j n : ℕ) (z : ℤ) → IsNode m i (PointerJob target j) → n ≡ count_at m.bytes.now p target → z ≡ pos p +ℤ i32_at m.bytes.now p
+        → OnSome result (Leads m (Entering m target j n z) (stage s met old) y) → IfNone result (IsStopped m target j n z s fault)
+        → Keeps m (Listing m) (stage s met (PartWork i p ∷ old)) y result fault
+    pointer_keeps result fault target j n z is en ez leads stopped = enter_keeps result fault target j n z (λ seen o t. turn_pointer m is (rw (en, ez) at t)) leads stopped
 
-    pub text_keeps : (result : Result (Unit {0}) Error) (j n : ℕ) (z : ℤ) → IsNode m i (Str j) → IsOutOfLine m.bytes.now p → 8 < n → n ≡ decoded_length (u32_at m.bytes.now p) → z ≡ pos p +ℤ i32_at m.bytes.now (p + 4)
-        → OnOk result (Leads m (Entering m Text j n z) (stage s met old) y) → IfErr result (λ e. IsStopped m Text j n z s e)
-        → Keeps m (Listing m) (stage s met (PartWork i p ∷ old)) y result
-    text_keeps result j n z is out long en ez leads stopped = enter_keeps result Text j n z (λ seen o t. turn_text m is out (rw en at long) (rw (en, ez) at t)) leads stopped
+    pub text_keeps : (result : Option (Unit {0})) (fault : Error) (j n : ℕ) (z : ℤ) → IsNode m i (Str j) → IsOutOfLine m.bytes.now p → 8 < n → n ≡ decoded_length (u32_at m.bytes.now p) → z ≡ pos p +ℤ i32_at m.bytes.now (p + 4)
+        → OnSome result (Leads m (Entering m Text j n z) (stage s met old) y) → IfNone result (IsStopped m Text j n z s fault)
+        → Keeps m (Listing m) (stage s met (PartWork i p ∷ old)) y result fault
+    text_keeps result fault j n z is out long en ez leads stopped = enter_keeps result fault Text j n z (λ seen o t. turn_text m is out (rw en at long) (rw (en, ez) at t)) leads stopped
 
-    follow_keeps : (result : Result (Unit {0}) Error) (target : Target) (k j : ℕ) → ((seen : Seen) (o : Outcome) → Following m k target j p (stage s met old) seen o → Listing m (stage s met (PartWork i p ∷ old)) seen o)
-        → Keeps m (Following m k target j p) (stage s met old) y result → Keeps m (Listing m) (stage s met (PartWork i p ∷ old)) y result
-    follow_keeps (Ok u) target k j turn keeps = (λ seen a. let go = keeps.0 seen a in (go.0, go.1, λ o r. turn seen o (go.2 o r)), tt)
-    follow_keeps (Err e) target k j turn (ok, inl memory) = (tt, inl memory)
-    follow_keeps (Err e) target k j turn (ok, inr stopped) = (tt, inr (λ seen a. let f = stopped seen a in (f.0, f.1, turn seen (refused f.0) f.2)))
+    follow_keeps : (result : Option (Unit {0})) (fault : Error) (target : Target) (k j : ℕ) → ((seen : Seen) (o : Outcome) → Following m k target j p (stage s met old) seen o → Listing m (stage s met (PartWork i p ∷ old)) seen o)
+        → Keeps m (Following m k target j p) (stage s met old) y result fault → Keeps m (Listing m) (stage s met (PartWork i p ∷ old)) y result fault
+    follow_keeps (Some u) fault target k j turn keeps = (λ seen a. let go = keeps.0 seen a in (go.0, go.1, λ o r. turn seen o (go.2 o r)), tt)
+    follow_keeps None fault target k j turn (ok, inl memory) = (tt, inl memory)
+    follow_keeps None fault target k j turn (ok, inr stopped) = (tt, inr (λ seen a. let f = stopped seen a in (f.0, f.1, turn seen (refused f.0) f.2)))
 
-    pub shared_keeps : (result : Result (Unit {0}) Error) (target : Target) (k j : ℕ) → IsNode m i (Shared k target j)
-        → Keeps m (Following m k target j p) (stage s met old) y result → Keeps m (Listing m) (stage s met (PartWork i p ∷ old)) y result
-    shared_keeps result target k j is keeps = follow_keeps result target k j (λ seen o t. turn_shared m is t) keeps
+    pub shared_keeps : (result : Option (Unit {0})) (fault : Error) (target : Target) (k j : ℕ) → IsNode m i (Shared k target j)
+        → Keeps m (Following m k target j p) (stage s met old) y result fault → Keeps m (Listing m) (stage s met (PartWork i p ∷ old)) y result fault
+    shared_keeps result fault target k j is keeps = follow_keeps result fault target k j (λ seen o t. turn_shared m is t) keeps
 
-    pub weak_keeps : (result : Result (Unit {0}) Error) (target : Target) (k j : ℕ) → IsNode m i (Weak k target j) → i32_at m.bytes.now p ≢ pos 1
-        → Keeps m (Following m k target j p) (stage s met old) y result → Keeps m (Listing m) (stage s met (PartWork i p ∷ old)) y result
-    weak_keeps result target k j is other keeps = follow_keeps result target k j (λ seen o t. turn_weak m is other t) keeps
+    pub weak_keeps : (result : Option (Unit {0})) (fault : Error) (target : Target) (k j : ℕ) → IsNode m i (Weak k target j) → i32_at m.bytes.now p ≢ pos 1
+        → Keeps m (Following m k target j p) (stage s met old) y result fault → Keeps m (Listing m) (stage s met (PartWork i p ∷ old)) y result fault
+    weak_keeps result fault target k j is other keeps = follow_keeps result fault target k j (λ seen o t. turn_weak m is other t) keeps
 
   module _ (old new : List Work) where
     pub parts_ready : (a b p : ℕ) (x : Part) → Ready m s (Parts a b p ∷ old) → a < b → IsAt m.parts.now a x → new ≡ PartWork x.node (p + x.offset) ∷ Parts (a + 1) b p ∷ old → Ready m s new
@@ -205,14 +206,54 @@ module _ (m : Checker) (s : RangeState) (old : List Work) (i p z n j : ℕ) (new
       rw e (falls_one (level k s.end (j + 1) n) (level k s.end i 18446744073709551616) (cost m s.end old)
       (level_same k s.end i (j + 1) 18446744073709551616 n (omega (arith, fits.earlier)) fits.few))
 
-pub pointer_ends : (m : Checker) (s s' : RangeState) (old new : List Work) (i p : ℕ) (r : Result (Unit {0}) Error) → OnOk r (cost m s'.end new ≤ power (level (length m.nodes.now) s.end 0 0) + cost m s.end old) → OnOk r (cost m s'.end new < cost m s.end (PartWork i p ∷ old))
-pointer_ends m s s' old new i p (Ok u) h =
-    falls_under (cost m s'.end new) (level (length m.nodes.now) s.end 0 0) (level (length m.nodes.now) s.end i 18446744073709551616) (cost m s.end old) h
-    (level_same (length m.nodes.now) s.end i 0 18446744073709551616 0 (omega arith) (omega arith))
-pointer_ends m s s' old new i p (Err e) h = tt
+module _ (m : Checker) (s s' : RangeState) (old new : List Work) (i p : ℕ) where
+  pub pointer_ends : (r : Option (Unit {0})) → OnSome r (cost m s'.end new ≤ power (level (length m.nodes.now) s.end 0 0) + cost m s.end old) → OnSome r (cost m s'.end new < cost m s.end (PartWork i p ∷ old))
+  pointer_ends (Some u) h =
+      falls_under (cost m s'.end new) (level (length m.nodes.now) s.end 0 0) (level (length m.nodes.now) s.end i 18446744073709551616) (cost m s.end old) h
+      (level_same (length m.nodes.now) s.end i 0 18446744073709551616 0 (omega arith) (omega arith))
+  pointer_ends None h = tt
 
-pub shared_ends : (m : Checker) (s s' : RangeState) (old new : List Work) (i p : ℕ) (r : Result (Unit {0}) Error) → OnOk r (cost m s'.end new ≤ 1 + (power (level (length m.nodes.now) s.end 0 0) + cost m s.end old)) → OnOk r (cost m s'.end new < cost m s.end (PartWork i p ∷ old))
-shared_ends m s s' old new i p (Ok u) h =
-    falls_shared (cost m s'.end new) (level (length m.nodes.now) s.end 0 0) (level (length m.nodes.now) s.end i 18446744073709551616) (cost m s.end old) h
-    (level_same (length m.nodes.now) s.end i 0 18446744073709551616 0 (omega arith) (omega arith))
-shared_ends m s s' old new i p (Err e) h = tt
+  pub shared_ends : (r : Option (Unit {0})) → OnSome r (cost m s'.end new ≤ 1 + (power (level (length m.nodes.now) s.end 0 0) + cost m s.end old)) → OnSome r (cost m s'.end new < cost m s.end (PartWork i p ∷ old))
+  shared_ends (Some u) h =
+      falls_shared (cost m s'.end new) (level (length m.nodes.now) s.end 0 0) (level (length m.nodes.now) s.end i 18446744073709551616) (cost m s.end old) h
+      (level_same (length m.nodes.now) s.end i 0 18446744073709551616 0 (omega arith) (omega arith))
+  shared_ends None h = tt
+
+-- answers
+
+pub some_map : {A B : Type 0} (r : Option (Unit {0})) → (A → B) → OnSome r A → OnSome r B
+some_map (Some u) f h = f h
+some_map None f h = tt
+
+pub none_map : {A B : Type 0} (r : Option (Unit {0})) → (A → B) → IfNone r A → IfNone r B
+none_map (Some u) f h = tt
+none_map None f h = f h
+
+pub on_none : (A : Type 0) (r : Option (Unit {0})) → r ≡ None → OnSome r A
+on_none A (Some u) e = cc
+on_none A None e = tt
+
+pub if_none : (B : Error → Type 0) (r : Option (Unit {0})) (fault e : Error) → fault ≡ e → B e → IfNone r (B fault)
+if_none B (Some u) fault e is h = tt
+if_none B None fault e is h = rw is h
+
+-- a turn that was refused
+pub refused_keeps : (m : Checker) (Before : Stage → Seen → Outcome → Type 0) (x y : Stage) (r : Option (Unit {0})) (fault e : Error) → r ≡ None → fault ≡ e → Refuses Before x e → Keeps m Before x y r fault
+refused_keeps m Before x y (Some u) fault e none is h = absurd (let clash = none in cc)
+refused_keeps m Before x y None fault e none is h = (tt, rw is h)
+
+-- a turn that is an entry more
+pub pushed_keeps : {E : Type 0} (m : Checker) (Before : Stage → Seen → Outcome → Type 0) (x y : Stage) (r : Option (Unit {0})) (fault : Error) → (E → Leads m Before x y) → OnSome r E → IfNone r (fault ≡ OutOfMemory) → Keeps m Before x y r fault
+pushed_keeps m Before x y (Some u) fault leads e memory = (leads e, tt)
+pushed_keeps m Before x y None fault leads e memory = (tt, inl memory)
+
+-- one turn, and then another
+pub then_keeps : (m : Checker) (x y z : Stage) (r : Option (Unit {0})) (fault : Error) → Leads m (Listing m) x y → Keeps m (Listing m) y z r fault → Keeps m (Listing m) x z r fault
+then_keeps m x y z (Some u) fault first next =
+    (λ seen a. let b = first seen a in let c = next.0 b.0 b.1 in (c.0, c.1, λ o r. b.2 o (c.2 o r)), tt)
+then_keeps m x y z None fault first (ok, inl memory) = (tt, inl memory)
+then_keeps m x y z None fault first (ok, inr stopped) = (tt, inr (λ seen a. let b = first seen a in let f = stopped b.0 b.1 in (f.0, f.1, b.2 (refused f.0) f.2)))
+
+pub then_falls : (r : Option (Unit {0})) (x y z : ℕ) → y < x → OnSome r (z < y) → OnSome r (z < x)
+then_falls (Some u) x y z h k = omega arith
+then_falls None x y z h k = tt

@@ -26,6 +26,7 @@ pub mod Told
 pub mod Schemas
 pub mod Runs
 pub mod Represents
+pub mod Lists
 pub mod Closed
 pub mod Faults
 pub mod Fresh

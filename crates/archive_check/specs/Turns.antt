@@ -1,5 +1,5 @@
 -- What each turn of the check keeps, and why the turns end.
-use Rattle.std.specs.Prelude.{◌≡◌, ◌≢◌, ◌⊎◌, ℕ, zero, suc, ◌+◌, ◌-◌, ◌*◌, ◌<◌, ◌≤◌, max, ℤ, pos, negsuc, ◌+ℤ◌, List, [], ◌∷◌, length, Option, Some, None, Result, OnOk, IfErr, Contains, true, false}
+use Rattle.std.specs.Prelude.{◌≡◌, ◌≢◌, ◌⊎◌, ℕ, zero, suc, ◌+◌, ◌-◌, ◌*◌, ◌<◌, ◌≤◌, max, ℤ, pos, negsuc, ◌+ℤ◌, List, [], ◌∷◌, length, Option, Some, None, OnSome, IfNone, Contains, true, false}
 use Rattle.std.specs.FinMap.{get}
 use Rattle.archive_check.specs.declared.error.Error.{Error}
 use Rattle.archive_check.specs.declared.error.Error.TheVariants.{OutOfMemory}
@@ -135,9 +135,9 @@ Leads m Before x y = (seen : Seen) → Agreeing x seen → (last : Seen) × Agre
 abbrev pub Refuses : (Stage → Seen → Outcome → Type 0) → Stage → Error → Type 0
 Refuses Before x e = (e ≡ OutOfMemory) ⊎ ((seen : Seen) → Agreeing x seen → (f : Fault) × IsFor f e × Before x seen (refused f))
 
--- a turn from one stage to the next, or to a refusal
-abbrev pub Keeps : Checker → (Stage → Seen → Outcome → Type 0) → Stage → Stage → Result (Unit {0}) Error → Type 0
-Keeps m Before x y result = OnOk result (Leads m Before x y) × IfErr result (λ e. Refuses Before x e)
+-- a turn from one stage to the next, or (None) to a refusal
+abbrev pub Keeps : Checker → (Stage → Seen → Outcome → Type 0) → Stage → Stage → Option (Unit {0}) → Error → Type 0
+Keeps m Before x y result fault = OnSome result (Leads m Before x y) × IfNone result (Refuses Before x fault)
 
 -- a region isn't entered, whatever is seen and pending, where levels are left
 abbrev pub IsStopped : Checker → Target → ℕ → ℕ → ℤ → RangeState → Error → Type 0
