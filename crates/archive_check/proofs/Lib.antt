@@ -34,3 +34,4 @@ pub mod LegalBytes
 pub mod Following
 pub mod Steps
 pub mod Running
+pub mod Skipping

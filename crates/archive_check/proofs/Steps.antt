@@ -20,7 +20,7 @@ use Rattle.archive_check.specs.Runs.{count_at, Outcome, done, refused, IsAt, IsN
 use Rattle.archive_check.specs.Closed.{span, PartsWithin, SpanFits, ArrayFits, JobFits, IsClosed}
 use Rattle.archive_check.specs.Faults.{IsFor}
 use Rattle.archive_check.specs.Turns.{PartsHere, PartFits, PartsFit, ElementsFit, ListFits, Ready, Stage, stage, pending_in, regions_in, Agrees, Agreeing, Listing, Entering, Following, Leads, Refuses, Keeps, IsStopped, stops, power, level, rank, cost}
-use Rattle.archive_check.proofs.Turning.{turn_parts, turn_parts_end, turn_elements, turn_elements_end, turn_elements_free, turn_pointer, turn_text, turn_shared, turn_weak}
+use Rattle.archive_check.proofs.Turning.{turn_parts, turn_elements, turn_elements_end, turn_elements_free, turn_pointer, turn_text, turn_shared, turn_weak}
 use Rattle.archive_check.proofs.Meeting.{agrees_finished, finish_fine, pop_fine, agrees_outside, inside_more}
 use Rattle.archive_check.proofs.Costs.{level_node, level_same, falls_one, falls_two, falls_under, falls_shared}
 
@@ -35,7 +35,7 @@ same_at {xs = xs} {i = i} {x = x} {y = y} a b = a.is ∙ same_get xs i x y a.bel
 pub at_default : {A : Type 0} (xs : List A) (i : ℕ) (d : A) → i < length xs → IsAt xs i (slice_index_or xs i d)
 at_default xs i d h = record { below = h; is = same_get xs i d (slice_index_or xs i d) h }
 
-span_next : (parts : List Part) (a b : ℕ) (x : Part) → a < b → b ≤ length parts → IsAt parts a x → span parts a b ≡ x ∷ span parts (a + 1) b
+pub span_next : (parts : List Part) (a b : ℕ) (x : Part) → a < b → b ≤ length parts → IsAt parts a x → span parts a b ≡ x ∷ span parts (a + 1) b
 span_next parts a b x lt le at =
     let few : b - a ≡ suc (b - (a + 1)) = omega arith in
     let next : suc a ≡ a + 1 = omega arith in
@@ -145,9 +145,6 @@ module _ (m : Checker) (s : RangeState) (met : Positions) where
         (level_same k s.end (j + 1) (j + 1) n (n - 1) (omega arith) (omega arith)))
 
   module _ (old : List Work) where
-    pub parts_over_leads : (a b p : ℕ) → b ≤ a → Leads m (Listing m) (stage s met (Parts a b p ∷ old)) (stage s met old)
-    parts_over_leads a b p h seen a' = (seen, a', λ o r. turn_parts_end m h r)
-
     pub elements_over_leads : (j n p : ℕ) → n ≡ 0 → Leads m (Listing m) (stage s met (Elements j n p ∷ old)) (stage s met old)
     elements_over_leads j n p h seen a = (seen, a, λ o r. turn_elements_end m h r)
 
@@ -257,3 +254,6 @@ then_keeps m x y z None fault first (ok, inr stopped) = (tt, inr (λ seen a. let
 pub then_falls : (r : Option (Unit {0})) (x y z : ℕ) → y < x → OnSome r (z < y) → OnSome r (z < x)
 then_falls (Some u) x y z h k = omega arith
 then_falls None x y z h k = tt
+
+pub under : (x y z : ℕ) → x < y → y ≤ z → x < z
+under x y z h k = omega arith

@@ -14,7 +14,7 @@ use Rattle.archive_check.specs.Met.{Positions}
 use Rattle.archive_check.specs.Tour.{Seen, Entry}
 use Rattle.archive_check.specs.Trail.{Fault}
 use Rattle.archive_check.specs.Reads.{i32_at}
-use Rattle.archive_check.specs.Runs.{Outcome, done, refused, Takes, count_at, length_of, EnterRuns, FollowRuns, ListRuns}
+use Rattle.archive_check.specs.Runs.{Outcome, done, refused, Takes, count_at, length_of, IsAt, NodeRuns, EnterRuns, FollowRuns, ListRuns}
 use Rattle.archive_check.specs.Closed.{span}
 use Rattle.archive_check.specs.Faults.{IsFor}
 
@@ -144,6 +144,16 @@ abbrev pub IsStopped : Checker → Target → ℕ → ℕ → ℤ → RangeState
 IsStopped m target j n where_to s e =
     (e ≡ OutOfMemory)
     ⊎ (s.depth ≢ Some 0 → (f : Fault) × IsFor f e × ((pending : List ℕ) (seen : Seen) → EnterRuns m pending s.depth s.end target j n where_to s.start seen (refused f)))
+
+-- the node at p is legal as it lies, and leads nowhere
+abbrev pub Stays : Checker → ℕ → ℕ → Type 0
+Stays m i p = (pending : List ℕ) (depth : Option ℕ) (stop start : ℕ) (seen : Seen) → NodeRuns m pending depth stop i p start seen (done start seen)
+
+-- so is the part k of what begins at p
+pub record PartStays (m : Checker) (p k : ℕ) : Type 0 where
+  pub part : Part
+  pub at : IsAt m.parts.now k part
+  pub stays : Stays m part.node (p + part.offset)
 
 -- a number that grows threefold at each step
 unfoldable pub power : ℕ → ℕ

@@ -1,6 +1,6 @@
 //! The check of bytes against a plan: a list of what is left to check, and no recursion.
 
-ghost use Rattle.std.specs.Prelude.{◌≡◌, ◌⊎◌, ◌+◌, ◌<◌, ◌≤◌, ◌∷◌, ℕ, [], pos, None, length, slice_index, OnOk, IfErr, OnSome, IfSome, IfNone};
+ghost use Rattle.std.specs.Prelude.{◌≡◌, ◌⊎◌, ◌+◌, ◌<◌, ◌≤◌, ◌∷◌, ℕ, [], pos, None, length, slice_index, OnOk, IfErr, OnSome, IfSome, IfNone, IsTrue};
 ghost use Rattle.std.specs.FinMap.{empty};
 ghost use Rattle.archive_check.specs.declared.error.Error.TheVariants.{OutOfMemory};
 ghost use Rattle.archive_check.specs.declared.plan.Job.TheVariants.{Str};
@@ -13,7 +13,7 @@ ghost use Rattle.archive_check.specs.Lists.{list_of};
 ghost use Rattle.archive_check.specs.Closed.{IsClosed};
 ghost use Rattle.archive_check.specs.Faults.{IsFor};
 ghost use Rattle.archive_check.specs.Fresh.{IsFresh};
-ghost use Rattle.archive_check.specs.Turns.{PointeeFits, Ready, stage, Listing, Entering, Following, Leads, Keeps, IsStopped, power, level, cost};
+ghost use Rattle.archive_check.specs.Turns.{PointeeFits, PartFits, PartsFit, Stays, PartStays, Ready, stage, Listing, Entering, Following, Leads, Keeps, IsStopped, power, level, cost};
 
 use crate::bytes::{
     inline_length, is_out_of_line, is_text, read_coded_length, read_i32, read_position, read_u32,
@@ -80,6 +80,37 @@ impl Checker<'_> {
             return None;
         }
         Some(self.variants[first + tag])
+    }
+
+    /// Whether the node at `at` is a leaf that is legal, or any bytes.
+    fn stays(&self, node: usize, at: usize) -> bool
+        requires closed { IsClosed self.now }
+        requires fits { PartFits self.now node at }
+        ensures { IsTrue result → Stays self.now node at }
+    {
+        let here = self.nodes[node];
+        match here.job {
+            Job::Free => true,
+            Job::Leaf(kind) => is_legal(kind, self.bytes, at),
+            _ => false,
+        }
+    }
+
+    /// The first of the parts from `first` up to `last`, of what begins at `base`, that is to be opened; `last` where none is.
+    fn skip(&self, first: usize, last: usize, base: usize) -> usize
+        requires closed { IsClosed self.now }
+        requires fits { PartsFit self.now first last base }
+        ensures below { result ≤ last }
+        ensures above { result < last → first ≤ result }
+        ensures skipped { (k : ℕ) → first ≤ k → k < result → PartStays self.now base k }
+    {
+        for index in first..last {
+            let part = self.parts[index];
+            if !self.stays(part.node, base + part.offset) {
+                return index;
+            }
+        }
+        last
     }
 
     /// Enters a region of so many of the pointee, to be left behind what it leads to.
@@ -278,11 +309,12 @@ impl Checker<'_> {
         match entry {
             Work::Part { node, at } => self.open(node, at, work, context),
             Work::Parts { first, last, base } => {
-                if first >= last {
+                let next = self.skip(first, last, base);
+                if next >= last {
                     return Some(());
                 }
-                let part = self.parts[first];
-                work.parts(first + 1, last, base)?;
+                let part = self.parts[next];
+                work.parts(next + 1, last, base)?;
                 self.open(part.node, base + part.offset, work, context)
             }
             Work::Elements { node, left, at } => {

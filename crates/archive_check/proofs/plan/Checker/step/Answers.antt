@@ -8,7 +8,8 @@ use Rattle.archive_check.specs.Runs.{IsAt, IsNode}
 use Rattle.archive_check.specs.Lists.{list_of}
 use Rattle.archive_check.specs.Turns.{Listing, stage}
 use Rattle.archive_check.proofs.Costs.{falls_none}
-use Rattle.archive_check.proofs.Steps.{at_default, parts_ready, part_room, parts_leads, parts_ends, parts_over_leads, elements_ready, elements_leads, elements_ends, elements_over_leads, elements_free_leads, leave_leads, leave_refuses, finish_leads, finish_refuses, refused_keeps, then_keeps, then_falls}
+use Rattle.archive_check.proofs.Steps.{at_default, parts_ready, part_room, parts_leads, parts_ends, elements_ready, elements_leads, elements_ends, elements_over_leads, elements_free_leads, leave_leads, leave_refuses, finish_leads, finish_refuses, refused_keeps, then_keeps, then_falls, under}
+use Rattle.archive_check.proofs.Skipping.{skip_all, skip_leads, skip_ready, skip_costs}
 use Rattle.archive_check.proofs.plan.Checker.step.Goals as goal
 
 pub returns-then-left-eq0-clause-runs : goal.returns-then-left-eq0-clause-runs
@@ -25,18 +26,18 @@ pub returns-then-left-eq0-clause-ends : goal.returns-then-left-eq0-clause-ends
 returns-then-left-eq0-clause-ends g c =
     rw c.in-Elements.is (falls_none _ _)
 
-pub returns-then-first-last-clause-runs : goal.returns-then-first-last-clause-runs
-returns-then-first-last-clause-runs g c =
+pub returns-then-next-last-clause-runs : goal.returns-then-next-last-clause-runs
+returns-then-next-last-clause-runs g c =
     let m = c.args.self.now in
     let st = g.C.Context.state in
     let met = g.C.Context.positions in
     let s = st c.args.context.now in
     let seen = met c.args.context.now in
     let old = list_of c.args.work.now in
-    rw c.in-Parts.is (parts_over_leads m s seen old c.in-Parts.first c.in-Parts.last c.in-Parts.base c.if-first-last.true, tt)
+    rw c.in-Parts.is (skip_all m c.in-Parts.base old s seen c.in-Parts.first c.in-Parts.last c.skip-next.result c.skip-next.ensures.skipped c.skip-next.ensures.below c.if-next-last.true, tt)
 
-pub returns-then-first-last-clause-ends : goal.returns-then-first-last-clause-ends
-returns-then-first-last-clause-ends g c =
+pub returns-then-next-last-clause-ends : goal.returns-then-next-last-clause-ends
+returns-then-next-last-clause-ends g c =
     rw c.in-Parts.is (falls_none _ _)
 
 pub overflow_add-base : goal.overflow_add-base
@@ -47,10 +48,12 @@ overflow_add-base g c =
     let s = st c.args.context.now in
     let seen = met c.args.context.now in
     let old = list_of c.args.work.now in
-    let r = rw c.in-Parts.is at c.requires.ready in
-    let x = slice_index_or m.parts.now c.in-Parts.first (record { offset = 0; node = 0 }) in
-    let at = at_default m.parts.now c.in-Parts.first (record { offset = 0; node = 0 }) (omega (arith, r.fits.0.last, c.if-first-last.false)) in
-    let h = part_room m s seen old old c.in-Parts.first c.in-Parts.last c.in-Parts.base x r c.if-first-last.false at in search rules
+    let r0 = rw c.in-Parts.is at c.requires.ready in
+    let from = c.skip-next.ensures.above c.if-next-last.false in
+    let r = skip_ready m c.in-Parts.base old s seen c.in-Parts.first c.in-Parts.last c.skip-next.result c.skip-next.ensures.skipped r0 from c.skip-next.ensures.below in
+    let x = slice_index_or m.parts.now c.skip-next.result (record { offset = 0; node = 0 }) in
+    let at = at_default m.parts.now c.skip-next.result (record { offset = 0; node = 0 }) (omega (arith, r.fits.0.last, c.if-next-last.false)) in
+    let h = part_room m s seen old old c.skip-next.result c.in-Parts.last c.in-Parts.base x r c.if-next-last.false at in search rules
 
 pub open-requires-in-Parts-clause-ready : goal.open-requires-in-Parts-clause-ready
 open-requires-in-Parts-clause-ready g c =
@@ -60,12 +63,14 @@ open-requires-in-Parts-clause-ready g c =
     let s = st c.args.context.now in
     let seen = met c.args.context.now in
     let old = list_of c.args.work.now in
-    let r = rw c.in-Parts.is at c.requires.ready in
-    let x = slice_index_or m.parts.now c.in-Parts.first (record { offset = 0; node = 0 }) in
-    let at = at_default m.parts.now c.in-Parts.first (record { offset = 0; node = 0 }) (omega (arith, r.fits.0.last, c.if-first-last.false)) in
+    let r0 = rw c.in-Parts.is at c.requires.ready in
+    let from = c.skip-next.ensures.above c.if-next-last.false in
+    let r = skip_ready m c.in-Parts.base old s seen c.in-Parts.first c.in-Parts.last c.skip-next.result c.skip-next.ensures.skipped r0 from c.skip-next.ensures.below in
+    let x = slice_index_or m.parts.now c.skip-next.result (record { offset = 0; node = 0 }) in
+    let at = at_default m.parts.now c.skip-next.result (record { offset = 0; node = 0 }) (omega (arith, r.fits.0.last, c.if-next-last.false)) in
     let new = PartWork x.node (c.in-Parts.base + x.offset) ∷ list_of c.parts.new.self in
     let e = ap (λ w. PartWork x.node (c.in-Parts.base + x.offset) ∷ w) c.in_ok-parts-in-Parts.ensures.some in
-    parts_ready m s seen old new c.in-Parts.first c.in-Parts.last c.in-Parts.base x r c.if-first-last.false at e
+    parts_ready m s seen old new c.skip-next.result c.in-Parts.last c.in-Parts.base x r c.if-next-last.false at e
 
 pub returns-in_ok-parts-in-Parts-clause-runs : goal.returns-in_ok-parts-in-Parts-clause-runs
 returns-in_ok-parts-in-Parts-clause-runs g c =
@@ -75,13 +80,16 @@ returns-in_ok-parts-in-Parts-clause-runs g c =
     let s = st c.args.context.now in
     let seen = met c.args.context.now in
     let old = list_of c.args.work.now in
-    let r = rw c.in-Parts.is at c.requires.ready in
-    let x = slice_index_or m.parts.now c.in-Parts.first (record { offset = 0; node = 0 }) in
-    let at = at_default m.parts.now c.in-Parts.first (record { offset = 0; node = 0 }) (omega (arith, r.fits.0.last, c.if-first-last.false)) in
+    let r0 = rw c.in-Parts.is at c.requires.ready in
+    let from = c.skip-next.ensures.above c.if-next-last.false in
+    let r = skip_ready m c.in-Parts.base old s seen c.in-Parts.first c.in-Parts.last c.skip-next.result c.skip-next.ensures.skipped r0 from c.skip-next.ensures.below in
+    let x = slice_index_or m.parts.now c.skip-next.result (record { offset = 0; node = 0 }) in
+    let at = at_default m.parts.now c.skip-next.result (record { offset = 0; node = 0 }) (omega (arith, r.fits.0.last, c.if-next-last.false)) in
     let new = PartWork x.node (c.in-Parts.base + x.offset) ∷ list_of c.parts.new.self in
     let e = ap (λ w. PartWork x.node (c.in-Parts.base + x.offset) ∷ w) c.in_ok-parts-in-Parts.ensures.some in
-    rw c.in-Parts.is (then_keeps m (stage s seen (Parts c.in-Parts.first c.in-Parts.last c.in-Parts.base ∷ old)) (stage s seen new) (stage (st c.open-in-Parts.new.context) (met c.open-in-Parts.new.context) (list_of c.open-in-Parts.new.work)) c.open-in-Parts.result c.open-in-Parts.new.work.fault
-    (parts_leads m s seen old new c.in-Parts.first c.in-Parts.last c.in-Parts.base x c.if-first-last.false at e) c.open-in-Parts.ensures.runs)
+    rw c.in-Parts.is (then_keeps m (stage s seen (Parts c.in-Parts.first c.in-Parts.last c.in-Parts.base ∷ old)) (stage s seen (Parts c.skip-next.result c.in-Parts.last c.in-Parts.base ∷ old)) (stage (st c.open-in-Parts.new.context) (met c.open-in-Parts.new.context) (list_of c.open-in-Parts.new.work)) c.open-in-Parts.result c.open-in-Parts.new.work.fault
+    (skip_leads m c.in-Parts.base old s seen c.in-Parts.first c.in-Parts.last c.skip-next.result c.skip-next.ensures.skipped from c.skip-next.ensures.below)
+    (then_keeps m (stage s seen (Parts c.skip-next.result c.in-Parts.last c.in-Parts.base ∷ old)) (stage s seen new) (stage (st c.open-in-Parts.new.context) (met c.open-in-Parts.new.context) (list_of c.open-in-Parts.new.work)) c.open-in-Parts.result c.open-in-Parts.new.work.fault (parts_leads m s seen old new c.skip-next.result c.in-Parts.last c.in-Parts.base x c.if-next-last.false at e) c.open-in-Parts.ensures.runs))
 
 pub returns-in_ok-parts-in-Parts-clause-ends : goal.returns-in_ok-parts-in-Parts-clause-ends
 returns-in_ok-parts-in-Parts-clause-ends g c =
@@ -91,12 +99,16 @@ returns-in_ok-parts-in-Parts-clause-ends g c =
     let s = st c.args.context.now in
     let seen = met c.args.context.now in
     let old = list_of c.args.work.now in
-    let r = rw c.in-Parts.is at c.requires.ready in
-    let x = slice_index_or m.parts.now c.in-Parts.first (record { offset = 0; node = 0 }) in
-    let at = at_default m.parts.now c.in-Parts.first (record { offset = 0; node = 0 }) (omega (arith, r.fits.0.last, c.if-first-last.false)) in
+    let r0 = rw c.in-Parts.is at c.requires.ready in
+    let from = c.skip-next.ensures.above c.if-next-last.false in
+    let r = skip_ready m c.in-Parts.base old s seen c.in-Parts.first c.in-Parts.last c.skip-next.result c.skip-next.ensures.skipped r0 from c.skip-next.ensures.below in
+    let x = slice_index_or m.parts.now c.skip-next.result (record { offset = 0; node = 0 }) in
+    let at = at_default m.parts.now c.skip-next.result (record { offset = 0; node = 0 }) (omega (arith, r.fits.0.last, c.if-next-last.false)) in
     let new = PartWork x.node (c.in-Parts.base + x.offset) ∷ list_of c.parts.new.self in
     let e = ap (λ w. PartWork x.node (c.in-Parts.base + x.offset) ∷ w) c.in_ok-parts-in-Parts.ensures.some in
-    rw c.in-Parts.is (then_falls c.open-in-Parts.result _ _ _ (parts_ends m s seen old new c.in-Parts.first c.in-Parts.last c.in-Parts.base x c.if-first-last.false r.fits.0.last r.fits.0.few at e) c.open-in-Parts.ensures.ends)
+    let less = skip_costs m c.in-Parts.base old (c.skip-next.result - c.in-Parts.first) c.in-Parts.first c.in-Parts.last c.skip-next.result s.end (omega arith) c.skip-next.ensures.below r.fits.0.last in
+    let falls = parts_ends m s seen old new c.skip-next.result c.in-Parts.last c.in-Parts.base x c.if-next-last.false r.fits.0.last r.fits.0.few at e in
+    rw c.in-Parts.is (then_falls c.open-in-Parts.result _ _ _ (under _ _ _ falls less) c.open-in-Parts.ensures.ends)
 
 pub returns-in-Free-clause-runs : goal.returns-in-Free-clause-runs
 returns-in-Free-clause-runs g c =
