@@ -78,3 +78,5 @@ pub mod Chained
 pub mod Planned
 pub mod Suiting
 pub mod ClosedAgain
+pub mod Skipping
+pub mod Passing

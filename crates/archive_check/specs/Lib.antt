@@ -34,12 +34,13 @@ pub mod Told
 pub mod Schemas
 pub mod Names
 pub mod Sizes
-pub mod Faults
 pub mod Runs
+pub mod Represents
+pub mod Lists
+pub mod Closed
+pub mod Faults
 pub mod Fitting
 pub mod Growing
-pub mod Closed
-pub mod Represents
 pub mod Counts
 pub mod Queued
 pub mod Compiled
