@@ -1,6 +1,5 @@
 pub mod BytesAt
 pub mod Landing
-pub mod Leaves
 pub mod Encodings
 pub mod Revises
 pub mod RevisedTour

@@ -21,7 +21,6 @@ pub mod Revised
 pub mod Plain
 pub mod Laws
 pub mod Definitions
-pub mod LeafFaults
 pub mod LeafLayout
 pub mod Readable
 pub mod Ranges

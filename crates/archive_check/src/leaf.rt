@@ -1,28 +1,14 @@
 //! Which bytes are a leaf.
 
 ghost use Rattle.std.specs.Prelude.{◌≡◌, ◌≢◌, ℕ, ◌↔◌, ◌+◌, ◌<◌, ◌≤◌, length, slice_index, IsTrue, List};
-ghost use Rattle.std.specs.Int.{byte_len};
-ghost use Rattle.archive_check.specs.Expressions.{kind_of, width_of};
+ghost use Rattle.archive_check.specs.Expressions.{kind_of};
 ghost use Rattle.archive_check.specs.Layout.{kind_size};
 ghost use Rattle.archive_check.specs.Reads.{bytes_at, IsLegal};
 ghost use Rattle.archive_check.specs.Faults.{illegal_error};
 
 use crate::bytes::read_u32;
 use crate::error::Error;
-use crate::expr::{IntegerKind, Kind};
-
-/// How many bytes an integer of the kind has.
-fn width(integer: IntegerKind) -> usize
-    ensures { result ≡ byte_len (width_of integer) }
-{
-    match integer {
-        IntegerKind::U8 | IntegerKind::I8 => 1,
-        IntegerKind::U16 | IntegerKind::I16 => 2,
-        IntegerKind::U32 | IntegerKind::I32 => 4,
-        IntegerKind::U64 | IntegerKind::I64 => 8,
-        IntegerKind::U128 | IntegerKind::I128 => 16,
-    }
-}
+use crate::expr::Kind;
 
 /// Whether one of the `n` bytes at `at` isn't 0.
 fn has_bits(bytes: &[u8], at: usize, n: usize) -> bool
@@ -48,7 +34,7 @@ pub fn is_legal(kind: Kind, bytes: &[u8], at: usize) -> bool
             let code = read_u32(bytes, at);
             code < 0xD800 || (0xE000 <= code && code <= 0x10FFFF)
         }
-        Kind::NonZero(integer) => has_bits(bytes, at, width(integer)),
+        Kind::NonZero(integer) => has_bits(bytes, at, integer.size()),
         Kind::Unit | Kind::Number(_) | Kind::RawRel(_) => true,
     }
 }
