@@ -1,4 +1,4 @@
--- A plan whose indices and sizes are sound.
+-- Which plans are sound: each index leads to something, and what is in a node lies within its bytes and stands before it.
 use Rattle.std.specs.Prelude.{◌≡◌, ℕ, ◌+◌, ◌-◌, ◌*◌, ◌<◌, ◌≤◌, List, [], ◌∷◌, length, take, drop, Some}
 use Rattle.archive_check.specs.declared.plan.Job.{Job}
 use Rattle.archive_check.specs.declared.plan.Job.TheVariants.{Free, Leaf, Record, Choice, Array, Pointer as PointerJob, Str, Shared, Weak}
@@ -10,6 +10,7 @@ use Rattle.archive_check.specs.Layout.{kind_size}
 use Rattle.archive_check.specs.Expressions.{kind_of}
 use Rattle.archive_check.specs.Runs.{target_size, IsAt, Takes}
 
+-- the parts from a up to b
 abbrev pub span : List Part → ℕ → ℕ → List Part
 span parts a b = take (b - a) (drop a parts)
 
@@ -18,11 +19,13 @@ abbrev pub PartsWithin : Checker → ℕ → ℕ → List Part → Type 0
 PartsWithin m i z [] = Unit {0}
 PartsWithin m i z (x ∷ xs) = ((y : ℕ) × (x.node < i) × Takes m x.node y × (x.offset + y ≤ z)) × PartsWithin m i z xs
 
+-- the parts from a up to b are there, and lie in the z bytes of the node i
 pub record SpanFits (m : Checker) (i z a b : ℕ) : Type 0 where
   pub last : b ≤ length m.parts.now
   pub few : b < 18446744073709551616
   pub within : PartsWithin m i z (span m.parts.now a b)
 
+-- n of the node j lie in the z bytes of the node i
 pub record ArrayFits (m : Checker) (i z n j : ℕ) : Type 0 where
   pub element : ℕ
   pub earlier : j < i
@@ -30,13 +33,14 @@ pub record ArrayFits (m : Checker) (i z n j : ℕ) : Type 0 where
   pub takes : Takes m j element
   pub within : n * element ≤ z
 
+-- behind a tag, each variant from a up to b lies in the z bytes of the node i
 pub record VariantsFit (m : Checker) (i z a b : ℕ) : Type 0 where
   pub tag : 0 < z
   pub last : b ≤ length m.variants.now
   pub few : b < 18446744073709551616
   pub fits : (k : ℕ) (x : Span) → a ≤ k → k < b → IsAt m.variants.now k x → SpanFits m i z x.first x.last
 
--- the job of the node i keeps to its z bytes
+-- what the node i of z bytes does, it does within them
 abbrev pub JobFits : Checker → ℕ → ℕ → Job → Type 0
 JobFits m i z Free = Unit {0}
 JobFits m i z (Leaf kind) = kind_size (kind_of kind) ≤ z

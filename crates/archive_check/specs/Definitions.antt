@@ -1,6 +1,6 @@
 -- The definitions that a type brings with it, and its layout wherever they hold.
-use Rattle.std.specs.Prelude.{◌≡◌, ◌⊎◌, ℕ, Some}
-use Rattle.archive_check.specs.Shape.{Name, Shape, definition}
+use Rattle.std.specs.Prelude.{◌≡◌, ◌≢◌, ◌⊎◌, ℕ, List, [], ◌∷◌, ◌++◌, Some, Contains}
+use Rattle.archive_check.specs.Shape.{Name, Shape, Table, definition}
 use Rattle.archive_check.specs.Layout.{Layout, layout}
 use Rattle.archive_check.specs.Reads.{Schema, LaidOut}
 
@@ -8,6 +8,27 @@ pub data Definitions : Type 0 where
   no_definition : Definitions
   defines : Name → Shape → Definitions
   both : Definitions → Definitions → Definitions
+
+-- each name with its definition
+abbrev pub listed : Definitions → Table
+listed no_definition = []
+listed (defines name X) = (name, X) ∷ []
+listed (both D E) = listed D ++ listed E
+
+-- a table, and the same with these definitions added
+pub record Extended (old : Table) (D : Definitions) (new : Table) : Type 0 where
+  pub has : (name : Name) (X : Shape) → Contains (listed D) (name, X) → definition new name ≡ Some X
+  pub kept : (name : Name) (X : Shape) → definition old name ≡ Some X → definition new name ≡ Some X
+  pub only : (name : Name) (X : Shape) → definition new name ≡ Some X → (definition old name ≡ Some X) ⊎ Contains (listed D) (name, X)
+
+-- one of them is the definition of a name that has another one
+pub record Conflicts (old : Table) (D : Definitions) : Type 0 where
+  pub name : Name
+  pub shape : Shape
+  pub other : Shape
+  pub here : Contains (listed D) (name, shape)
+  pub there : (definition old name ≡ Some other) ⊎ Contains (listed D) (name, other)
+  pub differ : shape ≢ other
 
 -- the schema has each of them
 abbrev pub Has : Schema → Definitions → Type 0

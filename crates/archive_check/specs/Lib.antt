@@ -21,6 +21,8 @@ pub mod Revised
 pub mod Plain
 pub mod Laws
 pub mod Definitions
+pub mod LeafFaults
+pub mod LeafLayout
 pub mod Readable
 pub mod Ranges
 pub mod Met
@@ -29,6 +31,7 @@ pub mod Kept
 pub mod InSubtree
 pub mod Told
 pub mod Schemas
+pub mod Names
 pub mod Sizes
 pub mod Faults
 pub mod Runs
@@ -42,3 +45,5 @@ pub mod Compiled
 pub mod Numbered
 pub mod Planned
 pub mod Exact
+pub mod Turns
+pub mod Pooled

@@ -1,54 +1,93 @@
 //! Expressions: what the bytes of an archived type are read as.
 
 ghost use Rattle.std.specs.Prelude.{◌≡◌, ◌↔◌, IsTrue, IfOk};
+ghost use Rattle.std.specs.Int.{byte_len};
 ghost use Rattle.std.specs.Cmp.{on_equiv, partial_equiv_from_equiv};
 ghost use Rattle.std.specs.Ordering.{on};
-ghost use Rattle.archive_check.specs.Expressions.{shape_of, pointee_of, shapes_in, variants_in};
+ghost use Rattle.archive_check.specs.Expressions.{width_of, kind_of, shape_of, pointee_of, shapes_in, variants_in};
+ghost use Rattle.archive_check.specs.Layout.{kind_size, kind_align};
 ghost use Rattle.archive_check.specs.Same.{same_shape, same_pointee, same_parts, same_variants, same_shape-equiv, same_pointee-equiv};
 
 pub use crate::defs::{Def, Defs};
 use std::alloc::{AllocError, Global};
 
-/// A kind of integer, by its sign and its width in bits.
+/// A number's sign and width.
 #[derive(Debug, Clone, Copy, PartialEq, Eq)]
 pub enum IntegerKind {
-    /// Without a sign, of one byte.
+    /// Without a sign, in 1 byte.
     U8,
-    /// Two's complement, of one byte.
+    /// With a sign, in 1 byte.
     I8,
-    /// Without a sign, of two bytes.
+    /// Without a sign, in 2 bytes.
     U16,
-    /// Two's complement, of two bytes.
+    /// With a sign, in 2 bytes.
     I16,
-    /// Without a sign, of four bytes.
+    /// Without a sign, in 4 bytes.
     U32,
-    /// Two's complement, of four bytes.
+    /// With a sign, in 4 bytes.
     I32,
-    /// Without a sign, of eight bytes.
+    /// Without a sign, in 8 bytes.
     U64,
-    /// Two's complement, of eight bytes.
+    /// With a sign, in 8 bytes.
     I64,
-    /// Without a sign, of sixteen bytes.
+    /// Without a sign, in 16 bytes.
     U128,
-    /// Two's complement, of sixteen bytes.
+    /// With a sign, in 16 bytes.
     I128,
 }
 
-/// A leaf: bytes that are a value as they lie, the lowest byte first. Its alignment is its size, or 1 where it has none.
+impl IntegerKind {
+    /// How many bytes it has, which is also its alignment.
+    pub fn size(self) -> usize
+        ensures { result ≡ byte_len (width_of self) }
+    {
+        match self {
+            IntegerKind::U8 | IntegerKind::I8 => 1,
+            IntegerKind::U16 | IntegerKind::I16 => 2,
+            IntegerKind::U32 | IntegerKind::I32 => 4,
+            IntegerKind::U64 | IntegerKind::I64 => 8,
+            IntegerKind::U128 | IntegerKind::I128 => 16,
+        }
+    }
+}
+
+/// A leaf: bytes that are a value as they lie. Numbers have their lowest byte first; those with a sign are in two's complement.
 #[derive(Debug, Clone, Copy, PartialEq, Eq)]
 pub enum Kind {
     /// No byte.
     Unit,
-    /// One byte, 0 or 1.
+    /// A byte that is 0 or 1.
     Bool,
-    /// Four bytes: a Unicode scalar value.
+    /// A Unicode scalar value, in 4 bytes.
     Char,
-    /// An integer; any bytes are one.
+    /// A number.
     Number(IntegerKind),
-    /// An integer that isn't 0.
+    /// A number that isn't 0.
     NonZero(IntegerKind),
-    /// The offset of a raw relative pointer, which the check doesn't follow; any bytes are one.
+    /// The offset of a raw pointer, which the check doesn't follow.
     RawRel(IntegerKind),
+}
+
+impl Kind {
+    /// How many bytes it has.
+    pub fn size(self) -> usize
+        ensures { result ≡ kind_size (kind_of self) }
+    {
+        match self {
+            Kind::Unit => 0,
+            Kind::Bool => 1,
+            Kind::Char => 4,
+            Kind::Number(integer) | Kind::NonZero(integer) | Kind::RawRel(integer) =>
+                integer.size(),
+        }
+    }
+
+    /// Its alignment in bytes.
+    pub fn align(self) -> usize
+        ensures { result ≡ kind_align (kind_of self) }
+    {
+        self.size().max(1)
+    }
 }
 
 /// A flavor of shared pointers: its name, and whether a value may lie within itself.
@@ -155,7 +194,7 @@ impl Clone for Pointee {
 }
 
 #[cycle(same)]
-#[tactic(auto, using(crate::proofs::Views::views, crate::proofs::Sizes::sizes, crate::proofs::Same::same))]
+#[tactic(auto, using(crate::proofs::Views::views, crate::proofs::SizesFall::sizes, crate::proofs::Same::same))]
 fn same_expressions(a: &Expr, b: &Expr) -> bool
     ensures { result ≡ same_shape (shape_of a.now) (shape_of b.now) }
 {
@@ -175,7 +214,7 @@ fn same_expressions(a: &Expr, b: &Expr) -> bool
 }
 
 #[cycle(same)]
-#[tactic(auto, using(crate::proofs::Views::views, crate::proofs::Sizes::sizes, crate::proofs::Same::same))]
+#[tactic(auto, using(crate::proofs::Views::views, crate::proofs::SizesFall::sizes, crate::proofs::Same::same))]
 fn same_pointees(a: &Pointee, b: &Pointee) -> bool
     ensures { result ≡ same_pointee (pointee_of a.now) (pointee_of b.now) }
 {
@@ -188,7 +227,7 @@ fn same_pointees(a: &Pointee, b: &Pointee) -> bool
 }
 
 #[cycle(same)]
-#[tactic(auto, using(crate::proofs::Views::views, crate::proofs::Sizes::sizes, crate::proofs::Same::same))]
+#[tactic(auto, using(crate::proofs::Views::views, crate::proofs::SizesFall::sizes, crate::proofs::Same::same))]
 fn same_lists(a: &[Expr], b: &[Expr]) -> bool
     ensures { result ≡ same_parts (shapes_in a.now) (shapes_in b.now) }
 {
@@ -204,7 +243,7 @@ fn same_lists(a: &[Expr], b: &[Expr]) -> bool
 }
 
 #[cycle(same)]
-#[tactic(auto, using(crate::proofs::Views::views, crate::proofs::Sizes::sizes, crate::proofs::Same::same))]
+#[tactic(auto, using(crate::proofs::Views::views, crate::proofs::SizesFall::sizes, crate::proofs::Same::same))]
 fn same_variant_lists(a: &[Vec<Expr>], b: &[Vec<Expr>]) -> bool
     ensures { result ≡ same_variants (variants_in a.now) (variants_in b.now) }
 {
@@ -220,7 +259,7 @@ fn same_variant_lists(a: &[Vec<Expr>], b: &[Vec<Expr>]) -> bool
 }
 
 #[cycle(copy)]
-#[tactic(auto, using(crate::proofs::Views::views, crate::proofs::Sizes::sizes, crate::proofs::Copies::copies))]
+#[tactic(auto, using(crate::proofs::Views::views, crate::proofs::SizesFall::sizes, crate::proofs::Copies::copies))]
 fn copy_expression(expr: &Expr) -> Result<Expr, AllocError>
     ensures { IfOk result (λ e. shape_of e ≡ shape_of expr.now) }
 {
@@ -245,7 +284,7 @@ fn copy_expression(expr: &Expr) -> Result<Expr, AllocError>
 }
 
 #[cycle(copy)]
-#[tactic(auto, using(crate::proofs::Views::views, crate::proofs::Sizes::sizes, crate::proofs::Copies::copies))]
+#[tactic(auto, using(crate::proofs::Views::views, crate::proofs::SizesFall::sizes, crate::proofs::Copies::copies))]
 fn copy_pointee(pointee: &Pointee) -> Result<Pointee, AllocError>
     ensures { IfOk result (λ p. pointee_of p ≡ pointee_of pointee.now) }
 {
@@ -257,7 +296,7 @@ fn copy_pointee(pointee: &Pointee) -> Result<Pointee, AllocError>
 }
 
 #[cycle(copy)]
-#[tactic(auto, using(crate::proofs::Views::views, crate::proofs::Sizes::sizes, crate::proofs::Copies::copies))]
+#[tactic(auto, using(crate::proofs::Views::views, crate::proofs::SizesFall::sizes, crate::proofs::Copies::copies))]
 fn copy_parts(alloc: Global, parts: &[Expr]) -> Result<Vec<Expr>, AllocError>
     ensures { IfOk result (λ v. shapes_in v.items ≡ shapes_in parts.now) }
 {
@@ -269,7 +308,7 @@ fn copy_parts(alloc: Global, parts: &[Expr]) -> Result<Vec<Expr>, AllocError>
 }
 
 #[cycle(copy)]
-#[tactic(auto, using(crate::proofs::Views::views, crate::proofs::Sizes::sizes, crate::proofs::Copies::copies))]
+#[tactic(auto, using(crate::proofs::Views::views, crate::proofs::SizesFall::sizes, crate::proofs::Copies::copies))]
 fn copy_variants(alloc: Global, variants: &[Vec<Expr>]) -> Result<Vec<Vec<Expr>>, AllocError>
     ensures { IfOk result (λ v. variants_in v.items ≡ variants_in variants.now) }
 {

@@ -2,20 +2,24 @@
 #![tactic(auto)]
 
 pub mod bytes;
+mod check;
+mod checked;
 mod compile;
 mod counting;
 pub mod defs;
 pub mod error;
 pub mod expr;
-mod extents;
 mod growing;
 pub mod laws;
 pub mod layout;
+pub mod leaf;
+pub mod names;
 pub mod plan;
 pub mod planning;
 mod queue;
 pub mod shape;
 pub mod shared;
+mod sizes;
 pub mod subtree;
 #[cfg(test)]
 mod tests;

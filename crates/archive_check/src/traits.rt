@@ -1,10 +1,11 @@
 //! What archived types, keys and entries tell of themselves.
 
-ghost use Rattle.std.specs.Prelude.{◌≡◌, ◌⊎◌, ℕ, min, Bool, true, Option, None, IfOk, IfErr};
-ghost use Rattle.archive_check.specs.Shape.{Shape, Pointee, one};
+ghost use Rattle.std.specs.Prelude.{◌≡◌, ◌⊎◌, ℕ, min, Bool, true, Option, None, Contains, OnOk, IfOk, IfErr};
+ghost use Rattle.archive_check.specs.Shape.{Name, Shape, Pointee, one};
 ghost use Rattle.archive_check.specs.Layout.{Layout as LayoutOf};
-ghost use Rattle.archive_check.specs.Expressions.{shape_of};
-ghost use Rattle.archive_check.specs.Definitions.{Definitions, HasLayout, IsAlign};
+ghost use Rattle.archive_check.specs.Expressions.{shape_of, table_of};
+ghost use Rattle.archive_check.specs.Definitions.{Definitions, HasLayout, IsAlign, listed, Extended, Conflicts};
+ghost use Rattle.archive_check.specs.Defined.{Reaches};
 ghost use Rattle.archive_check.specs.Value.{Value};
 ghost use Rattle.archive_check.specs.Told.{Told, nothing_told, KeyState};
 ghost use Rattle.archive_check.specs.declared.error.Error.TheVariants.{OutOfMemory, ShapeConflict};
@@ -12,6 +13,8 @@ ghost use Rattle.archive_check.specs.declared.error.Error.TheVariants.{OutOfMemo
 use crate::error::Error;
 use crate::expr::{Defs, Expr};
 use std::alloc::{Allocator, Global};
+
+mod leaves;
 
 /// What a pointer may lead to: an archived value, a slice or a text.
 pub trait ArchivePointee {
@@ -53,16 +56,19 @@ pub trait Portable: ArchivePointee {
         ensures shape { IfOk result (λ e. shape_of e ≡ shape) }
         ensures refused { IfErr result (λ e. e ≡ OutOfMemory) };
 
-    /// Adds the definitions of the names that the type reaches. Refused with 1 where memory is refused, and with 30 where a name has another
-    /// definition already.
+    /// Adds the definitions of the names that the type reaches, and no others. Refused with 1 where memory is refused, and with 30 where a name
+    /// has another definition already, or two.
     fn define(alloc: Global, defs: &mut Defs) -> Result<(), Error>
-        ensures { IfErr result (λ e. (e ≡ OutOfMemory) ⊎ (e ≡ ShapeConflict)) };
+        ensures added { OnOk result (Extended (table_of defs.old) Self.definitions (table_of defs.new)) }
+        ensures refused { IfErr result (λ e. (e ≡ OutOfMemory) ⊎ ((e ≡ ShapeConflict) × Conflicts (table_of defs.old) Self.definitions)) };
 
     ghost is_one: { Self.pointee ≡ one shape };
 
     ghost is_align: { IsAlign layout.align };
 
     ghost has_layout: { HasLayout Self.definitions shape layout };
+
+    ghost no_others: { (name : Name) (X : Shape) → Contains (listed Self.definitions) (name, X) → Reaches (listed Self.definitions) name shape };
 }
 
 /// What tells contracts the bytes that it holds, its room and its device's failures. It has no calls.
@@ -106,4 +112,14 @@ impl Entries for () {
     ghost entry_of = { λ _ _. None };
 
     ghost keeps = { true };
+}
+
+/// What is borrowed tells what its owner does.
+impl<W: Tells> Tells for &mut W {
+    ghost told = { λ r. W.told r.now };
+}
+
+/// What is borrowed has its owner's keys.
+impl<S: Keys> Keys for &mut S {
+    ghost state_of = { λ r. S.state_of r.now };
 }

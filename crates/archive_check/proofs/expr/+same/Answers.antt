@@ -1,6 +1,6 @@
 use Rattle.std.proofs.Common.{sym, subst, ◌<◌}
 use Rattle.archive_check.specs.Expressions.{variants_in}
-use Rattle.archive_check.proofs.Sizes.{variants_size, choice_falls}
+use Rattle.archive_check.proofs.SizesFall.{variants_size, choice_falls}
 use Rattle.archive_check.proofs.Same.{choice_same}
 use Rattle.archive_check.proofs.expr.+same.Goals as goal
 

@@ -1,0 +1,202 @@
+-- A shape is well formed exactly where its definitions can be collected and put in order.
+use Rattle.std.proofs.Common.{◌≡◌, ◌≢◌, ◌⊎◌, inl, inr, ⊎_elim, ℕ, zero, suc, ◌+◌, ◌<◌, ◌≤◌, List, [], ◌∷◌, ◌++◌, length, take, get_or, refl, sym, ap, ◌∙◌, subst, arith, Bool, true, false, Option, Some, None, Contains}
+use Rattle.std.proofs.lemmas.List.{take_more, take_all, get_or_default}
+use Rattle.std.proofs.lemmas.List.Elements.{Contains-get_or}
+use Rattle.archive_check.specs.declared.error.Error.{Error}
+use Rattle.archive_check.specs.declared.error.Error.TheVariants.{OutOfMemory, ShapeConflict, RecursiveLayout}
+use Rattle.archive_check.specs.Shape.{Name, Shape, str, Table, definition}
+use Rattle.archive_check.specs.Layout.{Layouts, Solves}
+use Rattle.archive_check.specs.Reads.{LaidOut}
+use Rattle.archive_check.specs.Defined.{Holds, mentions_held, Reaches, reaches, reaches_through, HeldIn, held, held_through, AllDefined, WellFormed, rounds}
+use Rattle.archive_check.specs.Definitions.{Definitions, listed, Extended, Conflicts}
+use Rattle.archive_check.specs.Names.{missing, Complete, HasAll, Collected, Arranged, Prepared, ExplainsNoSchema}
+use Rattle.archive_check.proofs.Named.{names_decided, definition_here, definition_other}
+use Rattle.archive_check.proofs.Missing.{IsDefined, held_defined, mentioned_defined, none_near, none_missed}
+use Rattle.archive_check.proofs.Descent.{contains_cases, contains_first, contains_later, LeadsTo}
+use Rattle.archive_check.proofs.Placed.{names_of, names_of-push, names_of-nil, defined_named}
+use Rattle.archive_check.proofs.Ordered.{Ordered, ordered_none, ordered_next, ordered_never, ordered_solves}
+use Rattle.archive_check.proofs.Positive.{rounds_pos}
+
+-- a definition that is found stands in the table, and one that stands there is found, or another one
+pub found_stands : (table : Table) (n : Name) (X : Shape) → definition table n ≡ Some X → Contains table (n, X)
+found_stands [] n X e = cc
+found_stands ((a, Y) ∷ ds) n X e = ⊎_elim
+    (λ s. (0, omega arith, cc (s, sym (definition_here a n Y ds s) ∙ e)))
+    (λ o. contains_later (a, Y) ds (n, X) (found_stands ds n X (sym (definition_other a n Y ds o) ∙ e)))
+    (names_decided a n)
+
+pub stands_found : (table : Table) (n : Name) (X : Shape) → Contains table (n, X) → IsDefined table n
+stands_found [] n X c = absurd (omega (arith, c.1))
+stands_found ((a, Y) ∷ ds) n X c = ⊎_elim
+    (λ s. (Y, definition_here a n Y ds s))
+    (λ o. ⊎_elim
+    (λ here. absurd (o (ap (λ (p : Name × Shape). p.0) here)))
+    (λ later. let f = stands_found ds n X later in (f.0, definition_other a n Y ds o ∙ f.1))
+    (contains_cases (a, Y) ds (n, X) c))
+    (names_decided a n)
+
+-- what is reached stays so under more definitions
+module _ (old new : Table) (more : (n : Name) (Y : Shape) → definition old n ≡ Some Y → definition new n ≡ Some Y) where
+  pub reached_more : {n : Name} {X : Shape} → Reaches old n X → Reaches new n X
+  reached_more (reaches h) = reaches h
+  reached_more (reaches_through h d r) = reaches_through h (more _ _ d) (reached_more r)
+
+  pub held_more : {n : Name} {X : Shape} → HeldIn old n X → HeldIn new n X
+  held_more (held h) = held h
+  held_more (held_through h d r) = held_through h (more _ _ d) (held_more r)
+
+-- an order of definitions is an order of names
+module _ (old new : Table) (h : Arranged old new) where
+  module _ (k : ℕ) (l : k < length new) where
+    abbrev here : Name × Shape
+    here = get_or new k ([], str)
+
+    here_stands : (here.0, here.1) ≡ get_or new k (here.0, here.1)
+    here_stands = get_or_default new k ([], str) here l
+
+    one_more : names_of (take (suc k) new) ≡ names_of (take k new) ++ here.0 ∷ []
+    one_more = ap (λ j. names_of (take j new)) {x = suc k} {y = k + 1} (omega arith) ∙ ap names_of (take_more new k ([], str) l) ∙ names_of-push (take k new) here
+
+    named_before : (m : Name) → Holds m here.1 → Contains (names_of (take k new)) m
+    named_before m i = let (Y, e) = held_defined (take k new) false m i (h.earlier k here.0 here.1 l here_stands) in defined_named (take k new) m Y e
+
+  ordered_to : (k : ℕ) → k ≤ length new → Ordered new (names_of (take k new))
+  ordered_to zero l = rw names_of-nil ordered_none
+  ordered_to (suc k) l =
+      rw (one_more k l) (ordered_next (here k l).0 (ordered_to k (omega arith)) (h.once (here k l).0 (here k l).1 (Contains-get_or new k ([], str) l)) (named_before k l))
+
+  pub arranged_ordered : Ordered new (names_of new)
+  arranged_ordered = rw (ap names_of (take_all (length new) new (omega arith))) at (ordered_to (length new) (omega arith))
+
+  -- so it has layouts
+  pub arranged_layouts : (l : Layouts) × LaidOut (record { table = new; layouts = l })
+  arranged_layouts = (
+    rounds new (length (names_of new)),
+    record {
+      solves = ordered_solves new arranged_ordered (defined_named new);
+      aligned = rounds_pos new (length (names_of new));
+    },
+  )
+
+  -- and no name in it holds itself
+  pub arranged_never : (n : Name) (Y : Shape) → definition new n ≡ Some Y → HeldIn new n Y → ⊥
+  arranged_never n Y e i = ordered_never new arranged_ordered n (defined_named new n Y e) (record { shape = Y; defined = e; held = i })
+
+-- what is held is held in a part of a table that has all it needs
+held_within : (old new : Table) → ((n : Name) (Y : Shape) → definition new n ≡ Some Y → definition old n ≡ Some Y) → ((n : Name) (Y : Shape) → definition new n ≡ Some Y → missing true new Y ≡ None)
+    → {n : Name} {X : Shape} → HeldIn old n X → missing true new X ≡ None → HeldIn new n X
+held_within old new kept closed (held h) none = held h
+held_within old new kept closed (held_through {Y = Y} {n = m} h d r) none =
+    let (Z, e) = held_defined new true m h none in
+    let same : Z ≡ Y = cc (sym (kept m Z e) ∙ d) in
+    held_through h (e ∙ ap Some same) (held_within old new kept closed r (ap (missing true new) (sym same) ∙ closed m Z e))
+
+-- and what is reached is defined there
+pub reached_within : (old new : Table) → ((n : Name) (Y : Shape) → definition new n ≡ Some Y → definition old n ≡ Some Y) → ((n : Name) (Y : Shape) → definition new n ≡ Some Y → missing true new Y ≡ None)
+    → {n : Name} {X : Shape} → Reaches old n X → missing true new X ≡ None → IsDefined new n
+reached_within old new kept closed (reaches h) none = mentioned_defined new _ h none
+reached_within old new kept closed (reaches_through {Y = Y} {n = m} h d r) none =
+    let (Z, e) = mentioned_defined new m h none in
+    let same : Z ≡ Y = cc (sym (kept m Z e) ∙ d) in
+    reached_within old new kept closed r (ap (missing true new) (sym same) ∙ closed m Z e)
+
+-- A type's definitions, put into a table of their own.
+module _ (D : Definitions) (X : Shape) (table : Table) (added : Extended [] D table) where
+  looked_up : (n : Name) (Y : Shape) → definition table n ≡ Some Y → definition (listed D) n ≡ Some Y
+  looked_up n Y e = ⊎_elim (λ none. cc none)
+      (λ c. let (Z, f) = stands_found (listed D) n Y c in f ∙ sym (added.has n Z (found_stands (listed D) n Z f)) ∙ e)
+      (added.only n Y e)
+
+  looked_back : (n : Name) (Y : Shape) → definition (listed D) n ≡ Some Y → definition table n ≡ Some Y
+  looked_back n Y e = added.has n Y (found_stands (listed D) n Y e)
+
+  -- a name that is reached and has no definition
+  pub lost_not_defined : (n : Name) → Reaches table n X → definition table n ≡ None → AllDefined (listed D) X → ⊥
+  lost_not_defined n r none all = let (Y, e, one) = all n (reached_more table (listed D) looked_up r) in cc (sym none ∙ looked_back n Y e)
+
+  module _ (found : Table) (collected : Collected table X found) where
+    listed_to_found : {n : Name} → Reaches (listed D) n X → (Y : Shape) × (definition found n ≡ Some Y)
+    listed_to_found r = reached_within table found collected.kept collected.closed (reached_more (listed D) table looked_back r) collected.root
+
+    pub all_defined : AllDefined (listed D) X
+    all_defined n r =
+        let (Y, e) = listed_to_found r in
+        (Y, looked_up n Y (collected.kept n Y e), λ Z c. cc (sym (added.has n Z c) ∙ collected.kept n Y e))
+
+    -- a name that holds itself
+    pub held_not_well_formed : (n : Name) (Y : Shape) → definition found n ≡ Some Y → HeldIn found n Y → WellFormed (listed D) X → ⊥
+    held_not_well_formed n Y e i well =
+        well.finite n Y (reached_more table (listed D) looked_up (collected.reached n Y e)) (looked_up n Y (collected.kept n Y e))
+        (held_more table (listed D) looked_up (held_more found table collected.kept i))
+
+    module _ (placed : Table) (arranged : Arranged found placed) where
+      placed_kept : (n : Name) (Y : Shape) → definition placed n ≡ Some Y → definition found n ≡ Some Y
+      placed_kept n Y e = sym (arranged.same n) ∙ e
+
+      placed_back : (n : Name) (Y : Shape) → definition found n ≡ Some Y → definition placed n ≡ Some Y
+      placed_back n Y e = arranged.same n ∙ e
+
+      pub well_formed : WellFormed (listed D) X
+      well_formed = record {
+        defined = all_defined;
+        finite = λ n Y r e i.
+            let (Z, f) = listed_to_found r in
+            let same : Z ≡ Y = cc (sym (looked_up n Z (collected.kept n Z f)) ∙ e) in
+            let here : definition found n ≡ Some Y = f ∙ ap Some same in
+            arranged_never found placed arranged n Y (placed_back n Y here)
+            (held_more found placed placed_back (held_within table found collected.kept collected.closed (held_more (listed D) table looked_back i) (collected.closed n Y here)));
+      }
+
+      -- the definitions in order are the type's
+      pub placed_listed : (n : Name) (Y : Shape) → definition placed n ≡ Some Y → definition (listed D) n ≡ Some Y
+      placed_listed n Y e = looked_up n Y (collected.kept n Y (placed_kept n Y e))
+
+-- what is collected is complete
+pub collected_complete : (old : Table) (X : Shape) (new : Table) → Collected old X new → Complete new
+collected_complete old X new c = record { once = c.once; closed = λ n Y e. none_near new Y (c.closed n Y e) }
+
+-- so the definitions of a type are prepared
+pub prepared : (D : Definitions) (X : Shape) (table : Table) → Extended [] D table → (found : Table) → Collected table X found → (placed : Table) → Arranged found placed → Prepared D X placed
+prepared D X table added found collected placed arranged = record {
+  known = placed_listed D X table added found collected placed arranged;
+  complete = record {
+    root = none_missed found placed (λ n Y e. (Y, arranged.same n ∙ e)) true X collected.root;
+    closed = λ n Y e. none_missed found placed (λ m Z f. (Z, arranged.same m ∙ f)) true Y (collected.closed n Y (sym (arranged.same n) ∙ e));
+  };
+  ordered = record { same = λ n. refl; once = arranged.once; earlier = arranged.earlier };
+  well_formed = well_formed D X table added found collected placed arranged;
+}
+
+-- two definitions of one name
+pub conflict_not_defined : (D : Definitions) (X : Shape) → ((name : Name) (Y : Shape) → Contains (listed D) (name, Y) → Reaches (listed D) name X) → Conflicts [] D → AllDefined (listed D) X → ⊥
+conflict_not_defined D X reached c all =
+    let (Y, e, one) = all c.name (reached c.name c.shape c.here) in
+    let there : Contains (listed D) (c.name, c.other) = ⊎_elim (λ f. cc f) (λ d. d) c.there in
+    c.differ (one c.shape c.here ∙ sym (one c.other there))
+
+-- What the steps of making a schema answer: definitions are added to none, collected and put in order.
+module _ (D : Definitions) (X : Shape) where
+  pub explains_conflict : (old : Table) (e : Error) → old ≡ [] → ((name : Name) (Y : Shape) → Contains (listed D) (name, Y) → Reaches (listed D) name X)
+      → (e ≡ OutOfMemory) ⊎ ((e ≡ ShapeConflict) × Conflicts old D) → ExplainsNoSchema X D e
+  explains_conflict old e none reached (inl memory) = inl memory
+  explains_conflict old e none reached (inr (is, c)) = inr (inl (is, conflict_not_defined D X reached (rw none at c)))
+
+  module _ (old table items : Table) (Y : Shape) (none : old ≡ []) (added : Extended old D table) (same : items ≡ table) (root : Y ≡ X) where
+    extended : Extended [] D items
+    extended = rw same (rw none at added)
+
+    pub explains_lost : (e : Error) → (e ≡ OutOfMemory) ⊎ ((e ≡ ShapeConflict) × (name : Name) × Reaches items name Y × (definition items name ≡ None)) → ExplainsNoSchema X D e
+    explains_lost e (inl memory) = inl memory
+    explains_lost e (inr (is, name, reached, lost)) = inr (inl (is, lost_not_defined D X items extended name (rw root at reached) lost))
+
+    module _ (found : Table) (collected : Collected items Y found) where
+      at_root : Collected items X found
+      at_root = rw root at collected
+
+      pub explains_held : (e : Error) → (e ≡ OutOfMemory) ⊎ ((e ≡ RecursiveLayout) × (name : Name) × (Z : Shape) × (definition found name ≡ Some Z) × HeldIn found name Z) → ExplainsNoSchema X D e
+      explains_held e (inl memory) = inl memory
+      explains_held e (inr (is, name, Z, defined, holds)) =
+          inr (inr (is, all_defined D X items extended found at_root, held_not_well_formed D X items extended found at_root name Z defined holds))
+
+      pub prepares : (placed : Table) → Arranged found placed → Prepared D X placed
+      prepares placed arranged = prepared D X items extended found at_root placed arranged

@@ -1,0 +1,5 @@
+use Rattle.archive_check.proofs.Inside.{within_inside}
+use Rattle.archive_check.proofs.laws.parts_inside.Goals as goal
+
+pub returns : goal.returns
+returns c s bytes p X q Y laid w = within_inside s laid w

@@ -1,0 +1,8 @@
+use Rattle.std.proofs.Common.{length}
+use Rattle.archive_check.specs.Defined.{rounds}
+use Rattle.archive_check.proofs.Positive.{rounds_pos}
+use Rattle.archive_check.proofs.Placed.{names_of, rounds_solve_reached}
+use Rattle.archive_check.proofs.laws.some_layouts.Goals as goal
+
+pub returns : goal.returns
+returns c table X well = (rounds table (length (names_of table)), rounds_solve_reached table X well, rounds_pos table (length (names_of table)))

@@ -1,0 +1,37 @@
+//! The check of a whole archive against a plan.
+
+ghost use Rattle.std.specs.Prelude.{◌≡◌, ◌⊎◌, ◌<◌, ◌≤◌, length, OnOk, IfErr};
+ghost use Rattle.archive_check.specs.declared.error.Error.TheVariants.{OutOfMemory};
+ghost use Rattle.archive_check.specs.Closed.{IsClosed};
+ghost use Rattle.archive_check.specs.Exact.{IsWhole, Accepts, Refuses, IsExact};
+
+use crate::error::Error;
+use crate::plan::Checker;
+use crate::validation::{ArchiveContext, SharedContext};
+use std::alloc::Global;
+
+impl Checker<'_> {
+    /// Whether the bytes are an archive of what the root node stands for, with the root at a position in bytes. In a context for these
+    /// bytes that met nothing yet the answer is exact: Ok where they are one with no region too deep, else the refusal of the first test
+    /// that is false, with the numbers of `Error`; and 1 where memory is refused.
+    pub fn check<C: ArchiveContext + SharedContext>(
+        &self,
+        alloc: Global,
+        root: usize,
+        at: usize,
+        context: &mut C,
+    ) -> Result<(), Error>
+        requires closed { IsClosed self.now }
+        requires below { (C.state context.old).end ≤ length self.now.bytes.now }
+        requires known { root < length self.now.nodes.now }
+        ensures ok { OnOk result (IsWhole (C.state context.old) (C.positions context.old) self.now.bytes.now → Accepts self.now root (C.state context.old).depth at) }
+        ensures err { IfErr result (λ e. (e ≡ OutOfMemory) ⊎ (IsWhole (C.state context.old) (C.positions context.old) self.now.bytes.now → Refuses self.now root (C.state context.old).depth at e)) }
+        ensures exact { IsWhole (C.state context.old) (C.positions context.old) self.now.bytes.now → IsExact self.now root (C.state context.old).depth at result }
+    {
+        prove!(self.bytes.len() <= usize::MAX);
+        if let Err(error) = self.run(alloc, root, at, context) {
+            return Err(error);
+        }
+        Ok(())
+    }
+}

@@ -1,0 +1,191 @@
+//! The names in an expression, and the order of their definitions.
+
+ghost use Rattle.std.specs.Prelude.{◌≡◌, ◌≢◌, ◌⊎◌, ◌+◌, ◌≤◌, ℕ, Bool, Some, None, OnOk, IfOk, IfErr, IfSome, IfNone, true, get_or, option_map, is_some, length};
+ghost use Rattle.archive_check.specs.Shape.{definition};
+ghost use Rattle.archive_check.specs.Expressions.{shape_of, pointee_of, shapes_in, variants_in, entries_of};
+ghost use Rattle.archive_check.specs.Names.{missing as missing_in, pointee_missing, parts_missing, variants_missing, Taken, Collected, Arranged, NextReady, Complete, Prepared, ExplainsNoSchema, shapes_from};
+ghost use Rattle.archive_check.specs.Shape.{Name, Shape};
+ghost use Rattle.archive_check.specs.Defined.{Reaches, HeldIn};
+ghost use Rattle.archive_check.specs.declared.error.Error.TheVariants.{OutOfMemory, ShapeConflict, RecursiveLayout};
+
+use crate::error::Error;
+use crate::expr::{Def, Defs, Expr, Pointee};
+use crate::traits::Portable;
+use std::alloc::Global;
+
+// Whether a name has a definition.
+#[tactic(auto, using(crate::proofs::Named::named))]
+fn is_defined(defs: &[Def], name: &str) -> bool
+    ensures { result ≡ is_some (definition (entries_of defs.now) name.now) }
+{
+    for i in 0..defs.len() {
+        if defs[i].name == name {
+            return true;
+        }
+    }
+    false
+}
+
+// Takes the definition of a name out of a list.
+#[tactic(auto, using(crate::proofs::Named::named))]
+fn take(defs: &mut Vec<Def>, name: &str) -> Option<Def>
+    ensures { Taken defs.old.items name.now result defs.new.items }
+{
+    for i in 0..defs.len() {
+        if defs[i].name == name {
+            return Some(defs.remove(i));
+        }
+    }
+    None
+}
+
+// The first name in an expression that has no definition; behind pointers too, where `far` says so.
+#[cycle(missing)]
+#[tactic(auto, using(crate::proofs::Views::views))]
+fn missing(expr: &Expr, defs: &[Def], far: bool) -> Option<&'static str>
+    ensures { option_map (λ name. name.now) result ≡ missing_in far (entries_of defs.now) (shape_of expr.now) }
+{
+    match expr {
+        Expr::Record(parts) => missing_part(parts, defs, far),
+        Expr::Choice(_, variants) => missing_variant(variants, defs, far),
+        Expr::Array(_, element) => missing(element, defs, far),
+        Expr::Box(pointee) | Expr::Shared(_, pointee) | Expr::Weak(_, pointee) => {
+            if far {
+                missing_pointee(pointee, defs, far)
+            } else {
+                None
+            }
+        }
+        Expr::Vec(element) => if far {
+            missing(element, defs, far)
+        } else {
+            None
+        },
+        Expr::Named(name) => if is_defined(defs, name) {
+            None
+        } else {
+            Some(name)
+        },
+        Expr::Leaf(_) | Expr::Str => None,
+    }
+}
+
+#[cycle(missing)]
+#[tactic(auto, using(crate::proofs::Views::views))]
+fn missing_pointee(pointee: &Pointee, defs: &[Def], far: bool) -> Option<&'static str>
+    ensures { option_map (λ name. name.now) result ≡ pointee_missing far (entries_of defs.now) (pointee_of pointee.now) }
+{
+    match pointee {
+        Pointee::One(expr) | Pointee::Run(expr) => missing(expr, defs, far),
+        Pointee::Text => None,
+    }
+}
+
+#[cycle(missing)]
+#[tactic(auto, using(crate::proofs::Views::views))]
+fn missing_part(parts: &[Expr], defs: &[Def], far: bool) -> Option<&'static str>
+    ensures { option_map (λ name. name.now) result ≡ parts_missing far (entries_of defs.now) (shapes_in parts.now) }
+{
+    for i in 0..parts.len() {
+        if let Some(name) = missing(&parts[i], defs, far) {
+            return Some(name);
+        }
+    }
+    None
+}
+
+#[cycle(missing)]
+#[tactic(auto, using(crate::proofs::Views::views))]
+fn missing_variant(variants: &[Vec<Expr>], defs: &[Def], far: bool) -> Option<&'static str>
+    ensures { option_map (λ name. name.now) result ≡ variants_missing far (entries_of defs.now) (variants_in variants.now) }
+{
+    for i in 0..variants.len() {
+        if let Some(name) = missing_part(&variants[i], defs, far) {
+            return Some(name);
+        }
+    }
+    None
+}
+
+// The first name without a definition in the root, at 0, or in the definition before `at`.
+fn missing_at(root: &Expr, defs: &[Def], at: usize) -> Option<&'static str>
+    requires { at ≤ length defs.now }
+    ensures { (X : Shape) → X ≡ get_or (shapes_from (shape_of root.now) defs.now) at X → option_map (λ name. name.now) result ≡ missing_in true (entries_of defs.now) X }
+{
+    if at == 0 {
+        return missing(root, defs, true);
+    }
+    missing(&defs[at - 1].expr, defs, true)
+}
+
+/// The definitions that the root reaches, each once, out of those given. Refused with 30 where one of them is missing, and with 1 where memory
+/// is refused.
+pub fn collect(alloc: Global, root: &Expr, mut rest: Vec<Def>) -> Result<Vec<Def>, Error>
+    ensures ok { IfOk result (λ found. Collected (entries_of rest.items) (shape_of root.now) (entries_of found.items)) }
+    ensures err { IfErr result (λ e. (e ≡ OutOfMemory) ⊎ ((e ≡ ShapeConflict) × (name : Name) × Reaches (entries_of rest.items) name (shape_of root.now) × (definition (entries_of rest.items) name ≡ None))) }
+{
+    let mut found = Vec::new(alloc);
+    let mut at = 0;
+    while at <= found.len() {
+        match missing_at(root, &found, at) {
+            None => at += 1,
+            Some(name) => {
+                let Some(def) = take(&mut rest, name) else {
+                    return Err(Error::ShapeConflict);
+                };
+                found.push(def)?;
+            }
+        }
+    }
+    Ok(found)
+}
+
+// The first definition that holds only defined names.
+fn next_ready(placed: &[Def], rest: &[Def]) -> Option<usize>
+    ensures { NextReady (entries_of placed.now) rest.now result }
+{
+    for i in 0..rest.len() {
+        if missing(&rest[i].expr, placed, false).is_none() {
+            return Some(i);
+        }
+    }
+    None
+}
+
+/// The definitions in an order in which each holds, other than behind a pointer, only names before it. Refused with 31 where a name holds
+/// itself, and with 1 where memory is refused.
+pub fn in_order(alloc: Global, mut rest: Vec<Def>) -> Result<Vec<Def>, Error>
+    requires { Complete (entries_of rest.items) }
+    ensures ok { IfOk result (λ placed. Arranged (entries_of rest.items) (entries_of placed.items)) }
+    ensures err { IfErr result (λ e. (e ≡ OutOfMemory) ⊎ ((e ≡ RecursiveLayout) × (name : Name) × (Y : Shape) × (definition (entries_of rest.items) name ≡ Some Y) × HeldIn (entries_of rest.items) name Y)) }
+{
+    let mut placed = Vec::new(alloc);
+    while !rest.is_empty() {
+        let Some(i) = next_ready(&placed, &rest) else {
+            return Err(Error::RecursiveLayout);
+        };
+        placed.push(rest.remove(i))?;
+    }
+    Ok(placed)
+}
+
+/// The definitions that `T` brings and its shape reaches, in order. Refused with 30 where a name that is reached has none or two, else with 31
+/// where one holds itself other than behind a pointer, and with 1 where memory is refused.
+pub fn definitions_of<T: Portable>(alloc: Global, root: &Expr) -> Result<Vec<Def>, Error>
+    requires { shape_of root.now ≡ T.shape }
+    ensures made { IfOk result (λ ds. Prepared T.definitions T.shape (entries_of ds.items)) }
+    ensures refused { IfErr result (λ e. ExplainsNoSchema T.shape T.definitions e) }
+{
+    let mut defs = Defs::new(alloc);
+    if let Err(error) = T::define(alloc, &mut defs) {
+        return Err(error);
+    }
+    let found = match collect(alloc, root, defs.into_items()) {
+        Ok(found) => found,
+        Err(error) => return Err(error),
+    };
+    match in_order(alloc, found) {
+        Ok(placed) => Ok(placed),
+        Err(error) => Err(error),
+    }
+}
