@@ -13,9 +13,9 @@ loop-i-preserved c =
     let at : IsAt c.args.defs.now c.loop-i.i c.index-defs-i.result = record { below = c.loop-i-test.true; is = c.index-defs-i.is } in
     let again : IsAt c.args.defs.now c.loop-i.i c.index-defs-i-in-loop-i.result = record { below = c.loop-i-test.true; is = c.index-defs-i-in-loop-i.is } in
     let root : RootIs c.deref.result.now c.loop-i.start (shape_of c.index-defs-i.result.expr) c.in_ok-node.node =
-    subst (λ (y : Def). RootIs c.deref.result.now c.loop-i.start (shape_of y.expr) c.in_ok-node.node) (sym c.index-defs-i.is) c.in_ok-node.ensures.0 in
+    subst (λ (y : Def). RootIs c.deref.result.now c.loop-i.start (shape_of y.expr) c.in_ok-node.node) (sym c.index-defs-i.is) c.in_ok-node.ensures.ok.0 in
     let end : c.in_ok-node.end ≡ c.loop-i.start + count_of (shape_of c.index-defs-i.result.expr) =
-    subst (λ (y : Def). c.in_ok-node.end ≡ c.loop-i.start + count_of (shape_of y.expr)) (sym c.index-defs-i.is) c.in_ok-node.ensures.1 in
+    subst (λ (y : Def). c.in_ok-node.end ≡ c.loop-i.start + count_of (shape_of y.expr)) (sym c.index-defs-i.is) c.in_ok-node.ensures.ok.1 in
     let there : Def = slice_index_or c.args.defs.now c.loop-i.i c.index-defs-i-in-loop-i.result in (
       numbered_next (record { name = there.name; node = c.in_ok-node.node }) c.loop-i.invariant.0 c.loop-i.invariant.1 at (ap (λ (d : Def). d.name.now) (sym again.is ∙ same_at again at))
           (subst (λ ks. RootIs ks c.loop-i.start (shape_of c.index-defs-i.result.expr) c.in_ok-node.node) c.deref.ensures.value root) c.in_ok-push.ensures.items,
