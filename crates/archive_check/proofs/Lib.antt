@@ -66,6 +66,7 @@ pub mod KeptPositions
 pub mod SubtreeSteps
 pub mod Fitting
 pub mod GoingOn
+pub mod Compilable
 pub mod Adding
 pub mod FreeWalks
 pub mod Compiled

@@ -41,6 +41,7 @@ pub mod Closed
 pub mod Represents
 pub mod Counts
 pub mod Queued
+pub mod Compilable
 pub mod Compiled
 pub mod Numbered
 pub mod Planned

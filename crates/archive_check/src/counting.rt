@@ -6,6 +6,7 @@ ghost use Rattle.archive_check.specs.Counts.{count_of, count_pointee as pointee_
 ghost use Rattle.archive_check.specs.Shape.{Name, named};
 ghost use Rattle.archive_check.specs.Growing.{node_of};
 ghost use Rattle.archive_check.specs.declared.error.Error.TheVariants.{OutOfMemory};
+ghost use Rattle.archive_check.specs.Planned.{DefsInOrder};
 ghost use Rattle.archive_check.specs.Numbered.{RootIs, IsNumbered, def_shapes, start_of};
 
 use crate::defs::Def;
@@ -109,7 +110,8 @@ pub fn root(names: &[Known], expr: &Expr, start: usize) -> Result<(usize, usize)
 /// The nodes that definitions are compiled to, one after another, and how many there are. Memory comes from `alloc`. Refused with 1 where
 /// memory is refused, and with 31 where one is a name that isn't defined before it.
 pub fn number(alloc: Global, defs: &[Def]) -> Result<(Vec<Known>, usize), Error>
-    ensures { IfOk result (λ r. IsNumbered defs.now r.0.items (length defs.now) × (r.1 ≡ start_of (def_shapes defs.now) (length defs.now))) }
+    ensures ok { IfOk result (λ r. IsNumbered defs.now r.0.items (length defs.now) × (r.1 ≡ start_of (def_shapes defs.now) (length defs.now))) }
+    ensures err { IfErr result (λ e. DefsInOrder defs.now → e ≡ OutOfMemory) }
 {
     let mut names: Vec<Known> = Vec::new(alloc);
     let mut start = 0;

@@ -10,8 +10,8 @@ ghost use Rattle.archive_check.specs.declared.error.Error.TheVariants.{OutOfMemo
 
 use crate::error::Error;
 use crate::expr::{FlavorInfo, Kind, Pointee};
-use crate::sizes::{end_of, greater, is_plain, leaf_size, offset_of};
 use crate::plan::{Job, Node, Part, Plan, Sort, Span};
+use crate::sizes::{end_of, greater, is_plain, leaf_size, offset_of};
 use std::alloc::Global;
 
 /// A name, and the node that its definition is or will be.
