@@ -18,6 +18,10 @@ pub handed_on : {T E A : Type 0} {o : E} (r : Result T E) (x : E) → IsErrAnd r
 handed_on (Ok v) x h p = absurd h
 handed_on (Err e) x h p = λ a. h ∙ p a
 
+pub handed_as : {T E : Type 0} (r : Result T E) (x : E) (P : E → Type 0) → IsErrAnd r (λ e. e ≡ x) → P x → IfErr r P
+handed_as (Ok v) x P h p = absurd h
+handed_as (Err e) x P h p = subst P (sym h) p
+
 module _ {names : List Known} {v w : Waits} {a b : Lists} {j : ℕ} where
   pub as_shape : {done : ℕ} {X Y : Shape} → X ≡ Y → Compiled names done Y v w a b j → Compiled names done X v w a b j
   as_shape {done} e c = subst (λ Z. Compiled names done Z v w a b j) (sym e) c

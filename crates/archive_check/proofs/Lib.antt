@@ -77,5 +77,6 @@ pub mod Numbered
 pub mod Waiting
 pub mod Chained
 pub mod Planned
+pub mod PlansInOrder
 pub mod Suiting
 pub mod ClosedAgain
