@@ -27,6 +27,7 @@ use Rattle.archive_check.specs.Queued.{Wait, Waits, waits_size}
 use Rattle.archive_check.specs.Growing.{node_of, Lists, lists_in, Grows, IsPushed, IsMade}
 use Rattle.archive_check.specs.Compiled.{Follows, Below, Knows, Settled, Given, MadeTo, Adds, Compiled, Targets, Leads, PartFits, CompiledParts, IsVariant, CompiledVariants}
 use Rattle.archive_check.specs.Counts.{count_of, count_pointee}
+use Rattle.archive_check.proofs.Compilable.{can_parts, can_choice, can_array}
 use Rattle.archive_check.proofs.Inside.{pointer_few}
 use Rattle.archive_check.proofs.Runs.{plain_walk}
 use Rattle.archive_check.proofs.Fitting.{fits_some, fits_none, round_up, some_is, rounded_fits, rounded_some, times_none, times_fits}
@@ -41,7 +42,7 @@ leaf_free k z e (inr h) = let same : kind_size k ≡ z = cc in empty_plain k (sa
 
 pub compiled_leaf : {names : List Known} {done : ℕ} {v : Waits} {a c : Lists} (kind : KindExpr) {j : ℕ} → IsMade a c (Some (kind_size (kind_of kind))) (kind_align (kind_of kind)) (is_plain_kind (kind_of kind)) (Leaf kind) j
     → Compiled names done (leaf (kind_of kind)) v v a c j
-compiled_leaf {names = names} {v = v} {a = a} kind p = compiled_made (adds_refl names v a) (leaf (kind_of kind)) p refl (omega arith)
+compiled_leaf {names = names} {v = v} {a = a} kind p = compiled_made (adds_refl names v a) (leaf (kind_of kind)) p refl (omega arith) (λ all can. all)
     (λ m l g k. (sym (fits_some (kind_size (kind_of kind)) (kind_few (kind_of kind))), refl))
     (λ m g w z e pos. let same : kind_size (kind_of kind) ≡ z = cc in omega (arith, same))
     (λ s shapes m g t given k z e h. made_free (λ bytes pending depth stop p start seen le. plain_walk s t.laid_out bytes (leaf (kind_of kind)) p (leaf_free (kind_of kind) z e h) le))
@@ -90,7 +91,7 @@ module _ {names : List Known} {done : ℕ} {v w : Waits} {a b c : Lists} where
   compiled_record {ps = ps} {laid = laid} {size = size} f es p =
       let grown = pushed_grows p.pushed in
       let split : (z : ℕ) → size ≡ Some z → (e : ℕ) × (laid.end ≡ Some e) × (e ≤ z) × (z ≡ up e laid.align) = λ z e. rounded_some laid.end laid.align z f.positive (sym es ∙ e) in
-      compiled_made f.adds (parts ps) p (ap (λ n. n + 1) f.gives_count) (omega (arith, f.waits_few))
+      compiled_made f.adds (parts ps) p (ap (λ n. n + 1) f.gives_count) (omega (arith, f.waits_few)) (λ all can. f.known all (can_parts can))
       (λ m l g n. let k = f.lays m l (grows_trans grown g) n in
       (es ∙ ap (λ o. rounded o laid.align) k.0 ∙ rounded_fits (parts_end l 0 ps) laid.align f.positive ∙ ap (λ x. fits (up (parts_end l 0 ps) x)) k.1, k.1))
       (λ m g w z e pos. let q = split z e in (
@@ -112,7 +113,7 @@ module _ {names : List Known} {done : ℕ} {v w : Waits} {a b c : Lists} where
   compiled_choice {name = name} {vs = vs} {laid = laid} {size = size} f es never p =
       let grown = pushed_grows p.pushed in
       let split : (z : ℕ) → size ≡ Some z → (e : ℕ) × (laid.end ≡ Some e) × (e ≤ z) × (z ≡ up e laid.align) = λ z e. rounded_some laid.end laid.align z f.positive (sym es ∙ e) in
-      compiled_made f.adds (choice name.now vs) p (ap (λ n. n + 1) f.gives_count) (omega (arith, f.waits_few))
+      compiled_made f.adds (choice name.now vs) p (ap (λ n. n + 1) f.gives_count) (omega (arith, f.waits_few)) (λ all can. f.known all (can_choice can))
       (λ m l g n. let k = f.lays m l (grows_trans grown g) n in
       (es ∙ ap (λ o. rounded o laid.align) k.0 ∙ rounded_fits (variants_end l vs) laid.align f.positive ∙ ap (λ x. fits (up (variants_end l vs) x)) k.1, k.1))
       (λ m g w z e pos. let q = split z e in
@@ -162,7 +163,7 @@ pub compiled_array : {names : List Known} {done : ℕ} {v w : Waits} {a b c : Li
     → n < 18446744073709551616 → size ≡ times here.size n → (free ≡ true → here.job ≡ Free) → IsMade b c size here.align free (Array n element) j → Compiled names done (array n X) v w a c j
 compiled_array {done = done} {X = X} {n = n} {here = here} {free = free} f at few es job p =
     let grown = pushed_grows p.pushed in
-    compiled_made f.adds (array n X) p (ap (λ n. n + 1) f.gives_count) (omega (arith, f.waits_few))
+    compiled_made f.adds (array n X) p (ap (λ n. n + 1) f.gives_count) (omega (arith, f.waits_few)) (λ all can. f.known all (can_array can))
     (λ m l g k. let q = element_sized f at m l (grows_trans grown g) k in (es ∙ ap (λ o. times o n) q.0 ∙ times_fits (size_of l X) n, q.1))
     (λ m g w z e pos. (pos, array_fits f at m (grows_trans grown g) here.size n z refl few (sym es ∙ e) pos))
     (λ s shapes m g t given k z e h. element_free f at (grows_trans grown g) t given k here.size free n z refl (sym es ∙ e) job h)
@@ -175,6 +176,7 @@ compiled_name {names = names} {name = name} {v = v} {a = a} {j = j} le e h = rec
   gives_count = refl;
   adds = adds_refl names v a;
   waits_few = omega arith;
+  known = λ all can. all;
   below = omega (arith, le, h);
   root = inl (name, refl, e);
   lays = λ m l g k. k name j e h;

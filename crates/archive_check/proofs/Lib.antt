@@ -65,6 +65,7 @@ pub mod KeptPositions
 pub mod SubtreeSteps
 pub mod Fitting
 pub mod GoingOn
+pub mod Compilable
 pub mod Adding
 pub mod FreeWalks
 pub mod Compiled
@@ -79,3 +80,4 @@ pub mod Suiting
 pub mod ClosedAgain
 pub mod Skipping
 pub mod Passing
+pub mod PlansInOrder

@@ -15,12 +15,13 @@ use Rattle.archive_check.specs.Represents.{Stands, stands, stands_named, Sized, 
 use Rattle.archive_check.specs.Fitting.{fits}
 use Rattle.archive_check.specs.Growing.{node_of, Lists, no_lists, lists_of, lists_in, Grows}
 use Rattle.archive_check.specs.Queued.{Wait, Waits, no_waits, wait_shapes, Reserved}
+use Rattle.archive_check.specs.Compilable.{Can}
 use Rattle.archive_check.specs.Compiled.{Follows, Below, Knows, Settled, Given, ClosedTo, MadeTo, Compiled}
 use Rattle.archive_check.specs.Numbered.{def_shapes, start_of, FirstAt, IsRootOf, IsNumbered}
-use Rattle.archive_check.specs.Planned.{IsOf, IsPlan, Kept, Chained, Finishes}
+use Rattle.archive_check.specs.Planned.{IsOf, IsPlan, InOrder, Kept, Chained, CanFinish, Finishes}
 use Rattle.archive_check.proofs.GoingOn.{same_get, same_goes, some_at, at_more, at_behind, at_end, goes_longer, grows_trans}
 use Rattle.archive_check.proofs.Adding.{given_first, given_second, stands_of}
-use Rattle.archive_check.proofs.Numbered.{def_at, def_count, start_next, start_later, start_prefix, start_behind, first_at, definition_is}
+use Rattle.archive_check.proofs.Numbered.{def_at, def_count, can_chain, can_root, all_before, start_next, start_later, start_prefix, start_behind, first_at, definition_is}
 use Rattle.archive_check.proofs.Chained.{root_same, compiled_same, chained_next}
 
 layout_sized : {m : Checker} {j : ℕ} (l : Layouts) (name : Name) (X : Shape) → l name ≡ layout l X → Sized m j (size_of l X) (align_of l X) → Sized m j (l name).size (l name).align
@@ -238,3 +239,17 @@ all_planned {defs = defs} {base = base} X plan num chain base_is root rest =
     let front = chained_next chain root in
     let starts = ap (start_of (def_shapes defs)) (def_count defs) in
     planned X plan num (rest.chained (def_shapes defs ++ X ∷ []) base front) base_is root (omega (arith, chain.adds.count, chain.gives_count, starts)) rest.grows
+
+-- where the definitions are in order, the root can be compiled behind them, and then all that waits
+module _ {names : List Known} {defs : List Def} {base : ℕ} {v : Waits} {b : Lists} {X : Shape} (num : IsNumbered defs names (length defs)) (chain : Chained names (def_shapes defs) base v b) (o : InOrder defs X) where
+  root_begins : length b.nodes ≡ start_of (def_shapes defs) (length defs)
+  root_begins = let starts = ap (start_of (def_shapes defs)) (def_count defs) in omega (arith, chain.adds.count, chain.gives_count, starts)
+
+  pub root_can : {done : ℕ} → done ≡ length b.nodes → Can names done X
+  root_can e = subst (λ n. Can names n X) (sym (e ∙ root_begins)) (can_root num o)
+
+  pub finish_can : {u : Waits} {c : Lists} {j : ℕ} → Compiled names (length b.nodes) X v u b c j → CanFinish names u c
+  finish_can root = record {
+    known = root.known (chain.all_known (can_chain num o.definitions)) (root_can refl);
+    below = λ name j e. omega (arith, all_before num name j e, root_begins, goes_longer root.adds.grows.nodes);
+  }

@@ -23,6 +23,7 @@ use Rattle.archive_check.specs.Counts.{count_of, counts_of, variant_counts_of}
 use Rattle.archive_check.proofs.Fitting.{fits_some, some_is, rounded_fits, rounded_some, sum_fits, sum_some, greater_fits, greater_some}
 use Rattle.archive_check.proofs.GoingOn.{at_more, at_less, at_last, at_end, same_at, goes_longer, grows_refl, grows_trans, extended_grows, part_at, part_of, span_at, span_of}
 use Rattle.archive_check.proofs.Adding.{given_first, given_second, settled_less, knows_settled, adds_refl, adds_trans, adds_same, stands_of}
+use Rattle.archive_check.proofs.Compilable.{can_first, can_later, can_variant, can_others}
 use Rattle.archive_check.proofs.Compiled.{fits_wider, span_within, span_wider}
 
 align_positive : (l : Layouts) (ps : Parts) → 0 < parts_align l ps
@@ -44,6 +45,8 @@ row_start {names = names} start {v = v} {a = a} ps row end align free few none e
   gives = [];
   adds = adds_refl names v a;
   waits_few = omega arith;
+  known = λ all can. all;
+  can_rest = λ can. can;
   left = omega arith;
   positive = omega arith;
   row_fits = λ m g e q k x at. absurd (let at_none : IsAt [] k x = subst (λ r. IsAt r k x) none at in omega (arith, at_none.below));
@@ -135,6 +138,8 @@ module _ {names : List Known} {done start : ℕ} {all rest : Parts} {v w u : Wai
     gives = r.gives ++ f.gives;
     adds = adds_trans r.adds f.adds;
     waits_few = omega (arith, r.waits_few, f.waits_few);
+    known = λ all can. f.known (r.known all can) (can_first (r.can_rest can));
+    can_rest = λ can. can_later (r.can_rest can);
     left = omega (arith, r.left, f.gives_count, length-append r.gives f.gives);
     positive = omega (arith, r.positive, p.align_is);
     row_fits = next_fits;
@@ -163,6 +168,7 @@ module _ {names : List Known} {done start : ℕ} {all : Parts} {v w : Waits} {a 
         gives_count = omega (arith, r.left);
         adds = adds_same r.adds grown p.extended.nodes_are;
         waits_few = omega (arith, r.waits_few);
+        known = r.known;
         positive = omega (arith, r.positive, p.align_is);
         last = omega (arith, p.last_is);
         few = p.few;
@@ -178,6 +184,8 @@ spans_start {names = names} {v = v} {a = a} vs row end align none e one = record
   gives = [];
   adds = adds_refl names v a;
   waits_few = omega arith;
+  known = λ all can. all;
+  can_rest = λ can. can;
   left = omega arith;
   positive = omega arith;
   tag = λ z ez. let same : 1 ≡ z = cc in omega (arith, same);
@@ -233,6 +241,8 @@ module _ {names : List Known} {done : ℕ} {all rest : Variants} {v w u : Waits}
     gives = r.gives ++ f.gives;
     adds = adds_trans r.adds f.adds;
     waits_few = omega (arith, r.waits_few, f.waits_few);
+    known = λ all can. f.known (r.known all can) (can_variant (r.can_rest can));
+    can_rest = λ can. can_others (r.can_rest can);
     left = omega (arith, r.left, f.gives_count, length-append r.gives f.gives);
     positive = omega (arith, r.positive, p.align_is);
     tag = λ e q. let s = spans_split e q in omega (arith, r.tag s.0 s.2, s.4);
@@ -262,6 +272,7 @@ module _ {names : List Known} {done : ℕ} {all : Variants} {v w : Waits} {a c d
         gives_count = omega (arith, r.left);
         adds = adds_same r.adds grown p.extended.nodes_are;
         waits_few = omega (arith, r.waits_few);
+        known = r.known;
         positive = omega (arith, r.positive, p.align_is);
         last = omega (arith, p.last_is);
         few = p.few;

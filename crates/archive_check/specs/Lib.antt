@@ -42,6 +42,7 @@ pub mod Fitting
 pub mod Growing
 pub mod Counts
 pub mod Queued
+pub mod Compilable
 pub mod Compiled
 pub mod Numbered
 pub mod Planned

@@ -1,16 +1,17 @@
 //! Plans that grow: everything is added behind what there is, and nothing is changed.
 
-ghost use Rattle.std.specs.Prelude.{◌≡◌, ◌≢◌, ◌⊎◌, ◌<◌, ◌≤◌, ℕ, true, IfOk, OnOk, length, [], Some, None};
+ghost use Rattle.std.specs.Prelude.{◌≡◌, ◌≢◌, ◌⊎◌, ◌<◌, ◌≤◌, ℕ, true, IfOk, IfErr, OnOk, length, [], Some, None};
 ghost use Rattle.archive_check.specs.Layout.{kind_size, kind_align};
 ghost use Rattle.archive_check.specs.Expressions.{kind_of};
 ghost use Rattle.archive_check.specs.Plain.{is_plain_kind};
 ghost use Rattle.archive_check.specs.Growing.{node_of, lists_of, no_lists, IsPushed, IsSorted, Unless, IsMade, IsPlaced, IsListed, PartsLaid, SpansLaid};
 ghost use Rattle.archive_check.specs.declared.plan.Job.TheVariants.{Free};
+ghost use Rattle.archive_check.specs.declared.error.Error.TheVariants.{OutOfMemory};
 
 use crate::error::Error;
 use crate::expr::{FlavorInfo, Kind, Pointee};
-use crate::extents::{end_of, greater, is_plain, leaf_size, offset_of};
 use crate::plan::{Job, Node, Part, Plan, Sort, Span};
+use crate::extents::{end_of, greater, is_plain, leaf_size, offset_of};
 use std::alloc::Global;
 
 /// A name, and the node that its definition is or will be.
@@ -93,7 +94,8 @@ pub fn find(names: &[Known], name: &str) -> Option<usize>
 /// One node more.
 pub fn push(plan: &mut Plan, size: Option<usize>, align: usize, job: Job) -> Result<usize, Error>
     requires { 0 < align }
-    ensures { IfOk result (λ j. IsPushed (lists_of plan.old) (lists_of plan.new) size align job j) }
+    ensures ok { IfOk result (λ j. IsPushed (lists_of plan.old) (lists_of plan.new) size align job j) }
+    ensures err { IfErr result (λ e. e ≡ OutOfMemory) }
 {
     let node = plan.nodes.len();
     plan.nodes.push(Node { size, align, job })?;
@@ -102,7 +104,8 @@ pub fn push(plan: &mut Plan, size: Option<usize>, align: usize, job: Job) -> Res
 
 /// One sort more.
 pub fn push_sort(plan: &mut Plan, flavor: FlavorInfo, pointee: Pointee) -> Result<usize, Error>
-    ensures { IfOk result (λ k. IsSorted (lists_of plan.old) (lists_of plan.new) (record { flavor = flavor; pointee = pointee }) k) }
+    ensures ok { IfOk result (λ k. IsSorted (lists_of plan.old) (lists_of plan.new) (record { flavor = flavor; pointee = pointee }) k) }
+    ensures err { IfErr result (λ e. e ≡ OutOfMemory) }
 {
     let sort = plan.sorts.len();
     plan.sorts.push(Sort { flavor, pointee })?;
@@ -128,7 +131,8 @@ pub fn push_laid(
     job: Job,
 ) -> Result<usize, Error>
     requires { 0 < align }
-    ensures { IfOk result (λ j. IsMade (lists_of plan.old) (lists_of plan.new) size align free job j) }
+    ensures ok { IfOk result (λ j. IsMade (lists_of plan.old) (lists_of plan.new) size align free job j) }
+    ensures err { IfErr result (λ e. e ≡ OutOfMemory) }
 {
     let made = unless_free(free, size, job);
     push(plan, size, align, made)
@@ -136,7 +140,8 @@ pub fn push_laid(
 
 /// A leaf's node.
 pub fn push_leaf(plan: &mut Plan, kind: Kind) -> Result<usize, Error>
-    ensures { IfOk result (λ j. IsMade (lists_of plan.old) (lists_of plan.new) (Some (kind_size (kind_of kind))) (kind_align (kind_of kind)) (is_plain_kind (kind_of kind)) (Job.Leaf kind) j) }
+    ensures ok { IfOk result (λ j. IsMade (lists_of plan.old) (lists_of plan.new) (Some (kind_size (kind_of kind))) (kind_align (kind_of kind)) (is_plain_kind (kind_of kind)) (Job.Leaf kind) j) }
+    ensures err { IfErr result (λ e. e ≡ OutOfMemory) }
 {
     let size = leaf_size(kind);
     push_laid(
@@ -172,7 +177,8 @@ impl Row {
 
     /// One part more, which is a node.
     pub fn place(&mut self, node: usize, here: Node) -> Result<(), Error>
-        ensures { OnOk result (IsPlaced node here self.old self.new) }
+        ensures ok { OnOk result (IsPlaced node here self.old self.new) }
+        ensures err { IfErr result (λ e. e ≡ OutOfMemory) }
     {
         let offset = offset_of(self.end, here.align);
         self.parts.push(Part {
@@ -202,7 +208,8 @@ impl Spans {
 
     /// One variant more.
     pub fn list(&mut self, laid: Laid) -> Result<(), Error>
-        ensures { OnOk result (IsListed laid self.old self.new) }
+        ensures ok { OnOk result (IsListed laid self.old self.new) }
+        ensures err { IfErr result (λ e. e ≡ OutOfMemory) }
     {
         self.items.push(Span {
             first: laid.first,
@@ -216,7 +223,8 @@ impl Spans {
 
 /// The parts of a row, behind those of a plan.
 pub fn extend_parts(plan: &mut Plan, row: &Row) -> Result<Laid, Error>
-    ensures { IfOk result (λ laid. PartsLaid (lists_of plan.old) (lists_of plan.new) row.now laid) }
+    ensures ok { IfOk result (λ laid. PartsLaid (lists_of plan.old) (lists_of plan.new) row.now laid) }
+    ensures err { IfErr result (λ e. e ≡ OutOfMemory) }
 {
     let first = plan.parts.len();
     plan.parts.extend_from_slice(&row.parts)?;
@@ -231,7 +239,8 @@ pub fn extend_parts(plan: &mut Plan, row: &Row) -> Result<Laid, Error>
 
 /// Variants, behind those of a plan.
 pub fn extend_variants(plan: &mut Plan, spans: &Spans) -> Result<Laid, Error>
-    ensures { IfOk result (λ laid. SpansLaid (lists_of plan.old) (lists_of plan.new) spans.now laid) }
+    ensures ok { IfOk result (λ laid. SpansLaid (lists_of plan.old) (lists_of plan.new) spans.now laid) }
+    ensures err { IfErr result (λ e. e ≡ OutOfMemory) }
 {
     let first = plan.variants.len();
     plan.variants.extend_from_slice(&spans.items)?;
