@@ -77,4 +77,5 @@ pub mod Waiting
 pub mod Chained
 pub mod Planned
 pub mod Suiting
+pub mod ExtentsOf
 pub mod ClosedAgain

@@ -1,5 +1,5 @@
 -- Names with their nodes, and definitions.
-use Rattle.std.proofs.Common.{◌≡◌, ◌≢◌, ◌⊎◌, inl, inr, ⊎_elim, ℕ, zero, suc, refl, sym, ap, ◌∙◌, subst, ◌+◌, ◌-◌, ◌<◌, ◌≤◌, arith, List, [], ◌∷◌, ◌++◌, length, Bool, true, false, cond, bytes_eq, Option, Some, None, length-append, Bor}
+use Rattle.std.proofs.Common.{◌≡◌, ◌≢◌, ◌⊎◌, inl, inr, ⊎_elim, ℕ, zero, suc, refl, sym, ap, ◌∙◌, subst, ◌+◌, ◌-◌, ◌<◌, ◌≤◌, arith, List, [], ◌∷◌, ◌++◌, length, Bool, true, false, cond, bytes_eq, Option, Some, None, length-append, Bor, is_some}
 use Rattle.archive_check.specs.declared.defs.Def.{Def}
 use Rattle.archive_check.specs.declared.growing.Known.{Known}
 use Rattle.archive_check.specs.Shape.{Name, Shape, named, definition}
@@ -137,3 +137,19 @@ numbered_next {defs} {names} {new} {i} {start} {d} k r es at en root e =
           (subst (λ (z : Def). IsRootOf names p (start_of (def_shapes defs) p) (shape_of z.expr) y.node) (sym same) (subst (λ (z : Known). IsRootOf names p (start_of (def_shapes defs) p) (shape_of d.expr) z.node) (sym q.1) here_root)))
           (at_last names k y p g);
     })
+
+-- the names are those that are defined
+pub numbered_known : (ds : List Def) (names : List Known) → length names ≡ length ds → ((i : ℕ) (d : Def) (k : Known) → IsAt ds i d → IsAt names i k → k.name.now ≡ d.name.now)
+    → (name : Name) → is_some (node_of names name) ≡ is_some (definition (entries_of ds) name)
+numbered_known [] [] e same name = refl
+numbered_known [] (k ∷ ks) e same name = absurd (omega (arith, e))
+numbered_known (d ∷ ds) [] e same name = absurd (omega (arith, e))
+numbered_known (d ∷ ds) (k ∷ ks) e same name =
+    let here = same 0 d k (record { below = omega arith; is = refl }) (record { below = omega arith; is = refl }) in
+    let rest = numbered_known ds ks (omega (arith, e)) (λ i y l h g. same (suc i) y l (at_cons d h) (at_cons k g)) name in
+    ap (λ n. is_some (cond (bytes_eq n name) (Some k.node) (node_of ks name))) here ∙ either (bytes_eq d.name.now name) rest
+  where
+    either : (b : Bool) → is_some (node_of ks name) ≡ is_some (definition (entries_of ds) name)
+        → is_some (cond b (Some k.node) (node_of ks name)) ≡ is_some (cond b (Some (shape_of d.expr)) (definition (entries_of ds) name))
+    either true r = refl
+    either false r = r

@@ -25,15 +25,15 @@ use Rattle.archive_check.proofs.GoingOn.{at_more, at_less, at_last, at_end, same
 use Rattle.archive_check.proofs.Adding.{given_first, given_second, settled_less, knows_settled, adds_refl, adds_trans, adds_same, stands_of}
 use Rattle.archive_check.proofs.Compiled.{fits_wider, span_within, span_wider}
 
-align_positive : (l : Layouts) (ps : Parts) → 0 < parts_align l ps
+pub align_positive : (l : Layouts) (ps : Parts) → 0 < parts_align l ps
 align_positive l no_part = omega arith
 align_positive l (part X ps) = omega (arith, align_positive l ps)
 
-variants_positive : (l : Layouts) (vs : Variants) → 0 < variants_align l vs
+pub variants_positive : (l : Layouts) (vs : Variants) → 0 < variants_align l vs
 variants_positive l no_variant = omega arith
 variants_positive l (variant ps vs) = omega (arith, variants_positive l vs)
 
-ends_positive : (l : Layouts) (vs : Variants) → 0 < variants_end l vs
+pub ends_positive : (l : Layouts) (vs : Variants) → 0 < variants_end l vs
 ends_positive l no_variant = omega arith
 ends_positive l (variant ps vs) = omega (arith, ends_positive l vs)
 

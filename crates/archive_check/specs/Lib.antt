@@ -31,6 +31,7 @@ pub mod Kept
 pub mod InSubtree
 pub mod Told
 pub mod Schemas
+pub mod Extents
 pub mod Names
 pub mod Sizes
 pub mod Faults

@@ -1,16 +1,18 @@
 -- Plans of an expression and the definitions of its names.
-use Rattle.std.specs.Prelude.{◌≡◌, ℕ, ◌<◌, List, [], ◌++◌, length, take}
+use Rattle.std.specs.Prelude.{◌≡◌, ℕ, ◌<◌, List, [], ◌++◌, length, take, Some, is_some}
 use Rattle.archive_check.specs.declared.defs.Def.{Def}
 use Rattle.archive_check.specs.declared.plan.Plan.{Plan}
 use Rattle.archive_check.specs.declared.plan.Checker.{Checker}
 use Rattle.archive_check.specs.declared.growing.Known.{Known}
-use Rattle.archive_check.specs.Shape.{Shape}
+use Rattle.archive_check.specs.declared.plan.Node.{Node}
+use Rattle.archive_check.specs.Shape.{Name, Shape, definition}
 use Rattle.archive_check.specs.Expressions.{entries_of}
 use Rattle.archive_check.specs.Reads.{Schema, LaidOut}
 use Rattle.archive_check.specs.Runs.{IsAt}
 use Rattle.archive_check.specs.Closed.{IsClosed}
 use Rattle.archive_check.specs.Exact.{PlanOf}
-use Rattle.archive_check.specs.Growing.{Lists, no_lists, Goes, Grows}
+use Rattle.archive_check.specs.Fitting.{fits}
+use Rattle.archive_check.specs.Growing.{node_of, Lists, no_lists, Goes, Grows}
 use Rattle.archive_check.specs.Queued.{Waits, no_waits, wait_shapes}
 use Rattle.archive_check.specs.Compiled.{Given, Adds, Compiled}
 use Rattle.archive_check.specs.Numbered.{start_of}
@@ -27,6 +29,13 @@ pub record IsPlan (defs : List Def) (X : Shape) (plan : Plan) (j : ℕ) : Type 0
   pub below : j < length plan.nodes.items
   pub closed : (m : Checker) → IsOf m plan → IsClosed m
   pub plan_of : (m : Checker) (s : Schema) → IsOf m plan → s.table ≡ entries_of defs → LaidOut s → PlanOf m j s X
+
+-- The names that are defined have nodes in the plan. Under each schema of these definitions whose layouts solve it, those have the names' layouts.
+pub record HasNames (defs : List Def) (names : List Known) (plan : Plan) : Type 0 where
+  pub known : (name : Name) → is_some (node_of names name) ≡ is_some (definition (entries_of defs) name)
+  pub there : (name : Name) (j : ℕ) → node_of names name ≡ Some j → j < length plan.nodes.items
+  pub sizes : (s : Schema) → s.table ≡ entries_of defs → LaidOut s → (name : Name) (j : ℕ) (node : Node) → node_of names name ≡ Some j → IsAt plan.nodes.items j node → node.size ≡ fits (s.layouts name).size
+  pub aligns : (s : Schema) → s.table ≡ entries_of defs → LaidOut s → (name : Name) (j : ℕ) (node : Node) → node_of names name ≡ Some j → IsAt plan.nodes.items j node → node.align ≡ (s.layouts name).align
 
 -- X was compiled from the node `start` on, on the way to the plan
 pub record Kept (names : List Known) (X : Shape) (start : ℕ) (w : Waits) (b : Lists) (gives : List Shape) : Type 0 where

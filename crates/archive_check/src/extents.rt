@@ -161,10 +161,14 @@ impl Extent {
         self.align = self.align.max(align);
     }
 
-    /// The size of it all: the end, at the next multiple of the alignment.
-    pub fn size(self) -> Option<usize>
-        ensures { result ≡ rounded self.end self.align }
+    /// All of it: the end at the next multiple of the alignment.
+    pub fn whole(self) -> Extent
+        ensures end { result.end ≡ rounded self.end self.align }
+        ensures align { result.align ≡ self.align }
     {
-        offset_of(self.end, self.align)
+        Extent {
+            end: offset_of(self.end, self.align),
+            align: self.align,
+        }
     }
 }

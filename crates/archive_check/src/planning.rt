@@ -7,7 +7,7 @@ ghost use Rattle.archive_check.specs.Expressions.{shape_of};
 ghost use Rattle.archive_check.specs.Growing.{lists_of};
 ghost use Rattle.archive_check.specs.Queued.{waits_of, wait_shapes};
 ghost use Rattle.archive_check.specs.Numbered.{def_shapes};
-ghost use Rattle.archive_check.specs.Planned.{IsPlan, Chained, Finishes};
+ghost use Rattle.archive_check.specs.Planned.{IsPlan, HasNames, Chained, Finishes};
 
 use crate::compile::compile;
 use crate::counting::{add, count, number};
@@ -57,11 +57,16 @@ fn compile_waiting<'e>(
 }
 
 impl Plan {
-    /// The plan of an expression and the definitions of all names that it reaches, and the expression's node. Each definition holds only names
+    /// The plan of an expression and the definitions of all names that it reaches, the expression's node, and those of the names. Each definition holds only names
     /// that are defined before it, but for those behind pointers. Memory comes from `alloc`. Refused with 1 where memory is refused, with 30
     /// where a name has no definition, and with 31 where one is held that isn't defined before.
-    pub fn of<'e>(alloc: Global, defs: &'e [Def], root: &'e Expr) -> Result<(Plan, usize), Error>
-        ensures { IfOk result (λ r. IsPlan defs.now (shape_of root.now) r.0 r.1) }
+    pub fn of<'e>(
+        alloc: Global,
+        defs: &'e [Def],
+        root: &'e Expr,
+    ) -> Result<(Plan, usize, Vec<Known>), Error>
+        ensures planned { IfOk result (λ r. IsPlan defs.now (shape_of root.now) r.0 r.1) }
+        ensures names { IfOk result (λ r. HasNames defs.now r.2.items r.0) }
     {
         let (names, start) = number(alloc, defs)?;
         let more = count(root)?;
@@ -70,6 +75,6 @@ impl Plan {
         let done = plan.nodes.len();
         let node = compile(alloc, &names, done, root, &mut plan, &mut queue)?;
         compile_waiting(alloc, &names, &mut plan, &mut queue)?;
-        Ok((plan, node))
+        Ok((plan, node, names))
     }
 }
