@@ -77,6 +77,7 @@ pub mod Waiting
 pub mod Chained
 pub mod Planned
 pub mod Suiting
+pub mod ExtentsOf
 pub mod ClosedAgain
 pub mod Skipping
 pub mod Passing

@@ -224,3 +224,19 @@ module _ {names : List Known} {defs : List Def} (num : IsNumbered defs names (le
     known = λ name m. named_found defs names name num.name_is (omega (arith, num.count)) (o.root name m);
     placed = λ name j h e. all_before name j e;
   }
+
+-- the names are those that are defined
+pub numbered_known : (ds : List Def) (names : List Known) → length names ≡ length ds → ((i : ℕ) (d : Def) (k : Known) → IsAt ds i d → IsAt names i k → k.name.now ≡ d.name.now)
+    → (name : Name) → is_some (node_of names name) ≡ is_some (definition (entries_of ds) name)
+numbered_known [] [] e same name = refl
+numbered_known [] (k ∷ ks) e same name = absurd (omega (arith, e))
+numbered_known (d ∷ ds) [] e same name = absurd (omega (arith, e))
+numbered_known (d ∷ ds) (k ∷ ks) e same name =
+    let here = same 0 d k (record { below = omega arith; is = refl }) (record { below = omega arith; is = refl }) in
+    let rest = numbered_known ds ks (omega (arith, e)) (λ i y l h g. same (suc i) y l (at_cons d h) (at_cons k g)) name in
+    ap (λ n. is_some (cond (bytes_eq n name) (Some k.node) (node_of ks name))) here ∙ either (bytes_eq d.name.now name) rest
+  where
+    either : (b : Bool) → is_some (node_of ks name) ≡ is_some (definition (entries_of ds) name)
+        → is_some (cond b (Some k.node) (node_of ks name)) ≡ is_some (cond b (Some (shape_of d.expr)) (definition (entries_of ds) name))
+    either true r = refl
+    either false r = r

@@ -26,15 +26,15 @@ use Rattle.archive_check.proofs.Adding.{given_first, given_second, settled_less,
 use Rattle.archive_check.proofs.Compilable.{can_first, can_later, can_variant, can_others}
 use Rattle.archive_check.proofs.Compiled.{fits_wider, span_within, span_wider}
 
-align_positive : (l : Layouts) (ps : Parts) → 0 < parts_align l ps
+pub align_positive : (l : Layouts) (ps : Parts) → 0 < parts_align l ps
 align_positive l no_part = omega arith
 align_positive l (part X ps) = omega (arith, align_positive l ps)
 
-variants_positive : (l : Layouts) (vs : Variants) → 0 < variants_align l vs
+pub variants_positive : (l : Layouts) (vs : Variants) → 0 < variants_align l vs
 variants_positive l no_variant = omega arith
 variants_positive l (variant ps vs) = omega (arith, variants_positive l vs)
 
-ends_positive : (l : Layouts) (vs : Variants) → 0 < variants_end l vs
+pub ends_positive : (l : Layouts) (vs : Variants) → 0 < variants_end l vs
 ends_positive l no_variant = omega arith
 ends_positive l (variant ps vs) = omega (arith, ends_positive l vs)
 
@@ -59,15 +59,15 @@ row_start {names = names} start {v = v} {a = a} ps row end align free few none e
 }
 
 module _ {names : List Known} {done start : ℕ} {all rest : Parts} {v w u : Waits} {a b c : Lists} {X : Shape} {row next : Row} {node : ℕ} {here : Node}
-    (r : RowIs names done start all (part X rest) v w a b row.parts.items row.end row.align row.free) (f : Compiled names done X w u b c node) (at : IsAt c.nodes node here) (p : IsPlaced node here row next) where
+    (r : RowIs names done start all (part X rest) v w a b row.parts.items row.extent.end row.extent.align row.free) (f : Compiled names done X w u b c node) (at : IsAt c.nodes node here) (p : IsPlaced node here row next) where
   longer : length next.parts.items ≡ length row.parts.items + 1
   longer = ap length p.parts_are ∙ length-append row.parts.items (p.last ∷ [])
 
   -- where the part begins, and how far the parts before it reach
-  next_split : (e : ℕ) → next.end ≡ Some e → (o : ℕ) × (y : ℕ) × (w : ℕ) × (p.offset ≡ Some o) × (here.size ≡ Some y) × (o + y ≡ e) × (row.end ≡ Some w) × (w ≤ o) × (o ≡ up w here.align) × (p.last.offset ≡ o)
+  next_split : (e : ℕ) → next.extent.end ≡ Some e → (o : ℕ) × (y : ℕ) × (w : ℕ) × (p.offset ≡ Some o) × (here.size ≡ Some y) × (o + y ≡ e) × (row.extent.end ≡ Some w) × (w ≤ o) × (o ≡ up w here.align) × (p.last.offset ≡ o)
   next_split e q =
       let s = sum_some p.offset here.size e (sym p.end_is ∙ q) in
-      let old = rounded_some row.end here.align s.0 here.positive (sym p.offset_is ∙ s.2) in
+      let old = rounded_some row.extent.end here.align s.0 here.positive (sym p.offset_is ∙ s.2) in
       (s.0, s.1, old.0, s.2, s.3, s.4, old.1, old.2, old.3, p.begins s.0 s.2)
 
   here_sized : (m : Checker) (l : Layouts) → Follows c m → Knows names l done m → (here.size ≡ fits (size_of l X)) × (here.align ≡ align_of l X)
@@ -79,7 +79,7 @@ module _ {names : List Known} {done start : ℕ} {all rest : Parts} {v w u : Wai
       let i : IsAt (row.parts.items ++ p.last ∷ []) k x = subst (λ t. IsAt t k x) p.parts_are h in
       ⊎_elim (λ lt. inl (at_less (record { more = p.last ∷ []; is = refl }) lt i)) (λ q. inr q.1) (at_last row.parts.items p.last x k i)
 
-  next_fits : (m : Checker) → Follows c m → (e : ℕ) → next.end ≡ Some e → (k : ℕ) (x : PlanPart) → IsAt next.parts.items k x → PartFits m (length c.nodes) e x
+  next_fits : (m : Checker) → Follows c m → (e : ℕ) → next.extent.end ≡ Some e → (k : ℕ) (x : PlanPart) → IsAt next.parts.items k x → PartFits m (length c.nodes) e x
   next_fits m g e q k x h =
       let s = next_split e q in
       ⊎_elim
@@ -97,7 +97,7 @@ module _ {names : List Known} {done start : ℕ} {all rest : Parts} {v w u : Wai
       (row_cases k x i)
 
   next_lays : (m : Checker) (l : Layouts) → Follows c m → Knows names l done m
-      → ((at : ℕ) × (next.end ≡ fits at) × (parts_end l start all ≡ parts_end l at rest)) × (parts_align l all ≡ max next.align (parts_align l rest))
+      → ((at : ℕ) × (next.extent.end ≡ fits at) × (parts_end l start all ≡ parts_end l at rest)) × (parts_align l all ≡ max next.extent.align (parts_align l rest))
   next_lays m l g n =
       let before = r.lays m l (grows_trans f.adds.grows g) n in
       let q = here_sized m l g n in
@@ -111,7 +111,7 @@ module _ {names : List Known} {done start : ℕ} {all rest : Parts} {v w u : Wai
       )
 
   next_stand : (s : Schema) (shapes : ℕ → Shape) (m : Checker) → Follows c m → Settled names u.items s shapes m → Given shapes (length a.nodes) (r.gives ++ f.gives)
-      → (e : ℕ) → next.end ≡ Some e → (first last : ℕ) → ((k : ℕ) (x : PlanPart) → IsAt next.parts.items k x → IsAt m.parts.now (first + k) x) → first + length next.parts.items ≤ last
+      → (e : ℕ) → next.extent.end ≡ Some e → (first last : ℕ) → ((k : ℕ) (x : PlanPart) → IsAt next.parts.items k x → IsAt m.parts.now (first + k) x) → first + length next.parts.items ≤ last
       → PartsStand s shapes m (first + length next.parts.items) last e rest → PartsStand s shapes m first last start all
   next_stand s shapes m g t given e q first last placed room tail =
       let over = grows_trans f.adds.grows g in
@@ -133,7 +133,7 @@ module _ {names : List Known} {done start : ℕ} {all rest : Parts} {v w u : Wai
       r.stand s shapes m over (settled_less f.adds.waits_go t) (given_first f.gives given) w.2 w.6 first last old (omega (arith, less)) (parts_more less there (w.9 ∙ offset) stands takes more)
 
   -- one part more
-  pub row_next : RowIs names done start all rest v u a c next.parts.items next.end next.align next.free
+  pub row_next : RowIs names done start all rest v u a c next.parts.items next.extent.end next.extent.align next.free
   row_next = record {
     gives = r.gives ++ f.gives;
     adds = adds_trans r.adds f.adds;
@@ -148,7 +148,7 @@ module _ {names : List Known} {done start : ℕ} {all rest : Parts} {v w u : Wai
     stand = next_stand;
   }
 
-module _ {names : List Known} {done start : ℕ} {all : Parts} {v w : Waits} {a c d : Lists} {row : Row} {laid : Laid} (r : RowIs names done start all no_part v w a c row.parts.items row.end row.align row.free) (p : PartsLaid c d row laid) where
+module _ {names : List Known} {done start : ℕ} {all : Parts} {v w : Waits} {a c d : Lists} {row : Row} {laid : Laid} (r : RowIs names done start all no_part v w a c row.parts.items row.extent.end row.extent.align row.free) (p : PartsLaid c d row laid) where
   laid_length : laid.last ≡ laid.first + length row.parts.items
   laid_length = omega (arith, p.last_is, p.first_is, ap length p.extended.parts_are, length-append c.parts row.parts.items)
 
@@ -196,19 +196,19 @@ spans_start {names = names} {v = v} {a = a} vs row end align none e one = record
 }
 
 module _ {names : List Known} {done : ℕ} {all rest : Variants} {v w u : Waits} {a b c : Lists} {ps : Parts} {spans next : Spans} {laid : Laid}
-    (r : SpansAre names done all (variant ps rest) v w a b spans.items.items spans.end spans.align) (f : CompiledParts names done 1 ps w u b c laid) (p : IsListed laid spans next) where
+    (r : SpansAre names done all (variant ps rest) v w a b spans.items.items spans.extent.end spans.extent.align) (f : CompiledParts names done 1 ps w u b c laid) (p : IsListed laid spans next) where
   spans_longer : length next.items.items ≡ length spans.items.items + 1
   spans_longer = ap length p.items_are ∙ length-append spans.items.items (p.span ∷ [])
 
-  spans_split : (e : ℕ) → next.end ≡ Some e → (x : ℕ) × (y : ℕ) × (spans.end ≡ Some x) × (laid.end ≡ Some y) × (max x y ≡ e)
-  spans_split e q = greater_some spans.end laid.end e (sym p.end_is ∙ q)
+  spans_split : (e : ℕ) → next.extent.end ≡ Some e → (x : ℕ) × (y : ℕ) × (spans.extent.end ≡ Some x) × (laid.end ≡ Some y) × (max x y ≡ e)
+  spans_split e q = greater_some spans.extent.end laid.end e (sym p.end_is ∙ q)
 
   spans_cases : (k : ℕ) (x : Span) → IsAt next.items.items k x → IsAt spans.items.items k x ⊎ ((k ≡ length spans.items.items) × (x ≡ p.span))
   spans_cases k x h =
       let i : IsAt (spans.items.items ++ p.span ∷ []) k x = subst (λ t. IsAt t k x) p.items_are h in
       ⊎_elim (λ lt. inl (at_less (record { more = p.span ∷ []; is = refl }) lt i)) (λ q. inr q) (at_last spans.items.items p.span x k i)
 
-  spans_fit : (m : Checker) → Follows c m → (e : ℕ) → next.end ≡ Some e → (k : ℕ) (x : Span) → IsAt next.items.items k x → SpanFits m (length c.nodes) e x.first x.last
+  spans_fit : (m : Checker) → Follows c m → (e : ℕ) → next.extent.end ≡ Some e → (k : ℕ) (x : Span) → IsAt next.items.items k x → SpanFits m (length c.nodes) e x.first x.last
   spans_fit m g e q k x h =
       let s = spans_split e q in
       ⊎_elim
@@ -222,7 +222,7 @@ module _ {names : List Known} {done : ℕ} {all rest : Variants} {v w u : Waits}
       (spans_cases k x h)
 
   spans_stand : (s : Schema) (shapes : ℕ → Shape) (m : Checker) → Follows c m → Settled names u.items s shapes m → Given shapes (length a.nodes) (r.gives ++ f.gives)
-      → (e : ℕ) → next.end ≡ Some e → (k : ℕ) (x : Span) → IsAt next.items.items k x → IsVariant s shapes m all k x
+      → (e : ℕ) → next.extent.end ≡ Some e → (k : ℕ) (x : Span) → IsAt next.items.items k x → IsVariant s shapes m all k x
   spans_stand s shapes m g t given e q k x h =
       let w = spans_split e q in
       ⊎_elim
@@ -236,7 +236,7 @@ module _ {names : List Known} {done : ℕ} {all rest : Variants} {v w u : Waits}
       (spans_cases k x h)
 
   -- one variant more
-  pub spans_next : SpansAre names done all rest v u a c next.items.items next.end next.align
+  pub spans_next : SpansAre names done all rest v u a c next.items.items next.extent.end next.extent.align
   spans_next = record {
     gives = r.gives ++ f.gives;
     adds = adds_trans r.adds f.adds;
@@ -255,7 +255,7 @@ module _ {names : List Known} {done : ℕ} {all rest : Variants} {v w u : Waits}
     others = λ k. let i : length next.items.items + k ≡ length spans.items.items + suc k = omega (arith, spans_longer) in ap (variant_at all) i ∙ r.others (suc k);
   }
 
-module _ {names : List Known} {done : ℕ} {all : Variants} {v w : Waits} {a c d : Lists} {spans : Spans} {laid : Laid} (r : SpansAre names done all no_variant v w a c spans.items.items spans.end spans.align) (p : SpansLaid c d spans laid) where
+module _ {names : List Known} {done : ℕ} {all : Variants} {v w : Waits} {a c d : Lists} {spans : Spans} {laid : Laid} (r : SpansAre names done all no_variant v w a c spans.items.items spans.extent.end spans.extent.align) (p : SpansLaid c d spans laid) where
   spans_length : laid.last ≡ laid.first + length spans.items.items
   spans_length = omega (arith, p.last_is, p.first_is, ap length p.extended.variants_are, length-append c.variants spans.items.items)
 

@@ -31,6 +31,7 @@ pub mod InSubtree
 pub mod Validators
 pub mod Told
 pub mod Schemas
+pub mod Extents
 pub mod Names
 pub mod Sizes
 pub mod Runs

@@ -1,9 +1,10 @@
 -- Plans of an expression and the definitions of its names.
-use Rattle.std.specs.Prelude.{◌≡◌, ℕ, ◌<◌, List, [], ◌++◌, length, take, Some, IsSome}
+use Rattle.std.specs.Prelude.{◌≡◌, ℕ, ◌<◌, List, [], ◌++◌, length, take, Some, IsSome, is_some}
 use Rattle.archive_check.specs.declared.defs.Def.{Def}
 use Rattle.archive_check.specs.declared.plan.Plan.{Plan}
 use Rattle.archive_check.specs.declared.plan.Checker.{Checker}
 use Rattle.archive_check.specs.declared.growing.Known.{Known}
+use Rattle.archive_check.specs.declared.plan.Node.{Node}
 use Rattle.archive_check.specs.Shape.{Name, Shape, definition}
 use Rattle.archive_check.specs.Expressions.{shape_of, entries_of}
 use Rattle.archive_check.specs.Defined.{Holds, Mentions}
@@ -11,6 +12,7 @@ use Rattle.archive_check.specs.Reads.{Schema, LaidOut}
 use Rattle.archive_check.specs.Runs.{IsAt}
 use Rattle.archive_check.specs.Closed.{IsClosed}
 use Rattle.archive_check.specs.Exact.{PlanOf}
+use Rattle.archive_check.specs.Fitting.{fits}
 use Rattle.archive_check.specs.Growing.{node_of, Lists, no_lists, Goes, Grows}
 use Rattle.archive_check.specs.Queued.{Waits, no_waits, wait_shapes}
 use Rattle.archive_check.specs.Compilable.{Can, AllKnown}
@@ -48,6 +50,13 @@ CanChain names Xs = (i : ℕ) (X : Shape) → IsAt Xs i X → Can names (start_o
 pub record CanFinish (names : List Known) (w : Waits) (b : Lists) : Type 0 where
   pub known : AllKnown names w.items
   pub below : (name : Name) (j : ℕ) → node_of names name ≡ Some j → j < length b.nodes
+
+-- The names that are defined have nodes in the plan. Under each schema of these definitions whose layouts solve it, those have the names' layouts.
+pub record HasNames (defs : List Def) (names : List Known) (plan : Plan) : Type 0 where
+  pub known : (name : Name) → is_some (node_of names name) ≡ is_some (definition (entries_of defs) name)
+  pub there : (name : Name) (j : ℕ) → node_of names name ≡ Some j → j < length plan.nodes.items
+  pub sizes : (s : Schema) → s.table ≡ entries_of defs → LaidOut s → (name : Name) (j : ℕ) (node : Node) → node_of names name ≡ Some j → IsAt plan.nodes.items j node → node.size ≡ fits (s.layouts name).size
+  pub aligns : (s : Schema) → s.table ≡ entries_of defs → LaidOut s → (name : Name) (j : ℕ) (node : Node) → node_of names name ≡ Some j → IsAt plan.nodes.items j node → node.align ≡ (s.layouts name).align
 
 -- X was compiled from the node `start` on, on the way to the plan
 pub record Kept (names : List Known) (X : Shape) (start : ℕ) (w : Waits) (b : Lists) (gives : List Shape) : Type 0 where

@@ -10,8 +10,8 @@ ghost use Rattle.archive_check.specs.declared.error.Error.TheVariants.{OutOfMemo
 
 use crate::error::Error;
 use crate::expr::{FlavorInfo, Kind, Pointee};
+use crate::extents::{Extent, is_plain, leaf_size};
 use crate::plan::{Job, Node, Part, Plan, Sort, Span};
-use crate::extents::{end_of, greater, is_plain, leaf_size, offset_of};
 use std::alloc::Global;
 
 /// A name, and the node that its definition is or will be.
@@ -28,10 +28,8 @@ pub struct Known {
 pub struct Row {
     /// The parts.
     pub parts: Vec<Part>,
-    /// Where they end.
-    pub end: Option<usize>,
-    /// The greatest alignment.
-    pub align: usize,
+    /// Where they end, and their greatest alignment.
+    pub extent: Extent,
     /// Whether each of them has nothing to check.
     pub free: bool,
 }
@@ -41,10 +39,8 @@ pub struct Row {
 pub struct Spans {
     /// Their parts.
     pub items: Vec<Span>,
-    /// Where the longest ends.
-    pub end: Option<usize>,
-    /// The greatest alignment.
-    pub align: usize,
+    /// Where the longest ends, and the greatest alignment.
+    pub extent: Extent,
 }
 
 /// Parts or variants that stand in a plan, from `first` up to `last`.
@@ -164,13 +160,12 @@ impl Row {
     /// No part, at an offset.
     pub fn new(alloc: Global, start: usize) -> Row
         ensures parts { result.parts.items ≡ [] }
-        ensures end { result.end ≡ Some start }
-        ensures align { result.align ≡ 1 }
+        ensures end { result.extent.end ≡ Some start }
+        ensures align { result.extent.align ≡ 1 }
     {
         Row {
             parts: Vec::new(alloc),
-            end: Some(start),
-            align: 1,
+            extent: Extent::new(start),
             free: true,
         }
     }
@@ -180,13 +175,11 @@ impl Row {
         ensures ok { OnOk result (IsPlaced node here self.old self.new) }
         ensures err { IfErr result (λ e. e ≡ OutOfMemory) }
     {
-        let offset = offset_of(self.end, here.align);
+        let offset = self.extent.add(here.size, here.align);
         self.parts.push(Part {
             offset: offset.unwrap_or(0),
             node,
         })?;
-        self.end = end_of(offset, here.size);
-        self.align = self.align.max(here.align);
         self.free = self.free && is_free(here.job);
         Ok(())
     }
@@ -196,13 +189,12 @@ impl Spans {
     /// No variant. A tag takes one byte.
     pub fn new(alloc: Global) -> Spans
         ensures items { result.items.items ≡ [] }
-        ensures end { result.end ≡ Some 1 }
-        ensures align { result.align ≡ 1 }
+        ensures end { result.extent.end ≡ Some 1 }
+        ensures align { result.extent.align ≡ 1 }
     {
         Spans {
             items: Vec::new(alloc),
-            end: Some(1),
-            align: 1,
+            extent: Extent::new(1),
         }
     }
 
@@ -215,8 +207,7 @@ impl Spans {
             first: laid.first,
             last: laid.last,
         })?;
-        self.end = greater(self.end, laid.end);
-        self.align = self.align.max(laid.align);
+        self.extent.join(laid.end, laid.align);
         Ok(())
     }
 }
@@ -231,8 +222,8 @@ pub fn extend_parts(plan: &mut Plan, row: &Row) -> Result<Laid, Error>
     Ok(Laid {
         first,
         last: plan.parts.len(),
-        end: row.end,
-        align: row.align,
+        end: row.extent.end,
+        align: row.extent.align,
         free: row.free,
     })
 }
@@ -247,8 +238,8 @@ pub fn extend_variants(plan: &mut Plan, spans: &Spans) -> Result<Laid, Error>
     Ok(Laid {
         first,
         last: plan.variants.len(),
-        end: spans.end,
-        align: spans.align,
+        end: spans.extent.end,
+        align: spans.extent.align,
         free: false,
     })
 }

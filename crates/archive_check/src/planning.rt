@@ -7,7 +7,7 @@ ghost use Rattle.archive_check.specs.Expressions.{shape_of};
 ghost use Rattle.archive_check.specs.Growing.{lists_of};
 ghost use Rattle.archive_check.specs.Queued.{waits_of, wait_shapes};
 ghost use Rattle.archive_check.specs.Numbered.{def_shapes};
-ghost use Rattle.archive_check.specs.Planned.{IsPlan, InOrder, Chained, CanChain, CanFinish, Finishes};
+ghost use Rattle.archive_check.specs.Planned.{IsPlan, HasNames, InOrder, Chained, CanChain, CanFinish, Finishes};
 ghost use Rattle.archive_check.specs.declared.error.Error.TheVariants.{OutOfMemory};
 
 use crate::compile::compile;
@@ -60,11 +60,16 @@ fn compile_waiting<'e>(
 }
 
 impl Plan {
-    /// The plan of an expression and the definitions of all names that it reaches, and the expression's node. Each definition holds only names
+    /// The plan of an expression and the definitions of all names that it reaches, the expression's node, and those of the names. Each definition holds only names
     /// that are defined before it, but for those behind pointers. Memory comes from `alloc`. Refused with 1 where memory is refused, with 30
     /// where a name has no definition, and with 31 where one is held that isn't defined before: so with 1 alone where all is as it should be.
-    pub fn of<'e>(alloc: Global, defs: &'e [Def], root: &'e Expr) -> Result<(Plan, usize), Error>
+    pub fn of<'e>(
+        alloc: Global,
+        defs: &'e [Def],
+        root: &'e Expr,
+    ) -> Result<(Plan, usize, Vec<Known>), Error>
         ensures ok { IfOk result (λ r. IsPlan defs.now (shape_of root.now) r.0 r.1) }
+        ensures names { IfOk result (λ r. HasNames defs.now r.2.items r.0) }
         ensures err { IfErr result (λ e. InOrder defs.now (shape_of root.now) → e ≡ OutOfMemory) }
     {
         let (names, start) = number(alloc, defs)?;
@@ -74,6 +79,6 @@ impl Plan {
         let done = plan.nodes.len();
         let node = compile(alloc, &names, done, root, &mut plan, &mut queue)?;
         compile_waiting(alloc, &names, &mut plan, &mut queue)?;
-        Ok((plan, node))
+        Ok((plan, node, names))
     }
 }

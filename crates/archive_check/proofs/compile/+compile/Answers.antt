@@ -75,7 +75,7 @@ compile-returns-then-node-done-clause-ok t c =
 
 pub compile_parts-loop-i-init : goal.compile_parts-loop-i-init
 compile_parts-loop-i-init t c =
-    row_start c.args.start (shapes_in c.args.parts.now) c.new-row.result.parts.items c.new-row.result.end c.new-row.result.align c.new-row.result.free (omega (arith, c.ranges.start.fits)) c.new-row.ensures.parts c.new-row.ensures.end c.new-row.ensures.align
+    row_start c.args.start (shapes_in c.args.parts.now) c.new-row.result.parts.items c.new-row.result.extent.end c.new-row.result.extent.align c.new-row.result.free (omega (arith, c.ranges.start.fits)) c.new-row.ensures.parts c.new-row.ensures.end c.new-row.ensures.align
 
 pub compile_parts-loop-i-preserved : goal.compile_parts-loop-i-preserved
 compile_parts-loop-i-preserved t c =
@@ -89,7 +89,7 @@ compile_parts-returns-clause-ok t c =
 
 pub compile_variants-loop-i-init : goal.compile_variants-loop-i-init
 compile_variants-loop-i-init t c =
-    spans_start (variants_in c.args.variants.now) c.new-spans.result.items.items c.new-spans.result.end c.new-spans.result.align c.new-spans.ensures.items c.new-spans.ensures.end c.new-spans.ensures.align
+    spans_start (variants_in c.args.variants.now) c.new-spans.result.items.items c.new-spans.result.extent.end c.new-spans.result.extent.align c.new-spans.ensures.items c.new-spans.ensures.end c.new-spans.ensures.align
 
 pub compile_variants-loop-i-preserved : goal.compile_variants-loop-i-preserved
 compile_variants-loop-i-preserved t c =
