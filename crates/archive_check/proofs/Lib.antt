@@ -35,3 +35,4 @@ pub mod Following
 pub mod Steps
 pub mod Running
 pub mod Skipping
+pub mod Passing

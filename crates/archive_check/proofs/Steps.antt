@@ -20,7 +20,7 @@ use Rattle.archive_check.specs.Runs.{count_at, Outcome, done, refused, IsAt, IsN
 use Rattle.archive_check.specs.Closed.{span, PartsWithin, SpanFits, ArrayFits, JobFits, IsClosed}
 use Rattle.archive_check.specs.Faults.{IsFor}
 use Rattle.archive_check.specs.Turns.{PartsHere, PartFits, PartsFit, ElementsFit, ListFits, Ready, Stage, stage, pending_in, regions_in, Agrees, Agreeing, Listing, Entering, Following, Leads, Refuses, Keeps, IsStopped, stops, power, level, rank, cost}
-use Rattle.archive_check.proofs.Turning.{turn_parts, turn_elements, turn_elements_end, turn_elements_free, turn_pointer, turn_text, turn_shared, turn_weak}
+use Rattle.archive_check.proofs.Turning.{turn_parts, turn_elements, turn_elements_free, turn_pointer, turn_text, turn_shared, turn_weak}
 use Rattle.archive_check.proofs.Meeting.{agrees_finished, finish_fine, pop_fine, agrees_outside, inside_more}
 use Rattle.archive_check.proofs.Costs.{level_node, level_same, falls_one, falls_two, falls_under, falls_shared}
 
@@ -145,9 +145,6 @@ module _ (m : Checker) (s : RangeState) (met : Positions) where
         (level_same k s.end (j + 1) (j + 1) n (n - 1) (omega arith) (omega arith)))
 
   module _ (old : List Work) where
-    pub elements_over_leads : (j n p : ℕ) → n ≡ 0 → Leads m (Listing m) (stage s met (Elements j n p ∷ old)) (stage s met old)
-    elements_over_leads j n p h seen a = (seen, a, λ o r. turn_elements_end m h r)
-
     pub elements_free_leads : (j n p : ℕ) → IsNode m j Free → Ready m s (Elements j n p ∷ old) → Leads m (Listing m) (stage s met (Elements j n p ∷ old)) (stage s met old)
     elements_free_leads j n p is ready seen a = (seen, a, λ o r. turn_elements_free m is ready.fits.0.takes ready.fits.0.fits r)
 

@@ -1,6 +1,6 @@
 //! The check of bytes against a plan: a list of what is left to check, and no recursion.
 
-ghost use Rattle.std.specs.Prelude.{◌≡◌, ◌⊎◌, ◌+◌, ◌<◌, ◌≤◌, ◌∷◌, ℕ, [], pos, None, length, slice_index, OnOk, IfErr, OnSome, IfSome, IfNone, IsTrue};
+ghost use Rattle.std.specs.Prelude.{◌≡◌, ◌⊎◌, ◌+◌, ◌*◌, ◌<◌, ◌≤◌, ◌∷◌, ℕ, [], pos, None, length, slice_index, OnOk, IfErr, OnSome, IfSome, IfNone, IsTrue};
 ghost use Rattle.std.specs.FinMap.{empty};
 ghost use Rattle.archive_check.specs.declared.error.Error.TheVariants.{OutOfMemory};
 ghost use Rattle.archive_check.specs.declared.plan.Job.TheVariants.{Str};
@@ -8,12 +8,12 @@ ghost use Rattle.archive_check.specs.declared.plan.Target.TheVariants.{One};
 ghost use Rattle.archive_check.specs.declared.work.Work.TheVariants.{Part as PartWork};
 ghost use Rattle.archive_check.specs.Tour.{Seen};
 ghost use Rattle.archive_check.specs.Trail.{Fault};
-ghost use Rattle.archive_check.specs.Runs.{times as times_of, count_at, length_of, target_size, IsAt, IsNode, EnterRuns, done, refused};
+ghost use Rattle.archive_check.specs.Runs.{times as times_of, count_at, length_of, target_size, IsAt, IsNode, Takes, EnterRuns, done, refused};
 ghost use Rattle.archive_check.specs.Lists.{list_of};
 ghost use Rattle.archive_check.specs.Closed.{IsClosed};
 ghost use Rattle.archive_check.specs.Faults.{IsFor};
 ghost use Rattle.archive_check.specs.Fresh.{IsFresh};
-ghost use Rattle.archive_check.specs.Turns.{PointeeFits, PartFits, PartsFit, Stays, PartStays, Ready, stage, Listing, Entering, Following, Leads, Keeps, IsStopped, power, level, cost};
+ghost use Rattle.archive_check.specs.Turns.{PointeeFits, PartFits, PartsFit, ElementsFit, Stays, PartStays, Ready, stage, Listing, Entering, Following, Leads, Keeps, IsStopped, power, level, cost};
 
 use crate::bytes::{
     inline_length, is_out_of_line, is_text, read_coded_length, read_i32, read_position, read_u32,
@@ -111,6 +111,22 @@ impl Checker<'_> {
             }
         }
         last
+    }
+
+    /// How many of the elements at `at`, each of `size` bytes, come before the first that is to be opened; `count` where none is.
+    fn pass(&self, node: usize, count: usize, at: usize, size: usize) -> usize
+        requires closed { IsClosed self.now }
+        requires fits { ElementsFit self.now node count at }
+        requires size { Takes self.now node size }
+        ensures below { result ≤ count }
+        ensures passed { (k : ℕ) → k < result → Stays self.now node (at + k * size) }
+    {
+        for index in 0..count {
+            if !self.stays(node, at + index * size) {
+                return index;
+            }
+        }
+        count
     }
 
     /// Enters a region of so many of the pointee, to be left behind what it leads to.
@@ -318,16 +334,18 @@ impl Checker<'_> {
                 self.open(part.node, base + part.offset, work, context)
             }
             Work::Elements { node, left, at } => {
-                if left == 0 {
-                    return Some(());
-                }
                 let element = self.nodes[node];
                 if let Job::Free = element.job {
                     return Some(());
                 }
                 let size = element.size.unwrap_or(0);
-                work.elements(node, left - 1, at + size)?;
-                self.open(node, at, work, context)
+                let passed = self.pass(node, left, at, size);
+                if passed == left {
+                    return Some(());
+                }
+                let next = at + passed * size;
+                work.elements(node, left - passed - 1, next + size)?;
+                self.open(node, next, work, context)
             }
             Work::Leave { start, end } => {
                 if let Err(error) = context.pop_subtree_range(Range { start, end }) {

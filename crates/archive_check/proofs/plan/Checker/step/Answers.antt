@@ -1,30 +1,17 @@
-use Rattle.std.proofs.Common.{rules, ◌≡◌, ◌<◌, ◌≤◌, ◌+◌, ◌-◌, ℕ, pos, arith, refl, sym, ap, ◌∙◌, Some, slice_index_or, List, ◌∷◌, unwrap_or, to_z, of_z, Ok, Err}
+use Rattle.std.proofs.Common.{rules, ◌≡◌, ◌<◌, ◌≤◌, ◌+◌, ◌-◌, ◌*◌, ℕ, pos, arith, refl, sym, ap, ◌∙◌, Some, slice_index_or, List, ◌∷◌, unwrap_or, to_z, of_z, Ok, Err}
 use Rattle.std.proofs.lemmas.Int.{to_z_pos}
 use mir.Syntax.{w128}
 use Rattle.archive_check.specs.declared.work.Work.TheVariants.{Part as PartWork, Parts, Elements, Leave, Finish}
 use Rattle.archive_check.specs.declared.plan.Job.TheVariants.{Free}
 use Rattle.archive_check.specs.declared.plan.Part.{Part}
-use Rattle.archive_check.specs.Runs.{IsAt, IsNode}
+use Rattle.archive_check.specs.Runs.{IsAt, IsNode, Takes}
 use Rattle.archive_check.specs.Lists.{list_of}
 use Rattle.archive_check.specs.Turns.{Listing, stage}
 use Rattle.archive_check.proofs.Costs.{falls_none}
-use Rattle.archive_check.proofs.Steps.{at_default, parts_ready, part_room, parts_leads, parts_ends, elements_ready, elements_leads, elements_ends, elements_over_leads, elements_free_leads, leave_leads, leave_refuses, finish_leads, finish_refuses, refused_keeps, then_keeps, then_falls, under}
+use Rattle.archive_check.proofs.Steps.{at_default, parts_ready, part_room, parts_leads, parts_ends, elements_ready, elements_leads, elements_ends, elements_free_leads, leave_leads, leave_refuses, finish_leads, finish_refuses, refused_keeps, then_keeps, then_falls, under}
 use Rattle.archive_check.proofs.Skipping.{skip_all, skip_leads, skip_ready, skip_costs}
+use Rattle.archive_check.proofs.Passing.{takes_size, pass_all, pass_leads, pass_ready, pass_costs}
 use Rattle.archive_check.proofs.plan.Checker.step.Goals as goal
-
-pub returns-then-left-eq0-clause-runs : goal.returns-then-left-eq0-clause-runs
-returns-then-left-eq0-clause-runs g c =
-    let m = c.args.self.now in
-    let st = g.C.Context.state in
-    let met = g.C.Context.positions in
-    let s = st c.args.context.now in
-    let seen = met c.args.context.now in
-    let old = list_of c.args.work.now in
-    rw c.in-Elements.is (elements_over_leads m s seen old c.in-Elements.node c.in-Elements.left c.in-Elements.at c.if-left-eq0.true, tt)
-
-pub returns-then-left-eq0-clause-ends : goal.returns-then-left-eq0-clause-ends
-returns-then-left-eq0-clause-ends g c =
-    rw c.in-Elements.is (falls_none _ _)
 
 pub returns-then-next-last-clause-runs : goal.returns-then-next-last-clause-runs
 returns-then-next-last-clause-runs g c =
@@ -127,6 +114,52 @@ pub returns-in-Free-clause-ends : goal.returns-in-Free-clause-ends
 returns-in-Free-clause-ends g c =
     rw c.in-Elements.is (falls_none _ _)
 
+pub pass-passed-requires-clause-size : goal.pass-passed-requires-clause-size
+pass-passed-requires-clause-size g c =
+    let m = c.args.self.now in
+    let st = g.C.Context.state in
+    let met = g.C.Context.positions in
+    let s = st c.args.context.now in
+    let seen = met c.args.context.now in
+    let old = list_of c.args.work.now in
+    let r = rw c.in-Elements.is at c.requires.ready in
+    let at : IsAt m.nodes.now c.in-Elements.node c.index-self-node.result = record { below = r.fits.0.takes.at.below; is = c.index-self-node.is } in
+    let size = λ (y : ℕ) (q : c.index-self-node.result.size ≡ Some y). c.unwrap_or-size.ensures ∙ ap (λ v. unwrap_or v.size 0) (sym c.index-self-node.is) ∙ ap (λ v. unwrap_or v 0) q in
+    let takes : Takes m c.in-Elements.node c.unwrap_or-size.result = takes_size m c.in-Elements.node c.unwrap_or-size.result c.index-self-node.result at r.fits.0.takes size in
+    takes
+
+pub pass-passed-requires-clause-fits : goal.pass-passed-requires-clause-fits
+pass-passed-requires-clause-fits g c =
+    let m = c.args.self.now in
+    let st = g.C.Context.state in
+    let met = g.C.Context.positions in
+    let s = st c.args.context.now in
+    let seen = met c.args.context.now in
+    let old = list_of c.args.work.now in
+    let r = rw c.in-Elements.is at c.requires.ready in
+    let at : IsAt m.nodes.now c.in-Elements.node c.index-self-node.result = record { below = r.fits.0.takes.at.below; is = c.index-self-node.is } in
+    let size = λ (y : ℕ) (q : c.index-self-node.result.size ≡ Some y). c.unwrap_or-size.ensures ∙ ap (λ v. unwrap_or v.size 0) (sym c.index-self-node.is) ∙ ap (λ v. unwrap_or v 0) q in
+    let takes : Takes m c.in-Elements.node c.unwrap_or-size.result = takes_size m c.in-Elements.node c.unwrap_or-size.result c.index-self-node.result at r.fits.0.takes size in
+    r.fits.0
+
+pub returns-then-passed-left-clause-runs : goal.returns-then-passed-left-clause-runs
+returns-then-passed-left-clause-runs g c =
+    let m = c.args.self.now in
+    let st = g.C.Context.state in
+    let met = g.C.Context.positions in
+    let s = st c.args.context.now in
+    let seen = met c.args.context.now in
+    let old = list_of c.args.work.now in
+    let r = rw c.in-Elements.is at c.requires.ready in
+    let at : IsAt m.nodes.now c.in-Elements.node c.index-self-node.result = record { below = r.fits.0.takes.at.below; is = c.index-self-node.is } in
+    let size = λ (y : ℕ) (q : c.index-self-node.result.size ≡ Some y). c.unwrap_or-size.ensures ∙ ap (λ v. unwrap_or v.size 0) (sym c.index-self-node.is) ∙ ap (λ v. unwrap_or v 0) q in
+    let takes : Takes m c.in-Elements.node c.unwrap_or-size.result = takes_size m c.in-Elements.node c.unwrap_or-size.result c.index-self-node.result at r.fits.0.takes size in
+    rw c.in-Elements.is (pass_all m c.in-Elements.node c.unwrap_or-size.result takes old s seen c.in-Elements.left c.in-Elements.at c.pass-passed.result c.pass-passed.ensures.below c.pass-passed.ensures.passed c.if-passed-left.true, tt)
+
+pub returns-then-passed-left-clause-ends : goal.returns-then-passed-left-clause-ends
+returns-then-passed-left-clause-ends g c =
+    rw c.in-Elements.is (falls_none _ _)
+
 pub open-requires-in-Elements-clause-ready : goal.open-requires-in-Elements-clause-ready
 open-requires-in-Elements-clause-ready g c =
     let m = c.args.self.now in
@@ -137,11 +170,14 @@ open-requires-in-Elements-clause-ready g c =
     let old = list_of c.args.work.now in
     let r = rw c.in-Elements.is at c.requires.ready in
     let at : IsAt m.nodes.now c.in-Elements.node c.index-self-node.result = record { below = r.fits.0.takes.at.below; is = c.index-self-node.is } in
-    let lt : 0 < c.in-Elements.left = omega (arith, c.if-left-eq0.false) in
     let size = λ (y : ℕ) (q : c.index-self-node.result.size ≡ Some y). c.unwrap_or-size.ensures ∙ ap (λ v. unwrap_or v.size 0) (sym c.index-self-node.is) ∙ ap (λ v. unwrap_or v 0) q in
-    let new = PartWork c.in-Elements.node c.in-Elements.at ∷ list_of c.elements.new.self in
-    let e = ap (λ w. PartWork c.in-Elements.node c.in-Elements.at ∷ w) c.in_ok-elements-in-Elements.ensures.some in
-    elements_ready m s seen old new c.in-Elements.node c.in-Elements.left c.in-Elements.at c.unwrap_or-size.result c.index-self-node.result r lt at size e
+    let takes : Takes m c.in-Elements.node c.unwrap_or-size.result = takes_size m c.in-Elements.node c.unwrap_or-size.result c.index-self-node.result at r.fits.0.takes size in
+    let q = c.in-Elements.at + c.pass-passed.result * c.unwrap_or-size.result in
+    let r2 = pass_ready m c.in-Elements.node c.unwrap_or-size.result takes old s seen c.in-Elements.left c.in-Elements.at c.pass-passed.result c.pass-passed.ensures.below c.pass-passed.ensures.passed r in
+    let lt : 0 < c.in-Elements.left - c.pass-passed.result = omega (arith, c.if-passed-left.false, c.pass-passed.ensures.below) in
+    let new = PartWork c.in-Elements.node q ∷ list_of c.elements.new.self in
+    let e = ap (λ w. PartWork c.in-Elements.node q ∷ w) c.in_ok-elements-in-Elements.ensures.some in
+    elements_ready m s seen old new c.in-Elements.node (c.in-Elements.left - c.pass-passed.result) q c.unwrap_or-size.result c.index-self-node.result r2 lt at size e
 
 pub returns-in_ok-elements-in-Elements-clause-runs : goal.returns-in_ok-elements-in-Elements-clause-runs
 returns-in_ok-elements-in-Elements-clause-runs g c =
@@ -153,12 +189,16 @@ returns-in_ok-elements-in-Elements-clause-runs g c =
     let old = list_of c.args.work.now in
     let r = rw c.in-Elements.is at c.requires.ready in
     let at : IsAt m.nodes.now c.in-Elements.node c.index-self-node.result = record { below = r.fits.0.takes.at.below; is = c.index-self-node.is } in
-    let lt : 0 < c.in-Elements.left = omega (arith, c.if-left-eq0.false) in
     let size = λ (y : ℕ) (q : c.index-self-node.result.size ≡ Some y). c.unwrap_or-size.ensures ∙ ap (λ v. unwrap_or v.size 0) (sym c.index-self-node.is) ∙ ap (λ v. unwrap_or v 0) q in
-    let new = PartWork c.in-Elements.node c.in-Elements.at ∷ list_of c.elements.new.self in
-    let e = ap (λ w. PartWork c.in-Elements.node c.in-Elements.at ∷ w) c.in_ok-elements-in-Elements.ensures.some in
-    rw c.in-Elements.is (then_keeps m (stage s seen (Elements c.in-Elements.node c.in-Elements.left c.in-Elements.at ∷ old)) (stage s seen new) (stage (st c.open-in-Elements.new.context) (met c.open-in-Elements.new.context) (list_of c.open-in-Elements.new.work)) c.open-in-Elements.result c.open-in-Elements.new.work.fault
-    (elements_leads m s seen old new c.in-Elements.node c.in-Elements.left c.in-Elements.at c.unwrap_or-size.result c.index-self-node.result r lt at size e) c.open-in-Elements.ensures.runs)
+    let takes : Takes m c.in-Elements.node c.unwrap_or-size.result = takes_size m c.in-Elements.node c.unwrap_or-size.result c.index-self-node.result at r.fits.0.takes size in
+    let q = c.in-Elements.at + c.pass-passed.result * c.unwrap_or-size.result in
+    let r2 = pass_ready m c.in-Elements.node c.unwrap_or-size.result takes old s seen c.in-Elements.left c.in-Elements.at c.pass-passed.result c.pass-passed.ensures.below c.pass-passed.ensures.passed r in
+    let lt : 0 < c.in-Elements.left - c.pass-passed.result = omega (arith, c.if-passed-left.false, c.pass-passed.ensures.below) in
+    let new = PartWork c.in-Elements.node q ∷ list_of c.elements.new.self in
+    let e = ap (λ w. PartWork c.in-Elements.node q ∷ w) c.in_ok-elements-in-Elements.ensures.some in
+    rw c.in-Elements.is (then_keeps m (stage s seen (Elements c.in-Elements.node c.in-Elements.left c.in-Elements.at ∷ old)) (stage s seen (Elements c.in-Elements.node (c.in-Elements.left - c.pass-passed.result) q ∷ old)) (stage (st c.open-in-Elements.new.context) (met c.open-in-Elements.new.context) (list_of c.open-in-Elements.new.work)) c.open-in-Elements.result c.open-in-Elements.new.work.fault
+    (pass_leads m c.in-Elements.node c.unwrap_or-size.result takes old s seen c.in-Elements.left c.in-Elements.at c.pass-passed.result c.pass-passed.ensures.below c.pass-passed.ensures.passed)
+    (then_keeps m (stage s seen (Elements c.in-Elements.node (c.in-Elements.left - c.pass-passed.result) q ∷ old)) (stage s seen new) (stage (st c.open-in-Elements.new.context) (met c.open-in-Elements.new.context) (list_of c.open-in-Elements.new.work)) c.open-in-Elements.result c.open-in-Elements.new.work.fault (elements_leads m s seen old new c.in-Elements.node (c.in-Elements.left - c.pass-passed.result) q c.unwrap_or-size.result c.index-self-node.result r2 lt at size e) c.open-in-Elements.ensures.runs))
 
 pub returns-in_ok-elements-in-Elements-clause-ends : goal.returns-in_ok-elements-in-Elements-clause-ends
 returns-in_ok-elements-in-Elements-clause-ends g c =
@@ -170,11 +210,16 @@ returns-in_ok-elements-in-Elements-clause-ends g c =
     let old = list_of c.args.work.now in
     let r = rw c.in-Elements.is at c.requires.ready in
     let at : IsAt m.nodes.now c.in-Elements.node c.index-self-node.result = record { below = r.fits.0.takes.at.below; is = c.index-self-node.is } in
-    let lt : 0 < c.in-Elements.left = omega (arith, c.if-left-eq0.false) in
     let size = λ (y : ℕ) (q : c.index-self-node.result.size ≡ Some y). c.unwrap_or-size.ensures ∙ ap (λ v. unwrap_or v.size 0) (sym c.index-self-node.is) ∙ ap (λ v. unwrap_or v 0) q in
-    let new = PartWork c.in-Elements.node c.in-Elements.at ∷ list_of c.elements.new.self in
-    let e = ap (λ w. PartWork c.in-Elements.node c.in-Elements.at ∷ w) c.in_ok-elements-in-Elements.ensures.some in
-    rw c.in-Elements.is (then_falls c.open-in-Elements.result _ _ _ (elements_ends m s seen old new c.in-Elements.node c.in-Elements.left c.in-Elements.at _ r.fits.0.few lt e) c.open-in-Elements.ensures.ends)
+    let takes : Takes m c.in-Elements.node c.unwrap_or-size.result = takes_size m c.in-Elements.node c.unwrap_or-size.result c.index-self-node.result at r.fits.0.takes size in
+    let q = c.in-Elements.at + c.pass-passed.result * c.unwrap_or-size.result in
+    let r2 = pass_ready m c.in-Elements.node c.unwrap_or-size.result takes old s seen c.in-Elements.left c.in-Elements.at c.pass-passed.result c.pass-passed.ensures.below c.pass-passed.ensures.passed r in
+    let lt : 0 < c.in-Elements.left - c.pass-passed.result = omega (arith, c.if-passed-left.false, c.pass-passed.ensures.below) in
+    let new = PartWork c.in-Elements.node q ∷ list_of c.elements.new.self in
+    let e = ap (λ w. PartWork c.in-Elements.node q ∷ w) c.in_ok-elements-in-Elements.ensures.some in
+    let less = pass_costs m c.in-Elements.node c.unwrap_or-size.result takes old s seen c.in-Elements.left c.in-Elements.at c.pass-passed.result c.pass-passed.ensures.below c.pass-passed.ensures.passed s.end in
+    let falls = elements_ends m s seen old new c.in-Elements.node (c.in-Elements.left - c.pass-passed.result) q _ r2.fits.0.few lt e in
+    rw c.in-Elements.is (then_falls c.open-in-Elements.result _ _ _ (under _ _ _ falls less) c.open-in-Elements.ensures.ends)
 
 pub returns-in-Part-clause-runs : goal.returns-in-Part-clause-runs
 returns-in-Part-clause-runs g c =
