@@ -1,26 +1,26 @@
 -- A region is entered: what the range calls say, and what is left to do.
-use Rattle.std.proofs.Common.{◌≡◌, ◌≢◌, ◌⊎◌, inl, inr, ℕ, zero, suc, ℤ, pos, negsuc, refl, sym, ap, ap₂, ◌∙◌, subst, slice_index_or, ◌+◌, ◌-◌, ◌*◌, ◌%◌, ◌<◌, ◌≤◌, ◌==◌, ◌&&◌, nat_le, nat_lt, nat_eq, cond, Bool, true, false, arith, List, [], ◌∷◌, length, Option, Some, None, Result, Ok, Err, IsUtf8, IsTrue}
+use Rattle.std.proofs.Common.{◌≡◌, ◌≢◌, inr, ℕ, zero, suc, ℤ, pos, negsuc, refl, sym, ap, ap₂, ◌∙◌, slice_index_or, ◌+◌, ◌*◌, ◌%◌, ◌<◌, ◌≤◌, nat_le, nat_eq, Bool, true, false, arith, List, ◌∷◌, length, Option, Some, None, Result, Ok, Err, IsUtf8, IsTrue}
 use Rattle.std.proofs.lemmas.Bool.Decides.{nat_tests}
 use Rattle.archive_check.specs.declared.error.Error.{Error}
-use Rattle.archive_check.specs.declared.error.Error.TheVariants.{InvalidSubtreePointer, UnalignedPointer, InvalidUtf8, ExceededMaximumSubtreeDepth}
+use Rattle.archive_check.specs.declared.error.Error.TheVariants.{InvalidUtf8, ExceededMaximumSubtreeDepth}
 use Rattle.archive_check.specs.declared.plan.Target.{Target}
 use Rattle.archive_check.specs.declared.plan.Target.TheVariants.{One, Run, Text}
 use Rattle.archive_check.specs.declared.plan.Node.{Node}
 use Rattle.archive_check.specs.declared.plan.Checker.{Checker}
 use Rattle.archive_check.specs.declared.work.Work.{Work}
-use Rattle.archive_check.specs.declared.work.Work.TheVariants.{Part as PartWork, Parts, Elements, Leave}
+use Rattle.archive_check.specs.declared.work.Work.TheVariants.{Part as PartWork, Elements, Leave}
 use Rattle.archive_check.specs.Depth.{Allows, inside}
 use Rattle.archive_check.specs.Ranges.{RangeState, subtree_answer, pushed, one_less}
 use Rattle.archive_check.specs.Met.{Positions}
 use Rattle.archive_check.specs.Reads.{bytes_at}
 use Rattle.archive_check.specs.Tour.{Seen}
 use Rattle.archive_check.specs.Trail.{Fault, outside, unaligned, too_deep, no_text}
-use Rattle.archive_check.specs.Runs.{times, Outcome, done, refused, IsAt, Takes, RegionIs, EnterRuns, enter_outside, enter_unaligned, enter_too_deep, enter_stop, contents_no_text, ListRuns}
+use Rattle.archive_check.specs.Runs.{times, Outcome, refused, Takes, RegionIs, EnterRuns, enter_outside, enter_unaligned, enter_too_deep, enter_stop, contents_no_text, ListRuns}
 use Rattle.archive_check.specs.Faults.{IsFor}
-use Rattle.archive_check.specs.Turns.{PartFits, ElementsFit, ListFits, Ready, Stage, stage, pending_in, regions_in, Agrees, Agreeing, Then, Listing, Entering, Leads, IsStopped, power, level, cost}
+use Rattle.archive_check.specs.Turns.{Ready, stage, pending_in, regions_in, Agreeing, Listing, Entering, Leads, IsStopped, power, level, cost}
 use Rattle.archive_check.proofs.Turning.{enter_one, enter_run, enter_text, enter_empty}
 use Rattle.archive_check.proofs.Meeting.{allows, agrees_inside}
-use Rattle.archive_check.proofs.Costs.{power_pos, power_falls, level_end, falls_enter, falls_leave}
+use Rattle.archive_check.proofs.Costs.{level_end, falls_enter, falls_leave}
 
 -- a region of this size and alignment lies at t, within the range
 pub record Lands (s : RangeState) (z : ℤ) (size align t : ℕ) : Type 0 where

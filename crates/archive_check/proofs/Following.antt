@@ -1,11 +1,11 @@
 -- A shared pointer is followed: what the context answers, and what is left to do.
-use Rattle.std.proofs.Common.{◌≡◌, ◌≢◌, ◌⊎◌, inl, inr, ℕ, ℤ, pos, negsuc, ◌+ℤ◌, refl, sym, ap, ◌∙◌, ◌<◌, ◌≤◌, Bool, true, false, IsTrue, List, [], ◌∷◌, Option, Some, None, Result, Ok, Err, OnSome, IfNone}
+use Rattle.std.proofs.Common.{◌≡◌, ◌⊎◌, inl, inr, ℕ, ℤ, pos, negsuc, ◌+ℤ◌, refl, sym, ap, ◌∙◌, ◌<◌, Bool, true, false, IsTrue, List, ◌∷◌, Option, Some, None, Result, Err, OnSome, IfNone}
 use Rattle.std.proofs.Common.{◌≤ℤ◌, nat_abs, arith}
 use Rattle.std.proofs.lemmas.Int.{ints}
 use Rattle.std.specs.Int.{FitsUnsigned}
 use Rattle.archive_check.specs.declared.validation.ValidationState.{ValidationState}
 use mir.Syntax.{w64}
-use Rattle.std.specs.FinMap.{get, insert}
+use Rattle.std.specs.FinMap.{insert}
 use Rattle.archive_check.specs.declared.error.Error.{Error}
 use Rattle.archive_check.specs.declared.error.Error.TheVariants.{CyclicValidate, TypeMismatch, MetadataMismatch}
 use Rattle.archive_check.specs.declared.plan.Target.{Target}
@@ -14,12 +14,12 @@ use Rattle.archive_check.specs.declared.plan.Checker.{Checker}
 use Rattle.archive_check.specs.declared.work.Work.{Work}
 use Rattle.archive_check.specs.declared.work.Work.TheVariants.{Finish}
 use Rattle.archive_check.specs.Ranges.{RangeState}
-use Rattle.archive_check.specs.Met.{Met, Positions, SameType, IsStartAnswer, started}
+use Rattle.archive_check.specs.Met.{Met, Positions, IsStartAnswer, started}
 use Rattle.archive_check.specs.Reads.{i32_at}
 use Rattle.archive_check.specs.Tour.{Seen, Entry}
 use Rattle.archive_check.specs.Trail.{Fault, cyclic, other_type, other_length}
-use Rattle.archive_check.specs.Runs.{Outcome, done, refused, IsAt, count_at, length_of, entry_for, EnterRuns, FollowRuns, follow_before, follow_new, follow_again, follow_type, follow_length, follow_cycle, ListRuns}
-use Rattle.archive_check.specs.Turns.{Stage, stage, pending_in, Agrees, Agreeing, Then, and_then, stops, Listing, Entering, Following, Leads, Refuses, Keeps, IsStopped}
+use Rattle.archive_check.specs.Runs.{Outcome, refused, IsAt, count_at, length_of, entry_for, EnterRuns, FollowRuns, follow_before, follow_new, follow_again, follow_type, follow_length, follow_cycle}
+use Rattle.archive_check.specs.Turns.{Stage, stage, pending_in, Agreeing, Then, and_then, stops, Entering, Following, Leads, Refuses, Keeps, IsStopped}
 use Rattle.archive_check.proofs.Meeting.{agrees_same, SeenAs, seen_as, met_none, agrees_new, started_again}
 use Rattle.archive_check.proofs.Turning.{turn_new}
 

@@ -1,5 +1,5 @@
 -- Which bytes in a buffer are a leaf, byte by byte.
-use Rattle.std.proofs.Common.{◌≡◌, ◌≢◌, ◌⊎◌, inl, inr, ℕ, zero, suc, ◌+◌, ◌-◌, ◌*◌, ◌^◌, ◌<◌, ◌≤◌, arith, refl, sym, ap, ◌∙◌, List, length, slice_index, take, drop, Bool, true, false, IsTrue, nat_lt, nat_eq, ◌==◌}
+use Rattle.std.proofs.Common.{◌≡◌, ◌≢◌, ◌⊎◌, inl, inr, ℕ, zero, suc, ◌+◌, ◌-◌, ◌*◌, ◌^◌, ◌<◌, ◌≤◌, arith, refl, sym, ap, ◌∙◌, List, length, slice_index, Bool, true, false, IsTrue, nat_lt, nat_eq}
 use Rattle.std.proofs.lemmas.Bool.Decides.{nat_tests}
 use Rattle.std.proofs.lemmas.Grind.{common_steps}
 use Rattle.std.specs.Int.{Width, w8, w16, w32, w64, w128, byte_len, byte_worth, sum_through}
@@ -9,7 +9,7 @@ use Rattle.archive_check.specs.declared.expr.IntegerKind.{IntegerKind}
 use Rattle.archive_check.specs.declared.error.Error.TheVariants.{ZeroNumber}
 use Rattle.archive_check.specs.Expressions.{kind_of}
 use Rattle.archive_check.specs.Runs.{illegal_error}
-use Rattle.archive_check.specs.Shape.{Sign, Kind, unit, bool, char, number, non_zero, raw_rel}
+use Rattle.archive_check.specs.Shape.{Sign, bool, char, non_zero}
 use Rattle.archive_check.specs.Layout.{kind_size}
 use Rattle.archive_check.specs.Reads.{bytes_at, u32_at, kind_number, IsLegal, IsLegalNumber}
 use Rattle.archive_check.proofs.BytesAt.{bytes_one}

@@ -1,5 +1,5 @@
 -- Elements that are passed over.
-use Rattle.std.proofs.Common.{◌≡◌, ◌≢◌, ℕ, zero, suc, refl, sym, ap, ◌∙◌, ◌+◌, ◌-◌, ◌*◌, ◌<◌, ◌≤◌, arith, List, [], ◌∷◌, length, Bool, true, false, nat_eq, Option, Some}
+use Rattle.std.proofs.Common.{◌≡◌, ◌≢◌, ℕ, zero, suc, refl, sym, ap, ◌∙◌, ◌+◌, ◌-◌, ◌*◌, ◌<◌, ◌≤◌, arith, List, ◌∷◌, length, Bool, true, false, nat_eq, Option, Some}
 use Rattle.std.proofs.lemmas.Bool.Decides.{nat_tests}
 use Rattle.std.proofs.Math.Nat.{mul-le-mul_right}
 use Rattle.archive_check.specs.declared.plan.Node.{Node}
@@ -10,7 +10,7 @@ use Rattle.archive_check.specs.Ranges.{RangeState}
 use Rattle.archive_check.specs.Met.{Positions}
 use Rattle.archive_check.specs.Tour.{Seen}
 use Rattle.archive_check.specs.Runs.{Outcome, IsAt, Takes, ListRuns, elements_end, elements_next, list_elements, list_elements_stop}
-use Rattle.archive_check.specs.Turns.{PartFits, ElementsFit, Stays, Ready, stage, Listing, Leads, power, level, cost}
+use Rattle.archive_check.specs.Turns.{PartFits, ElementsFit, Stays, Ready, stage, Listing, Leads, level, cost}
 use Rattle.archive_check.proofs.Costs.{power_falls, level_same}
 use Rattle.archive_check.proofs.Steps.{same_at}
 
@@ -38,9 +38,6 @@ module _ (m : Checker) (j z : ℕ) (takes : Takes m j z) where
 
   pub element_fits : (n p k : ℕ) → ElementsFit m j n p → k < n → PartFits m j (p + k * z)
   element_fits n p k f lt = record { size = z; takes = takes; fits = room n p k f lt }
-
-  pub element_room : (n p k : ℕ) → ElementsFit m j n p → k < n → p + k * z ≤ length m.bytes.now
-  element_room n p k f lt = omega (arith, room n p k f lt)
 
   pub passes_more : (p i : ℕ) → ((k : ℕ) → k < i → Stays m j (p + k * z)) → Stays m j (p + i * z) → (k : ℕ) → k < i + 1 → Stays m j (p + k * z)
   passes_more p i before here k to = at (nat_eq k i) refl

@@ -1,5 +1,5 @@
 -- From the root to the end of the list.
-use Rattle.std.proofs.Common.{◌≡◌, ◌⊎◌, inl, inr, ℕ, ℤ, pos, sym, refl, List, [], ◌∷◌, ◌++◌, length, reverse, arith}
+use Rattle.std.proofs.Common.{◌≡◌, ◌⊎◌, inl, inr, ℕ, ℤ, pos, refl, List, [], ◌∷◌, length, arith}
 use Rattle.std.specs.FinMap.{empty}
 use Rattle.archive_check.specs.declared.error.Error.{Error}
 use Rattle.archive_check.specs.declared.error.Error.TheVariants.{OutOfMemory}

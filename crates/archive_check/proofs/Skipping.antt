@@ -1,5 +1,5 @@
 -- Parts that are passed over.
-use Rattle.std.proofs.Common.{◌≡◌, ◌⊎◌, inl, inr, ℕ, zero, suc, refl, sym, ap, ◌∙◌, ◌+◌, ◌-◌, ◌<◌, ◌≤◌, max, arith, List, [], ◌∷◌, length, Bool, true, false, nat_le, nat_eq, ◌≢◌, slice_index_or, Option}
+use Rattle.std.proofs.Common.{◌≡◌, ℕ, zero, suc, refl, ◌+◌, ◌-◌, ◌<◌, ◌≤◌, max, arith, List, ◌∷◌, length, Bool, true, false, nat_le, nat_eq, ◌≢◌, slice_index_or, Option}
 use Rattle.std.proofs.lemmas.Bool.Decides.{nat_tests}
 use Rattle.archive_check.specs.declared.plan.Part.{Part}
 use Rattle.archive_check.specs.declared.plan.Checker.{Checker}
@@ -10,7 +10,7 @@ use Rattle.archive_check.specs.Met.{Positions}
 use Rattle.archive_check.specs.Tour.{Seen}
 use Rattle.archive_check.specs.Runs.{Outcome, IsAt, ListRuns, parts_end, parts_next, list_parts, list_parts_stop}
 use Rattle.archive_check.specs.Closed.{span}
-use Rattle.archive_check.specs.Turns.{PartsHere, PartFits, PartsFit, PartStays, Ready, stage, pending_in, Listing, Leads, power, level, rank, cost}
+use Rattle.archive_check.specs.Turns.{PartFits, PartsFit, PartStays, Ready, stage, pending_in, Listing, Leads, level, rank, cost}
 use Rattle.archive_check.proofs.Costs.{power_falls, level_same}
 use Rattle.archive_check.proofs.Steps.{at_default, span_next}
 

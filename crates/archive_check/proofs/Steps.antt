@@ -1,5 +1,5 @@
 -- What each turn keeps.
-use Rattle.std.proofs.Common.{◌≡◌, ◌≢◌, ◌⊎◌, inl, inr, ℕ, zero, suc, ℤ, pos, ◌+ℤ◌, refl, sym, ap, ap₂, ◌∙◌, subst, ◌+◌, ◌-◌, ◌*◌, ◌<◌, ◌≤◌, max, arith, List, [], ◌∷◌, length, take, drop, slice_index, slice_index_or, drop-cons, Option, Some, None, Result, Ok, Err, Bor, OnSome, IfNone}
+use Rattle.std.proofs.Common.{◌≡◌, ◌≢◌, inl, inr, ℕ, zero, suc, ℤ, pos, ◌+ℤ◌, refl, sym, ap, ap₂, ◌∙◌, ◌+◌, ◌-◌, ◌*◌, ◌<◌, ◌≤◌, max, arith, List, [], ◌∷◌, length, take, drop, slice_index_or, drop-cons, Option, Some, None, Err, OnSome, IfNone}
 use Rattle.archive_check.specs.declared.error.Error.{Error}
 use Rattle.archive_check.specs.declared.error.Error.TheVariants.{OutOfMemory}
 use Rattle.archive_check.specs.declared.plan.Target.{Target}
@@ -11,17 +11,17 @@ use Rattle.archive_check.specs.declared.plan.Part.{Part}
 use Rattle.archive_check.specs.declared.plan.Checker.{Checker}
 use Rattle.archive_check.specs.declared.work.Work.{Work}
 use Rattle.archive_check.specs.declared.work.Work.TheVariants.{Part as PartWork, Parts, Elements, Leave, Finish}
-use Rattle.archive_check.specs.Ranges.{RangeState, popped, one_more, pop_answer}
+use Rattle.archive_check.specs.Ranges.{RangeState, popped}
 use Rattle.archive_check.specs.Met.{Positions, finished, finish_answer}
 use Rattle.archive_check.specs.Tour.{Seen}
 use Rattle.archive_check.specs.Trail.{Fault}
 use Rattle.archive_check.specs.Reads.{u32_at, i32_at, IsOutOfLine, decoded_length}
-use Rattle.archive_check.specs.Runs.{count_at, Outcome, done, refused, IsAt, IsNode, Takes, NodeRuns, ListRuns, list_part, list_part_stop, list_leave, list_finish}
+use Rattle.archive_check.specs.Runs.{count_at, Outcome, done, refused, IsAt, IsNode, NodeRuns, ListRuns, list_part, list_part_stop, list_leave, list_finish}
 use Rattle.archive_check.specs.Closed.{span, PartsWithin, SpanFits, ArrayFits, JobFits, IsClosed}
 use Rattle.archive_check.specs.Faults.{IsFor}
-use Rattle.archive_check.specs.Turns.{PartsHere, PartFits, PartsFit, ElementsFit, ListFits, Ready, Stage, stage, pending_in, regions_in, Agrees, Agreeing, Listing, Entering, Following, Leads, Refuses, Keeps, IsStopped, stops, power, level, rank, cost}
+use Rattle.archive_check.specs.Turns.{PartsHere, PartFits, Ready, Stage, stage, pending_in, regions_in, Listing, Entering, Following, Leads, Refuses, Keeps, IsStopped, stops, power, level, rank, cost}
 use Rattle.archive_check.proofs.Turning.{turn_parts, turn_elements, turn_elements_free, turn_pointer, turn_text, turn_shared, turn_weak}
-use Rattle.archive_check.proofs.Meeting.{agrees_finished, finish_fine, pop_fine, agrees_outside, inside_more}
+use Rattle.archive_check.proofs.Meeting.{agrees_finished, finish_fine, agrees_outside, inside_more}
 use Rattle.archive_check.proofs.Costs.{level_node, level_same, falls_one, falls_two, falls_under, falls_shared}
 
 pub same_get : {A : Type 0} (xs : List A) (i : ℕ) (x y : A) → i < length xs → slice_index_or xs i x ≡ slice_index_or xs i y
@@ -156,9 +156,6 @@ module _ (m : Checker) (s : RangeState) (met : Positions) where
     leave_leads s' met' x y e same seen a =
         (seen, rw (e, same) (agrees_outside (regions_in old) a), λ o r. list_leave (inside_more s.depth) (rw e at r))
 
-    pub leave_refuses : (x y : ℕ) (e : Error) → Ready m s (Leave x y ∷ old) → Err e ≡ pop_answer s x → Refuses (Listing m) (stage s met (Leave x y ∷ old)) e
-    leave_refuses x y e ready is = inr (λ seen a. absurd (let fine = is ∙ pop_fine s x (regions_in old) ready.fits.0 a in cc))
-
     pub finish_leads : (s' : RangeState) (met' : Positions) (k t : ℕ) (z : ℤ) → z ≡ pos t → s' ≡ s → met' ≡ finished met z → Leads m (Listing m) (stage s met (Finish k t ∷ old)) (stage s' met' old)
     finish_leads s' met' k t z at same e seen a =
         (seen, rw (same, e, at) (agrees_finished a), λ o r. list_finish (rw same at r))
@@ -188,12 +185,6 @@ module _ (m : Checker) (s : RangeState) (old : List Work) (i p z a b : ℕ) (new
       (level_same n s.end i (rank (span m.parts.now a b)) 18446744073709551616 (b - a) (rank_from m i z (span m.parts.now a b) fits.within) (omega (arith, fits.few))))
 
 module _ (m : Checker) (s : RangeState) (old : List Work) (i p z n j : ℕ) (new : List Work) (fits : ArrayFits m i z n j) (e : new ≡ Elements j n p ∷ old) where
-  pub array_ready : Ready m s (PartWork i p ∷ old) → p + z ≤ length m.bytes.now → Ready m s new
-  array_ready r room = record {
-    below = r.below;
-    fits = rw e (record { size = fits.element; few = fits.few; takes = fits.takes; fits = omega (arith, fits.within) }, r.fits.1);
-  }
-
   pub array_ends : cost m s.end new < cost m s.end (PartWork i p ∷ old)
   array_ends =
       let k = length m.nodes.now in

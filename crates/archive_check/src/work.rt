@@ -1,6 +1,6 @@
 //! What is left to check.
 
-ghost use Rattle.std.specs.Prelude.{◌≡◌, ◌∷◌, ◌+◌, [], None, OnSome, IfSome, IfNone};
+ghost use Rattle.std.specs.Prelude.{◌≡◌, ◌∷◌, [], None, OnSome, IfSome, IfNone};
 ghost use Rattle.archive_check.specs.Lists.{list_of};
 
 use crate::error::Error;

@@ -1,4 +1,4 @@
-use Rattle.std.proofs.Common.{◌≡◌, ◌≤◌, ◌+◌, ◌<◌, ℕ, arith, inl, inr, length, ap, sym, IsTrue, nat_le, refl}
+use Rattle.std.proofs.Common.{◌≤◌, ◌<◌, ℕ, arith, inl, inr, IsTrue, nat_le, refl}
 use Rattle.std.proofs.lemmas.Bool.Decides.{nat_tests}
 use Rattle.archive_check.specs.Shape.{char}
 use Rattle.archive_check.specs.Reads.{IsLegalNumber}

@@ -1,14 +1,13 @@
-use Rattle.std.proofs.Common.{◌≡◌, ℕ, ℤ, pos, ◌+◌, ◌<◌, ap, sym, ◌∙◌, inl, inr, arith, Some, None, to_z, of_z, List, length, slice_index_or, refl, Ok, Err}
+use Rattle.std.proofs.Common.{◌≡◌, ap, sym, ◌∙◌, inr, arith, Some, None, slice_index_or, refl, Err}
 use Rattle.std.proofs.lemmas.Int.{to_z-of_z}
 use mir.Syntax.{w128}
-use Rattle.archive_check.specs.declared.plan.Target.TheVariants.{One, Run, Text}
-use Rattle.archive_check.specs.Ranges.{RangeState, subtree_answer}
+use Rattle.archive_check.specs.Ranges.{subtree_answer}
 use Rattle.archive_check.specs.Trail.{too_large}
 use Rattle.archive_check.specs.Runs.{times, RegionIs, enter_too_large}
 use Rattle.archive_check.specs.Lists.{list_of}
 use Rattle.archive_check.specs.Turns.{IsStopped}
 use Rattle.archive_check.proofs.Steps.{some_map, if_none}
-use Rattle.archive_check.proofs.Entering.{Lands, lands, astray, stopped_deep, Entered, entered, entered_ready, entered_empty, entered_text, entered_one, entered_run, entered_one_ready, entered_run_ready, entered_one_ends, entered_run_ends, entered_ends, entered_no_text, not_true, is_true, not_err}
+use Rattle.archive_check.proofs.Entering.{lands, astray, stopped_deep, entered, entered_empty, entered_text, entered_one, entered_run, entered_one_ready, entered_run_ready, entered_one_ends, entered_run_ends, entered_ends, entered_no_text, not_true, is_true, not_err}
 use Rattle.archive_check.specs.declared.error.Error.TheVariants.{LayoutTooLarge, InvalidUtf8, ExceededMaximumSubtreeDepth}
 use Rattle.archive_check.proofs.plan.Checker.enter.Goals as goal
 

@@ -1,4 +1,4 @@
-use Rattle.std.proofs.Common.{◌≡◌, ◌<◌, ◌≤◌, ℕ, ℤ, pos, ◌+ℤ◌, SFits, ap, sym, ◌∙◌, refl, to_z, of_z, List, length, slice_index_or, Ok, Err, Bool, true, false}
+use Rattle.std.proofs.Common.{SFits, ap, ◌∙◌, to_z, of_z, slice_index_or, Ok, true, false}
 use Rattle.std.proofs.lemmas.Int.{to_z-of_z}
 use mir.Syntax.{w128}
 use Rattle.archive_check.specs.declared.error.Error.TheVariants.{CyclicValidate}

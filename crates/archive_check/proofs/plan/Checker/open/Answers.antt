@@ -1,10 +1,10 @@
-use Rattle.std.proofs.Common.{rules, ◌≡◌, ◌<◌, ◌≤◌, ◌+◌, ◌-◌, ℕ, pos, SFits, arith, refl, sym, ap, ◌∙◌, length, slice_index, slice_index_or, List, ◌∷◌, to_z, of_z}
+use Rattle.std.proofs.Common.{SFits, arith, refl, sym, ap, ◌∙◌, slice_index, ◌∷◌, to_z, of_z}
 use Rattle.std.proofs.lemmas.Int.{to_z-of_z}
 use mir.Syntax.{w32, w128}
 use Rattle.archive_check.specs.declared.plan.Job.TheVariants.{Free, Leaf, Record, Choice, Array, Pointer as PointerJob, Str, Shared, Weak}
 use Rattle.archive_check.specs.Expressions.{kind_of}
 use Rattle.archive_check.specs.Trail.{illegal, no_such_variant}
-use Rattle.archive_check.specs.Runs.{IsAt, IsNode, run_free, run_leaf, run_illegal, run_tag, run_null}
+use Rattle.archive_check.specs.Runs.{IsNode, run_free, run_leaf, run_illegal, run_tag, run_null}
 use Rattle.archive_check.specs.declared.error.Error.TheVariants.{InvalidDiscriminant}
 use Rattle.archive_check.specs.declared.work.Work.TheVariants.{Part as PartWork}
 use Rattle.archive_check.specs.Layout.{kind_size}
@@ -15,7 +15,7 @@ use Rattle.archive_check.proofs.Edits.{bytes_long}
 use Rattle.archive_check.proofs.Entering.{not_true, is_true}
 use Rattle.archive_check.proofs.Turning.{turn_record, turn_choice, turn_array}
 use Rattle.archive_check.proofs.Costs.{falls_none}
-use Rattle.archive_check.proofs.Steps.{node_fits, node_leads, node_refuses, span_ready, span_ends, array_ready, array_ends, pointer_ends, pointer_keeps, shared_keeps, weak_keeps, shared_ends, some_map, refused_keeps, pushed_keeps}
+use Rattle.archive_check.proofs.Steps.{node_fits, node_leads, node_refuses, span_ready, span_ends, array_ends, pointer_ends, pointer_keeps, shared_keeps, weak_keeps, shared_ends, some_map, refused_keeps, pushed_keeps}
 use Rattle.archive_check.proofs.plan.Checker.open.Goals as goal
 
 pub returns-in-Free-clause-runs : goal.returns-in-Free-clause-runs

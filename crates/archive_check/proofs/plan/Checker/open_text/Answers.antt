@@ -1,4 +1,4 @@
-use Rattle.std.proofs.Common.{◌≡◌, ◌<◌, ◌≤◌, ◌+◌, ℕ, pos, SFits, arith, refl, ap, ◌∙◌, length, List, ◌∷◌, to_z, of_z}
+use Rattle.std.proofs.Common.{SFits, arith, refl, ◌∙◌, ◌∷◌}
 use Rattle.std.proofs.lemmas.Int.{to_z-of_z}
 use mir.Syntax.{w128}
 use Rattle.archive_check.specs.declared.plan.Job.TheVariants.{Str}

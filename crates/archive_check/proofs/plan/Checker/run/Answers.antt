@@ -1,4 +1,4 @@
-use Rattle.std.proofs.Common.{◌≡◌, ℕ, List, arith, ap, ◌∙◌, sym, pos, to_z}
+use Rattle.std.proofs.Common.{◌≡◌, arith, pos, to_z}
 use Rattle.std.proofs.lemmas.Int.{to_z_pos}
 use mir.Syntax.{w128}
 use Rattle.archive_check.specs.Lists.{list_of}

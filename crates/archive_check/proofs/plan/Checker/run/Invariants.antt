@@ -1,4 +1,4 @@
-use Rattle.std.proofs.Common.{◌≡◌, ℕ, pos, List, [], ◌∷◌}
+use Rattle.std.proofs.Common.{pos, []}
 use Rattle.std.specs.FinMap.{empty}
 use Rattle.archive_check.specs.declared.plan.Target.TheVariants.{One}
 use Rattle.archive_check.specs.Tour.{Seen}

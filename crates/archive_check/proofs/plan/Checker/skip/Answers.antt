@@ -1,5 +1,4 @@
 use Rattle.std.proofs.Common.{rules, ◌+◌, ◌≤◌, arith, length, slice_index_or}
-use Rattle.archive_check.specs.Turns.{PartFits, PartStays}
 use Rattle.archive_check.proofs.Entering.{is_true}
 use Rattle.archive_check.proofs.Steps.{at_default}
 use Rattle.archive_check.proofs.Skipping.{part_fits, stays_more}

@@ -1,14 +1,13 @@
-use Rattle.std.proofs.Common.{rules, ◌≡◌, ◌<◌, ◌≤◌, ◌+◌, ◌-◌, ◌*◌, ℕ, pos, arith, refl, sym, ap, ◌∙◌, Some, slice_index_or, List, ◌∷◌, unwrap_or, to_z, of_z, Ok, Err}
+use Rattle.std.proofs.Common.{rules, ◌≡◌, ◌<◌, ◌+◌, ◌-◌, ◌*◌, ℕ, pos, arith, sym, ap, ◌∙◌, Some, slice_index_or, ◌∷◌, unwrap_or, to_z}
 use Rattle.std.proofs.lemmas.Int.{to_z_pos}
 use mir.Syntax.{w128}
-use Rattle.archive_check.specs.declared.work.Work.TheVariants.{Part as PartWork, Parts, Elements, Leave, Finish}
+use Rattle.archive_check.specs.declared.work.Work.TheVariants.{Part as PartWork, Parts, Elements, Finish}
 use Rattle.archive_check.specs.declared.plan.Job.TheVariants.{Free}
-use Rattle.archive_check.specs.declared.plan.Part.{Part}
 use Rattle.archive_check.specs.Runs.{IsAt, IsNode, Takes}
 use Rattle.archive_check.specs.Lists.{list_of}
 use Rattle.archive_check.specs.Turns.{Listing, stage}
 use Rattle.archive_check.proofs.Costs.{falls_none}
-use Rattle.archive_check.proofs.Steps.{at_default, parts_ready, part_room, parts_leads, parts_ends, elements_ready, elements_leads, elements_ends, elements_free_leads, leave_leads, leave_refuses, finish_leads, finish_refuses, refused_keeps, then_keeps, then_falls, under}
+use Rattle.archive_check.proofs.Steps.{at_default, parts_ready, part_room, parts_leads, parts_ends, elements_ready, elements_leads, elements_ends, elements_free_leads, leave_leads, finish_leads, finish_refuses, refused_keeps, then_keeps, then_falls, under}
 use Rattle.archive_check.proofs.Skipping.{skip_all, skip_leads, skip_ready, skip_costs}
 use Rattle.archive_check.proofs.Passing.{takes_size, pass_all, pass_leads, pass_ready, pass_costs}
 use Rattle.archive_check.proofs.plan.Checker.step.Goals as goal
