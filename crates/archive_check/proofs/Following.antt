@@ -20,7 +20,7 @@ use Rattle.archive_check.specs.Tour.{Seen, Entry}
 use Rattle.archive_check.specs.Trail.{Fault, cyclic, other_type, other_length}
 use Rattle.archive_check.specs.Runs.{Outcome, refused, IsAt, count_at, length_of, entry_for, EnterRuns, FollowRuns, follow_before, follow_new, follow_again, follow_type, follow_length, follow_cycle}
 use Rattle.archive_check.specs.Turns.{Stage, stage, pending_in, Agreeing, Then, and_then, stops, Entering, Following, Leads, Refuses, Keeps, IsStopped}
-use Rattle.archive_check.proofs.Meeting.{agrees_same, SeenAs, seen_as, met_none, agrees_new, started_again}
+use Rattle.archive_check.proofs.Meeting.{levels_of, agrees_same, SeenAs, seen_as, met_none, agrees_new, started_again}
 use Rattle.archive_check.proofs.Turning.{turn_new}
 
 module _ (m : Checker) (s : RangeState) (met : Positions) (old : List Work) (k j p n l : ℕ) (target : Target) (z : ℤ) (sort : Sort)
@@ -82,7 +82,7 @@ module _ (m : Checker) (s : RangeState) (met : Positions) (old : List Work) (k j
       pub refuses_new : (e : Error) → IsStopped m target j n z s1 e → Refuses (Following m k target j p) (stage s met old) e
       refuses_new e (inl memory) = inl memory
       refuses_new e (inr stopped) = inr (λ seen a.
-          let f = (rw same at stopped) a.levels in
+          let f = (rw same at stopped) (levels_of a) in
           (f.0, f.1, following (stops (refused_by f.2 seen a z refl))))
 
       -- no region is entered behind a position that isn't one of the buffer's

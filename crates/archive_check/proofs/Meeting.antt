@@ -13,7 +13,7 @@ use Rattle.archive_check.specs.Ranges.{RangeState, one_less, one_more}
 use Rattle.archive_check.specs.Met.{Met, Positions, started_at, started, finished, finish_answer}
 use Rattle.archive_check.specs.Tour.{Seen, Entry}
 use Rattle.archive_check.specs.Fresh.{IsFresh}
-use Rattle.archive_check.specs.Turns.{Agrees}
+use Rattle.archive_check.specs.Turns.{Agrees, HasLevels}
 
 -- lists
 
@@ -80,6 +80,9 @@ agrees_same same h = record {
   levels = h.levels;
   few = h.few;
 }
+
+pub levels_of : {d : Option ℕ} {met : Positions} {pd : List ℕ} {r : ℕ} {seen : Seen} → Agrees d met pd r seen → HasLevels d
+levels_of a = record { levels = a.levels; few = λ k is. let most = a.few k is in omega arith }
 
 pub agrees_fresh : (s : RangeState) (met : Positions) → IsFresh s met → Agrees s.depth met [] 0 empty
 agrees_fresh s met f = record {

@@ -21,7 +21,7 @@ use Rattle.archive_check.specs.Closed.{span, PartsWithin, SpanFits, ArrayFits, J
 use Rattle.archive_check.specs.Faults.{IsFor}
 use Rattle.archive_check.specs.Turns.{PartsHere, PartFits, Ready, Stage, stage, pending_in, regions_in, Listing, Entering, Following, Leads, Refuses, Keeps, IsStopped, stops, power, level, rank, cost}
 use Rattle.archive_check.proofs.Turning.{turn_parts, turn_elements, turn_elements_free, turn_pointer, turn_text, turn_shared, turn_weak}
-use Rattle.archive_check.proofs.Meeting.{agrees_finished, finish_fine, agrees_outside, inside_more}
+use Rattle.archive_check.proofs.Meeting.{levels_of, agrees_finished, finish_fine, agrees_outside, inside_more}
 use Rattle.archive_check.proofs.Costs.{level_node, level_same, falls_one, falls_two, falls_under, falls_shared}
 
 pub same_get : {A : Type 0} (xs : List A) (i : ℕ) (x y : A) → i < length xs → slice_index_or xs i x ≡ slice_index_or xs i y
@@ -69,7 +69,7 @@ module _ (m : Checker) (s : RangeState) (met : Positions) where
     enter_keeps None fault target j n z turn leads (inr stopped) = (
       tt,
       inr (λ seen a.
-          let f = stopped a.levels in (f.0, f.1, turn seen (refused f.0) (stops (f.2 (pending_in old) seen)))),
+          let f = stopped (levels_of a) in (f.0, f.1, turn seen (refused f.0) (stops (f.2 (pending_in old) seen)))),
     )
 
     pub pointer_keeps : (result : Option (Unit {0})) (fault : Error) (target : Target) (j n : ℕ) (z : ℤ) → IsNode m i (PointerJob target j) → n ≡ count_at m.bytes.now p target → z ≡ pos p +ℤ i32_at m.bytes.now p

@@ -1,5 +1,5 @@
 -- Each turn of the list is a rule of the run.
-use Rattle.std.proofs.Common.{◌≡◌, ◌≢◌, ℕ, ℤ, pos, ◌+ℤ◌, refl, sym, ap, ◌+◌, ◌-◌, ◌*◌, ◌%◌, ◌<◌, ◌≤◌, arith, List, [], ◌∷◌, length, Option, Some, None, IsUtf8, slice_index, Bor}
+use Rattle.std.proofs.Common.{◌≡◌, ◌≢◌, ℕ, ℤ, pos, ◌+ℤ◌, refl, sym, ap, ◌+◌, ◌-◌, ◌*◌, ◌%◌, ◌<◌, ◌≤◌, arith, List, [], ◌∷◌, length, Option, Some, None, slice_index, Bor}
 use Rattle.std.specs.FinMap.{get, insert}
 use Rattle.archive_check.specs.declared.plan.Target.{Target}
 use Rattle.archive_check.specs.declared.plan.Target.TheVariants.{One, Run, Text}
@@ -11,9 +11,9 @@ use Rattle.archive_check.specs.declared.plan.Checker.{Checker}
 use Rattle.archive_check.specs.declared.work.Work.{Work}
 use Rattle.archive_check.specs.declared.work.Work.TheVariants.{Part as PartWork, Parts, Elements, Leave, Finish}
 use Rattle.archive_check.specs.Depth.{Allows, inside}
-use Rattle.archive_check.specs.Reads.{bytes_at, u32_at, i32_at, IsOutOfLine, decoded_length}
+use Rattle.archive_check.specs.Reads.{u32_at, i32_at, IsOutOfLine, decoded_length}
 use Rattle.archive_check.specs.Tour.{Seen}
-use Rattle.archive_check.specs.Runs.{Outcome, IsAt, IsNode, Takes, RegionIs, count_at, length_of, entry_for, run_record, run_choice, run_array, run_pointer, run_out_of_line, run_shared, run_weak, FollowRuns, follow_new, parts_next, parts_stop, elements_next, elements_free, elements_stop, EnterRuns, enter_within, enter_stop, contents_empty, contents_one, contents_run, contents_text, ListRuns, list_end, list_part, list_part_stop, list_parts, list_parts_stop, list_elements, list_elements_stop, list_leave, list_finish}
+use Rattle.archive_check.specs.Runs.{Outcome, IsAt, IsNode, Takes, RegionIs, count_at, length_of, entry_for, run_record, run_choice, run_array, run_pointer, run_out_of_line, run_shared, run_weak, FollowRuns, follow_new, parts_next, parts_stop, elements_next, elements_free, elements_stop, EnterRuns, enter_within, enter_stop, contents_one, contents_run, ListRuns, list_end, list_part, list_part_stop, list_parts, list_parts_stop, list_elements, list_elements_stop, list_leave, list_finish}
 use Rattle.archive_check.specs.Turns.{Then, and_then, stops}
 
 -- one level of depth is got back
@@ -75,12 +75,6 @@ module _ (m : Checker) where
   pub enter_run : {pd : List ℕ} {d : Option ℕ} {e j n z align t s : ℕ} {k : Seen} {o : Outcome} {w : List Work} → RegionIs m j n (Some z) align → s ≤ t → t + z ≤ e → t % align ≡ 0 → Allows d 1 → 0 < z → ListRuns m pd (inside d) t (Elements j n t ∷ Leave (t + z) e ∷ w) s k o → Then m pd d e (EnterRuns m pd d e Run j n (pos t) s k) w o
   enter_run reg above below aligned deep lt (list_elements v (list_leave same r)) = and_then (enter_within reg refl above below aligned deep (contents_run lt v)) (outer_same deep same r)
   enter_run reg above below aligned deep lt (list_elements_stop v) = stops (enter_stop reg refl above below aligned deep (contents_run lt v))
-
-  pub enter_text : {pd : List ℕ} {d : Option ℕ} {e j n z align t s : ℕ} {k : Seen} {o : Outcome} {w : List Work} → RegionIs m j n (Some z) align → s ≤ t → t + z ≤ e → t % align ≡ 0 → Allows d 1 → IsUtf8 (bytes_at m.bytes.now t z) → ListRuns m pd (inside d) t (Leave (t + z) e ∷ w) s k o → Then m pd d e (EnterRuns m pd d e Text j n (pos t) s k) w o
-  enter_text reg above below aligned deep utf (list_leave same r) = and_then (enter_within reg refl above below aligned deep (contents_text utf)) (outer_same deep same r)
-
-  pub enter_empty : {pd : List ℕ} {d : Option ℕ} {e j n z align t s : ℕ} {k : Seen} {o : Outcome} {w : List Work} {target : Target} → RegionIs m j n (Some z) align → s ≤ t → t + z ≤ e → t % align ≡ 0 → Allows d 1 → z ≡ 0 → ListRuns m pd (inside d) t (Leave (t + z) e ∷ w) s k o → Then m pd d e (EnterRuns m pd d e target j n (pos t) s k) w o
-  enter_empty reg above below aligned deep none (list_leave same r) = and_then (enter_within reg refl above below aligned deep (contents_empty none)) (outer_same deep same r)
 
   -- a list that begins with the end of a shared position runs within it
   record Finishing (pd : List ℕ) (d : Option ℕ) (e t : ℕ) (w : List Work) (s : ℕ) (k : Seen) (o : Outcome) : Type 0 where

@@ -14,7 +14,7 @@ use Rattle.archive_check.specs.Met.{Positions}
 use Rattle.archive_check.specs.Tour.{Seen, Entry}
 use Rattle.archive_check.specs.Trail.{Fault}
 use Rattle.archive_check.specs.Reads.{i32_at}
-use Rattle.archive_check.specs.Runs.{Outcome, done, refused, Takes, count_at, length_of, IsAt, NodeRuns, EnterRuns, FollowRuns, ListRuns}
+use Rattle.archive_check.specs.Runs.{Outcome, done, refused, Takes, count_at, length_of, IsAt, NodeRuns, ContentsRun, EnterRuns, FollowRuns, ListRuns}
 use Rattle.archive_check.specs.Closed.{span}
 use Rattle.archive_check.specs.Faults.{IsFor}
 
@@ -139,11 +139,20 @@ Refuses Before x e = (e ≡ OutOfMemory) ⊎ ((seen : Seen) → Agreeing x seen 
 abbrev pub Keeps : Checker → (Stage → Seen → Outcome → Type 0) → Stage → Stage → Option (Unit {0}) → Error → Type 0
 Keeps m Before x y result fault = OnSome result (Leads m Before x y) × IfNone result (Refuses Before x fault)
 
--- a region isn't entered, whatever is seen and pending, where levels are left
+-- levels are left, and no more than a number holds
+pub record HasLevels (depth : Option ℕ) : Type 0 where
+  pub levels : depth ≢ Some 0
+  pub few : (d : ℕ) → depth ≡ Some d → d < 18446744073709551616
+
+-- a region isn't entered, whatever is seen and pending
 abbrev pub IsStopped : Checker → Target → ℕ → ℕ → ℤ → RangeState → Error → Type 0
 IsStopped m target j n where_to s e =
     (e ≡ OutOfMemory)
-    ⊎ (s.depth ≢ Some 0 → (f : Fault) × IsFor f e × ((pending : List ℕ) (seen : Seen) → EnterRuns m pending s.depth s.end target j n where_to s.start seen (refused f)))
+    ⊎ (HasLevels s.depth → (f : Fault) × IsFor f e × ((pending : List ℕ) (seen : Seen) → EnterRuns m pending s.depth s.end target j n where_to s.start seen (refused f)))
+
+-- what a region of n holds, z bytes at t, is legal as it lies, and leads nowhere
+abbrev pub Passes : Checker → Target → ℕ → ℕ → ℕ → ℕ → Type 0
+Passes m target j n z t = (pending : List ℕ) (depth : Option ℕ) (start : ℕ) (seen : Seen) → ContentsRun m pending depth target j n z t start seen (done start seen)
 
 -- the node at p is legal as it lies, and leads nowhere
 abbrev pub Stays : Checker → ℕ → ℕ → Type 0

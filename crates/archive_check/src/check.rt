@@ -1,19 +1,20 @@
 //! The check of bytes against a plan: a list of what is left to check, and no recursion.
 
-ghost use Rattle.std.specs.Prelude.{◌≡◌, ◌⊎◌, ◌+◌, ◌*◌, ◌<◌, ◌≤◌, ◌∷◌, ℕ, [], pos, None, length, slice_index, OnOk, IfErr, OnSome, IfSome, IfNone, IsTrue};
+ghost use Rattle.std.specs.Prelude.{◌≡◌, ◌⊎◌, ◌+◌, ◌*◌, ◌<◌, ◌≤◌, ◌∷◌, ℕ, [], pos, None, length, slice_index, OnOk, IfErr, OnSome, IfSome, IfNone, IsTrue, IsUtf8, Some, ◌≢◌, false};
+ghost use Rattle.archive_check.specs.Reads.{bytes_at};
 ghost use Rattle.std.specs.FinMap.{empty};
 ghost use Rattle.archive_check.specs.declared.error.Error.TheVariants.{OutOfMemory};
 ghost use Rattle.archive_check.specs.declared.plan.Job.TheVariants.{Str};
-ghost use Rattle.archive_check.specs.declared.plan.Target.TheVariants.{One};
+ghost use Rattle.archive_check.specs.declared.plan.Target.TheVariants.{One, Text};
 ghost use Rattle.archive_check.specs.declared.work.Work.TheVariants.{Part as PartWork};
 ghost use Rattle.archive_check.specs.Tour.{Seen};
 ghost use Rattle.archive_check.specs.Trail.{Fault};
-ghost use Rattle.archive_check.specs.Runs.{times as times_of, count_at, length_of, target_size, IsAt, IsNode, Takes, EnterRuns, done, refused};
+ghost use Rattle.archive_check.specs.Runs.{times as times_of, count_at, length_of, target_size, IsAt, IsNode, Takes, RegionIs, EnterRuns, done, refused};
 ghost use Rattle.archive_check.specs.Lists.{list_of};
 ghost use Rattle.archive_check.specs.Closed.{IsClosed};
 ghost use Rattle.archive_check.specs.Faults.{IsFor};
 ghost use Rattle.archive_check.specs.Fresh.{IsFresh};
-ghost use Rattle.archive_check.specs.Turns.{PointeeFits, PartFits, PartsFit, ElementsFit, Stays, PartStays, Ready, stage, Listing, Entering, Following, Leads, Keeps, IsStopped, power, level, cost};
+ghost use Rattle.archive_check.specs.Turns.{PointeeFits, Passes, PartFits, PartsFit, ElementsFit, Stays, PartStays, Ready, stage, Listing, Entering, Following, Leads, Keeps, IsStopped, power, level, cost};
 
 use crate::bytes::{
     inline_length, is_out_of_line, is_text, read_coded_length, read_i32, read_position, read_u32,
@@ -129,7 +130,36 @@ impl Checker<'_> {
         count
     }
 
-    /// Enters a region of so many of the pointee, to be left behind what it leads to.
+    /// Whether the region of so many of the pointee at `begin` is legal as it lies and leads nowhere. `None` where it is a text, and isn't UTF-8.
+    fn contents(
+        &self,
+        target: Target,
+        pointee: usize,
+        count: usize,
+        begin: usize,
+        size: usize,
+    ) -> Option<bool>
+        requires region { (align : ℕ) × RegionIs self.now pointee count (Some size) align }
+        requires pointee { PointeeFits self.now target pointee count }
+        requires within { begin + size ≤ length self.now.bytes.now }
+        ensures passed { IfSome result (λ passed. IsTrue passed → Passes self.now target pointee count size begin) }
+        ensures walked { IfSome result (λ passed. passed ≡ false → (0 < size) × (target ≢ Text)) }
+        ensures none { IfNone result ((target ≡ Text) × (IsUtf8 (bytes_at self.now.bytes.now begin size) → ⊥)) }
+    {
+        if let Target::Text = target {
+            if !is_text(self.bytes, begin, size) {
+                return None;
+            }
+            return Some(true);
+        }
+        let here = self.nodes[pointee];
+        if let Job::Free = here.job {
+            return Some(true);
+        }
+        Some(size == 0)
+    }
+
+    /// Enters a region of so many of the pointee, to be left behind what it leads to, or at once.
     fn enter<C: ArchiveContext>(
         &self,
         target: Target,
@@ -164,19 +194,19 @@ impl Checker<'_> {
             Err(error) => return work.refuse(error),
             Ok(range) => range,
         };
-        work.leave(range)?;
-        if size == 0 {
+        let Some(passed) = self.contents(target, pointee, count, begin, size) else {
+            return work.refuse(Error::InvalidUtf8);
+        };
+        if passed {
+            if let Err(error) = context.pop_subtree_range(range) {
+                return work.refuse(error);
+            }
             return Some(());
         }
+        work.leave(range)?;
         match target {
             Target::One => work.part(pointee, begin),
-            Target::Run => work.elements(pointee, count, begin),
-            Target::Text => {
-                if !is_text(self.bytes, begin, size) {
-                    return work.refuse(Error::InvalidUtf8);
-                }
-                Some(())
-            }
+            _ => work.elements(pointee, count, begin),
         }
     }
 
