@@ -17,10 +17,11 @@ use Rattle.archive_check.specs.Tour.{Seen}
 use Rattle.archive_check.specs.Trail.{Fault}
 use Rattle.archive_check.specs.Reads.{u32_at, i32_at, IsOutOfLine, decoded_length}
 use Rattle.archive_check.specs.Runs.{count_at, Outcome, done, refused, IsAt, IsNode, NodeRuns, ListRuns, list_part, list_part_stop, list_leave, list_finish}
+use Rattle.archive_check.specs.Lists.{IsMore}
 use Rattle.archive_check.specs.Closed.{span, PartsWithin, SpanFits, ArrayFits, JobFits, IsClosed}
 use Rattle.archive_check.specs.Faults.{IsFor}
 use Rattle.archive_check.specs.Turns.{PartsHere, PartFits, Ready, Stage, stage, pending_in, regions_in, Listing, Entering, Following, Leads, Refuses, Keeps, IsStopped, stops, power, level, rank, cost}
-use Rattle.archive_check.proofs.Turning.{turn_parts, turn_elements, turn_elements_free, turn_pointer, turn_text, turn_shared, turn_weak}
+use Rattle.archive_check.proofs.Turning.{turn_parts, turn_elements, turn_part_last, turn_element_last, turn_elements_free, turn_pointer, turn_text, turn_shared, turn_weak}
 use Rattle.archive_check.proofs.Meeting.{levels_of, agrees_finished, finish_fine, agrees_outside, inside_more}
 use Rattle.archive_check.proofs.Costs.{level_node, level_same, falls_one, falls_two, falls_under, falls_shared}
 
@@ -97,7 +98,7 @@ module _ (m : Checker) (s : RangeState) (met : Positions) where
     weak_keeps result fault target k j is other keeps = follow_keeps result fault target k j (λ seen o t. turn_weak m is other t) keeps
 
   module _ (old new : List Work) where
-    pub parts_ready : (a b p : ℕ) (x : Part) → Ready m s (Parts a b p ∷ old) → a < b → IsAt m.parts.now a x → new ≡ PartWork x.node (p + x.offset) ∷ Parts (a + 1) b p ∷ old → Ready m s new
+    parts_ready : (a b p : ℕ) (x : Part) → Ready m s (Parts a b p ∷ old) → a < b → IsAt m.parts.now a x → new ≡ PartWork x.node (p + x.offset) ∷ Parts (a + 1) b p ∷ old → Ready m s new
     parts_ready a b p x r lt at e =
         let here = rw (span_next m.parts.now a b x lt r.fits.0.last at) at r.fits.0.here in
         record {
@@ -109,10 +110,10 @@ module _ (m : Checker) (s : RangeState) (met : Positions) where
     part_room a b p x r lt at =
         let here = rw (span_next m.parts.now a b x lt r.fits.0.last at) at r.fits.0.here in omega (arith, here.0.2)
 
-    pub parts_leads : (a b p : ℕ) (x : Part) → a < b → IsAt m.parts.now a x → new ≡ PartWork x.node (p + x.offset) ∷ Parts (a + 1) b p ∷ old → Leads m (Listing m) (stage s met (Parts a b p ∷ old)) (stage s met new)
+    parts_leads : (a b p : ℕ) (x : Part) → a < b → IsAt m.parts.now a x → new ≡ PartWork x.node (p + x.offset) ∷ Parts (a + 1) b p ∷ old → Leads m (Listing m) (stage s met (Parts a b p ∷ old)) (stage s met new)
     parts_leads a b p x lt at e = same_leads (Parts a b p ∷ old) new (ap pending_in e) (ap regions_in e) (λ seen o r. turn_parts m lt at (rw e at r))
 
-    pub parts_ends : (a b p : ℕ) (x : Part) → a < b → b ≤ length m.parts.now → b < 18446744073709551616 → IsAt m.parts.now a x → new ≡ PartWork x.node (p + x.offset) ∷ Parts (a + 1) b p ∷ old → cost m s.end new < cost m s.end (Parts a b p ∷ old)
+    parts_ends : (a b p : ℕ) (x : Part) → a < b → b ≤ length m.parts.now → b < 18446744073709551616 → IsAt m.parts.now a x → new ≡ PartWork x.node (p + x.offset) ∷ Parts (a + 1) b p ∷ old → cost m s.end new < cost m s.end (Parts a b p ∷ old)
     parts_ends a b p x lt le few at e =
         let n = length m.nodes.now in
         let xs = span m.parts.now (a + 1) b in
@@ -121,7 +122,7 @@ module _ (m : Checker) (s : RangeState) (met : Positions) where
         (level_node n s.end (max (x.node + 1) (rank xs)) (b - a) x.node 18446744073709551616 (omega arith) (omega arith))
         (level_same n s.end (max (x.node + 1) (rank xs)) (rank xs) (b - a) (b - (a + 1)) (omega arith) (omega arith)))
 
-    pub elements_ready : (j n p z : ℕ) (x : Node) → Ready m s (Elements j n p ∷ old) → 0 < n → IsAt m.nodes.now j x → ((y : ℕ) → x.size ≡ Some y → z ≡ y) → new ≡ PartWork j p ∷ Elements j (n - 1) (p + z) ∷ old → Ready m s new
+    elements_ready : (j n p z : ℕ) (x : Node) → Ready m s (Elements j n p ∷ old) → 0 < n → IsAt m.nodes.now j x → ((y : ℕ) → x.size ≡ Some y → z ≡ y) → new ≡ PartWork j p ∷ Elements j (n - 1) (p + z) ∷ old → Ready m s new
     elements_ready j n p z x r lt at size e =
         let f = r.fits.0 in
         let same = size f.size (ap (λ q. q.size) (same_at at f.takes.at) ∙ f.takes.size_is) in
@@ -131,18 +132,56 @@ module _ (m : Checker) (s : RangeState) (met : Positions) where
           fits = rw e (record { size = f.size; takes = f.takes; fits = omega (arith, f.fits, all) }, (record { size = f.size; few = omega (arith, f.few); takes = f.takes; fits = omega (arith, f.fits, all, same) }, r.fits.1));
         }
 
-    pub elements_leads : (j n p z : ℕ) (x : Node) → Ready m s (Elements j n p ∷ old) → 0 < n → IsAt m.nodes.now j x → ((y : ℕ) → x.size ≡ Some y → z ≡ y) → new ≡ PartWork j p ∷ Elements j (n - 1) (p + z) ∷ old → Leads m (Listing m) (stage s met (Elements j n p ∷ old)) (stage s met new)
+    elements_leads : (j n p z : ℕ) (x : Node) → Ready m s (Elements j n p ∷ old) → 0 < n → IsAt m.nodes.now j x → ((y : ℕ) → x.size ≡ Some y → z ≡ y) → new ≡ PartWork j p ∷ Elements j (n - 1) (p + z) ∷ old → Leads m (Listing m) (stage s met (Elements j n p ∷ old)) (stage s met new)
     elements_leads j n p z x r lt at size e =
         let f = r.fits.0 in
         let same = size f.size (ap (λ q. q.size) (same_at at f.takes.at) ∙ f.takes.size_is) in
         same_leads (Elements j n p ∷ old) new (ap pending_in e) (ap regions_in e) (λ seen o v. turn_elements m lt f.takes (rw (e, same) at v))
 
-    pub elements_ends : (j n p q : ℕ) → n < 18446744073709551616 → 0 < n → new ≡ PartWork j p ∷ Elements j (n - 1) q ∷ old → cost m s.end new < cost m s.end (Elements j n p ∷ old)
+    elements_ends : (j n p q : ℕ) → n < 18446744073709551616 → 0 < n → new ≡ PartWork j p ∷ Elements j (n - 1) q ∷ old → cost m s.end new < cost m s.end (Elements j n p ∷ old)
     elements_ends j n p q few lt e =
         let k = length m.nodes.now in
         rw e (falls_two (level k s.end j 18446744073709551616) (level k s.end (j + 1) (n - 1)) (level k s.end (j + 1) n) (cost m s.end old)
         (level_node k s.end (j + 1) n j 18446744073709551616 (omega arith) (omega arith))
         (level_same k s.end (j + 1) (j + 1) n (n - 1) (omega arith) (omega arith)))
+
+  -- the same, where nothing may be behind the part or the element
+  module _ (old rest : List Work) where
+    pub part_ready : (a b p : ℕ) (x : Part) → Ready m s (Parts a b p ∷ old) → a < b → IsAt m.parts.now a x → IsMore (Parts (a + 1) b p) (b ≤ a + 1) rest old → Ready m s (PartWork x.node (p + x.offset) ∷ rest)
+    part_ready a b p x r lt at (inl e) = parts_ready old (PartWork x.node (p + x.offset) ∷ rest) a b p x r lt at (ap (λ w. PartWork x.node (p + x.offset) ∷ w) e)
+    part_ready a b p x r lt at (inr (ge, e)) =
+        let here = rw (span_next m.parts.now a b x lt r.fits.0.last at) at r.fits.0.here in
+        record { below = r.below; fits = rw e (record { size = here.0.0; takes = here.0.1; fits = here.0.2 }, r.fits.1) }
+
+    pub part_leads : (a b p : ℕ) (x : Part) → a < b → IsAt m.parts.now a x → IsMore (Parts (a + 1) b p) (b ≤ a + 1) rest old → Leads m (Listing m) (stage s met (Parts a b p ∷ old)) (stage s met (PartWork x.node (p + x.offset) ∷ rest))
+    part_leads a b p x lt at (inl e) = parts_leads old (PartWork x.node (p + x.offset) ∷ rest) a b p x lt at (ap (λ w. PartWork x.node (p + x.offset) ∷ w) e)
+    part_leads a b p x lt at (inr (ge, e)) = same_leads (Parts a b p ∷ old) (PartWork x.node (p + x.offset) ∷ rest) (ap pending_in e) (ap regions_in e) (λ seen o r. turn_part_last m lt ge at (rw e at r))
+
+    pub part_ends : (a b p : ℕ) (x : Part) → a < b → b ≤ length m.parts.now → b < 18446744073709551616 → IsAt m.parts.now a x → IsMore (Parts (a + 1) b p) (b ≤ a + 1) rest old → cost m s.end (PartWork x.node (p + x.offset) ∷ rest) < cost m s.end (Parts a b p ∷ old)
+    part_ends a b p x lt le few at (inl e) = parts_ends old (PartWork x.node (p + x.offset) ∷ rest) a b p x lt le few at (ap (λ w. PartWork x.node (p + x.offset) ∷ w) e)
+    part_ends a b p x lt le few at (inr (ge, e)) =
+        let n = length m.nodes.now in
+        let xs = span m.parts.now (a + 1) b in
+        rw (e, span_next m.parts.now a b x lt le at)
+        (falls_one (level n s.end x.node 18446744073709551616) (level n s.end (max (x.node + 1) (rank xs)) (b - a)) (cost m s.end old)
+        (level_node n s.end (max (x.node + 1) (rank xs)) (b - a) x.node 18446744073709551616 (omega arith) (omega arith)))
+
+    pub element_ready : (j n p z : ℕ) (x : Node) → Ready m s (Elements j n p ∷ old) → 0 < n → IsAt m.nodes.now j x → ((y : ℕ) → x.size ≡ Some y → z ≡ y) → IsMore (Elements j (n - 1) (p + z)) (n - 1 ≡ 0) rest old → Ready m s (PartWork j p ∷ rest)
+    element_ready j n p z x r lt at size (inl e) = elements_ready old (PartWork j p ∷ rest) j n p z x r lt at size (ap (λ w. PartWork j p ∷ w) e)
+    element_ready j n p z x r lt at size (inr (none, e)) =
+        let f = r.fits.0 in
+        let all = split_count n f.size lt in
+        record { below = r.below; fits = rw e (record { size = f.size; takes = f.takes; fits = omega (arith, f.fits, all) }, r.fits.1) }
+
+    pub element_leads : (j n p z : ℕ) (x : Node) → Ready m s (Elements j n p ∷ old) → 0 < n → IsAt m.nodes.now j x → ((y : ℕ) → x.size ≡ Some y → z ≡ y) → IsMore (Elements j (n - 1) (p + z)) (n - 1 ≡ 0) rest old → Leads m (Listing m) (stage s met (Elements j n p ∷ old)) (stage s met (PartWork j p ∷ rest))
+    element_leads j n p z x r lt at size (inl e) = elements_leads old (PartWork j p ∷ rest) j n p z x r lt at size (ap (λ w. PartWork j p ∷ w) e)
+    element_leads j n p z x r lt at size (inr (none, e)) = same_leads (Elements j n p ∷ old) (PartWork j p ∷ rest) (ap pending_in e) (ap regions_in e) (λ seen o v. turn_element_last m lt none r.fits.0.takes (rw e at v))
+
+    pub element_ends : (j n p q : ℕ) → n < 18446744073709551616 → 0 < n → IsMore (Elements j (n - 1) q) (n - 1 ≡ 0) rest old → cost m s.end (PartWork j p ∷ rest) < cost m s.end (Elements j n p ∷ old)
+    element_ends j n p q few lt (inl e) = elements_ends old (PartWork j p ∷ rest) j n p q few lt (ap (λ w. PartWork j p ∷ w) e)
+    element_ends j n p q few lt (inr (none, e)) =
+        let k = length m.nodes.now in
+        rw e (falls_one (level k s.end j 18446744073709551616) (level k s.end (j + 1) n) (cost m s.end old) (level_node k s.end (j + 1) n j 18446744073709551616 (omega arith) (omega arith)))
 
   module _ (old : List Work) where
     pub elements_free_leads : (j n p : ℕ) → IsNode m j Free → Ready m s (Elements j n p ∷ old) → Leads m (Listing m) (stage s met (Elements j n p ∷ old)) (stage s met old)

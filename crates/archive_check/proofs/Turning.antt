@@ -13,7 +13,7 @@ use Rattle.archive_check.specs.declared.work.Work.TheVariants.{Part as PartWork,
 use Rattle.archive_check.specs.Depth.{Allows, inside}
 use Rattle.archive_check.specs.Reads.{u32_at, i32_at, IsOutOfLine, decoded_length}
 use Rattle.archive_check.specs.Tour.{Seen}
-use Rattle.archive_check.specs.Runs.{Outcome, IsAt, IsNode, Takes, RegionIs, count_at, length_of, entry_for, run_record, run_choice, run_array, run_pointer, run_out_of_line, run_shared, run_weak, FollowRuns, follow_new, parts_next, parts_stop, elements_next, elements_free, elements_stop, EnterRuns, enter_within, enter_stop, contents_one, contents_run, ListRuns, list_end, list_part, list_part_stop, list_parts, list_parts_stop, list_elements, list_elements_stop, list_leave, list_finish}
+use Rattle.archive_check.specs.Runs.{Outcome, IsAt, IsNode, Takes, RegionIs, count_at, length_of, entry_for, run_record, run_choice, run_array, run_pointer, run_out_of_line, run_shared, run_weak, FollowRuns, follow_new, parts_end, parts_next, parts_stop, elements_end, elements_next, elements_free, elements_stop, EnterRuns, enter_within, enter_stop, contents_one, contents_run, ListRuns, list_end, list_part, list_part_stop, list_parts, list_parts_stop, list_elements, list_elements_stop, list_leave, list_finish}
 use Rattle.archive_check.specs.Turns.{Then, and_then, stops}
 
 -- one level of depth is got back
@@ -61,6 +61,14 @@ module _ (m : Checker) where
   turn_elements lt at (list_part v (list_elements vs r)) = list_elements (elements_next lt at v vs) r
   turn_elements lt at (list_part v (list_elements_stop vs)) = list_elements_stop (elements_next lt at v vs)
   turn_elements lt at (list_part_stop v) = list_elements_stop (elements_stop lt v)
+
+  pub turn_part_last : {pd : List ℕ} {d : Option ℕ} {e a b p s : ℕ} {k : Seen} {o : Outcome} {w : List Work} {x : Part} → a < b → b ≤ a + 1 → IsAt m.parts.now a x → ListRuns m pd d e (PartWork x.node (p + x.offset) ∷ w) s k o → ListRuns m pd d e (Parts a b p ∷ w) s k o
+  turn_part_last lt ge at (list_part v r) = list_parts (parts_next lt at v (parts_end ge)) r
+  turn_part_last lt ge at (list_part_stop v) = list_parts_stop (parts_stop lt at v)
+
+  pub turn_element_last : {pd : List ℕ} {d : Option ℕ} {e j n z p s : ℕ} {k : Seen} {o : Outcome} {w : List Work} → 0 < n → n - 1 ≡ 0 → Takes m j z → ListRuns m pd d e (PartWork j p ∷ w) s k o → ListRuns m pd d e (Elements j n p ∷ w) s k o
+  turn_element_last lt none at (list_part v r) = list_elements (elements_next lt at v (elements_end none)) r
+  turn_element_last lt none at (list_part_stop v) = list_elements_stop (elements_stop lt v)
 
   pub turn_elements_free : {pd : List ℕ} {d : Option ℕ} {e j n p z s : ℕ} {k : Seen} {o : Outcome} {w : List Work} → IsNode m j Free → Takes m j z → p + n * z ≤ length m.bytes.now → ListRuns m pd d e w s k o → ListRuns m pd d e (Elements j n p ∷ w) s k o
   turn_elements_free h at fits r = list_elements (elements_free h at fits) r

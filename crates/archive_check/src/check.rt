@@ -360,7 +360,7 @@ impl Checker<'_> {
                     return Some(());
                 }
                 let part = self.parts[next];
-                work.parts(next + 1, last, base)?;
+                work.more_parts(next + 1, last, base)?;
                 self.open(part.node, base + part.offset, work, context)
             }
             Work::Elements { node, left, at } => {
@@ -374,7 +374,7 @@ impl Checker<'_> {
                     return Some(());
                 }
                 let next = at + passed * size;
-                work.elements(node, left - passed - 1, next + size)?;
+                work.more_elements(node, left - passed - 1, next + size)?;
                 self.open(node, next, work, context)
             }
             Work::Leave { start, end } => {

@@ -1,7 +1,7 @@
 //! What is left to check.
 
-ghost use Rattle.std.specs.Prelude.{◌≡◌, ◌∷◌, [], None, OnSome, IfSome, IfNone};
-ghost use Rattle.archive_check.specs.Lists.{list_of};
+ghost use Rattle.std.specs.Prelude.{◌≡◌, ◌≤◌, ◌∷◌, [], None, OnSome, IfSome, IfNone};
+ghost use Rattle.archive_check.specs.Lists.{list_of, IsMore};
 
 use crate::error::Error;
 use std::alloc::Global;
@@ -75,6 +75,7 @@ impl Worklist {
 
     /// Stops the check.
     #[cold]
+    #[inline(never)]
     pub fn refuse(&mut self, fault: Error) -> Option<()>
         ensures none { result ≡ None }
         ensures fault { self.new.fault ≡ fault }
@@ -94,7 +95,7 @@ impl Worklist {
         Some(())
     }
 
-    /// The node at `at` is left. Refused with 1 where memory is refused, as are the next four.
+    /// The node at `at` is left. Refused with 1 where memory is refused, as are the next ones.
     pub fn part(&mut self, node: usize, at: usize) -> Option<()>
         ensures some { OnSome result (list_of self.new ≡ Work.Part node at ∷ list_of self.old) }
         ensures none { IfNone result (self.new.fault ≡ Error.OutOfMemory) }
@@ -116,6 +117,28 @@ impl Worklist {
         ensures none { IfNone result (self.new.fault ≡ Error.OutOfMemory) }
     {
         self.push(Work::Elements { node, left, at })
+    }
+
+    /// What `parts` leaves, where there are any.
+    pub fn more_parts(&mut self, first: usize, last: usize, base: usize) -> Option<()>
+        ensures some { OnSome result (IsMore (Work.Parts first last base) (last ≤ first) (list_of self.new) (list_of self.old)) }
+        ensures none { IfNone result (self.new.fault ≡ Error.OutOfMemory) }
+    {
+        if first < last {
+            self.parts(first, last, base)?;
+        }
+        Some(())
+    }
+
+    /// What `elements` leaves, where there are any.
+    pub fn more_elements(&mut self, node: usize, left: usize, at: usize) -> Option<()>
+        ensures some { OnSome result (IsMore (Work.Elements node left at) (left ≡ 0) (list_of self.new) (list_of self.old)) }
+        ensures none { IfNone result (self.new.fault ≡ Error.OutOfMemory) }
+    {
+        if left > 0 {
+            self.elements(node, left, at)?;
+        }
+        Some(())
     }
 
     /// A region is to be left, and the range will be this one.

@@ -7,7 +7,7 @@ use Rattle.archive_check.specs.Runs.{IsAt, IsNode, Takes}
 use Rattle.archive_check.specs.Lists.{list_of}
 use Rattle.archive_check.specs.Turns.{Listing, stage}
 use Rattle.archive_check.proofs.Costs.{falls_none}
-use Rattle.archive_check.proofs.Steps.{at_default, parts_ready, part_room, parts_leads, parts_ends, elements_ready, elements_leads, elements_ends, elements_free_leads, leave_leads, finish_leads, finish_refuses, refused_keeps, then_keeps, then_falls, under}
+use Rattle.archive_check.proofs.Steps.{at_default, part_ready, part_room, part_leads, part_ends, element_ready, element_leads, element_ends, elements_free_leads, leave_leads, finish_leads, finish_refuses, refused_keeps, then_keeps, then_falls, under}
 use Rattle.archive_check.proofs.Skipping.{skip_all, skip_leads, skip_ready, skip_costs}
 use Rattle.archive_check.proofs.Passing.{takes_size, pass_all, pass_leads, pass_ready, pass_costs}
 use Rattle.archive_check.proofs.plan.Checker.step.Goals as goal
@@ -54,12 +54,13 @@ open-requires-in-Parts-clause-ready g c =
     let r = skip_ready m c.in-Parts.base old s seen c.in-Parts.first c.in-Parts.last c.skip-next.result c.skip-next.ensures.skipped r0 from c.skip-next.ensures.below in
     let x = slice_index_or m.parts.now c.skip-next.result (record { offset = 0; node = 0 }) in
     let at = at_default m.parts.now c.skip-next.result (record { offset = 0; node = 0 }) (omega (arith, r.fits.0.last, c.if-next-last.false)) in
-    let new = PartWork x.node (c.in-Parts.base + x.offset) ∷ list_of c.parts.new.self in
-    let e = ap (λ w. PartWork x.node (c.in-Parts.base + x.offset) ∷ w) c.in_ok-parts-in-Parts.ensures.some in
-    parts_ready m s seen old new c.skip-next.result c.in-Parts.last c.in-Parts.base x r c.if-next-last.false at e
+    let rest = list_of c.more_parts.new.self in
+    let new = PartWork x.node (c.in-Parts.base + x.offset) ∷ rest in
+    let e = c.in_ok-more_parts-in-Parts.ensures.some in
+    part_ready m s seen old rest c.skip-next.result c.in-Parts.last c.in-Parts.base x r c.if-next-last.false at e
 
-pub returns-in_ok-parts-in-Parts-clause-runs : goal.returns-in_ok-parts-in-Parts-clause-runs
-returns-in_ok-parts-in-Parts-clause-runs g c =
+pub returns-in_ok-more_parts-in-Parts-clause-runs : goal.returns-in_ok-more_parts-in-Parts-clause-runs
+returns-in_ok-more_parts-in-Parts-clause-runs g c =
     let m = c.args.self.now in
     let st = g.C.Context.state in
     let met = g.C.Context.positions in
@@ -71,14 +72,15 @@ returns-in_ok-parts-in-Parts-clause-runs g c =
     let r = skip_ready m c.in-Parts.base old s seen c.in-Parts.first c.in-Parts.last c.skip-next.result c.skip-next.ensures.skipped r0 from c.skip-next.ensures.below in
     let x = slice_index_or m.parts.now c.skip-next.result (record { offset = 0; node = 0 }) in
     let at = at_default m.parts.now c.skip-next.result (record { offset = 0; node = 0 }) (omega (arith, r.fits.0.last, c.if-next-last.false)) in
-    let new = PartWork x.node (c.in-Parts.base + x.offset) ∷ list_of c.parts.new.self in
-    let e = ap (λ w. PartWork x.node (c.in-Parts.base + x.offset) ∷ w) c.in_ok-parts-in-Parts.ensures.some in
+    let rest = list_of c.more_parts.new.self in
+    let new = PartWork x.node (c.in-Parts.base + x.offset) ∷ rest in
+    let e = c.in_ok-more_parts-in-Parts.ensures.some in
     rw c.in-Parts.is (then_keeps m (stage s seen (Parts c.in-Parts.first c.in-Parts.last c.in-Parts.base ∷ old)) (stage s seen (Parts c.skip-next.result c.in-Parts.last c.in-Parts.base ∷ old)) (stage (st c.open-in-Parts.new.context) (met c.open-in-Parts.new.context) (list_of c.open-in-Parts.new.work)) c.open-in-Parts.result c.open-in-Parts.new.work.fault
     (skip_leads m c.in-Parts.base old s seen c.in-Parts.first c.in-Parts.last c.skip-next.result c.skip-next.ensures.skipped from c.skip-next.ensures.below)
-    (then_keeps m (stage s seen (Parts c.skip-next.result c.in-Parts.last c.in-Parts.base ∷ old)) (stage s seen new) (stage (st c.open-in-Parts.new.context) (met c.open-in-Parts.new.context) (list_of c.open-in-Parts.new.work)) c.open-in-Parts.result c.open-in-Parts.new.work.fault (parts_leads m s seen old new c.skip-next.result c.in-Parts.last c.in-Parts.base x c.if-next-last.false at e) c.open-in-Parts.ensures.runs))
+    (then_keeps m (stage s seen (Parts c.skip-next.result c.in-Parts.last c.in-Parts.base ∷ old)) (stage s seen new) (stage (st c.open-in-Parts.new.context) (met c.open-in-Parts.new.context) (list_of c.open-in-Parts.new.work)) c.open-in-Parts.result c.open-in-Parts.new.work.fault (part_leads m s seen old rest c.skip-next.result c.in-Parts.last c.in-Parts.base x c.if-next-last.false at e) c.open-in-Parts.ensures.runs))
 
-pub returns-in_ok-parts-in-Parts-clause-ends : goal.returns-in_ok-parts-in-Parts-clause-ends
-returns-in_ok-parts-in-Parts-clause-ends g c =
+pub returns-in_ok-more_parts-in-Parts-clause-ends : goal.returns-in_ok-more_parts-in-Parts-clause-ends
+returns-in_ok-more_parts-in-Parts-clause-ends g c =
     let m = c.args.self.now in
     let st = g.C.Context.state in
     let met = g.C.Context.positions in
@@ -90,10 +92,11 @@ returns-in_ok-parts-in-Parts-clause-ends g c =
     let r = skip_ready m c.in-Parts.base old s seen c.in-Parts.first c.in-Parts.last c.skip-next.result c.skip-next.ensures.skipped r0 from c.skip-next.ensures.below in
     let x = slice_index_or m.parts.now c.skip-next.result (record { offset = 0; node = 0 }) in
     let at = at_default m.parts.now c.skip-next.result (record { offset = 0; node = 0 }) (omega (arith, r.fits.0.last, c.if-next-last.false)) in
-    let new = PartWork x.node (c.in-Parts.base + x.offset) ∷ list_of c.parts.new.self in
-    let e = ap (λ w. PartWork x.node (c.in-Parts.base + x.offset) ∷ w) c.in_ok-parts-in-Parts.ensures.some in
+    let rest = list_of c.more_parts.new.self in
+    let new = PartWork x.node (c.in-Parts.base + x.offset) ∷ rest in
+    let e = c.in_ok-more_parts-in-Parts.ensures.some in
     let less = skip_costs m c.in-Parts.base old (c.skip-next.result - c.in-Parts.first) c.in-Parts.first c.in-Parts.last c.skip-next.result s.end (omega arith) c.skip-next.ensures.below r.fits.0.last in
-    let falls = parts_ends m s seen old new c.skip-next.result c.in-Parts.last c.in-Parts.base x c.if-next-last.false r.fits.0.last r.fits.0.few at e in
+    let falls = part_ends m s seen old rest c.skip-next.result c.in-Parts.last c.in-Parts.base x c.if-next-last.false r.fits.0.last r.fits.0.few at e in
     rw c.in-Parts.is (then_falls c.open-in-Parts.result _ _ _ (under _ _ _ falls less) c.open-in-Parts.ensures.ends)
 
 pub returns-in-Free-clause-runs : goal.returns-in-Free-clause-runs
@@ -174,12 +177,13 @@ open-requires-in-Elements-clause-ready g c =
     let q = c.in-Elements.at + c.pass-passed.result * c.unwrap_or-size.result in
     let r2 = pass_ready m c.in-Elements.node c.unwrap_or-size.result takes old s seen c.in-Elements.left c.in-Elements.at c.pass-passed.result c.pass-passed.ensures.below c.pass-passed.ensures.passed r in
     let lt : 0 < c.in-Elements.left - c.pass-passed.result = omega (arith, c.if-passed-left.false, c.pass-passed.ensures.below) in
-    let new = PartWork c.in-Elements.node q ∷ list_of c.elements.new.self in
-    let e = ap (λ w. PartWork c.in-Elements.node q ∷ w) c.in_ok-elements-in-Elements.ensures.some in
-    elements_ready m s seen old new c.in-Elements.node (c.in-Elements.left - c.pass-passed.result) q c.unwrap_or-size.result c.index-self-node.result r2 lt at size e
+    let rest = list_of c.more_elements.new.self in
+    let new = PartWork c.in-Elements.node q ∷ rest in
+    let e = c.in_ok-more_elements-in-Elements.ensures.some in
+    element_ready m s seen old rest c.in-Elements.node (c.in-Elements.left - c.pass-passed.result) q c.unwrap_or-size.result c.index-self-node.result r2 lt at size e
 
-pub returns-in_ok-elements-in-Elements-clause-runs : goal.returns-in_ok-elements-in-Elements-clause-runs
-returns-in_ok-elements-in-Elements-clause-runs g c =
+pub returns-in_ok-more_elements-in-Elements-clause-runs : goal.returns-in_ok-more_elements-in-Elements-clause-runs
+returns-in_ok-more_elements-in-Elements-clause-runs g c =
     let m = c.args.self.now in
     let st = g.C.Context.state in
     let met = g.C.Context.positions in
@@ -193,14 +197,15 @@ returns-in_ok-elements-in-Elements-clause-runs g c =
     let q = c.in-Elements.at + c.pass-passed.result * c.unwrap_or-size.result in
     let r2 = pass_ready m c.in-Elements.node c.unwrap_or-size.result takes old s seen c.in-Elements.left c.in-Elements.at c.pass-passed.result c.pass-passed.ensures.below c.pass-passed.ensures.passed r in
     let lt : 0 < c.in-Elements.left - c.pass-passed.result = omega (arith, c.if-passed-left.false, c.pass-passed.ensures.below) in
-    let new = PartWork c.in-Elements.node q ∷ list_of c.elements.new.self in
-    let e = ap (λ w. PartWork c.in-Elements.node q ∷ w) c.in_ok-elements-in-Elements.ensures.some in
+    let rest = list_of c.more_elements.new.self in
+    let new = PartWork c.in-Elements.node q ∷ rest in
+    let e = c.in_ok-more_elements-in-Elements.ensures.some in
     rw c.in-Elements.is (then_keeps m (stage s seen (Elements c.in-Elements.node c.in-Elements.left c.in-Elements.at ∷ old)) (stage s seen (Elements c.in-Elements.node (c.in-Elements.left - c.pass-passed.result) q ∷ old)) (stage (st c.open-in-Elements.new.context) (met c.open-in-Elements.new.context) (list_of c.open-in-Elements.new.work)) c.open-in-Elements.result c.open-in-Elements.new.work.fault
     (pass_leads m c.in-Elements.node c.unwrap_or-size.result takes old s seen c.in-Elements.left c.in-Elements.at c.pass-passed.result c.pass-passed.ensures.below c.pass-passed.ensures.passed)
-    (then_keeps m (stage s seen (Elements c.in-Elements.node (c.in-Elements.left - c.pass-passed.result) q ∷ old)) (stage s seen new) (stage (st c.open-in-Elements.new.context) (met c.open-in-Elements.new.context) (list_of c.open-in-Elements.new.work)) c.open-in-Elements.result c.open-in-Elements.new.work.fault (elements_leads m s seen old new c.in-Elements.node (c.in-Elements.left - c.pass-passed.result) q c.unwrap_or-size.result c.index-self-node.result r2 lt at size e) c.open-in-Elements.ensures.runs))
+    (then_keeps m (stage s seen (Elements c.in-Elements.node (c.in-Elements.left - c.pass-passed.result) q ∷ old)) (stage s seen new) (stage (st c.open-in-Elements.new.context) (met c.open-in-Elements.new.context) (list_of c.open-in-Elements.new.work)) c.open-in-Elements.result c.open-in-Elements.new.work.fault (element_leads m s seen old rest c.in-Elements.node (c.in-Elements.left - c.pass-passed.result) q c.unwrap_or-size.result c.index-self-node.result r2 lt at size e) c.open-in-Elements.ensures.runs))
 
-pub returns-in_ok-elements-in-Elements-clause-ends : goal.returns-in_ok-elements-in-Elements-clause-ends
-returns-in_ok-elements-in-Elements-clause-ends g c =
+pub returns-in_ok-more_elements-in-Elements-clause-ends : goal.returns-in_ok-more_elements-in-Elements-clause-ends
+returns-in_ok-more_elements-in-Elements-clause-ends g c =
     let m = c.args.self.now in
     let st = g.C.Context.state in
     let met = g.C.Context.positions in
@@ -214,10 +219,11 @@ returns-in_ok-elements-in-Elements-clause-ends g c =
     let q = c.in-Elements.at + c.pass-passed.result * c.unwrap_or-size.result in
     let r2 = pass_ready m c.in-Elements.node c.unwrap_or-size.result takes old s seen c.in-Elements.left c.in-Elements.at c.pass-passed.result c.pass-passed.ensures.below c.pass-passed.ensures.passed r in
     let lt : 0 < c.in-Elements.left - c.pass-passed.result = omega (arith, c.if-passed-left.false, c.pass-passed.ensures.below) in
-    let new = PartWork c.in-Elements.node q ∷ list_of c.elements.new.self in
-    let e = ap (λ w. PartWork c.in-Elements.node q ∷ w) c.in_ok-elements-in-Elements.ensures.some in
+    let rest = list_of c.more_elements.new.self in
+    let new = PartWork c.in-Elements.node q ∷ rest in
+    let e = c.in_ok-more_elements-in-Elements.ensures.some in
     let less = pass_costs m c.in-Elements.node c.unwrap_or-size.result takes old s seen c.in-Elements.left c.in-Elements.at c.pass-passed.result c.pass-passed.ensures.below c.pass-passed.ensures.passed s.end in
-    let falls = elements_ends m s seen old new c.in-Elements.node (c.in-Elements.left - c.pass-passed.result) q _ r2.fits.0.few lt e in
+    let falls = element_ends m s seen old rest c.in-Elements.node (c.in-Elements.left - c.pass-passed.result) q _ r2.fits.0.few lt e in
     rw c.in-Elements.is (then_falls c.open-in-Elements.result _ _ _ (under _ _ _ falls less) c.open-in-Elements.ensures.ends)
 
 pub returns-in-Part-clause-runs : goal.returns-in-Part-clause-runs
