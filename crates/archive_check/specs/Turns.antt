@@ -29,16 +29,19 @@ abbrev pub PartsHere : Checker → ℕ → List Part → Type 0
 PartsHere m p [] = Unit {0}
 PartsHere m p (x ∷ xs) = ((y : ℕ) × Takes m x.node y × (p + x.offset + y ≤ length m.bytes.now)) × PartsHere m p xs
 
+-- the node i has a size, and lies in the bytes at p
 pub record PartFits (m : Checker) (i p : ℕ) : Type 0 where
   pub size : ℕ
   pub takes : Takes m i size
   pub fits : p + size ≤ length m.bytes.now
 
+-- so do the parts from a up to b, of what begins at p
 pub record PartsFit (m : Checker) (a b p : ℕ) : Type 0 where
   pub last : b ≤ length m.parts.now
   pub few : b < 18446744073709551616
   pub here : PartsHere m p (span m.parts.now a b)
 
+-- so do n of the node j, one after another
 pub record ElementsFit (m : Checker) (j n p : ℕ) : Type 0 where
   pub size : ℕ
   pub few : n < 18446744073709551616
@@ -100,9 +103,11 @@ pub record Stage : Type 0 where
   pub met : Positions
   pub work : List Work
 
+-- the range, the positions and the list, as one
 abbrev pub stage : RangeState → Positions → List Work → Stage
 stage s met work = record { range = s; met = met; work = work }
 
+-- the context agrees with what is seen and what the list holds
 abbrev pub Agreeing : Stage → Seen → Type 0
 Agreeing x seen = Agrees x.range.depth x.met (pending_in x.work) (regions_in x.work) seen
 
