@@ -2,6 +2,12 @@
 use Rattle.std.proofs.Common.{◌≡◌, ◌≢◌, ℕ, zero, suc, refl, sym, ap, ◌∙◌, ◌+◌, ◌-◌, ◌*◌, ◌<◌, ◌≤◌, arith, List, ◌∷◌, length, Bool, true, false, nat_eq, Option, Some}
 use Rattle.std.proofs.lemmas.Bool.Decides.{nat_tests}
 use Rattle.std.proofs.Math.Nat.{mul-le-mul_right}
+use Rattle.archive_check.specs.declared.expr.Kind.{Kind as KindExpr}
+use Rattle.archive_check.specs.declared.plan.Job.{Job}
+use Rattle.archive_check.specs.declared.plan.Job.TheVariants.{Free, Leaf}
+use Rattle.archive_check.specs.Expressions.{kind_of}
+use Rattle.archive_check.specs.Layout.{kind_size}
+use Rattle.archive_check.specs.Reads.{bytes_at, IsLegal}
 use Rattle.archive_check.specs.declared.plan.Node.{Node}
 use Rattle.archive_check.specs.declared.plan.Checker.{Checker}
 use Rattle.archive_check.specs.declared.work.Work.{Work}
@@ -9,8 +15,8 @@ use Rattle.archive_check.specs.declared.work.Work.TheVariants.{Elements}
 use Rattle.archive_check.specs.Ranges.{RangeState}
 use Rattle.archive_check.specs.Met.{Positions}
 use Rattle.archive_check.specs.Tour.{Seen}
-use Rattle.archive_check.specs.Runs.{Outcome, IsAt, Takes, ListRuns, elements_end, elements_next, list_elements, list_elements_stop}
-use Rattle.archive_check.specs.Turns.{PartFits, ElementsFit, Stays, Ready, stage, Listing, Leads, level, cost}
+use Rattle.archive_check.specs.Runs.{IsNode, Outcome, IsAt, Takes, ListRuns, elements_end, elements_next, list_elements, list_elements_stop}
+use Rattle.archive_check.specs.Turns.{LiesLegal, lies_free, lies_leaf, PartFits, ElementsFit, Stays, Ready, stage, Listing, Leads, level, cost}
 use Rattle.archive_check.proofs.Costs.{power_falls, level_same}
 use Rattle.archive_check.proofs.Steps.{same_at}
 
@@ -85,3 +91,18 @@ module _ (m : Checker) (j z : ℕ) (takes : Takes m j z) where
               let some : c ≢ 0 = grind (arith, nat_tests) in
               let nodes = length m.nodes.now in
               omega (arith, power_falls (level nodes e (j + 1) (n - c)) (level nodes e (j + 1) n) (level_same nodes e (j + 1) (j + 1) n (n - c) (omega arith) (omega arith)))
+
+-- what lies legal
+
+same_job : (m : Checker) (i : ℕ) (a b : Job) → IsNode m i a → IsNode m i b → a ≡ b
+same_job m i a b x y = sym x.job_is ∙ ap (λ q. q.job) (same_at x.at y.at) ∙ y.job_is
+
+pub legal_leaf : (m : Checker) (i p : ℕ) (kind : KindExpr) → IsNode m i (Leaf kind) → LiesLegal m i p → IsLegal (kind_of kind) (bytes_at m.bytes.now p (kind_size (kind_of kind)))
+legal_leaf m i p kind h (lies_free f) = absurd (let clash = same_job m i (Leaf kind) Free h f in cc)
+legal_leaf m i p kind h (lies_leaf {kind = other} f l) =
+    let both = same_job m i (Leaf kind) (Leaf other) h f in
+    let same : other ≡ kind = cc in rw same at l
+
+pub legal_none : (m : Checker) (i p : ℕ) (x : Node) → IsAt m.nodes.now i x → (x.job ≡ Free → ⊥) → ((kind : KindExpr) → x.job ≡ Leaf kind → ⊥) → LiesLegal m i p → ⊥
+legal_none m i p x at free leaf (lies_free f) = free (ap (λ q. q.job) (same_at at f.at) ∙ f.job_is)
+legal_none m i p x at free leaf (lies_leaf {kind = kind} f l) = leaf kind (ap (λ q. q.job) (same_at at f.at) ∙ f.job_is)

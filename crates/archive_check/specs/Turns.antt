@@ -13,8 +13,12 @@ use Rattle.archive_check.specs.Ranges.{RangeState}
 use Rattle.archive_check.specs.Met.{Positions}
 use Rattle.archive_check.specs.Tour.{Seen, Entry}
 use Rattle.archive_check.specs.Trail.{Fault}
-use Rattle.archive_check.specs.Reads.{i32_at}
-use Rattle.archive_check.specs.Runs.{Outcome, done, refused, Takes, count_at, length_of, IsAt, NodeRuns, ContentsRun, EnterRuns, FollowRuns, ListRuns}
+use Rattle.archive_check.specs.declared.expr.Kind.{Kind as KindExpr}
+use Rattle.archive_check.specs.declared.plan.Job.TheVariants.{Free, Leaf}
+use Rattle.archive_check.specs.Expressions.{kind_of}
+use Rattle.archive_check.specs.Layout.{kind_size}
+use Rattle.archive_check.specs.Reads.{bytes_at, i32_at, IsLegal}
+use Rattle.archive_check.specs.Runs.{Outcome, done, refused, Takes, count_at, length_of, IsAt, IsNode, NodeRuns, ContentsRun, EnterRuns, FollowRuns, ListRuns}
 use Rattle.archive_check.specs.Closed.{span}
 use Rattle.archive_check.specs.Faults.{IsFor}
 
@@ -159,11 +163,16 @@ IsStopped m target j n where_to s e =
 abbrev pub Passes : Checker → Target → ℕ → ℕ → ℕ → ℕ → Type 0
 Passes m target j n z t = (pending : List ℕ) (depth : Option ℕ) (start : ℕ) (seen : Seen) → ContentsRun m pending depth target j n z t start seen (done start seen)
 
--- the node at p is legal as it lies, and leads nowhere
+-- The node at p is legal as it lies, and leads nowhere.
 abbrev pub Stays : Checker → ℕ → ℕ → Type 0
 Stays m i p = (pending : List ℕ) (depth : Option ℕ) (stop start : ℕ) (seen : Seen) → NodeRuns m pending depth stop i p start seen (done start seen)
 
--- so is the part k of what begins at p
+-- the node at p is a leaf that is legal, or may be any bytes
+pub data LiesLegal (m : Checker) (i p : ℕ) : Type 0 where
+  lies_free : IsNode m i Free → LiesLegal m i p
+  lies_leaf : {kind : KindExpr} → IsNode m i (Leaf kind) → IsLegal (kind_of kind) (bytes_at m.bytes.now p (kind_size (kind_of kind))) → LiesLegal m i p
+
+-- the part k of what begins at p is legal as it lies, and leads nowhere
 pub record PartStays (m : Checker) (p k : ℕ) : Type 0 where
   pub part : Part
   pub at : IsAt m.parts.now k part

@@ -7,6 +7,7 @@ ghost use Rattle.archive_check.specs.declared.error.Error.TheVariants.{OutOfMemo
 ghost use Rattle.archive_check.specs.declared.plan.Job.TheVariants.{Str};
 ghost use Rattle.archive_check.specs.declared.plan.Target.TheVariants.{One, Text};
 ghost use Rattle.archive_check.specs.declared.work.Work.TheVariants.{Part as PartWork};
+ghost use Rattle.archive_check.specs.declared.plan.Part.{Part};
 ghost use Rattle.archive_check.specs.Tour.{Seen};
 ghost use Rattle.archive_check.specs.Trail.{Fault};
 ghost use Rattle.archive_check.specs.Runs.{times as times_of, count_at, length_of, target_size, IsAt, IsNode, Takes, RegionIs, EnterRuns, done, refused};
@@ -14,7 +15,7 @@ ghost use Rattle.archive_check.specs.Lists.{list_of};
 ghost use Rattle.archive_check.specs.Closed.{IsClosed};
 ghost use Rattle.archive_check.specs.Faults.{IsFor};
 ghost use Rattle.archive_check.specs.Fresh.{IsFresh};
-ghost use Rattle.archive_check.specs.Turns.{PointeeFits, Passes, PartFits, PartsFit, ElementsFit, Stays, PartStays, Ready, stage, Listing, Entering, Following, Leads, Keeps, IsStopped, power, level, cost};
+ghost use Rattle.archive_check.specs.Turns.{PointeeFits, Passes, PartFits, PartsFit, ElementsFit, Stays, PartStays, LiesLegal, Ready, stage, Listing, Entering, Following, Leads, Keeps, IsStopped, power, level, cost};
 
 use crate::bytes::{
     inline_length, is_out_of_line, is_text, read_coded_length, read_i32, read_position, read_u32,
@@ -87,7 +88,8 @@ impl Checker<'_> {
     fn stays(&self, node: usize, at: usize) -> bool
         requires closed { IsClosed self.now }
         requires fits { PartFits self.now node at }
-        ensures { IsTrue result → Stays self.now node at }
+        ensures stays { IsTrue result → Stays self.now node at }
+        ensures opened { LiesLegal self.now node at → IsTrue result }
     {
         let here = self.nodes[node];
         match here.job {
@@ -103,6 +105,7 @@ impl Checker<'_> {
         requires fits { PartsFit self.now first last base }
         ensures below { result ≤ last }
         ensures above { result < last → first ≤ result }
+        ensures opened { (x : Part) → result < last → IsAt self.now.parts.now result x → LiesLegal self.now x.node (base + x.offset) → ⊥ }
         ensures skipped { (k : ℕ) → first ≤ k → k < result → PartStays self.now base k }
     {
         for index in first..last {
@@ -120,6 +123,7 @@ impl Checker<'_> {
         requires fits { ElementsFit self.now node count at }
         requires size { Takes self.now node size }
         ensures below { result ≤ count }
+        ensures opened { result < count → LiesLegal self.now node (at + result * size) → ⊥ }
         ensures passed { (k : ℕ) → k < result → Stays self.now node (at + k * size) }
     {
         for index in 0..count {

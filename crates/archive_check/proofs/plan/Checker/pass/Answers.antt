@@ -8,4 +8,4 @@ stays-requires-clause-fits c =
 
 pub loop-index-preserved : goal.loop-index-preserved
 loop-index-preserved c =
-    passes_more c.args.self.now c.args.node c.args.size c.requires.size c.args.at c.loop-index.index c.loop-index.invariant (c.stays.ensures (is_true c.stays.result c.if-not-stays.false))
+    passes_more c.args.self.now c.args.node c.args.size c.requires.size c.args.at c.loop-index.index c.loop-index.invariant (c.stays.ensures.stays (is_true c.stays.result c.if-not-stays.false))

@@ -1,6 +1,6 @@
 use Rattle.std.proofs.Common.{rules, ◌+◌, ◌≤◌, arith, length, slice_index_or}
-use Rattle.archive_check.proofs.Entering.{is_true}
-use Rattle.archive_check.proofs.Steps.{at_default}
+use Rattle.archive_check.proofs.Entering.{is_true, not_true}
+use Rattle.archive_check.proofs.Steps.{at_default, same_at}
 use Rattle.archive_check.proofs.Skipping.{part_fits, stays_more}
 use Rattle.archive_check.proofs.plan.Checker.skip.Goals as goal
 
@@ -24,4 +24,10 @@ loop-index-preserved c =
     let m = c.args.self.now in
     let x = slice_index_or m.parts.now c.loop-index.index (record { offset = 0; node = 0 }) in
     let at = at_default m.parts.now c.loop-index.index (record { offset = 0; node = 0 }) (omega (arith, c.requires.fits.last)) in
-    stays_more m c.args.base c.args.first c.loop-index.index c.loop-index.invariant (record { part = x; at = at; stays = c.stays.ensures (is_true c.stays.result c.if-not-stays.false) })
+    stays_more m c.args.base c.args.first c.loop-index.index c.loop-index.invariant (record { part = x; at = at; stays = c.stays.ensures.stays (is_true c.stays.result c.if-not-stays.false) })
+
+pub returns-then-not-stays-clause-opened : goal.returns-then-not-stays-clause-opened
+returns-then-not-stays-clause-opened c =
+    let m = c.args.self.now in
+    let at = at_default m.parts.now c.loop-index.index (record { offset = 0; node = 0 }) (omega (arith, c.requires.fits.last)) in
+    λ x lt is legal. let same = same_at is at in not_true c.stays.result c.if-not-stays.true (c.stays.ensures.opened (rw same at legal))
