@@ -130,3 +130,20 @@ fn expressions_are_compared_as_written(rt: HostRuntime) {
     assert_ne!(rt; Expr::Leaf(Kind::U32), Expr::Str);
     let _ = Defs::new(rt.alloc());
 }
+
+#[test]
+fn leaves_are_told_by_their_bytes(rt: HostRuntime) -> Result<(), Fail> {
+    use crate::expr::{IntegerKind, Kind};
+    use crate::leaf::is_legal;
+
+    assert!(rt; is_legal(Kind::Bool, &[1], 0));
+    assert!(rt; !is_legal(Kind::Bool, &[2], 0));
+    assert!(rt; is_legal(Kind::Char, &[0, 0xff, 0xff, 0x10, 0], 1));
+    assert!(rt; !is_legal(Kind::Char, &[0x00, 0xd8, 0, 0], 0));
+    assert!(rt; !is_legal(Kind::Char, &[0, 0, 0x11, 0], 0));
+    assert!(rt; is_legal(Kind::NonZero(IntegerKind::U16), &[0, 1], 0));
+    assert!(rt; !is_legal(Kind::NonZero(IntegerKind::I32), &[0, 0, 0, 0], 0));
+    assert!(rt; is_legal(Kind::Number(IntegerKind::I32), &[0, 0, 0, 0], 0));
+    assert!(rt; is_legal(Kind::Unit, &[], 0));
+    Ok(())
+}
