@@ -67,3 +67,5 @@ pub mod Rows
 pub mod Cases
 pub mod Numbered
 pub mod Planned
+pub mod Viewed
+pub mod Said

@@ -44,3 +44,6 @@ pub mod Numbered
 pub mod Planned
 pub mod Exact
 pub mod Turns
+pub mod Viewed
+pub mod Archives
+pub mod Entries
