@@ -23,8 +23,10 @@ use Rattle.archive_check.specs.Runs.{IsAt, IsNode, Takes, times, target_size}
 use Rattle.archive_check.specs.Closed.{span, PartsWithin, SpanFits, VariantsFit, ArrayFits, JobFits}
 use Rattle.archive_check.specs.Represents.{Stands, PartsStand, Sized, Points, points_one, points_run, points_text, Made, made_free, made_leaf, made_record, made_choice, made_array, made_boxed, made_vec, made_str, made_shared, made_weak}
 use Rattle.archive_check.specs.Fitting.{fits, rounded}
+use Rattle.archive_check.specs.Queued.{Wait, Waits, waits_size}
 use Rattle.archive_check.specs.Growing.{node_of, Lists, lists_in, Grows, IsPushed, IsMade}
-use Rattle.archive_check.specs.Compiled.{Follows, Below, Knows, Settled, Given, MadeTo, Adds, Compiled, Targets, Leads, PartFits, CompiledParts, IsVariant, CompiledVariants, count_of, count_pointee}
+use Rattle.archive_check.specs.Compiled.{Follows, Below, Knows, Settled, Given, MadeTo, Adds, Compiled, Targets, Leads, PartFits, CompiledParts, IsVariant, CompiledVariants}
+use Rattle.archive_check.specs.Counts.{count_of, count_pointee}
 use Rattle.archive_check.proofs.Inside.{pointer_few}
 use Rattle.archive_check.proofs.Runs.{plain_walk}
 use Rattle.archive_check.proofs.Fitting.{fits_some, fits_none, round_up, some_is, rounded_fits, rounded_some, times_none, times_fits}
@@ -37,9 +39,9 @@ leaf_free : (k : Kind) (z : ℕ) → Some (kind_size k) ≡ Some z → (is_plain
 leaf_free k z e (inl h) = h
 leaf_free k z e (inr h) = let same : kind_size k ≡ z = cc in empty_plain k (same ∙ h)
 
-pub compiled_leaf : {names : List Known} {done : ℕ} {a c : Lists} (kind : KindExpr) {j : ℕ} → IsMade a c (Some (kind_size (kind_of kind))) (kind_align (kind_of kind)) (is_plain_kind (kind_of kind)) (Leaf kind) j
-    → Compiled names done (leaf (kind_of kind)) a c j
-compiled_leaf {names = names} {a = a} kind p = compiled_made (adds_refl names a) (leaf (kind_of kind)) p refl
+pub compiled_leaf : {names : List Known} {done : ℕ} {v : Waits} {a c : Lists} (kind : KindExpr) {j : ℕ} → IsMade a c (Some (kind_size (kind_of kind))) (kind_align (kind_of kind)) (is_plain_kind (kind_of kind)) (Leaf kind) j
+    → Compiled names done (leaf (kind_of kind)) v v a c j
+compiled_leaf {names = names} {v = v} {a = a} kind p = compiled_made (adds_refl names v a) (leaf (kind_of kind)) p refl (omega arith)
     (λ m l g k. (sym (fits_some (kind_size (kind_of kind)) (kind_few (kind_of kind))), refl))
     (λ m g w z e pos. let same : kind_size (kind_of kind) ≡ z = cc in omega (arith, same))
     (λ s shapes m g t given k z e h. made_free (λ bytes pending depth stop p start seen le. plain_walk s t.laid_out bytes (leaf (kind_of kind)) p (leaf_free (kind_of kind) z e h) le))
@@ -70,8 +72,8 @@ within_wider m i k z y h w (x ∷ xs) p = let q = p.0 in ((q.0, omega (arith, q.
 pub span_wider : {m : Checker} {i k z y a b : ℕ} → i ≤ k → z ≤ y → SpanFits m i z a b → SpanFits m k y a b
 span_wider {m} {i} {k} {z} {y} {a} {b} h w s = record { last = s.last; few = s.few; within = within_wider m i k z y h w (span m.parts.now a b) s.within }
 
-module _ {names : List Known} {done : ℕ} {a b : Lists} where
-  parts_are_free : {ps : Parts} {laid : Laid} {s : Schema} {shapes : ℕ → Shape} {m : Checker} {z e : ℕ} → (f : CompiledParts names done 0 ps a b laid) → Follows b m → MadeTo s shapes m (length b.nodes)
+module _ {names : List Known} {done : ℕ} {v w : Waits} {a b : Lists} where
+  parts_are_free : {ps : Parts} {laid : Laid} {s : Schema} {shapes : ℕ → Shape} {m : Checker} {z e : ℕ} → (f : CompiledParts names done 0 ps v w a b laid) → Follows b m → MadeTo s shapes m (length b.nodes)
       → laid.end ≡ Some e → e ≤ z → (laid.free ≡ true) ⊎ (z ≡ 0)
       → (k : ℕ) (x : PlanPart) → laid.first ≤ k → k < laid.last → IsAt m.parts.now k x → IsNode m x.node Free × (x.node < length b.nodes)
   parts_are_free {m = m} f g made end le (inl h) k x from to at = (f.parts_free h m g k x from to at, (f.parts_fit m g _ end k x from to at).earlier)
@@ -81,14 +83,14 @@ module _ {names : List Known} {done : ℕ} {a b : Lists} where
       let t = fit.takes in
       (record { node = t.node; at = t.at; job_is = made.empty x.node t.node fit.earlier t.at (t.size_is ∙ ap Some none) }, fit.earlier)
 
-module _ {names : List Known} {done : ℕ} {a b c : Lists} where
+module _ {names : List Known} {done : ℕ} {v w : Waits} {a b c : Lists} where
   -- parts
-  pub compiled_record : {ps : Parts} {laid : Laid} {size : Option ℕ} {j : ℕ} → CompiledParts names done 0 ps a b laid → size ≡ rounded laid.end laid.align
-      → IsMade b c size laid.align laid.free (Record laid.first laid.last) j → Compiled names done (parts ps) a c j
+  pub compiled_record : {ps : Parts} {laid : Laid} {size : Option ℕ} {j : ℕ} → CompiledParts names done 0 ps v w a b laid → size ≡ rounded laid.end laid.align
+      → IsMade b c size laid.align laid.free (Record laid.first laid.last) j → Compiled names done (parts ps) v w a c j
   compiled_record {ps = ps} {laid = laid} {size = size} f es p =
       let grown = pushed_grows p.pushed in
       let split : (z : ℕ) → size ≡ Some z → (e : ℕ) × (laid.end ≡ Some e) × (e ≤ z) × (z ≡ up e laid.align) = λ z e. rounded_some laid.end laid.align z f.positive (sym es ∙ e) in
-      compiled_made f.adds (parts ps) p (ap (λ n. n + 1) f.gives_count)
+      compiled_made f.adds (parts ps) p (ap (λ n. n + 1) f.gives_count) (omega (arith, f.waits_few))
       (λ m l g n. let k = f.lays m l (grows_trans grown g) n in
       (es ∙ ap (λ o. rounded o laid.align) k.0 ∙ rounded_fits (parts_end l 0 ps) laid.align f.positive ∙ ap (λ x. fits (up (parts_end l 0 ps) x)) k.1, k.1))
       (λ m g w z e pos. let q = split z e in (
@@ -105,12 +107,12 @@ module _ {names : List Known} {done : ℕ} {a b c : Lists} where
       (λ s shapes m g t given z e pos. let q = split z e in made_record (f.stand s shapes m (grows_trans grown g) t given q.0 q.1))
 
   -- variants
-  pub compiled_choice : {name : Bor (List ℕ)} {vs : Variants} {laid : Laid} {size : Option ℕ} {free : Bool} {j : ℕ} → CompiledVariants names done vs a b laid → size ≡ rounded laid.end laid.align → (free ≡ true → ⊥)
-      → IsMade b c size laid.align free (Choice name laid.first laid.last) j → Compiled names done (choice name.now vs) a c j
+  pub compiled_choice : {name : Bor (List ℕ)} {vs : Variants} {laid : Laid} {size : Option ℕ} {free : Bool} {j : ℕ} → CompiledVariants names done vs v w a b laid → size ≡ rounded laid.end laid.align → (free ≡ true → ⊥)
+      → IsMade b c size laid.align free (Choice name laid.first laid.last) j → Compiled names done (choice name.now vs) v w a c j
   compiled_choice {name = name} {vs = vs} {laid = laid} {size = size} f es never p =
       let grown = pushed_grows p.pushed in
       let split : (z : ℕ) → size ≡ Some z → (e : ℕ) × (laid.end ≡ Some e) × (e ≤ z) × (z ≡ up e laid.align) = λ z e. rounded_some laid.end laid.align z f.positive (sym es ∙ e) in
-      compiled_made f.adds (choice name.now vs) p (ap (λ n. n + 1) f.gives_count)
+      compiled_made f.adds (choice name.now vs) p (ap (λ n. n + 1) f.gives_count) (omega (arith, f.waits_few))
       (λ m l g n. let k = f.lays m l (grows_trans grown g) n in
       (es ∙ ap (λ o. rounded o laid.align) k.0 ∙ rounded_fits (variants_end l vs) laid.align f.positive ∙ ap (λ x. fits (up (variants_end l vs) x)) k.1, k.1))
       (λ m g w z e pos. let q = split z e in
@@ -128,7 +130,7 @@ product_zero : (n y : ℕ) → y * suc n ≡ 0 → y ≡ 0
 product_zero n zero e = refl
 product_zero n (suc y) e = absurd (omega (arith, mul_comm (suc y) (suc n)))
 
-module _ {names : List Known} {done : ℕ} {a b : Lists} {X : Shape} {element : ℕ} (f : Compiled names done X a b element) {here : Node} (at : IsAt b.nodes element here) where
+module _ {names : List Known} {done : ℕ} {v w : Waits} {a b : Lists} {X : Shape} {element : ℕ} (f : Compiled names done X v w a b element) {here : Node} (at : IsAt b.nodes element here) where
   element_sized : (m : Checker) (l : Layouts) → Follows b m → Knows names l done m → (here.size ≡ fits (size_of l X)) × (here.align ≡ align_of l X)
   element_sized m l g k = let q = f.lays m l g k in let same = same_at (at_more g.nodes at) q.at in (ap (λ (w : Node). w.size) same ∙ q.size_is, ap (λ (w : Node). w.align) same ∙ q.align_is)
 
@@ -137,7 +139,7 @@ module _ {names : List Known} {done : ℕ} {a b : Lists} {X : Shape} {element : 
   array_fits m g None (suc n) z i few e pos = absurd (let q = times_none (suc n) (omega arith) in cc)
   array_fits m g (Some y) n z i few e pos = record { element = y; earlier = at.below; few = few; takes = record { node = here; at = at_more g.nodes at; size_is = i }; within = omega (arith, mul_comm n y, some_is e) }
 
-  element_free : {s : Schema} {shapes : ℕ → Shape} {m : Checker} → Follows b m → Settled names s shapes m → Given shapes (length a.nodes) f.gives → MadeTo s shapes m (length b.nodes)
+  element_free : {s : Schema} {shapes : ℕ → Shape} {m : Checker} → Follows b m → Settled names w.items s shapes m → Given shapes (length a.nodes) f.gives → MadeTo s shapes m (length b.nodes)
       → (size : Option ℕ) (free : Bool) (n z : ℕ) → here.size ≡ size → times size n ≡ Some z → (free ≡ true → here.job ≡ Free) → (free ≡ true) ⊎ (z ≡ 0) → Made s shapes m Free (array n X)
   element_free g t given k size free zero z i e job h = made_free (λ bytes pending depth stop p start seen le. walk_array walk_none)
   element_free g t given k None free (suc n) z i e job h = absurd (let q = times_none (suc n) (omega arith) in cc)
@@ -149,57 +151,31 @@ module _ {names : List Known} {done : ℕ} {a b : Lists} {X : Shape} {element : 
       let any_element : AnyBytes s X (size_of s.layouts X) = subst (λ w. AnyBytes s X w) (sym is_size) any in
       made_free (λ bytes pending depth stop p start seen le. walk_array (any_run any_element (suc n) bytes pending depth stop p start seen le))
 
-  element_takes : {s : Schema} {shapes : ℕ → Shape} {m : Checker} → Follows b m → Settled names s shapes m → (size : Option ℕ) (n z : ℕ) → here.size ≡ size → times size n ≡ Some z → 0 < z → Takes m element (size_of s.layouts X)
+  element_takes : {s : Schema} {shapes : ℕ → Shape} {m : Checker} → Follows b m → Settled names w.items s shapes m → (size : Option ℕ) (n z : ℕ) → here.size ≡ size → times size n ≡ Some z → 0 < z → Takes m element (size_of s.layouts X)
   element_takes {s} {shapes} {m} g t None zero z i e pos = absurd (let same : 0 ≡ z = cc in omega (arith, same))
   element_takes {s} {shapes} {m} g t None (suc n) z i e pos = absurd (let q = times_none (suc n) (omega arith) in cc)
   element_takes {s} {shapes} {m} g t (Some y) n z i e pos =
       let is_size : size_of s.layouts X ≡ y = some_is (sym (element_sized m s.layouts g (knows_settled done t)).0 ∙ i) in
       record { node = here; at = at_more g.nodes at; size_is = i ∙ ap Some (sym is_size) }
 
-pub compiled_array : {names : List Known} {done : ℕ} {a b c : Lists} {X : Shape} {n element j : ℕ} {here : Node} {free : Bool} {size : Option ℕ} → Compiled names done X a b element → IsAt b.nodes element here
-    → n < 18446744073709551616 → size ≡ times here.size n → (free ≡ true → here.job ≡ Free) → IsMade b c size here.align free (Array n element) j → Compiled names done (array n X) a c j
+pub compiled_array : {names : List Known} {done : ℕ} {v w : Waits} {a b c : Lists} {X : Shape} {n element j : ℕ} {here : Node} {free : Bool} {size : Option ℕ} → Compiled names done X v w a b element → IsAt b.nodes element here
+    → n < 18446744073709551616 → size ≡ times here.size n → (free ≡ true → here.job ≡ Free) → IsMade b c size here.align free (Array n element) j → Compiled names done (array n X) v w a c j
 compiled_array {done = done} {X = X} {n = n} {here = here} {free = free} f at few es job p =
     let grown = pushed_grows p.pushed in
-    compiled_made f.adds (array n X) p (ap (λ n. n + 1) f.gives_count)
+    compiled_made f.adds (array n X) p (ap (λ n. n + 1) f.gives_count) (omega (arith, f.waits_few))
     (λ m l g k. let q = element_sized f at m l (grows_trans grown g) k in (es ∙ ap (λ o. times o n) q.0 ∙ times_fits (size_of l X) n, q.1))
     (λ m g w z e pos. (pos, array_fits f at m (grows_trans grown g) here.size n z refl few (sym es ∙ e) pos))
     (λ s shapes m g t given k z e h. element_free f at (grows_trans grown g) t given k here.size free n z refl (sym es ∙ e) job h)
     (λ s shapes m g t given z e pos. made_array (stands_of f t given) (element_takes f at (grows_trans grown g) t here.size n z refl (sym es ∙ e) pos))
 
 -- a name
-pub compiled_name : {names : List Known} {done : ℕ} {name : Name} {a : Lists} {j : ℕ} → done ≤ length a.nodes → node_of names name ≡ Some j → j < done → Compiled names done (named name) a a j
-compiled_name {names = names} {name = name} {a = a} {j = j} le e h = record {
+pub compiled_name : {names : List Known} {done : ℕ} {name : Name} {v : Waits} {a : Lists} {j : ℕ} → done ≤ length a.nodes → node_of names name ≡ Some j → j < done → Compiled names done (named name) v v a a j
+compiled_name {names = names} {name = name} {v = v} {a = a} {j = j} le e h = record {
   gives = [];
   gives_count = refl;
-  adds = adds_refl names a;
+  adds = adds_refl names v a;
+  waits_few = omega arith;
   below = omega (arith, le, h);
   root = inl (name, refl, e);
   lays = λ m l g k. k name j e h;
 }
-
--- behind pointers
-pub targets_name : {names : List Known} {name : Name} {a : Lists} {j : ℕ} → node_of names name ≡ Some j → Targets names (named name) a a j
-targets_name {names = names} {name = name} {a = a} {j = j} e = record {
-  gives = [];
-  gives_count = refl;
-  adds = adds_refl names a;
-  below = λ m g w. w name j e;
-  sized = λ s shapes m g t. t.sized name j e;
-  stands = λ s shapes m g t given. t.stand name j e;
-}
-
-pub targets_compiled : {names : List Known} {done : ℕ} {X : Shape} {a b : Lists} {j : ℕ} → Compiled names done X a b j → Targets names X a b j
-targets_compiled {done = done} c = record {
-  gives = c.gives;
-  gives_count = c.gives_count;
-  adds = c.adds;
-  below = λ m g w. omega (arith, c.below, goes_longer g.nodes);
-  sized = λ s shapes m g t. c.lays m s.layouts g (knows_settled done t);
-  stands = λ s shapes m g t given. stands_of c t given;
-}
-
-pub leads_one : {names : List Known} {X : Shape} {a b : Lists} {j : ℕ} → Targets names X a b j → Leads names (one X) a b One j
-leads_one t = record { gives = t.gives; gives_count = t.gives_count; adds = t.adds; below = t.below; size_is = refl; points = λ s shapes m g u given. points_one (t.sized s shapes m g u) (t.stands s shapes m g u given) }
-
-pub leads_run : {names : List Known} {X : Shape} {a b : Lists} {j : ℕ} → Targets names X a b j → Leads names (run X) a b Run j
-leads_run t = record { gives = t.gives; gives_count = t.gives_count; adds = t.adds; below = t.below; size_is = refl; points = λ s shapes m g u given. points_run (t.sized s shapes m g u) (t.stands s shapes m g u given) }

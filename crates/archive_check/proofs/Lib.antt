@@ -25,6 +25,13 @@ pub mod Inside
 pub mod Agrees
 pub mod TourAgrees
 pub mod Trails
+pub mod PooledPositions
+pub mod NamesKnown
+pub mod NamesReached
+pub mod Selected
+pub mod ReachedMeanings
+pub mod Sameness
+pub mod Faults
 pub mod Exists
 pub mod Positive
 pub mod Views
@@ -66,6 +73,10 @@ pub mod Pointing
 pub mod Rows
 pub mod Cases
 pub mod Numbered
+pub mod Waiting
+pub mod Chained
 pub mod Planned
 pub mod Viewed
 pub mod Said
+pub mod Suiting
+pub mod ClosedAgain

@@ -6,8 +6,8 @@ use Rattle.archive_check.specs.Shape.{Name, Shape, named, definition}
 use Rattle.archive_check.specs.Expressions.{shape_of, entries_of}
 use Rattle.archive_check.specs.Runs.{IsAt}
 use Rattle.archive_check.specs.Growing.{node_of}
-use Rattle.archive_check.specs.Compiled.{count_of}
-use Rattle.archive_check.specs.Numbered.{start_of, FirstAt, IsRootOf, RootIs, IsNumbered}
+use Rattle.archive_check.specs.Counts.{count_of}
+use Rattle.archive_check.specs.Numbered.{def_shapes, start_of, FirstAt, IsRootOf, RootIs, IsNumbered}
 use Rattle.archive_check.proofs.GoingOn.{at_more, at_less, at_last, same_at, some_at}
 
 at_tail : {A : Type 0} {x y : A} {xs : List A} {i : ℕ} → IsAt (y ∷ xs) (suc i) x → IsAt xs i x
@@ -16,18 +16,41 @@ at_tail h = record { below = omega (arith, h.below); is = h.is }
 at_cons : {A : Type 0} {x : A} {xs : List A} {i : ℕ} (y : A) → IsAt xs i x → IsAt (y ∷ xs) (suc i) x
 at_cons y h = record { below = omega (arith, h.below); is = h.is }
 
--- where the next nodes begin
-pub start_next : (ds : List Def) (i : ℕ) (d : Def) → IsAt ds i d → start_of ds (i + 1) ≡ start_of ds i + count_of (shape_of d.expr)
-start_next [] i d h = absurd (omega (arith, h.below))
-start_next (x ∷ ds) zero d h = let e : d ≡ x = h.is in let one : start_of (x ∷ ds) (suc zero) ≡ count_of (shape_of x.expr) + 0 = refl in omega (arith, one, ap (λ (y : Def). count_of (shape_of y.expr)) e)
-start_next (x ∷ ds) (suc i) d h = let n : suc i + 1 ≡ suc (i + 1) = omega arith in omega (arith, start_next ds i d (at_tail h), ap (start_of (x ∷ ds)) n)
+pub def_at : (ds : List Def) (i : ℕ) {d : Def} → IsAt ds i d → IsAt (def_shapes ds) i (shape_of d.expr)
+def_at [] i h = absurd (omega (arith, h.below))
+def_at (x ∷ ds) zero h = record { below = omega arith; is = ap (λ (y : Def). shape_of y.expr) h.is }
+def_at (x ∷ ds) (suc i) h = at_cons (shape_of x.expr) (def_at ds i (at_tail h))
 
-pub start_later : (ds : List Def) (i k : ℕ) → i ≤ k → start_of ds i ≤ start_of ds k
-start_later ds zero k h = omega arith
+pub def_count : (ds : List Def) → length (def_shapes ds) ≡ length ds
+def_count [] = refl
+def_count (d ∷ ds) = ap suc (def_count ds)
+
+pub def_shapes-append : (xs ys : List Def) → def_shapes (xs ++ ys) ≡ def_shapes xs ++ def_shapes ys
+def_shapes-append [] ys = refl
+def_shapes-append (x ∷ xs) ys = ap (λ l. shape_of x.expr ∷ l) (def_shapes-append xs ys)
+
+-- where the next nodes begin
+pub start_next : (Xs : List Shape) (i : ℕ) (X : Shape) → IsAt Xs i X → start_of Xs (i + 1) ≡ start_of Xs i + count_of X
+start_next [] i X h = absurd (omega (arith, h.below))
+start_next (Y ∷ Xs) zero X h = let e : X ≡ Y = h.is in let one : start_of (Y ∷ Xs) (suc zero) ≡ count_of Y + 0 = refl in omega (arith, one, ap count_of e)
+start_next (Y ∷ Xs) (suc i) X h = let n : suc i + 1 ≡ suc (i + 1) = omega arith in omega (arith, start_next Xs i X (at_tail h), ap (start_of (Y ∷ Xs)) n)
+
+pub start_later : (Xs : List Shape) (i k : ℕ) → i ≤ k → start_of Xs i ≤ start_of Xs k
+start_later Xs zero k h = omega arith
 start_later [] (suc i) zero h = omega arith
 start_later [] (suc i) (suc k) h = omega arith
-start_later (x ∷ ds) (suc i) zero h = absurd (omega arith)
-start_later (x ∷ ds) (suc i) (suc k) h = omega (arith, start_later ds i k (omega arith))
+start_later (X ∷ Xs) (suc i) zero h = absurd (omega arith)
+start_later (X ∷ Xs) (suc i) (suc k) h = omega (arith, start_later Xs i k (omega arith))
+
+-- more shapes behind change nothing before
+pub start_prefix : (Xs Ys : List Shape) (i : ℕ) → i ≤ length Xs → start_of (Xs ++ Ys) i ≡ start_of Xs i
+start_prefix Xs Ys zero h = refl
+start_prefix [] Ys (suc i) h = absurd (omega arith)
+start_prefix (X ∷ Xs) Ys (suc i) h = ap (λ n. count_of X + n) (start_prefix Xs Ys i (omega arith))
+
+pub start_behind : (Xs Ys : List Shape) (k : ℕ) → start_of (Xs ++ Ys) (length Xs + k) ≡ start_of Xs (length Xs) + start_of Ys k
+start_behind [] Ys k = let e : 0 + k ≡ k = omega arith in omega (arith, ap (start_of Ys) e)
+start_behind (X ∷ Xs) Ys k = let e : suc (length Xs) + k ≡ suc (length Xs + k) = omega arith in omega (arith, ap (start_of (X ∷ (Xs ++ Ys))) e, start_behind Xs Ys k)
 
 -- what is looked for is found at its first entry
 first_here : (k : Known) (ks : List Known) (name : Name) (j : ℕ) → bytes_eq k.name.now name ≡ true → Some k.node ≡ Some j → FirstAt (k ∷ ks) name 0 j
@@ -92,7 +115,7 @@ found_root : (names : List Known) (i start : ℕ) (X : Shape) (j : ℕ) → leng
 found_root names i start X j e (inl h) = let f = first_at names h.0 j h.2 in inl (h.0, h.1, (f.0, omega (arith, e, f.1.at.below), f.1))
 found_root names i start X j e (inr h) = inr h
 
-pub numbered_next : {defs : List Def} {names new : List Known} {i start : ℕ} {d : Def} (k : Known) → IsNumbered defs names i → start ≡ start_of defs i → IsAt defs i d → k.name.now ≡ d.name.now
+pub numbered_next : {defs : List Def} {names new : List Known} {i start : ℕ} {d : Def} (k : Known) → IsNumbered defs names i → start ≡ start_of (def_shapes defs) i → IsAt defs i d → k.name.now ≡ d.name.now
     → RootIs names start (shape_of d.expr) k.node → new ≡ names ++ k ∷ [] → IsNumbered defs new (i + 1)
 numbered_next {defs} {names} {new} {i} {start} {d} k r es at en root e =
     subst (λ ks. IsNumbered defs ks (i + 1)) (sym e) (record {
@@ -104,13 +127,13 @@ numbered_next {defs} {names} {new} {i} {start} {d} k r es at en root e =
           ap (λ (z : Known). z.name.now) q.1 ∙ en ∙ ap (λ (z : Def). z.name.now) (sym same))
           (at_last names k y p g);
       root_is = λ p x y h g. ⊎_elim
-          (λ lt. root_more (k ∷ []) p (start_of defs p) (shape_of x.expr) y.node (r.root_is p x y h (at_less (record { more = k ∷ []; is = refl }) lt g)))
+          (λ lt. root_more (k ∷ []) p (start_of (def_shapes defs) p) (shape_of x.expr) y.node (r.root_is p x y h (at_less (record { more = k ∷ []; is = refl }) lt g)))
           (λ q. let here : p ≡ i = q.0 ∙ r.count in
           let same : x ≡ d = same_at (subst (λ n. IsAt defs n x) here h) at in
           let old : IsRootOf names i start (shape_of d.expr) k.node = found_root names i start (shape_of d.expr) k.node r.count root in
-          let here_root : IsRootOf names p (start_of defs p) (shape_of d.expr) k.node =
-          subst (λ n. IsRootOf names n (start_of defs n) (shape_of d.expr) k.node) (sym here) (subst (λ n. IsRootOf names i n (shape_of d.expr) k.node) es old) in
-          root_more (k ∷ []) p (start_of defs p) (shape_of x.expr) y.node
-          (subst (λ (z : Def). IsRootOf names p (start_of defs p) (shape_of z.expr) y.node) (sym same) (subst (λ (z : Known). IsRootOf names p (start_of defs p) (shape_of d.expr) z.node) (sym q.1) here_root)))
+          let here_root : IsRootOf names p (start_of (def_shapes defs) p) (shape_of d.expr) k.node =
+          subst (λ n. IsRootOf names n (start_of (def_shapes defs) n) (shape_of d.expr) k.node) (sym here) (subst (λ n. IsRootOf names i n (shape_of d.expr) k.node) es old) in
+          root_more (k ∷ []) p (start_of (def_shapes defs) p) (shape_of x.expr) y.node
+          (subst (λ (z : Def). IsRootOf names p (start_of (def_shapes defs) p) (shape_of z.expr) y.node) (sym same) (subst (λ (z : Known). IsRootOf names p (start_of (def_shapes defs) p) (shape_of d.expr) z.node) (sym q.1) here_root)))
           (at_last names k y p g);
     })

@@ -1,4 +1,4 @@
--- A plan of all definitions and the root.
+-- A plan of all definitions, the root, and all that they lead to.
 use Rattle.std.proofs.Common.{◌≡◌, ◌⊎◌, inl, inr, ⊎_elim, ℕ, zero, suc, refl, sym, ap, ◌∙◌, subst, ◌+◌, ◌-◌, ◌<◌, ◌≤◌, arith, List, [], ◌∷◌, ◌++◌, length, slice_index_or, Option, Some, None, length-append}
 use Rattle.std.proofs.lemmas.Bool.{cases_lt}
 use Rattle.archive_check.specs.declared.defs.Def.{Def}
@@ -8,72 +8,20 @@ use Rattle.archive_check.specs.declared.growing.Known.{Known}
 use Rattle.archive_check.specs.Shape.{Name, Shape, leaf, unit, named, definition}
 use Rattle.archive_check.specs.Layout.{Layouts, layout, size_of, align_of}
 use Rattle.archive_check.specs.Expressions.{shape_of, entries_of}
+use Rattle.archive_check.specs.Counts.{count_of}
 use Rattle.archive_check.specs.Reads.{Schema, LaidOut}
 use Rattle.archive_check.specs.Runs.{IsAt}
-use Rattle.archive_check.specs.Closed.{IsClosed}
 use Rattle.archive_check.specs.Represents.{Stands, stands, stands_named, Sized, points_one}
-use Rattle.archive_check.specs.Exact.{PlanOf}
 use Rattle.archive_check.specs.Fitting.{fits}
 use Rattle.archive_check.specs.Growing.{node_of, Lists, no_lists, lists_of, lists_in, Grows}
-use Rattle.archive_check.specs.Compiled.{Follows, Below, Knows, Settled, Given, ClosedTo, MadeTo, Adds, Compiled, count_of}
-use Rattle.archive_check.specs.Numbered.{start_of, FirstAt, IsRootOf, IsNumbered}
-use Rattle.archive_check.specs.Planned.{IsOf, IsPlan, Kept, Chained}
-use Rattle.archive_check.proofs.GoingOn.{same_get, same_goes, same_at, some_at, goes_longer, grows_refl, grows_trans}
-use Rattle.archive_check.proofs.Adding.{given_first, given_second, adds_refl, adds_trans, stands_of}
-use Rattle.archive_check.proofs.Numbered.{start_next, start_later, first_at, node_of_first, definition_is}
-
--- one definition more
-pub chained_start : (names : List Known) (defs : List Def) (b : Lists) → b ≡ no_lists → Chained names defs 0 b
-chained_start names defs b e = record {
-  gives = [];
-  gives_count = refl;
-  adds = subst (λ x. Adds names [] no_lists x) (sym e) (adds_refl names no_lists);
-  each = λ i d lt at. absurd (omega (arith, lt));
-}
-
-pub chained_next : {names : List Known} {defs : List Def} {i : ℕ} {b c : Lists} {d : Def} {j : ℕ} → Chained names defs i b → IsAt defs i d → Compiled names (length b.nodes) (shape_of d.expr) b c j → Chained names defs (i + 1) c
-chained_next {names} {defs} {i} {b} {c} {d} {j} r at f =
-    let here : length b.nodes ≡ 0 + length r.gives = r.adds.count in
-    record {
-      gives = r.gives ++ f.gives;
-      gives_count = omega (arith, length-append r.gives f.gives, r.gives_count, f.gives_count, start_next defs i d at);
-      adds = adds_trans r.adds f.adds;
-      each = λ p x lt h. ⊎_elim
-          (λ q. let k = r.each p x q h in record {
-            before = k.before;
-            after = k.after;
-            node = k.node;
-            compiled = k.compiled;
-            starts = k.starts;
-            grows = grows_trans k.grows f.adds.grows;
-            given = λ shapes given. k.given shapes (given_first f.gives given);
-          })
-          (λ q. let e : p ≡ i = omega (arith, lt, q) in
-          let same : d ≡ x = same_at at (subst (λ n. IsAt defs n x) e h) in
-          let new : Kept names (shape_of d.expr) (start_of defs p) c (r.gives ++ f.gives) = record {
-            before = b;
-            after = c;
-            node = j;
-            compiled = f;
-            starts = omega (arith, here, r.gives_count, ap (start_of defs) e);
-            grows = grows_refl c;
-            given = λ shapes given. given_second r.gives (length b.nodes) here given;
-          } in
-          subst (λ (y : Def). Kept names (shape_of y.expr) (start_of defs p) c (r.gives ++ f.gives)) same new)
-          (cases_lt p i);
-    }
-
--- the node that was counted is the one that was compiled
-root_same : {names : List Known} {done : ℕ} {a b : Lists} {j : ℕ} (i start : ℕ) (X : Shape) (k : ℕ) → Compiled names done X a b j → length a.nodes ≡ start → IsRootOf names i start X k → k ≡ j
-root_same {names} {done} {a} {b} {j} i start X k c e (inl h) = ⊎_elim
-    (λ r. let same : h.0 ≡ r.0 = (let both : named h.0 ≡ named r.0 = sym h.1 ∙ r.1 in cc) in
-    let found : Some k ≡ Some j = sym (node_of_first names h.0 h.2.0 k h.2.2) ∙ ap (node_of names) same ∙ r.2 in cc)
-    (λ r. absurd (omega (arith, r.0, r.1, c.adds.count, c.gives_count, ap count_of h.1)))
-    c.root
-root_same {names} {done} {a} {b} {j} i start X k c e (inr h) = ⊎_elim
-    (λ r. absurd (omega (arith, h.0, h.1, ap count_of r.1)))
-    (λ r. omega (arith, h.0, r.0, c.adds.count, c.gives_count, e))
-    c.root
+use Rattle.archive_check.specs.Queued.{Wait, Waits, no_waits, wait_shapes, Reserved}
+use Rattle.archive_check.specs.Compiled.{Follows, Below, Knows, Settled, Given, ClosedTo, MadeTo, Compiled}
+use Rattle.archive_check.specs.Numbered.{def_shapes, start_of, FirstAt, IsRootOf, IsNumbered}
+use Rattle.archive_check.specs.Planned.{IsOf, IsPlan, Kept, Chained, Finishes}
+use Rattle.archive_check.proofs.GoingOn.{same_get, same_goes, some_at, at_more, at_behind, at_end, goes_longer, grows_trans}
+use Rattle.archive_check.proofs.Adding.{given_first, given_second, stands_of}
+use Rattle.archive_check.proofs.Numbered.{def_at, def_count, start_next, start_later, start_prefix, start_behind, first_at, definition_is}
+use Rattle.archive_check.proofs.Chained.{root_same, compiled_same, chained_next}
 
 layout_sized : {m : Checker} {j : ℕ} (l : Layouts) (name : Name) (X : Shape) → l name ≡ layout l X → Sized m j (size_of l X) (align_of l X) → Sized m j (l name).size (l name).align
 layout_sized l name X e t = record { node = t.node; at = t.at; size_is = t.size_is ∙ ap (λ w. fits w.size) (sym e); align_is = t.align_is ∙ ap (λ w. w.align) (sym e) }
@@ -81,59 +29,139 @@ layout_sized l name X e t = record { node = t.node; at = t.at; size_is = t.size_
 node_sized : {m : Checker} {size align : ℕ} {i j : ℕ} → i ≡ j → Sized m i size align → Sized m j size align
 node_sized {m} {size} {align} e t = subst (λ k. Sized m k size align) e t
 
-module _ {names : List Known} {defs : List Def} {b : Lists} (num : IsNumbered defs names (length defs)) (chain : Chained names defs (length defs) b) where
+-- the k-th that waits, and where its nodes begin
+wait_at : (ws : List Wait) (k : ℕ) (x : Wait) → IsAt ws k x → IsAt (wait_shapes ws) k x.shape
+wait_at [] k x h = absurd (omega (arith, h.below))
+wait_at (y ∷ ws) zero x h = record { below = omega arith; is = ap (λ (z : Wait). z.shape) h.is }
+wait_at (y ∷ ws) (suc k) x h = let a = wait_at ws k x (record { below = omega (arith, h.below); is = h.is }) in record { below = omega (arith, a.below); is = a.is }
+
+wait_node : (base : ℕ) (ws : List Wait) (next : ℕ) → Reserved base ws next → (k : ℕ) (x : Wait) → IsAt ws k x → (x.node + 1 ≡ base + start_of (wait_shapes ws) k + count_of x.shape) × (base + start_of (wait_shapes ws) k ≤ x.node)
+wait_node base [] next r k x h = absurd (omega (arith, h.below))
+wait_node base (y ∷ ws) next r zero x h = let e : x ≡ y = h.is in (omega (arith, r.0, ap (λ (z : Wait). z.node) e, ap (λ (z : Wait). count_of z.shape) e), omega (arith, r.1, ap (λ (z : Wait). z.node) e))
+wait_node base (y ∷ ws) next r (suc k) x h =
+    let q = wait_node (base + count_of y.shape) ws next r.2 k x (record { below = omega (arith, h.below); is = h.is }) in (omega (arith, q.0), omega (arith, q.1))
+
+-- what was compiled and is no name stands for its shape
+kept_stands : {names : List Known} {X : Shape} {start : ℕ} {w : Waits} {b : Lists} {gives : List Shape} {s : Schema} {shapes : ℕ → Shape} {j : ℕ} → (c : Kept names X start w b gives) → Given shapes 0 gives
+    → j ≡ c.node → j + 1 ≡ start + count_of X → start ≤ j → Stands s shapes X j
+kept_stands {X = X} {s = s} {shapes = shapes} c given same last from = ⊎_elim
+    (λ w. absurd (omega (arith, last, from, ap count_of w.1)))
+    (λ w. subst (λ i. Stands s shapes X i) (sym same) (stands (w.2 shapes (c.given shapes given))))
+    c.compiled.root
+
+root_stands : {names : List Known} {X : Shape} {start : ℕ} {w : Waits} {ws : List Wait} {b : Lists} {gives : List Shape} {s : Schema} {shapes : ℕ → Shape} {m : Checker} → (c : Kept names X start w b gives) → Settled names ws s shapes m → Given shapes 0 gives → Stands s shapes X c.node
+root_stands {s = s} {shapes = shapes} c t given = ⊎_elim
+    (λ h. subst (λ Y. Stands s shapes Y c.node) (sym h.1) (t.stand h.0 c.node h.2))
+    (λ h. stands (h.2 shapes (c.given shapes given)))
+    c.compiled.root
+
+-- the shapes of all that is compiled: definitions, the root, and what waits
+abbrev all_shapes : List Def → Shape → Waits → List Shape
+all_shapes defs X w = (def_shapes defs ++ X ∷ []) ++ wait_shapes w.items
+
+module _ {names : List Known} {defs : List Def} {w : Waits} {base : ℕ} {b : Lists} (X : Shape)
+    (num : IsNumbered defs names (length defs)) (chain : Chained names (all_shapes defs X w) base w b) (base_is : base ≡ start_of (def_shapes defs) (length defs) + count_of X) where
+  front_count : length (def_shapes defs ++ X ∷ []) ≡ length defs + 1
+  front_count = length-append (def_shapes defs) (X ∷ []) ∙ ap (λ n. n + 1) (def_count defs)
+
+  -- where each begins
+  def_start : (i : ℕ) → i ≤ length defs → start_of (all_shapes defs X w) i ≡ start_of (def_shapes defs) i
+  def_start i h =
+      start_prefix (def_shapes defs ++ X ∷ []) (wait_shapes w.items) i (omega (arith, front_count, h)) ∙ start_prefix (def_shapes defs) (X ∷ []) i (omega (arith, def_count defs, h))
+
+  root_at : IsAt (all_shapes defs X w) (length defs) X
+  root_at = subst (λ n. IsAt (all_shapes defs X w) n X) (def_count defs) (at_more (record { more = wait_shapes w.items; is = refl }) (at_end (def_shapes defs) X))
+
+  front_start : start_of (def_shapes defs ++ X ∷ []) (length (def_shapes defs ++ X ∷ [])) ≡ base
+  front_start =
+      let last = start_next (def_shapes defs ++ X ∷ []) (length (def_shapes defs)) X (at_end (def_shapes defs) X) in
+      let first = start_prefix (def_shapes defs) (X ∷ []) (length (def_shapes defs)) (omega arith) in
+      let size : length (def_shapes defs ++ X ∷ []) ≡ length (def_shapes defs) + 1 = length-append (def_shapes defs) (X ∷ []) in
+      omega (arith, ap (start_of (def_shapes defs ++ X ∷ [])) size, last, first, ap (start_of (def_shapes defs)) (def_count defs), base_is)
+
+  wait_start : (k : ℕ) → start_of (all_shapes defs X w) (length (def_shapes defs ++ X ∷ []) + k) ≡ base + start_of (wait_shapes w.items) k
+  wait_start k = start_behind (def_shapes defs ++ X ∷ []) (wait_shapes w.items) k ∙ ap (λ n. n + start_of (wait_shapes w.items) k) front_start
+
+  -- each, as it was compiled
+  def_kept : (i : ℕ) (d : Def) → IsAt defs i d → Kept names (shape_of d.expr) (start_of (def_shapes defs) i) w b chain.gives
+  def_kept i d at =
+      let there : IsAt (all_shapes defs X w) i (shape_of d.expr) = at_more (record { more = wait_shapes w.items; is = refl }) (at_more (record { more = X ∷ []; is = refl }) (def_at defs i at)) in
+      subst (λ n. Kept names (shape_of d.expr) n w b chain.gives) (def_start i (omega (arith, at.below))) (chain.each i (shape_of d.expr) there)
+
+  root_kept : Kept names X (start_of (def_shapes defs) (length defs)) w b chain.gives
+  root_kept = subst (λ n. Kept names X n w b chain.gives) (def_start (length defs) (omega arith)) (chain.each (length defs) X root_at)
+
+  wait_kept : (k : ℕ) (x : Wait) → IsAt w.items k x → Kept names x.shape (base + start_of (wait_shapes w.items) k) w b chain.gives
+  wait_kept k x at = subst (λ n. Kept names x.shape n w b chain.gives) (wait_start k) (chain.each (length (def_shapes defs ++ X ∷ []) + k) x.shape (at_behind (def_shapes defs ++ X ∷ []) k (wait_at w.items k x at)))
+
+  -- what waits has its node
+  wait_place : (k : ℕ) (x : Wait) → IsAt w.items k x → (x.node + 1 ≡ base + start_of (wait_shapes w.items) k + count_of x.shape) × (base + start_of (wait_shapes w.items) k ≤ x.node)
+  wait_place k x at = wait_node base w.items w.next (chain.adds.reserved base refl) k x at
+
+  wait_same : (k : ℕ) (x : Wait) (at : IsAt w.items k x) → x.node ≡ (wait_kept k x at).node
+  wait_same k x at =
+      let c = wait_kept k x at in root_same 0 (base + start_of (wait_shapes w.items) k) x.shape x.node c.compiled c.starts (inr (wait_place k x at))
+
   -- the definition of a name
   defined_at : {name : Name} {q j : ℕ} → FirstAt names name q j → (d : Def) × IsAt defs q d
   defined_at {name} {q} f = some_at defs q (omega (arith, f.at.below, num.count))
 
   -- no name's node comes after the definitions'
-  names_below : (r : ℕ) (name : Name) (q j : ℕ) → q < r → FirstAt names name q j → j < start_of defs (length defs)
+  names_below : (r : ℕ) (name : Name) (q j : ℕ) → q < r → FirstAt names name q j → j < start_of (def_shapes defs) (length defs)
   names_below zero name q j lt f = absurd (omega (arith, lt))
   names_below (suc r) name q j lt f =
       let d = defined_at f in ⊎_elim
       (λ h. let later = names_below r h.0 h.2.0 f.known.node (omega (arith, lt, h.2.1)) h.2.2 in omega (arith, later, f.node_is))
-      (λ h. let last = start_later defs (q + 1) (length defs) (omega (arith, d.1.below)) in omega (arith, h.0, h.1, last, start_next defs q d.0 d.1, f.node_is))
+      (λ h. let last = start_later (def_shapes defs) (q + 1) (length defs) (omega (arith, d.1.below)) in
+      omega (arith, h.0, h.1, last, start_next (def_shapes defs) q (shape_of d.0.expr) (def_at defs q d.1), f.node_is))
       (num.root_is q d.0 f.known d.1 f.at)
 
+  name_below : (name : Name) (j : ℕ) → node_of names name ≡ Some j → j < start_of (def_shapes defs) (length defs)
+  name_below name j e = let f = first_at names name j e in names_below (suc f.0) name f.0 j (omega arith) f.1
+
   module _ (m : Checker) (g : Follows b m) where
-    all_below : Below names m
-    all_below name j e = let f = first_at names name j e in omega (arith, names_below (suc f.0) name f.0 j (omega arith) f.1, chain.adds.count, chain.gives_count, goes_longer g.nodes)
+    all_below : Below names w.items m
+    all_below = record {
+      names_below = λ name j e.
+          let c = root_kept in
+          omega (arith, name_below name j e, c.starts, c.compiled.adds.count, goes_longer c.grows.nodes, goes_longer g.nodes);
+      waits_below = λ k x at. let c = wait_kept k x at in omega (arith, wait_same k x at, c.compiled.below, goes_longer c.grows.nodes, goes_longer g.nodes);
+    }
 
     module _ (s : Schema) (table : s.table ≡ entries_of defs) (laid : LaidOut s) where
       definition_at : {name : Name} {q j : ℕ} → FirstAt names name q j → (d : Def) → IsAt defs q d → definition s.table name ≡ Some (shape_of d.expr)
       definition_at {name} {q} {j} f d at = ap (λ t. definition t name) table ∙ definition_is defs names num.name_is name q j d f at
 
       -- the nodes of the first p definitions have their layouts
-      abbrev Laid : ℕ → Type 0
-      Laid p = (q : ℕ) (d : Def) (k : Known) → q < p → IsAt defs q d → IsAt names q k → Sized m k.node (size_of s.layouts (shape_of d.expr)) (align_of s.layouts (shape_of d.expr))
+      abbrev AreLaid : ℕ → Type 0
+      AreLaid p = (q : ℕ) (d : Def) (k : Known) → q < p → IsAt defs q d → IsAt names q k → Sized m k.node (size_of s.layouts (shape_of d.expr)) (align_of s.layouts (shape_of d.expr))
 
       -- so have the names that lead to them
-      name_sized : (p : ℕ) → Laid p → (r : ℕ) (name : Name) (q j : ℕ) → q < r → FirstAt names name q j → j < start_of defs p → Sized m j (s.layouts name).size (s.layouts name).align
+      name_sized : (p : ℕ) → AreLaid p → (r : ℕ) (name : Name) (q j : ℕ) → q < r → FirstAt names name q j → j < start_of (def_shapes defs) p → Sized m j (s.layouts name).size (s.layouts name).align
       name_sized p old zero name q j lt f below = absurd (omega (arith, lt))
       name_sized p old (suc r) name q j lt f below =
           let d = defined_at f in
-          let X = shape_of d.0.expr in
           let is : s.layouts name ≡ layout s.layouts (shape_of d.0.expr) = laid.solves name (shape_of d.0.expr) (definition_at f d.0 d.1) in
           ⊎_elim
           (λ h. node_sized f.node_is (layout_sized s.layouts name (shape_of d.0.expr) is (old q d.0 f.known h d.1 f.at)))
           (λ h. ⊎_elim
           (λ k. node_sized f.node_is (layout_sized s.layouts name (named k.0) (is ∙ ap (layout s.layouts) k.1)
           (name_sized p old r k.0 k.2.0 f.known.node (omega (arith, lt, k.2.1)) k.2.2 (omega (arith, f.node_is, below)))))
-          (λ k. absurd (omega (arith, k.1, f.node_is, below, start_later defs p q h)))
+          (λ k. absurd (omega (arith, k.1, f.node_is, below, start_later (def_shapes defs) p q h)))
           (num.root_is q d.0 f.known d.1 f.at))
           (cases_lt q p)
 
-      all_laid : (p : ℕ) → p ≤ length defs → Laid p
+      all_laid : (p : ℕ) → p ≤ length defs → AreLaid p
       all_laid zero few q d k lt at kt = absurd (omega (arith, lt))
       all_laid (suc p) few q d k lt at kt = ⊎_elim
           (λ h. all_laid p (omega arith) q d k h at kt)
           (λ h.
           let e : q ≡ p = omega (arith, lt, h) in
-          let c = chain.each q d (omega (arith, lt, few)) at in
-          let old : Laid p = all_laid p (omega arith) in
+          let c = def_kept q d at in
+          let old : AreLaid p = all_laid p (omega arith) in
           let known : Knows names s.layouts (length c.before.nodes) m = λ name j n below.
-          let f = first_at names name j n in name_sized p old (suc f.0) name f.0 j (omega arith) f.1 (omega (arith, below, c.starts, ap (start_of defs) e)) in
-          let same : k.node ≡ c.node = root_same q (start_of defs q) (shape_of d.expr) k.node c.compiled c.starts (num.root_is q d k at kt) in
+          let f = first_at names name j n in name_sized p old (suc f.0) name f.0 j (omega arith) f.1 (omega (arith, below, c.starts, ap (start_of (def_shapes defs)) e)) in
+          let same : k.node ≡ c.node = root_same q (start_of (def_shapes defs) q) (shape_of d.expr) k.node c.compiled c.starts (num.root_is q d k at kt) in
           node_sized (sym same) (c.compiled.lays m s.layouts (grows_trans c.grows g) known))
           (cases_lt q p)
 
@@ -148,59 +176,65 @@ module _ {names : List Known} {defs : List Def} {b : Lists} (num : IsNumbered de
         name_stands (suc r) name q j lt f =
             let d = defined_at f in
             let is = definition_at f d.0 d.1 in
-            let c = chain.each q d.0 d.1.below d.1 in
-            let same = root_same q (start_of defs q) (shape_of d.0.expr) f.known.node c.compiled c.starts (num.root_is q d.0 f.known d.1 f.at) in
+            let c = def_kept q d.0 d.1 in
+            let same = root_same q (start_of (def_shapes defs) q) (shape_of d.0.expr) f.known.node c.compiled c.starts (num.root_is q d.0 f.known d.1 f.at) in
             subst (λ i. Stands s shapes (named name) i) f.node_is (⊎_elim
-            (λ k. stands_named is (subst (λ X. Stands s shapes X f.known.node) (sym k.1) (name_stands r k.0 k.2.0 f.known.node (omega (arith, lt, k.2.1)) k.2.2)))
-            (λ k. ⊎_elim
-            (λ w. absurd (omega (arith, k.0, k.1, ap count_of w.1)))
-            (λ w. stands_named is (subst (λ i. Stands s shapes (shape_of d.0.expr) i) (sym same) (stands (w.2 shapes (c.given shapes given)))))
-            c.compiled.root)
+            (λ k. stands_named is (subst (λ Y. Stands s shapes Y f.known.node) (sym k.1) (name_stands r k.0 k.2.0 f.known.node (omega (arith, lt, k.2.1)) k.2.2)))
+            (λ k. stands_named is (kept_stands c given same k.0 k.1))
             (num.root_is q d.0 f.known d.1 f.at))
 
-        settled : Settled names s shapes m
+        settled : Settled names w.items s shapes m
         settled = record {
           laid_out = laid;
+          waits_sized = λ k x at. let c = wait_kept k x at in node_sized (sym (wait_same k x at)) (c.compiled.lays m s.layouts (grows_trans c.grows g) (λ name j n below. all_known name j n));
+          waits_stand = λ k x at. let c = wait_kept k x at in let place = wait_place k x at in kept_stands c given (wait_same k x at) place.0 place.1;
           sized = all_known;
           stand = λ name j e. let f = first_at names name j e in name_stands (suc f.0) name f.0 j (omega arith) f.1;
         }
 
 -- the shape of each node
 abbrev shape_at : List Shape → ℕ → Shape
-shape_at xs i = slice_index_or xs i (leaf unit)
+shape_at Xs i = slice_index_or Xs i (leaf unit)
 
-all_given : (xs : List Shape) → Given (shape_at xs) 0 xs
-all_given xs = record { are = λ k X at. let e : 0 + k ≡ k = omega arith in ap (shape_at xs) e ∙ same_get xs k (leaf unit) X at.below ∙ sym at.is }
+all_given : (Xs : List Shape) → Given (shape_at Xs) 0 Xs
+all_given Xs = record { are = λ k X at. let e : 0 + k ≡ k = omega arith in ap (shape_at Xs) e ∙ same_get Xs k (leaf unit) X at.below ∙ sym at.is }
 
--- the plan of the definitions, and of the root behind them
-module _ {names : List Known} {defs : List Def} {b : Lists} (num : IsNumbered defs names (length defs)) (chain : Chained names defs (length defs) b)
-    (plan : Plan) {X : Shape} {j : ℕ} (c : Compiled names (length b.nodes) X b (lists_of plan) j) where
-  plan_follows : (m : Checker) → IsOf m plan → Follows (lists_of plan) m
-  plan_follows m o = record { nodes = same_goes o.nodes; parts = same_goes o.parts; variants = same_goes o.variants; sorts = same_goes o.sorts }
+plan_follows : (m : Checker) (plan : Plan) → IsOf m plan → Follows (lists_of plan) m
+plan_follows m plan o = record { nodes = same_goes o.nodes; parts = same_goes o.parts; variants = same_goes o.variants; sorts = same_goes o.sorts }
 
-  whole : Adds names (chain.gives ++ c.gives) no_lists (lists_of plan)
-  whole = adds_trans chain.adds c.adds
+-- the plan of all
+pub planned : {names : List Known} {defs : List Def} {w v u : Waits} {base j : ℕ} {b c : Lists} (X : Shape) (plan : Plan) → IsNumbered defs names (length defs) → Chained names (all_shapes defs X w) base w (lists_of plan)
+    → base ≡ start_of (def_shapes defs) (length defs) + count_of X
+    → Compiled names (length b.nodes) X v u b c j → length b.nodes ≡ start_of (def_shapes defs) (length defs) → Grows c (lists_of plan) → IsPlan defs X plan j
+planned {defs = defs} {w = w} {base = base} {j = j} {b = b} X plan num chain base_is root starts grows =
+    let kept = root_kept X num chain base_is in
+    let same : j ≡ kept.node = compiled_same X root kept.compiled (starts ∙ sym kept.starts) in
+    record {
+      below = omega (arith, root.below, goes_longer grows.nodes);
+      closed = λ m o.
+          let g = plan_follows m plan o in
+          let none : ClosedTo m 0 = record { fits = λ i node z lt at e. absurd (omega (arith, lt)) } in
+          let all = chain.adds.closed m g (all_below X num chain base_is m g) none in
+          record { fits = λ i node z at e. all.fits i node z (omega (arith, at.below, ap length o.nodes)) at e };
+      plan_of = λ m s o table laid.
+          let g = plan_follows m plan o in
+          let shapes : ℕ → Shape = shape_at chain.gives in
+          let given = all_given chain.gives in
+          let t = settled X num chain base_is m g s table laid shapes given in
+          let none : MadeTo s shapes m 0 = record { made = λ i node z lt at e. absurd (omega (arith, lt)); empty = λ i node lt at e. absurd (omega (arith, lt)) } in
+          let all = chain.adds.made s shapes m g t given none in
+          record {
+            shapes = shapes;
+            represents = record { made = λ i node z at e. all.made i node z (omega (arith, at.below, ap length o.nodes)) at e };
+            points = points_one (root.lays m s.layouts (grows_trans grows g) (λ name i n below. t.sized name i n))
+                (subst (λ i. Stands s shapes X i) (sym same) (root_stands kept t given));
+          };
+    }
 
-  pub planned : IsPlan defs X plan j
-  planned = record {
-    below = c.below;
-    closed = λ m o.
-        let g = plan_follows m o in
-        let none : ClosedTo m 0 = record { fits = λ i node z lt at e. absurd (omega (arith, lt)) } in
-        let all = whole.closed m g (all_below num chain m (grows_trans c.adds.grows g)) none in
-        record { fits = λ i node z at e. all.fits i node z (omega (arith, at.below, ap length o.nodes)) at e };
-    plan_of = λ m s o table laid.
-        let g = plan_follows m o in
-        let over = grows_trans c.adds.grows g in
-        let shapes : ℕ → Shape = shape_at (chain.gives ++ c.gives) in
-        let given = all_given (chain.gives ++ c.gives) in
-        let first = given_first c.gives given in
-        let t = settled num chain m over s table laid shapes first in
-        let none : MadeTo s shapes m 0 = record { made = λ i node z lt at e. absurd (omega (arith, lt)); empty = λ i node lt at e. absurd (omega (arith, lt)) } in
-        let all = whole.made s shapes m g t given none in
-        record {
-          shapes = shapes;
-          represents = record { made = λ i node z at e. all.made i node z (omega (arith, at.below, ap length o.nodes)) at e };
-          points = points_one (c.lays m s.layouts g (λ name i n below. t.sized name i n)) (stands_of c t (given_second chain.gives (length b.nodes) chain.adds.count given));
-        };
-  }
+-- the definitions, then the root, then what waits
+pub all_planned : {names : List Known} {defs : List Def} {v u w : Waits} {base j : ℕ} {b c : Lists} (X : Shape) (plan : Plan) → IsNumbered defs names (length defs) → Chained names (def_shapes defs) base v b
+    → base ≡ start_of (def_shapes defs) (length defs) + count_of X → Compiled names (length b.nodes) X v u b c j → Finishes names u w c (lists_of plan) → IsPlan defs X plan j
+all_planned {defs = defs} {base = base} X plan num chain base_is root rest =
+    let front = chained_next chain root in
+    let starts = ap (start_of (def_shapes defs)) (def_count defs) in
+    planned X plan num (rest.chained (def_shapes defs ++ X ∷ []) base front) base_is root (omega (arith, chain.adds.count, chain.gives_count, starts)) rest.grows

@@ -37,22 +37,22 @@ without_less : (name : Name) (Y : Shape) (ds : Table) → definition ds name ≡
 without_less name Y [] e = cc
 without_less name Y (d ∷ ds) e = by_name (bytes_eq d.0 name) e (λ f. without_less name Y ds f)
   where
-  by_name : (b : Bool) → cond b (Some d.1) (definition ds name) ≡ Some Y → (definition ds name ≡ Some Y → length (without name ds) < length ds) → length (cond b (without name ds) (d ∷ without name ds)) < length (d ∷ ds)
-  by_name true f below = let less = without_le name ds in omega (arith, less)
-  by_name false f below = let less = below f in omega (arith, less)
+    by_name : (b : Bool) → cond b (Some d.1) (definition ds name) ≡ Some Y → (definition ds name ≡ Some Y → length (without name ds) < length ds) → length (cond b (without name ds) (d ∷ without name ds)) < length (d ∷ ds)
+    by_name true f below = let less = without_le name ds in omega (arith, less)
+    by_name false f below = let less = below f in omega (arith, less)
 
 -- the other names keep their definitions
 without_other : (name n : Name) (ds : Table) → (bytes_eq n name ≡ true → ⊥) → definition (without name ds) n ≡ definition ds n
 without_other name n [] other = refl
 without_other name n (d ∷ ds) other = by_name (bytes_eq d.0 name) refl (without_other name n ds other)
   where
-  by_name : (b : Bool) → bytes_eq d.0 name ≡ b → definition (without name ds) n ≡ definition ds n → definition (cond b (without name ds) (d ∷ without name ds)) n ≡ definition (d ∷ ds) n
-  by_name true is below = below ∙ skipped (bytes_eq d.0 n) refl
-    where
-    skipped : (c : Bool) → bytes_eq d.0 n ≡ c → definition ds n ≡ cond c (Some d.1) (definition ds n)
-    skipped true here = let there = same_name d.0 n here in absurd (other (rw there at is))
-    skipped false here = refl
-  by_name false is below = ap (cond (bytes_eq d.0 n) (Some d.1)) below
+    by_name : (b : Bool) → bytes_eq d.0 name ≡ b → definition (without name ds) n ≡ definition ds n → definition (cond b (without name ds) (d ∷ without name ds)) n ≡ definition (d ∷ ds) n
+    by_name true is below = below ∙ skipped (bytes_eq d.0 n) refl
+      where
+        skipped : (c : Bool) → bytes_eq d.0 n ≡ c → definition ds n ≡ cond c (Some d.1) (definition ds n)
+        skipped true here = let there = same_name d.0 n here in absurd (other (rw there at is))
+        skipped false here = refl
+    by_name false is below = ap (cond (bytes_eq d.0 n) (Some d.1)) below
 
 module _ (s s' : Schema) (X : Shape) (laid : LaidOut s) (laid' : LaidOut s') (formed : WellFormed s.table X) (same : (name : Name) → Reaches s.table name X → definition s.table name ≡ definition s'.table name) where
   -- a name has its definition still, or that definition holds the name in hand
@@ -62,10 +62,10 @@ module _ (s s' : Schema) (X : Shape) (laid : LaidOut s) (laid' : LaidOut s') (fo
   next_left : (ds : Table) (name held_name : Name) (Y : Shape) → Left ds name → definition s.table name ≡ Some Y → Holds held_name Y → Left (without name ds) held_name
   next_left ds name m Y left d h n = by_name (bytes_eq n name) refl (left n)
     where
-    by_name : (b : Bool) → bytes_eq n name ≡ b → (definition ds n ≡ definition s.table n) ⊎ ((Z : Shape) × (definition s.table n ≡ Some Z) × HeldIn s.table name Z) → (definition (without name ds) n ≡ definition s.table n) ⊎ ((Z : Shape) × (definition s.table n ≡ Some Z) × HeldIn s.table m Z)
-    by_name true is l = let here = same_name n name is in inr (Y, rw here d, held h)
-    by_name false is (inl e) = inl (without_other name n ds (λ t. cc) ∙ e)
-    by_name false is (inr (Z, e, k)) = inr (Z, e, held_more k d h)
+      by_name : (b : Bool) → bytes_eq n name ≡ b → (definition ds n ≡ definition s.table n) ⊎ ((Z : Shape) × (definition s.table n ≡ Some Z) × HeldIn s.table name Z) → (definition (without name ds) n ≡ definition s.table n) ⊎ ((Z : Shape) × (definition s.table n ≡ Some Z) × HeldIn s.table m Z)
+      by_name true is l = let here = same_name n name is in inr (Y, rw here d, held h)
+      by_name false is (inl e) = inl (without_other name n ds (λ t. cc) ∙ e)
+      by_name false is (inr (Z, e, k)) = inr (Z, e, held_more k d h)
 
   layout_turn : (ds : Table) (name : Name) (Y : Shape) → Reaches s.table name X → definition s.table name ≡ Some Y
       → (definition ds name ≡ definition s.table name) ⊎ ((Z : Shape) × (definition s.table name ≡ Some Z) × HeldIn s.table name Z)

@@ -16,11 +16,13 @@ use Rattle.archive_check.specs.Runs.{IsAt, IsNode, Takes}
 use Rattle.archive_check.specs.Closed.{SpanFits}
 use Rattle.archive_check.specs.Represents.{Stands, PartsStand, parts_over, parts_more, Sized}
 use Rattle.archive_check.specs.Fitting.{fits, rounded, sum_of, greater_of}
+use Rattle.archive_check.specs.Queued.{Wait, Waits, waits_size}
 use Rattle.archive_check.specs.Growing.{Lists, lists_in, Grows, IsExtended, IsPlaced, IsListed, PartsLaid, SpansLaid}
-use Rattle.archive_check.specs.Compiled.{Follows, Below, Knows, Settled, Given, Adds, Compiled, PartFits, RowIs, CompiledParts, IsVariant, SpansAre, CompiledVariants, count_of, counts_of, variant_counts_of}
+use Rattle.archive_check.specs.Compiled.{Follows, Below, Knows, Settled, Given, Adds, Compiled, PartFits, RowIs, CompiledParts, IsVariant, SpansAre, CompiledVariants}
+use Rattle.archive_check.specs.Counts.{count_of, counts_of, variant_counts_of}
 use Rattle.archive_check.proofs.Fitting.{fits_some, some_is, rounded_fits, rounded_some, sum_fits, sum_some, greater_fits, greater_some}
 use Rattle.archive_check.proofs.GoingOn.{at_more, at_less, at_last, at_end, same_at, goes_longer, grows_refl, grows_trans, extended_grows, part_at, part_of, span_at, span_of}
-use Rattle.archive_check.proofs.Adding.{given_first, given_second, knows_settled, adds_refl, adds_trans, adds_same, stands_of}
+use Rattle.archive_check.proofs.Adding.{given_first, given_second, settled_less, knows_settled, adds_refl, adds_trans, adds_same, stands_of}
 use Rattle.archive_check.proofs.Compiled.{fits_wider, span_within, span_wider}
 
 align_positive : (l : Layouts) (ps : Parts) → 0 < parts_align l ps
@@ -36,11 +38,12 @@ ends_positive l no_variant = omega arith
 ends_positive l (variant ps vs) = omega (arith, ends_positive l vs)
 
 -- no part yet
-pub row_start : {names : List Known} {done : ℕ} (start : ℕ) {a : Lists} (ps : Parts) (row : List PlanPart) (end : Option ℕ) (align : ℕ) (free : Bool) → start < 18446744073709551616 → row ≡ [] → end ≡ Some start → align ≡ 1
-    → RowIs names done start ps ps a a row end align free
-row_start {names = names} start {a = a} ps row end align free few none e one = record {
+pub row_start : {names : List Known} {done : ℕ} (start : ℕ) {v : Waits} {a : Lists} (ps : Parts) (row : List PlanPart) (end : Option ℕ) (align : ℕ) (free : Bool) → start < 18446744073709551616 → row ≡ [] → end ≡ Some start → align ≡ 1
+    → RowIs names done start ps ps v v a a row end align free
+row_start {names = names} start {v = v} {a = a} ps row end align free few none e one = record {
   gives = [];
-  adds = adds_refl names a;
+  adds = adds_refl names v a;
+  waits_few = omega arith;
   left = omega arith;
   positive = omega arith;
   row_fits = λ m g e q k x at. absurd (let at_none : IsAt [] k x = subst (λ r. IsAt r k x) none at in omega (arith, at_none.below));
@@ -52,8 +55,8 @@ row_start {names = names} start {a = a} ps row end align free few none e one = r
       subst (λ f. PartsStand s shapes m f last start ps) here (subst (λ w. PartsStand s shapes m (first + length row) last w ps) (sym same) rest);
 }
 
-module _ {names : List Known} {done start : ℕ} {all rest : Parts} {a b c : Lists} {X : Shape} {row next : Row} {node : ℕ} {here : Node}
-    (r : RowIs names done start all (part X rest) a b row.parts.items row.end row.align row.free) (f : Compiled names done X b c node) (at : IsAt c.nodes node here) (p : IsPlaced node here row next) where
+module _ {names : List Known} {done start : ℕ} {all rest : Parts} {v w u : Waits} {a b c : Lists} {X : Shape} {row next : Row} {node : ℕ} {here : Node}
+    (r : RowIs names done start all (part X rest) v w a b row.parts.items row.end row.align row.free) (f : Compiled names done X w u b c node) (at : IsAt c.nodes node here) (p : IsPlaced node here row next) where
   longer : length next.parts.items ≡ length row.parts.items + 1
   longer = ap length p.parts_are ∙ length-append row.parts.items (p.last ∷ [])
 
@@ -104,7 +107,7 @@ module _ {names : List Known} {done start : ℕ} {all rest : Parts} {a b c : Lis
         omega (arith, before.1, al, p.align_is),
       )
 
-  next_stand : (s : Schema) (shapes : ℕ → Shape) (m : Checker) → Follows c m → Settled names s shapes m → Given shapes (length a.nodes) (r.gives ++ f.gives)
+  next_stand : (s : Schema) (shapes : ℕ → Shape) (m : Checker) → Follows c m → Settled names u.items s shapes m → Given shapes (length a.nodes) (r.gives ++ f.gives)
       → (e : ℕ) → next.end ≡ Some e → (first last : ℕ) → ((k : ℕ) (x : PlanPart) → IsAt next.parts.items k x → IsAt m.parts.now (first + k) x) → first + length next.parts.items ≤ last
       → PartsStand s shapes m (first + length next.parts.items) last e rest → PartsStand s shapes m first last start all
   next_stand s shapes m g t given e q first last placed room tail =
@@ -124,13 +127,14 @@ module _ {names : List Known} {done start : ℕ} {all rest : Parts} {a b c : Lis
       subst (λ x. PartsStand s shapes m x last (up w.2 (align_of s.layouts X) + size_of s.layouts X) rest) behind (subst (λ y. PartsStand s shapes m (first + length next.parts.items) last y rest) ends tail) in
       let old : (i : ℕ) (x : PlanPart) → IsAt row.parts.items i x → IsAt m.parts.now (first + i) x =
       λ i x h. placed i x (subst (λ xs. IsAt xs i x) (sym p.parts_are) (at_more (record { more = p.last ∷ []; is = refl }) h)) in
-      r.stand s shapes m over t (given_first f.gives given) w.2 w.6 first last old (omega (arith, less)) (parts_more less there (w.9 ∙ offset) stands takes more)
+      r.stand s shapes m over (settled_less f.adds.waits_go t) (given_first f.gives given) w.2 w.6 first last old (omega (arith, less)) (parts_more less there (w.9 ∙ offset) stands takes more)
 
   -- one part more
-  pub row_next : RowIs names done start all rest a c next.parts.items next.end next.align next.free
+  pub row_next : RowIs names done start all rest v u a c next.parts.items next.end next.align next.free
   row_next = record {
     gives = r.gives ++ f.gives;
     adds = adds_trans r.adds f.adds;
+    waits_few = omega (arith, r.waits_few, f.waits_few);
     left = omega (arith, r.left, f.gives_count, length-append r.gives f.gives);
     positive = omega (arith, r.positive, p.align_is);
     row_fits = next_fits;
@@ -139,7 +143,7 @@ module _ {names : List Known} {done start : ℕ} {all rest : Parts} {a b c : Lis
     stand = next_stand;
   }
 
-module _ {names : List Known} {done start : ℕ} {all : Parts} {a c d : Lists} {row : Row} {laid : Laid} (r : RowIs names done start all no_part a c row.parts.items row.end row.align row.free) (p : PartsLaid c d row laid) where
+module _ {names : List Known} {done start : ℕ} {all : Parts} {v w : Waits} {a c d : Lists} {row : Row} {laid : Laid} (r : RowIs names done start all no_part v w a c row.parts.items row.end row.align row.free) (p : PartsLaid c d row laid) where
   laid_length : laid.last ≡ laid.first + length row.parts.items
   laid_length = omega (arith, p.last_is, p.first_is, ap length p.extended.parts_are, length-append c.parts row.parts.items)
 
@@ -150,7 +154,7 @@ module _ {names : List Known} {done start : ℕ} {all : Parts} {a c d : Lists} {
   laid_at m g k x at = let e : length c.parts + k ≡ laid.first + k = omega (arith, p.first_is) in subst (λ i. IsAt m.parts.now i x) e (at_more g.parts (part_at p.extended k x at))
 
   -- the row stands behind the plan's parts
-  pub row_done : CompiledParts names done start all a d laid
+  pub row_done : CompiledParts names done start all v w a d laid
   row_done =
       let grown = extended_grows p.extended in
       let nodes : length d.nodes ≡ length c.nodes = ap length p.extended.nodes_are in
@@ -158,6 +162,7 @@ module _ {names : List Known} {done start : ℕ} {all : Parts} {a c d : Lists} {
         gives = r.gives;
         gives_count = omega (arith, r.left);
         adds = adds_same r.adds grown p.extended.nodes_are;
+        waits_few = omega (arith, r.waits_few);
         positive = omega (arith, r.positive, p.align_is);
         last = omega (arith, p.last_is);
         few = p.few;
@@ -168,10 +173,11 @@ module _ {names : List Known} {done start : ℕ} {all : Parts} {a c d : Lists} {
       }
 
 -- no variant yet
-pub spans_start : {names : List Known} {done : ℕ} {a : Lists} (vs : Variants) (row : List Span) (end : Option ℕ) (align : ℕ) → row ≡ [] → end ≡ Some 1 → align ≡ 1 → SpansAre names done vs vs a a row end align
-spans_start {names = names} {a = a} vs row end align none e one = record {
+pub spans_start : {names : List Known} {done : ℕ} {v : Waits} {a : Lists} (vs : Variants) (row : List Span) (end : Option ℕ) (align : ℕ) → row ≡ [] → end ≡ Some 1 → align ≡ 1 → SpansAre names done vs vs v v a a row end align
+spans_start {names = names} {v = v} {a = a} vs row end align none e one = record {
   gives = [];
-  adds = adds_refl names a;
+  adds = adds_refl names v a;
+  waits_few = omega arith;
   left = omega arith;
   positive = omega arith;
   tag = λ z ez. let same : 1 ≡ z = cc in omega (arith, same);
@@ -181,8 +187,8 @@ spans_start {names = names} {a = a} vs row end align none e one = record {
   others = λ k. let i : length row + k ≡ k = omega (arith, ap length none) in ap (variant_at vs) i;
 }
 
-module _ {names : List Known} {done : ℕ} {all rest : Variants} {a b c : Lists} {ps : Parts} {spans next : Spans} {laid : Laid}
-    (r : SpansAre names done all (variant ps rest) a b spans.items.items spans.end spans.align) (f : CompiledParts names done 1 ps b c laid) (p : IsListed laid spans next) where
+module _ {names : List Known} {done : ℕ} {all rest : Variants} {v w u : Waits} {a b c : Lists} {ps : Parts} {spans next : Spans} {laid : Laid}
+    (r : SpansAre names done all (variant ps rest) v w a b spans.items.items spans.end spans.align) (f : CompiledParts names done 1 ps w u b c laid) (p : IsListed laid spans next) where
   spans_longer : length next.items.items ≡ length spans.items.items + 1
   spans_longer = ap length p.items_are ∙ length-append spans.items.items (p.span ∷ [])
 
@@ -207,12 +213,12 @@ module _ {names : List Known} {done : ℕ} {all rest : Variants} {a b c : Lists}
       subst (λ (t : Span). SpanFits m (length c.nodes) e t.first t.last) (sym i.1) there)
       (spans_cases k x h)
 
-  spans_stand : (s : Schema) (shapes : ℕ → Shape) (m : Checker) → Follows c m → Settled names s shapes m → Given shapes (length a.nodes) (r.gives ++ f.gives)
+  spans_stand : (s : Schema) (shapes : ℕ → Shape) (m : Checker) → Follows c m → Settled names u.items s shapes m → Given shapes (length a.nodes) (r.gives ++ f.gives)
       → (e : ℕ) → next.end ≡ Some e → (k : ℕ) (x : Span) → IsAt next.items.items k x → IsVariant s shapes m all k x
   spans_stand s shapes m g t given e q k x h =
       let w = spans_split e q in
       ⊎_elim
-      (λ i. r.stand s shapes m (grows_trans f.adds.grows g) t (given_first f.gives given) w.0 w.2 k x i)
+      (λ i. r.stand s shapes m (grows_trans f.adds.grows g) (settled_less f.adds.waits_go t) (given_first f.gives given) w.0 w.2 k x i)
       (λ i.
       let here : variant_at all k ≡ Some ps = (let n : k ≡ length spans.items.items + 0 = omega (arith, i.0) in ap (variant_at all) n ∙ r.others 0) in
       let there : PartsStand s shapes m laid.first laid.last 1 ps = f.stand s shapes m g t (given_second r.gives (length b.nodes) r.adds.count given) w.1 w.3 in
@@ -222,10 +228,11 @@ module _ {names : List Known} {done : ℕ} {all rest : Variants} {a b c : Lists}
       (spans_cases k x h)
 
   -- one variant more
-  pub spans_next : SpansAre names done all rest a c next.items.items next.end next.align
+  pub spans_next : SpansAre names done all rest v u a c next.items.items next.end next.align
   spans_next = record {
     gives = r.gives ++ f.gives;
     adds = adds_trans r.adds f.adds;
+    waits_few = omega (arith, r.waits_few, f.waits_few);
     left = omega (arith, r.left, f.gives_count, length-append r.gives f.gives);
     positive = omega (arith, r.positive, p.align_is);
     tag = λ e q. let s = spans_split e q in omega (arith, r.tag s.0 s.2, s.4);
@@ -238,7 +245,7 @@ module _ {names : List Known} {done : ℕ} {all rest : Variants} {a b c : Lists}
     others = λ k. let i : length next.items.items + k ≡ length spans.items.items + suc k = omega (arith, spans_longer) in ap (variant_at all) i ∙ r.others (suc k);
   }
 
-module _ {names : List Known} {done : ℕ} {all : Variants} {a c d : Lists} {spans : Spans} {laid : Laid} (r : SpansAre names done all no_variant a c spans.items.items spans.end spans.align) (p : SpansLaid c d spans laid) where
+module _ {names : List Known} {done : ℕ} {all : Variants} {v w : Waits} {a c d : Lists} {spans : Spans} {laid : Laid} (r : SpansAre names done all no_variant v w a c spans.items.items spans.end spans.align) (p : SpansLaid c d spans laid) where
   spans_length : laid.last ≡ laid.first + length spans.items.items
   spans_length = omega (arith, p.last_is, p.first_is, ap length p.extended.variants_are, length-append c.variants spans.items.items)
 
@@ -246,7 +253,7 @@ module _ {names : List Known} {done : ℕ} {all : Variants} {a c d : Lists} {spa
   laid_span m g k x from to at = span_of p.extended k x (omega (arith, from, p.first_is)) (at_less g.variants (omega (arith, to, p.last_is)) at)
 
   -- the variants stand behind the plan's
-  pub spans_done : CompiledVariants names done all a d laid
+  pub spans_done : CompiledVariants names done all v w a d laid
   spans_done =
       let grown = extended_grows p.extended in
       let nodes : length d.nodes ≡ length c.nodes = ap length p.extended.nodes_are in
@@ -254,6 +261,7 @@ module _ {names : List Known} {done : ℕ} {all : Variants} {a c d : Lists} {spa
         gives = r.gives;
         gives_count = omega (arith, r.left);
         adds = adds_same r.adds grown p.extended.nodes_are;
+        waits_few = omega (arith, r.waits_few);
         positive = omega (arith, r.positive, p.align_is);
         last = omega (arith, p.last_is);
         few = p.few;

@@ -2,7 +2,7 @@
 use Rattle.std.proofs.Common.{◌≡◌, ℕ, ◌+◌, ◌<◌, List, [], ◌∷◌, ◌++◌, length, drop, get_or, cond, Some, refl, ap, sym, ◌∙◌, arith, suc, bytes_eq}
 use Rattle.std.proofs.Math.Seq.{drop-cons}
 use Rattle.archive_check.specs.declared.defs.Def.{Def}
-use Rattle.archive_check.specs.Shape.{Name, Shape, definition}
+use Rattle.archive_check.specs.Shape.{Name, definition}
 use Rattle.archive_check.specs.Expressions.{shape_of, entries_of}
 
 pub entries_of-push : (xs : List Def) (d : Def) → entries_of (xs ++ d ∷ []) ≡ entries_of xs ++ (d.name.now, shape_of d.expr) ∷ []

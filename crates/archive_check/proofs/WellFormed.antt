@@ -2,14 +2,16 @@
 use Rattle.std.proofs.Common.{◌≡◌, ◌≢◌, ◌⊎◌, inl, inr, ⊎_elim, ℕ, zero, suc, ◌+◌, ◌<◌, ◌≤◌, List, [], ◌∷◌, ◌++◌, length, take, get_or, refl, sym, ap, ◌∙◌, subst, arith, Bool, true, false, Option, Some, None, Contains}
 use Rattle.std.proofs.lemmas.List.{take_more, take_all, get_or_default}
 use Rattle.std.proofs.lemmas.List.Elements.{Contains-get_or}
+use Rattle.archive_check.specs.declared.error.Error.{Error}
+use Rattle.archive_check.specs.declared.error.Error.TheVariants.{OutOfMemory, ShapeConflict, RecursiveLayout}
 use Rattle.archive_check.specs.Shape.{Name, Shape, str, Table, definition}
 use Rattle.archive_check.specs.Layout.{Layouts, Solves}
 use Rattle.archive_check.specs.Reads.{LaidOut}
 use Rattle.archive_check.specs.Defined.{Holds, mentions_held, Reaches, reaches, reaches_through, HeldIn, held, held_through, AllDefined, WellFormed, rounds}
 use Rattle.archive_check.specs.Definitions.{Definitions, listed, Extended, Conflicts}
-use Rattle.archive_check.specs.Names.{missing, Complete, Collected, Arranged}
+use Rattle.archive_check.specs.Names.{missing, Complete, HasAll, Collected, Arranged, Prepared, ExplainsNoSchema}
 use Rattle.archive_check.proofs.Named.{names_decided, definition_here, definition_other}
-use Rattle.archive_check.proofs.Missing.{IsDefined, held_defined, mentioned_defined, none_near}
+use Rattle.archive_check.proofs.Missing.{IsDefined, held_defined, mentioned_defined, none_near, none_missed}
 use Rattle.archive_check.proofs.Descent.{contains_cases, contains_first, contains_later, LeadsTo}
 use Rattle.archive_check.proofs.Placed.{names_of, names_of-push, names_of-nil, defined_named}
 use Rattle.archive_check.proofs.Ordered.{Ordered, ordered_none, ordered_next, ordered_never, ordered_solves}
@@ -90,7 +92,7 @@ held_within old new kept closed (held_through {Y = Y} {n = m} h d r) none =
     held_through h (e ∙ ap Some same) (held_within old new kept closed r (ap (missing true new) (sym same) ∙ closed m Z e))
 
 -- and what is reached is defined there
-reached_within : (old new : Table) → ((n : Name) (Y : Shape) → definition new n ≡ Some Y → definition old n ≡ Some Y) → ((n : Name) (Y : Shape) → definition new n ≡ Some Y → missing true new Y ≡ None)
+pub reached_within : (old new : Table) → ((n : Name) (Y : Shape) → definition new n ≡ Some Y → definition old n ≡ Some Y) → ((n : Name) (Y : Shape) → definition new n ≡ Some Y → missing true new Y ≡ None)
     → {n : Name} {X : Shape} → Reaches old n X → missing true new X ≡ None → IsDefined new n
 reached_within old new kept closed (reaches h) none = mentioned_defined new _ h none
 reached_within old new kept closed (reaches_through {Y = Y} {n = m} h d r) none =
@@ -152,3 +154,49 @@ module _ (D : Definitions) (X : Shape) (table : Table) (added : Extended [] D ta
 -- what is collected is complete
 pub collected_complete : (old : Table) (X : Shape) (new : Table) → Collected old X new → Complete new
 collected_complete old X new c = record { once = c.once; closed = λ n Y e. none_near new Y (c.closed n Y e) }
+
+-- so the definitions of a type are prepared
+pub prepared : (D : Definitions) (X : Shape) (table : Table) → Extended [] D table → (found : Table) → Collected table X found → (placed : Table) → Arranged found placed → Prepared D X placed
+prepared D X table added found collected placed arranged = record {
+  known = placed_listed D X table added found collected placed arranged;
+  complete = record {
+    root = none_missed found placed (λ n Y e. (Y, arranged.same n ∙ e)) true X collected.root;
+    closed = λ n Y e. none_missed found placed (λ m Z f. (Z, arranged.same m ∙ f)) true Y (collected.closed n Y (sym (arranged.same n) ∙ e));
+  };
+  ordered = record { same = λ n. refl; once = arranged.once; earlier = arranged.earlier };
+  well_formed = well_formed D X table added found collected placed arranged;
+}
+
+-- two definitions of one name
+pub conflict_not_defined : (D : Definitions) (X : Shape) → ((name : Name) (Y : Shape) → Contains (listed D) (name, Y) → Reaches (listed D) name X) → Conflicts [] D → AllDefined (listed D) X → ⊥
+conflict_not_defined D X reached c all =
+    let (Y, e, one) = all c.name (reached c.name c.shape c.here) in
+    let there : Contains (listed D) (c.name, c.other) = ⊎_elim (λ f. cc f) (λ d. d) c.there in
+    c.differ (one c.shape c.here ∙ sym (one c.other there))
+
+-- What the steps of making a schema answer: definitions are added to none, collected and put in order.
+module _ (D : Definitions) (X : Shape) where
+  pub explains_conflict : (old : Table) (e : Error) → old ≡ [] → ((name : Name) (Y : Shape) → Contains (listed D) (name, Y) → Reaches (listed D) name X)
+      → (e ≡ OutOfMemory) ⊎ ((e ≡ ShapeConflict) × Conflicts old D) → ExplainsNoSchema X D e
+  explains_conflict old e none reached (inl memory) = inl memory
+  explains_conflict old e none reached (inr (is, c)) = inr (inl (is, conflict_not_defined D X reached (rw none at c)))
+
+  module _ (old table items : Table) (Y : Shape) (none : old ≡ []) (added : Extended old D table) (same : items ≡ table) (root : Y ≡ X) where
+    extended : Extended [] D items
+    extended = rw same (rw none at added)
+
+    pub explains_lost : (e : Error) → (e ≡ OutOfMemory) ⊎ ((e ≡ ShapeConflict) × (name : Name) × Reaches items name Y × (definition items name ≡ None)) → ExplainsNoSchema X D e
+    explains_lost e (inl memory) = inl memory
+    explains_lost e (inr (is, name, reached, lost)) = inr (inl (is, lost_not_defined D X items extended name (rw root at reached) lost))
+
+    module _ (found : Table) (collected : Collected items Y found) where
+      at_root : Collected items X found
+      at_root = rw root at collected
+
+      pub explains_held : (e : Error) → (e ≡ OutOfMemory) ⊎ ((e ≡ RecursiveLayout) × (name : Name) × (Z : Shape) × (definition found name ≡ Some Z) × HeldIn found name Z) → ExplainsNoSchema X D e
+      explains_held e (inl memory) = inl memory
+      explains_held e (inr (is, name, Z, defined, holds)) =
+          inr (inr (is, all_defined D X items extended found at_root, held_not_well_formed D X items extended found at_root name Z defined holds))
+
+      pub prepares : (placed : Table) → Arranged found placed → Prepared D X placed
+      prepares placed arranged = prepared D X items extended found at_root placed arranged

@@ -15,42 +15,19 @@ use Rattle.archive_check.specs.Runs.{IsAt, IsNode, Takes, target_size}
 use Rattle.archive_check.specs.Closed.{JobFits, SpanFits}
 use Rattle.archive_check.specs.Represents.{Stands, PartsStand, Sized, Points, Made}
 use Rattle.archive_check.specs.Fitting.{fits}
-use Rattle.archive_check.specs.Growing.{node_of, Lists, lists_in, Grows}
-
--- how many nodes an expression is compiled to: a name has its definition's
-abbrev mutual
-  pub count_of : Shape → ℕ
-  count_of (leaf k) = 1
-  count_of (parts ps) = counts_of ps + 1
-  count_of (choice name vs) = variant_counts_of vs + 1
-  count_of (array n X) = count_of X + 1
-  count_of (boxed P) = count_pointee P + 1
-  count_of (vec X) = count_of X + 1
-  count_of str = 2
-  count_of (shared f P) = count_pointee P + 1
-  count_of (weak f P) = count_pointee P + 1
-  count_of (named name) = 0
-
-  pub count_pointee : Pointee → ℕ
-  count_pointee (one X) = count_of X
-  count_pointee (run X) = count_of X
-  count_pointee text = 1
-
-  pub counts_of : Parts → ℕ
-  counts_of no_part = 0
-  counts_of (part X ps) = count_of X + counts_of ps
-
-  pub variant_counts_of : Variants → ℕ
-  variant_counts_of no_variant = 0
-  variant_counts_of (variant ps vs) = counts_of ps + variant_counts_of vs
+use Rattle.archive_check.specs.Counts.{count_of, count_pointee, counts_of, variant_counts_of}
+use Rattle.archive_check.specs.Sizes.{shape_size, parts_size, variants_size, pointee_size}
+use Rattle.archive_check.specs.Growing.{node_of, Lists, lists_in, Goes, Grows}
+use Rattle.archive_check.specs.Queued.{Wait, Waits, Reserved, waits_size}
 
 -- the checker's lists go on from a plan's
 abbrev pub Follows : Lists → Checker → Type 0
 Follows b m = Grows b (lists_in m)
 
--- each name's node is there
-abbrev pub Below : List Known → Checker → Type 0
-Below names m = (name : Name) (j : ℕ) → node_of names name ≡ Some j → j < length m.nodes.now
+-- the nodes of names, and of what waits, are there
+pub record Below (names : List Known) (waits : List Wait) (m : Checker) : Type 0 where
+  pub names_below : (name : Name) (j : ℕ) → node_of names name ≡ Some j → j < length m.nodes.now
+  pub waits_below : (k : ℕ) (x : Wait) → IsAt waits k x → x.node < length m.nodes.now
 
 -- the names' nodes before `done` have the names' layouts
 abbrev pub Knows : List Known → Layouts → ℕ → Checker → Type 0
@@ -60,9 +37,11 @@ Knows names l done m = (name : Name) (j : ℕ) → node_of names name ≡ Some j
 pub record ClosedTo (m : Checker) (n : ℕ) : Type 0 where
   pub fits : (i : ℕ) (node : Node) (z : ℕ) → i < n → IsAt m.nodes.now i node → node.size ≡ Some z → JobFits m i z node.job
 
--- each name's node stands for it
-pub record Settled (names : List Known) (s : Schema) (shapes : ℕ → Shape) (m : Checker) : Type 0 where
+-- the nodes of names, and of what waits, stand for it
+pub record Settled (names : List Known) (waits : List Wait) (s : Schema) (shapes : ℕ → Shape) (m : Checker) : Type 0 where
   pub laid_out : LaidOut s
+  pub waits_sized : (k : ℕ) (x : Wait) → IsAt waits k x → Sized m x.node (size_of s.layouts x.shape) (align_of s.layouts x.shape)
+  pub waits_stand : (k : ℕ) (x : Wait) → IsAt waits k x → Stands s shapes x.shape x.node
   pub sized : (name : Name) (j : ℕ) → node_of names name ≡ Some j → Sized m j (s.layouts name).size (s.layouts name).align
   pub stand : (name : Name) (j : ℕ) → node_of names name ≡ Some j → Stands s shapes (named name) j
 
@@ -75,12 +54,14 @@ pub record MadeTo (s : Schema) (shapes : ℕ → Shape) (m : Checker) (n : ℕ) 
   pub made : (i : ℕ) (node : Node) (z : ℕ) → i < n → IsAt m.nodes.now i node → node.size ≡ Some z → (size_of s.layouts (shapes i) ≡ z) × Made s shapes m node.job (shapes i)
   pub empty : (i : ℕ) (node : Node) → i < n → IsAt m.nodes.now i node → node.size ≡ Some 0 → node.job ≡ Free
 
--- A plan grows by nodes of these shapes. It stays sound, and its nodes stand for their shapes.
-pub record Adds (names : List Known) (gives : List Shape) (a b : Lists) : Type 0 where
+-- A plan grows by nodes of these shapes, and what waits by what they lead to. The plan stays sound, and its nodes stand for their shapes.
+pub record Adds (names : List Known) (gives : List Shape) (v w : Waits) (a b : Lists) : Type 0 where
   pub grows : Grows a b
+  pub waits_go : Goes v.items w.items
+  pub reserved : (base : ℕ) → Reserved base v.items v.next → Reserved base w.items w.next
   pub count : length b.nodes ≡ length a.nodes + length gives
-  pub closed : (m : Checker) → Follows b m → Below names m → ClosedTo m (length a.nodes) → ClosedTo m (length b.nodes)
-  pub made : (s : Schema) (shapes : ℕ → Shape) (m : Checker) → Follows b m → Settled names s shapes m → Given shapes (length a.nodes) gives
+  pub closed : (m : Checker) → Follows b m → Below names w.items m → ClosedTo m (length a.nodes) → ClosedTo m (length b.nodes)
+  pub made : (s : Schema) (shapes : ℕ → Shape) (m : Checker) → Follows b m → Settled names w.items s shapes m → Given shapes (length a.nodes) gives
       → MadeTo s shapes m (length a.nodes) → MadeTo s shapes m (length b.nodes)
 
 -- an expression's node: a name's, or the last
@@ -90,31 +71,32 @@ IsRoot names X a b gives j =
     ⊎ ((j + 1 ≡ length b.nodes) × (length a.nodes ≤ j) × ((shapes : ℕ → Shape) → Given shapes (length a.nodes) gives → shapes j ≡ X))
 
 -- an expression's node is j, with the expression's layout
-pub record Compiled (names : List Known) (done : ℕ) (X : Shape) (a b : Lists) (j : ℕ) : Type 0 where
+pub record Compiled (names : List Known) (done : ℕ) (X : Shape) (v w : Waits) (a b : Lists) (j : ℕ) : Type 0 where
   pub gives : List Shape
   pub gives_count : length gives ≡ count_of X
-  pub adds : Adds names gives a b
+  pub adds : Adds names gives v w a b
+  pub waits_few : waits_size w.items ≤ waits_size v.items + shape_size X
   pub below : j < length b.nodes
   pub root : IsRoot names X a b gives j
   pub lays : (m : Checker) (l : Layouts) → Follows b m → Knows names l done m → Sized m j (size_of l X) (align_of l X)
 
 -- a node behind a pointer, which may come later
-pub record Targets (names : List Known) (X : Shape) (a b : Lists) (j : ℕ) : Type 0 where
-  pub gives : List Shape
-  pub gives_count : length gives ≡ count_of X
-  pub adds : Adds names gives a b
-  pub below : (m : Checker) → Follows b m → Below names m → j < length m.nodes.now
-  pub sized : (s : Schema) (shapes : ℕ → Shape) (m : Checker) → Follows b m → Settled names s shapes m → Sized m j (size_of s.layouts X) (align_of s.layouts X)
-  pub stands : (s : Schema) (shapes : ℕ → Shape) (m : Checker) → Follows b m → Settled names s shapes m → Given shapes (length a.nodes) gives → Stands s shapes X j
+pub record Targets (names : List Known) (X : Shape) (v w : Waits) (a : Lists) (j : ℕ) : Type 0 where
+  pub adds : Adds names [] v w a a
+  pub waits_few : waits_size w.items ≤ waits_size v.items + shape_size X + 1
+  pub below : (m : Checker) → Below names w.items m → j < length m.nodes.now
+  pub sized : (s : Schema) (shapes : ℕ → Shape) (m : Checker) → Settled names w.items s shapes m → Sized m j (size_of s.layouts X) (align_of s.layouts X)
+  pub stands : (s : Schema) (shapes : ℕ → Shape) (m : Checker) → Settled names w.items s shapes m → Stands s shapes X j
 
 -- what a pointer leads to
-pub record Leads (names : List Known) (P : Pointee) (a b : Lists) (target : Target) (j : ℕ) : Type 0 where
+pub record Leads (names : List Known) (P : Pointee) (v w : Waits) (a b : Lists) (target : Target) (j : ℕ) : Type 0 where
   pub gives : List Shape
   pub gives_count : length gives ≡ count_pointee P
-  pub adds : Adds names gives a b
-  pub below : (m : Checker) → Follows b m → Below names m → j < length m.nodes.now
+  pub adds : Adds names gives v w a b
+  pub waits_few : waits_size w.items ≤ waits_size v.items + pointee_size P
+  pub below : (m : Checker) → Follows b m → Below names w.items m → j < length m.nodes.now
   pub size_is : target_size target ≡ pointer_size P
-  pub points : (s : Schema) (shapes : ℕ → Shape) (m : Checker) → Follows b m → Settled names s shapes m → Given shapes (length a.nodes) gives → Points s shapes m target j P
+  pub points : (s : Schema) (shapes : ℕ → Shape) (m : Checker) → Follows b m → Settled names w.items s shapes m → Given shapes (length a.nodes) gives → Points s shapes m target j P
 
 -- a part lies in z bytes, and its node comes before i
 pub record PartFits (m : Checker) (i z : ℕ) (x : PlanPart) : Type 0 where
@@ -124,31 +106,33 @@ pub record PartFits (m : Checker) (i z : ℕ) (x : PlanPart) : Type 0 where
   pub within : x.offset + size ≤ z
 
 -- parts laid out so far, from an offset on, and those that are left
-pub record RowIs (names : List Known) (done start : ℕ) (all rest : Parts) (a b : Lists) (row : List PlanPart) (end : Option ℕ) (align : ℕ) (free : Bool) : Type 0 where
+pub record RowIs (names : List Known) (done start : ℕ) (all rest : Parts) (v w : Waits) (a b : Lists) (row : List PlanPart) (end : Option ℕ) (align : ℕ) (free : Bool) : Type 0 where
   pub gives : List Shape
-  pub adds : Adds names gives a b
+  pub adds : Adds names gives v w a b
+  pub waits_few : waits_size w.items + parts_size rest ≤ waits_size v.items + parts_size all
   pub left : length gives + counts_of rest ≡ counts_of all
   pub positive : 0 < align
   pub row_fits : (m : Checker) → Follows b m → (e : ℕ) → end ≡ Some e → (k : ℕ) (x : PlanPart) → IsAt row k x → PartFits m (length b.nodes) e x
   pub row_free : free ≡ true → (m : Checker) → Follows b m → (k : ℕ) (x : PlanPart) → IsAt row k x → IsNode m x.node Free
   pub lays : (m : Checker) (l : Layouts) → Follows b m → Knows names l done m
       → ((at : ℕ) × (end ≡ fits at) × (parts_end l start all ≡ parts_end l at rest)) × (parts_align l all ≡ max align (parts_align l rest))
-  pub stand : (s : Schema) (shapes : ℕ → Shape) (m : Checker) → Follows b m → Settled names s shapes m → Given shapes (length a.nodes) gives
+  pub stand : (s : Schema) (shapes : ℕ → Shape) (m : Checker) → Follows b m → Settled names w.items s shapes m → Given shapes (length a.nodes) gives
       → (e : ℕ) → end ≡ Some e → (first last : ℕ) → ((k : ℕ) (x : PlanPart) → IsAt row k x → IsAt m.parts.now (first + k) x) → first + length row ≤ last
       → PartsStand s shapes m (first + length row) last e rest → PartsStand s shapes m first last start all
 
 -- parts that are laid out
-pub record CompiledParts (names : List Known) (done start : ℕ) (ps : Parts) (a b : Lists) (laid : Laid) : Type 0 where
+pub record CompiledParts (names : List Known) (done start : ℕ) (ps : Parts) (v w : Waits) (a b : Lists) (laid : Laid) : Type 0 where
   pub gives : List Shape
   pub gives_count : length gives ≡ counts_of ps
-  pub adds : Adds names gives a b
+  pub adds : Adds names gives v w a b
+  pub waits_few : waits_size w.items ≤ waits_size v.items + parts_size ps
   pub positive : 0 < laid.align
   pub last : laid.last ≤ length b.parts
   pub few : laid.last < 18446744073709551616
   pub parts_fit : (m : Checker) → Follows b m → (e : ℕ) → laid.end ≡ Some e → (k : ℕ) (x : PlanPart) → laid.first ≤ k → k < laid.last → IsAt m.parts.now k x → PartFits m (length b.nodes) e x
   pub parts_free : laid.free ≡ true → (m : Checker) → Follows b m → (k : ℕ) (x : PlanPart) → laid.first ≤ k → k < laid.last → IsAt m.parts.now k x → IsNode m x.node Free
   pub lays : (m : Checker) (l : Layouts) → Follows b m → Knows names l done m → (laid.end ≡ fits (parts_end l start ps)) × (laid.align ≡ parts_align l ps)
-  pub stand : (s : Schema) (shapes : ℕ → Shape) (m : Checker) → Follows b m → Settled names s shapes m → Given shapes (length a.nodes) gives
+  pub stand : (s : Schema) (shapes : ℕ → Shape) (m : Checker) → Follows b m → Settled names w.items s shapes m → Given shapes (length a.nodes) gives
       → (e : ℕ) → laid.end ≡ Some e → PartsStand s shapes m laid.first laid.last start ps
 
 -- the parts of a span are these, behind a tag
@@ -156,30 +140,32 @@ abbrev pub IsVariant : Schema → (ℕ → Shape) → Checker → Variants → �
 IsVariant s shapes m vs tag x = (ps : Parts) × (variant_at vs tag ≡ Some ps) × PartsStand s shapes m x.first x.last 1 ps
 
 -- variants laid out so far, and those that are left
-pub record SpansAre (names : List Known) (done : ℕ) (all rest : Variants) (a b : Lists) (row : List Span) (end : Option ℕ) (align : ℕ) : Type 0 where
+pub record SpansAre (names : List Known) (done : ℕ) (all rest : Variants) (v w : Waits) (a b : Lists) (row : List Span) (end : Option ℕ) (align : ℕ) : Type 0 where
   pub gives : List Shape
-  pub adds : Adds names gives a b
+  pub adds : Adds names gives v w a b
+  pub waits_few : waits_size w.items + variants_size rest ≤ waits_size v.items + variants_size all
   pub left : length gives + variant_counts_of rest ≡ variant_counts_of all
   pub positive : 0 < align
   pub tag : (e : ℕ) → end ≡ Some e → 0 < e
   pub row_fits : (m : Checker) → Follows b m → (e : ℕ) → end ≡ Some e → (k : ℕ) (x : Span) → IsAt row k x → SpanFits m (length b.nodes) e x.first x.last
   pub lays : (m : Checker) (l : Layouts) → Follows b m → Knows names l done m
       → ((at : ℕ) × (1 ≤ at) × (end ≡ fits at) × (variants_end l all ≡ max at (variants_end l rest))) × (variants_align l all ≡ max align (variants_align l rest))
-  pub stand : (s : Schema) (shapes : ℕ → Shape) (m : Checker) → Follows b m → Settled names s shapes m → Given shapes (length a.nodes) gives
+  pub stand : (s : Schema) (shapes : ℕ → Shape) (m : Checker) → Follows b m → Settled names w.items s shapes m → Given shapes (length a.nodes) gives
       → (e : ℕ) → end ≡ Some e → (k : ℕ) (x : Span) → IsAt row k x → IsVariant s shapes m all k x
   pub others : (k : ℕ) → variant_at all (length row + k) ≡ variant_at rest k
 
 -- variants that are laid out
-pub record CompiledVariants (names : List Known) (done : ℕ) (vs : Variants) (a b : Lists) (laid : Laid) : Type 0 where
+pub record CompiledVariants (names : List Known) (done : ℕ) (vs : Variants) (v w : Waits) (a b : Lists) (laid : Laid) : Type 0 where
   pub gives : List Shape
   pub gives_count : length gives ≡ variant_counts_of vs
-  pub adds : Adds names gives a b
+  pub adds : Adds names gives v w a b
+  pub waits_few : waits_size w.items ≤ waits_size v.items + variants_size vs
   pub positive : 0 < laid.align
   pub last : laid.last ≤ length b.variants
   pub few : laid.last < 18446744073709551616
   pub tag : (e : ℕ) → laid.end ≡ Some e → 0 < e
   pub variants_fit : (m : Checker) → Follows b m → (e : ℕ) → laid.end ≡ Some e → (k : ℕ) (x : Span) → laid.first ≤ k → k < laid.last → IsAt m.variants.now k x → SpanFits m (length b.nodes) e x.first x.last
   pub lays : (m : Checker) (l : Layouts) → Follows b m → Knows names l done m → (laid.end ≡ fits (variants_end l vs)) × (laid.align ≡ variants_align l vs)
-  pub stand : (s : Schema) (shapes : ℕ → Shape) (m : Checker) → Follows b m → Settled names s shapes m → Given shapes (length a.nodes) gives
+  pub stand : (s : Schema) (shapes : ℕ → Shape) (m : Checker) → Follows b m → Settled names w.items s shapes m → Given shapes (length a.nodes) gives
       → (e : ℕ) → laid.end ≡ Some e → (tag : ℕ) (x : Span) → laid.first + tag < laid.last → IsAt m.variants.now (laid.first + tag) x → IsVariant s shapes m vs tag x
   pub others : (tag : ℕ) → laid.last ≤ laid.first + tag → variant_at vs tag ≡ None

@@ -29,6 +29,7 @@ pub mod Met
 pub mod Fresh
 pub mod Kept
 pub mod InSubtree
+pub mod Validators
 pub mod Told
 pub mod Schemas
 pub mod Names
@@ -39,6 +40,8 @@ pub mod Fitting
 pub mod Growing
 pub mod Closed
 pub mod Represents
+pub mod Counts
+pub mod Queued
 pub mod Compiled
 pub mod Numbered
 pub mod Planned
@@ -47,3 +50,4 @@ pub mod Turns
 pub mod Viewed
 pub mod Archives
 pub mod Entries
+pub mod Pooled

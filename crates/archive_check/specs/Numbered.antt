@@ -6,13 +6,18 @@ use Rattle.archive_check.specs.Shape.{Name, Shape, named}
 use Rattle.archive_check.specs.Expressions.{shape_of}
 use Rattle.archive_check.specs.Runs.{IsAt}
 use Rattle.archive_check.specs.Growing.{node_of}
-use Rattle.archive_check.specs.Compiled.{count_of}
+use Rattle.archive_check.specs.Counts.{count_of}
 
--- where the nodes of the definition i begin
-abbrev pub start_of : List Def → ℕ → ℕ
-start_of defs zero = 0
+-- the shapes of definitions
+abbrev pub def_shapes : List Def → List Shape
+def_shapes [] = []
+def_shapes (d ∷ ds) = shape_of d.expr ∷ def_shapes ds
+
+-- where the nodes of the i-th begin, of shapes that are compiled one after another
+abbrev pub start_of : List Shape → ℕ → ℕ
+start_of Xs zero = 0
 start_of [] (suc i) = 0
-start_of (d ∷ ds) (suc i) = count_of (shape_of d.expr) + start_of ds i
+start_of (X ∷ Xs) (suc i) = count_of X + start_of Xs i
 
 -- the first entry of a name is at q, and its node is j
 pub record FirstAt (names : List Known) (name : Name) (q j : ℕ) : Type 0 where
@@ -36,4 +41,4 @@ RootIs names start X j = ((name : Name) × (X ≡ named name) × (node_of names 
 pub record IsNumbered (defs : List Def) (names : List Known) (n : ℕ) : Type 0 where
   pub count : length names ≡ n
   pub name_is : (i : ℕ) (d : Def) (k : Known) → IsAt defs i d → IsAt names i k → k.name.now ≡ d.name.now
-  pub root_is : (i : ℕ) (d : Def) (k : Known) → IsAt defs i d → IsAt names i k → IsRootOf names i (start_of defs i) (shape_of d.expr) k.node
+  pub root_is : (i : ℕ) (d : Def) (k : Known) → IsAt defs i d → IsAt names i k → IsRootOf names i (start_of (def_shapes defs) i) (shape_of d.expr) k.node

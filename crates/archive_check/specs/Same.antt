@@ -1,7 +1,7 @@
 -- Whether two shapes are written alike, as a test, which is true of a shape and itself alone.
-use Rattle.std.specs.Prelude.{◌≡◌, ℕ, ◌==◌, Bool, true, false, ◌&&◌, bytes_eq, refl}
+use Rattle.std.specs.Prelude.{◌≡◌, ◌==◌, Bool, true, false, ◌&&◌, bytes_eq, refl}
 use Rattle.std.specs.Bool.{Decides, beq}
-use Rattle.std.specs.Cmp.{IsEquivalence, decided, on_equiv, unsigned_Decides, booleans_Decides, first_so, second_so}
+use Rattle.std.specs.Cmp.{IsEquivalence, decided, unsigned_Decides, booleans_Decides, first_so, second_so}
 use Rattle.std.specs.Cmp.Lexicographic.{bytes_decides}
 use Rattle.std.specs.Int.{Width, w8, w16, w32, w64, w128}
 use Rattle.std.proofs.Common.{sym, subst}

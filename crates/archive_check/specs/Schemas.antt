@@ -1,8 +1,45 @@
--- What a schema of the program stands for.
-use Rattle.archive_check.specs.declared.shape.Schema.{Schema}
-use Rattle.archive_check.specs.Shape.{Shape}
-use Rattle.archive_check.specs.Expressions.{shape_of}
+-- What a schema of the program stands for, and what its check says. What it says is a fact, so it stands between ∥ and ∥₁: there is a tour, or a
+-- trail, and which one doesn't matter, since there is no other.
+use Rattle.std.specs.Prelude.{◌≡◌, ◌⊎◌, ◌↔◌, ℕ, List, Option, Some, Result, IsOk, IsErrOf}
+use Rattle.archive_check.specs.declared.error.Error.{Error}
+use Rattle.archive_check.specs.declared.error.Error.TheVariants.{OutOfMemory}
+use Rattle.archive_check.specs.declared.shape.Schema.{Schema as RustSchema}
+use Rattle.archive_check.specs.Shape.{Name, Shape, Table, definition}
+use Rattle.archive_check.specs.Expressions.{shape_of, entries_of}
+use Rattle.archive_check.specs.Defined.{WellFormed}
+use Rattle.archive_check.specs.Definitions.{Definitions, listed}
+use Rattle.archive_check.specs.Reads.{Schema, LaidOut}
+use Rattle.archive_check.specs.Depth.{AcceptedWithin}
+use Rattle.archive_check.specs.Trail.{Fault, RootTrips}
+use Rattle.archive_check.specs.Faults.{IsFor}
 
 -- the shape of its root
-abbrev pub root_of : Schema → Shape
+abbrev pub root_of : RustSchema → Shape
 root_of s = shape_of s.root
+
+-- the definitions of the names that the root reaches
+abbrev pub table_in : RustSchema → Table
+table_in s = entries_of s.definitions.items
+
+-- definitions that have the schema's among them, and layouts of theirs
+pub record Suits (s : RustSchema) (t : Schema) : Type 0 where
+  pub has : (name : Name) (Y : Shape) → definition (table_in s) name ≡ Some Y → definition t.table name ≡ Some Y
+  pub laid_out : LaidOut t
+
+-- whatever suits the schema, the buffer is an archive of its root, with no region too deep
+abbrev pub Accepts : RustSchema → List ℕ → Option ℕ → ℕ → Type 0
+Accepts s bytes limit root = (t : Schema) → Suits s t → ∥ AcceptedWithin t bytes limit root (root_of s) ∥₁
+
+-- whatever suits the schema, a check of its root comes to the fault that the refusal says
+abbrev pub Refuses : RustSchema → List ℕ → Option ℕ → ℕ → Error → Type 0
+Refuses s bytes limit root error = (fault : Fault) × IsFor fault error × ((t : Schema) → Suits s t → ∥ RootTrips t bytes limit root (root_of s) fault ∥₁)
+
+-- the answer is Ok exactly where the buffer is an archive with no region too deep, unless memory ran out
+abbrev pub IsExact : RustSchema → List ℕ → Option ℕ → ℕ → Result (Unit {0}) Error → Type 0
+IsExact s bytes limit root answer = IsErrOf answer OutOfMemory ⊎ ((t : Schema) → Suits s t → IsOk answer ↔ ∥ AcceptedWithin t bytes limit root (root_of s) ∥₁)
+
+-- the schema is that of a shape and the definitions that come with it: those that the shape reaches
+pub record IsSchemaOf (s : RustSchema) (X : Shape) (D : Definitions) : Type 0 where
+  pub root : root_of s ≡ X
+  pub known : (name : Name) (Y : Shape) → definition (table_in s) name ≡ Some Y → definition (listed D) name ≡ Some Y
+  pub well_formed : WellFormed (listed D) X

@@ -1,52 +1,75 @@
-//! From expressions to plans: an expression's nodes stand behind those of what it holds.
+//! From expressions to plans: an expression's node stands behind those of what it holds. What its pointers lead to waits, and comes later.
 
 ghost use Rattle.std.specs.Prelude.{ℕ, ◌≡◌, ◌<◌, ◌≤◌, ◌+◌, IfOk, OnOk, length};
 ghost use Rattle.archive_check.specs.Expressions.{kind_of, shape_of, pointee_of, shapes_in, variants_in};
 ghost use Rattle.archive_check.specs.Growing.{lists_of, IsCopied};
-ghost use Rattle.archive_check.specs.Compiled.{Compiled, Targets, Leads, CompiledParts, CompiledVariants};
+ghost use Rattle.archive_check.specs.Queued.{waits_of};
+ghost use Rattle.archive_check.specs.Compiled.{Compiled, Leads, CompiledParts, CompiledVariants};
 
 use crate::error::Error;
 use crate::expr::{Expr, FlavorInfo, Pointee};
+use crate::extents::{offset_of, pointer_size, times};
 use crate::growing::{
     Known, Laid, Row, Spans, extend_parts, extend_variants, find, is_free, push, push_laid,
     push_leaf, push_sort,
 };
 use crate::plan::{Job, Plan, Target};
-use crate::sizes::{offset_of, pointer_size, times};
+use crate::queue::{Queue, wait};
 use std::alloc::Global;
 
 // A sort more, with a copy of its pointee.
-fn copy_sort(
-    alloc: Global,
-    plan: &mut Plan,
-    flavor: FlavorInfo,
-    pointee: &Pointee,
-) -> Result<usize, Error>
+fn copy_sort(plan: &mut Plan, flavor: FlavorInfo, pointee: &Pointee) -> Result<usize, Error>
     ensures { IfOk result (λ k. IsCopied (lists_of plan.old) (lists_of plan.new) flavor (pointee_of pointee.now) k) }
 {
     let copy = pointee.clone()?;
     push_sort(plan, flavor, copy)
 }
 
-/// Compiles an expression, and says which node is its own. `names` has the nodes of all names, known by counting; of those, the first `done`
-/// nodes are there. Memory comes from `alloc`. Refused with 1 where memory is refused, with 30 where a name isn't known, and with 31 where
-/// one that is held, and stands behind no pointer, isn't there yet.
+// What a pointer leads to.
+fn compile_pointee<'e>(
+    names: &[Known],
+    pointee: &'e Pointee,
+    plan: &mut Plan,
+    queue: &mut Queue<'e>,
+) -> Result<(Target, usize), Error>
+    ensures { IfOk result (λ r. Leads names.now (pointee_of pointee.now) (waits_of queue.old) (waits_of queue.new) (lists_of plan.old) (lists_of plan.new) r.0 r.1) }
+{
+    match pointee {
+        Pointee::One(x) => {
+            let node = wait(names, x, queue)?;
+            Ok((Target::One, node))
+        }
+        Pointee::Run(x) => {
+            let node = wait(names, x, queue)?;
+            Ok((Target::Run, node))
+        }
+        Pointee::Text => {
+            let node = push(plan, Some(1), 1, Job::Free)?;
+            Ok((Target::Text, node))
+        }
+    }
+}
+
+/// Compiles an expression, and says which node is its own. `names` has the nodes of all names, known by counting; of those, the ones before
+/// `done` are there. What its pointers lead to waits in `queue`, unless it is a name. Memory comes from `alloc`. Refused with 1 where memory
+/// is refused, with 30 where a name isn't known, and with 31 where one that is held, and stands behind no pointer, isn't there yet.
 #[cycle(compile)]
 #[tactic(auto, using(crate::proofs::Views::views))]
-pub fn compile(
+pub fn compile<'e>(
     alloc: Global,
     names: &[Known],
     done: usize,
-    expr: &Expr,
+    expr: &'e Expr,
     plan: &mut Plan,
+    queue: &mut Queue<'e>,
 ) -> Result<usize, Error>
     requires { done ≤ length plan.old.nodes.items }
-    ensures { IfOk result (λ j. Compiled names.now done (shape_of expr.now) (lists_of plan.old) (lists_of plan.new) j) }
+    ensures { IfOk result (λ j. Compiled names.now done (shape_of expr.now) (waits_of queue.old) (waits_of queue.new) (lists_of plan.old) (lists_of plan.new) j) }
 {
     match expr {
         Expr::Leaf(kind) => push_leaf(plan, *kind),
         Expr::Record(parts) => {
-            let laid = compile_parts(alloc, names, done, parts, 0, plan)?;
+            let laid = compile_parts(alloc, names, done, parts, 0, plan, queue)?;
             let size = offset_of(laid.end, laid.align);
             push_laid(
                 plan,
@@ -60,7 +83,7 @@ pub fn compile(
             )
         }
         Expr::Choice(name, variants) => {
-            let laid = compile_variants(alloc, names, done, variants, plan)?;
+            let laid = compile_variants(alloc, names, done, variants, plan, queue)?;
             let size = offset_of(laid.end, laid.align);
             push_laid(
                 plan,
@@ -75,7 +98,7 @@ pub fn compile(
             )
         }
         Expr::Array(count, x) => {
-            let element = compile(alloc, names, done, x, plan)?;
+            let element = compile(alloc, names, done, x, plan, queue)?;
             let here = plan.nodes[element];
             push_laid(
                 plan,
@@ -89,7 +112,7 @@ pub fn compile(
             )
         }
         Expr::Box(x) => {
-            let (target, pointee) = compile_pointee(alloc, names, done, x, plan)?;
+            let (target, pointee) = compile_pointee(names, x, plan, queue)?;
             push(
                 plan,
                 Some(pointer_size(target)),
@@ -98,7 +121,7 @@ pub fn compile(
             )
         }
         Expr::Vec(x) => {
-            let pointee = compile_target(alloc, names, done, x, plan)?;
+            let pointee = wait(names, x, queue)?;
             push(
                 plan,
                 Some(8),
@@ -114,8 +137,8 @@ pub fn compile(
             push(plan, Some(8), 4, Job::Str { pointee })
         }
         Expr::Shared(flavor, x) => {
-            let (target, pointee) = compile_pointee(alloc, names, done, x, plan)?;
-            let sort = copy_sort(alloc, plan, *flavor, x)?;
+            let (target, pointee) = compile_pointee(names, x, plan, queue)?;
+            let sort = copy_sort(plan, *flavor, x)?;
             push(
                 plan,
                 Some(pointer_size(target)),
@@ -128,8 +151,8 @@ pub fn compile(
             )
         }
         Expr::Weak(flavor, x) => {
-            let (target, pointee) = compile_pointee(alloc, names, done, x, plan)?;
-            let sort = copy_sort(alloc, plan, *flavor, x)?;
+            let (target, pointee) = compile_pointee(names, x, plan, queue)?;
+            let sort = copy_sort(plan, *flavor, x)?;
             push(
                 plan,
                 Some(pointer_size(target)),
@@ -154,74 +177,24 @@ pub fn compile(
     }
 }
 
-// What a pointer leads to.
-#[cycle(compile)]
-#[tactic(auto, using(crate::proofs::Views::views))]
-fn compile_pointee(
-    alloc: Global,
-    names: &[Known],
-    done: usize,
-    pointee: &Pointee,
-    plan: &mut Plan,
-) -> Result<(Target, usize), Error>
-    requires { done ≤ length plan.old.nodes.items }
-    ensures { IfOk result (λ r. Leads names.now (pointee_of pointee.now) (lists_of plan.old) (lists_of plan.new) r.0 r.1) }
-{
-    match pointee {
-        Pointee::One(x) => {
-            let node = compile_target(alloc, names, done, x, plan)?;
-            Ok((Target::One, node))
-        }
-        Pointee::Run(x) => {
-            let node = compile_target(alloc, names, done, x, plan)?;
-            Ok((Target::Run, node))
-        }
-        Pointee::Text => {
-            let node = push(plan, Some(1), 1, Job::Free)?;
-            Ok((Target::Text, node))
-        }
-    }
-}
-
-// A node behind a pointer: a name's may come later.
-#[cycle(compile)]
-#[tactic(auto, using(crate::proofs::Views::views))]
-fn compile_target(
-    alloc: Global,
-    names: &[Known],
-    done: usize,
-    expr: &Expr,
-    plan: &mut Plan,
-) -> Result<usize, Error>
-    requires { done ≤ length plan.old.nodes.items }
-    ensures { IfOk result (λ j. Targets names.now (shape_of expr.now) (lists_of plan.old) (lists_of plan.new) j) }
-{
-    if let Expr::Named(name) = expr {
-        return match find(names, name) {
-            None => Err(Error::ShapeConflict),
-            Some(node) => Ok(node),
-        };
-    }
-    compile(alloc, names, done, expr, plan)
-}
-
 // Parts, laid out from an offset on.
 #[cycle(compile)]
 #[tactic(auto, using(crate::proofs::Views::views))]
-fn compile_parts(
+fn compile_parts<'e>(
     alloc: Global,
     names: &[Known],
     done: usize,
-    parts: &[Expr],
+    parts: &'e [Expr],
     start: usize,
     plan: &mut Plan,
+    queue: &mut Queue<'e>,
 ) -> Result<Laid, Error>
     requires { done ≤ length plan.old.nodes.items }
-    ensures { IfOk result (λ laid. CompiledParts names.now done start (shapes_in parts.now) (lists_of plan.old) (lists_of plan.new) laid) }
+    ensures { IfOk result (λ laid. CompiledParts names.now done start (shapes_in parts.now) (waits_of queue.old) (waits_of queue.new) (lists_of plan.old) (lists_of plan.new) laid) }
 {
     let mut row = Row::new(alloc, start);
     for i in 0..parts.len() {
-        let node = compile(alloc, names, done, &parts[i], plan)?;
+        let node = compile(alloc, names, done, &parts[i], plan, queue)?;
         row.place(node, plan.nodes[node])?;
     }
     extend_parts(plan, &row)
@@ -230,19 +203,20 @@ fn compile_parts(
 // Variants, each laid out behind the tag.
 #[cycle(compile)]
 #[tactic(auto, using(crate::proofs::Views::views))]
-fn compile_variants(
+fn compile_variants<'e>(
     alloc: Global,
     names: &[Known],
     done: usize,
-    variants: &[Vec<Expr>],
+    variants: &'e [Vec<Expr>],
     plan: &mut Plan,
+    queue: &mut Queue<'e>,
 ) -> Result<Laid, Error>
     requires { done ≤ length plan.old.nodes.items }
-    ensures { IfOk result (λ laid. CompiledVariants names.now done (variants_in variants.now) (lists_of plan.old) (lists_of plan.new) laid) }
+    ensures { IfOk result (λ laid. CompiledVariants names.now done (variants_in variants.now) (waits_of queue.old) (waits_of queue.new) (lists_of plan.old) (lists_of plan.new) laid) }
 {
     let mut spans = Spans::new(alloc);
     for i in 0..variants.len() {
-        let laid = compile_parts(alloc, names, done, &variants[i], 1, plan)?;
+        let laid = compile_parts(alloc, names, done, &variants[i], 1, plan, queue)?;
         spans.list(laid)?;
     }
     extend_variants(plan, &spans)

@@ -2,29 +2,40 @@
 
 ghost use Rattle.std.specs.Prelude.{ℕ, ◌≡◌, ◌+◌, IfOk, length};
 ghost use Rattle.archive_check.specs.Expressions.{shape_of, pointee_of, shapes_in, variants_in};
-ghost use Rattle.archive_check.specs.Compiled.{count_of, count_pointee as pointee_count, counts_of, variant_counts_of};
-ghost use Rattle.archive_check.specs.Numbered.{RootIs, IsNumbered};
+ghost use Rattle.archive_check.specs.Counts.{count_of, count_pointee as pointee_count, counts_of, variant_counts_of};
+ghost use Rattle.archive_check.specs.Numbered.{RootIs, IsNumbered, def_shapes, start_of};
 
+use crate::defs::Def;
 use crate::error::Error;
-use crate::expr::{Def, Expr, Pointee};
+use crate::expr::{Expr, Pointee};
 use crate::growing::{Known, find};
 use std::alloc::Global;
 
-// So many and so many. More than addresses are, there is no memory for.
-fn add(a: usize, b: usize) -> Result<usize, Error>
+/// So many and so many. Refused with 1 where that is above `usize::MAX`: there is no memory for it.
+pub fn add(a: usize, b: usize) -> Result<usize, Error>
     ensures { IfOk result (λ n. n ≡ a + b) }
 {
     a.checked_add(b).ok_or(Error::OutOfMemory)
 }
 
-/// How many nodes an expression is compiled to. Refused with 1 where that is above `usize::MAX`.
+// How many nodes a pointee has beside its pointer.
+fn count_pointee(pointee: &Pointee) -> usize
+    ensures { result ≡ pointee_count (pointee_of pointee.now) }
+{
+    match pointee {
+        Pointee::One(_) | Pointee::Run(_) => 0,
+        Pointee::Text => 1,
+    }
+}
+
+/// How many nodes an expression is compiled to, but for what its pointers lead to. Refused with 1 where that is above `usize::MAX`.
 #[cycle(count)]
 #[tactic(auto, using(crate::proofs::Views::views))]
 pub fn count(expr: &Expr) -> Result<usize, Error>
     ensures { IfOk result (λ n. n ≡ count_of (shape_of expr.now)) }
 {
     match expr {
-        Expr::Leaf(_) => Ok(1),
+        Expr::Leaf(_) | Expr::Vec(_) => Ok(1),
         Expr::Record(parts) => {
             let parts = count_parts(parts)?;
             add(parts, 1)
@@ -33,28 +44,13 @@ pub fn count(expr: &Expr) -> Result<usize, Error>
             let variants = count_variants(variants)?;
             add(variants, 1)
         }
-        Expr::Array(_, x) | Expr::Vec(x) => {
+        Expr::Array(_, x) => {
             let element = count(x)?;
             add(element, 1)
         }
-        Expr::Box(x) | Expr::Shared(_, x) | Expr::Weak(_, x) => {
-            let pointee = count_pointee(x)?;
-            add(pointee, 1)
-        }
+        Expr::Box(x) | Expr::Shared(_, x) | Expr::Weak(_, x) => Ok(count_pointee(x) + 1),
         Expr::Str => Ok(2),
         Expr::Named(_) => Ok(0),
-    }
-}
-
-// How many nodes a pointee is compiled to.
-#[cycle(count)]
-#[tactic(auto, using(crate::proofs::Views::views))]
-fn count_pointee(pointee: &Pointee) -> Result<usize, Error>
-    ensures { IfOk result (λ n. n ≡ pointee_count (pointee_of pointee.now)) }
-{
-    match pointee {
-        Pointee::One(x) | Pointee::Run(x) => count(x),
-        Pointee::Text => Ok(1),
     }
 }
 
@@ -86,8 +82,9 @@ fn count_variants(variants: &[Vec<Expr>]) -> Result<usize, Error>
     Ok(total)
 }
 
-// The node of an expression whose nodes begin at `start`, and where they end. Refused with 31 where it is a name that isn't known yet.
-fn root(names: &[Known], expr: &Expr, start: usize) -> Result<(usize, usize), Error>
+/// The node of an expression whose nodes begin at `start`, and where they end: a name has its own, which is elsewhere. Refused with 31 where it
+/// is a name that isn't known yet.
+pub fn root(names: &[Known], expr: &Expr, start: usize) -> Result<(usize, usize), Error>
     ensures { IfOk result (λ r. RootIs names.now start (shape_of expr.now) r.0 × (r.1 ≡ start + count_of (shape_of expr.now))) }
 {
     let more = count(expr)?;
@@ -101,10 +98,10 @@ fn root(names: &[Known], expr: &Expr, start: usize) -> Result<(usize, usize), Er
     Ok((end - 1, end))
 }
 
-/// The nodes that definitions are compiled to, one after another. Memory comes from `alloc`. Refused with 1 where memory is refused, and with
-/// 31 where one is a name that isn't defined before it.
-pub fn number(alloc: Global, defs: &[Def]) -> Result<Vec<Known>, Error>
-    ensures { IfOk result (λ names. IsNumbered defs.now names.items (length defs.now)) }
+/// The nodes that definitions are compiled to, one after another, and how many there are. Memory comes from `alloc`. Refused with 1 where
+/// memory is refused, and with 31 where one is a name that isn't defined before it.
+pub fn number(alloc: Global, defs: &[Def]) -> Result<(Vec<Known>, usize), Error>
+    ensures { IfOk result (λ r. IsNumbered defs.now r.0.items (length defs.now) × (r.1 ≡ start_of (def_shapes defs.now) (length defs.now))) }
 {
     let mut names: Vec<Known> = Vec::new(alloc);
     let mut start = 0;
@@ -116,5 +113,5 @@ pub fn number(alloc: Global, defs: &[Def]) -> Result<Vec<Known>, Error>
         })?;
         start = end;
     }
-    Ok(names)
+    Ok((names, start))
 }

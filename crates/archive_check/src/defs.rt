@@ -59,6 +59,15 @@ impl Defs {
     }
 }
 
+impl Defs {
+    // The definitions.
+    pub(crate) fn into_items(self) -> Vec<Def>
+        ensures { entries_of result.items ≡ table_of self }
+    {
+        self.items
+    }
+}
+
 // The first definition of a name.
 #[tactic(auto, using(crate::proofs::Tables::tables))]
 fn find<'a>(items: &'a [Def], name: &str) -> Option<&'a Expr>

@@ -9,8 +9,8 @@ ghost use Rattle.archive_check.specs.declared.plan.Job.TheVariants.{Free};
 
 use crate::error::Error;
 use crate::expr::{FlavorInfo, Kind, Pointee};
+use crate::extents::{end_of, greater, is_plain, leaf_size, offset_of};
 use crate::plan::{Job, Node, Part, Plan, Sort, Span};
-use crate::sizes::{end_of, greater, is_plain, leaf_size, offset_of};
 use std::alloc::Global;
 
 /// A name, and the node that its definition is or will be.

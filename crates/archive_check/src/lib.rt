@@ -4,22 +4,23 @@
 pub mod bytes;
 mod check;
 mod checked;
-pub mod defs;
 mod compile;
 mod counting;
+pub mod defs;
 pub mod error;
 pub mod expr;
+mod extents;
 mod growing;
 pub mod laws;
 pub mod layout;
-pub mod names;
 pub mod leaf;
+pub mod names;
 pub mod plan;
 pub mod planning;
+mod queue;
 pub mod shape;
 pub mod shared;
 pub mod subtree;
-mod sizes;
 #[cfg(test)]
 mod tests;
 #[cfg(test)]

@@ -3,13 +3,14 @@
 ghost use Rattle.std.specs.Prelude.{◌≡◌, ◌≢◌, ◌⊎◌, ◌+◌, ◌≤◌, ℕ, Bool, Some, None, OnOk, IfOk, IfErr, IfSome, IfNone, true, get_or, option_map, is_some, length};
 ghost use Rattle.archive_check.specs.Shape.{definition};
 ghost use Rattle.archive_check.specs.Expressions.{shape_of, pointee_of, shapes_in, variants_in, entries_of};
-ghost use Rattle.archive_check.specs.Names.{missing as missing_in, pointee_missing, parts_missing, variants_missing, Taken, Collected, Arranged, NextReady, Complete, shapes_from};
+ghost use Rattle.archive_check.specs.Names.{missing as missing_in, pointee_missing, parts_missing, variants_missing, Taken, Collected, Arranged, NextReady, Complete, Prepared, ExplainsNoSchema, shapes_from};
 ghost use Rattle.archive_check.specs.Shape.{Name, Shape};
 ghost use Rattle.archive_check.specs.Defined.{Reaches, HeldIn};
 ghost use Rattle.archive_check.specs.declared.error.Error.TheVariants.{OutOfMemory, ShapeConflict, RecursiveLayout};
 
 use crate::error::Error;
-use crate::expr::{Def, Expr, Pointee};
+use crate::expr::{Def, Defs, Expr, Pointee};
+use crate::traits::Portable;
 use std::alloc::Global;
 
 // Whether a name has a definition.
@@ -166,4 +167,25 @@ pub fn in_order(alloc: Global, mut rest: Vec<Def>) -> Result<Vec<Def>, Error>
         placed.push(rest.remove(i))?;
     }
     Ok(placed)
+}
+
+/// The definitions that `T` brings and its shape reaches, in order. Refused with 30 where a name that is reached has none or two, else with 31
+/// where one holds itself other than behind a pointer, and with 1 where memory is refused.
+pub fn definitions_of<T: Portable>(alloc: Global, root: &Expr) -> Result<Vec<Def>, Error>
+    requires { shape_of root.now ≡ T.shape }
+    ensures made { IfOk result (λ ds. Prepared T.definitions T.shape (entries_of ds.items)) }
+    ensures refused { IfErr result (λ e. ExplainsNoSchema T.shape T.definitions e) }
+{
+    let mut defs = Defs::new(alloc);
+    if let Err(error) = T::define(alloc, &mut defs) {
+        return Err(error);
+    }
+    let found = match collect(alloc, root, defs.into_items()) {
+        Ok(found) => found,
+        Err(error) => return Err(error),
+    };
+    match in_order(alloc, found) {
+        Ok(placed) => Ok(placed),
+        Err(error) => Err(error),
+    }
 }

@@ -1,32 +1,79 @@
-//! Schemas: an expression with the definitions of its names, its layout, and the check of bytes against it.
+//! Schemas: an expression with the definitions of its names, compiled to a plan once, and the check of bytes against it.
 
-ghost use Rattle.std.specs.Prelude.{◌≡◌, ◌⊎◌, IfOk, IfErr};
-ghost use Rattle.archive_check.specs.Schemas.{root_of};
-ghost use Rattle.archive_check.specs.declared.error.Error.TheVariants.{OutOfMemory, ShapeConflict};
+ghost use Rattle.archive_check.specs.Expressions.{shape_of, entries_of};
+ghost use Rattle.archive_check.specs.Names.{HasAll};
+ghost use Rattle.archive_check.specs.Planned.{IsPlan};
 
 pub use crate::error::Error;
 pub use crate::expr::{Def, Defs, Expr, FlavorInfo, IntegerKind, Kind, Pointee};
 pub use crate::layout::Layout;
+use crate::names::definitions_of;
+use crate::plan::{Checker, Plan};
 use crate::traits::Portable;
+use crate::validation::{ArchiveContext, SharedContext};
 use std::alloc::Global;
 
-/// An expression, with the definitions of the names in it.
-#[derive(Debug, Drop)]
+/// An expression, with the definitions of the names that it reaches. It is compiled once, and checks any number of buffers.
+#[derive(Drop)]
 pub struct Schema {
     root: Expr,
-    definitions: Defs,
+    definitions: Vec<Def>,
+    plan: Plan,
+    node: usize,
+    ghost complete: { HasAll (entries_of definitions.items) (shape_of root) },
+    ghost planned: { ∥ IsPlan definitions.items (shape_of root) plan node ∥₁ },
 }
 
 impl Schema {
-    /// The schema of `T`: its expression and the definitions of all names that it reaches. Memory comes from `alloc`. Refused with 1 where
-    /// memory is refused, and with 30 where a name has two definitions.
+    ghost use Rattle.std.specs.Prelude.{◌≡◌, ◌⊎◌, ◌≤◌, length, OnOk, IfOk, IfErr};
+    ghost use Rattle.archive_check.specs.declared.error.Error.TheVariants.{OutOfMemory};
+    ghost use Rattle.archive_check.specs.Exact.{IsWhole};
+    ghost use Rattle.archive_check.specs.Schemas.{Accepts, Refuses, IsExact, IsSchemaOf};
+    ghost use Rattle.archive_check.specs.Names.{ExplainsNoSchema};
+
+    /// The schema of `T`: its expression and the definitions of all names that it reaches, compiled. Memory comes from `alloc`, also that which a
+    /// check takes. Refused with 1 where memory is refused, with 30 exactly where a name that is reached has none or two definitions, and else with
+    /// 31 exactly where a name holds itself other than behind a pointer.
     pub fn of<T: Portable>(alloc: Global) -> Result<Schema, Error>
-        ensures root { IfOk result (λ s. root_of s ≡ T.shape) }
-        ensures refused { IfErr result (λ e. (e ≡ OutOfMemory) ⊎ (e ≡ ShapeConflict)) }
+        ensures made { IfOk result (λ s. IsSchemaOf s T.shape T.definitions) }
+        ensures refused { IfErr result (λ e. ExplainsNoSchema T.shape T.definitions e) }
     {
         let root = T::expr(alloc)?;
-        let mut definitions = Defs::new(alloc);
-        T::define(alloc, &mut definitions)?;
-        Ok(Schema { root, definitions })
+        let definitions = definitions_of::<T>(alloc, &root)?;
+        let (plan, node) = Plan::of(alloc, &definitions, &root)?;
+        Ok(Schema {
+            root,
+            definitions,
+            plan,
+            node,
+        })
+    }
+
+    /// Whether `bytes` hold a value of the schema at `pos`, in the order that docs/FORMAT.md gives. In a context for these bytes that met nothing
+    /// yet the answer is exact: Ok where the buffer is an archive with its root there and with no region too deep, and else the refusal of the
+    /// first test that is false, with its fields. Refused with 1 where memory is refused for the list of what is left to check.
+    pub fn check<C: ArchiveContext + SharedContext>(
+        &self,
+        bytes: &[u8],
+        pos: usize,
+        context: &mut C,
+    ) -> Result<(), Error>
+        requires { (C.state context.old).end ≤ length bytes.now }
+        ensures ok { OnOk result (IsWhole (C.state context.old) (C.positions context.old) bytes.now → Accepts self.now bytes.now (C.state context.old).depth pos) }
+        ensures err { IfErr result (λ e. (e ≡ OutOfMemory) ⊎ (IsWhole (C.state context.old) (C.positions context.old) bytes.now → Refuses self.now bytes.now (C.state context.old).depth pos e)) }
+        ensures exact { IsWhole (C.state context.old) (C.positions context.old) bytes.now → IsExact self.now bytes.now (C.state context.old).depth pos result }
+    {
+        let checker = Checker {
+            nodes: &self.plan.nodes,
+            parts: &self.plan.parts,
+            variants: &self.plan.variants,
+            sorts: &self.plan.sorts,
+            bytes,
+        };
+        let alloc = *self.plan.nodes.allocator();
+        if let Err(error) = checker.check(alloc, self.node, pos, context) {
+            return Err(error);
+        }
+        Ok(())
     }
 }

@@ -1,9 +1,9 @@
 //! The shared positions of a check, kept in a map.
 
-ghost use Rattle.std.specs.Prelude.{◌≡◌, ◌↔◌, IsTrue, Some, None, IfOk, IfErr};
+ghost use Rattle.std.specs.Prelude.{◌≡◌, ◌↔◌, ◌≤◌, IsTrue, Some, None, IfOk, IfErr};
 ghost use Rattle.std.specs.HashMap.{get};
 ghost use Rattle.std.specs.Ordering.{int_eq};
-ghost use Rattle.archive_check.specs.Kept.{met_as, positions_in, AreKnown, HasType, IsGrown};
+ghost use Rattle.archive_check.specs.Kept.{met_as, AreKnown, HasType, IsGrown};
 ghost use Rattle.archive_check.specs.Expressions.{flavor_of, pointee_of};
 ghost use Rattle.archive_check.specs.Ranges.{whole};
 ghost use Rattle.archive_check.specs.Met.{nothing_met, IsStartAnswer};
@@ -19,7 +19,7 @@ use std::hash::{BuildHasherDefault, FoldHasher};
 
 /// What is kept of a shared position: its type, by its place in the list of types, its length, and whether it is finished.
 #[derive(Debug, Clone, Copy)]
-pub struct Kept {
+struct Kept {
     sort: usize,
     length: usize,
     finished: bool,
@@ -69,9 +69,11 @@ pub struct SharedValidator<A: Allocator = Global> {
 }
 
 impl<A: Allocator + Copy> SharedValidator<A> {
+    ghost use Rattle.archive_check.specs.Validators.{positions_of, room_of};
+
     /// No position. Memory comes from `alloc`, and none is taken yet.
     pub fn new(alloc: A) -> SharedValidator<A>
-        ensures { ⟦<SharedValidator<A> as Context>⟧.positions result ≡ nothing_met }
+        ensures { positions_of result ≡ nothing_met }
     {
         SharedValidator {
             sorts: Vec::new(alloc),
@@ -81,7 +83,8 @@ impl<A: Allocator + Copy> SharedValidator<A> {
 
     /// No position, and room for so many. Memory comes from `alloc`; refused with 1 where it is refused.
     pub fn with_capacity(alloc: A, capacity: usize) -> Result<SharedValidator<A>, Error>
-        ensures nothing { IfOk result (λ v. ⟦<SharedValidator<A> as Context>⟧.positions v ≡ nothing_met) }
+        ensures nothing { IfOk result (λ v. positions_of v ≡ nothing_met) }
+        ensures room { IfOk result (λ v. capacity ≤ room_of v) }
         ensures refused { IfErr result (λ e. e ≡ OutOfMemory) }
     {
         Ok(SharedValidator {
@@ -92,9 +95,11 @@ impl<A: Allocator + Copy> SharedValidator<A> {
 }
 
 impl<A: Allocator + Copy> Context for SharedValidator<A> {
+    ghost use Rattle.archive_check.specs.Validators.{positions_of};
+
     ghost state = { λ v. whole 0 None };
 
-    ghost positions = { λ v. positions_in v.sorts.items (get int_eq v.positions) };
+    ghost positions = { positions_of };
 }
 
 impl<A: Allocator + Copy> SharedContext for SharedValidator<A> {

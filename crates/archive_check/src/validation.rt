@@ -8,6 +8,9 @@ ghost use Rattle.archive_check.specs.Ranges.{RangeState, whole, subtree_answer, 
 use crate::error::Error;
 use crate::expr::{FlavorInfo, Pointee};
 use crate::layout::Layout;
+pub use crate::shared::SharedValidator;
+pub use crate::subtree::ArchiveContextExt;
+pub use crate::validator::Validator;
 use std::marker::{Model, PhantomData};
 use std::ops::Range;
 

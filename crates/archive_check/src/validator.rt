@@ -37,9 +37,11 @@ impl<'a, S: Context> Validator<ArchiveValidator<'a>, S> {
 }
 
 impl<A: Context, S: Context> Context for Validator<A, S> {
-    ghost state = { λ v. A.state v.archive };
+    ghost use Rattle.archive_check.specs.Validators.{archive_of, shared_of};
 
-    ghost positions = { λ v. S.positions v.shared };
+    ghost state = { λ v. A.state (archive_of v) };
+
+    ghost positions = { λ v. S.positions (shared_of v) };
 }
 
 impl<A: ArchiveContext, S: Context> ArchiveContext for Validator<A, S> {

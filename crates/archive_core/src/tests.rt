@@ -9,10 +9,13 @@ ghost use Rattle.archive_check.specs.Definitions.{no_definition};
 use crate::api::{access, access_pos, from_bytes, root_position, to_bytes, to_bytes_in};
 use crate::error::Error;
 use crate::place::Place;
-use crate::primitive::{ArchivedU32, ArchivedUsize};
+use crate::primitive::{
+    ArchivedChar, ArchivedIsize, ArchivedNonZeroU16, ArchivedU16, ArchivedU32, ArchivedU128,
+    ArchivedUsize,
+};
 use crate::rel_ptr::signed_offset;
 use crate::ser::{Buffer, Positional, ResolveExt, Serializer, Writer};
-use crate::shape::{Defs, Expr, Kind, Schema};
+use crate::shape::{Defs, Expr, IntegerKind, Kind, Schema};
 use crate::sharing::{Share, Sharing, SharingExt};
 use crate::string::{ArchivedStr, ArchivedString, Text, repr};
 use crate::traits::{
@@ -76,6 +79,91 @@ fn numbers_and_their_archives(rt: HostRuntime) -> Result<(), Fail> {
         let again = to_bytes(rt.alloc(), &archived)?;
         assert_eq!(rt; again.as_slice(), archive);
     }
+    Ok(())
+}
+
+#[test]
+fn leaves_of_every_kind_and_their_archives(rt: HostRuntime) -> Result<(), Fail> {
+    let alloc = rt.alloc();
+    assert_eq!(rt; to_bytes(alloc, &())?.len(), 0);
+    assert_eq!(rt; to_bytes(alloc, &true)?.as_slice(), [1].as_slice());
+    assert_eq!(rt; to_bytes(alloc, &7u8)?.as_slice(), [7].as_slice());
+    assert_eq!(rt; to_bytes(alloc, &-1i8)?.as_slice(), [0xff].as_slice());
+    assert_eq!(rt; to_bytes(alloc, &1337u16)?.as_slice(), [0x39, 5].as_slice());
+    assert_eq!(rt;
+        to_bytes(alloc, &-2i16)?.as_slice(),
+        [0xfe, 0xff].as_slice()
+    );
+    assert_eq!(rt;
+        to_bytes(alloc, &'é')?.as_slice(),
+        [0xe9, 0, 0, 0].as_slice()
+    );
+    assert_eq!(rt;
+        to_bytes(alloc, &ArchivedU16::from_native(2))?.as_slice(),
+        [2, 0].as_slice()
+    );
+    assert_eq!(rt;
+        to_bytes(alloc, &ArchivedNonZeroU16::from_native(3))?.as_slice(),
+        [3, 0].as_slice()
+    );
+    assert!(rt; access::<bool>(alloc, &[1])?.get());
+    assert_eq!(rt; access::<()>(alloc, &[])?.get(), ());
+    assert_eq!(rt; access::<i8>(alloc, &[0xff])?.get(), -1);
+    assert_eq!(rt; access::<ArchivedChar>(alloc, &[0xe9, 0, 0, 0])?.get(), 'é');
+    assert_eq!(rt; access::<ArchivedNonZeroU16>(alloc, &[0, 1])?.get(), 256);
+    let one = [1, 0, 0, 0, 0, 0, 0, 0, 0, 0, 0, 0, 0, 0, 0, 0];
+    assert_eq!(rt; access::<ArchivedU128>(alloc, &one)?.get(), 1);
+    Ok(())
+}
+
+#[test]
+fn leaves_are_read_back(rt: HostRuntime) -> Result<(), Fail> {
+    let alloc = rt.alloc();
+    let number: i16 = from_bytes(alloc, &[0xfe, 0xff], &mut ())?;
+    assert_eq!(rt; number, -2);
+    let byte: u8 = from_bytes(alloc, &[7], &mut ())?;
+    assert_eq!(rt; byte, 7);
+    match from_bytes::<ArchivedNonZeroU16, ()>(alloc, &[3, 0], &mut ()) {
+        Ok(number) => assert_eq!(rt; number.to_native(), 3),
+        Err(error) => return Err(Fail::from(error)),
+    }
+    Ok(())
+}
+
+#[test]
+fn bytes_that_are_no_leaf_are_refused(rt: HostRuntime) {
+    let alloc = rt.alloc();
+    assert_eq!(rt; access::<bool>(alloc, &[2]).err(), Some(Error::InvalidBool));
+    let surrogate = access::<ArchivedChar>(alloc, &[0, 0xd8, 0, 0]).err();
+    assert_eq!(rt; surrogate, Some(Error::InvalidChar));
+    let zero = access::<ArchivedNonZeroU16>(alloc, &[0, 0]).err();
+    assert_eq!(rt; zero, Some(Error::ZeroNumber));
+}
+
+#[test]
+fn lengths_and_offsets_have_32_bits(rt: HostRuntime) -> Result<(), Fail> {
+    let alloc = rt.alloc();
+    assert_eq!(rt;
+        to_bytes(alloc, &4_294_967_295usize)?.as_slice(),
+        [0xff, 0xff, 0xff, 0xff].as_slice()
+    );
+    assert_eq!(rt;
+        to_bytes(alloc, &4_294_967_296usize).err(),
+        Some(Error::NumberTooLarge)
+    );
+    assert_eq!(rt;
+        to_bytes(alloc, &-2isize)?.as_slice(),
+        [0xfe, 0xff, 0xff, 0xff].as_slice()
+    );
+    assert_eq!(rt;
+        to_bytes(alloc, &2_147_483_648isize).err(),
+        Some(Error::NumberTooLarge)
+    );
+    let length: usize = from_bytes(alloc, &[0xff, 0xff, 0xff, 0xff], &mut ())?;
+    assert_eq!(rt; length, 4_294_967_295);
+    let offset: isize = from_bytes(alloc, &[0xfe, 0xff, 0xff, 0xff], &mut ())?;
+    assert_eq!(rt; offset, -2);
+    let _: Ref<'_, ArchivedIsize> = access::<ArchivedIsize>(alloc, &[0; 4])?;
     Ok(())
 }
 
@@ -315,7 +403,7 @@ fn a_schema_is_kept_and_checks(rt: HostRuntime) -> Result<(), Fail> {
     let schema = Schema::of::<ArchivedString>(rt.alloc())?;
     let layout = schema.layout(&Expr::Str)?;
     assert_eq!(rt; (layout.size, layout.align), (8, 4));
-    let layout = schema.layout(&Expr::Leaf(Kind::U32))?;
+    let layout = schema.layout(&Expr::Leaf(Kind::Number(IntegerKind::U32)))?;
     assert_eq!(rt; (layout.size, layout.align), (4, 4));
     let bytes = b"hello world\0\x8b\0\0\0\xf4\xff\xff\xff";
     let mut context = ArchiveValidator::new(bytes);

@@ -40,7 +40,7 @@ impl Archive for usize {
 }
 
 impl<S: Writer + Keys> Serialize<S> for usize {
-    // Refused with 6 exactly where the number doesn't fit.
+    /// Writes nothing. Refused with 6 exactly where the number doesn't fit 32 bits.
     fn serialize(&self, _serializer: &mut S) -> Result<(), Error>
         ensures same_value { IfOk result (λ _. self.now < 2 ^ 32) }
         ensures refused { IfErr result (λ e. (e ≡ NumberTooLarge) × (self.now < 2 ^ 32 → ⊥)) }
@@ -91,7 +91,7 @@ impl Archive for isize {
 }
 
 impl<S: Writer + Keys> Serialize<S> for isize {
-    // Refused with 6 exactly where the number doesn't fit.
+    /// Writes nothing. Refused with 6 exactly where the number doesn't fit 32 bits.
     fn serialize(&self, _serializer: &mut S) -> Result<(), Error>
         ensures same_value { IfOk result (λ _. FitsSigned w32 self.now) }
         ensures refused { IfErr result (λ e. (e ≡ NumberTooLarge) × (FitsSigned w32 self.now → ⊥)) }

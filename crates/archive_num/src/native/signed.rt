@@ -54,7 +54,7 @@ impl Native for i8 {
     }
 
     fn write_to(self, out: &mut [u8]) {
-        out.copy_from_slice(&self.to_le_bytes());
+        out.copy_from_slice(&i8::to_le_bytes(self));
     }
 
     fn read_from(bytes: &[u8]) -> i8 {
@@ -123,7 +123,7 @@ impl Native for i16 {
     }
 
     fn write_to(self, out: &mut [u8]) {
-        out.copy_from_slice(&self.to_le_bytes());
+        out.copy_from_slice(&i16::to_le_bytes(self));
     }
 
     fn read_from(bytes: &[u8]) -> i16 {
@@ -192,7 +192,7 @@ impl Native for i32 {
     }
 
     fn write_to(self, out: &mut [u8]) {
-        out.copy_from_slice(&self.to_le_bytes());
+        out.copy_from_slice(&i32::to_le_bytes(self));
     }
 
     fn read_from(bytes: &[u8]) -> i32 {
@@ -261,7 +261,7 @@ impl Native for i64 {
     }
 
     fn write_to(self, out: &mut [u8]) {
-        out.copy_from_slice(&self.to_le_bytes());
+        out.copy_from_slice(&i64::to_le_bytes(self));
     }
 
     fn read_from(bytes: &[u8]) -> i64 {
@@ -330,7 +330,7 @@ impl Native for i128 {
     }
 
     fn write_to(self, out: &mut [u8]) {
-        out.copy_from_slice(&self.to_le_bytes());
+        out.copy_from_slice(&i128::to_le_bytes(self));
     }
 
     fn read_from(bytes: &[u8]) -> i128 {

@@ -53,7 +53,7 @@ impl Native for u8 {
     }
 
     fn write_to(self, out: &mut [u8]) {
-        out.copy_from_slice(&self.to_le_bytes());
+        out.copy_from_slice(&u8::to_le_bytes(self));
     }
 
     fn read_from(bytes: &[u8]) -> u8 {
@@ -122,7 +122,7 @@ impl Native for u16 {
     }
 
     fn write_to(self, out: &mut [u8]) {
-        out.copy_from_slice(&self.to_le_bytes());
+        out.copy_from_slice(&u16::to_le_bytes(self));
     }
 
     fn read_from(bytes: &[u8]) -> u16 {
@@ -191,7 +191,7 @@ impl Native for u32 {
     }
 
     fn write_to(self, out: &mut [u8]) {
-        out.copy_from_slice(&self.to_le_bytes());
+        out.copy_from_slice(&u32::to_le_bytes(self));
     }
 
     fn read_from(bytes: &[u8]) -> u32 {
@@ -260,7 +260,7 @@ impl Native for u64 {
     }
 
     fn write_to(self, out: &mut [u8]) {
-        out.copy_from_slice(&self.to_le_bytes());
+        out.copy_from_slice(&u64::to_le_bytes(self));
     }
 
     fn read_from(bytes: &[u8]) -> u64 {
@@ -329,7 +329,7 @@ impl Native for u128 {
     }
 
     fn write_to(self, out: &mut [u8]) {
-        out.copy_from_slice(&self.to_le_bytes());
+        out.copy_from_slice(&u128::to_le_bytes(self));
     }
 
     fn read_from(bytes: &[u8]) -> u128 {

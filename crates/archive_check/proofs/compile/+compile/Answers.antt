@@ -3,11 +3,13 @@ use Rattle.archive_check.specs.Expressions.{kind_of, flavor_of, shape_of, pointe
 use Rattle.archive_check.specs.Sizes.{variants_size}
 use Rattle.archive_check.specs.Shape.{parts, choice, array, boxed, vec, str, shared, weak, one, run, text, variant}
 use Rattle.archive_check.specs.Growing.{lists_of}
-use Rattle.archive_check.specs.Compiled.{Compiled, Targets, Leads, CompiledParts, CompiledVariants}
+use Rattle.archive_check.specs.Queued.{waits_of}
+use Rattle.archive_check.specs.Compiled.{Compiled, CompiledParts, CompiledVariants}
 use Rattle.archive_check.proofs.Views.{choice_falls, shape_of-Choice, shape_of-Record, shapes_in-drop, shapes_in-end, variants_in-drop, variants_in-end}
-use Rattle.archive_check.proofs.Cases.{ok_map, as_shape, as_target, as_pointee, row_left, spans_left}
-use Rattle.archive_check.proofs.Compiled.{compiled_leaf, compiled_record, compiled_choice, compiled_array, compiled_name, targets_name, targets_compiled, leads_one, leads_run}
-use Rattle.archive_check.proofs.Pointing.{compiled_boxed, compiled_vec, compiled_str, compiled_shared, compiled_weak, leads_text}
+use Rattle.archive_check.proofs.Cases.{ok_map, as_shape, row_left, spans_left}
+use Rattle.archive_check.proofs.Compiled.{compiled_leaf, compiled_record, compiled_choice, compiled_array, compiled_name}
+use Rattle.archive_check.proofs.Pointing.{compiled_boxed, compiled_vec, compiled_str, compiled_shared, compiled_weak}
+use Rattle.archive_check.proofs.Waiting.{targets_queued}
 use Rattle.archive_check.proofs.Rows.{row_start, row_next, row_done, spans_start, spans_next, spans_done}
 use Rattle.archive_check.proofs.compile.+compile.Goals as goal
 
@@ -46,7 +48,7 @@ pub compile-returns-in_ok-pointee-in-Vec : goal.compile-returns-in_ok-pointee-in
 compile-returns-in_ok-pointee-in-Vec t c =
     ok_map c.push-in-Vec.result c.push-in-Vec.ensures
     (λ j p. as_shape (ap shape_of c.in-Vec.is ∙ ap (λ y. vec (shape_of y)) (sym c.deref-in-Vec.ensures))
-    (compiled_vec c.in_ok-pointee-in-Vec.ensures p))
+    (compiled_vec (targets_queued (shape_of c.deref-in-Vec.result.now) (waits_of c.args.queue.now) (waits_of c.wait.new.queue) c.in_ok-pointee-in-Vec.pointee c.in_ok-pointee-in-Vec.ensures) p))
 
 pub compile-returns-in_ok-pointee-in-Str : goal.compile-returns-in_ok-pointee-in-Str
 compile-returns-in_ok-pointee-in-Str t c =
@@ -81,26 +83,6 @@ pub compile_parts-returns : goal.compile_parts-returns
 compile_parts-returns t c =
     ok_map c.extend_parts.result c.extend_parts.ensures
     (λ laid p. row_done (row_left (shapes_in-end c.args.parts.now c.loop-i.i (omega arith)) c.loop-i.invariant) p)
-
-pub compile_pointee-returns-in_ok-node-in-One : goal.compile_pointee-returns-in_ok-node-in-One
-compile_pointee-returns-in_ok-node-in-One t c =
-    as_pointee (ap pointee_of c.in-One.is) (leads_one c.in_ok-node-in-One.ensures)
-
-pub compile_pointee-returns-in_ok-node-in-Run : goal.compile_pointee-returns-in_ok-node-in-Run
-compile_pointee-returns-in_ok-node-in-Run t c =
-    as_pointee (ap pointee_of c.in-Run.is) (leads_run c.in_ok-node-in-Run.ensures)
-
-pub compile_pointee-returns-in_ok-node-in-Text : goal.compile_pointee-returns-in_ok-node-in-Text
-compile_pointee-returns-in_ok-node-in-Text t c =
-    as_pointee (ap pointee_of c.in-Text.is) (leads_text c.in_ok-node-in-Text.ensures)
-
-pub compile_target-returns-in-Some : goal.compile_target-returns-in-Some
-compile_target-returns-in-Some t c =
-    as_target (ap shape_of c.in-Named.is) (targets_name (sym c.in-Some.ensures))
-
-pub compile_target-returns : goal.compile_target-returns
-compile_target-returns t c =
-    ok_map c.compile.result c.compile.ensures (λ j p. targets_compiled p)
 
 pub compile_variants-loop-i-init : goal.compile_variants-loop-i-init
 compile_variants-loop-i-init t c =

@@ -1,18 +1,13 @@
 use Rattle.std.proofs.Common.{◌≡◌, ◌+◌, ◌≤◌, length, drop}
-use Rattle.archive_check.specs.Expressions.{shape_of, pointee_of, shapes_in, variants_in}
-use Rattle.archive_check.specs.Sizes.{shape_size, parts_size, variants_size, pointee_size}
+use Rattle.archive_check.specs.Expressions.{shape_of, shapes_in, variants_in}
+use Rattle.archive_check.specs.Sizes.{shape_size, parts_size, variants_size}
 use Rattle.archive_check.specs.Growing.{lists_of}
+use Rattle.archive_check.specs.Queued.{waits_of}
 use Rattle.archive_check.specs.Compiled.{RowIs, SpansAre}
 use Rattle.archive_check.proofs.compile.+compile.Given as goal
 
 abbrev pub decreases-compile : goal.decreases-compile
 decreases-compile l = shape_size (shape_of l.expr.now)
-
-abbrev pub decreases-compile_pointee : goal.decreases-compile_pointee
-decreases-compile_pointee l = pointee_size (pointee_of l.pointee.now)
-
-abbrev pub decreases-compile_target : goal.decreases-compile_target
-decreases-compile_target l = shape_size (shape_of l.expr.now) + 1
 
 abbrev pub decreases-compile_parts : goal.decreases-compile_parts
 decreases-compile_parts l = parts_size (shapes_in l.parts.now)
@@ -21,7 +16,7 @@ abbrev pub decreases-compile_variants : goal.decreases-compile_variants
 decreases-compile_variants l = variants_size (variants_in l.variants.now)
 
 abbrev pub invariant-compile_parts-loop-i : goal.invariant-compile_parts-loop-i
-invariant-compile_parts-loop-i l = RowIs l.names l.done l.start (shapes_in l.parts) (shapes_in (drop l.i l.parts)) (lists_of l.fn.plan) (lists_of l.plan) l.row.parts.items l.row.end l.row.align l.row.free
+invariant-compile_parts-loop-i l = RowIs l.names l.done l.start (shapes_in l.parts) (shapes_in (drop l.i l.parts)) (waits_of l.fn.queue) (waits_of l.queue) (lists_of l.fn.plan) (lists_of l.plan) l.row.parts.items l.row.end l.row.align l.row.free
 
 abbrev pub invariant-compile_variants-loop-i : goal.invariant-compile_variants-loop-i
-invariant-compile_variants-loop-i l = SpansAre l.names l.done (variants_in l.variants) (variants_in (drop l.i l.variants)) (lists_of l.fn.plan) (lists_of l.plan) l.spans.items.items l.spans.end l.spans.align
+invariant-compile_variants-loop-i l = SpansAre l.names l.done (variants_in l.variants) (variants_in (drop l.i l.variants)) (waits_of l.fn.queue) (waits_of l.queue) (lists_of l.fn.plan) (lists_of l.plan) l.spans.items.items l.spans.end l.spans.align

@@ -1,7 +1,7 @@
 use Rattle.std.proofs.Common.{◌≡◌, ◌+◌, ◌<◌, ap, sym, ◌∙◌, subst}
 use Rattle.archive_check.specs.Expressions.{shape_of, variants_in}
 use Rattle.archive_check.specs.Sizes.{variants_size}
-use Rattle.archive_check.specs.Compiled.{count_of, variant_counts_of}
+use Rattle.archive_check.specs.Counts.{count_of, variant_counts_of}
 use Rattle.archive_check.proofs.Views.{choice_falls, shape_of-Choice}
 use Rattle.archive_check.proofs.Cases.{ok_map}
 use Rattle.archive_check.proofs.counting.+count.Goals as goal

@@ -1,14 +1,11 @@
 use Rattle.std.proofs.Common.{◌≡◌, ◌+◌, drop}
-use Rattle.archive_check.specs.Expressions.{shape_of, pointee_of, shapes_in, variants_in}
-use Rattle.archive_check.specs.Sizes.{shape_size, parts_size, variants_size, pointee_size}
-use Rattle.archive_check.specs.Compiled.{counts_of, variant_counts_of}
+use Rattle.archive_check.specs.Expressions.{shape_of, shapes_in, variants_in}
+use Rattle.archive_check.specs.Sizes.{shape_size, parts_size, variants_size}
+use Rattle.archive_check.specs.Counts.{counts_of, variant_counts_of}
 use Rattle.archive_check.proofs.counting.+count.Given as goal
 
 abbrev pub decreases-count : goal.decreases-count
 decreases-count l = shape_size (shape_of l.expr.now)
-
-abbrev pub decreases-count_pointee : goal.decreases-count_pointee
-decreases-count_pointee l = pointee_size (pointee_of l.pointee.now)
 
 abbrev pub decreases-count_parts : goal.decreases-count_parts
 decreases-count_parts l = parts_size (shapes_in l.parts.now)

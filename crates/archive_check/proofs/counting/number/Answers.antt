@@ -2,10 +2,10 @@ use Rattle.std.proofs.Common.{◌≡◌, ◌+◌, ap, sym, ◌∙◌, subst, ari
 use Rattle.archive_check.specs.declared.defs.Def.{Def}
 use Rattle.archive_check.specs.Expressions.{shape_of}
 use Rattle.archive_check.specs.Runs.{IsAt}
-use Rattle.archive_check.specs.Compiled.{count_of}
-use Rattle.archive_check.specs.Numbered.{RootIs, start_of}
+use Rattle.archive_check.specs.Counts.{count_of}
+use Rattle.archive_check.specs.Numbered.{RootIs, def_shapes, start_of}
 use Rattle.archive_check.proofs.GoingOn.{same_at}
-use Rattle.archive_check.proofs.Numbered.{numbered_next, start_next}
+use Rattle.archive_check.proofs.Numbered.{numbered_next, start_next, def_at}
 use Rattle.archive_check.proofs.counting.number.Goals as goal
 
 pub loop-i-preserved : goal.loop-i-preserved
@@ -19,5 +19,5 @@ loop-i-preserved c =
     let there : Def = slice_index_or c.args.defs.now c.loop-i.i c.index-defs-i-in-loop-i.result in (
       numbered_next (record { name = there.name; node = c.in_ok-node.node }) c.loop-i.invariant.0 c.loop-i.invariant.1 at (ap (λ (d : Def). d.name.now) (sym again.is ∙ same_at again at))
           (subst (λ ks. RootIs ks c.loop-i.start (shape_of c.index-defs-i.result.expr) c.in_ok-node.node) c.deref.ensures.value root) c.in_ok-push.ensures.items,
-      omega (arith, end, c.loop-i.invariant.1, start_next c.args.defs.now c.loop-i.i c.index-defs-i.result at),
+      omega (arith, end, c.loop-i.invariant.1, start_next (def_shapes c.args.defs.now) c.loop-i.i (shape_of c.index-defs-i.result.expr) (def_at c.args.defs.now c.loop-i.i at)),
     )

@@ -1,4 +1,4 @@
-use Rattle.std.proofs.Common.{◌≡◌, ◌<◌, subst, sym, ap, ◌∙◌}
+use Rattle.std.proofs.Common.{◌<◌, subst, sym, ap, ◌∙◌}
 use Rattle.archive_check.specs.Shape.{choice}
 use Rattle.archive_check.specs.Expressions.{shape_of, variants_in}
 use Rattle.archive_check.proofs.Views.{shape_of-Choice}

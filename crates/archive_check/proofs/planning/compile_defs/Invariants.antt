@@ -1,7 +1,9 @@
-use Rattle.std.proofs.Common.{◌≡◌}
+use Rattle.std.proofs.Common.{take}
 use Rattle.archive_check.specs.Growing.{lists_of}
+use Rattle.archive_check.specs.Queued.{waits_of}
+use Rattle.archive_check.specs.Numbered.{def_shapes}
 use Rattle.archive_check.specs.Planned.{Chained}
 use Rattle.archive_check.proofs.planning.compile_defs.Given as goal
 
 abbrev pub invariant-loop-i : goal.invariant-loop-i
-invariant-loop-i l = Chained l.names l.defs l.i (lists_of l.plan)
+invariant-loop-i l = Chained l.names (def_shapes (take l.i l.defs)) l.base (waits_of l.queue) (lists_of l.plan)

@@ -1,0 +1,23 @@
+-- What the validators hold.
+use Rattle.std.specs.Prelude.{ℕ}
+use Rattle.std.specs.HashMap.{get, spare}
+use Rattle.std.specs.Ordering.{int_eq}
+use Rattle.archive_check.specs.declared.shared.SharedValidator.{SharedValidator}
+use Rattle.archive_check.specs.declared.validator.Validator.{Validator}
+use Rattle.archive_check.specs.Met.{Positions}
+use Rattle.archive_check.specs.Kept.{positions_in}
+
+-- the positions that a validator of shared ones met
+abbrev pub positions_of : {A : Type 0} → SharedValidator A → Positions
+positions_of v = positions_in v.sorts.items (get int_eq v.positions)
+
+-- how many more it can keep without taking memory for them
+abbrev pub room_of : {A : Type 0} → SharedValidator A → ℕ
+room_of v = spare v.positions
+
+-- the two contexts of a validator of both
+abbrev pub archive_of : {A S : Type 0} → Validator A S → A
+archive_of v = v.archive
+
+abbrev pub shared_of : {A S : Type 0} → Validator A S → S
+shared_of v = v.shared
