@@ -80,3 +80,4 @@ pub mod Viewed
 pub mod Said
 pub mod Suiting
 pub mod ClosedAgain
+pub mod Archives

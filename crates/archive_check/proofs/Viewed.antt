@@ -7,10 +7,10 @@ use Rattle.std.specs.Coded.{le_prop}
 use Rattle.archive_check.specs.Shape.{Shape, Pointee, one, run}
 use Rattle.archive_check.specs.Layout.{Layout, size_of}
 use Rattle.archive_check.specs.Value.{Pointer, Value, pointers}
-use Rattle.archive_check.specs.Reads.{Schema, LaidOut}
+use Rattle.archive_check.specs.Reads.{Schema, LaidOut, bytes_at}
 use Rattle.archive_check.specs.Tour.{Region, region_of, root_region, pointee_size, Contents, Leads, Seen, Tour, tour_end, tour_unique, tour_new, tour_again, Accepted}
 use Rattle.archive_check.specs.Leaves.{regions_of}
-use Rattle.archive_check.specs.Within.{Within, PartOf, whole_region, in_one, in_run, PartOfSome}
+use Rattle.archive_check.specs.Within.{PartOf, whole_region, in_one, in_run, in_string, PartOfSome}
 use Rattle.archive_check.specs.Denotes.{Meaning, Denotes, Fills}
 use Rattle.archive_check.specs.Reached.{Reached}
 use Rattle.archive_check.specs.Definitions.{Definitions, Knows, HasLayout}
@@ -19,6 +19,7 @@ use Rattle.archive_check.proofs.Closed.{part_reached, pointer_reached, root_reac
 use Rattle.archive_check.proofs.Determined.{contents_one_value}
 use Rattle.archive_check.proofs.Denoted.{fills_one}
 use Rattle.archive_check.proofs.Inside.{within_inside}
+use Rattle.archive_check.proofs.Apart.{before_end_le, bytes_few}
 
 module _ (s : Schema) (bytes : List ℕ) where
   -- the region's pointee lies in the buffer
@@ -46,6 +47,7 @@ module _ (s : Schema) (bytes : List ℕ) where
   part_fits laid {r = r} (in_run {k = k} {X = X} e below w) f =
       let more : (k + 1) * size_of s.layouts X ≤ r.length * size_of s.layouts X = mul-le-mul_right (size_of s.layouts X) (omega arith) in
       omega (arith, within_inside s laid w, same_size r.length e, more, f)
+  part_fits laid (in_string {q = q} i inline) f = omega (arith, part_fits laid i f, before_end_le (bytes_at bytes q 8), bytes_few bytes q 8)
 
   pub lies_fits : LaidOut s → {q n : ℕ} {P : Pointee} → Lies s bytes q P n → q + pointee_size s P n ≤ length bytes
   lies_fits laid l = let (r, c, i) = l.part in part_fits laid i (All-contains Fits (regions_of l.accepted) r (accepted_fits l.accepted) c)
