@@ -20,18 +20,13 @@ const OTHER: FlavorInfo = FlavorInfo {
 };
 
 #[test]
-fn shared_positions_are_started_and_finished(rt: HostRuntime) -> Result<(), Fail> {
+fn a_position_has_one_type_and_length(rt: HostRuntime) -> Result<(), Fail> {
     let mut shared = SharedValidator::new(rt.alloc());
     let text = Pointee::Text;
     let unit = Pointee::One(Expr::Leaf(Kind::Unit));
-    assert_eq!(rt; shared.finish_shared(&RC, &text, 8), Err(Error::NotStarted));
     assert_eq!(rt;
         shared.start_shared(&RC, &text, 8, 3),
         Ok(ValidationState::Started)
-    );
-    assert_eq!(rt;
-        shared.start_shared(&RC, &text, 8, 3),
-        Ok(ValidationState::Pending)
     );
     assert_eq!(rt;
         shared.start_shared(&OTHER, &text, 8, 3),
@@ -49,30 +44,39 @@ fn shared_positions_are_started_and_finished(rt: HostRuntime) -> Result<(), Fail
         shared.start_shared(&RC, &text, 8, 3),
         Ok(ValidationState::Pending)
     );
+    Ok(())
+}
+
+#[test]
+fn a_position_is_finished_once(rt: HostRuntime) -> Result<(), Fail> {
+    let mut shared = SharedValidator::new(rt.alloc());
+    let text = Pointee::Text;
+    let unit = Pointee::One(Expr::Leaf(Kind::Unit));
+    assert_eq!(rt; shared.finish_shared(&RC, &text, 8), Err(Error::NotStarted));
+    assert_eq!(rt;
+        shared.start_shared(&RC, &text, 8, 3),
+        Ok(ValidationState::Started)
+    );
     assert_eq!(rt;
         shared.start_shared(&RC, &unit, -8, 0),
         Ok(ValidationState::Started)
     );
     assert_eq!(rt; shared.finish_shared(&OTHER, &unit, 8), Ok(()));
     assert_eq!(rt;
-        shared.start_shared(&RC, &text, 8, 3),
-        Ok(ValidationState::Finished)
-    );
-    assert_eq!(rt;
-        shared.start_shared(&RC, &unit, -8, 0),
-        Ok(ValidationState::Pending)
-    );
-    assert_eq!(rt;
         shared.finish_shared(&RC, &text, 8),
         Err(Error::AlreadyFinished)
+    );
+    assert_eq!(rt;
+        shared.start_shared(&RC, &text, 8, 3),
+        Ok(ValidationState::Finished)
     );
     assert_eq!(rt;
         shared.start_shared(&RC, &text, 8, 2),
         Err(Error::MetadataMismatch)
     );
     assert_eq!(rt;
-        shared.start_shared(&RC, &text, 8, 3),
-        Ok(ValidationState::Finished)
+        shared.start_shared(&RC, &unit, -8, 0),
+        Ok(ValidationState::Pending)
     );
     Ok(())
 }
