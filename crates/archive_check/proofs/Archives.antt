@@ -3,6 +3,7 @@ use Rattle.std.proofs.Common.{◌≡◌, ◌⊎◌, inl, inr, ⊎_elim, ℕ, ◌
 use Rattle.std.proofs.Math.Logic.{∥∥₁_elim, ∥∥₁_map, ∥∥₁_prop}
 use Rattle.std.proofs.lemmas.List.Elements.{Contains-append_left, Contains-append_right, Contains-append_cases}
 use Rattle.archive_check.specs.declared.error.Error.{Error}
+use Rattle.archive_check.specs.declared.error.Error.TheVariants.{OutOfMemory}
 use Rattle.archive_check.specs.declared.shape.Schema.{Schema as RustSchema}
 use Rattle.archive_check.specs.Shape.{Name, Shape, Pointee, one, Table, definition}
 use Rattle.archive_check.specs.Value.{Value}
@@ -14,7 +15,9 @@ use Rattle.archive_check.specs.Trail.{Fault, RootTrips}
 use Rattle.archive_check.specs.Ranges.{RangeState, whole}
 use Rattle.archive_check.specs.Met.{Positions, nothing_met}
 use Rattle.archive_check.specs.Exact.{IsWhole}
-use Rattle.archive_check.specs.Schemas.{root_of, table_in, Suits, Accepts, Refuses}
+use Rattle.archive_check.specs.Schemas.{root_of, table_in, Suits, Accepts, Refuses, IsSchemaOf}
+use Rattle.archive_check.specs.Pooled.{Entries}
+use Rattle.archive_check.specs.Entries.{NoEntries, AreNamedByPosition}
 use Rattle.archive_check.specs.Viewed.{Viewed, Says}
 use Rattle.archive_check.specs.Archives.{IsArchiveWithin, IsArchive, IsValueOf, IsFaulty, IsRefusal, IsNoArchive}
 use Rattle.archive_check.proofs.AcceptedWalks.{walks}
@@ -40,8 +43,8 @@ each_has s (both D E) h =
      each_has s E (λ name Y c. h name Y (Contains-append_right (listed D) (listed E) (name, Y) c)))
 
 -- what a schema that knows a type's definitions has, the type's own schema has
-pub knows_suits : (r : RustSchema) (D : Definitions) (s : Schema) → ((name : Name) (Y : Shape) → definition (table_in r) name ≡ Some Y → definition (listed D) name ≡ Some Y) → Knows s D → Suits r s
-knows_suits r D s among k = record { has = λ name Y e. has_each s D k.has name Y (found_stands (listed D) name Y (among name Y e)); laid_out = k.laid_out }
+pub knows_suits : (r : RustSchema) (X : Shape) (D : Definitions) (s : Schema) → IsSchemaOf r X D → Knows s D → Suits r s
+knows_suits r X D s made k = record { has = λ name Y e. has_each s D k.has name Y (found_stands (listed D) name Y (made.known name Y e)); laid_out = k.laid_out }
 
 -- Where a shape is well formed, and no definition is brought that it doesn't reach, a schema knows them.
 module _ (D : Definitions) (X : Shape) (well : WellFormed (listed D) X) (no_others : (name : Name) (Y : Shape) → Contains (listed D) (name, Y) → Reaches (listed D) name X) where
@@ -65,16 +68,25 @@ pub is_whole : (s : RangeState) (met : Positions) (bytes : List ℕ) → s ≡ w
 is_whole s met bytes e f = rw (e, f) (record { fresh = record { nothing = λ p. refl; levels = λ h. cc h; few = λ d h. cc h }; start = refl; end = refl })
 
 -- What a check says with a type's schema, it says with each that knows the type's definitions.
-module _ (r : RustSchema) (D : Definitions) (X : Shape) (bytes : List ℕ) (limit : Option ℕ) (pos : ℕ) (is_root : root_of r ≡ X) (among : (name : Name) (Y : Shape) → definition (table_in r) name ≡ Some Y → definition (listed D) name ≡ Some Y) (well : WellFormed (listed D) X) where
+module _ (r : RustSchema) (D : Definitions) (X : Shape) (bytes : List ℕ) (limit : Option ℕ) (pos : ℕ) (made : IsSchemaOf r X D) where
   pub accepts_archive : ((name : Name) (Y : Shape) → Contains (listed D) (name, Y) → Reaches (listed D) name X) → Accepts r bytes limit pos → IsArchiveWithin D bytes limit pos X
   accepts_archive no_others h = record {
-    well_formed = well;
-    known = ∣ some_knows D X well no_others ∣₁;
-    accepted = λ s k. subst (λ Z. ∥ AcceptedWithin s bytes limit pos Z ∥₁) is_root (h s (knows_suits r D s among k));
+    well_formed = made.well_formed;
+    known = ∣ some_knows D X made.well_formed no_others ∣₁;
+    accepted = λ s k. subst (λ Z. ∥ AcceptedWithin s bytes limit pos Z ∥₁) made.root (h s (knows_suits r X D s made k));
   }
 
   pub refuses_faulty : (e : Error) → Refuses r bytes limit pos e → IsFaulty D bytes limit pos X e
-  refuses_faulty e (fault, said, h) = record { well_formed = well; fault = fault; said = said; trips = λ s k. subst (λ Z. ∥ RootTrips s bytes limit pos Z fault ∥₁) is_root (h s (knows_suits r D s among k)) }
+  refuses_faulty e (fault, said, h) = record {
+    well_formed = made.well_formed;
+    fault = fault;
+    said = said;
+    trips = λ s k. subst (λ Z. ∥ RootTrips s bytes limit pos Z fault ∥₁) made.root (h s (knows_suits r X D s made k));
+  }
+
+  pub refuses : (e : Error) → (e ≡ OutOfMemory) ⊎ Refuses r bytes limit pos e → IsRefusal D bytes limit pos X e
+  refuses e (inl memory) = inl (inl memory)
+  refuses e (inr h) = inr (refuses_faulty e h)
 
 -- the root of an archive is a view
 pub archive_viewed : (D : Definitions) (bytes : List ℕ) (limit : Option ℕ) (root : ℕ) (X : Shape) → IsArchiveWithin D bytes limit root X → Viewed D bytes root (one X) 0
@@ -93,3 +105,7 @@ refusal_no_archive D bytes limit root X e small (inr f) = inr (faulty_no_archive
 -- the root's value is what the buffer denotes
 pub root_value : (D : Definitions) (bytes : List ℕ) (root : ℕ) (X : Shape) (w : Value) → IsArchive D bytes root X → Says D bytes root (one X) 0 w → IsValueOf D bytes root X w
 root_value D bytes root X w a h = record { archive = a; denoted = λ s m k d. root_says D bytes root X w s m h k d }
+
+-- and where nothing was told of shared positions, none is named otherwise
+pub none_named : (told : Entries) → NoEntries told → AreNamedByPosition told
+none_named told h t v e = let none = h t in cc
