@@ -1,26 +1,27 @@
 -- A region is entered: what the range calls say, and what is left to do.
-use Rattle.std.proofs.Common.{◌≡◌, ◌≢◌, ◌⊎◌, inl, inr, ℕ, zero, suc, ℤ, pos, negsuc, refl, sym, ap, ap₂, ◌∙◌, subst, slice_index_or, ◌+◌, ◌-◌, ◌*◌, ◌%◌, ◌<◌, ◌≤◌, ◌==◌, ◌&&◌, nat_le, nat_lt, nat_eq, cond, Bool, true, false, arith, List, [], ◌∷◌, length, Option, Some, None, Result, Ok, Err, IsUtf8, IsTrue}
+use Rattle.std.proofs.Common.{◌≡◌, ◌≢◌, inr, ℕ, zero, suc, ℤ, pos, negsuc, refl, sym, ap, ap₂, ◌∙◌, slice_index_or, ◌+◌, ◌-◌, ◌*◌, ◌%◌, ◌<◌, ◌≤◌, nat_le, nat_eq, Bool, true, false, arith, List, ◌∷◌, length, Option, Some, None, Result, Ok, Err, IsUtf8, IsTrue}
 use Rattle.std.proofs.lemmas.Bool.Decides.{nat_tests}
 use Rattle.archive_check.specs.declared.error.Error.{Error}
-use Rattle.archive_check.specs.declared.error.Error.TheVariants.{InvalidSubtreePointer, UnalignedPointer, InvalidUtf8, ExceededMaximumSubtreeDepth}
+use Rattle.archive_check.specs.declared.error.Error.TheVariants.{InvalidUtf8, ExceededMaximumSubtreeDepth}
 use Rattle.archive_check.specs.declared.plan.Target.{Target}
 use Rattle.archive_check.specs.declared.plan.Target.TheVariants.{One, Run, Text}
+use Rattle.archive_check.specs.declared.plan.Job.TheVariants.{Free}
 use Rattle.archive_check.specs.declared.plan.Node.{Node}
 use Rattle.archive_check.specs.declared.plan.Checker.{Checker}
 use Rattle.archive_check.specs.declared.work.Work.{Work}
-use Rattle.archive_check.specs.declared.work.Work.TheVariants.{Part as PartWork, Parts, Elements, Leave}
+use Rattle.archive_check.specs.declared.work.Work.TheVariants.{Part as PartWork, Elements, Leave}
 use Rattle.archive_check.specs.Depth.{Allows, inside}
-use Rattle.archive_check.specs.Ranges.{RangeState, subtree_answer, pushed, one_less}
+use Rattle.archive_check.specs.Ranges.{RangeState, subtree_answer, pushed, one_less, one_more, popped}
 use Rattle.archive_check.specs.Met.{Positions}
 use Rattle.archive_check.specs.Reads.{bytes_at}
 use Rattle.archive_check.specs.Tour.{Seen}
 use Rattle.archive_check.specs.Trail.{Fault, outside, unaligned, too_deep, no_text}
-use Rattle.archive_check.specs.Runs.{times, Outcome, done, refused, IsAt, Takes, RegionIs, EnterRuns, enter_outside, enter_unaligned, enter_too_deep, enter_stop, contents_no_text, ListRuns}
+use Rattle.archive_check.specs.Runs.{times, Outcome, refused, Takes, RegionIs, EnterRuns, enter_outside, enter_unaligned, enter_too_deep, enter_stop, contents_no_text, contents_text, contents_empty, contents_one, contents_run, run_free, elements_free, IsNode, enter_within, ListRuns}
 use Rattle.archive_check.specs.Faults.{IsFor}
-use Rattle.archive_check.specs.Turns.{PartFits, ElementsFit, ListFits, Ready, Stage, stage, pending_in, regions_in, Agrees, Agreeing, Then, Listing, Entering, Leads, IsStopped, power, level, cost}
-use Rattle.archive_check.proofs.Turning.{enter_one, enter_run, enter_text, enter_empty}
+use Rattle.archive_check.specs.Turns.{and_then, Passes, Ready, stage, pending_in, regions_in, Agreeing, Listing, Entering, Leads, IsStopped, power, level, cost}
+use Rattle.archive_check.proofs.Turning.{enter_one, enter_run}
 use Rattle.archive_check.proofs.Meeting.{allows, agrees_inside}
-use Rattle.archive_check.proofs.Costs.{power_pos, power_falls, level_end, falls_enter, falls_leave}
+use Rattle.archive_check.proofs.Costs.{level_end, falls_enter, falls_leave}
 
 -- a region of this size and alignment lies at t, within the range
 pub record Lands (s : RangeState) (z : ℤ) (size align t : ℕ) : Type 0 where
@@ -101,6 +102,40 @@ entered m s s1 s2 met met1 met2 j n z z' size t x y old mid node u known is size
       list = list ∙ ap₂ (λ a b. Leave a b ∷ old) (ends.0) ey;
     }
 
+-- what a region holds that leads nowhere
+module _ (m : Checker) (j n z t : ℕ) where
+  pub passes_text : IsUtf8 (bytes_at m.bytes.now t z) → Passes m Text j n z t
+  passes_text utf pending depth start seen = contents_text utf
+
+  pub passes_empty : (target : Target) → z ≡ 0 → Passes m target j n z t
+  passes_empty target none pending depth start seen = contents_empty none
+
+  pub passes_free : (target : Target) (align : ℕ) → (target ≡ Text → ⊥) → (target ≡ One → n ≡ 1) → RegionIs m j n (Some z) align → IsNode m j Free → t + z ≤ length m.bytes.now → Passes m target j n z t
+  passes_free target align other one region free fits = by_size (nat_eq z 0) refl
+    where
+      takes : 0 < z → (y : ℕ) × Takes m j y × (n * y ≡ z)
+      takes lt =
+          let k = times_size region.node.size n z region.size_is lt in
+          (k.0, record { node = region.node; at = region.at; size_is = k.1 }, k.2)
+
+      filled : (target : Target) → (target ≡ Text → ⊥) → (target ≡ One → n ≡ 1) → 0 < z → Passes m target j n z t
+      filled Text other one lt = absurd (other refl)
+      filled One other one lt = λ pending depth start seen.
+          let k = takes lt in
+          let same : n * k.0 ≡ k.0 = (ap (λ q. q * k.0) (one refl) ∙ omega arith) in
+          contents_one lt (run_free free k.1 (omega (arith, k.2)))
+      filled Run other one lt = λ pending depth start seen. let k = takes lt in contents_run lt (elements_free free k.1 (omega (arith, k.2)))
+
+      by_size : (b : Bool) → nat_eq z 0 ≡ b → Passes m target j n z t
+      by_size true e = passes_empty target (grind (arith, nat_tests))
+      by_size false e = filled target other one (let some : z ≢ 0 = grind (arith, nat_tests) in omega arith)
+
+-- a target of neither one value nor a text is a run
+pub run_left : (target : Target) → (target ≡ One → ⊥) → target ≢ Text → target ≡ Run
+run_left One one text = absurd (one refl)
+run_left Run one text = refl
+run_left Text one text = absurd (text refl)
+
 inner : (d : Option ℕ) → one_less d ≡ inside d
 inner None = refl
 inner (Some n) = refl
@@ -110,6 +145,11 @@ levels_allow None some deep = tt
 levels_allow (Some zero) some deep = absurd (some refl)
 levels_allow (Some (suc zero)) some deep = absurd (deep refl)
 levels_allow (Some (suc (suc n))) some deep = omega arith
+
+level_back : (d : Option ℕ) → d ≢ Some 0 → one_more (one_less d) ≡ d
+level_back None some = refl
+level_back (Some zero) some = absurd (some refl)
+level_back (Some (suc n)) some = let same : suc n - 1 + 1 ≡ suc n = omega arith in ap Some same
 
 module _ (m : Checker) (s s' : RangeState) (met met' : Positions) (j n : ℕ) (z : ℤ) (size align t : ℕ) (old mid : List Work) (h : Entered m s s' met met' j n z size align t old mid) where
   pub entered_ready : Ready m s old → Ready m s' mid
@@ -130,26 +170,24 @@ module _ (m : Checker) (s s' : RangeState) (met met' : Positions) (j n : ℕ) (z
   agreed : {seen : Seen} (new : List Work) → pending_in new ≡ pending_in old → regions_in new ≡ 1 + regions_in old → Agreeing (stage s met old) seen → Agreeing (stage s' met' new) seen
   agreed new e f a = rw (h.depth, h.same, e, f) (agrees_inside a (allows a h.deep))
 
-  pub entered_empty : (target : Target) → size ≡ 0 → Leads m (Entering m target j n z) (stage s met old) (stage s' met' mid)
-  entered_empty target none seen a = (
-    seen,
-    agreed mid (ap pending_in h.list) (ap regions_in h.list) a,
-    λ o r. entering {target = target} (enter_empty m h.region h.lands.above h.lands.below h.lands.aligned (allows a h.deep) none (moved h.list r)),
-  )
-
-  pub entered_text : IsUtf8 (bytes_at m.bytes.now t size) → Leads m (Entering m Text j n z) (stage s met old) (stage s' met' mid)
-  entered_text utf seen a = (
-    seen,
-    agreed mid (ap pending_in h.list) (ap regions_in h.list) a,
-    λ o r. entering {target = Text} (enter_text m h.region h.lands.above h.lands.below h.lands.aligned (allows a h.deep) utf (moved h.list r)),
-  )
+  module _ (s2 : RangeState) (met2 : Positions) (x y : ℕ) (left : s2 ≡ popped s' x y) (x_is : x ≡ t + size) (y_is : y ≡ s.end) where
+    -- the region is left at once
+    pub passed_leads : (target : Target) → met2 ≡ met' → Passes m target j n size t → Leads m (Entering m target j n z) (stage s met old) (stage s2 met2 old)
+    passed_leads target unmet passes seen a =
+        let back : s2.depth ≡ s.depth = ap (λ r. r.depth) left ∙ ap one_more h.depth ∙ level_back s.depth a.levels in
+        let stop : s2.end ≡ s.end = ap (λ r. r.end) left ∙ y_is in
+        let start : s2.start ≡ t + size = ap (λ r. r.start) left ∙ x_is in (
+          seen,
+          rw (back, unmet, h.same) a,
+          λ o r. entering {target = target} (and_then (enter_within h.region refl h.lands.above h.lands.below h.lands.aligned (allows a h.deep) (passes (pending_in old) (inside s.depth) s.start seen)) (rw (back, stop, start) at r)),
+        )
 
   pub entered_no_text : (IsUtf8 (bytes_at m.bytes.now t size) → ⊥) → IsStopped m Text j n z s InvalidUtf8
   entered_no_text wrong = inr (λ some. (
     no_text,
     refl,
     λ pending seen.
-        enter_stop h.region h.lands.target h.lands.above h.lands.below h.lands.aligned (levels_allow s.depth some h.deep) (contents_no_text wrong),
+        enter_stop h.region h.lands.target h.lands.above h.lands.below h.lands.aligned (levels_allow s.depth some.levels h.deep) (contents_no_text wrong),
   ))
 
   module _ (new : List Work) (lt : 0 < size) where
@@ -210,3 +248,9 @@ is_true b e = e
 
 pub not_err : {A : Type 0} (x : A) (e : Error) → ◌≡◌ {A = Result A Error} (Ok x) (Err e) → ⊥
 not_err x e is = cc
+
+pub empty_size : (z : ℕ) → IsTrue (nat_eq z 0) → z ≡ 0
+empty_size z t = grind (arith, nat_tests)
+
+pub some_size : (z : ℕ) → nat_eq z 0 ≡ false → 0 < z
+some_size z t = let some : z ≢ 0 = grind (arith, nat_tests) in omega arith

@@ -1,11 +1,11 @@
 -- A shared pointer is followed: what the context answers, and what is left to do.
-use Rattle.std.proofs.Common.{◌≡◌, ◌≢◌, ◌⊎◌, inl, inr, ℕ, ℤ, pos, negsuc, ◌+ℤ◌, refl, sym, ap, ◌∙◌, ◌<◌, ◌≤◌, Bool, true, false, IsTrue, List, [], ◌∷◌, Option, Some, None, Result, Ok, Err, OnOk, IfErr}
+use Rattle.std.proofs.Common.{◌≡◌, ◌⊎◌, inl, inr, ℕ, ℤ, pos, negsuc, ◌+ℤ◌, refl, sym, ap, ◌∙◌, ◌<◌, Bool, true, false, IsTrue, List, ◌∷◌, Option, Some, None, Result, Err, OnSome, IfNone}
 use Rattle.std.proofs.Common.{◌≤ℤ◌, nat_abs, arith}
 use Rattle.std.proofs.lemmas.Int.{ints}
 use Rattle.std.specs.Int.{FitsUnsigned}
 use Rattle.archive_check.specs.declared.validation.ValidationState.{ValidationState}
 use mir.Syntax.{w64}
-use Rattle.std.specs.FinMap.{get, insert}
+use Rattle.std.specs.FinMap.{insert}
 use Rattle.archive_check.specs.declared.error.Error.{Error}
 use Rattle.archive_check.specs.declared.error.Error.TheVariants.{CyclicValidate, TypeMismatch, MetadataMismatch}
 use Rattle.archive_check.specs.declared.plan.Target.{Target}
@@ -14,13 +14,13 @@ use Rattle.archive_check.specs.declared.plan.Checker.{Checker}
 use Rattle.archive_check.specs.declared.work.Work.{Work}
 use Rattle.archive_check.specs.declared.work.Work.TheVariants.{Finish}
 use Rattle.archive_check.specs.Ranges.{RangeState}
-use Rattle.archive_check.specs.Met.{Met, Positions, SameType, IsStartAnswer, started}
+use Rattle.archive_check.specs.Met.{Met, Positions, IsStartAnswer, started}
 use Rattle.archive_check.specs.Reads.{i32_at}
 use Rattle.archive_check.specs.Tour.{Seen, Entry}
 use Rattle.archive_check.specs.Trail.{Fault, cyclic, other_type, other_length}
-use Rattle.archive_check.specs.Runs.{Outcome, done, refused, IsAt, count_at, length_of, entry_for, EnterRuns, FollowRuns, follow_before, follow_new, follow_again, follow_type, follow_length, follow_cycle, ListRuns}
-use Rattle.archive_check.specs.Turns.{Stage, stage, pending_in, Agrees, Agreeing, Then, and_then, stops, Listing, Entering, Following, Leads, Refuses, IsStopped}
-use Rattle.archive_check.proofs.Meeting.{agrees_same, SeenAs, seen_as, met_none, agrees_new, started_again}
+use Rattle.archive_check.specs.Runs.{Outcome, refused, IsAt, count_at, length_of, entry_for, EnterRuns, FollowRuns, follow_before, follow_new, follow_again, follow_type, follow_length, follow_cycle}
+use Rattle.archive_check.specs.Turns.{Stage, stage, pending_in, Agreeing, Then, and_then, stops, Entering, Following, Leads, Refuses, Keeps, IsStopped}
+use Rattle.archive_check.proofs.Meeting.{levels_of, agrees_same, SeenAs, seen_as, met_none, agrees_new, started_again}
 use Rattle.archive_check.proofs.Turning.{turn_new}
 
 module _ (m : Checker) (s : RangeState) (met : Positions) (old : List Work) (k j p n l : ℕ) (target : Target) (z : ℤ) (sort : Sort)
@@ -82,14 +82,13 @@ module _ (m : Checker) (s : RangeState) (met : Positions) (old : List Work) (k j
       pub refuses_new : (e : Error) → IsStopped m target j n z s1 e → Refuses (Following m k target j p) (stage s met old) e
       refuses_new e (inl memory) = inl memory
       refuses_new e (inr stopped) = inr (λ seen a.
-          let f = (rw same at stopped) a.levels in
+          let f = (rw same at stopped) (levels_of a) in
           (f.0, f.1, following (stops (refused_by f.2 seen a z refl))))
 
       -- no region is entered behind a position that isn't one of the buffer's
-      pub follow_nowhere : (x : Stage) (result : Result (Unit {0}) Error) → (OnOk result ⊥) → IfErr result (λ e. IsStopped m target j n z s1 e)
-          → OnOk result (Leads m (Following m k target j p) (stage s met old) x) × IfErr result (λ e. Refuses (Following m k target j p) (stage s met old) e)
-      follow_nowhere x (Ok u) never stopped = absurd never
-      follow_nowhere x (Err e) never stopped = (tt, refuses_new e stopped)
+      pub follow_nowhere : (x : Stage) (fault : Error) (result : Option (Unit {0})) → (OnSome result ⊥) → IfNone result (IsStopped m target j n z s1 fault) → Keeps m (Following m k target j p) (stage s met old) x result fault
+      follow_nowhere x fault (Some u) never stopped = absurd never
+      follow_nowhere x fault None never stopped = (tt, refuses_new fault stopped)
 
       module _ (t : ℕ) (target_is : z ≡ pos t) (mid : List Work) (list : mid ≡ Finish k t ∷ old) where
         entered_leads : (x : Stage) → Leads m (Entering m target j n z) (stage s1 met1 mid) x → Leads m (Following m k target j p) (stage s met old) x
@@ -100,10 +99,9 @@ module _ (m : Checker) (s : RangeState) (met : Positions) (old : List Work) (k j
             let go = leads (insert seen t here) more in
             (go.0, go.1, λ o r. following (turn_new m at target_is none (rw (same, list) at (go.2 o r))))
 
-        pub follow_started : (x : Stage) (result : Result (Unit {0}) Error) → OnOk result (Leads m (Entering m target j n z) (stage s1 met1 mid) x) → IfErr result (λ e. IsStopped m target j n z s1 e)
-            → OnOk result (Leads m (Following m k target j p) (stage s met old) x) × IfErr result (λ e. Refuses (Following m k target j p) (stage s met old) e)
-        follow_started x (Ok u) leads stopped = (entered_leads x leads, tt)
-        follow_started x (Err e) leads stopped = (tt, refuses_new e stopped)
+        pub follow_started : (x : Stage) (fault : Error) (result : Option (Unit {0})) → OnSome result (Leads m (Entering m target j n z) (stage s1 met1 mid) x) → IfNone result (IsStopped m target j n z s1 fault) → Keeps m (Following m k target j p) (stage s met old) x result fault
+        follow_started x fault (Some u) leads stopped = (entered_leads x leads, tt)
+        follow_started x fault None leads stopped = (tt, refuses_new fault stopped)
 
 pub answer_of : (o : Option Met) (e : Entry) {r r' : Result ValidationState Error} → r ≡ r' → IsStartAnswer o e r → IsStartAnswer o e r'
 answer_of o e is h = rw is at h
@@ -117,6 +115,6 @@ index_of (negsuc t) b least is = absurd (omega (arith, ints))
 fits_index : (z : ℤ) (t : ℕ) → z ≡ pos t → t < 18446744073709551616 → FitsUnsigned w64 z
 fits_index z t is small = rw is (omega (arith, ints), omega (arith, ints))
 
-pub nowhere : (r : Result (Unit {0}) Error) (z : ℤ) → (FitsUnsigned w64 z → ⊥) → OnOk r ((t : ℕ) × (z ≡ pos t) × (t < 18446744073709551616)) → OnOk r ⊥
-nowhere (Ok u) z not (t, is, small) = not (fits_index z t is small)
-nowhere (Err e) z not h = tt
+pub nowhere : (r : Option (Unit {0})) (z : ℤ) → (FitsUnsigned w64 z → ⊥) → OnSome r ((t : ℕ) × (z ≡ pos t) × (t < 18446744073709551616)) → OnSome r ⊥
+nowhere (Some u) z not (t, is, small) = not (fits_index z t is small)
+nowhere None z not h = tt

@@ -1,5 +1,5 @@
 -- Which bytes in a buffer are a leaf, byte by byte.
-use Rattle.std.proofs.Common.{◌≡◌, ◌≢◌, ◌⊎◌, inl, inr, ℕ, zero, suc, ◌+◌, ◌-◌, ◌*◌, ◌^◌, ◌<◌, ◌≤◌, arith, refl, sym, ap, ◌∙◌, List, length, slice_index, take, drop, Bool, true, false, IsTrue, nat_lt, nat_eq, ◌==◌}
+use Rattle.std.proofs.Common.{◌≡◌, ◌≢◌, ◌⊎◌, inl, inr, ℕ, zero, suc, ◌+◌, ◌-◌, ◌*◌, ◌^◌, ◌<◌, ◌≤◌, arith, refl, sym, ap, ◌∙◌, List, length, slice_index, Bool, true, false, IsTrue, nat_lt, nat_eq}
 use Rattle.std.proofs.lemmas.Bool.Decides.{nat_tests}
 use Rattle.std.proofs.lemmas.Grind.{common_steps}
 use Rattle.std.specs.Int.{Width, w8, w16, w32, w64, w128, byte_len, byte_worth, sum_through}
@@ -9,7 +9,7 @@ use Rattle.archive_check.specs.declared.expr.IntegerKind.{IntegerKind}
 use Rattle.archive_check.specs.declared.error.Error.TheVariants.{ZeroNumber}
 use Rattle.archive_check.specs.Expressions.{kind_of}
 use Rattle.archive_check.specs.Faults.{illegal_error}
-use Rattle.archive_check.specs.Shape.{Sign, Kind, unit, bool, char, number, non_zero, raw_rel}
+use Rattle.archive_check.specs.Shape.{Sign, bool, char, non_zero}
 use Rattle.archive_check.specs.Layout.{kind_size}
 use Rattle.archive_check.specs.Reads.{bytes_at, u32_at, kind_number, IsLegal, IsLegalNumber}
 use Rattle.archive_check.proofs.BytesAt.{bytes_one}
@@ -99,25 +99,28 @@ legal_non_zero s w bytes p n e room =
 abbrev pub IsAny : KindExpr → Type 0
 IsAny kind = (kind ≡ expr.Unit) ⊎ ((x : IntegerKind) × (kind ≡ expr.Number x)) ⊎ ((x : IntegerKind) × (kind ≡ expr.RawRel x))
 
+legal_of : (kind : KindExpr) (xs : List ℕ) → length xs ≡ kind_size (kind_of kind) → IsAny kind → IsLegal (kind_of kind) xs
+legal_of expr.Unit xs long any = record { size = long; number = tt }
+legal_of (expr.Number x) xs long any = record { size = long; number = tt }
+legal_of (expr.RawRel x) xs long any = record { size = long; number = tt }
+legal_of expr.Bool xs long (inl e) = cc
+legal_of expr.Bool xs long (inr (inl (x, e))) = cc
+legal_of expr.Bool xs long (inr (inr (x, e))) = cc
+legal_of expr.Char xs long (inl e) = cc
+legal_of expr.Char xs long (inr (inl (x, e))) = cc
+legal_of expr.Char xs long (inr (inr (x, e))) = cc
+legal_of (expr.NonZero y) xs long (inl e) = cc
+legal_of (expr.NonZero y) xs long (inr (inl (x, e))) = cc
+legal_of (expr.NonZero y) xs long (inr (inr (x, e))) = cc
+
 pub legal_any : (kind : KindExpr) (bytes : List ℕ) (p : ℕ) → p + kind_size (kind_of kind) ≤ length bytes → IsAny kind → IsLegal (kind_of kind) (bytes_at bytes p (kind_size (kind_of kind)))
-legal_any expr.Unit bytes p room any = record { size = bytes_long bytes p _ room; number = tt }
-legal_any (expr.Number x) bytes p room any = record { size = bytes_long bytes p _ room; number = tt }
-legal_any (expr.RawRel x) bytes p room any = record { size = bytes_long bytes p _ room; number = tt }
-legal_any expr.Bool bytes p room (inl e) = cc
-legal_any expr.Bool bytes p room (inr (inl (x, e))) = cc
-legal_any expr.Bool bytes p room (inr (inr (x, e))) = cc
-legal_any expr.Char bytes p room (inl e) = cc
-legal_any expr.Char bytes p room (inr (inl (x, e))) = cc
-legal_any expr.Char bytes p room (inr (inr (x, e))) = cc
-legal_any (expr.NonZero y) bytes p room (inl e) = cc
-legal_any (expr.NonZero y) bytes p room (inr (inl (x, e))) = cc
-legal_any (expr.NonZero y) bytes p room (inr (inr (x, e))) = cc
+legal_any kind bytes p room any = legal_of kind (bytes_at bytes p (kind_size (kind_of kind))) (bytes_long bytes p (kind_size (kind_of kind)) room) any
 
 -- what else isn't legal is 0
-pub illegal_zero : (kind : KindExpr) (bytes : List ℕ) (p : ℕ) → p + kind_size (kind_of kind) ≤ length bytes → (kind ≡ expr.Bool → ⊥) → (kind ≡ expr.Char → ⊥) → (IsLegal (kind_of kind) (bytes_at bytes p (kind_size (kind_of kind))) → ⊥) → ZeroNumber ≡ illegal_error (kind_of kind)
-illegal_zero expr.Unit bytes p room a b not = absurd (not (legal_any expr.Unit bytes p room (inl refl)))
-illegal_zero (expr.Number x) bytes p room a b not = absurd (not (legal_any (expr.Number x) bytes p room (inr (inl (x, refl)))))
-illegal_zero (expr.RawRel x) bytes p room a b not = absurd (not (legal_any (expr.RawRel x) bytes p room (inr (inr (x, refl)))))
-illegal_zero expr.Bool bytes p room a b not = absurd (a refl)
-illegal_zero expr.Char bytes p room a b not = absurd (b refl)
-illegal_zero (expr.NonZero x) bytes p room a b not = refl
+pub illegal_zero : (kind : KindExpr) (xs : List ℕ) → length xs ≡ kind_size (kind_of kind) → (kind ≡ expr.Bool → ⊥) → (kind ≡ expr.Char → ⊥) → (IsLegal (kind_of kind) xs → ⊥) → ZeroNumber ≡ illegal_error (kind_of kind)
+illegal_zero expr.Unit xs long a b not = absurd (not (legal_of expr.Unit xs long (inl refl)))
+illegal_zero (expr.Number x) xs long a b not = absurd (not (legal_of (expr.Number x) xs long (inr (inl (x, refl)))))
+illegal_zero (expr.RawRel x) xs long a b not = absurd (not (legal_of (expr.RawRel x) xs long (inr (inr (x, refl)))))
+illegal_zero expr.Bool xs long a b not = absurd (a refl)
+illegal_zero expr.Char xs long a b not = absurd (b refl)
+illegal_zero (expr.NonZero x) xs long a b not = refl

@@ -1,6 +1,5 @@
 pub mod BytesAt
 pub mod Landing
-pub mod Leaves
 pub mod Encodings
 pub mod Revises
 pub mod RevisedTour
@@ -81,3 +80,6 @@ pub mod Said
 pub mod Suiting
 pub mod ClosedAgain
 pub mod Archives
+pub mod Skipping
+pub mod Passing
+pub mod Unshared

@@ -1,22 +1,19 @@
 -- What a context met agrees with what is seen, call by call.
-use Rattle.std.proofs.Common.{◌≡◌, ◌≢◌, ◌⊎◌, inl, inr, ℕ, zero, suc, ℤ, pos, negsuc, refl, sym, ap, ◌∙◌, subst, ◌+◌, ◌-◌, ◌<◌, ◌≤◌, ◌==◌, nat_lt, nat_eq, cond, Bool, true, false, IsTrue, arith, List, [], ◌∷◌, length, slice_index_or, Option, Some, None, option_map, Result, Ok, Err, Contains}
+use Rattle.std.proofs.Common.{◌≡◌, ◌≢◌, ◌⊎◌, inl, inr, ℕ, zero, suc, ℤ, pos, negsuc, refl, sym, ap, ◌∙◌, ◌+◌, ◌-◌, ◌<◌, ◌==◌, nat_eq, cond, Bool, true, false, arith, List, [], ◌∷◌, Option, Some, None, option_map, Ok, Contains}
 use Rattle.std.proofs.lemmas.Bool.Decides.{nat_tests, Decides-int_eq, Decides-eqb}
 use Rattle.std.proofs.lemmas.Map.{update_same, update_other}
 use Rattle.std.proofs.lemmas.Cmp.{nat_cmp_total}
 use Rattle.std.specs.Bool.{Decides}
 use Rattle.std.specs.Cmp.{unsigned_tied}
 use Rattle.std.specs.Map.{update}
-use Rattle.std.specs.Ordering.{nat_cmp, int_eq, eq_by_cmp}
+use Rattle.std.specs.Ordering.{nat_cmp, int_eq}
 use Rattle.std.specs.FinMap.{get, insert, empty, get-empty, get-insert}
-use Rattle.archive_check.specs.declared.error.Error.{Error}
-use Rattle.archive_check.specs.declared.error.Error.TheVariants.{OutOfMemory, TypeMismatch, MetadataMismatch, RangePoppedOutOfOrder, RangePoppedTooManyTimes}
-use Rattle.archive_check.specs.declared.validation.ValidationState.TheVariants.{Started, Pending, Finished}
 use Rattle.archive_check.specs.Depth.{Allows, inside}
-use Rattle.archive_check.specs.Ranges.{RangeState, one_less, one_more, is_full, pop_answer}
-use Rattle.archive_check.specs.Met.{Met, Positions, SameType, IsStartAnswer, started_at, started, finished, finish_answer}
+use Rattle.archive_check.specs.Ranges.{RangeState, one_less, one_more}
+use Rattle.archive_check.specs.Met.{Met, Positions, started_at, started, finished, finish_answer}
 use Rattle.archive_check.specs.Tour.{Seen, Entry}
 use Rattle.archive_check.specs.Fresh.{IsFresh}
-use Rattle.archive_check.specs.Turns.{AreOnce, Agrees}
+use Rattle.archive_check.specs.Turns.{Agrees, HasLevels}
 
 -- lists
 
@@ -83,6 +80,9 @@ agrees_same same h = record {
   levels = h.levels;
   few = h.few;
 }
+
+pub levels_of : {d : Option ℕ} {met : Positions} {pd : List ℕ} {r : ℕ} {seen : Seen} → Agrees d met pd r seen → HasLevels d
+levels_of a = record { levels = a.levels; few = λ k is. let most = a.few k is in omega arith }
 
 pub agrees_fresh : (s : RangeState) (met : Positions) → IsFresh s met → Agrees s.depth met [] 0 empty
 agrees_fresh s met f = record {
@@ -202,9 +202,6 @@ module _ {d : Option ℕ} {met : Positions} {pd : List ℕ} {r : ℕ} {seen : Se
       inside_few (Some k) n a few e = let less : k - 1 ≡ n = cc in let most = few k refl in omega arith
 
 module _ {d : Option ℕ} {met : Positions} {t : ℕ} {rest : List ℕ} {r : ℕ} {seen : Seen} (h : Agrees d met (t ∷ rest) r seen) where
-  over_of : Met → Met
-  over_of old = record { entry = old.entry; finished = true }
-
   -- the shared position that was started last is finished
   pub agrees_finished : Agrees d (finished met (pos t)) rest r seen
   agrees_finished = record {
@@ -236,16 +233,6 @@ module _ {d : Option ℕ} {met : Positions} {t : ℕ} {rest : List ℕ} {r : ℕ
         | None ↦ λ none. absurd (h.known t (contains_head t rest) none)
         | Some e ↦ λ some. ap finish_answer (h.begun t e some (contains_head t rest))
       ] refl
-
-full_not : (d : Option ℕ) (r : ℕ) → ((k : ℕ) → d ≡ Some k → k + (1 + r) < 18446744073709551616) → is_full d ≡ false
-full_not None r few = refl
-full_not (Some k) r few = let most = few k refl in false_of (k == 18446744073709551615) (k ≡ 18446744073709551615) (Decides-eqb k 18446744073709551615) (λ e. omega arith)
-
-pop_fine_by : (s : RangeState) (x : ℕ) → nat_lt x s.end ≡ false → is_full s.depth ≡ false → pop_answer s x ≡ Ok tt
-pop_fine_by s x below full = rw (below, full) refl
-
-pub pop_fine : (s : RangeState) (x r : ℕ) {met : Positions} {pd : List ℕ} {seen : Seen} → s.end ≤ x → Agrees s.depth met pd (1 + r) seen → pop_answer s x ≡ Ok tt
-pop_fine s x r below h = pop_fine_by s x (false_of (nat_lt x s.end) (x < s.end) (λ e. grind (arith, nat_tests), λ q. absurd (omega arith)) (λ q. omega arith)) (full_not s.depth r h.few)
 
 -- a level more, in a region less
 pub agrees_outside : (r : ℕ) {d : Option ℕ} {met : Positions} {pd : List ℕ} {seen : Seen} → Agrees d met pd (1 + r) seen → Agrees (one_more d) met pd r seen

@@ -1,5 +1,5 @@
 -- From the root to the end of the list.
-use Rattle.std.proofs.Common.{◌≡◌, ◌⊎◌, inl, inr, ℕ, ℤ, pos, sym, refl, List, [], ◌∷◌, ◌++◌, length, reverse, arith}
+use Rattle.std.proofs.Common.{◌≡◌, ◌⊎◌, inl, inr, ℕ, ℤ, pos, refl, List, [], ◌∷◌, length, arith}
 use Rattle.std.specs.FinMap.{empty}
 use Rattle.archive_check.specs.declared.error.Error.{Error}
 use Rattle.archive_check.specs.declared.error.Error.TheVariants.{OutOfMemory}
@@ -37,7 +37,7 @@ module _ (m : Checker) (s : RangeState) (met : Positions) (root at : ℕ) where
 
     pub root_refuses : (e : Error) → IsStopped m One root 1 z s e → RefusesRoot e
     root_refuses e (inl memory) = inl memory
-    root_refuses e (inr stopped) = inr (λ fresh. let f = stopped fresh.levels in (f.0, f.1, rw same at (f.2 [] empty)))
+    root_refuses e (inr stopped) = inr (λ fresh. let f = stopped (record { levels = fresh.levels; few = fresh.few }) in (f.0, f.1, rw same at (f.2 [] empty)))
 
   module _ (s' : RangeState) (met' : Positions) (work : List Work) (h : LeadsBack (stage s' met' work)) where
     pub root_ends : work ≡ [] → IsFresh s met → (last : ℕ) × (known : Seen) × Rooted (done last known)

@@ -1,11 +1,9 @@
 -- Each turn of the list is a rule of the run.
-use Rattle.std.proofs.Common.{◌≡◌, ◌≢◌, ◌⊎◌, inl, inr, ℕ, ℤ, pos, ◌+ℤ◌, refl, sym, ap, ◌∙◌, subst, ◌+◌, ◌-◌, ◌*◌, ◌%◌, ◌<◌, ◌≤◌, arith, List, [], ◌∷◌, length, Option, Some, None, Result, Ok, Err, IsUtf8, OnOk, IfErr, slice_index, Bor}
+use Rattle.std.proofs.Common.{◌≡◌, ◌≢◌, ℕ, ℤ, pos, ◌+ℤ◌, refl, sym, ap, ◌+◌, ◌-◌, ◌*◌, ◌%◌, ◌<◌, ◌≤◌, arith, List, [], ◌∷◌, length, Option, Some, None, slice_index, Bor}
 use Rattle.std.specs.FinMap.{get, insert}
-use Rattle.archive_check.specs.declared.error.Error.{Error}
-use Rattle.archive_check.specs.declared.error.Error.TheVariants.{OutOfMemory}
 use Rattle.archive_check.specs.declared.plan.Target.{Target}
 use Rattle.archive_check.specs.declared.plan.Target.TheVariants.{One, Run, Text}
-use Rattle.archive_check.specs.declared.plan.Job.TheVariants.{Free, Leaf, Record, Choice, Array, Pointer as PointerJob, Str, Shared, Weak}
+use Rattle.archive_check.specs.declared.plan.Job.TheVariants.{Free, Record, Choice, Array, Pointer as PointerJob, Str, Shared, Weak}
 use Rattle.archive_check.specs.declared.plan.Part.{Part}
 use Rattle.archive_check.specs.declared.plan.Span.{Span}
 use Rattle.archive_check.specs.declared.plan.Sort.{Sort}
@@ -13,10 +11,9 @@ use Rattle.archive_check.specs.declared.plan.Checker.{Checker}
 use Rattle.archive_check.specs.declared.work.Work.{Work}
 use Rattle.archive_check.specs.declared.work.Work.TheVariants.{Part as PartWork, Parts, Elements, Leave, Finish}
 use Rattle.archive_check.specs.Depth.{Allows, inside}
-use Rattle.archive_check.specs.Reads.{bytes_at, u32_at, i32_at, IsLegal, IsOutOfLine, before_end, decoded_length}
+use Rattle.archive_check.specs.Reads.{u32_at, i32_at, IsOutOfLine, decoded_length}
 use Rattle.archive_check.specs.Tour.{Seen}
-use Rattle.archive_check.specs.Trail.{Fault, no_such_variant}
-use Rattle.archive_check.specs.Runs.{Outcome, done, refused, IsAt, IsNode, Takes, RegionIs, count_at, length_of, entry_for, NodeRuns, run_free, run_leaf, run_record, run_choice, run_tag, run_array, run_pointer, run_inline, run_out_of_line, run_shared, run_weak, FollowRuns, follow_new, PartsRun, parts_end, parts_next, parts_stop, ElementsRun, elements_end, elements_next, elements_free, elements_stop, EnterRuns, enter_within, enter_stop, ContentsRun, contents_empty, contents_one, contents_run, contents_text, ListRuns, list_end, list_part, list_part_stop, list_parts, list_parts_stop, list_elements, list_elements_stop, list_leave, list_finish}
+use Rattle.archive_check.specs.Runs.{Outcome, IsAt, IsNode, Takes, RegionIs, count_at, length_of, entry_for, run_record, run_choice, run_array, run_pointer, run_out_of_line, run_shared, run_weak, FollowRuns, follow_new, parts_end, parts_next, parts_stop, elements_end, elements_next, elements_free, elements_stop, EnterRuns, enter_within, enter_stop, contents_one, contents_run, ListRuns, list_end, list_part, list_part_stop, list_parts, list_parts_stop, list_elements, list_elements_stop, list_leave, list_finish}
 use Rattle.archive_check.specs.Turns.{Then, and_then, stops}
 
 -- one level of depth is got back
@@ -60,16 +57,18 @@ module _ (m : Checker) where
   turn_parts lt at (list_part v (list_parts_stop vs)) = list_parts_stop (parts_next lt at v vs)
   turn_parts lt at (list_part_stop v) = list_parts_stop (parts_stop lt at v)
 
-  pub turn_parts_end : {pd : List ℕ} {d : Option ℕ} {e a b p s : ℕ} {k : Seen} {o : Outcome} {w : List Work} → b ≤ a → ListRuns m pd d e w s k o → ListRuns m pd d e (Parts a b p ∷ w) s k o
-  turn_parts_end h r = list_parts (parts_end h) r
-
   pub turn_elements : {pd : List ℕ} {d : Option ℕ} {e j n z p s : ℕ} {k : Seen} {o : Outcome} {w : List Work} → 0 < n → Takes m j z → ListRuns m pd d e (PartWork j p ∷ Elements j (n - 1) (p + z) ∷ w) s k o → ListRuns m pd d e (Elements j n p ∷ w) s k o
   turn_elements lt at (list_part v (list_elements vs r)) = list_elements (elements_next lt at v vs) r
   turn_elements lt at (list_part v (list_elements_stop vs)) = list_elements_stop (elements_next lt at v vs)
   turn_elements lt at (list_part_stop v) = list_elements_stop (elements_stop lt v)
 
-  pub turn_elements_end : {pd : List ℕ} {d : Option ℕ} {e j n p s : ℕ} {k : Seen} {o : Outcome} {w : List Work} → n ≡ 0 → ListRuns m pd d e w s k o → ListRuns m pd d e (Elements j n p ∷ w) s k o
-  turn_elements_end h r = list_elements (elements_end h) r
+  pub turn_part_last : {pd : List ℕ} {d : Option ℕ} {e a b p s : ℕ} {k : Seen} {o : Outcome} {w : List Work} {x : Part} → a < b → b ≤ a + 1 → IsAt m.parts.now a x → ListRuns m pd d e (PartWork x.node (p + x.offset) ∷ w) s k o → ListRuns m pd d e (Parts a b p ∷ w) s k o
+  turn_part_last lt ge at (list_part v r) = list_parts (parts_next lt at v (parts_end ge)) r
+  turn_part_last lt ge at (list_part_stop v) = list_parts_stop (parts_stop lt at v)
+
+  pub turn_element_last : {pd : List ℕ} {d : Option ℕ} {e j n z p s : ℕ} {k : Seen} {o : Outcome} {w : List Work} → 0 < n → n - 1 ≡ 0 → Takes m j z → ListRuns m pd d e (PartWork j p ∷ w) s k o → ListRuns m pd d e (Elements j n p ∷ w) s k o
+  turn_element_last lt none at (list_part v r) = list_elements (elements_next lt at v (elements_end none)) r
+  turn_element_last lt none at (list_part_stop v) = list_elements_stop (elements_stop lt v)
 
   pub turn_elements_free : {pd : List ℕ} {d : Option ℕ} {e j n p z s : ℕ} {k : Seen} {o : Outcome} {w : List Work} → IsNode m j Free → Takes m j z → p + n * z ≤ length m.bytes.now → ListRuns m pd d e w s k o → ListRuns m pd d e (Elements j n p ∷ w) s k o
   turn_elements_free h at fits r = list_elements (elements_free h at fits) r
@@ -84,12 +83,6 @@ module _ (m : Checker) where
   pub enter_run : {pd : List ℕ} {d : Option ℕ} {e j n z align t s : ℕ} {k : Seen} {o : Outcome} {w : List Work} → RegionIs m j n (Some z) align → s ≤ t → t + z ≤ e → t % align ≡ 0 → Allows d 1 → 0 < z → ListRuns m pd (inside d) t (Elements j n t ∷ Leave (t + z) e ∷ w) s k o → Then m pd d e (EnterRuns m pd d e Run j n (pos t) s k) w o
   enter_run reg above below aligned deep lt (list_elements v (list_leave same r)) = and_then (enter_within reg refl above below aligned deep (contents_run lt v)) (outer_same deep same r)
   enter_run reg above below aligned deep lt (list_elements_stop v) = stops (enter_stop reg refl above below aligned deep (contents_run lt v))
-
-  pub enter_text : {pd : List ℕ} {d : Option ℕ} {e j n z align t s : ℕ} {k : Seen} {o : Outcome} {w : List Work} → RegionIs m j n (Some z) align → s ≤ t → t + z ≤ e → t % align ≡ 0 → Allows d 1 → IsUtf8 (bytes_at m.bytes.now t z) → ListRuns m pd (inside d) t (Leave (t + z) e ∷ w) s k o → Then m pd d e (EnterRuns m pd d e Text j n (pos t) s k) w o
-  enter_text reg above below aligned deep utf (list_leave same r) = and_then (enter_within reg refl above below aligned deep (contents_text utf)) (outer_same deep same r)
-
-  pub enter_empty : {pd : List ℕ} {d : Option ℕ} {e j n z align t s : ℕ} {k : Seen} {o : Outcome} {w : List Work} {target : Target} → RegionIs m j n (Some z) align → s ≤ t → t + z ≤ e → t % align ≡ 0 → Allows d 1 → z ≡ 0 → ListRuns m pd (inside d) t (Leave (t + z) e ∷ w) s k o → Then m pd d e (EnterRuns m pd d e target j n (pos t) s k) w o
-  enter_empty reg above below aligned deep none (list_leave same r) = and_then (enter_within reg refl above below aligned deep (contents_empty none)) (outer_same deep same r)
 
   -- a list that begins with the end of a shared position runs within it
   record Finishing (pd : List ℕ) (d : Option ℕ) (e t : ℕ) (w : List Work) (s : ℕ) (k : Seen) (o : Outcome) : Type 0 where

@@ -21,7 +21,6 @@ pub mod Revised
 pub mod Plain
 pub mod Laws
 pub mod Definitions
-pub mod LeafFaults
 pub mod LeafLayout
 pub mod Readable
 pub mod Ranges
@@ -34,12 +33,13 @@ pub mod Told
 pub mod Schemas
 pub mod Names
 pub mod Sizes
-pub mod Faults
 pub mod Runs
+pub mod Represents
+pub mod Lists
+pub mod Closed
+pub mod Faults
 pub mod Fitting
 pub mod Growing
-pub mod Closed
-pub mod Represents
 pub mod Counts
 pub mod Queued
 pub mod Compiled
@@ -51,3 +51,4 @@ pub mod Viewed
 pub mod Archives
 pub mod Entries
 pub mod Pooled
+pub mod Unshared

@@ -1,5 +1,5 @@
 -- What each turn of the check keeps, and why the turns end.
-use Rattle.std.specs.Prelude.{◌≡◌, ◌≢◌, ◌⊎◌, ℕ, zero, suc, ◌+◌, ◌-◌, ◌*◌, ◌<◌, ◌≤◌, max, ℤ, pos, negsuc, ◌+ℤ◌, List, [], ◌∷◌, length, Option, Some, None, Result, OnOk, IfErr, Contains, true, false}
+use Rattle.std.specs.Prelude.{◌≡◌, ◌≢◌, ◌⊎◌, ℕ, zero, suc, ◌+◌, ◌-◌, ◌*◌, ◌<◌, ◌≤◌, max, ℤ, pos, negsuc, ◌+ℤ◌, List, [], ◌∷◌, length, Option, Some, None, OnSome, IfNone, Contains, true, false}
 use Rattle.std.specs.FinMap.{get}
 use Rattle.archive_check.specs.declared.error.Error.{Error}
 use Rattle.archive_check.specs.declared.error.Error.TheVariants.{OutOfMemory}
@@ -13,8 +13,12 @@ use Rattle.archive_check.specs.Ranges.{RangeState}
 use Rattle.archive_check.specs.Met.{Positions}
 use Rattle.archive_check.specs.Tour.{Seen, Entry}
 use Rattle.archive_check.specs.Trail.{Fault}
-use Rattle.archive_check.specs.Reads.{i32_at}
-use Rattle.archive_check.specs.Runs.{Outcome, done, refused, Takes, count_at, length_of, EnterRuns, FollowRuns, ListRuns}
+use Rattle.archive_check.specs.declared.expr.Kind.{Kind as KindExpr}
+use Rattle.archive_check.specs.declared.plan.Job.TheVariants.{Free, Leaf}
+use Rattle.archive_check.specs.Expressions.{kind_of}
+use Rattle.archive_check.specs.Layout.{kind_size}
+use Rattle.archive_check.specs.Reads.{bytes_at, i32_at, IsLegal}
+use Rattle.archive_check.specs.Runs.{Outcome, done, refused, Takes, count_at, length_of, IsAt, IsNode, NodeRuns, ContentsRun, EnterRuns, FollowRuns, ListRuns}
 use Rattle.archive_check.specs.Closed.{span}
 use Rattle.archive_check.specs.Faults.{IsFor}
 
@@ -29,16 +33,19 @@ abbrev pub PartsHere : Checker → ℕ → List Part → Type 0
 PartsHere m p [] = Unit {0}
 PartsHere m p (x ∷ xs) = ((y : ℕ) × Takes m x.node y × (p + x.offset + y ≤ length m.bytes.now)) × PartsHere m p xs
 
+-- the node i has a size, and lies in the bytes at p
 pub record PartFits (m : Checker) (i p : ℕ) : Type 0 where
   pub size : ℕ
   pub takes : Takes m i size
   pub fits : p + size ≤ length m.bytes.now
 
+-- so do the parts from a up to b, of what begins at p
 pub record PartsFit (m : Checker) (a b p : ℕ) : Type 0 where
   pub last : b ≤ length m.parts.now
   pub few : b < 18446744073709551616
   pub here : PartsHere m p (span m.parts.now a b)
 
+-- so do n of the node j, one after another
 pub record ElementsFit (m : Checker) (j n p : ℕ) : Type 0 where
   pub size : ℕ
   pub few : n < 18446744073709551616
@@ -100,9 +107,11 @@ pub record Stage : Type 0 where
   pub met : Positions
   pub work : List Work
 
+-- the range, the positions and the list, as one
 abbrev pub stage : RangeState → Positions → List Work → Stage
 stage s met work = record { range = s; met = met; work = work }
 
+-- the context agrees with what is seen and what the list holds
 abbrev pub Agreeing : Stage → Seen → Type 0
 Agreeing x seen = Agrees x.range.depth x.met (pending_in x.work) (regions_in x.work) seen
 
@@ -135,15 +144,39 @@ Leads m Before x y = (seen : Seen) → Agreeing x seen → (last : Seen) × Agre
 abbrev pub Refuses : (Stage → Seen → Outcome → Type 0) → Stage → Error → Type 0
 Refuses Before x e = (e ≡ OutOfMemory) ⊎ ((seen : Seen) → Agreeing x seen → (f : Fault) × IsFor f e × Before x seen (refused f))
 
--- a turn from one stage to the next, or to a refusal
-abbrev pub Keeps : Checker → (Stage → Seen → Outcome → Type 0) → Stage → Stage → Result (Unit {0}) Error → Type 0
-Keeps m Before x y result = OnOk result (Leads m Before x y) × IfErr result (λ e. Refuses Before x e)
+-- a turn from one stage to the next, or (None) to a refusal
+abbrev pub Keeps : Checker → (Stage → Seen → Outcome → Type 0) → Stage → Stage → Option (Unit {0}) → Error → Type 0
+Keeps m Before x y result fault = OnSome result (Leads m Before x y) × IfNone result (Refuses Before x fault)
 
--- a region isn't entered, whatever is seen and pending, where levels are left
+-- levels are left, and no more than a number holds
+pub record HasLevels (depth : Option ℕ) : Type 0 where
+  pub levels : depth ≢ Some 0
+  pub few : (d : ℕ) → depth ≡ Some d → d < 18446744073709551616
+
+-- a region isn't entered, whatever is seen and pending
 abbrev pub IsStopped : Checker → Target → ℕ → ℕ → ℤ → RangeState → Error → Type 0
 IsStopped m target j n where_to s e =
     (e ≡ OutOfMemory)
-    ⊎ (s.depth ≢ Some 0 → (f : Fault) × IsFor f e × ((pending : List ℕ) (seen : Seen) → EnterRuns m pending s.depth s.end target j n where_to s.start seen (refused f)))
+    ⊎ (HasLevels s.depth → (f : Fault) × IsFor f e × ((pending : List ℕ) (seen : Seen) → EnterRuns m pending s.depth s.end target j n where_to s.start seen (refused f)))
+
+-- what a region of n holds, z bytes at t, is legal as it lies, and leads nowhere
+abbrev pub Passes : Checker → Target → ℕ → ℕ → ℕ → ℕ → Type 0
+Passes m target j n z t = (pending : List ℕ) (depth : Option ℕ) (start : ℕ) (seen : Seen) → ContentsRun m pending depth target j n z t start seen (done start seen)
+
+-- The node at p is legal as it lies, and leads nowhere.
+abbrev pub Stays : Checker → ℕ → ℕ → Type 0
+Stays m i p = (pending : List ℕ) (depth : Option ℕ) (stop start : ℕ) (seen : Seen) → NodeRuns m pending depth stop i p start seen (done start seen)
+
+-- the node at p is a leaf that is legal, or may be any bytes
+pub data LiesLegal (m : Checker) (i p : ℕ) : Type 0 where
+  lies_free : IsNode m i Free → LiesLegal m i p
+  lies_leaf : {kind : KindExpr} → IsNode m i (Leaf kind) → IsLegal (kind_of kind) (bytes_at m.bytes.now p (kind_size (kind_of kind))) → LiesLegal m i p
+
+-- the part k of what begins at p is legal as it lies, and leads nowhere
+pub record PartStays (m : Checker) (p k : ℕ) : Type 0 where
+  pub part : Part
+  pub at : IsAt m.parts.now k part
+  pub stays : Stays m part.node (p + part.offset)
 
 -- a number that grows threefold at each step
 unfoldable pub power : ℕ → ℕ

@@ -1,28 +1,31 @@
 //! The check of bytes against a plan: a list of what is left to check, and no recursion.
 
-ghost use Rattle.std.specs.Prelude.{◌≡◌, ◌⊎◌, ◌+◌, ◌<◌, ◌≤◌, ◌∷◌, ℕ, [], pos, None, length, reverse, OnOk, IfErr};
+ghost use Rattle.std.specs.Prelude.{◌≡◌, ◌⊎◌, ◌+◌, ◌*◌, ◌<◌, ◌≤◌, ◌∷◌, ℕ, [], pos, None, length, slice_index, OnOk, IfErr, OnSome, IfSome, IfNone, IsTrue, IsUtf8, Some, ◌≢◌, false};
+ghost use Rattle.archive_check.specs.Reads.{bytes_at};
+ghost use Rattle.std.specs.FinMap.{empty};
 ghost use Rattle.archive_check.specs.declared.error.Error.TheVariants.{OutOfMemory};
 ghost use Rattle.archive_check.specs.declared.plan.Job.TheVariants.{Str};
-ghost use Rattle.archive_check.specs.declared.plan.Target.TheVariants.{One};
+ghost use Rattle.archive_check.specs.declared.plan.Target.TheVariants.{One, Text};
 ghost use Rattle.archive_check.specs.declared.work.Work.TheVariants.{Part as PartWork};
+ghost use Rattle.archive_check.specs.declared.plan.Part.{Part};
 ghost use Rattle.archive_check.specs.Tour.{Seen};
-ghost use Rattle.std.specs.FinMap.{empty};
 ghost use Rattle.archive_check.specs.Trail.{Fault};
-ghost use Rattle.archive_check.specs.Runs.{times as times_of, count_at, length_of, target_size, IsNode, EnterRuns, done, refused};
+ghost use Rattle.archive_check.specs.Runs.{times as times_of, count_at, length_of, target_size, IsAt, IsNode, Takes, RegionIs, EnterRuns, done, refused};
+ghost use Rattle.archive_check.specs.Lists.{list_of};
 ghost use Rattle.archive_check.specs.Closed.{IsClosed};
 ghost use Rattle.archive_check.specs.Faults.{IsFor};
 ghost use Rattle.archive_check.specs.Fresh.{IsFresh};
-ghost use Rattle.archive_check.specs.Turns.{PointeeFits, Ready, stage, Listing, Entering, Following, Leads, Keeps, IsStopped, power, level, cost};
+ghost use Rattle.archive_check.specs.Turns.{PointeeFits, Passes, PartFits, PartsFit, ElementsFit, Stays, PartStays, LiesLegal, Ready, stage, Listing, Entering, Following, Leads, Keeps, IsStopped, power, level, cost};
 
 use crate::bytes::{
     inline_length, is_out_of_line, is_text, read_coded_length, read_i32, read_position, read_u32,
 };
 use crate::error::Error;
 use crate::layout::Layout;
-use crate::leaf::check_leaf;
-use crate::plan::{Checker, Job, Target};
+use crate::leaf::{illegal, is_legal};
+use crate::plan::{Checker, Job, Span, Target};
 use crate::validation::{ArchiveContext, SharedContext, ValidationState};
-use crate::work::Work;
+use crate::work::{Work, Worklist};
 use std::alloc::Global;
 use std::ops::Range;
 
@@ -44,15 +47,6 @@ fn place(position: i128) -> usize
     position as usize
 }
 
-/// One entry more.
-fn push(work: &mut Vec<Work>, entry: Work) -> Result<(), Error>
-    ensures ok { OnOk result (reverse work.new.items ≡ entry ∷ reverse work.old.items) }
-    ensures err { IfErr result (λ e. e ≡ OutOfMemory) }
-{
-    work.push(entry)?;
-    Ok(())
-}
-
 impl Checker<'_> {
     /// How many there are behind the pointer at `at`.
     fn count(&self, target: Target, at: usize) -> usize
@@ -65,7 +59,7 @@ impl Checker<'_> {
         }
     }
 
-    /// The length that stands in the pointer at `at`.
+    /// The length that stands in the pointer at `at`: 0 for one value.
     fn length(&self, target: Target, at: usize) -> usize
         requires { at + target_size target ≤ length self.now.bytes.now }
         ensures { result ≡ length_of self.now.bytes.now at target }
@@ -76,219 +70,255 @@ impl Checker<'_> {
         }
     }
 
-    /// Enters a region of so many of the pointee.
+    /// The variant that the tag at `at` names, of those from `first` up to `last`.
+    fn variant(&self, first: usize, last: usize, at: usize) -> Option<Span>
+        requires within { at < length self.now.bytes.now }
+        requires last { last ≤ length self.now.variants.now }
+        ensures some { IfSome result (λ x. (first + slice_index self.now.bytes.now at < last) × IsAt self.now.variants.now (first + slice_index self.now.bytes.now at) x) }
+        ensures none { IfNone result (last ≤ first + slice_index self.now.bytes.now at) }
+    {
+        let tag = self.bytes[at] as usize;
+        if tag >= last.saturating_sub(first) {
+            return None;
+        }
+        Some(self.variants[first + tag])
+    }
+
+    /// Whether the node at `at` is a leaf that is legal, or any bytes.
+    fn stays(&self, node: usize, at: usize) -> bool
+        requires closed { IsClosed self.now }
+        requires fits { PartFits self.now node at }
+        ensures stays { IsTrue result → Stays self.now node at }
+        ensures opened { LiesLegal self.now node at → IsTrue result }
+    {
+        let here = self.nodes[node];
+        match here.job {
+            Job::Free => true,
+            Job::Leaf(kind) => is_legal(kind, self.bytes, at),
+            _ => false,
+        }
+    }
+
+    /// The first of the parts from `first` up to `last`, of what begins at `base`, that is to be opened; `last` where none is.
+    fn skip(&self, first: usize, last: usize, base: usize) -> usize
+        requires closed { IsClosed self.now }
+        requires fits { PartsFit self.now first last base }
+        ensures below { result ≤ last }
+        ensures above { result < last → first ≤ result }
+        ensures opened { (x : Part) → result < last → IsAt self.now.parts.now result x → LiesLegal self.now x.node (base + x.offset) → ⊥ }
+        ensures skipped { (k : ℕ) → first ≤ k → k < result → PartStays self.now base k }
+    {
+        for index in first..last {
+            let part = self.parts[index];
+            if !self.stays(part.node, base + part.offset) {
+                return index;
+            }
+        }
+        last
+    }
+
+    /// How many of the elements at `at`, each of `size` bytes, come before the first that is to be opened; `count` where none is.
+    fn pass(&self, node: usize, count: usize, at: usize, size: usize) -> usize
+        requires closed { IsClosed self.now }
+        requires fits { ElementsFit self.now node count at }
+        requires size { Takes self.now node size }
+        ensures below { result ≤ count }
+        ensures opened { result < count → LiesLegal self.now node (at + result * size) → ⊥ }
+        ensures passed { (k : ℕ) → k < result → Stays self.now node (at + k * size) }
+    {
+        for index in 0..count {
+            if !self.stays(node, at + index * size) {
+                return index;
+            }
+        }
+        count
+    }
+
+    /// Whether the region of so many of the pointee at `begin` is legal as it lies and leads nowhere. `None` where it is a text, and isn't UTF-8.
+    fn contents(
+        &self,
+        target: Target,
+        pointee: usize,
+        count: usize,
+        begin: usize,
+        size: usize,
+    ) -> Option<bool>
+        requires region { (align : ℕ) × RegionIs self.now pointee count (Some size) align }
+        requires pointee { PointeeFits self.now target pointee count }
+        requires within { begin + size ≤ length self.now.bytes.now }
+        ensures passed { IfSome result (λ passed. IsTrue passed → Passes self.now target pointee count size begin) }
+        ensures walked { IfSome result (λ passed. passed ≡ false → (0 < size) × (target ≢ Text)) }
+        ensures none { IfNone result ((target ≡ Text) × (IsUtf8 (bytes_at self.now.bytes.now begin size) → ⊥)) }
+    {
+        if let Target::Text = target {
+            if !is_text(self.bytes, begin, size) {
+                return None;
+            }
+            return Some(true);
+        }
+        let here = self.nodes[pointee];
+        if let Job::Free = here.job {
+            return Some(true);
+        }
+        Some(size == 0)
+    }
+
+    /// Enters a region of so many of the pointee, to be left behind what it leads to, or at once.
     fn enter<C: ArchiveContext>(
         &self,
         target: Target,
         pointee: usize,
         count: usize,
         position: i128,
-        work: &mut Vec<Work>,
+        work: &mut Worklist,
         context: &mut C,
-    ) -> Result<(), Error>
+    ) -> Option<()>
         requires closed { IsClosed self.now }
-        requires ready { Ready self.now (C.state context.old) (reverse work.old.items) }
+        requires ready { Ready self.now (C.state context.old) (list_of work.old) }
         requires pointee { PointeeFits self.now target pointee count }
-        ensures ready { OnOk result (Ready self.now (C.state context.new) (reverse work.new.items)) }
-        ensures runs { OnOk result (Leads self.now (Entering self.now target pointee count position) (stage (C.state context.old) (C.positions context.old) (reverse work.old.items)) (stage (C.state context.new) (C.positions context.new) (reverse work.new.items))) }
-        ensures inside { OnOk result ((t : ℕ) × (position ≡ pos t) × (t < 18446744073709551616)) }
-        ensures stopped { IfErr result (λ e. IsStopped self.now target pointee count position (C.state context.old) e) }
-        ensures ends { OnOk result (cost self.now (C.state context.new).end (reverse work.new.items) ≤ power (level (length self.now.nodes.now) (C.state context.old).end 0 0) + cost self.now (C.state context.old).end (reverse work.old.items)) }
+        ensures ready { OnSome result (Ready self.now (C.state context.new) (list_of work.new)) }
+        ensures runs { OnSome result (Leads self.now (Entering self.now target pointee count position) (stage (C.state context.old) (C.positions context.old) (list_of work.old)) (stage (C.state context.new) (C.positions context.new) (list_of work.new))) }
+        ensures inside { OnSome result ((t : ℕ) × (position ≡ pos t) × (t < 18446744073709551616)) }
+        ensures stopped { IfNone result (IsStopped self.now target pointee count position (C.state context.old) work.new.fault) }
+        ensures ends { OnSome result (cost self.now (C.state context.new).end (list_of work.new) ≤ power (level (length self.now.nodes.now) (C.state context.old).end 0 0) + cost self.now (C.state context.old).end (list_of work.old)) }
     {
         let node = self.nodes[pointee];
         let Some(size) = times(node.size, count) else {
-            return Err(Error::LayoutTooLarge);
+            return work.refuse(Error::LayoutTooLarge);
         };
         let layout = Layout {
             size,
             align: node.align,
         };
         if let Err(error) = context.check_subtree_ptr(position, &layout) {
-            return Err(error);
+            return work.refuse(error);
         }
         let begin = place(position);
         let range = match context.push_subtree_range(begin, begin + size) {
-            Err(error) => return Err(error),
+            Err(error) => return work.refuse(error),
             Ok(range) => range,
         };
-        push(
-            work,
-            Work::Leave {
-                start: range.start,
-                end: range.end,
-            },
-        )?;
-        if size == 0 {
-            return Ok(());
+        let Some(passed) = self.contents(target, pointee, count, begin, size) else {
+            return work.refuse(Error::InvalidUtf8);
+        };
+        if passed {
+            if let Err(error) = context.pop_subtree_range(range) {
+                return work.refuse(error);
+            }
+            return Some(());
         }
+        work.leave(range)?;
         match target {
-            Target::Text => {
-                if !is_text(self.bytes, begin, size) {
-                    return Err(Error::InvalidUtf8);
-                }
-                Ok(())
-            }
-            Target::One => {
-                push(
-                    work,
-                    Work::Part {
-                        node: pointee,
-                        at: begin,
-                    },
-                )?;
-                Ok(())
-            }
-            Target::Run => {
-                push(
-                    work,
-                    Work::Elements {
-                        node: pointee,
-                        left: count,
-                        at: begin,
-                    },
-                )?;
-                Ok(())
-            }
+            Target::One => work.part(pointee, begin),
+            _ => work.elements(pointee, count, begin),
         }
     }
 
-    /// Opens a string.
+    /// Opens the string at `at`.
     fn open_text<C: ArchiveContext>(
         &self,
         node: usize,
         at: usize,
         pointee: usize,
-        work: &mut Vec<Work>,
+        work: &mut Worklist,
         context: &mut C,
-    ) -> Result<(), Error>
+    ) -> Option<()>
         requires closed { IsClosed self.now }
-        requires ready { Ready self.now (C.state context.old) (PartWork node at ∷ reverse work.old.items) }
+        requires ready { Ready self.now (C.state context.old) (PartWork node at ∷ list_of work.old) }
         requires job { IsNode self.now node (Str pointee) }
-        ensures ready { OnOk result (Ready self.now (C.state context.new) (reverse work.new.items)) }
-        ensures runs { Keeps self.now (Listing self.now) (stage (C.state context.old) (C.positions context.old) (PartWork node at ∷ reverse work.old.items)) (stage (C.state context.new) (C.positions context.new) (reverse work.new.items)) result }
-        ensures ends { OnOk result (cost self.now (C.state context.new).end (reverse work.new.items) < cost self.now (C.state context.old).end (PartWork node at ∷ reverse work.old.items)) }
+        ensures ready { OnSome result (Ready self.now (C.state context.new) (list_of work.new)) }
+        ensures runs { Keeps self.now (Listing self.now) (stage (C.state context.old) (C.positions context.old) (PartWork node at ∷ list_of work.old)) (stage (C.state context.new) (C.positions context.new) (list_of work.new)) result work.new.fault }
+        ensures ends { OnSome result (cost self.now (C.state context.new).end (list_of work.new) < cost self.now (C.state context.old).end (PartWork node at ∷ list_of work.old)) }
     {
         if is_out_of_line(self.bytes, at) {
             let length = read_coded_length(self.bytes, at);
             if length <= 8 {
-                return Err(Error::InvalidStringRepr);
+                return work.refuse(Error::InvalidStringRepr);
             }
             let position = read_position(self.bytes, at, at + 4);
-            self.enter(Target::Text, pointee, length, position, work, context)
-        } else {
-            let length = inline_length(self.bytes, at);
-            if is_text(self.bytes, at, length) {
-                Ok(())
-            } else {
-                Err(Error::InvalidUtf8)
-            }
+            return self.enter(Target::Text, pointee, length, position, work, context);
         }
+        let length = inline_length(self.bytes, at);
+        if !is_text(self.bytes, at, length) {
+            return work.refuse(Error::InvalidUtf8);
+        }
+        Some(())
     }
 
-    /// Follows the shared pointer at `at`.
+    /// Follows the shared pointer at `at`. What lies at a position that was met before isn't checked again.
     fn follow<C: ArchiveContext + SharedContext>(
         &self,
         sort: usize,
         target: Target,
         pointee: usize,
         at: usize,
-        work: &mut Vec<Work>,
+        work: &mut Worklist,
         context: &mut C,
-    ) -> Result<(), Error>
+    ) -> Option<()>
         requires closed { IsClosed self.now }
-        requires ready { Ready self.now (C.state context.old) (reverse work.old.items) }
+        requires ready { Ready self.now (C.state context.old) (list_of work.old) }
         requires within { at + target_size target ≤ length self.now.bytes.now }
         requires sort { sort < length self.now.sorts.now }
         requires pointee { pointee < length self.now.nodes.now }
-        ensures ready { OnOk result (Ready self.now (C.state context.new) (reverse work.new.items)) }
-        ensures runs { Keeps self.now (Following self.now sort target pointee at) (stage (C.state context.old) (C.positions context.old) (reverse work.old.items)) (stage (C.state context.new) (C.positions context.new) (reverse work.new.items)) result }
-        ensures ends { OnOk result (cost self.now (C.state context.new).end (reverse work.new.items) ≤ 1 + (power (level (length self.now.nodes.now) (C.state context.old).end 0 0) + cost self.now (C.state context.old).end (reverse work.old.items))) }
+        ensures ready { OnSome result (Ready self.now (C.state context.new) (list_of work.new)) }
+        ensures runs { Keeps self.now (Following self.now sort target pointee at) (stage (C.state context.old) (C.positions context.old) (list_of work.old)) (stage (C.state context.new) (C.positions context.new) (list_of work.new)) result work.new.fault }
+        ensures ends { OnSome result (cost self.now (C.state context.new).end (list_of work.new) ≤ 1 + (power (level (length self.now.nodes.now) (C.state context.old).end 0 0) + cost self.now (C.state context.old).end (list_of work.old))) }
     {
         let count = self.count(target, at);
         let length = self.length(target, at);
         let position = read_position(self.bytes, at, at);
         let kind = &self.sorts[sort];
         match context.start_shared(&kind.flavor, &kind.pointee, position, length) {
-            Err(error) => Err(error),
+            Err(error) => work.refuse(error),
             Ok(ValidationState::Started) => {
                 let Ok(begin) = usize::try_from(position) else {
                     return self.enter(target, pointee, count, position, work, context);
                 };
-                push(work, Work::Finish { sort, at: begin })?;
+                work.finish(sort, begin)?;
                 self.enter(target, pointee, count, position, work, context)
             }
             Ok(ValidationState::Pending) => {
-                if kind.flavor.cycles {
-                    Ok(())
-                } else {
-                    Err(Error::CyclicValidate)
+                if !kind.flavor.cycles {
+                    return work.refuse(Error::CyclicValidate);
                 }
+                Some(())
             }
-            Ok(ValidationState::Finished) => Ok(()),
+            Ok(ValidationState::Finished) => Some(()),
         }
     }
 
-    /// Opens a node.
+    /// Opens the node at `at`.
     fn open<C: ArchiveContext + SharedContext>(
         &self,
         node: usize,
         at: usize,
-        work: &mut Vec<Work>,
+        work: &mut Worklist,
         context: &mut C,
-    ) -> Result<(), Error>
+    ) -> Option<()>
         requires closed { IsClosed self.now }
-        requires ready { Ready self.now (C.state context.old) (PartWork node at ∷ reverse work.old.items) }
-        ensures ready { OnOk result (Ready self.now (C.state context.new) (reverse work.new.items)) }
-        ensures runs { Keeps self.now (Listing self.now) (stage (C.state context.old) (C.positions context.old) (PartWork node at ∷ reverse work.old.items)) (stage (C.state context.new) (C.positions context.new) (reverse work.new.items)) result }
-        ensures ends { OnOk result (cost self.now (C.state context.new).end (reverse work.new.items) < cost self.now (C.state context.old).end (PartWork node at ∷ reverse work.old.items)) }
+        requires ready { Ready self.now (C.state context.old) (PartWork node at ∷ list_of work.old) }
+        ensures ready { OnSome result (Ready self.now (C.state context.new) (list_of work.new)) }
+        ensures runs { Keeps self.now (Listing self.now) (stage (C.state context.old) (C.positions context.old) (PartWork node at ∷ list_of work.old)) (stage (C.state context.new) (C.positions context.new) (list_of work.new)) result work.new.fault }
+        ensures ends { OnSome result (cost self.now (C.state context.new).end (list_of work.new) < cost self.now (C.state context.old).end (PartWork node at ∷ list_of work.old)) }
     {
         let here = self.nodes[node];
         match here.job {
-            Job::Free => Ok(()),
+            Job::Free => Some(()),
             Job::Leaf(kind) => {
-                if let Err(error) = check_leaf(kind, self.bytes, at) {
-                    return Err(error);
+                if !is_legal(kind, self.bytes, at) {
+                    return work.refuse(illegal(kind));
                 }
-                Ok(())
+                Some(())
             }
-            Job::Record { first, last } => {
-                push(
-                    work,
-                    Work::Parts {
-                        first,
-                        last,
-                        base: at,
-                    },
-                )?;
-                Ok(())
-            }
+            Job::Record { first, last } => work.parts(first, last, at),
             Job::Choice { name, first, last } => {
-                let tag = self.bytes[at];
-                if tag as usize >= last.saturating_sub(first) {
-                    return Err(Error::InvalidDiscriminant { name, value: tag });
-                }
-                let variant = self.variants[first + tag as usize];
-                push(
-                    work,
-                    Work::Parts {
-                        first: variant.first,
-                        last: variant.last,
-                        base: at,
-                    },
-                )?;
-                Ok(())
+                let Some(variant) = self.variant(first, last, at) else {
+                    let value = self.bytes[at];
+                    return work.refuse(Error::InvalidDiscriminant { name, value });
+                };
+                work.parts(variant.first, variant.last, at)
             }
-            Job::Array { count, element } => {
-                push(
-                    work,
-                    Work::Elements {
-                        node: element,
-                        left: count,
-                        at,
-                    },
-                )?;
-                Ok(())
-            }
+            Job::Array { count, element } => work.elements(element, count, at),
             Job::Pointer { target, pointee } => {
                 let count = self.count(target, at);
                 let position = read_position(self.bytes, at, at);
@@ -306,82 +336,63 @@ impl Checker<'_> {
                 pointee,
             } => {
                 if read_i32(self.bytes, at) == 1 {
-                    return Ok(());
+                    return Some(());
                 }
                 self.follow(sort, target, pointee, at, work, context)
             }
         }
     }
 
-    /// Takes one entry.
+    /// Takes one entry of the list.
     fn step<C: ArchiveContext + SharedContext>(
         &self,
         entry: Work,
-        work: &mut Vec<Work>,
+        work: &mut Worklist,
         context: &mut C,
-    ) -> Result<(), Error>
+    ) -> Option<()>
         requires closed { IsClosed self.now }
-        requires ready { Ready self.now (C.state context.old) (entry ∷ reverse work.old.items) }
-        ensures ready { OnOk result (Ready self.now (C.state context.new) (reverse work.new.items)) }
-        ensures runs { Keeps self.now (Listing self.now) (stage (C.state context.old) (C.positions context.old) (entry ∷ reverse work.old.items)) (stage (C.state context.new) (C.positions context.new) (reverse work.new.items)) result }
-        ensures ends { OnOk result (cost self.now (C.state context.new).end (reverse work.new.items) < cost self.now (C.state context.old).end (entry ∷ reverse work.old.items)) }
+        requires ready { Ready self.now (C.state context.old) (entry ∷ list_of work.old) }
+        ensures ready { OnSome result (Ready self.now (C.state context.new) (list_of work.new)) }
+        ensures runs { Keeps self.now (Listing self.now) (stage (C.state context.old) (C.positions context.old) (entry ∷ list_of work.old)) (stage (C.state context.new) (C.positions context.new) (list_of work.new)) result work.new.fault }
+        ensures ends { OnSome result (cost self.now (C.state context.new).end (list_of work.new) < cost self.now (C.state context.old).end (entry ∷ list_of work.old)) }
     {
         match entry {
             Work::Part { node, at } => self.open(node, at, work, context),
             Work::Parts { first, last, base } => {
-                if first >= last {
-                    return Ok(());
+                let next = self.skip(first, last, base);
+                if next >= last {
+                    return Some(());
                 }
-                let part = self.parts[first];
-                push(
-                    work,
-                    Work::Parts {
-                        first: first + 1,
-                        last,
-                        base,
-                    },
-                )?;
-                push(
-                    work,
-                    Work::Part {
-                        node: part.node,
-                        at: base + part.offset,
-                    },
-                )?;
-                Ok(())
+                let part = self.parts[next];
+                work.more_parts(next + 1, last, base)?;
+                self.open(part.node, base + part.offset, work, context)
             }
             Work::Elements { node, left, at } => {
-                if left == 0 {
-                    return Ok(());
-                }
                 let element = self.nodes[node];
                 if let Job::Free = element.job {
-                    return Ok(());
+                    return Some(());
                 }
                 let size = element.size.unwrap_or(0);
-                push(
-                    work,
-                    Work::Elements {
-                        node,
-                        left: left - 1,
-                        at: at + size,
-                    },
-                )?;
-                push(work, Work::Part { node, at })?;
-                Ok(())
+                let passed = self.pass(node, left, at, size);
+                if passed == left {
+                    return Some(());
+                }
+                let next = at + passed * size;
+                work.more_elements(node, left - passed - 1, next + size)?;
+                self.open(node, next, work, context)
             }
             Work::Leave { start, end } => {
                 if let Err(error) = context.pop_subtree_range(Range { start, end }) {
-                    return Err(error);
+                    return work.refuse(error);
                 }
-                Ok(())
+                Some(())
             }
             Work::Finish { sort, at } => {
                 let kind = &self.sorts[sort];
                 if let Err(error) = context.finish_shared(&kind.flavor, &kind.pointee, at as i128) {
-                    return Err(error);
+                    return work.refuse(error);
                 }
-                Ok(())
+                Some(())
             }
         }
     }
@@ -400,14 +411,14 @@ impl Checker<'_> {
         ensures ok { OnOk result (IsFresh (C.state context.old) (C.positions context.old) → (last : ℕ) × (known : Seen) × EnterRuns self.now [] (C.state context.old).depth (C.state context.old).end One root 1 (pos at) (C.state context.old).start empty (done last known)) }
         ensures err { IfErr result (λ e. (e ≡ OutOfMemory) ⊎ (IsFresh (C.state context.old) (C.positions context.old) → (f : Fault) × IsFor f e × EnterRuns self.now [] (C.state context.old).depth (C.state context.old).end One root 1 (pos at) (C.state context.old).start empty (refused f))) }
     {
-        let mut work = Vec::new(alloc);
-        if let Err(error) = self.enter(Target::One, root, 1, at as i128, &mut work, context) {
-            return Err(error);
-        }
+        let mut work = Worklist::new(alloc);
+        let Some(()) = self.enter(Target::One, root, 1, at as i128, &mut work, context) else {
+            return Err(work.fault());
+        };
         while let Some(entry) = work.pop() {
-            if let Err(error) = self.step(entry, &mut work, context) {
-                return Err(error);
-            }
+            let Some(()) = self.step(entry, &mut work, context) else {
+                return Err(work.fault());
+            };
         }
         Ok(())
     }

@@ -1,11 +1,11 @@
 // The calls on a range, the refusals' texts, and what bytes are read as.
 
-use crate::bytes;
 use crate::error::Error;
 use crate::expr::{Defs, Expr, IntegerKind, Kind};
 use crate::layout::Layout;
 use crate::traits::{ArchivePointee, Portable};
 use crate::validation::{ArchiveContext, ArchiveValidator};
+use crate::{bytes, leaf};
 use std::ops::Range;
 use std::test::Fail;
 
@@ -125,6 +125,14 @@ fn bytes_are_read(rt: HostRuntime) -> Result<(), Fail> {
     Ok(())
 }
 
+// Whether the bytes are a leaf of the kind, or their refusal.
+fn leaf_of(kind: Kind, bytes: &[u8]) -> Result<(), Error> {
+    if bytes.len() != kind.size() || leaf::is_legal(kind, bytes, 0) {
+        return Ok(());
+    }
+    Err(leaf::illegal(kind))
+}
+
 #[test]
 fn leaves_have_sizes_and_legal_bytes(rt: HostRuntime) -> Result<(), Fail> {
     let sizes = [
@@ -155,11 +163,7 @@ fn leaves_have_sizes_and_legal_bytes(rt: HostRuntime) -> Result<(), Fail> {
         (Kind::Number(IntegerKind::U16), "\0\0", Ok(())),
     ];
     for (kind, bytes, answer) in rows {
-        assert_eq!(rt;
-            bytes::check_leaf(kind, bytes.as_bytes(), 0),
-            answer,
-            "{kind:?}"
-        );
+        assert_eq!(rt; leaf_of(kind, bytes.as_bytes()), answer, "{kind:?}");
     }
     Ok(())
 }
@@ -187,4 +191,21 @@ fn expressions_are_compared_as_written(rt: HostRuntime) {
     );
     assert_ne!(rt; Expr::Leaf(Kind::Number(IntegerKind::U32)), Expr::Str);
     let _ = Defs::new(rt.alloc());
+}
+
+#[test]
+fn leaves_are_told_by_their_bytes(rt: HostRuntime) -> Result<(), Fail> {
+    use crate::expr::{IntegerKind, Kind};
+    use crate::leaf::is_legal;
+
+    assert!(rt; is_legal(Kind::Bool, &[1], 0));
+    assert!(rt; !is_legal(Kind::Bool, &[2], 0));
+    assert!(rt; is_legal(Kind::Char, &[0, 0xff, 0xff, 0x10, 0], 1));
+    assert!(rt; !is_legal(Kind::Char, &[0x00, 0xd8, 0, 0], 0));
+    assert!(rt; !is_legal(Kind::Char, &[0, 0, 0x11, 0], 0));
+    assert!(rt; is_legal(Kind::NonZero(IntegerKind::U16), &[0, 1], 0));
+    assert!(rt; !is_legal(Kind::NonZero(IntegerKind::I32), &[0, 0, 0, 0], 0));
+    assert!(rt; is_legal(Kind::Number(IntegerKind::I32), &[0, 0, 0, 0], 0));
+    assert!(rt; is_legal(Kind::Unit, &[], 0));
+    Ok(())
 }

@@ -1,5 +1,12 @@
 //! What is left to check.
 
+ghost use Rattle.std.specs.Prelude.{◌≡◌, ◌≤◌, ◌∷◌, [], None, OnSome, IfSome, IfNone};
+ghost use Rattle.archive_check.specs.Lists.{list_of, IsMore};
+
+use crate::error::Error;
+use std::alloc::Global;
+use std::ops::Range;
+
 /// One thing that is left to check. Places are in bytes from the buffer's first one.
 #[derive(Debug, Clone, Copy)]
 pub enum Work {
@@ -30,4 +37,126 @@ pub enum Work {
         sort: usize,
         at: usize,
     },
+}
+
+/// What is left to check, the next on top, and the refusal of a check that stopped. The calls that stop a check answer `None` alone, since a
+/// refusal is wide.
+#[derive(Drop)]
+pub struct Worklist {
+    entries: Vec<Work>,
+    fault: Error,
+}
+
+impl Worklist {
+    /// Nothing is left. Memory comes from `alloc`, and none is taken yet.
+    pub fn new(alloc: Global) -> Worklist
+        ensures { list_of result ≡ [] }
+    {
+        Worklist {
+            entries: Vec::new(alloc),
+            fault: Error::OutOfMemory,
+        }
+    }
+
+    /// The next entry, which is left no more.
+    pub fn pop(&mut self) -> Option<Work>
+        ensures next { IfSome result (λ entry. list_of self.old ≡ entry ∷ list_of self.new) }
+        ensures over { IfNone result (list_of self.old ≡ []) }
+    {
+        self.entries.pop()
+    }
+
+    /// Why the check stopped.
+    pub fn fault(&self) -> Error
+        ensures { result ≡ self.now.fault }
+    {
+        self.fault
+    }
+
+    /// Stops the check.
+    #[cold]
+    #[inline(never)]
+    pub fn refuse(&mut self, fault: Error) -> Option<()>
+        ensures none { result ≡ None }
+        ensures fault { self.new.fault ≡ fault }
+    {
+        self.fault = fault;
+        None
+    }
+
+    /// One entry more. Refused with 1 where memory is refused.
+    fn push(&mut self, entry: Work) -> Option<()>
+        ensures some { OnSome result (list_of self.new ≡ entry ∷ list_of self.old) }
+        ensures none { IfNone result (self.new.fault ≡ Error.OutOfMemory) }
+    {
+        if self.entries.push(entry).is_err() {
+            return self.refuse(Error::OutOfMemory);
+        }
+        Some(())
+    }
+
+    /// The node at `at` is left. Refused with 1 where memory is refused, as are the next ones.
+    pub fn part(&mut self, node: usize, at: usize) -> Option<()>
+        ensures some { OnSome result (list_of self.new ≡ Work.Part node at ∷ list_of self.old) }
+        ensures none { IfNone result (self.new.fault ≡ Error.OutOfMemory) }
+    {
+        self.push(Work::Part { node, at })
+    }
+
+    /// The parts from `first` up to `last` are left, of what begins at `base`.
+    pub fn parts(&mut self, first: usize, last: usize, base: usize) -> Option<()>
+        ensures some { OnSome result (list_of self.new ≡ Work.Parts first last base ∷ list_of self.old) }
+        ensures none { IfNone result (self.new.fault ≡ Error.OutOfMemory) }
+    {
+        self.push(Work::Parts { first, last, base })
+    }
+
+    /// So many elements are left, the next of them at `at`.
+    pub fn elements(&mut self, node: usize, left: usize, at: usize) -> Option<()>
+        ensures some { OnSome result (list_of self.new ≡ Work.Elements node left at ∷ list_of self.old) }
+        ensures none { IfNone result (self.new.fault ≡ Error.OutOfMemory) }
+    {
+        self.push(Work::Elements { node, left, at })
+    }
+
+    /// What `parts` leaves, where there are any.
+    pub fn more_parts(&mut self, first: usize, last: usize, base: usize) -> Option<()>
+        ensures some { OnSome result (IsMore (Work.Parts first last base) (last ≤ first) (list_of self.new) (list_of self.old)) }
+        ensures none { IfNone result (self.new.fault ≡ Error.OutOfMemory) }
+    {
+        if first < last {
+            self.parts(first, last, base)?;
+        }
+        Some(())
+    }
+
+    /// What `elements` leaves, where there are any.
+    pub fn more_elements(&mut self, node: usize, left: usize, at: usize) -> Option<()>
+        ensures some { OnSome result (IsMore (Work.Elements node left at) (left ≡ 0) (list_of self.new) (list_of self.old)) }
+        ensures none { IfNone result (self.new.fault ≡ Error.OutOfMemory) }
+    {
+        if left > 0 {
+            self.elements(node, left, at)?;
+        }
+        Some(())
+    }
+
+    /// A region is to be left, and the range will be this one.
+    pub fn leave(&mut self, range: Range<usize>) -> Option<()>
+        ensures some { OnSome result (list_of self.new ≡ Work.Leave range.start range.end ∷ list_of self.old) }
+        ensures none { IfNone result (self.new.fault ≡ Error.OutOfMemory) }
+    {
+        self.push(Work::Leave {
+            start: range.start,
+            end: range.end,
+        })
+    }
+
+    /// The shared position `at` is to be finished.
+    pub fn finish(&mut self, sort: usize, at: usize) -> Option<()>
+        ensures some { OnSome result (list_of self.new ≡ Work.Finish sort at ∷ list_of self.old) }
+        ensures none { IfNone result (self.new.fault ≡ Error.OutOfMemory) }
+    {
+        self.push(Work::Finish { sort, at })
+    }
 }

@@ -1,4 +1,4 @@
-use Rattle.std.proofs.Common.{◌≡◌, ◌≤◌, ◌+◌, ◌<◌, ℕ, arith, inl, inr, length, ap, sym, IsTrue, nat_le, refl}
+use Rattle.std.proofs.Common.{◌≤◌, ◌<◌, ℕ, arith, inl, inr, IsTrue, nat_le, refl}
 use Rattle.std.proofs.lemmas.Bool.Decides.{nat_tests}
 use Rattle.archive_check.specs.Shape.{char}
 use Rattle.archive_check.specs.Reads.{IsLegalNumber}
@@ -44,7 +44,7 @@ returns-else-code-ge57344 c =
 pub returns-in-NonZero : goal.returns-in-NonZero
 returns-in-NonZero c =
     let r = rw c.in-NonZero.is at c.requires in
-    let l = legal_non_zero (sign_of c.in-NonZero.integer) (width_of c.in-NonZero.integer) c.args.bytes.now c.args.at c.width.result c.width.ensures r in
+    let l = legal_non_zero (sign_of c.in-NonZero.integer) (width_of c.in-NonZero.integer) c.args.bytes.now c.args.at c.size.result c.size.ensures r in
     rw c.in-NonZero.is (λ t. l.0 (c.has_bits.ensures.0 t), λ h. c.has_bits.ensures.1 (l.1 h))
 
 pub returns-in-Unit : goal.returns-in-Unit

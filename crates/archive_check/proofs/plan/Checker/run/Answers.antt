@@ -1,11 +1,18 @@
-use Rattle.std.proofs.Common.{◌≡◌, ◌≤◌, ℕ, List, [], ◌∷◌, length, reverse, arith, ap, ◌∙◌, pos, to_z}
+use Rattle.std.proofs.Common.{◌≡◌, arith, pos, to_z}
 use Rattle.std.proofs.lemmas.Int.{to_z_pos}
-use Rattle.std.proofs.lemmas.List.{reverse-append}
 use mir.Syntax.{w128}
-use Rattle.archive_check.specs.declared.work.Work.{Work}
+use Rattle.archive_check.specs.Lists.{list_of}
 use Rattle.archive_check.specs.Turns.{stage}
-use Rattle.archive_check.proofs.Running.{root_leads, root_ends, turn_leads, turn_refuses, nil_of}
+use Rattle.archive_check.proofs.Running.{root_leads, root_refuses, root_ends, turn_leads, turn_refuses}
 use Rattle.archive_check.proofs.plan.Checker.run.Goals as goal
+
+pub returns-in_default-clause-err : goal.returns-in_default-clause-err
+returns-in_default-clause-err g c =
+    let m = c.args.self.now in
+    let st = g.C.Context.state in
+    let met = g.C.Context.positions in
+    let at : to_z w128 c.args.at ≡ pos c.args.at = to_z_pos w128 c.args.at (omega (arith, c.ranges.at.fits)) in
+    rw c.fault.ensures (root_refuses m (st c.args.context.now) (met c.args.context.now) c.args.root c.args.at (to_z w128 c.args.at) at c.enter.new.work.fault c.in_default.ensures.stopped)
 
 pub loop-entry-init : goal.loop-entry-init
 loop-entry-init g c =
@@ -13,32 +20,29 @@ loop-entry-init g c =
     let st = g.C.Context.state in
     let met = g.C.Context.positions in
     let at : to_z w128 c.args.at ≡ pos c.args.at = to_z_pos w128 c.args.at (omega (arith, c.ranges.at.fits)) in (
-      c.in_default.ensures.ready,
-      root_leads m (st c.args.context.now) (met c.args.context.now) c.args.root c.args.at (to_z w128 c.args.at) at (reverse c.new-work.result.items) (stage (st c.enter.new.context) (met c.enter.new.context) (reverse c.enter.new.work.items)) (ap reverse c.new-work.ensures.items) c.in_default.ensures.runs,
+      c.in-Some.ensures.ready,
+      root_leads m (st c.args.context.now) (met c.args.context.now) c.args.root c.args.at (to_z w128 c.args.at) at (list_of c.new-work.result) (stage (st c.enter.new.context) (met c.enter.new.context) (list_of c.enter.new.work)) c.new-work.ensures c.in-Some.ensures.runs,
     )
 
 pub loop-entry-preserved : goal.loop-entry-preserved
 loop-entry-preserved g c =
     let m = c.args.self.now in
     let st = g.C.Context.state in
-    let met = g.C.Context.positions in
-    let e : reverse c.loop-entry.work.items ≡ c.in-Some.entry ∷ reverse c.pop.new.self.items = ap reverse c.in-Some.ensures.items ∙ reverse-append c.pop.new.self.items (c.in-Some.entry ∷ []) in (
-      c.in_default-step.ensures.ready,
-      turn_leads m (st c.args.context.now) (met c.args.context.now) c.args.root c.args.at (st c.loop-entry.context) (met c.loop-entry.context) (reverse c.loop-entry.work.items) c.loop-entry.invariant.1 c.in-Some.entry (reverse c.pop.new.self.items) e (stage (st c.step.new.context) (met c.step.new.context) (reverse c.step.new.work.items)) c.in_default-step.ensures.runs.0,
+    let met = g.C.Context.positions in (
+      c.in-Some-step.ensures.ready,
+      turn_leads m (st c.args.context.now) (met c.args.context.now) c.args.root c.args.at (st c.loop-entry.context) (met c.loop-entry.context) (list_of c.loop-entry.work) c.loop-entry.invariant.1 c.in-Some-pop.entry (list_of c.pop.new.self) c.in-Some-pop.ensures.next (stage (st c.step.new.context) (met c.step.new.context) (list_of c.step.new.work)) c.in-Some-step.ensures.runs.0,
     )
 
-pub returns-in-Err-step-clause-err : goal.returns-in-Err-step-clause-err
-returns-in-Err-step-clause-err g c =
+pub returns-in_default-step-clause-err : goal.returns-in_default-step-clause-err
+returns-in_default-step-clause-err g c =
     let m = c.args.self.now in
     let st = g.C.Context.state in
     let met = g.C.Context.positions in
-    let e : reverse c.loop-entry.work.items ≡ c.in-Some.entry ∷ reverse c.pop.new.self.items = ap reverse c.in-Some.ensures.items ∙ reverse-append c.pop.new.self.items (c.in-Some.entry ∷ []) in
-    turn_refuses m (st c.args.context.now) (met c.args.context.now) c.args.root c.args.at (st c.loop-entry.context) (met c.loop-entry.context) (reverse c.loop-entry.work.items) c.loop-entry.invariant.1 c.in-Some.entry (reverse c.pop.new.self.items) e c.in-Err-step.error c.in-Err-step.ensures.runs.1
+    rw c.fault-in_default-step.ensures (turn_refuses m (st c.args.context.now) (met c.args.context.now) c.args.root c.args.at (st c.loop-entry.context) (met c.loop-entry.context) (list_of c.loop-entry.work) c.loop-entry.invariant.1 c.in-Some-pop.entry (list_of c.pop.new.self) c.in-Some-pop.ensures.next c.step.new.work.fault c.in_default-step.ensures.runs.1)
 
 pub returns-clause-ok : goal.returns-clause-ok
 returns-clause-ok g c =
     let m = c.args.self.now in
     let st = g.C.Context.state in
     let met = g.C.Context.positions in
-    let none : c.loop-entry.work.items ≡ [] = nil_of c.loop-entry.work.items (omega (arith, c.loop-entry.work.ok.0, c.in_default-pop.ensures.cases.0)) in
-    root_ends m (st c.args.context.now) (met c.args.context.now) c.args.root c.args.at (st c.loop-entry.context) (met c.loop-entry.context) (reverse c.loop-entry.work.items) c.loop-entry.invariant.1 (ap reverse none)
+    root_ends m (st c.args.context.now) (met c.args.context.now) c.args.root c.args.at (st c.loop-entry.context) (met c.loop-entry.context) (list_of c.loop-entry.work) c.loop-entry.invariant.1 c.in_default-pop.ensures.over

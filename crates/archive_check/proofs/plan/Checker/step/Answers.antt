@@ -1,41 +1,29 @@
-use Rattle.std.proofs.Common.{rules, ◌≡◌, ◌<◌, ◌≤◌, ◌+◌, ◌-◌, ℕ, pos, arith, refl, sym, ap, ◌∙◌, reverse, Some, slice_index_or, List, ◌∷◌, unwrap_or, to_z, of_z, Ok, Err}
+use Rattle.std.proofs.Common.{rules, ◌≡◌, ◌<◌, ◌+◌, ◌-◌, ◌*◌, ℕ, pos, arith, sym, ap, ◌∙◌, Some, slice_index_or, ◌∷◌, unwrap_or, to_z}
 use Rattle.std.proofs.lemmas.Int.{to_z_pos}
 use mir.Syntax.{w128}
-use Rattle.archive_check.specs.declared.work.Work.TheVariants.{Part as PartWork, Parts, Elements, Leave, Finish}
+use Rattle.archive_check.specs.declared.work.Work.TheVariants.{Part as PartWork, Parts, Elements, Finish}
 use Rattle.archive_check.specs.declared.plan.Job.TheVariants.{Free}
-use Rattle.archive_check.specs.declared.plan.Part.{Part}
-use Rattle.archive_check.specs.Runs.{IsAt, IsNode}
-use Rattle.archive_check.specs.Turns.{Ready, Listing, stage}
+use Rattle.archive_check.specs.Runs.{IsAt, IsNode, Takes}
+use Rattle.archive_check.specs.Lists.{list_of}
+use Rattle.archive_check.specs.Turns.{Listing, stage}
 use Rattle.archive_check.proofs.Costs.{falls_none}
-use Rattle.archive_check.proofs.Steps.{at_default, parts_ready, part_room, parts_leads, parts_ends, parts_over_leads, elements_ready, elements_leads, elements_ends, elements_over_leads, elements_free_leads, leave_leads, leave_refuses, finish_leads, finish_refuses}
+use Rattle.archive_check.proofs.Steps.{at_default, part_ready, part_room, part_leads, part_ends, element_ready, element_leads, element_ends, elements_free_leads, leave_leads, finish_leads, finish_refuses, refused_keeps, then_keeps, then_falls, under}
+use Rattle.archive_check.proofs.Skipping.{skip_all, skip_leads, skip_ready, skip_costs}
+use Rattle.archive_check.proofs.Passing.{takes_size, pass_all, pass_leads, pass_ready, pass_costs}
 use Rattle.archive_check.proofs.plan.Checker.step.Goals as goal
 
-pub returns-then-left-eq0-clause-runs : goal.returns-then-left-eq0-clause-runs
-returns-then-left-eq0-clause-runs g c =
+pub returns-then-next-last-clause-runs : goal.returns-then-next-last-clause-runs
+returns-then-next-last-clause-runs g c =
     let m = c.args.self.now in
     let st = g.C.Context.state in
     let met = g.C.Context.positions in
     let s = st c.args.context.now in
     let seen = met c.args.context.now in
-    let old = reverse c.args.work.now.items in
-    rw c.in-Elements.is (elements_over_leads m s seen old c.in-Elements.node c.in-Elements.left c.in-Elements.at c.if-left-eq0.true, tt)
+    let old = list_of c.args.work.now in
+    rw c.in-Parts.is (skip_all m c.in-Parts.base old s seen c.in-Parts.first c.in-Parts.last c.skip-next.result c.skip-next.ensures.skipped c.skip-next.ensures.below c.if-next-last.true, tt)
 
-pub returns-then-left-eq0-clause-ends : goal.returns-then-left-eq0-clause-ends
-returns-then-left-eq0-clause-ends g c =
-    rw c.in-Elements.is (falls_none _ _)
-
-pub returns-then-first-last-clause-runs : goal.returns-then-first-last-clause-runs
-returns-then-first-last-clause-runs g c =
-    let m = c.args.self.now in
-    let st = g.C.Context.state in
-    let met = g.C.Context.positions in
-    let s = st c.args.context.now in
-    let seen = met c.args.context.now in
-    let old = reverse c.args.work.now.items in
-    rw c.in-Parts.is (parts_over_leads m s seen old c.in-Parts.first c.in-Parts.last c.in-Parts.base c.if-first-last.true, tt)
-
-pub returns-then-first-last-clause-ends : goal.returns-then-first-last-clause-ends
-returns-then-first-last-clause-ends g c =
+pub returns-then-next-last-clause-ends : goal.returns-then-next-last-clause-ends
+returns-then-next-last-clause-ends g c =
     rw c.in-Parts.is (falls_none _ _)
 
 pub overflow_add-base : goal.overflow_add-base
@@ -45,53 +33,71 @@ overflow_add-base g c =
     let met = g.C.Context.positions in
     let s = st c.args.context.now in
     let seen = met c.args.context.now in
-    let old = reverse c.args.work.now.items in
-    let r = rw c.in-Parts.is at c.requires.ready in
-    let x = slice_index_or m.parts.now c.in-Parts.first (record { offset = 0; node = 0 }) in
-    let at = at_default m.parts.now c.in-Parts.first (record { offset = 0; node = 0 }) (omega (arith, r.fits.0.last, c.if-first-last.false)) in
-    let h = part_room m s seen old old c.in-Parts.first c.in-Parts.last c.in-Parts.base x r c.if-first-last.false at in search rules
+    let old = list_of c.args.work.now in
+    let r0 = rw c.in-Parts.is at c.requires.ready in
+    let from = c.skip-next.ensures.above c.if-next-last.false in
+    let r = skip_ready m c.in-Parts.base old s seen c.in-Parts.first c.in-Parts.last c.skip-next.result c.skip-next.ensures.skipped r0 from c.skip-next.ensures.below in
+    let x = slice_index_or m.parts.now c.skip-next.result (record { offset = 0; node = 0 }) in
+    let at = at_default m.parts.now c.skip-next.result (record { offset = 0; node = 0 }) (omega (arith, r.fits.0.last, c.if-next-last.false)) in
+    let h = part_room m s seen old old c.skip-next.result c.in-Parts.last c.in-Parts.base x r c.if-next-last.false at in search rules
 
-pub returns-in_ok-push-in-Parts-2-clause-ready : goal.returns-in_ok-push-in-Parts-2-clause-ready
-returns-in_ok-push-in-Parts-2-clause-ready g c =
+pub open-requires-in-Parts-clause-ready : goal.open-requires-in-Parts-clause-ready
+open-requires-in-Parts-clause-ready g c =
     let m = c.args.self.now in
     let st = g.C.Context.state in
     let met = g.C.Context.positions in
     let s = st c.args.context.now in
     let seen = met c.args.context.now in
-    let old = reverse c.args.work.now.items in
-    let r = rw c.in-Parts.is at c.requires.ready in
-    let x = slice_index_or m.parts.now c.in-Parts.first (record { offset = 0; node = 0 }) in
-    let at = at_default m.parts.now c.in-Parts.first (record { offset = 0; node = 0 }) (omega (arith, r.fits.0.last, c.if-first-last.false)) in
-    let e = c.in_ok-push-in-Parts-2.ensures.ok ∙ ap (λ w. PartWork x.node (c.in-Parts.base + x.offset) ∷ w) c.in_ok-push-in-Parts.ensures.ok in
-    parts_ready m s seen old (reverse c.push-in-Parts.new.work.items) c.in-Parts.first c.in-Parts.last c.in-Parts.base x r c.if-first-last.false at e
+    let old = list_of c.args.work.now in
+    let r0 = rw c.in-Parts.is at c.requires.ready in
+    let from = c.skip-next.ensures.above c.if-next-last.false in
+    let r = skip_ready m c.in-Parts.base old s seen c.in-Parts.first c.in-Parts.last c.skip-next.result c.skip-next.ensures.skipped r0 from c.skip-next.ensures.below in
+    let x = slice_index_or m.parts.now c.skip-next.result (record { offset = 0; node = 0 }) in
+    let at = at_default m.parts.now c.skip-next.result (record { offset = 0; node = 0 }) (omega (arith, r.fits.0.last, c.if-next-last.false)) in
+    let rest = list_of c.more_parts.new.self in
+    let new = PartWork x.node (c.in-Parts.base + x.offset) ∷ rest in
+    let e = c.in_ok-more_parts-in-Parts.ensures.some in
+    part_ready m s seen old rest c.skip-next.result c.in-Parts.last c.in-Parts.base x r c.if-next-last.false at e
 
-pub returns-in_ok-push-in-Parts-2-clause-runs : goal.returns-in_ok-push-in-Parts-2-clause-runs
-returns-in_ok-push-in-Parts-2-clause-runs g c =
+pub returns-in_ok-more_parts-in-Parts-clause-runs : goal.returns-in_ok-more_parts-in-Parts-clause-runs
+returns-in_ok-more_parts-in-Parts-clause-runs g c =
     let m = c.args.self.now in
     let st = g.C.Context.state in
     let met = g.C.Context.positions in
     let s = st c.args.context.now in
     let seen = met c.args.context.now in
-    let old = reverse c.args.work.now.items in
-    let r = rw c.in-Parts.is at c.requires.ready in
-    let x = slice_index_or m.parts.now c.in-Parts.first (record { offset = 0; node = 0 }) in
-    let at = at_default m.parts.now c.in-Parts.first (record { offset = 0; node = 0 }) (omega (arith, r.fits.0.last, c.if-first-last.false)) in
-    let e = c.in_ok-push-in-Parts-2.ensures.ok ∙ ap (λ w. PartWork x.node (c.in-Parts.base + x.offset) ∷ w) c.in_ok-push-in-Parts.ensures.ok in
-    rw c.in-Parts.is (parts_leads m s seen old (reverse c.push-in-Parts.new.work.items) c.in-Parts.first c.in-Parts.last c.in-Parts.base x c.if-first-last.false at e, tt)
+    let old = list_of c.args.work.now in
+    let r0 = rw c.in-Parts.is at c.requires.ready in
+    let from = c.skip-next.ensures.above c.if-next-last.false in
+    let r = skip_ready m c.in-Parts.base old s seen c.in-Parts.first c.in-Parts.last c.skip-next.result c.skip-next.ensures.skipped r0 from c.skip-next.ensures.below in
+    let x = slice_index_or m.parts.now c.skip-next.result (record { offset = 0; node = 0 }) in
+    let at = at_default m.parts.now c.skip-next.result (record { offset = 0; node = 0 }) (omega (arith, r.fits.0.last, c.if-next-last.false)) in
+    let rest = list_of c.more_parts.new.self in
+    let new = PartWork x.node (c.in-Parts.base + x.offset) ∷ rest in
+    let e = c.in_ok-more_parts-in-Parts.ensures.some in
+    rw c.in-Parts.is (then_keeps m (stage s seen (Parts c.in-Parts.first c.in-Parts.last c.in-Parts.base ∷ old)) (stage s seen (Parts c.skip-next.result c.in-Parts.last c.in-Parts.base ∷ old)) (stage (st c.open-in-Parts.new.context) (met c.open-in-Parts.new.context) (list_of c.open-in-Parts.new.work)) c.open-in-Parts.result c.open-in-Parts.new.work.fault
+    (skip_leads m c.in-Parts.base old s seen c.in-Parts.first c.in-Parts.last c.skip-next.result c.skip-next.ensures.skipped from c.skip-next.ensures.below)
+    (then_keeps m (stage s seen (Parts c.skip-next.result c.in-Parts.last c.in-Parts.base ∷ old)) (stage s seen new) (stage (st c.open-in-Parts.new.context) (met c.open-in-Parts.new.context) (list_of c.open-in-Parts.new.work)) c.open-in-Parts.result c.open-in-Parts.new.work.fault (part_leads m s seen old rest c.skip-next.result c.in-Parts.last c.in-Parts.base x c.if-next-last.false at e) c.open-in-Parts.ensures.runs))
 
-pub returns-in_ok-push-in-Parts-2-clause-ends : goal.returns-in_ok-push-in-Parts-2-clause-ends
-returns-in_ok-push-in-Parts-2-clause-ends g c =
+pub returns-in_ok-more_parts-in-Parts-clause-ends : goal.returns-in_ok-more_parts-in-Parts-clause-ends
+returns-in_ok-more_parts-in-Parts-clause-ends g c =
     let m = c.args.self.now in
     let st = g.C.Context.state in
     let met = g.C.Context.positions in
     let s = st c.args.context.now in
     let seen = met c.args.context.now in
-    let old = reverse c.args.work.now.items in
-    let r = rw c.in-Parts.is at c.requires.ready in
-    let x = slice_index_or m.parts.now c.in-Parts.first (record { offset = 0; node = 0 }) in
-    let at = at_default m.parts.now c.in-Parts.first (record { offset = 0; node = 0 }) (omega (arith, r.fits.0.last, c.if-first-last.false)) in
-    let e = c.in_ok-push-in-Parts-2.ensures.ok ∙ ap (λ w. PartWork x.node (c.in-Parts.base + x.offset) ∷ w) c.in_ok-push-in-Parts.ensures.ok in
-    rw c.in-Parts.is (parts_ends m s seen old (reverse c.push-in-Parts.new.work.items) c.in-Parts.first c.in-Parts.last c.in-Parts.base x c.if-first-last.false r.fits.0.last r.fits.0.few at e)
+    let old = list_of c.args.work.now in
+    let r0 = rw c.in-Parts.is at c.requires.ready in
+    let from = c.skip-next.ensures.above c.if-next-last.false in
+    let r = skip_ready m c.in-Parts.base old s seen c.in-Parts.first c.in-Parts.last c.skip-next.result c.skip-next.ensures.skipped r0 from c.skip-next.ensures.below in
+    let x = slice_index_or m.parts.now c.skip-next.result (record { offset = 0; node = 0 }) in
+    let at = at_default m.parts.now c.skip-next.result (record { offset = 0; node = 0 }) (omega (arith, r.fits.0.last, c.if-next-last.false)) in
+    let rest = list_of c.more_parts.new.self in
+    let new = PartWork x.node (c.in-Parts.base + x.offset) ∷ rest in
+    let e = c.in_ok-more_parts-in-Parts.ensures.some in
+    let less = skip_costs m c.in-Parts.base old (c.skip-next.result - c.in-Parts.first) c.in-Parts.first c.in-Parts.last c.skip-next.result s.end (omega arith) c.skip-next.ensures.below r.fits.0.last in
+    let falls = part_ends m s seen old rest c.skip-next.result c.in-Parts.last c.in-Parts.base x c.if-next-last.false r.fits.0.last r.fits.0.few at e in
+    rw c.in-Parts.is (then_falls c.open-in-Parts.result _ _ _ (under _ _ _ falls less) c.open-in-Parts.ensures.ends)
 
 pub returns-in-Free-clause-runs : goal.returns-in-Free-clause-runs
 returns-in-Free-clause-runs g c =
@@ -100,7 +106,7 @@ returns-in-Free-clause-runs g c =
     let met = g.C.Context.positions in
     let s = st c.args.context.now in
     let seen = met c.args.context.now in
-    let old = reverse c.args.work.now.items in
+    let old = list_of c.args.work.now in
     let r = rw c.in-Elements.is at c.requires.ready in
     let at : IsAt m.nodes.now c.in-Elements.node c.index-self-node.result = record { below = r.fits.0.takes.at.below; is = c.index-self-node.is } in
     let is : IsNode m c.in-Elements.node Free = record { node = c.index-self-node.result; at = at; job_is = ap (λ q. q.job) c.index-self-node.is ∙ c.in-Free.is } in
@@ -110,50 +116,115 @@ pub returns-in-Free-clause-ends : goal.returns-in-Free-clause-ends
 returns-in-Free-clause-ends g c =
     rw c.in-Elements.is (falls_none _ _)
 
-pub returns-in_ok-push-in-Elements-2-clause-ready : goal.returns-in_ok-push-in-Elements-2-clause-ready
-returns-in_ok-push-in-Elements-2-clause-ready g c =
+pub pass-passed-requires-clause-size : goal.pass-passed-requires-clause-size
+pass-passed-requires-clause-size g c =
     let m = c.args.self.now in
     let st = g.C.Context.state in
     let met = g.C.Context.positions in
     let s = st c.args.context.now in
     let seen = met c.args.context.now in
-    let old = reverse c.args.work.now.items in
+    let old = list_of c.args.work.now in
     let r = rw c.in-Elements.is at c.requires.ready in
     let at : IsAt m.nodes.now c.in-Elements.node c.index-self-node.result = record { below = r.fits.0.takes.at.below; is = c.index-self-node.is } in
-    let lt : 0 < c.in-Elements.left = omega (arith, c.if-left-eq0.false) in
     let size = λ (y : ℕ) (q : c.index-self-node.result.size ≡ Some y). c.unwrap_or-size.ensures ∙ ap (λ v. unwrap_or v.size 0) (sym c.index-self-node.is) ∙ ap (λ v. unwrap_or v 0) q in
-    let e = c.in_ok-push-in-Elements-2.ensures.ok ∙ ap (λ w. PartWork c.in-Elements.node c.in-Elements.at ∷ w) c.in_ok-push-in-Elements.ensures.ok in
-    elements_ready m s seen old (reverse c.push-in-Elements-2.new.work.items) c.in-Elements.node c.in-Elements.left c.in-Elements.at c.unwrap_or-size.result c.index-self-node.result r lt at size e
+    let takes : Takes m c.in-Elements.node c.unwrap_or-size.result = takes_size m c.in-Elements.node c.unwrap_or-size.result c.index-self-node.result at r.fits.0.takes size in
+    takes
 
-pub returns-in_ok-push-in-Elements-2-clause-runs : goal.returns-in_ok-push-in-Elements-2-clause-runs
-returns-in_ok-push-in-Elements-2-clause-runs g c =
+pub pass-passed-requires-clause-fits : goal.pass-passed-requires-clause-fits
+pass-passed-requires-clause-fits g c =
     let m = c.args.self.now in
     let st = g.C.Context.state in
     let met = g.C.Context.positions in
     let s = st c.args.context.now in
     let seen = met c.args.context.now in
-    let old = reverse c.args.work.now.items in
+    let old = list_of c.args.work.now in
     let r = rw c.in-Elements.is at c.requires.ready in
     let at : IsAt m.nodes.now c.in-Elements.node c.index-self-node.result = record { below = r.fits.0.takes.at.below; is = c.index-self-node.is } in
-    let lt : 0 < c.in-Elements.left = omega (arith, c.if-left-eq0.false) in
     let size = λ (y : ℕ) (q : c.index-self-node.result.size ≡ Some y). c.unwrap_or-size.ensures ∙ ap (λ v. unwrap_or v.size 0) (sym c.index-self-node.is) ∙ ap (λ v. unwrap_or v 0) q in
-    let e = c.in_ok-push-in-Elements-2.ensures.ok ∙ ap (λ w. PartWork c.in-Elements.node c.in-Elements.at ∷ w) c.in_ok-push-in-Elements.ensures.ok in
-    rw c.in-Elements.is (elements_leads m s seen old (reverse c.push-in-Elements-2.new.work.items) c.in-Elements.node c.in-Elements.left c.in-Elements.at c.unwrap_or-size.result c.index-self-node.result r lt at size e, tt)
+    let takes : Takes m c.in-Elements.node c.unwrap_or-size.result = takes_size m c.in-Elements.node c.unwrap_or-size.result c.index-self-node.result at r.fits.0.takes size in
+    r.fits.0
 
-pub returns-in_ok-push-in-Elements-2-clause-ends : goal.returns-in_ok-push-in-Elements-2-clause-ends
-returns-in_ok-push-in-Elements-2-clause-ends g c =
+pub returns-then-passed-left-clause-runs : goal.returns-then-passed-left-clause-runs
+returns-then-passed-left-clause-runs g c =
     let m = c.args.self.now in
     let st = g.C.Context.state in
     let met = g.C.Context.positions in
     let s = st c.args.context.now in
     let seen = met c.args.context.now in
-    let old = reverse c.args.work.now.items in
+    let old = list_of c.args.work.now in
     let r = rw c.in-Elements.is at c.requires.ready in
     let at : IsAt m.nodes.now c.in-Elements.node c.index-self-node.result = record { below = r.fits.0.takes.at.below; is = c.index-self-node.is } in
-    let lt : 0 < c.in-Elements.left = omega (arith, c.if-left-eq0.false) in
     let size = λ (y : ℕ) (q : c.index-self-node.result.size ≡ Some y). c.unwrap_or-size.ensures ∙ ap (λ v. unwrap_or v.size 0) (sym c.index-self-node.is) ∙ ap (λ v. unwrap_or v 0) q in
-    let e = c.in_ok-push-in-Elements-2.ensures.ok ∙ ap (λ w. PartWork c.in-Elements.node c.in-Elements.at ∷ w) c.in_ok-push-in-Elements.ensures.ok in
-    rw c.in-Elements.is (elements_ends m s seen old (reverse c.push-in-Elements-2.new.work.items) c.in-Elements.node c.in-Elements.left c.in-Elements.at _ r.fits.0.few lt e)
+    let takes : Takes m c.in-Elements.node c.unwrap_or-size.result = takes_size m c.in-Elements.node c.unwrap_or-size.result c.index-self-node.result at r.fits.0.takes size in
+    rw c.in-Elements.is (pass_all m c.in-Elements.node c.unwrap_or-size.result takes old s seen c.in-Elements.left c.in-Elements.at c.pass-passed.result c.pass-passed.ensures.below c.pass-passed.ensures.passed c.if-passed-left.true, tt)
+
+pub returns-then-passed-left-clause-ends : goal.returns-then-passed-left-clause-ends
+returns-then-passed-left-clause-ends g c =
+    rw c.in-Elements.is (falls_none _ _)
+
+pub open-requires-in-Elements-clause-ready : goal.open-requires-in-Elements-clause-ready
+open-requires-in-Elements-clause-ready g c =
+    let m = c.args.self.now in
+    let st = g.C.Context.state in
+    let met = g.C.Context.positions in
+    let s = st c.args.context.now in
+    let seen = met c.args.context.now in
+    let old = list_of c.args.work.now in
+    let r = rw c.in-Elements.is at c.requires.ready in
+    let at : IsAt m.nodes.now c.in-Elements.node c.index-self-node.result = record { below = r.fits.0.takes.at.below; is = c.index-self-node.is } in
+    let size = λ (y : ℕ) (q : c.index-self-node.result.size ≡ Some y). c.unwrap_or-size.ensures ∙ ap (λ v. unwrap_or v.size 0) (sym c.index-self-node.is) ∙ ap (λ v. unwrap_or v 0) q in
+    let takes : Takes m c.in-Elements.node c.unwrap_or-size.result = takes_size m c.in-Elements.node c.unwrap_or-size.result c.index-self-node.result at r.fits.0.takes size in
+    let q = c.in-Elements.at + c.pass-passed.result * c.unwrap_or-size.result in
+    let r2 = pass_ready m c.in-Elements.node c.unwrap_or-size.result takes old s seen c.in-Elements.left c.in-Elements.at c.pass-passed.result c.pass-passed.ensures.below c.pass-passed.ensures.passed r in
+    let lt : 0 < c.in-Elements.left - c.pass-passed.result = omega (arith, c.if-passed-left.false, c.pass-passed.ensures.below) in
+    let rest = list_of c.more_elements.new.self in
+    let new = PartWork c.in-Elements.node q ∷ rest in
+    let e = c.in_ok-more_elements-in-Elements.ensures.some in
+    element_ready m s seen old rest c.in-Elements.node (c.in-Elements.left - c.pass-passed.result) q c.unwrap_or-size.result c.index-self-node.result r2 lt at size e
+
+pub returns-in_ok-more_elements-in-Elements-clause-runs : goal.returns-in_ok-more_elements-in-Elements-clause-runs
+returns-in_ok-more_elements-in-Elements-clause-runs g c =
+    let m = c.args.self.now in
+    let st = g.C.Context.state in
+    let met = g.C.Context.positions in
+    let s = st c.args.context.now in
+    let seen = met c.args.context.now in
+    let old = list_of c.args.work.now in
+    let r = rw c.in-Elements.is at c.requires.ready in
+    let at : IsAt m.nodes.now c.in-Elements.node c.index-self-node.result = record { below = r.fits.0.takes.at.below; is = c.index-self-node.is } in
+    let size = λ (y : ℕ) (q : c.index-self-node.result.size ≡ Some y). c.unwrap_or-size.ensures ∙ ap (λ v. unwrap_or v.size 0) (sym c.index-self-node.is) ∙ ap (λ v. unwrap_or v 0) q in
+    let takes : Takes m c.in-Elements.node c.unwrap_or-size.result = takes_size m c.in-Elements.node c.unwrap_or-size.result c.index-self-node.result at r.fits.0.takes size in
+    let q = c.in-Elements.at + c.pass-passed.result * c.unwrap_or-size.result in
+    let r2 = pass_ready m c.in-Elements.node c.unwrap_or-size.result takes old s seen c.in-Elements.left c.in-Elements.at c.pass-passed.result c.pass-passed.ensures.below c.pass-passed.ensures.passed r in
+    let lt : 0 < c.in-Elements.left - c.pass-passed.result = omega (arith, c.if-passed-left.false, c.pass-passed.ensures.below) in
+    let rest = list_of c.more_elements.new.self in
+    let new = PartWork c.in-Elements.node q ∷ rest in
+    let e = c.in_ok-more_elements-in-Elements.ensures.some in
+    rw c.in-Elements.is (then_keeps m (stage s seen (Elements c.in-Elements.node c.in-Elements.left c.in-Elements.at ∷ old)) (stage s seen (Elements c.in-Elements.node (c.in-Elements.left - c.pass-passed.result) q ∷ old)) (stage (st c.open-in-Elements.new.context) (met c.open-in-Elements.new.context) (list_of c.open-in-Elements.new.work)) c.open-in-Elements.result c.open-in-Elements.new.work.fault
+    (pass_leads m c.in-Elements.node c.unwrap_or-size.result takes old s seen c.in-Elements.left c.in-Elements.at c.pass-passed.result c.pass-passed.ensures.below c.pass-passed.ensures.passed)
+    (then_keeps m (stage s seen (Elements c.in-Elements.node (c.in-Elements.left - c.pass-passed.result) q ∷ old)) (stage s seen new) (stage (st c.open-in-Elements.new.context) (met c.open-in-Elements.new.context) (list_of c.open-in-Elements.new.work)) c.open-in-Elements.result c.open-in-Elements.new.work.fault (element_leads m s seen old rest c.in-Elements.node (c.in-Elements.left - c.pass-passed.result) q c.unwrap_or-size.result c.index-self-node.result r2 lt at size e) c.open-in-Elements.ensures.runs))
+
+pub returns-in_ok-more_elements-in-Elements-clause-ends : goal.returns-in_ok-more_elements-in-Elements-clause-ends
+returns-in_ok-more_elements-in-Elements-clause-ends g c =
+    let m = c.args.self.now in
+    let st = g.C.Context.state in
+    let met = g.C.Context.positions in
+    let s = st c.args.context.now in
+    let seen = met c.args.context.now in
+    let old = list_of c.args.work.now in
+    let r = rw c.in-Elements.is at c.requires.ready in
+    let at : IsAt m.nodes.now c.in-Elements.node c.index-self-node.result = record { below = r.fits.0.takes.at.below; is = c.index-self-node.is } in
+    let size = λ (y : ℕ) (q : c.index-self-node.result.size ≡ Some y). c.unwrap_or-size.ensures ∙ ap (λ v. unwrap_or v.size 0) (sym c.index-self-node.is) ∙ ap (λ v. unwrap_or v 0) q in
+    let takes : Takes m c.in-Elements.node c.unwrap_or-size.result = takes_size m c.in-Elements.node c.unwrap_or-size.result c.index-self-node.result at r.fits.0.takes size in
+    let q = c.in-Elements.at + c.pass-passed.result * c.unwrap_or-size.result in
+    let r2 = pass_ready m c.in-Elements.node c.unwrap_or-size.result takes old s seen c.in-Elements.left c.in-Elements.at c.pass-passed.result c.pass-passed.ensures.below c.pass-passed.ensures.passed r in
+    let lt : 0 < c.in-Elements.left - c.pass-passed.result = omega (arith, c.if-passed-left.false, c.pass-passed.ensures.below) in
+    let rest = list_of c.more_elements.new.self in
+    let new = PartWork c.in-Elements.node q ∷ rest in
+    let e = c.in_ok-more_elements-in-Elements.ensures.some in
+    let less = pass_costs m c.in-Elements.node c.unwrap_or-size.result takes old s seen c.in-Elements.left c.in-Elements.at c.pass-passed.result c.pass-passed.ensures.below c.pass-passed.ensures.passed s.end in
+    let falls = element_ends m s seen old rest c.in-Elements.node (c.in-Elements.left - c.pass-passed.result) q _ r2.fits.0.few lt e in
+    rw c.in-Elements.is (then_falls c.open-in-Elements.result _ _ _ (under _ _ _ falls less) c.open-in-Elements.ensures.ends)
 
 pub returns-in-Part-clause-runs : goal.returns-in-Part-clause-runs
 returns-in-Part-clause-runs g c =
@@ -166,7 +237,7 @@ returns-in_default-pop_subtree_range-clause-runs g c =
     let met = g.C.Context.positions in
     let s = st c.args.context.now in
     let seen = met c.args.context.now in
-    let old = reverse c.args.work.now.items in
+    let old = list_of c.args.work.now in
     rw c.in-Leave.is (leave_leads m s seen old (st c.pop_subtree_range.new.self) (met c.pop_subtree_range.new.self) c.in-Leave.start c.in-Leave.end c.in_default-pop_subtree_range.ensures.left c.in_default-pop_subtree_range.ensures.positions, tt)
 
 pub returns-in-Err-finish_shared-clause-runs : goal.returns-in-Err-finish_shared-clause-runs
@@ -176,9 +247,10 @@ returns-in-Err-finish_shared-clause-runs g c =
     let met = g.C.Context.positions in
     let s = st c.args.context.now in
     let seen = met c.args.context.now in
-    let old = reverse c.args.work.now.items in
+    let old = list_of c.args.work.now in
     let at : to_z w128 c.in-Finish.at ≡ pos c.in-Finish.at = to_z_pos w128 c.in-Finish.at (omega arith) in
-    rw c.in-Finish.is (tt, finish_refuses m s seen old c.in-Finish.sort c.in-Finish.at (to_z w128 c.in-Finish.at) c.in-Err-finish_shared.error at c.in-Err-finish_shared.ensures.answer)
+    rw c.in-Finish.is (refused_keeps m (Listing m) (stage s seen (Finish c.in-Finish.sort c.in-Finish.at ∷ old)) (stage (st c.finish_shared.new.self) (met c.finish_shared.new.self) (list_of c.refuse-in-Err-finish_shared.new.self)) c.refuse-in-Err-finish_shared.result c.refuse-in-Err-finish_shared.new.self.fault c.in-Err-finish_shared.error c.refuse-in-Err-finish_shared.ensures.none c.refuse-in-Err-finish_shared.ensures.fault
+    (finish_refuses m s seen old c.in-Finish.sort c.in-Finish.at (to_z w128 c.in-Finish.at) c.in-Err-finish_shared.error at c.in-Err-finish_shared.ensures.answer))
 
 pub returns-in_default-finish_shared-clause-runs : goal.returns-in_default-finish_shared-clause-runs
 returns-in_default-finish_shared-clause-runs g c =
@@ -187,6 +259,6 @@ returns-in_default-finish_shared-clause-runs g c =
     let met = g.C.Context.positions in
     let s = st c.args.context.now in
     let seen = met c.args.context.now in
-    let old = reverse c.args.work.now.items in
+    let old = list_of c.args.work.now in
     let at : to_z w128 c.in-Finish.at ≡ pos c.in-Finish.at = to_z_pos w128 c.in-Finish.at (omega arith) in
     rw c.in-Finish.is (finish_leads m s seen old (st c.finish_shared.new.self) (met c.finish_shared.new.self) c.in-Finish.sort c.in-Finish.at (to_z w128 c.in-Finish.at) at c.in_default-finish_shared.ensures.range c.in_default-finish_shared.ensures.finished, tt)

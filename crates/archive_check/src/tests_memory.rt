@@ -1,9 +1,10 @@
-// Shared positions under budgets of memory.
+// Shared positions under budgets of memory: an allocator of a fixed size is handed in, and the size rises, so that the refusal moves from request to
+// request until all are served.
 
-use archive_check::error::Error;
-use archive_check::expr::{Expr, FlavorInfo, Kind, Pointee};
-use archive_check::shared::SharedValidator;
-use archive_check::validation::{SharedContext, ValidationState};
+use crate::error::Error;
+use crate::expr::{Expr, FlavorInfo, Kind, Pointee};
+use crate::shared::SharedValidator;
+use crate::validation::{SharedContext, ValidationState};
 use linked_list_allocator::LocalHeap;
 use std::test::Fail;
 

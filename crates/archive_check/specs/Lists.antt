@@ -1,0 +1,12 @@
+-- The work list of a check.
+use Rattle.std.specs.Prelude.{◌≡◌, ◌⊎◌, List, ◌∷◌, reverse}
+use Rattle.archive_check.specs.declared.work.Work.{Work}
+use Rattle.archive_check.specs.declared.work.Worklist.{Worklist}
+
+-- what is left, the next first
+abbrev pub list_of : Worklist → List Work
+list_of work = reverse work.entries.items
+
+-- the entry was put on the old list, or there is nothing to it and the list is the old one
+abbrev pub IsMore : Work → Type 0 → List Work → List Work → Type 0
+IsMore entry Nothing new old = (new ≡ entry ∷ old) ⊎ (Nothing × (new ≡ old))
