@@ -29,7 +29,7 @@ use Rattle.archive_check.proofs.Descent.{contains_cases, contains_first}
 use Rattle.archive_check.proofs.Viewed.{root_lies, root_says}
 
 -- a schema that has the definitions has each that their list shows
-has_each : (s : Schema) (D : Definitions) → Has s D → (name : Name) (Y : Shape) → Contains (listed D) (name, Y) → definition s.table name ≡ Some Y
+pub has_each : (s : Schema) (D : Definitions) → Has s D → (name : Name) (Y : Shape) → Contains (listed D) (name, Y) → definition s.table name ≡ Some Y
 has_each s no_definition h name Y c = absurd (omega (arith, c.1))
 has_each s (defines n X) h name Y c = ⊎_elim (λ e. let named : n ≡ name = ap (λ d. d.0) e in let same : X ≡ Y = ap (λ d. d.1) e in cc (h, named, same)) (λ d. absurd (omega (arith, d.1))) (contains_cases (n, X) [] (name, Y) c)
 has_each s (both D E) (h, k) name Y c = ⊎_elim (has_each s D h name Y) (has_each s E k name Y) (Contains-append_cases (listed D) (listed E) (name, Y) c)

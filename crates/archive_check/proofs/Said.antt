@@ -91,10 +91,10 @@ string_lies {s = s} {bytes = bytes} {q = q} false e k l =
 pub string_readable : (D : Definitions) (bytes : List ℕ) (q n : ℕ) → Viewed D bytes q (one str) n → ∥ Readable bytes q (one str) n ∥₁
 string_readable D bytes q n v = ∥∥₁_map v (λ (s, k, l). string_lies (nat_eq (slice_index bytes q / 64) 2) refl k l)
 
-inline_says : (D : Definitions) (bytes : List ℕ) (q n : ℕ) → (IsOutOfLine bytes q → ⊥) → Says D bytes q (one str) n (text_value (before_end (bytes_at bytes q 8)))
+pub inline_says : (D : Definitions) (bytes : List ℕ) (q n : ℕ) → (IsOutOfLine bytes q → ⊥) → Says D bytes q (one str) n (text_value (before_end (bytes_at bytes q 8)))
 inline_says D bytes q n o = record { fills = λ s v k l c. rw (inline_is o c) fills_text }
 
-out_says : (D : Definitions) (bytes : List ℕ) (q n : ℕ) → IsOutOfLine bytes q → Says D bytes q (one str) n (text_value (bytes_at bytes (target_from bytes q (q + 4)) (decoded_length (u32_at bytes q))))
+pub out_says : (D : Definitions) (bytes : List ℕ) (q n : ℕ) → IsOutOfLine bytes q → Says D bytes q (one str) n (text_value (bytes_at bytes (target_from bytes q (q + 4)) (decoded_length (u32_at bytes q))))
 out_says D bytes q n o = record {
   fills = λ s v k l c.
       let there = (out_leads o l c).0 in

@@ -289,7 +289,8 @@ impl<D: Entries> Deserialize<String, D> for ArchivedString {
 impl<'a> Ref<'a, ArchivedStr> {
     /// The text.
     pub fn as_str(self) -> &'a str
-        ensures { result.now ≡ bytes_at self.entry.bytes.now self.entry.pos self.entry.len }
+        ensures text { result.now ≡ bytes_at self.entry.bytes.now self.entry.pos self.entry.len }
+        ensures says { Says no_definition self.entry.bytes.now self.entry.pos text self.entry.len (text_value result.now) }
     {
         let Part { bytes, pos, len } = self.part();
         read_text(bytes, pos, len)
@@ -306,7 +307,8 @@ impl<'a> Ref<'a, ArchivedStr> {
 impl<'a> Ref<'a, ArchivedString> {
     /// The text, wherever it stands.
     pub fn as_str(self) -> &'a str
-        ensures { result.now ≡ string_text self.entry.bytes.now self.entry.pos }
+        ensures text { result.now ≡ string_text self.entry.bytes.now self.entry.pos }
+        ensures says { Says no_definition self.entry.bytes.now self.entry.pos (one str_shape) self.entry.len (text_value result.now) }
     {
         let Part { bytes, pos, .. } = self.part();
         if is_out_of_line(bytes, pos) {

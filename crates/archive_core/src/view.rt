@@ -1,10 +1,12 @@
 //! Views of archived values, slices and texts.
 
 ghost use Rattle.std.specs.Prelude.{◌≡◌, ⊤, false};
-ghost use Rattle.archive_check.specs.Shape.{leaf, one};
+ghost use Rattle.archive_check.specs.Shape.{leaf, non_zero, one};
+ghost use Rattle.archive_check.specs.Definitions.{no_definition};
+ghost use Rattle.archive_check.specs.Value.{number};
 ghost use Rattle.archive_check.specs.Reads.{bytes_at};
 ghost use Rattle.archive_check.specs.Readable.{Readable};
-ghost use Rattle.archive_check.specs.Viewed.{Viewed};
+ghost use Rattle.archive_check.specs.Viewed.{Viewed, Says};
 ghost use Rattle.archive_num.specs.Digits.{is_zero};
 
 use crate::primitive::Plain;
@@ -97,7 +99,8 @@ impl<'a, N: Native> Ref<'a, LittleEndian<N>> {
     /// The number.
     #[tactic(auto, using(archive_check::proofs::Said::leaf_readable))]
     pub fn get(self) -> N
-        ensures { result ≡ N.number_of (bytes_at self.entry.bytes.now self.entry.pos N.byte_count) }
+        ensures number { result ≡ N.number_of (bytes_at self.entry.bytes.now self.entry.pos N.byte_count) }
+        ensures says { Says no_definition self.entry.bytes.now self.entry.pos (one (leaf N.kind)) self.entry.len (number (N.value_of result)) }
     {
         read_leaf(self.part())
     }
@@ -108,6 +111,7 @@ impl<'a, N: Integer> Ref<'a, NonZero<N>> {
     pub fn get(self) -> N
         ensures number { result ≡ N.number_of (bytes_at self.entry.bytes.now self.entry.pos N.byte_count) }
         ensures not_zero { is_zero (N.value_of result) ≡ false }
+        ensures says { Says no_definition self.entry.bytes.now self.entry.pos (one (leaf (non_zero N.sign N.width))) self.entry.len (number (N.value_of result)) }
     {
         read_leaf(self.part())
     }
@@ -117,7 +121,8 @@ impl<'a, N: Plain> Ref<'a, N> {
     /// The value: nothing, a bool, or a number of one byte.
     #[tactic(auto, using(archive_check::proofs::Said::leaf_readable))]
     pub fn get(self) -> N
-        ensures { result ≡ N.number_of (bytes_at self.entry.bytes.now self.entry.pos N.byte_count) }
+        ensures number { result ≡ N.number_of (bytes_at self.entry.bytes.now self.entry.pos N.byte_count) }
+        ensures says { Says N.definitions self.entry.bytes.now self.entry.pos N.pointee self.entry.len (number (N.value_of result)) }
     {
         read_leaf(self.part())
     }

@@ -1,5 +1,5 @@
 use Rattle.std.proofs.Common.{arith}
-use Rattle.archive_check.proofs.Said.{string_readable}
+use Rattle.archive_check.proofs.Said.{string_readable, inline_says, out_says}
 use Rattle.archive_core.proofs.Shown.{string_shown, inline_shown, elsewhere_shown}
 use Rattle.archive_core.proofs.string.Ref+ArchivedString.as_str.Goals as goal
 
@@ -32,3 +32,12 @@ read_text-requires-2-clause-within c = omega (arith, string_shown _ _ _ (string_
 
 pub read_text-requires-2-clause-utf8 : goal.read_text-requires-2-clause-utf8
 read_text-requires-2-clause-utf8 c = rw c.inline_length.ensures.text (inline_shown _ _ _ (λ o. let t = c.is_out_of_line.ensures.1 o in cc) (string_readable _ _ _ _ c.part-pos.ensures.viewed))
+
+pub returns-then-is_out_of_line-clause-says : goal.returns-then-is_out_of_line-clause-says
+returns-then-is_out_of_line-clause-says c =
+    rw (c.read_text.ensures, c.read_target.ensures, c.read_coded_length.ensures, ← c.part-pos.ensures.buffer, ← c.part-pos.ensures.position)
+    (out_says _ _ _ _ (c.is_out_of_line.ensures.0 c.if-is_out_of_line.true))
+
+pub returns-clause-says : goal.returns-clause-says
+returns-clause-says c =
+    rw (c.read_text-2.ensures, c.inline_length.ensures.text, ← c.part-pos.ensures.buffer, ← c.part-pos.ensures.position) (inline_says _ _ _ _ (λ o. let t = c.is_out_of_line.ensures.1 o in cc))

@@ -9,4 +9,4 @@ use Rattle.archive_core.proofs.primitive.sizes.ArchivedUsizeDeserializeUsize.des
 pub returns-clause-value : goal.returns-clause-value
 returns-clause-value g c =
     number_says (λ n. pos n) (little_number) _ _ _ c.args.part.len 4 (number unsigned w32) _ refl (λ bs h. unsigned-value w32 bs h)
-    (rw (c.at-view.ensures.buffer, c.at-view.ensures.position) at c.get.ensures)
+    (rw (c.at-view.ensures.buffer, c.at-view.ensures.position) at c.get.ensures.number)
