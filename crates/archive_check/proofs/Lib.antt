@@ -76,9 +76,13 @@ pub mod Numbered
 pub mod Waiting
 pub mod Chained
 pub mod Planned
+pub mod Viewed
+pub mod Said
 pub mod Suiting
 pub mod ExtentsOf
 pub mod ClosedAgain
+pub mod Archives
 pub mod Skipping
 pub mod Passing
 pub mod PlansInOrder
+pub mod Unshared

@@ -49,4 +49,8 @@ pub mod Numbered
 pub mod Planned
 pub mod Exact
 pub mod Turns
+pub mod Viewed
+pub mod Archives
+pub mod Entries
 pub mod Pooled
+pub mod Unshared

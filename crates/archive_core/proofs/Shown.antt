@@ -1,5 +1,5 @@
 -- What may be read of a part that was checked.
-use Rattle.std.proofs.Common.{◌≡◌, ◌≢◌, ℕ, ℤ, Bool, true, false, List, length, ◌+◌, ◌-◌, ◌≤◌, pos, negsuc, ◌+ℤ◌, take, drop, arith, refl, ap}
+use Rattle.std.proofs.Common.{◌≡◌, ◌≢◌, ℕ, ℤ, Bool, true, false, List, length, ◌+◌, ◌-◌, ◌≤◌, pos, negsuc, ◌+ℤ◌, take, drop, arith, refl, sym, ap, ◌∙◌}
 use Rattle.std.specs.Bool.{Decides}
 use Rattle.std.specs.Str.{IsUtf8}
 use Rattle.std.specs.Coded.{le_prop}
@@ -14,6 +14,10 @@ use Rattle.archive_check.specs.Shape.{Sign, unsigned, signed, Kind, number, non_
 use Rattle.archive_check.specs.Layout.{kind_size}
 use Rattle.archive_check.specs.Reads.{bytes_at, u32_at, i32_at, kind_number, with_sign, kind_value, IsLegal, IsOutOfLine, before_end, decoded_length}
 use Rattle.archive_num.specs.Digits.{is_zero}
+use Rattle.archive_check.specs.Value.{number as number_value}
+use Rattle.archive_check.specs.Definitions.{Definitions}
+use Rattle.archive_check.specs.Viewed.{Says}
+use Rattle.archive_check.proofs.Said.{leaf_says}
 use Rattle.archive_check.specs.Readable.{Readable, readable_leaf, readable_text, readable_inline, readable_out_of_line, position, target_from}
 
 -- leaves
@@ -39,6 +43,12 @@ slice_is bytes p m = let same : p + m - p ≡ m = omega arith in rw same refl
 pub leaf_slice : (bytes : List ℕ) (p n size m : ℕ) (kind : Kind) → kind_size kind ≡ size → m ≡ size → ∥ Readable bytes p (one (leaf kind)) n ∥₁
     → ∥ IsLegal kind (take (p + m - p) (drop p bytes)) ∥₁
 leaf_slice bytes p n size m kind e f h = rw (slice_is bytes p m, f, ← e) (leaf_shown bytes p n kind h).legal
+
+-- what is read is what the bytes of the leaf say
+pub number_says : {X : Type 0} (value_of : X → ℤ) (number_of : List ℕ → X) (D : Definitions) (bytes : List ℕ) (p n count : ℕ) (kind : Kind) (x : X) → kind_size kind ≡ count
+    → ((xs : List ℕ) → IsLegal kind xs → value_of (number_of xs) ≡ kind_value kind xs) → x ≡ number_of (bytes_at bytes p count) → Says D bytes p (one (leaf kind)) n (number_value (value_of x))
+number_says value_of number_of D bytes p n count kind x size law e =
+    rw (e, ← size) (leaf_says D bytes p n kind (number_value (value_of (number_of (bytes_at bytes p (kind_size kind))))) (λ legal. ap number_value (sym (law _ legal))))
 
 -- numbers that aren't 0
 
@@ -81,6 +91,18 @@ pub not_zero_shown : {X : Type 0} (value_of : X → ℤ) (number_of : List ℕ �
 not_zero_shown value_of number_of bytes p n count sign width kind e size law h =
     let same : byte_len width ≡ count = rw e at size in
     rw (← same) (∥∥₁_elim h (Bool-set _ _) (λ r. value_not_zero value_of number_of (bytes_at bytes p (byte_len width)) sign width kind e law (leaf_legal r)))
+
+same_value : (sign : Sign) (width : Width) (bs : List ℕ) → kind_value (non_zero sign width) bs ≡ kind_value (number sign width) bs
+unfolding kind_value
+same_value sign width bs = refl
+
+pub non_zero_says : {X : Type 0} (value_of : X → ℤ) (number_of : List ℕ → X) (D : Definitions) (bytes : List ℕ) (p n count : ℕ) (sign : Sign) (width : Width) (kind : Kind) (x : X) → kind ≡ number sign width
+    → kind_size kind ≡ count → ((xs : List ℕ) → IsLegal kind xs → value_of (number_of xs) ≡ kind_value kind xs) → x ≡ number_of (bytes_at bytes p count)
+    → Says D bytes p (one (leaf (non_zero sign width))) n (number_value (value_of x))
+non_zero_says value_of number_of D bytes p n count sign width kind x e size law is =
+    let same : byte_len width ≡ count = rw e at size in
+    number_says value_of number_of D bytes p n count (non_zero sign width) x same
+    (λ xs legal. let plain : IsLegal (number sign width) xs = record { size = legal.size; number = tt } in law xs (rw e plain) ∙ ap (λ k. kind_value k xs) e ∙ sym (same_value sign width xs)) is
 
 -- texts
 

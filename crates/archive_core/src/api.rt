@@ -1,14 +1,23 @@
 //! Whole archives: written, checked and read back.
 
-ghost use Rattle.std.specs.Prelude.{◌≡◌, ◌-◌, length, IfOk};
+ghost use Rattle.std.specs.Prelude.{◌≡◌, ◌⊎◌, ◌≤◌, ◌-◌, None, length, IfOk, OnOk, IfErr};
+ghost use Rattle.archive_check.specs.Exact.{IsWhole};
+ghost use Rattle.archive_check.specs.Names.{ExplainsNoSchema};
+ghost use Rattle.archive_check.specs.Archives.{IsArchiveWithin, IsArchive, IsValueOf, IsRefusal, IsNoArchive};
+ghost use Rattle.archive_check.specs.Defined.{WellFormed};
+ghost use Rattle.archive_check.specs.Definitions.{listed};
+ghost use Rattle.archive_check.specs.Entries.{NoEntries, IsCyclic};
+ghost use Rattle.archive_check.specs.Unshared.{IsUnshared};
+ghost use Rattle.archive_check.specs.declared.error.Error.TheVariants.{CyclicDeserialize};
 ghost use Rattle.archive_write.specs.Written.{IsBeginning};
 
+pub use crate::context::HighValidator;
 use crate::ser::{ResolveExt, ResolverAlloc, Serializer, Writer, WriterExt};
 use crate::traits::{Archive, Deserialize, Entries, Keys, Portable, Serialize};
 use crate::view::{Part, Ref};
 use archive_check::error::Error;
 use archive_check::shape::Schema;
-use archive_check::validation::ArchiveValidator;
+use archive_check::validation::{ArchiveContext, SharedContext};
 use std::alloc::Global;
 
 /// Where the root of an archive of `len` bytes lies: so many bytes before its end as a `T` has, or at 0 where there are fewer.
@@ -54,25 +63,59 @@ pub fn to_bytes<T: Serialize<Serializer<Vec<u8>, Global, ()>>>(
     to_bytes_in(alloc, value, Vec::new(alloc))
 }
 
-/// Checks that `bytes` are an archive whose root, a `T`, lies at `pos`, and answers the root's view. Memory for the schema comes from `alloc`:
-/// refused with 1 where it is refused, and else with the first fault of the bytes.
+/// Checks that `bytes` are an archive whose root, a `T`, lies at `pos`. In a context for these bytes that met nothing yet the answer is exact. Memory
+/// for the schema and the check comes from `alloc`: refused with 1 where it is refused, with 30 or 31 where the definitions of `T` have no meaning,
+/// before any byte is looked at, and else with the first fault of the bytes, in the order that docs/FORMAT.md gives.
+pub fn check_pos_with_context<T: Portable, C: ArchiveContext + SharedContext>(
+    alloc: Global,
+    bytes: &[u8],
+    pos: usize,
+    context: &mut C,
+) -> Result<(), Error>
+    requires { (C.state context.old).end ≤ length bytes.now }
+    ensures accepted { OnOk result (IsWhole (C.state context.old) (C.positions context.old) bytes.now → IsArchiveWithin T.definitions bytes.now (C.state context.old).depth pos T.shape) }
+    ensures meaning { IfErr result (λ e. ExplainsNoSchema T.shape T.definitions e ⊎ WellFormed (listed T.definitions) T.shape) }
+    ensures refused { IfErr result (λ e. IsWhole (C.state context.old) (C.positions context.old) bytes.now → IsRefusal T.definitions bytes.now (C.state context.old).depth pos T.shape e) }
+    ensures exact { IfErr result (λ e. IsWhole (C.state context.old) (C.positions context.old) bytes.now → IsNoArchive T.definitions bytes.now (C.state context.old).depth pos T.shape e) }
+{
+    prove!(bytes.len() <= usize::MAX);
+    let schema = Schema::of::<T>(alloc)?;
+    schema.check(bytes, pos, context)
+}
+
+/// Checks that `bytes` are an archive whose root, a `T`, lies at `pos`, and answers the root's view. Memory for the schema and the check comes from
+/// `alloc`: refused with 1 where it is refused, with 30 or 31 where the definitions of `T` have no meaning, before any byte is looked at, and
+/// else with the first fault of the bytes, in the order that docs/FORMAT.md gives.
 pub fn access_pos<'a, T: Portable>(
     alloc: Global,
     bytes: &'a [u8],
     pos: usize,
 ) -> Result<Ref<'a, T>, Error>
+    ensures accepted { OnOk result (IsArchive T.definitions bytes.now pos T.shape) }
+    ensures refused { IfErr result (IsRefusal T.definitions bytes.now None pos T.shape) }
+    ensures exact { IfErr result (IsNoArchive T.definitions bytes.now None pos T.shape) }
     ensures buffer { IfOk result (λ r. r.bytes.now ≡ bytes.now) }
     ensures position { IfOk result (λ r. r.pos ≡ pos) }
     ensures whole { IfOk result (λ r. r.len ≡ 0) }
 {
-    let schema = Schema::of::<T>(alloc)?;
-    schema.check(bytes, pos, &mut ArchiveValidator::new(bytes))?;
+    let mut context = HighValidator::new(alloc, bytes);
+    if let Err(error) = check_pos_with_context::<T, HighValidator<'_>>(
+        alloc,
+        bytes,
+        pos,
+        &mut context,
+    ) {
+        return Err(error);
+    }
     Ok(Ref::at(Part { bytes, pos, len: 0 }))
 }
 
-/// Checks that `bytes` are an archive whose root, a `T`, lies at the end, and answers the root's view. Memory for the schema comes from `alloc`:
-/// refused with 1 where it is refused, and else with the first fault of the bytes.
+/// Checks that `bytes` are an archive whose root, a `T`, lies at the end, and answers the root's view. Memory for the schema and the check comes
+/// from `alloc`. Refused as by `access_pos`.
 pub fn access<'a, T: Portable>(alloc: Global, bytes: &'a [u8]) -> Result<Ref<'a, T>, Error>
+    ensures accepted { OnOk result (IsArchive T.definitions bytes.now (length bytes.now - T.layout.size) T.shape) }
+    ensures refused { IfErr result (IsRefusal T.definitions bytes.now None (length bytes.now - T.layout.size) T.shape) }
+    ensures exact { IfErr result (IsNoArchive T.definitions bytes.now None (length bytes.now - T.layout.size) T.shape) }
     ensures buffer { IfOk result (λ r. r.bytes.now ≡ bytes.now) }
     ensures position { IfOk result (λ r. r.pos ≡ length bytes.now - T.layout.size) }
     ensures whole { IfOk result (λ r. r.len ≡ 0) }
@@ -80,8 +123,50 @@ pub fn access<'a, T: Portable>(alloc: Global, bytes: &'a [u8]) -> Result<Ref<'a,
     access_pos(alloc, bytes, root_position::<T>(bytes.len()))
 }
 
-/// Checks that `bytes` are an archive of a `T`, its root at the end, and reads it back. `deserializer` is empty; `()` where nothing is shared.
-/// Memory comes from `alloc`: refused with 1 where it is refused, else as `access` refuses, and with 13 where a shared value holds itself.
+/// Checks that `bytes` are an archive whose root, a `T`, lies at `pos`, in a context for these bytes that met nothing yet, and answers the root's
+/// view. Memory for the schema and the check comes from `alloc`. Refused as by `access_pos`, and with 18 where a region is deeper than the context
+/// allows.
+pub fn access_pos_with_context<'a, T: Portable, C: ArchiveContext + SharedContext>(
+    alloc: Global,
+    bytes: &'a [u8],
+    pos: usize,
+    context: &mut C,
+) -> Result<Ref<'a, T>, Error>
+    requires { IsWhole (C.state context.old) (C.positions context.old) bytes.now }
+    ensures accepted { OnOk result (IsArchiveWithin T.definitions bytes.now (C.state context.old).depth pos T.shape) }
+    ensures refused { IfErr result (IsRefusal T.definitions bytes.now (C.state context.old).depth pos T.shape) }
+    ensures exact { IfErr result (IsNoArchive T.definitions bytes.now (C.state context.old).depth pos T.shape) }
+    ensures buffer { IfOk result (λ r. r.bytes.now ≡ bytes.now) }
+    ensures position { IfOk result (λ r. r.pos ≡ pos) }
+    ensures whole { IfOk result (λ r. r.len ≡ 0) }
+{
+    if let Err(error) = check_pos_with_context::<T, C>(alloc, bytes, pos, context) {
+        return Err(error);
+    }
+    Ok(Ref::at(Part { bytes, pos, len: 0 }))
+}
+
+/// Checks that `bytes` are an archive whose root, a `T`, lies at the end, in a context for these bytes that met nothing yet, and answers the root's
+/// view. Memory for the schema and the check comes from `alloc`. Refused as by `access_pos_with_context`.
+pub fn access_with_context<'a, T: Portable, C: ArchiveContext + SharedContext>(
+    alloc: Global,
+    bytes: &'a [u8],
+    context: &mut C,
+) -> Result<Ref<'a, T>, Error>
+    requires { IsWhole (C.state context.old) (C.positions context.old) bytes.now }
+    ensures accepted { OnOk result (IsArchiveWithin T.definitions bytes.now (C.state context.old).depth (length bytes.now - T.layout.size) T.shape) }
+    ensures refused { IfErr result (IsRefusal T.definitions bytes.now (C.state context.old).depth (length bytes.now - T.layout.size) T.shape) }
+    ensures exact { IfErr result (IsNoArchive T.definitions bytes.now (C.state context.old).depth (length bytes.now - T.layout.size) T.shape) }
+    ensures buffer { IfOk result (λ r. r.bytes.now ≡ bytes.now) }
+    ensures position { IfOk result (λ r. r.pos ≡ length bytes.now - T.layout.size) }
+    ensures whole { IfOk result (λ r. r.len ≡ 0) }
+{
+    access_pos_with_context(alloc, bytes, root_position::<T>(bytes.len()), context)
+}
+
+/// Checks that `bytes` are an archive of a `T`, its root at the end, and reads it back: the answer means what the archive denotes, its shared values
+/// named by their positions. `deserializer` is empty; `()` where nothing is shared. Memory comes from `alloc`: refused with 1 where it is refused,
+/// else as `access` refuses, and with 13 where a shared value holds itself, so never where the type shares nothing.
 pub fn from_bytes<T: Archive, D: Entries>(
     alloc: Global,
     bytes: &[u8],
@@ -89,6 +174,11 @@ pub fn from_bytes<T: Archive, D: Entries>(
 ) -> Result<T, Error>
 where
     T::Archived: Deserialize<T, D>,
+    ensures value { IfOk result (λ t. NoEntries (D.entry_of deserializer.old) → IsValueOf T.Archived.definitions bytes.now (length bytes.now - T.Archived.layout.size) T.Archived.shape (T.meaning t)) }
+    ensures refused { IfErr result (λ e. IsRefusal T.Archived.definitions bytes.now None (length bytes.now - T.Archived.layout.size) T.Archived.shape e
+        ⊎ ((e ≡ CyclicDeserialize) × IsCyclic T.Archived.definitions bytes.now (D.entry_of deserializer.old) (length bytes.now - T.Archived.layout.size) T.Archived.pointee 0)) }
+    ensures unshared { IsUnshared T.Archived.definitions T.Archived.shape → IfErr result (IsRefusal T.Archived.definitions bytes.now None (length bytes.now - T.Archived.layout.size) T.Archived.shape) }
+    ensures exact { IsUnshared T.Archived.definitions T.Archived.shape → IfErr result (IsNoArchive T.Archived.definitions bytes.now None (length bytes.now - T.Archived.layout.size) T.Archived.shape) }
 {
     let root = access::<T::Archived>(alloc, bytes)?;
     <T::Archived as Deserialize<T, D>>::deserialize(alloc, root, deserializer)

@@ -2,6 +2,7 @@
 #![tactic(auto)]
 
 pub mod api;
+pub mod context;
 pub mod place;
 pub mod primitive;
 pub mod rel_ptr;

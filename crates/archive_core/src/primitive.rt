@@ -3,7 +3,9 @@
 ghost use Rattle.std.specs.Prelude.{◌≡◌, ⊤, refl, length, IfOk, IfErr, IsOk};
 ghost use Rattle.archive_check.specs.Shape.{leaf, one};
 ghost use Rattle.archive_check.specs.Reads.{bytes_at};
-ghost use Rattle.archive_check.specs.Readable.{Readable};
+ghost use Rattle.archive_check.specs.Definitions.{no_definition};
+ghost use Rattle.archive_check.specs.Value.{number};
+ghost use Rattle.archive_check.specs.Viewed.{Viewed, Says};
 ghost use Rattle.archive_check.specs.Told.{KeepsKeys};
 ghost use Rattle.archive_write.specs.Sharing.{KeepsKnown, IsNoMisuse};
 ghost use Rattle.archive_write.specs.Written.{IsBeginning};
@@ -47,6 +49,8 @@ impl<N: Source> Archive for N {
 
     type Resolver = ();
 
+    ghost meaning = { λ n. number (N.value_of n) };
+
     ghost belongs = { λ _ _. ⊤ };
 
     fn resolve(&self, _resolver: (), place: Place<'_, N::Format>) -> Result<(), Error>
@@ -81,6 +85,8 @@ impl<N: Native> Archive for LittleEndian<N> {
 
     type Resolver = ();
 
+    ghost meaning = { λ n. number (N.value_of n) };
+
     ghost belongs = { λ _ _. ⊤ };
 
     fn resolve(&self, _resolver: (), place: Place<'_, LittleEndian<N>>) -> Result<(), Error>
@@ -112,8 +118,10 @@ impl<N: Native, S: Writer + Keys> Serialize<S> for LittleEndian<N> {
 
 impl<N: Source, D: Entries> Deserialize<N, D> for LittleEndian<N> {
     fn deserialize_part(_alloc: Global, part: Part<'_>, _deserializer: &mut D) -> Result<N, Error>
-        requires { ∥ Readable part.bytes.now part.pos (one (leaf N.kind)) part.len ∥₁ }
-        ensures value { IfOk result (λ n. n ≡ N.number_of (bytes_at part.entry.bytes.now part.entry.pos N.byte_count)) }
+        requires { Viewed no_definition part.bytes.now part.pos (one (leaf N.kind)) part.len }
+        ensures value { IfOk result (λ n. Says no_definition part.entry.bytes.now part.entry.pos (one (leaf N.kind)) part.entry.len (number (N.value_of n))) }
+        ensures number { IfOk result (λ n. n ≡ N.number_of (bytes_at part.entry.bytes.now part.entry.pos N.byte_count)) }
+        ensures unchanged { D.entry_of _deserializer.new ≡ D.entry_of _deserializer.old }
         ensures succeeds { IsOk result }
     {
         let view: Ref<'_, LittleEndian<N>> = Ref::at(part);
@@ -127,8 +135,10 @@ impl<N: Native, D: Entries> Deserialize<LittleEndian<N>, D> for LittleEndian<N> 
         part: Part<'_>,
         _deserializer: &mut D,
     ) -> Result<LittleEndian<N>, Error>
-        requires { ∥ Readable part.bytes.now part.pos (one (leaf N.kind)) part.len ∥₁ }
-        ensures value { IfOk result (λ n. n ≡ N.number_of (bytes_at part.entry.bytes.now part.entry.pos N.byte_count)) }
+        requires { Viewed no_definition part.bytes.now part.pos (one (leaf N.kind)) part.len }
+        ensures value { IfOk result (λ n. Says no_definition part.entry.bytes.now part.entry.pos (one (leaf N.kind)) part.entry.len (number (N.value_of n))) }
+        ensures number { IfOk result (λ n. n ≡ N.number_of (bytes_at part.entry.bytes.now part.entry.pos N.byte_count)) }
+        ensures unchanged { D.entry_of _deserializer.new ≡ D.entry_of _deserializer.old }
         ensures succeeds { IsOk result }
     {
         let view: Ref<'_, LittleEndian<N>> = Ref::at(part);
@@ -138,8 +148,10 @@ impl<N: Native, D: Entries> Deserialize<LittleEndian<N>, D> for LittleEndian<N> 
 
 impl<N: Plain, D: Entries> Deserialize<N, D> for N {
     fn deserialize_part(_alloc: Global, part: Part<'_>, _deserializer: &mut D) -> Result<N, Error>
-        requires { ∥ Readable part.bytes.now part.pos N.pointee part.len ∥₁ }
-        ensures value { IfOk result (λ n. n ≡ N.number_of (bytes_at part.entry.bytes.now part.entry.pos N.byte_count)) }
+        requires { Viewed N.definitions part.bytes.now part.pos N.pointee part.len }
+        ensures value { IfOk result (λ n. Says N.definitions part.entry.bytes.now part.entry.pos N.pointee part.entry.len (number (N.value_of n))) }
+        ensures number { IfOk result (λ n. n ≡ N.number_of (bytes_at part.entry.bytes.now part.entry.pos N.byte_count)) }
+        ensures unchanged { D.entry_of _deserializer.new ≡ D.entry_of _deserializer.old }
         ensures succeeds { IsOk result }
     {
         let view: Ref<'_, N> = Ref::at(part);

@@ -6,7 +6,9 @@ ghost use Rattle.archive_check.specs.Shape.{str as str_shape, one, text};
 ghost use Rattle.archive_check.specs.Definitions.{no_definition};
 ghost use Rattle.archive_check.specs.LeafLayout.{no_definition_reached};
 ghost use Rattle.archive_check.specs.Reads.{bytes_at};
-ghost use Rattle.archive_check.specs.Readable.{Readable, string_text};
+ghost use Rattle.archive_check.specs.Readable.{string_text};
+ghost use Rattle.archive_check.specs.Value.{text_value};
+ghost use Rattle.archive_check.specs.Viewed.{Viewed, Says};
 ghost use Rattle.archive_check.specs.declared.error.Error.TheVariants.{OutOfMemory, StringTooLong};
 ghost use Rattle.archive_check.specs.Told.{KeepsKeys};
 ghost use Rattle.archive_write.specs.Sharing.{KeepsKnown, IsNoMisuse};
@@ -91,7 +93,7 @@ impl Portable for ArchivedString {
 
     ghost has_layout = { record { solved = λ s k. refl } };
 
-    ghost no_others = { no_definition_reached str };
+    ghost no_others = { no_definition_reached str_shape };
 
     fn size() -> usize {
         8
@@ -163,8 +165,10 @@ impl<D: Entries> DeserializeUnsized<String, D> for ArchivedStr {
         part: Part<'_>,
         _deserializer: &mut D,
     ) -> Result<String, Error>
-        requires { ∥ Readable part.bytes.now part.pos text part.len ∥₁ }
-        ensures value { IfOk result (λ s. string_bytes s ≡ bytes_at part.entry.bytes.now part.entry.pos part.entry.len) }
+        requires { Viewed no_definition part.bytes.now part.pos text part.len }
+        ensures value { IfOk result (λ s. Says no_definition part.entry.bytes.now part.entry.pos text part.entry.len (text_value (string_bytes s))) }
+        ensures text { IfOk result (λ s. string_bytes s ≡ bytes_at part.entry.bytes.now part.entry.pos part.entry.len) }
+        ensures unchanged { D.entry_of _deserializer.new ≡ D.entry_of _deserializer.old }
         ensures refused { IfErr result (λ e. e ≡ OutOfMemory) }
     {
         let view: Ref<'_, ArchivedStr> = Ref::at(part);
@@ -228,6 +232,8 @@ impl Archive for String {
 
     type Resolver = StringResolver;
 
+    ghost meaning = { λ s. text_value (string_bytes s) };
+
     ghost belongs = { λ s _. length (string_bytes s) ≤ 1073741823 };
 
     fn resolve(
@@ -269,8 +275,10 @@ impl<D: Entries> Deserialize<String, D> for ArchivedString {
         part: Part<'_>,
         _deserializer: &mut D,
     ) -> Result<String, Error>
-        requires { ∥ Readable part.bytes.now part.pos (one str_shape) part.len ∥₁ }
-        ensures value { IfOk result (λ s. string_bytes s ≡ string_text part.entry.bytes.now part.entry.pos) }
+        requires { Viewed no_definition part.bytes.now part.pos (one str_shape) part.len }
+        ensures value { IfOk result (λ s. Says no_definition part.entry.bytes.now part.entry.pos (one str_shape) part.entry.len (text_value (string_bytes s))) }
+        ensures text { IfOk result (λ s. string_bytes s ≡ string_text part.entry.bytes.now part.entry.pos) }
+        ensures unchanged { D.entry_of _deserializer.new ≡ D.entry_of _deserializer.old }
         ensures refused { IfErr result (λ e. e ≡ OutOfMemory) }
     {
         let view: Ref<'_, ArchivedString> = Ref::at(part);
@@ -281,7 +289,8 @@ impl<D: Entries> Deserialize<String, D> for ArchivedString {
 impl<'a> Ref<'a, ArchivedStr> {
     /// The text.
     pub fn as_str(self) -> &'a str
-        ensures { result.now ≡ bytes_at self.entry.bytes.now self.entry.pos self.entry.len }
+        ensures text { result.now ≡ bytes_at self.entry.bytes.now self.entry.pos self.entry.len }
+        ensures says { Says no_definition self.entry.bytes.now self.entry.pos text self.entry.len (text_value result.now) }
     {
         let Part { bytes, pos, len } = self.part();
         read_text(bytes, pos, len)
@@ -298,7 +307,8 @@ impl<'a> Ref<'a, ArchivedStr> {
 impl<'a> Ref<'a, ArchivedString> {
     /// The text, wherever it stands.
     pub fn as_str(self) -> &'a str
-        ensures { result.now ≡ string_text self.entry.bytes.now self.entry.pos }
+        ensures text { result.now ≡ string_text self.entry.bytes.now self.entry.pos }
+        ensures says { Says no_definition self.entry.bytes.now self.entry.pos (one str_shape) self.entry.len (text_value result.now) }
     {
         let Part { bytes, pos, .. } = self.part();
         if is_out_of_line(bytes, pos) {

@@ -1,7 +1,9 @@
 //! What is archived and how, and what is read back.
 
-ghost use Rattle.std.specs.Prelude.{◌≡◌, ◌⊎◌, ◌≤◌, ◌<◌, ℕ, length, IfOk, IfErr, IsErr};
-ghost use Rattle.archive_check.specs.Readable.{Readable};
+ghost use Rattle.std.specs.Prelude.{◌≡◌, ◌⊎◌, ◌≤◌, ◌<◌, ℕ, length, IfOk, OnOk, IfErr, IsErr};
+ghost use Rattle.archive_check.specs.Entries.{AreNamedByPosition, KeepsEntries, IsCyclic};
+ghost use Rattle.archive_check.specs.Value.{Value};
+ghost use Rattle.archive_check.specs.Viewed.{Viewed, Says};
 ghost use Rattle.archive_check.specs.declared.error.Error.TheVariants.{OutOfMemory, CyclicDeserialize, LengthTooLarge};
 ghost use Rattle.archive_write.specs.Sharing.{KeepsKnown, IsNoMisuse};
 ghost use Rattle.archive_write.specs.Written.{IsBeginning};
@@ -27,6 +29,9 @@ pub trait Archive {
 
     /// What is kept of a value from its serialization until it is resolved, such as the positions of what it owns.
     type Resolver: Drop;
+
+    // What a value means, its shared values named by their keys.
+    ghost meaning: { Self → Value };
 
     // The resolver is one of this value.
     ghost belongs: { Self → Self.Resolver → Type 0 };
@@ -58,16 +63,22 @@ pub trait Serialize<S: Writer + Keys>: Archive {
 pub trait Deserialize<T: Archive, D: Entries>: ArchivePointee {
     /// What implements this trait writes this call, over the part of a view; callers use `deserialize`.
     fn deserialize_part(alloc: Global, part: Part<'_>, deserializer: &mut D) -> Result<T, Error>
-        requires { ∥ Readable part.bytes.now part.pos Self.pointee part.len ∥₁ }
-        ensures refused { IfErr result (λ e. (e ≡ OutOfMemory) ⊎ (e ≡ CyclicDeserialize)) };
+        requires { Viewed Self.definitions part.bytes.now part.pos Self.pointee part.len }
+        ensures value { IfOk result (λ t. AreNamedByPosition (D.entry_of deserializer.old) → Says Self.definitions part.entry.bytes.now part.entry.pos Self.pointee part.entry.len (T.meaning t)) }
+        ensures entries { OnOk result (KeepsEntries (D.entry_of deserializer.old) (D.entry_of deserializer.new)) }
+        ensures refused { IfErr result (λ e. (e ≡ OutOfMemory) ⊎ ((e ≡ CyclicDeserialize) × IsCyclic Self.definitions part.entry.bytes.now (D.entry_of deserializer.old) part.entry.pos Self.pointee part.entry.len)) };
 
-    /// The value. Memory comes from `alloc`: refused with 1 where it is refused, and with 13 where a shared value holds itself.
+    /// The value that the view shows, each shared value named by its position, as those are that `deserializer` keeps from before; it keeps what it
+    /// kept. Memory comes from `alloc`: refused with 1 where it is refused, and with 13 where a shared value holds itself, or one that is still
+    /// being read.
     final fn deserialize(
         alloc: Global,
         view: Ref<'_, Self>,
         deserializer: &mut D,
     ) -> Result<T, Error>
-        ensures { IfErr result (λ e. (e ≡ OutOfMemory) ⊎ (e ≡ CyclicDeserialize)) }
+        ensures value { IfOk result (λ t. AreNamedByPosition (D.entry_of deserializer.old) → Says Self.definitions view.entry.bytes.now view.entry.pos Self.pointee view.entry.len (T.meaning t)) }
+        ensures entries { OnOk result (KeepsEntries (D.entry_of deserializer.old) (D.entry_of deserializer.new)) }
+        ensures refused { IfErr result (λ e. (e ≡ OutOfMemory) ⊎ ((e ≡ CyclicDeserialize) × IsCyclic Self.definitions view.entry.bytes.now (D.entry_of deserializer.old) view.entry.pos Self.pointee view.entry.len)) }
     {
         Self::deserialize_part(alloc, view.part(), deserializer)
     }
@@ -100,23 +111,28 @@ pub trait SerializeUnsized<S: Writer + Keys>: ArchiveUnsized {
 }
 
 /// A pointee that can be read back as a `T`: the value, a vector of the elements, or a string.
-pub trait DeserializeUnsized<T, D: Entries>: ArchivePointee {
+pub trait DeserializeUnsized<T: Archive, D: Entries>: ArchivePointee {
     /// What implements this trait writes this call, over the part of a view; callers use `deserialize_unsized`.
     fn deserialize_unsized_part(
         alloc: Global,
         part: Part<'_>,
         deserializer: &mut D,
     ) -> Result<T, Error>
-        requires { ∥ Readable part.bytes.now part.pos Self.pointee part.len ∥₁ }
-        ensures { IfErr result (λ e. (e ≡ OutOfMemory) ⊎ (e ≡ CyclicDeserialize)) };
+        requires { Viewed Self.definitions part.bytes.now part.pos Self.pointee part.len }
+        ensures value { IfOk result (λ t. AreNamedByPosition (D.entry_of deserializer.old) → Says Self.definitions part.entry.bytes.now part.entry.pos Self.pointee part.entry.len (T.meaning t)) }
+        ensures entries { OnOk result (KeepsEntries (D.entry_of deserializer.old) (D.entry_of deserializer.new)) }
+        ensures refused { IfErr result (λ e. (e ≡ OutOfMemory) ⊎ ((e ≡ CyclicDeserialize) × IsCyclic Self.definitions part.entry.bytes.now (D.entry_of deserializer.old) part.entry.pos Self.pointee part.entry.len)) };
 
-    /// What it reads back as. Memory comes from `alloc`: refused with 1 where it is refused, and with 13 where a shared value holds itself.
+    /// What the view shows, as `Deserialize::deserialize` says it. Memory comes from `alloc`: refused with 1 where it is refused, and with 13 where a
+    /// shared value holds itself, or one that is still being read.
     final fn deserialize_unsized(
         alloc: Global,
         view: Ref<'_, Self>,
         deserializer: &mut D,
     ) -> Result<T, Error>
-        ensures { IfErr result (λ e. (e ≡ OutOfMemory) ⊎ (e ≡ CyclicDeserialize)) }
+        ensures value { IfOk result (λ t. AreNamedByPosition (D.entry_of deserializer.old) → Says Self.definitions view.entry.bytes.now view.entry.pos Self.pointee view.entry.len (T.meaning t)) }
+        ensures entries { OnOk result (KeepsEntries (D.entry_of deserializer.old) (D.entry_of deserializer.new)) }
+        ensures refused { IfErr result (λ e. (e ≡ OutOfMemory) ⊎ ((e ≡ CyclicDeserialize) × IsCyclic Self.definitions view.entry.bytes.now (D.entry_of deserializer.old) view.entry.pos Self.pointee view.entry.len)) }
     {
         Self::deserialize_unsized_part(alloc, view.part(), deserializer)
     }

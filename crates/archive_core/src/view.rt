@@ -1,9 +1,12 @@
 //! Views of archived values, slices and texts.
 
 ghost use Rattle.std.specs.Prelude.{◌≡◌, ⊤, false};
-ghost use Rattle.archive_check.specs.Shape.{leaf, one};
+ghost use Rattle.archive_check.specs.Shape.{leaf, non_zero, one};
+ghost use Rattle.archive_check.specs.Definitions.{no_definition};
+ghost use Rattle.archive_check.specs.Value.{number};
 ghost use Rattle.archive_check.specs.Reads.{bytes_at};
 ghost use Rattle.archive_check.specs.Readable.{Readable};
+ghost use Rattle.archive_check.specs.Viewed.{Viewed, Says};
 ghost use Rattle.archive_num.specs.Digits.{is_zero};
 
 use crate::primitive::Plain;
@@ -13,13 +16,13 @@ use archive_num::{Integer, LittleEndian, Native};
 use std::alloc::AllocError;
 use std::marker::PhantomData;
 
-/// A view of an archived value, slice or text, in a buffer that was checked. It stands where rkyv has a reference to the archived type.
+/// A view of an archived value, slice or text: a part of a buffer that was checked. It stands where rkyv has a reference to the archived type.
 pub struct Ref<'a, T: ArchivePointee> {
     bytes: &'a [u8],
     pos: usize,
     len: usize,
     of: PhantomData<T>,
-    pub ghost valid: { ∥ Readable bytes.now pos T.pointee len ∥₁ },
+    pub ghost valid: { Viewed T.definitions bytes.now pos T.pointee len },
 }
 
 impl<'a, T: ArchivePointee> Clone for Ref<'a, T> {
@@ -53,9 +56,9 @@ impl<'a, T: ArchivePointee> Ref<'a, T> {
         self.pos
     }
 
-    /// The view of a part that was checked.
+    /// The view of a part of a buffer that was checked.
     pub fn at(part: Part<'a>) -> Ref<'a, T>
-        requires { ∥ Readable part.bytes.now part.pos T.pointee part.len ∥₁ }
+        requires { Viewed T.definitions part.bytes.now part.pos T.pointee part.len }
         ensures buffer { result.bytes.now ≡ part.entry.bytes.now }
         ensures position { result.pos ≡ part.entry.pos }
         ensures length { result.len ≡ part.entry.len }
@@ -73,7 +76,7 @@ impl<'a, T: ArchivePointee> Ref<'a, T> {
         ensures buffer { result.bytes.now ≡ self.entry.bytes.now }
         ensures position { result.pos ≡ self.entry.pos }
         ensures length { result.len ≡ self.entry.len }
-        ensures readable { ∥ Readable result.bytes.now result.pos T.pointee result.len ∥₁ }
+        ensures viewed { Viewed T.definitions result.bytes.now result.pos T.pointee result.len }
     {
         Part {
             bytes: self.bytes,
@@ -94,8 +97,10 @@ fn read_leaf<N: Native>(part: Part<'_>) -> N
 
 impl<'a, N: Native> Ref<'a, LittleEndian<N>> {
     /// The number.
+    #[tactic(auto, using(archive_check::proofs::Said::leaf_readable))]
     pub fn get(self) -> N
-        ensures { result ≡ N.number_of (bytes_at self.entry.bytes.now self.entry.pos N.byte_count) }
+        ensures number { result ≡ N.number_of (bytes_at self.entry.bytes.now self.entry.pos N.byte_count) }
+        ensures says { Says no_definition self.entry.bytes.now self.entry.pos (one (leaf N.kind)) self.entry.len (number (N.value_of result)) }
     {
         read_leaf(self.part())
     }
@@ -106,6 +111,7 @@ impl<'a, N: Integer> Ref<'a, NonZero<N>> {
     pub fn get(self) -> N
         ensures number { result ≡ N.number_of (bytes_at self.entry.bytes.now self.entry.pos N.byte_count) }
         ensures not_zero { is_zero (N.value_of result) ≡ false }
+        ensures says { Says no_definition self.entry.bytes.now self.entry.pos (one (leaf (non_zero N.sign N.width))) self.entry.len (number (N.value_of result)) }
     {
         read_leaf(self.part())
     }
@@ -113,8 +119,10 @@ impl<'a, N: Integer> Ref<'a, NonZero<N>> {
 
 impl<'a, N: Plain> Ref<'a, N> {
     /// The value: nothing, a bool, or a number of one byte.
+    #[tactic(auto, using(archive_check::proofs::Said::leaf_readable))]
     pub fn get(self) -> N
-        ensures { result ≡ N.number_of (bytes_at self.entry.bytes.now self.entry.pos N.byte_count) }
+        ensures number { result ≡ N.number_of (bytes_at self.entry.bytes.now self.entry.pos N.byte_count) }
+        ensures says { Says N.definitions self.entry.bytes.now self.entry.pos N.pointee self.entry.len (number (N.value_of result)) }
     {
         read_leaf(self.part())
     }

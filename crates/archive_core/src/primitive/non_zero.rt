@@ -4,7 +4,9 @@ ghost use Rattle.std.specs.Prelude.{◌≡◌, ⊤, length, IfOk, IsOk};
 ghost use Rattle.archive_check.specs.Layout.{kind_size};
 ghost use Rattle.archive_check.specs.Shape.{leaf, one, non_zero};
 ghost use Rattle.archive_check.specs.Reads.{bytes_at};
-ghost use Rattle.archive_check.specs.Readable.{Readable};
+ghost use Rattle.archive_check.specs.Definitions.{no_definition};
+ghost use Rattle.archive_check.specs.Value.{number};
+ghost use Rattle.archive_check.specs.Viewed.{Viewed, Says};
 ghost use Rattle.archive_check.specs.Told.{KeepsKeys};
 ghost use Rattle.archive_write.specs.Written.{IsBeginning};
 
@@ -21,6 +23,8 @@ impl<N: Integer> Archive for NonZero<N> {
     type Archived = NonZero<N>;
 
     type Resolver = ();
+
+    ghost meaning = { λ n. number (N.value_of n) };
 
     ghost belongs = { λ _ _. ⊤ };
 
@@ -55,8 +59,10 @@ impl<N: Integer, D: Entries> Deserialize<NonZero<N>, D> for NonZero<N> {
         part: Part<'_>,
         _deserializer: &mut D,
     ) -> Result<NonZero<N>, Error>
-        requires { ∥ Readable part.bytes.now part.pos (one (leaf (non_zero N.sign N.width))) part.len ∥₁ }
-        ensures value { IfOk result (λ n. n ≡ N.number_of (bytes_at part.entry.bytes.now part.entry.pos N.byte_count)) }
+        requires { Viewed no_definition part.bytes.now part.pos (one (leaf (non_zero N.sign N.width))) part.len }
+        ensures value { IfOk result (λ n. Says no_definition part.entry.bytes.now part.entry.pos (one (leaf (non_zero N.sign N.width))) part.entry.len (number (N.value_of n))) }
+        ensures number { IfOk result (λ n. n ≡ N.number_of (bytes_at part.entry.bytes.now part.entry.pos N.byte_count)) }
+        ensures unchanged { D.entry_of _deserializer.new ≡ D.entry_of _deserializer.old }
         ensures succeeds { IsOk result }
     {
         let view: Ref<'_, NonZero<N>> = Ref::at(part);

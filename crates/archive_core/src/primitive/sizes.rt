@@ -1,11 +1,13 @@
 // `usize` and `isize` as sources: 32 bits, and refused where they need more.
 
-ghost use Rattle.std.specs.Prelude.{◌≡◌, ◌<◌, ◌^◌, length, IfOk, IfErr, IsOk};
+ghost use Rattle.std.specs.Prelude.{◌≡◌, ◌<◌, ◌^◌, pos, length, IfOk, IfErr, IsOk};
 ghost use Rattle.std.specs.Int.{w32, cast_signed, cast_unsigned};
 ghost use Rattle.std.specs.Int.RustNames.{FitsSigned};
 ghost use Rattle.archive_check.specs.Shape.{leaf, one, number, signed, unsigned};
 ghost use Rattle.archive_check.specs.Reads.{bytes_at};
-ghost use Rattle.archive_check.specs.Readable.{Readable};
+ghost use Rattle.archive_check.specs.Definitions.{no_definition};
+ghost use Rattle.archive_check.specs.Value.{number as number_value};
+ghost use Rattle.archive_check.specs.Viewed.{Viewed, Says};
 ghost use Rattle.archive_check.specs.Told.{KeepsKeys};
 ghost use Rattle.archive_check.specs.declared.error.Error.TheVariants.{NumberTooLarge};
 ghost use Rattle.archive_num.specs.Digits.{little_bytes, little_number};
@@ -23,6 +25,8 @@ impl Archive for usize {
     type Archived = ArchivedUsize;
 
     type Resolver = ();
+
+    ghost meaning = { λ n. number_value (pos n) };
 
     ghost belongs = { λ n _. n < 2 ^ 32 };
 
@@ -61,8 +65,10 @@ impl<D: Entries> Deserialize<usize, D> for ArchivedUsize {
         part: Part<'_>,
         _deserializer: &mut D,
     ) -> Result<usize, Error>
-        requires { ∥ Readable part.bytes.now part.pos (one (leaf (number unsigned w32))) part.len ∥₁ }
-        ensures value { IfOk result (λ n. n ≡ little_number (bytes_at part.entry.bytes.now part.entry.pos 4)) }
+        requires { Viewed no_definition part.bytes.now part.pos (one (leaf (number unsigned w32))) part.len }
+        ensures value { IfOk result (λ n. Says no_definition part.entry.bytes.now part.entry.pos (one (leaf (number unsigned w32))) part.entry.len (number_value (pos n))) }
+        ensures number { IfOk result (λ n. n ≡ little_number (bytes_at part.entry.bytes.now part.entry.pos 4)) }
+        ensures unchanged { D.entry_of _deserializer.new ≡ D.entry_of _deserializer.old }
         ensures succeeds { IsOk result }
     {
         let view: Ref<'_, ArchivedUsize> = Ref::at(part);
@@ -74,6 +80,8 @@ impl Archive for isize {
     type Archived = ArchivedIsize;
 
     type Resolver = ();
+
+    ghost meaning = { λ n. number_value n };
 
     ghost belongs = { λ n _. FitsSigned w32 n };
 
@@ -112,8 +120,10 @@ impl<D: Entries> Deserialize<isize, D> for ArchivedIsize {
         part: Part<'_>,
         _deserializer: &mut D,
     ) -> Result<isize, Error>
-        requires { ∥ Readable part.bytes.now part.pos (one (leaf (number signed w32))) part.len ∥₁ }
-        ensures value { IfOk result (λ n. n ≡ cast_signed w32 (little_number (bytes_at part.entry.bytes.now part.entry.pos 4))) }
+        requires { Viewed no_definition part.bytes.now part.pos (one (leaf (number signed w32))) part.len }
+        ensures value { IfOk result (λ n. Says no_definition part.entry.bytes.now part.entry.pos (one (leaf (number signed w32))) part.entry.len (number_value n)) }
+        ensures number { IfOk result (λ n. n ≡ cast_signed w32 (little_number (bytes_at part.entry.bytes.now part.entry.pos 4))) }
+        ensures unchanged { D.entry_of _deserializer.new ≡ D.entry_of _deserializer.old }
         ensures succeeds { IsOk result }
     {
         let view: Ref<'_, ArchivedIsize> = Ref::at(part);

@@ -1,30 +1,43 @@
 use Rattle.std.proofs.Common.{arith}
+use Rattle.archive_check.proofs.Said.{string_readable, inline_says, out_says}
 use Rattle.archive_core.proofs.Shown.{string_shown, inline_shown, elsewhere_shown}
 use Rattle.archive_core.proofs.string.Ref+ArchivedString.as_str.Goals as goal
 
+pub is_out_of_line-requires : goal.is_out_of_line-requires
+is_out_of_line-requires c = omega (arith, string_shown _ _ _ (string_readable _ _ _ _ c.part-pos.ensures.viewed))
+
 pub read_target-requires-clause-within : goal.read_target-requires-clause-within
-read_target-requires-clause-within c = omega (arith, string_shown _ _ _ c.part-pos.ensures.readable)
+read_target-requires-clause-within c = omega (arith, string_shown _ _ _ (string_readable _ _ _ _ c.part-pos.ensures.viewed))
 
 pub read_target-requires-clause-lands : goal.read_target-requires-clause-lands
-read_target-requires-clause-lands c = (elsewhere_shown _ _ _ (c.is_out_of_line.ensures.0 c.if-is_out_of_line.true) c.part-pos.ensures.readable).lands
+read_target-requires-clause-lands c = (elsewhere_shown _ _ _ (c.is_out_of_line.ensures.0 c.if-is_out_of_line.true) (string_readable _ _ _ _ c.part-pos.ensures.viewed)).lands
 
 pub read_target-requires-clause-fits : goal.read_target-requires-clause-fits
-read_target-requires-clause-fits c = let e = elsewhere_shown _ _ _ (c.is_out_of_line.ensures.0 c.if-is_out_of_line.true) c.part-pos.ensures.readable in omega (arith, e.shown.fits)
+read_target-requires-clause-fits c = let e = elsewhere_shown _ _ _ (c.is_out_of_line.ensures.0 c.if-is_out_of_line.true) (string_readable _ _ _ _ c.part-pos.ensures.viewed) in omega (arith, e.shown.fits)
 
 pub read_coded_length-requires : goal.read_coded_length-requires
-read_coded_length-requires c = omega (arith, string_shown _ _ _ c.part-pos.ensures.readable)
+read_coded_length-requires c = omega (arith, string_shown _ _ _ (string_readable _ _ _ _ c.part-pos.ensures.viewed))
 
 pub read_text-requires-clause-within : goal.read_text-requires-clause-within
-read_text-requires-clause-within c = rw (c.read_target.ensures, c.read_coded_length.ensures) (elsewhere_shown _ _ _ (c.is_out_of_line.ensures.0 c.if-is_out_of_line.true) c.part-pos.ensures.readable).shown.fits
+read_text-requires-clause-within c = rw (c.read_target.ensures, c.read_coded_length.ensures) (elsewhere_shown _ _ _ (c.is_out_of_line.ensures.0 c.if-is_out_of_line.true) (string_readable _ _ _ _ c.part-pos.ensures.viewed)).shown.fits
 
 pub read_text-requires-clause-utf8 : goal.read_text-requires-clause-utf8
-read_text-requires-clause-utf8 c = rw (c.read_target.ensures, c.read_coded_length.ensures) (elsewhere_shown _ _ _ (c.is_out_of_line.ensures.0 c.if-is_out_of_line.true) c.part-pos.ensures.readable).shown.utf8
+read_text-requires-clause-utf8 c = rw (c.read_target.ensures, c.read_coded_length.ensures) (elsewhere_shown _ _ _ (c.is_out_of_line.ensures.0 c.if-is_out_of_line.true) (string_readable _ _ _ _ c.part-pos.ensures.viewed)).shown.utf8
 
 pub inline_length-requires : goal.inline_length-requires
-inline_length-requires c = string_shown _ _ _ c.part-pos.ensures.readable
+inline_length-requires c = string_shown _ _ _ (string_readable _ _ _ _ c.part-pos.ensures.viewed)
 
 pub read_text-requires-2-clause-within : goal.read_text-requires-2-clause-within
-read_text-requires-2-clause-within c = omega (arith, string_shown _ _ _ c.part-pos.ensures.readable, c.inline_length.ensures.short)
+read_text-requires-2-clause-within c = omega (arith, string_shown _ _ _ (string_readable _ _ _ _ c.part-pos.ensures.viewed), c.inline_length.ensures.short)
 
 pub read_text-requires-2-clause-utf8 : goal.read_text-requires-2-clause-utf8
-read_text-requires-2-clause-utf8 c = rw c.inline_length.ensures.text (inline_shown _ _ _ (λ o. let t = c.is_out_of_line.ensures.1 o in cc) c.part-pos.ensures.readable)
+read_text-requires-2-clause-utf8 c = rw c.inline_length.ensures.text (inline_shown _ _ _ (λ o. let t = c.is_out_of_line.ensures.1 o in cc) (string_readable _ _ _ _ c.part-pos.ensures.viewed))
+
+pub returns-then-is_out_of_line-clause-says : goal.returns-then-is_out_of_line-clause-says
+returns-then-is_out_of_line-clause-says c =
+    rw (c.read_text.ensures, c.read_target.ensures, c.read_coded_length.ensures, ← c.part-pos.ensures.buffer, ← c.part-pos.ensures.position)
+    (out_says _ _ _ _ (c.is_out_of_line.ensures.0 c.if-is_out_of_line.true))
+
+pub returns-clause-says : goal.returns-clause-says
+returns-clause-says c =
+    rw (c.read_text-2.ensures, c.inline_length.ensures.text, ← c.part-pos.ensures.buffer, ← c.part-pos.ensures.position) (inline_says _ _ _ _ (λ o. let t = c.is_out_of_line.ensures.1 o in cc))

@@ -1,0 +1,4 @@
+use Rattle.archive_core.proofs.primitive.non_zero.NonZeroDeserialize.deserialize_part.Goals as goal
+
+pub returns-clause-value : goal.returns-clause-value
+returns-clause-value g c = rw c.from_native.ensures (rw (c.at-view.ensures.buffer, c.at-view.ensures.position, c.at-view.ensures.length) at c.get.ensures.says)

@@ -1,0 +1,12 @@
+use Rattle.std.proofs.Common.{refl, arith}
+use Rattle.std.proofs.lemmas.Grind.{common_steps}
+use Rattle.std.specs.Int.{w32, cast_signed}
+use Rattle.archive_check.specs.Shape.{number, signed}
+use Rattle.archive_num.specs.Digits.{little_number}
+use Rattle.archive_num.specs.Leaves.{signed-value}
+use Rattle.archive_core.proofs.Shown.{number_says}
+use Rattle.archive_core.proofs.primitive.sizes.ArchivedIsizeDeserializeIsize.deserialize_part.Goals as goal
+
+pub returns-clause-value : goal.returns-clause-value
+returns-clause-value g c =
+    number_says (λ z. z) (λ bs. cast_signed w32 (little_number bs)) _ _ _ c.args.part.len 4 (number signed w32) _ refl (λ bs h. signed-value w32 bs h) (grind (arith, common_steps))

@@ -1,0 +1,12 @@
+use Rattle.std.proofs.Common.{pos, refl}
+use Rattle.std.specs.Int.{w32, cast_signed}
+use Rattle.archive_check.specs.Shape.{number, unsigned}
+use Rattle.archive_num.specs.Digits.{little_number}
+use Rattle.archive_num.specs.Leaves.{unsigned-value}
+use Rattle.archive_core.proofs.Shown.{number_says}
+use Rattle.archive_core.proofs.primitive.sizes.ArchivedUsizeDeserializeUsize.deserialize_part.Goals as goal
+
+pub returns-clause-value : goal.returns-clause-value
+returns-clause-value g c =
+    number_says (λ n. pos n) (little_number) _ _ _ c.args.part.len 4 (number unsigned w32) _ refl (λ bs h. unsigned-value w32 bs h)
+    (rw (c.at-view.ensures.buffer, c.at-view.ensures.position) at c.get.ensures.number)
