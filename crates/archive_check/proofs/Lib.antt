@@ -31,3 +31,6 @@ pub mod LittleEndian
 pub mod Descent
 pub mod Placed
 pub mod Ordered
+pub mod Standing
+pub mod Cleaning
+pub mod Tightness

@@ -25,3 +25,4 @@ pub mod Readable
 pub mod Ranges
 pub mod Told
 pub mod Schemas
+pub mod Tidy
