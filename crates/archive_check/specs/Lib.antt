@@ -26,3 +26,4 @@ pub mod Ranges
 pub mod Told
 pub mod Schemas
 pub mod Tidy
+pub mod Held
