@@ -64,8 +64,9 @@ module _ (s : Schema) (bytes : List ℕ) where
       neat_zero i (neat_parts {p = p} {ps = ps} h) above below free = parts_zero i h (omega arith) below (λ q Y j. λ r Z w. free r Z (within_trans (in_parts whole j) w))
       neat_zero i (neat_choice {p = p} {name = name} {variants = vs} {ps = ps} e h) above below free =
           elim (cases_lt p i) [
-            inl later ↦ parts_zero i h (omega arith) below (λ q Y j. λ r Z w. free r Z (within_trans (in_choice whole e j) w))
-          | inr same ↦ absurd (free p (choice name vs) whole above (omega arith)) ]
+            | inl later ↦ parts_zero i h (omega arith) below (λ q Y j. λ r Z w. free r Z (within_trans (in_choice whole e j) w))
+            | inr same ↦ absurd (free p (choice name vs) whole above (omega arith))
+          ]
       neat_zero i (neat_array {n = n} {X = X} h) above below free = run_zero i n 0 h above below (λ k less. λ r Z w. free r Z (within_trans (in_array whole less) w))
       neat_zero i neat_boxed above below free = absurd (free _ _ whole above below)
       neat_zero i neat_vec above below free = absurd (free _ _ whole above below)
@@ -83,18 +84,21 @@ module _ (s : Schema) (bytes : List ℕ) where
       parts_zero i (neat_no_part z) above below free = z.zero_at i above below
       parts_zero i (neat_part {p = p} {at = at} {X = X} z h j) above below free =
           elim (cases_lt i (p + up at (align_of s.layouts X))) [
-            inl before ↦ z.zero_at i above before
-          | inr behind ↦ elim (cases_lt i (p + up at (align_of s.layouts X) + size_of s.layouts X)) [
-              inl here ↦ neat_zero i h behind here (free _ X first_part)
-            | inr later ↦ parts_zero i j (omega arith) below (λ q Y k. free q Y (later_part k)) ] ]
+            | inl before ↦ z.zero_at i above before
+            | inr behind ↦ elim (cases_lt i (p + up at (align_of s.layouts X) + size_of s.layouts X)) [
+              | inl here ↦ neat_zero i h behind here (free _ X first_part)
+              | inr later ↦ parts_zero i j (omega arith) below (λ q Y k. free q Y (later_part k))
+            ]
+          ]
 
       run_zero : {p : ℕ} {X : Shape} (i n m : ℕ) → NeatRun s bytes p n X → p ≤ i → i < p + n * size_of s.layouts X
           → ((k : ℕ) → k < n → Free i (p + k * size_of s.layouts X) X) → slice_index bytes i ≡ 0
       run_zero i zero m neat_none above below free = absurd (omega arith)
       run_zero {p = p} {X = X} i (suc n) m (neat_element h j) above below free =
           elim (cases_lt i (p + size_of s.layouts X)) [
-            inl here ↦ neat_zero i h above here (subst (λ q. Free i q X) (omega arith) (free 0 (omega arith)))
-          | inr later ↦ run_zero i n m j later (omega arith) (λ k less. subst (λ q. Free i q X) (omega arith) (free (suc k) (omega arith))) ]
+            | inl here ↦ neat_zero i h above here (subst (λ q. Free i q X) (omega arith) (free 0 (omega arith)))
+            | inr later ↦ run_zero i n m j later (omega arith) (λ k less. subst (λ q. Free i q X) (omega arith) (free (suc k) (omega arith)))
+          ]
 
     pointee_zero : (i : ℕ) (r : Region) (P : Pointee) → r.pointee ≡ P → NeatPointee s bytes r.begin P r.length → r.begin ≤ i → i < r.begin + pointee_size s P r.length
         → ((q : ℕ) (Y : Shape) → PartOf s bytes r q (one Y) 0 → q ≤ i → i < q + own_size Y → ⊥) → (P ≡ text → ⊥) → slice_index bytes i ≡ 0
@@ -112,14 +116,17 @@ module _ (s : Schema) (bytes : List ℕ) where
     tidy_zero i start stop [] sized tight tidy above below free = absurd (omega arith)
     tidy_zero i start stop (r ∷ C) sized tight tidy above below free =
         elim (cases_lt i r.begin) [
-          inl before ↦ tidy.0.zero_at i above before
-        | inr behind ↦ elim (cases_lt i (r.begin + r.size)) [
-            inl here ↦ pointee_zero i r r.pointee refl tidy.1 behind (omega (arith, sized.0))
-              (λ q Y w a b. free (owned_part (r, head_in r C, w) a b))
-              (λ e. free (owned_text (head_in r C) e behind (let same : pointee_size s r.pointee r.length ≡ r.length = ap (λ P. pointee_size s P r.length) e in omega (arith, sized.0))))
-          | inr later ↦ elim (cases_lt i (after r)) [
-              inl gap ↦ tidy.2.zero_at i later gap
-            | inr next ↦ tidy_zero i (after r) stop C sized.1 tight.1 tidy.3 next below (λ o. free (owned_later r C i o)) ] ] ]
+          | inl before ↦ tidy.0.zero_at i above before
+          | inr behind ↦ elim (cases_lt i (r.begin + r.size)) [
+            | inl here ↦ pointee_zero i r r.pointee refl tidy.1 behind (omega (arith, sized.0))
+                (λ q Y w a b. free (owned_part (r, head_in r C, w) a b))
+                (λ e. free (owned_text (head_in r C) e behind (let same : pointee_size s r.pointee r.length ≡ r.length = ap (λ P. pointee_size s P r.length) e in omega (arith, sized.0))))
+            | inr later ↦ elim (cases_lt i (after r)) [
+              | inl gap ↦ tidy.2.zero_at i later gap
+              | inr next ↦ tidy_zero i (after r) stop C sized.1 tight.1 tidy.3 next below (λ o. free (owned_later r C i o))
+            ]
+          ]
+        ]
       where
         owned_later : (r : Region) (C : List Region) (i : ℕ) → Owned s bytes C i → Owned s bytes (r ∷ C) i
         owned_later r C i (owned_part (q, c, w) a b) = owned_part (q, tail_in r q C c, w) a b
@@ -154,6 +161,7 @@ module _ (s : Schema) (bytes : List ℕ) where
 
     pub tidy_clean : (start : ℕ) (C : List Region) → AreSized s C → Tight start C (length bytes) → Tidy s bytes start C → Clean s bytes start C
     tidy_clean start C sized tight tidy = record {
-        padding = λ i above below free. tidy_zero i start (length bytes) C sized tight tidy above below free;
-        strings = λ q i above there inline few less. (string_filled (reached_neat start C q str tidy there) inline).filled i few less;
-        nulls = λ q flavor P above there e. null_empty (reached_neat start C q (weak flavor P) tidy there) e }
+      padding = λ i above below free. tidy_zero i start (length bytes) C sized tight tidy above below free;
+      strings = λ q i above there inline few less. (string_filled (reached_neat start C q str tidy there) inline).filled i few less;
+      nulls = λ q flavor P above there e. null_empty (reached_neat start C q (weak flavor P) tidy there) e;
+    }

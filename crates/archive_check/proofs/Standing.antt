@@ -9,9 +9,11 @@ stands_front B p a b h = record { before = h.before; behind = b ++ h.behind; is 
 
 pub stands_back : (B : List ℕ) (p q : ℕ) (a b : List ℕ) → q ≡ p + length a → Stands B p (a ++ b) → Stands B q b
 stands_back B p q a b e h = record {
-    before = h.before ++ a; behind = h.behind;
-    is = h.is ∙ ap (λ x. h.before ++ x) (append_assoc a b h.behind) ∙ sym (append_assoc h.before a (b ++ h.behind));
-    at = omega (arith, length-append h.before a, h.at, e) }
+  before = h.before ++ a;
+  behind = h.behind;
+  is = h.is ∙ ap (λ x. h.before ++ x) (append_assoc a b h.behind) ∙ sym (append_assoc h.before a (b ++ h.behind));
+  at = omega (arith, length-append h.before a, h.at, e);
+}
 
 pub stands_fits : (B : List ℕ) (p : ℕ) (a : List ℕ) → Stands B p a → p + length a ≤ length B
 stands_fits B p a h = omega (arith, ap length h.is, length-append h.before (a ++ h.behind), length-append a h.behind, h.at)
@@ -24,11 +26,13 @@ pub stands_index : (B : List ℕ) (p i : ℕ) (a : List ℕ) → i < length a �
 stands_index B p i a below h = rw (h.is, ← h.at) (get_or-append-add h.before (a ++ h.behind) i 0 ∙ get_or_append_left a h.behind 0 i below)
 
 pub stands_zero : (B : List ℕ) (p q : ℕ) (a : List ℕ) → IsZeroed a → q ≡ p + length a → Stands B p a → AreZero B p q
-stands_zero B p q a z e h = record { zero_at = λ k above below. (
-    let i : ℕ = k - p in
-    let here : p + i ≡ k = omega arith in
-    let few : i < length a = omega arith in
-    rw (← here) (stands_index B p i a few h ∙ z.zero_at i few)) }
+stands_zero B p q a z e h = record {
+  zero_at = λ k above below. (
+      let i : ℕ = k - p in
+      let here : p + i ≡ k = omega arith in
+      let few : i < length a = omega arith in
+      rw (← here) (stands_index B p i a few h ∙ z.zero_at i few));
+}
 
 pub zero_nowhere : (B : List ℕ) (p q : ℕ) → q ≤ p → AreZero B p q
 zero_nowhere B p q h = record { zero_at = λ k above below. absurd (omega arith) }

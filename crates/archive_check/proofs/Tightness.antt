@@ -63,6 +63,7 @@ after_ends r = grind arith
 pub tight_rises : (a : ℕ) (C : List Region) (c : ℕ) → ArePositive C → Tight a C c → Rising a C c
 tight_rises a [] c p h = omega (arith, h)
 tight_rises a (r ∷ C) c p h = (
-    omega (arith, h.0, up_le a r.align p.0),
-    rw (h.0) (mul-mod_left ((a + (r.align - 1)) / r.align) r.align),
-    rising_lower (r.begin + r.size) (after r) C c (after_ends r) (tight_rises (after r) C c p.1 h.1))
+  omega (arith, h.0, up_le a r.align p.0),
+  rw (h.0) (mul-mod_left ((a + (r.align - 1)) / r.align) r.align),
+  rising_lower (r.begin + r.size) (after r) C c (after_ends r) (tight_rises (after r) C c p.1 h.1),
+)

@@ -1,21 +1,21 @@
 -- How what is appended goes together.
-use Rattle.std.proofs.Common.{◌≡◌, ◌⊎◌, inl, inr, ℕ, pos, ◌+◌, ◌-◌, ◌<◌, ◌≤◌, List, [], ◌∷◌, ◌++◌, length, refl, sym, ap, ◌∙◌, append_assoc, length-append, arith, Option, Some, None}
+use Rattle.std.proofs.Common.{◌≡◌, ◌⊎◌, inl, inr, ℕ, ℤ, pos, ◌+◌, ◌-◌, ◌<◌, ◌≤◌, List, [], ◌∷◌, ◌++◌, length, refl, sym, ap, ◌∙◌, append_assoc, length-append, arith, Option, Some, None}
 use Rattle.std.proofs.lemmas.List.{append-nil}
 use Rattle.std.specs.FinMap.{get}
-use Rattle.archive_check.specs.Shape.{Shape}
+use Rattle.archive_check.specs.Shape.{Shape, Pointee, one}
 use Rattle.archive_check.specs.Layout.{Layout, up, size_of, align_of}
 use Rattle.archive_check.specs.Definitions.{Definitions, no_definition, both, Knows, HasLayout}
-use Rattle.archive_check.specs.Value.{Pointer, Value, Values, value, no_value, product, case, box, hole, pointers}
+use Rattle.archive_check.specs.Value.{Pointer, Value, number, Values, value, no_value, product, case, box, hole, pointers}
 use Rattle.archive_check.specs.Reads.{Schema}
 use Rattle.archive_check.specs.Tour.{Region, contents_one, Leads, Entry, Seen, tour_end, tour_unique, pointee_size, pointee_align, region_of}
-use Rattle.archive_check.specs.Denotes.{Fills, rename, fills_box, fills_unique, fills_product, fills_case, fills_no_value, fills_value}
+use Rattle.archive_check.specs.Denotes.{Fills, rename, fills_number, fills_box, fills_unique, fills_product, fills_case, fills_no_value, fills_value}
 use Rattle.archive_check.specs.Written.{after}
 use Rattle.archive_check.specs.Tidy.{Stands, AreZero, NeatPointee, neat_one}
 use Rattle.archive_check.specs.Held.{States, Held, Pads}
 use Rattle.archive_check.proofs.Compose.{tour_append}
 use Rattle.archive_check.proofs.Standing.{stands_fits, stands_zero, zero_nowhere, stands_begun}
 use Rattle.archive_check.proofs.Tightness.{tight_append, tidy_append}
-use Rattle.archive_core.specs.Writing.{Names, Naming, AreNamed, World, Holds, Known, Unseen, Found, Appends, Finishes, AreFinished, Writes, WritesAll, Puts, to_one}
+use Rattle.archive_core.specs.Writing.{Names, Naming, AreNamed, World, Holds, Known, Unseen, Found, Appends, Finishes, AreFinished, Writes, WritesAll, Puts, Lays, to_pointee}
 
 -- the layout, in a schema that knows the definitions
 
@@ -47,12 +47,14 @@ named_both names (k ∷ ks) ls h i = (h.0, named_both names ks ls h.1 i)
 
 -- a world that holds what is written later holds what was written before
 pub holds_before : (w : World) (D : Definitions) (mid new added : List ℕ) (s t : States) (ks : List Naming)
-  → new ≡ mid ++ added → ((k : ℕ) (x : Option ℕ) → s k ≡ Some x → t k ≡ Some x) → Holds w D new t ks → Holds w D mid s ks
+    → new ≡ mid ++ added → ((k : ℕ) (x : Option ℕ) → s k ≡ Some x → t k ≡ Some x) → Holds w D new t ks → Holds w D mid s ks
 holds_before w D mid new added s t ks e kept h = record {
-    knows = h.knows; rest = added ++ h.rest;
-    begins = h.begins ∙ ap (λ x. x ++ h.rest) e ∙ append_assoc mid added h.rest;
-    placed = λ k q i. h.placed k q (kept k (Some q) i);
-    named = h.named }
+  knows = h.knows;
+  rest = added ++ h.rest;
+  begins = h.begins ∙ ap (λ x. x ++ h.rest) e ∙ append_assoc mid added h.rest;
+  placed = λ k q i. h.placed k q (kept k (Some q) i);
+  named = h.named;
+}
 
 pub holds_left : (w : World) (D E : Definitions) (new : List ℕ) (t : States) (ks ls : List Naming) → Holds w (both D E) new t (ks ++ ls) → Holds w D new t ks
 holds_left w D E new t ks ls h = record { knows = knows_left _ D E h.knows; rest = h.rest; begins = h.begins; placed = h.placed; named = named_left _ ks ls h.named }
@@ -66,7 +68,7 @@ pub finishes_nothing : (a : ℕ) (s : States) → Finishes a a s s
 finishes_nothing a s = record { kept = λ k x h. h; settled = λ k x h i. cc; apart = λ k l t h i j m. cc }
 
 finishes_later : (a b c : ℕ) (s t u : States) (k : ℕ) (x : Option ℕ) (y : Option (Option ℕ)) → t k ≡ y → a ≤ b → b ≤ c
-  → Finishes a b s t → Finishes b c t u → s k ≡ None → u k ≡ Some x → (q : ℕ) × (x ≡ Some q) × (a ≤ q) × (q < c)
+    → Finishes a b s t → Finishes b c t u → s k ≡ None → u k ≡ Some x → (q : ℕ) × (x ≡ Some q) × (a ≤ q) × (q < c)
 finishes_later a b c s t u k x None is le ge h i old new =
     let later = i.settled k x is new in (later.0, later.1, omega (arith, later.2), later.3)
 finishes_later a b c s t u k x (Some y) is le ge h i old new =
@@ -75,7 +77,7 @@ finishes_later a b c s t u k x (Some y) is le ge h i old new =
     (early.0, same ∙ early.1, early.2, omega (arith, early.3))
 
 finishes_apart : (a b c : ℕ) (s t u : States) (k l q : ℕ) (x y : Option (Option ℕ)) → t k ≡ x → t l ≡ y → Finishes a b s t → Finishes b c t u
-  → s k ≡ None → s l ≡ None → u k ≡ Some (Some q) → u l ≡ Some (Some q) → k ≡ l
+    → s k ≡ None → s l ≡ None → u k ≡ Some (Some q) → u l ≡ Some (Some q) → k ≡ l
 finishes_apart a b c s t u k l q None None is js h i m n at too = i.apart k l q is js at too
 finishes_apart a b c s t u k l q None (Some y) is js h i m n at too =
     let later = i.settled k (Some q) is at in let early = h.settled l y n js in
@@ -101,9 +103,10 @@ finished_both s (k ∷ ks) ls h i = (h.0, finished_both s ks ls h.1 i)
 
 pub finishes_both : (a b c : ℕ) (s t u : States) → a ≤ b → b ≤ c → Finishes a b s t → Finishes b c t u → Finishes a c s u
 finishes_both a b c s t u le ge h i = record {
-    kept = λ k x old. i.kept k x (h.kept k x old);
-    settled = λ k x old new. finishes_later a b c s t u k x (t k) refl le ge h i old new;
-    apart = λ k l q m n at too. finishes_apart a b c s t u k l q (t k) (t l) refl refl h i m n at too }
+  kept = λ k x old. i.kept k x (h.kept k x old);
+  settled = λ k x old new. finishes_later a b c s t u k x (t k) refl le ge h i old new;
+  apart = λ k l q m n at too. finishes_apart a b c s t u k l q (t k) (t l) refl refl h i m n at too;
+}
 
 pub finishes_wider : (a b c : ℕ) (s t : States) → b ≤ c → Finishes a b s t → Finishes a c s t
 finishes_wider a b c s t le h = record { kept = h.kept; settled = λ k x old new. (let i = h.settled k x old new in (i.0, i.1, i.2, omega (arith, i.3))); apart = h.apart }
@@ -112,8 +115,16 @@ finishes_wider a b c s t le h = record { kept = h.kept; settled = λ k x old new
 
 pub appends_nothing : (w : World) (a : ℕ) (s : States) (pending : List ℕ) (seen : Seen) → Known w s a seen pending → Appends w a a s pending seen []
 appends_nothing w a s pending seen known = record {
-    regions = []; last = seen; tour = tour_end; tight = refl; tidy = tt; known = known;
-    below = λ t h. refl; above = λ t h. refl; found = λ t e h. inl h }
+  regions = [];
+  last = seen;
+  tour = tour_end;
+  tight = refl;
+  tidy = tt;
+  known = known;
+  below = λ t h. refl;
+  above = λ t h. refl;
+  found = λ t e h. inl h;
+}
 
 pub found_later : (w : World) (s t : States) (q : ℕ) (e : Entry) → ((k : ℕ) (x : Option ℕ) → s k ≡ Some x → t k ≡ Some x) → Found w s q e → Found w t q e
 found_later w s t q e kept h = record { key = h.key; flat = h.flat; value = h.value; finished = kept h.key (Some q) h.finished; names = h.names; contents = h.contents; fills = h.fills }
@@ -125,38 +136,41 @@ pub unseen_before : (a b c : ℕ) (seen : Seen) → b ≤ c → Unseen seen a c 
 unseen_before a b c seen le h = record { unseen = λ t l m. h.unseen t l (omega arith) }
 
 pub appends_both : (w : World) (a b c : ℕ) (s t : States) (pending : List ℕ) (seen : Seen) (O P : List Pointer)
-  → a ≤ b → b ≤ c → ((k : ℕ) (x : Option ℕ) → s k ≡ Some x → t k ≡ Some x)
-  → (h : Appends w a b s pending seen O) → Appends w b c t pending h.last P → Appends w a c t pending seen (O ++ P)
+    → a ≤ b → b ≤ c → ((k : ℕ) (x : Option ℕ) → s k ≡ Some x → t k ≡ Some x)
+    → (h : Appends w a b s pending seen O) → Appends w b c t pending h.last P → Appends w a c t pending seen (O ++ P)
 appends_both w a b c s t pending seen O P le ge kept h i = record {
-    regions = h.regions ++ i.regions;
-    last = i.last;
-    tour = (tour_append w.schema w.bytes h.tour i.tour).0;
-    tight = tight_append a h.regions b i.regions c h.tight i.tight;
-    tidy = tidy_append w.schema w.bytes a h.regions b i.regions h.tight h.tidy i.tidy;
-    known = i.known;
-    below = λ q l. i.below q (omega arith) ∙ h.below q l;
-    above = λ q l. i.above q l ∙ h.above q (omega arith);
-    found = λ q e is. elim (i.found q e is) [
-        inl early ↦ elim (h.found q e early) [ inl old ↦ inl old | inr mid ↦ inr (found_later w s t q e kept mid) ]
-      | inr new ↦ inr new ] }
+  regions = h.regions ++ i.regions;
+  last = i.last;
+  tour = (tour_append w.schema w.bytes h.tour i.tour).0;
+  tight = tight_append a h.regions b i.regions c h.tight i.tight;
+  tidy = tidy_append w.schema w.bytes a h.regions b i.regions h.tight h.tidy i.tidy;
+  known = i.known;
+  below = λ q l. i.below q (omega arith) ∙ h.below q l;
+  above = λ q l. i.above q l ∙ h.above q (omega arith);
+  found = λ q e is. elim (i.found q e is) [
+    | inl early ↦ elim (h.found q e early) [ inl old ↦ inl old | inr mid ↦ inr (found_later w s t q e kept mid) ]
+    | inr new ↦ inr new
+  ];
+}
 
 -- after the regions of its own pointers, the region of a pointer that is its own
 pub appends_region : (w : World) (a b c : ℕ) (s : States) (pending : List ℕ) (seen : Seen) (p : Pointer) (t : ℕ) (v : Value)
-  → a ≤ b → p.sharing ≡ None → Leads w.schema w.bytes p t v
-  → t ≡ up b (pointee_align w.schema p.pointee) → AreZero w.bytes b t → NeatPointee w.schema w.bytes t p.pointee p.length
-  → b ≤ c → c ≡ after (region_of w.schema p t) → AreZero w.bytes (t + pointee_size w.schema p.pointee p.length) (after (region_of w.schema p t))
-  → Appends w a b s pending seen (pointers v) → Appends w a c s pending seen (p ∷ [])
+    → a ≤ b → p.sharing ≡ None → Leads w.schema w.bytes p t v
+    → t ≡ up b (pointee_align w.schema p.pointee) → AreZero w.bytes b t → NeatPointee w.schema w.bytes t p.pointee p.length
+    → b ≤ c → c ≡ after (region_of w.schema p t) → AreZero w.bytes (t + pointee_size w.schema p.pointee p.length) (after (region_of w.schema p t))
+    → Appends w a b s pending seen (pointers v) → Appends w a c s pending seen (p ∷ [])
 appends_region w a b c s pending seen p t v le own leads aligned zeros neat ge ends behind h =
     let r : Region = region_of w.schema p t in record {
-    regions = h.regions ++ r ∷ [];
-    last = h.last;
-    tour = tour_unique own leads h.tour tour_end;
-    tight = tight_append a h.regions b (r ∷ []) c h.tight (aligned, ends);
-    tidy = tidy_append w.schema w.bytes a h.regions b (r ∷ []) h.tight h.tidy (zeros, neat, behind, tt);
-    known = record { typed = h.known.typed; closed = h.known.closed; below = λ k q is. omega (arith, h.known.below k q is); opened = h.known.opened };
-    below = h.below;
-    above = λ q l. h.above q (omega arith);
-    found = h.found }
+      regions = h.regions ++ r ∷ [];
+      last = h.last;
+      tour = tour_unique own leads h.tour tour_end;
+      tight = tight_append a h.regions b (r ∷ []) c h.tight (aligned, ends);
+      tidy = tidy_append w.schema w.bytes a h.regions b (r ∷ []) h.tight h.tidy (zeros, neat, behind, tt);
+      known = record { typed = h.known.typed; closed = h.known.closed; below = λ k q is. omega (arith, h.known.below k q is); opened = h.known.opened };
+      below = h.below;
+      above = λ q l. h.above q (omega arith);
+      found = h.found;
+    }
 
 pub longer : (old new added : List ℕ) → new ≡ old ++ added → length old ≤ length new
 longer old new added e = omega (arith, ap length e, length-append old added)
@@ -165,109 +179,122 @@ longer old new added e = omega (arith, ap length e, length-append old added)
 
 pub writes_nothing : (D : Definitions) (told : Held) (v : Value) → pointers v ≡ [] → ((w : World) → Fills w.schema w.bytes v (rename w.position v)) → Writes D told told [] v v
 writes_nothing D told v none fills = record {
-    added = []; grown = sym (append-nil told.bytes);
-    states = finishes_nothing _ told.states; finished = tt;
-    appends = λ w pending seen h known unseen. rw none (appends_nothing w _ told.states pending seen known);
-    fills = λ w h. fills w }
+  added = [];
+  grown = sym (append-nil told.bytes);
+  states = finishes_nothing _ told.states;
+  finished = tt;
+  appends = λ w pending seen h known unseen. rw none (appends_nothing w _ told.states pending seen known);
+  fills = λ w h. fills w;
+}
 
 pub writes_none : (D : Definitions) (told : Held) → WritesAll D told told [] no_value no_value
 writes_none D told = record {
-    added = []; grown = sym (append-nil told.bytes);
-    states = finishes_nothing _ told.states; finished = tt;
-    appends = λ w pending seen h known unseen. appends_nothing w _ told.states pending seen known;
-    fills = λ w h. fills_no_value }
+  added = [];
+  grown = sym (append-nil told.bytes);
+  states = finishes_nothing _ told.states;
+  finished = tt;
+  appends = λ w pending seen h known unseen. appends_nothing w _ told.states pending seen known;
+  fills = λ w h. fills_no_value;
+}
 
 pub writes_cons : (D E : Definitions) (old mid new : Held) (ks ls : List Naming) (v x : Value) (vs xs : Values)
-  → Writes D old mid ks v x → WritesAll E mid new ls vs xs → WritesAll (both D E) old new (ks ++ ls) (value v vs) (value x xs)
+    → Writes D old mid ks v x → WritesAll E mid new ls vs xs → WritesAll (both D E) old new (ks ++ ls) (value v vs) (value x xs)
 writes_cons D E old mid new ks ls v x vs xs h i =
     let le : length old.bytes ≤ length mid.bytes = longer _ _ _ h.grown in
     let ge : length mid.bytes ≤ length new.bytes = longer _ _ _ i.grown in
     let early : (w : World) → Holds w (both D E) new.bytes new.states (ks ++ ls) → Holds w D mid.bytes mid.states ks
-          = λ w n. holds_before w D _ _ _ _ _ ks i.grown i.states.kept (holds_left w D E _ _ ks ls n) in
+    = λ w n. holds_before w D _ _ _ _ _ ks i.grown i.states.kept (holds_left w D E _ _ ks ls n) in
     record {
       added = h.added ++ i.added;
       grown = i.grown ∙ ap (λ z. z ++ i.added) h.grown ∙ append_assoc old.bytes h.added i.added;
       states = finishes_both _ _ _ _ _ _ le ge h.states i.states;
       finished = finished_both _ ks ls (finished_later _ _ ks i.states.kept h.finished) i.finished;
       appends = λ w pending seen n known unseen. (
-        let first = h.appends w pending seen (early w n) known (unseen_before _ _ _ seen ge unseen) in
-        let second = i.appends w pending first.last (holds_right w D E _ _ ks ls n) first.known (unseen_later _ _ _ seen first.last le first.above unseen) in
-        appends_both w _ _ _ _ _ pending seen _ _ le ge i.states.kept first second);
-      fills = λ w n. fills_value (h.fills w (early w n)) (i.fills w (holds_right w D E _ _ ks ls n)) }
+          let first = h.appends w pending seen (early w n) known (unseen_before _ _ _ seen ge unseen) in
+          let second = i.appends w pending first.last (holds_right w D E _ _ ks ls n) first.known (unseen_later _ _ _ seen first.last le first.above unseen) in
+          appends_both w _ _ _ _ _ pending seen _ _ le ge i.states.kept first second);
+      fills = λ w n. fills_value (h.fills w (early w n)) (i.fills w (holds_right w D E _ _ ks ls n));
+    }
 
 pub writes_product : (D : Definitions) (old new : Held) (ks : List Naming) (vs xs : Values) → WritesAll D old new ks vs xs → Writes D old new ks (product vs) (product xs)
 writes_product D old new ks vs xs h = record { added = h.added; grown = h.grown; states = h.states; finished = h.finished; appends = h.appends; fills = λ w n. fills_product (h.fills w n) }
 
-pub writes_boxed : (D : Definitions) (old mid low new : Held) (ks : List Naming) (v x : Value) (X : Shape) (L : Layout) (t : ℕ)
-  → Writes D old mid ks v x → Pads L.align mid low → Puts D low new X L v → t ≡ length low.bytes
-  → Writes D old new ks (box (hole (to_one t X))) (box x)
-writes_boxed D old mid low new ks v x X L t h pads puts here =
-    let layout : HasLayout D X L = puts.layout in
-    let le : length old.bytes ≤ length mid.bytes = longer _ _ _ h.grown in
-    let lower : length mid.bytes ≤ length low.bytes = longer _ _ _ pads.grown in
-    let ge : length low.bytes ≤ length new.bytes = longer _ _ _ puts.grown in
-    let grown : new.bytes ≡ mid.bytes ++ (pads.zeros ++ puts.added) = puts.grown ∙ ap (λ z. z ++ puts.added) pads.grown ∙ append_assoc mid.bytes pads.zeros puts.added in
-    let same : new.states ≡ mid.states = puts.states ∙ pads.states in
-    let early : (w : World) → Holds w D new.bytes new.states ks → Holds w D mid.bytes mid.states ks
-          = λ w n. holds_before w D _ _ _ _ _ ks grown (λ k y is. rw same is) n in
-    let stands : (w : World) → Holds w D new.bytes new.states ks → Stands w.bytes t puts.added
-          = λ w n. stands_begun w.bytes low.bytes puts.added n.rest t (n.begins ∙ ap (λ z. z ++ n.rest) puts.grown) here in
-    let reads : (w : World) → Holds w D new.bytes new.states ks → Leads w.schema w.bytes (to_one t X) t v
-          = λ w n. record { target = refl; fits = omega (arith, size_is layout w.schema n.knows, puts.sized, stands_fits _ _ _ (stands w n));
-              contents = contents_one (rw here (puts.resolved.reads w.schema w.bytes n.knows (rw (← here) (stands w n)))) } in
+-- the region of a pointee, and what it owns before it
+pub writes_laid : (D : Definitions) (old new : Held) (ks : List Naming) (p : ℕ) (P : Pointee) (n : ℕ) (x : Value) → Lays D old new ks p P n x → Writes D old new ks (hole (to_pointee p P n)) x
+writes_laid D old new ks p P n x h =
+    let m = h.owned in
+    let le : length old.bytes ≤ length h.mid.bytes = longer _ _ _ m.grown in
+    let ge : length h.mid.bytes ≤ length new.bytes = longer _ _ _ h.grown in
+    let ends : length new.bytes ≡ p + length h.region = omega (arith, ap length h.grown, length-append h.mid.bytes (h.zeros ++ h.region), length-append h.zeros h.region, h.at) in
+    let early : (w : World) → Holds w D new.bytes new.states ks → Holds w D h.mid.bytes h.mid.states ks
+    = λ w k. holds_before w D _ _ _ _ _ ks h.grown (λ key y is. rw h.states is) k in
+    let begins : (w : World) → Holds w D new.bytes new.states ks → w.bytes ≡ (h.mid.bytes ++ h.zeros) ++ (h.region ++ _)
+    = λ w k. k.begins ∙ ap (λ z. z ++ k.rest) (h.grown ∙ sym (append_assoc h.mid.bytes h.zeros h.region)) ∙ append_assoc (h.mid.bytes ++ h.zeros) h.region k.rest in
+    let stands : (w : World) → Holds w D new.bytes new.states ks → Stands w.bytes p h.region
+    = λ w k. record { before = h.mid.bytes ++ h.zeros; behind = k.rest; is = begins w k; at = length-append h.mid.bytes h.zeros ∙ sym h.at } in
+    let leads : (w : World) → Holds w D new.bytes new.states ks → Leads w.schema w.bytes (to_pointee p P n) p h.flat
+    = λ w k. record { target = refl; fits = omega (arith, h.sized w.schema k.knows, stands_fits _ _ _ (stands w k)); contents = h.contents w.schema w.bytes k.knows (stands w k) } in
     record {
-      added = h.added ++ (pads.zeros ++ puts.added);
-      grown = grown ∙ ap (λ z. z ++ (pads.zeros ++ puts.added)) h.grown ∙ append_assoc old.bytes h.added (pads.zeros ++ puts.added);
-      states = rw same (finishes_wider _ _ _ _ _ (omega arith) h.states);
-      finished = rw same h.finished;
-      appends = λ w pending seen n known unseen. (
-        let first = h.appends w pending seen (early w n) known (unseen_before _ _ _ seen (omega arith) unseen) in
-        rw same (appends_region w _ _ _ _ pending seen (to_one t X) t v le refl (reads w n)
-          (here ∙ pads.aligned ∙ ap (up (length mid.bytes)) (sym (align_is layout w.schema n.knows)))
-          (stands_zero w.bytes _ t pads.zeros pads.zeroed (omega (arith, ap length pads.grown, length-append mid.bytes pads.zeros, here))
-            (stands_begun w.bytes mid.bytes pads.zeros (puts.added ++ n.rest) _ (n.begins ∙ ap (λ z. z ++ n.rest) (puts.grown ∙ ap (λ z. z ++ puts.added) pads.grown) ∙ append_assoc (mid.bytes ++ pads.zeros) puts.added n.rest) refl))
-          (neat_one (rw here (puts.resolved.neat w.schema w.bytes n.knows (rw (← here) (stands w n)))))
-          (omega arith)
-          (omega (arith, size_is layout w.schema n.knows, puts.sized, ap length puts.grown, length-append low.bytes puts.added, here))
-          (zero_nowhere w.bytes _ _ (omega arith))
+      added = m.added ++ (h.zeros ++ h.region);
+      grown = h.grown ∙ ap (λ z. z ++ (h.zeros ++ h.region)) m.grown ∙ append_assoc old.bytes m.added (h.zeros ++ h.region);
+      states = rw h.states (finishes_wider _ _ _ _ _ ge m.states);
+      finished = rw h.states m.finished;
+      appends = λ w pending seen k known unseen. (
+          let first = m.appends w pending seen (early w k) known (unseen_before _ _ _ seen ge unseen) in
+          let size = h.sized w.schema k.knows in
+          rw h.states (appends_region w _ _ _ _ pending seen (to_pointee p P n) p h.flat le refl (leads w k)
+          (h.aligned w.schema k.knows)
+          (stands_zero w.bytes _ p h.zeros h.zeroed h.at (stands_begun w.bytes h.mid.bytes h.zeros (h.region ++ k.rest) _ (begins w k) refl))
+          (h.neat w.schema w.bytes k.knows (stands w k))
+          ge (omega (arith, ends, size)) (zero_nowhere w.bytes _ _ (omega arith))
           first));
-      fills = λ w n. fills_box (fills_unique refl (reads w n) (h.fills w (early w n))) }
+      fills = λ w k. fills_unique refl (leads w k) (m.fills w (early w k));
+    }
+
+-- one value
+pub lays_one : (D : Definitions) (old mid low new : Held) (ks : List Naming) (v x : Value) (X : Shape) (L : Layout) (t : ℕ)
+    → Writes D old mid ks v x → Pads L.align mid low → Puts D low new X L v → t ≡ length low.bytes
+    → Lays D old new ks t (one X) 0 x
+lays_one D old mid low new ks v x X L t h pads puts here = record {
+  mid = mid;
+  flat = v;
+  owned = h;
+  zeros = pads.zeros;
+  region = puts.added;
+  grown = puts.grown ∙ ap (λ z. z ++ puts.added) pads.grown ∙ append_assoc mid.bytes pads.zeros puts.added;
+  zeroed = pads.zeroed;
+  at = here ∙ ap length pads.grown ∙ length-append mid.bytes pads.zeros;
+  aligned = λ s k. here ∙ pads.aligned ∙ ap (up (length mid.bytes)) (sym (align_is puts.layout s k));
+  sized = λ s k. puts.sized ∙ sym (size_is puts.layout s k);
+  contents = λ s bytes k stands. contents_one (rw here (puts.resolved.reads s bytes k (rw (← here) stands)));
+  neat = λ s bytes k stands. neat_one (rw here (puts.resolved.neat s bytes k (rw (← here) stands)));
+  states = puts.states ∙ pads.states;
+}
 
 pub writes_pair : (D E : Definitions) (old mid new : Held) (ks ls : List Naming) (v x w y : Value)
-  → Writes D old mid ks v x → Writes E mid new ls w y
-  → Writes (both D (both E no_definition)) old new (ks ++ (ls ++ [])) (product (value v (value w no_value))) (product (value x (value y no_value)))
+    → Writes D old mid ks v x → Writes E mid new ls w y
+    → Writes (both D (both E no_definition)) old new (ks ++ (ls ++ [])) (product (value v (value w no_value))) (product (value x (value y no_value)))
 writes_pair D E old mid new ks ls v x w y h i =
     writes_product _ old new _ _ _ (writes_cons D (both E no_definition) old mid new ks (ls ++ []) v x _ _ h (writes_cons E no_definition mid new new ls [] w y _ _ i (writes_none no_definition new)))
 
 pub writes_case : (D : Definitions) (old new : Held) (ks : List Naming) (tag : ℕ) (v x : Value)
-  → Writes D old new ks v x → Writes D old new ks (case tag (value v no_value)) (case tag (value x no_value))
+    → Writes D old new ks v x → Writes D old new ks (case tag (value v no_value)) (case tag (value x no_value))
 writes_case D old new ks tag v x h = record {
-    added = h.added; grown = h.grown; states = h.states; finished = h.finished;
-    appends = λ w pending seen n known unseen. rw (append-nil (pointers v)) (h.appends w pending seen n known unseen);
-    fills = λ w n. fills_case (fills_value (h.fills w n) fills_no_value) }
+  added = h.added;
+  grown = h.grown;
+  states = h.states;
+  finished = h.finished;
+  appends = λ w pending seen n known unseen. rw (append-nil (pointers v)) (h.appends w pending seen n known unseen);
+  fills = λ w n. fills_case (fills_value (h.fills w n) fills_no_value);
+}
 
 pub writes_empty_case : (D : Definitions) (told : Held) (tag : ℕ) → Writes D told told [] (case tag no_value) (case tag no_value)
 writes_empty_case D told tag = writes_nothing D told (case tag no_value) refl (λ w. fills_case fills_no_value)
 
-pub writes_linked : (D : Definitions) (old mid low new : Held) (ks : List Naming) (v x : Value) (X : Shape) (L : Layout) (t tag : ℕ)
-  → Writes D old mid ks v x → Pads L.align mid low → Puts D low new X L v → t ≡ length low.bytes
-  → Writes D old new ks (case tag (value (box (hole (to_one t X))) no_value)) (case tag (value (box x) no_value))
-writes_linked D old mid low new ks v x X L t tag h pads puts here = writes_case D old new ks tag _ _ (writes_boxed D old mid low new ks v x X L t h pads puts here)
-
-unboxed : {s : Schema} {bytes : List ℕ} {v w : Value} → Fills s bytes (box v) (box w) → Fills s bytes v w
-unboxed (fills_box h) = h
-
-pub writes_one : (D : Definitions) (old mid low new : Held) (ks : List Naming) (v x : Value) (X : Shape) (L : Layout) (t : ℕ)
-  → Writes D old mid ks v x → Pads L.align mid low → Puts D low new X L v → t ≡ length low.bytes
-  → Writes D old new ks (hole (to_one t X)) x
-writes_one D old mid low new ks v x X L t h pads puts here =
-    let b = writes_boxed D old mid low new ks v x X L t h pads puts here in
-    record { added = b.added; grown = b.grown; states = b.states; finished = b.finished; appends = b.appends; fills = λ w n. unboxed (b.fills w n) }
-
 -- a box of what stands as a region of its own
 pub writes_box : (D : Definitions) (old new : Held) (ks : List Naming) (p : Pointer) (x : Value)
-  → Writes D old new ks (hole p) x → Writes D old new ks (box (hole p)) (box x)
+    → Writes D old new ks (hole p) x → Writes D old new ks (box (hole p)) (box x)
 writes_box D old new ks p x h = record { added = h.added; grown = h.grown; states = h.states; finished = h.finished; appends = h.appends; fills = λ w n. fills_box (h.fills w n) }
 
-pub later_position : (align t : ℕ) (old mid low : Held) (D : Definitions) (ks : List Naming) (v x : Value) → Writes D old mid ks v x → Pads align mid low → t ≡ length low.bytes → length old.bytes ≤ t
-later_position align t old mid low D ks v x h pads here = omega (arith, longer old.bytes mid.bytes h.added h.grown, longer mid.bytes low.bytes pads.zeros pads.grown, here)
+pub writes_number : (D : Definitions) (told : Held) (z : ℤ) → Writes D told told [] (number z) (number z)
+writes_number D told z = writes_nothing D told (number z) refl (λ w. fills_number)

@@ -5,3 +5,7 @@ pub mod Resolving
 pub mod Sameness
 pub mod StringsWritten
 pub mod Whole
+pub mod Causes
+pub mod TextCauses
+pub mod Regions
+pub mod WholeCauses

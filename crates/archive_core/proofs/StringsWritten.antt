@@ -11,16 +11,17 @@ use Rattle.archive_check.specs.Layout.{up}
 use Rattle.archive_check.specs.Definitions.{Definitions, Knows}
 use Rattle.archive_check.specs.Value.{text_value, hole}
 use Rattle.archive_check.specs.Reads.{bytes_at, u32_at, i32_at, before_end, IsOutOfLine, decoded_length, string_at, Reads, reads_inline, reads_out_of_line}
-use Rattle.archive_check.specs.Tour.{Leads, Contents, contents_text}
-use Rattle.archive_check.specs.Denotes.{fills_text, fills_unique}
+use Rattle.archive_check.specs.Tour.{Contents, contents_text}
+use Rattle.archive_check.specs.Denotes.{fills_text}
 use Rattle.archive_check.specs.Tidy.{Stands, neat_inline, neat_out_of_line, neat_text}
-use Rattle.archive_check.specs.Held.{Held}
-use Rattle.archive_check.proofs.Standing.{stands_front, stands_back, stands_fits, stands_bytes, stands_index, stands_begun, zero_nowhere}
+use Rattle.archive_check.specs.Told.{Told, KeepsKeys}
+use Rattle.archive_check.specs.Held.{States, Held, held}
+use Rattle.archive_check.proofs.Standing.{stands_front, stands_back, stands_bytes, stands_index, zeroed_none}
 use Rattle.archive_check.proofs.Texts.{text_no_end, text_inline, text_before}
 use Rattle.archive_core.specs.Offsets.{distance}
 use Rattle.archive_core.specs.Strings.{coded_length, inline_bytes, out_of_line_bytes, string_form, to_text, string_flat}
-use Rattle.archive_core.specs.Writing.{Resolves, Writes, World, Holds}
-use Rattle.archive_core.proofs.Appending.{writes_nothing, appends_region, appends_nothing, finishes_nothing, finishes_wider, longer}
+use Rattle.archive_core.specs.Writing.{Resolves, Writes, Lays}
+use Rattle.archive_core.proofs.Appending.{writes_nothing, writes_laid}
 
 -- the coded length
 
@@ -54,22 +55,25 @@ inline_first (b ∷ bs) u h e = text_inline b bs u e
 pub resolves_inline : (D : Definitions) (p : ℕ) (bs a : List ℕ) → IsUtf8 bs → length bs ≤ 8 → a ≡ inline_bytes bs → Resolves D p a str (text_value bs)
 resolves_inline D p bs a u h e =
     let here : (bytes : List ℕ) → Stands bytes p a → before_end (bytes_at bytes p 8) ≡ bs
-          = λ bytes stands. ap before_end (stands_bytes bytes p 8 a (ap length e ∙ inline_length bs h) stands ∙ e) ∙ inline_text bs u in
+    = λ bytes stands. ap before_end (stands_bytes bytes p 8 a (ap length e ∙ inline_length bs h) stands ∙ e) ∙ inline_text bs u in
     let first : (bytes : List ℕ) → Stands bytes p a → IsOutOfLine bytes p → ⊥
-          = λ bytes stands out. inline_first bs u h (
-            let at : slice_index bytes (p + 0) ≡ slice_index a 0 = stands_index bytes p 0 a (omega (arith, ap length e, inline_length bs h)) stands in
-            let same : slice_index a 0 ≡ slice_index (inline_bytes bs) 0 = ap (λ x. slice_index x 0) e in
-            let plain : slice_index bytes (p + 0) ≡ slice_index bytes p = ap (slice_index bytes) (omega arith) in
-            omega (arith, at, same, plain, out)) in
+    = λ bytes stands out. inline_first bs u h (
+    let at : slice_index bytes (p + 0) ≡ slice_index a 0 = stands_index bytes p 0 a (omega (arith, ap length e, inline_length bs h)) stands in
+    let same : slice_index a 0 ≡ slice_index (inline_bytes bs) 0 = ap (λ x. slice_index x 0) e in
+    let plain : slice_index bytes (p + 0) ≡ slice_index bytes p = ap (slice_index bytes) (omega arith) in
+    omega (arith, at, same, plain, out)) in
     record {
       reads = λ s bytes knows stands. subst (λ x. Reads s bytes p str (text_value x)) (here bytes stands) (reads_inline (first bytes stands) (rw (here bytes stands) u));
-      neat = λ s bytes knows stands. neat_inline (first bytes stands) (record { filled = λ i above below. (
-        let few : length bs ≤ i = omega (arith, ap length (here bytes stands)) in
-        let at = stands_index bytes p i a (omega (arith, ap length e, inline_length bs h)) stands in
-        let k : ℕ = i - length bs in
-        let split : length bs + k ≡ i = omega arith in
-        let last : slice_index (inline_bytes bs) (length bs + k) ≡ 0xff = get_or-append-add bs (replicate (8 - length bs) 0xff) k 0 ∙ get_or-replicate (8 - length bs) k 0xff 0 (omega arith) in
-        at ∙ ap (λ x. slice_index x i) e ∙ subst (λ j. slice_index (inline_bytes bs) j ≡ 0xff) split last) }) }
+      neat = λ s bytes knows stands. neat_inline (first bytes stands) (record {
+        filled = λ i above below. (
+            let few : length bs ≤ i = omega (arith, ap length (here bytes stands)) in
+            let at = stands_index bytes p i a (omega (arith, ap length e, inline_length bs h)) stands in
+            let k : ℕ = i - length bs in
+            let split : length bs + k ≡ i = omega arith in
+            let last : slice_index (inline_bytes bs) (length bs + k) ≡ 0xff = get_or-append-add bs (replicate (8 - length bs) 0xff) k 0 ∙ get_or-replicate (8 - length bs) k 0xff 0 (omega arith) in
+            at ∙ ap (λ x. slice_index x i) e ∙ subst (λ j. slice_index (inline_bytes bs) j ≡ 0xff) split last);
+      });
+    }
 
 -- a text that stands elsewhere
 
@@ -78,31 +82,32 @@ below_32 (pos n) h = let s = h.sfits in omega arith
 below_32 (negsuc n) h = let s = h.sfits in omega arith
 
 pub resolves_out_of_line : (D : Definitions) (p t n : ℕ) (z : ℤ) (a : List ℕ) → 8 < n → n ≤ 1073741823 → FitsSigned w32 z → pos p +ℤ z ≡ pos t
-  → a ≡ out_of_line_bytes n z → Resolves D p a str (hole (to_text t n))
+    → a ≡ out_of_line_bytes n z → Resolves D p a str (hole (to_text t n))
 unfolding i32_at u32_at
 resolves_out_of_line D p t n z a long few small there e =
     let len : List ℕ = to_le_bytes w32 (coded_length n) in
     let off : List ℕ = to_le_bytes w32 (cast_unsigned w32 z) in
     let whole : (bytes : List ℕ) → Stands bytes p a → Stands bytes p (len ++ off) = λ bytes stands. rw (← e) stands in
     let coded : (bytes : List ℕ) → Stands bytes p a → u32_at bytes p ≡ coded_length n
-          = λ bytes stands. ap (from_le_bytes w32) (stands_bytes bytes p 4 len refl (stands_front bytes p len off (whole bytes stands))) ∙ from_le_bytes-to_le_bytes_4 (coded_length n) (coded_small n few) in
+    = λ bytes stands. ap (from_le_bytes w32) (stands_bytes bytes p 4 len refl (stands_front bytes p len off (whole bytes stands))) ∙ from_le_bytes-to_le_bytes_4 (coded_length n) (coded_small n few) in
     let many : (bytes : List ℕ) → Stands bytes p a → decoded_length (u32_at bytes p) ≡ n
-          = λ bytes stands. ap decoded_length (coded bytes stands) ∙ coded_back n few in
+    = λ bytes stands. ap decoded_length (coded bytes stands) ∙ coded_back n few in
     let offset : (bytes : List ℕ) → Stands bytes p a → pos p +ℤ i32_at bytes (p + 4) ≡ pos t
-          = λ bytes stands. ap (λ b. pos p +ℤ cast_signed w32 (from_le_bytes w32 b)) (stands_bytes bytes (p + 4) 4 off refl (stands_back bytes p (p + 4) len off refl (whole bytes stands)))
-              ∙ ap (λ m. pos p +ℤ cast_signed w32 m) (from_le_bytes-to_le_bytes_4 (cast_unsigned w32 z) (below_32 z small))
-              ∙ ap (λ y. pos p +ℤ y) (to_z-of_z w32 z small) ∙ there in
+    = λ bytes stands. ap (λ b. pos p +ℤ cast_signed w32 (from_le_bytes w32 b)) (stands_bytes bytes (p + 4) 4 off refl (stands_back bytes p (p + 4) len off refl (whole bytes stands)))
+    ∙ ap (λ m. pos p +ℤ cast_signed w32 m) (from_le_bytes-to_le_bytes_4 (cast_unsigned w32 z) (below_32 z small))
+    ∙ ap (λ y. pos p +ℤ y) (to_z-of_z w32 z small) ∙ there in
     let first : (bytes : List ℕ) → Stands bytes p a → IsOutOfLine bytes p
-          = λ bytes stands. (
-            let at : slice_index bytes (p + 0) ≡ slice_index (len ++ off) 0 = stands_index bytes p 0 (len ++ off) (omega (arith, length-append len off)) (whole bytes stands) in
-            let plain : slice_index bytes (p + 0) ≡ slice_index bytes p = ap (slice_index bytes) (omega arith) in
-            let same : slice_index (len ++ off) 0 ≡ slice_index len 0 = refl in
-            ap (λ x. x / 64) (sym plain ∙ at ∙ same) ∙ coded_first n few) in
+    = λ bytes stands. (
+    let at : slice_index bytes (p + 0) ≡ slice_index (len ++ off) 0 = stands_index bytes p 0 (len ++ off) (omega (arith, length-append len off)) (whole bytes stands) in
+    let plain : slice_index bytes (p + 0) ≡ slice_index bytes p = ap (slice_index bytes) (omega arith) in
+    let same : slice_index (len ++ off) 0 ≡ slice_index len 0 = refl in
+    ap (λ x. x / 64) (sym plain ∙ at ∙ same) ∙ coded_first n few) in
     record {
       reads = λ s bytes knows stands. (
-        let v : string_at bytes p ≡ to_text t n = λ i. record { target = offset bytes stands i; sharing = None; pointee = text; length = many bytes stands i } in
-        subst (λ q. Reads s bytes p str (hole q)) v (reads_out_of_line (first bytes stands) (rw (many bytes stands) long)));
-      neat = λ s bytes knows stands. neat_out_of_line (first bytes stands) }
+          let v : string_at bytes p ≡ to_text t n = λ i. record { target = offset bytes stands i; sharing = None; pointee = text; length = many bytes stands i } in
+          subst (λ q. Reads s bytes p str (hole q)) v (reads_out_of_line (first bytes stands) (rw (many bytes stands) long)));
+      neat = λ s bytes knows stands. neat_out_of_line (first bytes stands);
+    }
 
 -- what is written
 
@@ -126,30 +131,29 @@ flat_out_of_line bs t h = by_test (nat_lt 8 (length bs)) refl
 pub writes_inline : (D : Definitions) (told : Held) (bs : List ℕ) (t : ℕ) → length bs ≤ 8 → Writes D told told [] (string_flat bs t) (text_value bs)
 writes_inline D told bs t h = rw (flat_inline bs t h) (writes_nothing D told (text_value bs) refl (λ w. fills_text))
 
-pub writes_text : (D : Definitions) (old new : Held) (bs : List ℕ) (t : ℕ) → IsUtf8 bs → new.bytes ≡ old.bytes ++ bs → t ≡ length old.bytes → new.states ≡ old.states
-  → Writes D old new [] (hole (to_text t (length bs))) (text_value bs)
-writes_text D old new bs t u grown here same =
-    let stands : (w : World) → Holds w D new.bytes new.states [] → Stands w.bytes t bs
-          = λ w n. stands_begun w.bytes old.bytes bs n.rest t (n.begins ∙ ap (λ z. z ++ n.rest) grown) here in
-    let leads : (w : World) → Holds w D new.bytes new.states [] → Leads w.schema w.bytes (to_text t (length bs)) t (text_value bs)
-          = λ w n. (
-            let is : bytes_at w.bytes t (length bs) ≡ bs = stands_bytes w.bytes t (length bs) bs refl (stands w n) in
-            record { target = refl; fits = stands_fits _ _ _ (stands w n);
-              contents = subst (λ x. Contents w.schema w.bytes t text (length bs) (text_value x)) is (contents_text (rw is u)) }) in
-    record {
-      added = bs; grown = grown;
-      states = rw same (finishes_wider _ _ _ _ _ (longer _ _ _ grown) (finishes_nothing _ old.states));
-      finished = tt;
-      appends = λ w pending seen n known unseen. rw same (
-        appends_region w (length old.bytes) (length old.bytes) (length new.bytes) old.states pending seen (to_text t (length bs)) t (text_value bs)
-          (omega arith) refl (leads w n) (here ∙ sym (up_one _)) (zero_nowhere w.bytes _ _ (omega arith)) neat_text
-          (longer _ _ _ grown) (omega (arith, ap length grown, length-append old.bytes bs, here, up_one (t + length bs))) (zero_nowhere w.bytes _ _ (omega (arith, up_one (t + length bs))))
-          (appends_nothing w (length old.bytes) old.states pending seen known));
-      fills = λ w n. fills_unique refl (leads w n) fills_text }
+pub lays_text : (D : Definitions) (old new : Told) (f g : States) (bs : List ℕ) (t : ℕ) → IsUtf8 bs → new.bytes ≡ old.bytes ++ bs → t ≡ length old.bytes → KeepsKeys f g
+    → Lays D (held old f) (held new g) [] t text (length bs) (text_value bs)
+lays_text D old new f g bs t u grown here keys = record {
+  mid = held old f;
+  flat = text_value bs;
+  owned = writes_nothing D (held old f) (text_value bs) refl (λ w. fills_text);
+  zeros = [];
+  region = bs;
+  grown = grown;
+  zeroed = zeroed_none;
+  at = omega (arith, here);
+  aligned = λ s k. here ∙ sym (up_one _);
+  sized = λ s k. refl;
+  contents = λ s bytes k stands. (
+      let is : bytes_at bytes t (length bs) ≡ bs = stands_bytes bytes t (length bs) bs refl stands in
+      subst (λ x. Contents s bytes t text (length bs) (text_value x)) is (contents_text (rw is u)));
+  neat = λ s bytes k stands. neat_text;
+  states = λ i k. keys k i;
+}
 
 pub writes_out_of_line : (D : Definitions) (old new : Held) (bs : List ℕ) (t : ℕ) → 8 < length bs
-  → Writes D old new [] (hole (to_text t (length bs))) (text_value bs) → Writes D old new [] (string_flat bs t) (text_value bs)
-writes_out_of_line D old new bs t long h = rw (flat_out_of_line bs t long) h
+    → Lays D old new [] t text (length bs) (text_value bs) → Writes D old new [] (string_flat bs t) (text_value bs)
+writes_out_of_line D old new bs t long h = rw (flat_out_of_line bs t long) (writes_laid D old new [] t text (length bs) (text_value bs) h)
 
 -- as the resolving functions have it
 
@@ -160,5 +164,5 @@ pub resolves_inline_flat : (D : Definitions) (p t : ℕ) (bs a : List ℕ) → I
 resolves_inline_flat D p t bs a u h e = rw (flat_inline bs t h) (resolves_inline D p bs a u h e)
 
 pub resolves_out_of_line_flat : (D : Definitions) (p t : ℕ) (bs a : List ℕ) → 8 < length bs → length bs ≤ 1073741823 → FitsSigned w32 (distance p t)
-  → a ≡ out_of_line_bytes (length bs) (distance p t) → Resolves D p a str (string_flat bs t)
+    → a ≡ out_of_line_bytes (length bs) (distance p t) → Resolves D p a str (string_flat bs t)
 resolves_out_of_line_flat D p t bs a long few small e = rw (flat_out_of_line bs t long) (resolves_out_of_line D p t (length bs) (distance p t) a long few small (distance_there p t) e)

@@ -3,14 +3,14 @@ use Rattle.std.specs.Prelude.{◌≡◌, ◌⊎◌, ℕ, ◌+◌, ◌*◌, ◌<�
 use Rattle.std.specs.Ordering.{nat_cmp}
 use Rattle.std.specs.FinMap.{FinMap, get}
 use Rattle.archive_check.specs.Shape.{Shape, Pointee, one}
-use Rattle.archive_check.specs.Layout.{Layout}
+use Rattle.archive_check.specs.Layout.{Layout, up}
 use Rattle.archive_check.specs.Definitions.{Definitions, Knows, HasLayout}
 use Rattle.archive_check.specs.Value.{Pointer, Value, number, product, case, list, text_value, box, null, shared_value, hole, Values, no_value, value, pointers, all_pointers}
 use Rattle.archive_check.specs.Reads.{Schema, Reads}
-use Rattle.archive_check.specs.Tour.{Region, Contents, Entry, Seen, Tour, root_region}
+use Rattle.archive_check.specs.Tour.{Region, Contents, Entry, Seen, Tour, root_region, pointee_size, pointee_align}
 use Rattle.archive_check.specs.Denotes.{Meaning, Denotes, Same, Fills, FillsAll, rename, rename_all}
 use Rattle.archive_check.specs.Written.{Tight, Clean}
-use Rattle.archive_check.specs.Tidy.{Stands, IsZeroed, Neat, Tidy}
+use Rattle.archive_check.specs.Tidy.{Stands, IsZeroed, Neat, NeatPointee, Tidy}
 use Rattle.archive_check.specs.Held.{States, Held}
 
 -- what each key names: flavor, pointee and length, and the value
@@ -169,6 +169,26 @@ pub record Archives (definitions : Definitions) (old new : List ℕ) (root : ℕ
   pub root_ends : root + size ≡ length new
   pub archived : (s : Schema) (names : Names) → Knows s definitions → AreKeys names keys → IsArchive s (length old) new root X names value
 
--- the pointer to one value that has its region for itself
+-- the pointer to a pointee of n elements or bytes that has its region for itself
+abbrev pub to_pointee : ℕ → Pointee → ℕ → Pointer
+to_pointee t P n = record { target = pos t; sharing = None; pointee = P; length = n }
+
+-- to one value
 abbrev pub to_one : ℕ → Shape → Pointer
-to_one t X = record { target = pos t; sharing = None; pointee = one X; length = 0 }
+to_one t X = to_pointee t (one X) 0
+
+-- What a pointee owns was appended, and then its own region, which stands at p.
+pub record Lays (definitions : Definitions) (old new : Held) (keys : List Naming) (p : ℕ) (P : Pointee) (n : ℕ) (value : Value) : Type 0 where
+  pub mid : Held
+  pub flat : Value
+  pub owned : Writes definitions old mid keys flat value
+  pub zeros : List ℕ
+  pub region : List ℕ
+  pub grown : new.bytes ≡ mid.bytes ++ (zeros ++ region)
+  pub zeroed : IsZeroed zeros
+  pub at : p ≡ length mid.bytes + length zeros
+  pub aligned : (s : Schema) → Knows s definitions → p ≡ up (length mid.bytes) (pointee_align s P)
+  pub sized : (s : Schema) → Knows s definitions → length region ≡ pointee_size s P n
+  pub contents : (s : Schema) (bytes : List ℕ) → Knows s definitions → Stands bytes p region → Contents s bytes p P n flat
+  pub neat : (s : Schema) (bytes : List ℕ) → Knows s definitions → Stands bytes p region → NeatPointee s bytes p P n
+  pub states : new.states ≡ mid.states

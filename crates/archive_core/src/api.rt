@@ -1,6 +1,11 @@
 //! Whole archives: written, checked and read back.
 
-ghost use Rattle.std.specs.Prelude.{◌≡◌, ◌-◌, length, IfOk};
+ghost use Rattle.std.specs.Prelude.{◌≡◌, ◌-◌, ◌⊎◌, ℕ, [], length, IfOk, IfErr};
+ghost use Rattle.archive_check.specs.Told.{Told};
+ghost use Rattle.archive_check.specs.declared.error.Error.TheVariants.{OutOfMemory};
+ghost use Rattle.archive_core.specs.Plans.{stand, GoesOn, Explains, HindersWhole, region_place, root_end};
+ghost use Rattle.archive_core.specs.Writing.{Archives};
+ghost use Rattle.archive_write.specs.Sharing.{KnowsNone};
 ghost use Rattle.archive_write.specs.Written.{IsBeginning};
 
 use crate::ser::{ResolveExt, ResolverAlloc, Serializer, Writer, WriterExt};
@@ -23,7 +28,13 @@ fn serialize_root<S: Writer + Keys + ResolverAlloc, T: Serialize<S>>(
     serializer: &mut S,
     value: &T,
 ) -> Result<usize, Error>
-    ensures { IsBeginning (S.told serializer.old).bytes (S.told serializer.new).bytes }
+    ensures archived { KnowsNone (S.state_of serializer.old) → IfOk result (λ root. Archives T.Archived.definitions (S.told serializer.old).bytes (S.told serializer.new).bytes
+        root T.Archived.shape T.Archived.layout.size (T.keys value.now) (T.meaning value.now)) }
+    ensures goes_on { GoesOn (S.told serializer.old) (S.told serializer.new) }
+    ensures refused { IfErr result (Explains (HindersWhole (T.hinders value.now (stand (S.told serializer.old) (S.state_of serializer.old)))
+        (T.leaves value.now (stand (S.told serializer.old) (S.state_of serializer.old))) (T.hinders_at value.now)
+        T.Archived.layout (region_place T.Archived.layout (T.plan value.now (stand (S.told serializer.old) (S.state_of serializer.old)))))
+        (root_end T.Archived.layout (T.plan value.now (stand (S.told serializer.old) (S.state_of serializer.old)))) (S.told serializer.old) (S.told serializer.new)) }
 {
     let resolver = value.serialize(serializer)?;
     serializer.align_for::<T::Archived>()?;
