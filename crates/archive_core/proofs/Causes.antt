@@ -141,3 +141,16 @@ err_from (Err e) h f = f e h
 pub ok_from : {A : Type 0} {P : Type 0} {Q R : A → Type 0} (r : Result A Error) → OnOk r P → IfOk r Q → ((a : A) → P → Q a → R a) → IfOk r R
 ok_from (Ok a) h k f = f a h k
 ok_from (Err e) h k f = tt
+
+-- where there is no limit, and no device
+pub explains_unlimited : (own : Error → Type 0) (stop : ℕ) (old new : Told) (e : Error) → old.room ≡ None → old.failures ≡ 0 → new.failures ≡ 0
+    → Explains own stop old new e → (e ≡ OutOfMemory) ⊎ own e
+explains_unlimited own stop old new e none a b no_memory = inl refl
+explains_unlimited own stop old new e none a b (no_room {count = count} {cap = end} {position = position} h) =
+    let full : IsSomeAnd None (λ room. (end ≡ length old.bytes + room) × (end < position + count)) = rw none at h.full in absurd full
+explains_unlimited own stop old new e none a b (device_failed (inl h)) = absurd (omega arith)
+explains_unlimited own stop old new e none a b (device_failed (inr h)) = absurd (omega arith)
+explains_unlimited own stop old new e none a b (own_cause h) = inr h
+
+pub err_at : {A : Type 0} (P : Error → Type 0) (r : Result A Error) (e : Error) → r ≡ Err e → IfErr r P → P e
+err_at P r e is h = rw is at h

@@ -1,5 +1,5 @@
 -- What a write is planned to come to, and why one is refused.
-use Rattle.std.specs.Prelude.{◌≡◌, ◌⊎◌, ℕ, ◌+◌, ◌-◌, ◌^◌, ◌<◌, ◌≤◌, length, IsSomeAnd}
+use Rattle.std.specs.Prelude.{◌≡◌, ◌⊎◌, ℕ, ◌+◌, ◌-◌, ◌^◌, ◌<◌, ◌≤◌, None, length, IsSomeAnd}
 use Rattle.archive_check.specs.Layout.{Layout, up}
 use Rattle.archive_check.specs.Told.{Told}
 use Rattle.archive_check.specs.Held.{States}
@@ -14,6 +14,10 @@ pub record Stand : Type 0 where
 
 abbrev pub stand : Told → States → Stand
 stand told states = record { place = length told.bytes; states = states }
+
+-- of what holds nothing and knows no key
+abbrev pub at_start : Stand
+at_start = record { place = 0; states = λ _. None }
 
 -- the writer stands there
 pub record IsAt (s : Stand) (told : Told) (states : States) : Type 0 where
