@@ -42,6 +42,23 @@ module _ (f g : ℕ → ℕ) (ks : List Naming) (back : (k : ℕ) (y : Entry × 
     rename_all_back no_value h = refl
     rename_all_back (value v vs) h = ap₂ value (rename_back v h.0) (rename_all_back vs h.1)
 
+-- what has no names stays as it is
+mutual
+  pub rename_plain : (f : ℕ → ℕ) (v : Value) → HasKeys [] v → rename f v ≡ v
+  rename_plain f (number z) h = refl
+  rename_plain f (product vs) h = ap product (rename_all_plain f vs h)
+  rename_plain f (case tag vs) h = ap (case tag) (rename_all_plain f vs h)
+  rename_plain f (list vs) h = ap list (rename_all_plain f vs h)
+  rename_plain f (text_value bytes) h = refl
+  rename_plain f (box v) h = ap box (rename_plain f v h)
+  rename_plain f null h = refl
+  rename_plain f (shared_value k) h = absurd (omega (arith, h.1.1))
+  rename_plain f (hole p) h = refl
+
+  rename_all_plain : (f : ℕ → ℕ) (vs : Values) → HaveKeys [] vs → rename_all f vs ≡ vs
+  rename_all_plain f no_value h = refl
+  rename_all_plain f (value v vs) h = ap₂ value (rename_plain f v h.0) (rename_all_plain f vs h.1)
+
 -- the key that is found at a position that was seen
 abbrev key_of : (o : Option Entry) → ((e : Entry) → o ≡ Some e → ℕ) → ℕ
 key_of None f = 0

@@ -4,7 +4,7 @@ use Rattle.archive_check.specs.Layout.{Layout, up}
 use Rattle.archive_check.specs.Told.{Told}
 use Rattle.archive_check.specs.Held.{States}
 use Rattle.archive_check.specs.declared.error.Error.{Error}
-use Rattle.archive_check.specs.declared.error.Error.TheVariants.{OutOfMemory, BufferOverflow, WriterFailed, LayoutTooLarge}
+use Rattle.archive_check.specs.declared.error.Error.TheVariants.{OutOfMemory, IsizeOverflow, OffsetOverflow, PositionTooLarge, LengthTooLarge, NumberTooLarge, StringTooLong, BufferOverflow, WriterFailed, ItemWrote, CyclicSerialize, LayoutTooLarge}
 use Rattle.archive_write.specs.Written.{IsBeginning, RoomFalls}
 
 -- where a writer stands: how many bytes it holds, and the states of the shared keys
@@ -44,6 +44,22 @@ pub data Explains (own : Error → Type 0) (stop : ℕ) (old new : Told) : Error
   device_failed : (old.failures < new.failures) ⊎ (old.failures ≡ 2 ^ 64 - 1) → Explains own stop old new WriterFailed
   own_cause : {e : Error} → own e → Explains own stop old new e
 
+-- The refusals that a write may meet: of memory; of an owner's offset; of a position, a length, a number, a string's text; of the writer; of an item
+-- that wrote; of a key that is pending; of a region's end.
+pub data IsOfWriting : Error → Type 0 where
+  of_memory : IsOfWriting OutOfMemory
+  of_isize : IsOfWriting IsizeOverflow
+  of_offset : IsOfWriting OffsetOverflow
+  of_position : IsOfWriting PositionTooLarge
+  of_length : IsOfWriting LengthTooLarge
+  of_number : IsOfWriting NumberTooLarge
+  of_string : IsOfWriting StringTooLong
+  of_room : {count cap position : ℕ} → IsOfWriting (BufferOverflow count cap position)
+  of_device : IsOfWriting WriterFailed
+  of_item : IsOfWriting ItemWrote
+  of_key : IsOfWriting CyclicSerialize
+  of_layout : IsOfWriting LayoutTooLarge
+
 -- Why a value of this layout, as a region at p, isn't resolved: its end is above `usize::MAX`, or the value's own cause at p.
 abbrev pub HindersRegion : (ℕ → Error → Type 0) → Layout → ℕ → Error → Type 0
 HindersRegion own L p e = ((e ≡ LayoutTooLarge) × (2 ^ 64 ≤ p + L.size)) ⊎ own p e
@@ -56,6 +72,6 @@ region_place L s = up s.place L.align
 abbrev pub HindersWhole : {R : Type 0} → (Error → Type 0) → (R → Type 0) → (R → ℕ → Error → Type 0) → Layout → ℕ → Error → Type 0
 HindersWhole owned left own L p e = owned e ⊎ ((r : _) × left r × HindersRegion (own r) L p e)
 
--- Where a whole archive ends that begins where the plan says: what the value owns, zeros up to its alignment, its own region.
-abbrev pub root_end : Layout → Stand → ℕ
-root_end L s = region_place L s + L.size
+-- where a writer stands behind the region of a value, which was to come behind what it owns
+abbrev pub one_plan : Layout → Stand → Stand
+one_plan L s = record { place = region_place L s + L.size; states = s.states }

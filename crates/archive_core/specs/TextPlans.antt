@@ -15,8 +15,8 @@ abbrev pub string_plan : List ℕ → Stand → Stand
 string_plan bytes s = if nat_lt 8 (length bytes) then text_plan bytes s else s
 
 -- the text of a string that isn't inline stands where the writer stood
-abbrev pub StringLeaves : List ℕ → Stand → ℕ → Type 0
-StringLeaves bytes s t = 8 < length bytes → t ≡ s.place
+abbrev pub StringAnswers : List ℕ → Stand → ℕ → Type 0
+StringAnswers bytes s t = 8 < length bytes → t ≡ s.place
 
 -- the text has more bytes than a pointer can say
 abbrev pub HindersText : List ℕ → Error → Type 0

@@ -153,11 +153,13 @@ pub record Fresh (size p : ℕ) (bytes : List ℕ) : Type 0 where
   pub zeroed : IsZeroed bytes
   pub ends : p + size < 2 ^ 64
 
--- The buffer is an archive of the value at root, its keys renamed one to one; from start on it is tight and clean.
+-- The buffer is an archive of the value at root, its keys renamed one to one; one without keys is denoted as it is. From start on it is tight and
+-- clean.
 pub record IsArchive (s : Schema) (start : ℕ) (bytes : List ℕ) (root : ℕ) (X : Shape) (names : Names) (value : Value) : Type 0 where
   pub meaning : Meaning
   pub denotes : Denotes s bytes root X meaning
   pub same : Same (record { value = value; shared = names }) meaning
+  pub plain : HasKeys [] value → meaning.value ≡ value
   pub tight : Tight start (denotes.accepted.regions ++ root_region s root X ∷ []) (length bytes)
   pub clean : Clean s bytes start (denotes.accepted.regions ++ root_region s root X ∷ [])
 

@@ -3,12 +3,12 @@
 ghost use Rattle.std.specs.Prelude.{◌≡◌, ◌-◌, ◌⊎◌, ℕ, [], None, length, IfOk, IfErr};
 ghost use Rattle.archive_check.specs.Told.{Told};
 ghost use Rattle.archive_check.specs.declared.error.Error.TheVariants.{OutOfMemory};
-ghost use Rattle.archive_core.specs.Plans.{stand, at_start, GoesOn, Explains, HindersWhole, region_place, root_end};
+ghost use Rattle.archive_core.specs.Plans.{stand, at_start, GoesOn, Explains, HindersWhole, region_place, one_plan};
 ghost use Rattle.archive_core.specs.Writing.{Archives};
 ghost use Rattle.archive_write.specs.Sharing.{KnowsNone};
 ghost use Rattle.archive_write.specs.Written.{IsBeginning};
 
-use crate::ser::{ResolveExt, ResolverAlloc, Serializer, Writer, WriterExt};
+use crate::ser::{Serializer, Writer, serialize_one};
 use crate::traits::{Archive, Deserialize, Entries, Keys, Portable, Serialize};
 use crate::view::{Part, Ref};
 use archive_check::error::Error;
@@ -23,25 +23,6 @@ pub fn root_position<T: Portable>(len: usize) -> usize
     len.saturating_sub(T::size())
 }
 
-// Writes what the value owns and then the value, at the next multiple of its alignment.
-fn serialize_root<S: Writer + Keys + ResolverAlloc, T: Serialize<S>>(
-    serializer: &mut S,
-    value: &T,
-) -> Result<usize, Error>
-    ensures archived { KnowsNone (S.state_of serializer.old) → IfOk result (λ root. Archives T.Archived.definitions (S.told serializer.old).bytes (S.told serializer.new).bytes
-        root T.Archived.shape T.Archived.layout.size (T.keys value.now) (T.meaning value.now)) }
-    ensures goes_on { GoesOn (S.told serializer.old) (S.told serializer.new) }
-    ensures refused { IfErr result (Explains (HindersWhole (T.hinders value.now (stand (S.told serializer.old) (S.state_of serializer.old)))
-        (T.leaves value.now (stand (S.told serializer.old) (S.state_of serializer.old))) (T.hinders_at value.now)
-        T.Archived.layout (region_place T.Archived.layout (T.plan value.now (stand (S.told serializer.old) (S.state_of serializer.old)))))
-        (root_end T.Archived.layout (T.plan value.now (stand (S.told serializer.old) (S.state_of serializer.old)))) (S.told serializer.old) (S.told serializer.new)) }
-{
-    let resolver = value.serialize(serializer)?;
-    serializer.align_for::<T::Archived>()?;
-    let alloc = serializer.resolver_alloc();
-    serializer.resolve_aligned(alloc, value, resolver)
-}
-
 // The writer behind an archive of `value`, or behind what was written of one, and the root's position.
 fn serialize_whole<W: Writer + Drop, T: Serialize<Serializer<W, Global, ()>>>(
     alloc: Global,
@@ -51,12 +32,12 @@ fn serialize_whole<W: Writer + Drop, T: Serialize<Serializer<W, Global, ()>>>(
     ensures archived { IfOk result.1 (λ root. Archives T.Archived.definitions (W.told writer).bytes (W.told result.0).bytes root T.Archived.shape T.Archived.layout.size
         (T.keys value.now) (T.meaning value.now)) }
     ensures goes_on { GoesOn (W.told writer) (W.told result.0) }
-    ensures refused { IfErr result.1 (Explains (HindersWhole (T.hinders value.now (stand (W.told writer) (λ _. None))) (T.leaves value.now (stand (W.told writer) (λ _. None))) (T.hinders_at value.now)
-            T.Archived.layout (region_place T.Archived.layout (T.plan value.now (stand (W.told writer) (λ _. None)))))
-        (root_end T.Archived.layout (T.plan value.now (stand (W.told writer) (λ _. None)))) (W.told writer) (W.told result.0)) }
+    ensures refused { IfErr result.1 (Explains (HindersWhole (T.hinders value.now (stand (W.told writer) (λ _. None))) (T.answers value.now (stand (W.told writer) (λ _. None))) (T.hinders_at value.now)
+        T.Archived.layout (region_place T.Archived.layout (T.plan value.now (stand (W.told writer) (λ _. None)))))
+        (one_plan T.Archived.layout (T.plan value.now (stand (W.told writer) (λ _. None)))).place (W.told writer) (W.told result.0)) }
 {
     let mut serializer = Serializer::new(writer, alloc, ());
-    let root = serialize_root(&mut serializer, value);
+    let root = serialize_one(value, &mut serializer);
     (serializer.into_writer(), root)
 }
 
@@ -70,9 +51,9 @@ pub fn to_bytes_in<W: Writer + Drop, T: Serialize<Serializer<W, Global, ()>>>(
     ensures archived { IfOk result (λ w. (root : ℕ) × Archives T.Archived.definitions (W.told writer).bytes (W.told w).bytes root T.Archived.shape T.Archived.layout.size
         (T.keys value.now) (T.meaning value.now)) }
     ensures kept { IfOk result (λ w. IsBeginning (W.told writer).bytes (W.told w).bytes) }
-    ensures refused { IfErr result (λ e. (end : Told) × GoesOn (W.told writer) end × Explains (HindersWhole (T.hinders value.now (stand (W.told writer) (λ _. None))) (T.leaves value.now (stand (W.told writer) (λ _. None))) (T.hinders_at value.now)
-            T.Archived.layout (region_place T.Archived.layout (T.plan value.now (stand (W.told writer) (λ _. None)))))
-        (root_end T.Archived.layout (T.plan value.now (stand (W.told writer) (λ _. None)))) (W.told writer) end e) }
+    ensures refused { IfErr result (λ e. (end : Told) × GoesOn (W.told writer) end × Explains (HindersWhole (T.hinders value.now (stand (W.told writer) (λ _. None))) (T.answers value.now (stand (W.told writer) (λ _. None))) (T.hinders_at value.now)
+        T.Archived.layout (region_place T.Archived.layout (T.plan value.now (stand (W.told writer) (λ _. None)))))
+        (one_plan T.Archived.layout (T.plan value.now (stand (W.told writer) (λ _. None)))).place (W.told writer) end e) }
 {
     let (writer, root) = serialize_whole(alloc, value, writer);
     root?;
@@ -87,7 +68,7 @@ pub fn to_bytes<T: Serialize<Serializer<Vec<u8>, Global, ()>>>(
 ) -> Result<Vec<u8>, Error>
     ensures archived { IfOk result (λ bytes. (root : ℕ) × Archives T.Archived.definitions [] bytes.items root T.Archived.shape T.Archived.layout.size
         (T.keys value.now) (T.meaning value.now)) }
-    ensures refused { IfErr result (λ e. (e ≡ OutOfMemory) ⊎ HindersWhole (T.hinders value.now at_start) (T.leaves value.now at_start) (T.hinders_at value.now)
+    ensures refused { IfErr result (λ e. (e ≡ OutOfMemory) ⊎ HindersWhole (T.hinders value.now at_start) (T.answers value.now at_start) (T.hinders_at value.now)
         T.Archived.layout (region_place T.Archived.layout (T.plan value.now at_start)) e) }
 {
     let (bytes, root) = serialize_whole(alloc, value, Vec::new(alloc));

@@ -77,7 +77,7 @@ impl<N: Source> Archive for N {
 
     ghost plan = { λ _ s. s };
 
-    ghost leaves = { λ _ _ _. ⊤ };
+    ghost answers = { λ _ _ _. ⊤ };
 
     ghost hinders = { λ _ _ _. ⊥ };
 
@@ -86,6 +86,10 @@ impl<N: Source> Archive for N {
     ghost keyed = { λ n. keyed_by_none (number (N.value_of n)) tt };
 
     ghost forward = { λ _ s. stays s };
+
+    ghost named = { λ _ _ _ h. absurd h };
+
+    ghost named_at = { λ _ _ _ _ h. absurd h };
 
     fn resolve(&self, _resolver: (), place: Place<'_, N::Format>) -> Result<(), Error>
         requires fresh { Fresh (N.Format.layout.size) place.pos place.bytes.now }
@@ -108,7 +112,7 @@ impl<N: Source, S: Writer + Keys> Serialize<S> for N {
         ensures written { IfOk result (λ _. Writes N.Format.definitions (held (S.told _serializer.old) (S.state_of _serializer.old)) (held (S.told _serializer.new) (S.state_of _serializer.new))
             [] (number (N.value_of self.now)) (number (N.value_of self.now))) }
         ensures same_value { ⊤ }
-        ensures left { ⊤ }
+        ensures answered { ⊤ }
         ensures planned { OnOk result (IsAt (stand (S.told _serializer.old) (S.state_of _serializer.old)) (S.told _serializer.new) (S.state_of _serializer.new)) }
         ensures goes_on { GoesOn (S.told _serializer.old) (S.told _serializer.new) }
         ensures kept { IsBeginning (S.told _serializer.old).bytes (S.told _serializer.new).bytes }
@@ -138,7 +142,7 @@ impl<N: Native> Archive for LittleEndian<N> {
 
     ghost plan = { λ _ s. s };
 
-    ghost leaves = { λ _ _ _. ⊤ };
+    ghost answers = { λ _ _ _. ⊤ };
 
     ghost hinders = { λ _ _ _. ⊥ };
 
@@ -147,6 +151,10 @@ impl<N: Native> Archive for LittleEndian<N> {
     ghost keyed = { λ n. keyed_by_none (number (N.value_of n)) tt };
 
     ghost forward = { λ _ s. stays s };
+
+    ghost named = { λ _ _ _ h. absurd h };
+
+    ghost named_at = { λ _ _ _ _ h. absurd h };
 
     fn resolve(&self, _resolver: (), place: Place<'_, LittleEndian<N>>) -> Result<(), Error>
         requires fresh { Fresh (kind_size N.kind) place.pos place.bytes.now }
@@ -169,7 +177,7 @@ impl<N: Native, S: Writer + Keys> Serialize<S> for LittleEndian<N> {
         ensures written { IfOk result (λ _. Writes no_definition (held (S.told _serializer.old) (S.state_of _serializer.old)) (held (S.told _serializer.new) (S.state_of _serializer.new))
             [] (number (N.value_of self.now)) (number (N.value_of self.now))) }
         ensures same_value { ⊤ }
-        ensures left { ⊤ }
+        ensures answered { ⊤ }
         ensures planned { OnOk result (IsAt (stand (S.told _serializer.old) (S.state_of _serializer.old)) (S.told _serializer.new) (S.state_of _serializer.new)) }
         ensures goes_on { GoesOn (S.told _serializer.old) (S.told _serializer.new) }
         ensures kept { IsBeginning (S.told _serializer.old).bytes (S.told _serializer.new).bytes }

@@ -2,13 +2,15 @@
 
 ghost use Rattle.std.specs.Prelude.{◌≡◌, ◌+◌, ◌%◌, length, IfOk, OnOk, IfErr};
 ghost use Rattle.archive_check.specs.Held.{held};
+ghost use Rattle.archive_check.specs.Shape.{one};
 ghost use Rattle.archive_check.specs.Told.{KeepsKeys};
-ghost use Rattle.archive_core.specs.Plans.{GoesOn, Explains, HindersRegion};
-ghost use Rattle.archive_core.specs.Writing.{Fresh, Resolves, Puts};
+ghost use Rattle.archive_core.specs.Plans.{stand, IsAt, GoesOn, Explains, HindersRegion, HindersWhole, region_place, one_plan};
+ghost use Rattle.archive_core.specs.Writing.{Fresh, Resolves, Puts, Lays};
+ghost use Rattle.archive_write.specs.Sharing.{KeepsKnown};
 ghost use Rattle.archive_write.specs.Written.{IsBeginning};
 
 use crate::place::Place;
-use crate::traits::{Archive, Portable};
+use crate::traits::{Archive, Keys, Portable, Serialize};
 use archive_check::error::Error;
 pub use archive_write::ser::{Buffer, Positional, ResolverAlloc, Serializer, Writer, WriterExt};
 use std::alloc::Allocator;
@@ -96,3 +98,27 @@ pub trait ResolveExt: Writer {
 }
 
 impl<W: Writer> ResolveExt for W {}
+
+/// Writes what `value` owns and then the value as a region of its own, at the next multiple of its alignment, and answers the region's position.
+/// Refused as the value's serialization or its resolving refuses, with 23 where the region would end above `usize::MAX`, with 1 where memory is
+/// refused, or as the writer refuses.
+#[tactic(auto, using(crate::proofs::Appending::lays_one))]
+pub fn serialize_one<S: Writer + Keys + ResolverAlloc, T: Serialize<S>>(
+    value: &T,
+    serializer: &mut S,
+) -> Result<usize, Error>
+    ensures written { IfOk result (λ p. Lays T.Archived.definitions (held (S.told serializer.old) (S.state_of serializer.old)) (held (S.told serializer.new) (S.state_of serializer.new))
+        (T.keys value.now) p (one T.Archived.shape) 0 (T.meaning value.now)) }
+    ensures there { IfOk result (λ p. p ≡ region_place T.Archived.layout (T.plan value.now (stand (S.told serializer.old) (S.state_of serializer.old)))) }
+    ensures planned { OnOk result (IsAt (one_plan T.Archived.layout (T.plan value.now (stand (S.told serializer.old) (S.state_of serializer.old)))) (S.told serializer.new) (S.state_of serializer.new)) }
+    ensures goes_on { GoesOn (S.told serializer.old) (S.told serializer.new) }
+    ensures known { KeepsKnown (S.state_of serializer.old) (S.state_of serializer.new) }
+    ensures refused { IfErr result (Explains (HindersWhole (T.hinders value.now (stand (S.told serializer.old) (S.state_of serializer.old))) (T.answers value.now (stand (S.told serializer.old) (S.state_of serializer.old))) (T.hinders_at value.now)
+        T.Archived.layout (region_place T.Archived.layout (T.plan value.now (stand (S.told serializer.old) (S.state_of serializer.old)))))
+        (one_plan T.Archived.layout (T.plan value.now (stand (S.told serializer.old) (S.state_of serializer.old)))).place (S.told serializer.old) (S.told serializer.new)) }
+{
+    let resolver = value.serialize(serializer)?;
+    serializer.align_for::<T::Archived>()?;
+    let alloc = serializer.resolver_alloc();
+    serializer.resolve_aligned(alloc, value, resolver)
+}

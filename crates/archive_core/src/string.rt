@@ -13,11 +13,12 @@ ghost use Rattle.archive_check.specs.Told.{KeepsKeys};
 ghost use Rattle.archive_write.specs.Sharing.{KeepsKnown, IsNoMisuse};
 ghost use Rattle.archive_write.specs.Written.{IsBeginning};
 ghost use Rattle.archive_core.specs.Keyed.{keyed_by_none};
+ghost use Rattle.archive_core.specs.Named.{text_named, string_named, string_at_named};
 ghost use Rattle.archive_core.specs.Offsets.{distance, IsTooFar};
 ghost use Rattle.archive_core.specs.Plans.{stand, IsAt, GoesOn, Explains};
 ghost use Rattle.archive_core.specs.Refusals.{ExplainsTextRefusal, ExplainsStringRefusal};
 ghost use Rattle.archive_core.specs.Strings.{string_form, string_flat};
-ghost use Rattle.archive_core.specs.TextPlans.{text_plan, string_plan, StringLeaves, HindersText, HindersString, HindersStringAt, text_forward, string_forward};
+ghost use Rattle.archive_core.specs.TextPlans.{text_plan, string_plan, StringAnswers, HindersText, HindersString, HindersStringAt, text_forward, string_forward};
 ghost use Rattle.archive_core.specs.Writing.{Fresh, Resolves, Writes, Lays};
 
 pub mod repr;
@@ -146,6 +147,8 @@ impl<'a> ArchiveUnsized for Text<'a> {
 
     ghost forward = { λ t s. text_forward t.text.now s };
 
+    ghost named = { λ t _ e h. text_named t.text.now e h };
+
     fn archived_metadata(&self) -> Result<ArchivedUsize, Error> {
         let Ok(len) = u32::try_from(self.text.len()) else {
             return Err(Error::LengthTooLarge);
@@ -208,7 +211,7 @@ impl ArchivedString {
         ensures too_long { 1073741823 < length value.now → IsErrOf result StringTooLong × (S.told serializer.new ≡ S.told serializer.old) }
         ensures elsewhere { 8 < length value.now → IfOk result (λ r. (r ≡ length (S.told serializer.old).bytes)
             × ((S.told serializer.new).bytes ≡ (S.told serializer.old).bytes ++ value.now)) }
-        ensures left { IfOk result (λ r. StringLeaves value.now (stand (S.told serializer.old) (S.state_of serializer.old)) r) }
+        ensures answered { IfOk result (λ r. StringAnswers value.now (stand (S.told serializer.old) (S.state_of serializer.old)) r) }
         ensures planned { OnOk result (IsAt (string_plan value.now (stand (S.told serializer.old) (S.state_of serializer.old))) (S.told serializer.new) (S.state_of serializer.new)) }
         ensures goes_on { GoesOn (S.told serializer.old) (S.told serializer.new) }
         ensures kept { IsBeginning (S.told serializer.old).bytes (S.told serializer.new).bytes }
@@ -268,7 +271,7 @@ impl Archive for String {
 
     ghost plan = { λ s at. string_plan (string_bytes s) at };
 
-    ghost leaves = { λ s at r. StringLeaves (string_bytes s) at r };
+    ghost answers = { λ s at r. StringAnswers (string_bytes s) at r };
 
     ghost hinders = { λ s at e. HindersString (string_bytes s) at e };
 
@@ -277,6 +280,10 @@ impl Archive for String {
     ghost keyed = { λ s. keyed_by_none (text_value (string_bytes s)) tt };
 
     ghost forward = { λ s at. string_forward (string_bytes s) at };
+
+    ghost named = { λ s at e h. string_named (string_bytes s) at e h };
+
+    ghost named_at = { λ s r p e h. string_at_named (string_bytes s) r p e h };
 
     fn resolve(
         &self,
@@ -300,7 +307,7 @@ impl<S: Writer + Keys> Serialize<S> for String {
     fn serialize(&self, serializer: &mut S) -> Result<StringResolver, Error>
         ensures written { IfOk result (λ r. Writes no_definition (held (S.told serializer.old) (S.state_of serializer.old)) (held (S.told serializer.new) (S.state_of serializer.new)) [] (string_flat (string_bytes self.now) r) (text_value (string_bytes self.now))) }
         ensures same_value { OnOk result (length (string_bytes self.now) ≤ 1073741823) }
-        ensures left { IfOk result (λ r. StringLeaves (string_bytes self.now) (stand (S.told serializer.old) (S.state_of serializer.old)) r) }
+        ensures answered { IfOk result (λ r. StringAnswers (string_bytes self.now) (stand (S.told serializer.old) (S.state_of serializer.old)) r) }
         ensures planned { OnOk result (IsAt (string_plan (string_bytes self.now) (stand (S.told serializer.old) (S.state_of serializer.old))) (S.told serializer.new) (S.state_of serializer.new)) }
         ensures goes_on { GoesOn (S.told serializer.old) (S.told serializer.new) }
         ensures kept { IsBeginning (S.told serializer.old).bytes (S.told serializer.new).bytes }

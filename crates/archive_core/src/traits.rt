@@ -6,7 +6,7 @@ ghost use Rattle.archive_check.specs.Readable.{Readable};
 ghost use Rattle.archive_check.specs.Value.{Value};
 ghost use Rattle.archive_check.specs.declared.error.Error.TheVariants.{OutOfMemory, CyclicDeserialize, LengthTooLarge};
 ghost use Rattle.archive_check.specs.declared.error.Error.{Error as ErrorOf};
-ghost use Rattle.archive_core.specs.Plans.{Stand, stand, IsAt, GoesOn, Explains};
+ghost use Rattle.archive_core.specs.Plans.{Stand, stand, IsAt, GoesOn, Explains, IsOfWriting};
 ghost use Rattle.archive_core.specs.Writing.{Naming, IsKeyed, Fresh, Resolves, Writes, Lays};
 ghost use Rattle.archive_write.specs.Sharing.{KeepsKnown, IsNoMisuse};
 ghost use Rattle.archive_write.specs.Written.{IsBeginning};
@@ -48,8 +48,8 @@ pub trait Archive {
     // Where a writer will stand behind what the value owns.
     ghost plan: { Self → Stand → Stand };
 
-    // The resolver is the one that a serialization from there leaves.
-    ghost leaves: { Self → Stand → Self.Resolver → Type 0 };
+    // A serialization from there answers this resolver.
+    ghost answers: { Self → Stand → Self.Resolver → Type 0 };
 
     // What hinders a serialization from there.
     ghost hinders: { Self → Stand → ErrorOf → Type 0 };
@@ -73,6 +73,10 @@ pub trait Archive {
     ghost keyed: { (v : Self) → IsKeyed (keys v) (meaning v) };
 
     ghost forward: { (v : Self) (s : Stand) → s.place ≤ (plan v s).place };
+
+    ghost named: { (v : Self) (s : Stand) (e : ErrorOf) → hinders v s e → IsOfWriting e };
+
+    ghost named_at: { (v : Self) (r : Self.Resolver) (p : ℕ) (e : ErrorOf) → hinders_at v r p e → IsOfWriting e };
 }
 
 /// A source that can be serialized to an `S`.
@@ -83,7 +87,7 @@ pub trait Serialize<S: Writer + Keys>: Archive {
         ensures written { IfOk result (λ r. Writes Self.Archived.definitions (held (S.told serializer.old) (S.state_of serializer.old)) (held (S.told serializer.new) (S.state_of serializer.new))
             (Self.keys self.now) (Self.flat self.now r) (Self.meaning self.now)) }
         ensures same_value { IfOk result (λ r. Self.belongs self.now r) }
-        ensures left { IfOk result (λ r. Self.leaves self.now (stand (S.told serializer.old) (S.state_of serializer.old)) r) }
+        ensures answered { IfOk result (λ r. Self.answers self.now (stand (S.told serializer.old) (S.state_of serializer.old)) r) }
         ensures planned { OnOk result (IsAt (Self.plan self.now (stand (S.told serializer.old) (S.state_of serializer.old))) (S.told serializer.new) (S.state_of serializer.new)) }
         ensures goes_on { GoesOn (S.told serializer.old) (S.told serializer.new) }
         ensures kept { IsBeginning (S.told serializer.old).bytes (S.told serializer.new).bytes }
@@ -144,6 +148,8 @@ pub trait ArchiveUnsized {
     ghost keyed: { (v : Self) → IsKeyed (keys v) (meaning v) };
 
     ghost forward: { (v : Self) (s : Stand) → s.place ≤ (plan v s).place };
+
+    ghost named: { (v : Self) (s : Stand) (e : ErrorOf) → hinders v s e → IsOfWriting e };
 }
 
 /// A source that can be serialized to an `S` as a region of its own.

@@ -40,7 +40,7 @@ impl<N: Integer> Archive for NonZero<N> {
 
     ghost plan = { λ _ s. s };
 
-    ghost leaves = { λ _ _ _. ⊤ };
+    ghost answers = { λ _ _ _. ⊤ };
 
     ghost hinders = { λ _ _ _. ⊥ };
 
@@ -49,6 +49,10 @@ impl<N: Integer> Archive for NonZero<N> {
     ghost keyed = { λ n. keyed_by_none (number (N.value_of n)) tt };
 
     ghost forward = { λ _ s. stays s };
+
+    ghost named = { λ _ _ _ h. absurd h };
+
+    ghost named_at = { λ _ _ _ _ h. absurd h };
 
     fn resolve(&self, _resolver: (), place: Place<'_, NonZero<N>>) -> Result<(), Error>
         requires fresh { Fresh (kind_size (non_zero N.sign N.width)) place.pos place.bytes.now }
@@ -70,7 +74,7 @@ impl<N: Integer, S: Writer + Keys> Serialize<S> for NonZero<N> {
     fn serialize(&self, _serializer: &mut S) -> Result<(), Error>
         ensures written { IfOk result (λ _. Writes no_definition (held (S.told _serializer.old) (S.state_of _serializer.old)) (held (S.told _serializer.new) (S.state_of _serializer.new)) [] (number (N.value_of self.now)) (number (N.value_of self.now))) }
         ensures same_value { ⊤ }
-        ensures left { ⊤ }
+        ensures answered { ⊤ }
         ensures planned { OnOk result (IsAt (stand (S.told _serializer.old) (S.state_of _serializer.old)) (S.told _serializer.new) (S.state_of _serializer.new)) }
         ensures goes_on { GoesOn (S.told _serializer.old) (S.told _serializer.new) }
         ensures known { KeepsKnown (S.state_of _serializer.old) (S.state_of _serializer.new) }

@@ -13,6 +13,7 @@ ghost use Rattle.archive_check.specs.Value.{number as number_value};
 ghost use Rattle.archive_check.specs.declared.error.Error.TheVariants.{NumberTooLarge};
 ghost use Rattle.archive_num.specs.Digits.{little_bytes, little_number};
 ghost use Rattle.archive_core.specs.Keyed.{keyed_by_none, stays};
+ghost use Rattle.archive_core.specs.Named.{too_large_named};
 ghost use Rattle.archive_core.specs.Plans.{stand, IsAt, GoesOn, Explains};
 ghost use Rattle.archive_core.specs.Writing.{Fresh, Resolves, Writes};
 ghost use Rattle.archive_write.specs.Sharing.{KeepsKnown, IsNoMisuse};
@@ -41,7 +42,7 @@ impl Archive for usize {
 
     ghost plan = { λ _ s. s };
 
-    ghost leaves = { λ _ _ _. ⊤ };
+    ghost answers = { λ _ _ _. ⊤ };
 
     ghost hinders = { λ n _ e. (e ≡ NumberTooLarge) × (n < 2 ^ 32 → ⊥) };
 
@@ -50,6 +51,10 @@ impl Archive for usize {
     ghost keyed = { λ n. keyed_by_none (number_value (pos n)) tt };
 
     ghost forward = { λ _ s. stays s };
+
+    ghost named = { λ _ _ e h. too_large_named e (h.0) };
+
+    ghost named_at = { λ _ _ _ _ h. absurd h };
 
     #[tactic(auto, using(crate::proofs::Resolving::resolves_usize))]
     fn resolve(&self, _resolver: (), place: Place<'_, ArchivedUsize>) -> Result<(), Error>
@@ -73,7 +78,7 @@ impl<S: Writer + Keys> Serialize<S> for usize {
     fn serialize(&self, _serializer: &mut S) -> Result<(), Error>
         ensures written { IfOk result (λ _. Writes no_definition (held (S.told _serializer.old) (S.state_of _serializer.old)) (held (S.told _serializer.new) (S.state_of _serializer.new)) [] (number_value (pos self.now)) (number_value (pos self.now))) }
         ensures same_value { IfOk result (λ _. self.now < 2 ^ 32) }
-        ensures left { IfOk result (λ _. ⊤) }
+        ensures answered { IfOk result (λ _. ⊤) }
         ensures planned { OnOk result (IsAt (stand (S.told _serializer.old) (S.state_of _serializer.old)) (S.told _serializer.new) (S.state_of _serializer.new)) }
         ensures goes_on { GoesOn (S.told _serializer.old) (S.told _serializer.new) }
         ensures cause { IfErr result (λ e. (e ≡ NumberTooLarge) × (self.now < 2 ^ 32 → ⊥)) }
@@ -121,7 +126,7 @@ impl Archive for isize {
 
     ghost plan = { λ _ s. s };
 
-    ghost leaves = { λ _ _ _. ⊤ };
+    ghost answers = { λ _ _ _. ⊤ };
 
     ghost hinders = { λ n _ e. (e ≡ NumberTooLarge) × (FitsSigned w32 n → ⊥) };
 
@@ -130,6 +135,10 @@ impl Archive for isize {
     ghost keyed = { λ n. keyed_by_none (number_value n) tt };
 
     ghost forward = { λ _ s. stays s };
+
+    ghost named = { λ _ _ e h. too_large_named e (h.0) };
+
+    ghost named_at = { λ _ _ _ _ h. absurd h };
 
     #[tactic(auto, using(crate::proofs::Resolving::resolves_isize))]
     fn resolve(&self, _resolver: (), place: Place<'_, ArchivedIsize>) -> Result<(), Error>
@@ -153,7 +162,7 @@ impl<S: Writer + Keys> Serialize<S> for isize {
     fn serialize(&self, _serializer: &mut S) -> Result<(), Error>
         ensures written { IfOk result (λ _. Writes no_definition (held (S.told _serializer.old) (S.state_of _serializer.old)) (held (S.told _serializer.new) (S.state_of _serializer.new)) [] (number_value self.now) (number_value self.now)) }
         ensures same_value { IfOk result (λ _. FitsSigned w32 self.now) }
-        ensures left { IfOk result (λ _. ⊤) }
+        ensures answered { IfOk result (λ _. ⊤) }
         ensures planned { OnOk result (IsAt (stand (S.told _serializer.old) (S.state_of _serializer.old)) (S.told _serializer.new) (S.state_of _serializer.new)) }
         ensures goes_on { GoesOn (S.told _serializer.old) (S.told _serializer.new) }
         ensures cause { IfErr result (λ e. (e ≡ NumberTooLarge) × (FitsSigned w32 self.now → ⊥)) }

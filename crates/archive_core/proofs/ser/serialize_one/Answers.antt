@@ -1,19 +1,17 @@
 use Rattle.std.proofs.Common.{◌≡◌, ◌∙◌}
-use Rattle.archive_check.specs.Held.{held}
 use Rattle.archive_core.specs.Plans.{stand}
-use Rattle.archive_core.proofs.Causes.{err_by, err_from, ok_from, goes_both, goes_written, goes_refused}
+use Rattle.archive_core.proofs.Causes.{err_by, err_from, goes_both, goes_written, goes_refused}
 use Rattle.archive_core.proofs.WholeCauses.{whole_owned, whole_padded, whole_region}
-use Rattle.archive_core.proofs.Whole.{archives}
-use Rattle.archive_core.proofs.api.serialize_root.Goals as goal
+use Rattle.archive_core.proofs.ser.serialize_one.Goals as goal
 
 pub returns-in_err-resolver-clause-refused : goal.returns-in_err-resolver-clause-refused
 returns-in_err-resolver-clause-refused g c = err_by c.from_residual.result c.in_err-resolver.field-0.0 _ c.from_residual.ensures.1
-    (whole_owned (g.T.Archive.hinders c.args.value.now (stand (g.S.Tells.told c.args.serializer.now) (g.S.Keys.state_of c.args.serializer.now))) (g.T.Archive.leaves c.args.value.now (stand (g.S.Tells.told c.args.serializer.now) (g.S.Keys.state_of c.args.serializer.now))) (g.T.Archive.hinders_at c.args.value.now) g.T.Archived.Portable.layout g.met.T.Archived.Portable.is_align
+    (whole_owned (g.T.Archive.hinders c.args.value.now (stand (g.S.Tells.told c.args.serializer.now) (g.S.Keys.state_of c.args.serializer.now))) (g.T.Archive.answers c.args.value.now (stand (g.S.Tells.told c.args.serializer.now) (g.S.Keys.state_of c.args.serializer.now))) (g.T.Archive.hinders_at c.args.value.now) g.T.Archived.Portable.layout g.met.T.Archived.Portable.is_align
     (g.T.Archive.plan c.args.value.now (stand (g.S.Tells.told c.args.serializer.now) (g.S.Keys.state_of c.args.serializer.now))) _ _ _ c.in_err-resolver.ensures.refused)
 
 pub returns-in_err-align_for-clause-refused : goal.returns-in_err-align_for-clause-refused
 returns-in_err-align_for-clause-refused g c = err_by c.from_residual-in_err-align_for.result c.in_err-align_for.field-0.0 _ c.from_residual-in_err-align_for.ensures.1
-    (whole_padded (g.T.Archive.hinders c.args.value.now (stand (g.S.Tells.told c.args.serializer.now) (g.S.Keys.state_of c.args.serializer.now))) (g.T.Archive.leaves c.args.value.now (stand (g.S.Tells.told c.args.serializer.now) (g.S.Keys.state_of c.args.serializer.now))) (g.T.Archive.hinders_at c.args.value.now) g.T.Archived.Portable.layout g.met.T.Archived.Portable.is_align
+    (whole_padded (g.T.Archive.hinders c.args.value.now (stand (g.S.Tells.told c.args.serializer.now) (g.S.Keys.state_of c.args.serializer.now))) (g.T.Archive.answers c.args.value.now (stand (g.S.Tells.told c.args.serializer.now) (g.S.Keys.state_of c.args.serializer.now))) (g.T.Archive.hinders_at c.args.value.now) g.T.Archived.Portable.layout g.met.T.Archived.Portable.is_align
     (g.T.Archive.plan c.args.value.now (stand (g.S.Tells.told c.args.serializer.now) (g.S.Keys.state_of c.args.serializer.now))) _ _ _ _ _ _ c.serialize.ensures.goes_on c.in_ok-resolver.ensures.planned (g.met.S.Writer.place_law _)
     (goes_refused _ _ c.in_err-align_for.ensures.kept c.in_err-align_for.ensures.room c.in_err-align_for.ensures.device) c.in_err-align_for.ensures.refusal)
 
@@ -23,12 +21,7 @@ returns-clause-goes_on g c = goes_both _ _ _ (goes_both _ _ _ c.serialize.ensure
 
 pub returns-clause-refused : goal.returns-clause-refused
 returns-clause-refused g c = err_from c.resolve_aligned.result c.resolve_aligned.ensures.refused (λ e h.
-    whole_region (g.T.Archive.hinders c.args.value.now (stand (g.S.Tells.told c.args.serializer.now) (g.S.Keys.state_of c.args.serializer.now))) (g.T.Archive.leaves c.args.value.now (stand (g.S.Tells.told c.args.serializer.now) (g.S.Keys.state_of c.args.serializer.now))) (g.T.Archive.hinders_at c.args.value.now) g.T.Archived.Portable.layout g.met.T.Archived.Portable.is_align
+    whole_region (g.T.Archive.hinders c.args.value.now (stand (g.S.Tells.told c.args.serializer.now) (g.S.Keys.state_of c.args.serializer.now))) (g.T.Archive.answers c.args.value.now (stand (g.S.Tells.told c.args.serializer.now) (g.S.Keys.state_of c.args.serializer.now))) (g.T.Archive.hinders_at c.args.value.now) g.T.Archived.Portable.layout g.met.T.Archived.Portable.is_align
     (g.T.Archive.plan c.args.value.now (stand (g.S.Tells.told c.args.serializer.now) (g.S.Keys.state_of c.args.serializer.now))) _ _ _ _ _ _ _ _ (goes_both _ _ _ c.serialize.ensures.goes_on
     (goes_written _ _ _ c.in_ok-align_for.ensures.written c.in_ok-align_for.ensures.room c.in_ok-align_for.ensures.device)) c.in_ok-resolver.ensures.planned c.in_ok-align_for.ensures.padded
-    c.resolve_aligned.ensures.goes_on c.in_ok-resolver.ensures.left h)
-
-pub returns-clause-archived : goal.returns-clause-archived
-returns-clause-archived g c = λ none. ok_from c.resolve_aligned.result c.resolve_aligned.ensures.region c.resolve_aligned.ensures.position (λ root puts here.
-    archives _ (held (g.S.Tells.told c.args.serializer.now) (g.S.Keys.state_of c.args.serializer.now)) _ _ _ _ _ _ _ _ root none (g.met.T.Archive.keyed c.args.value.now)
-    c.in_ok-resolver.ensures.written c.in_ok-align_for.ensures.padded puts (here ∙ g.met.S.Writer.place_law _))
+    c.resolve_aligned.ensures.goes_on c.in_ok-resolver.ensures.answered h)
