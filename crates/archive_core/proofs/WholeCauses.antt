@@ -7,7 +7,7 @@ use Rattle.archive_check.specs.Held.{States, Held, held, Pads}
 use Rattle.archive_check.specs.declared.error.Error.{Error}
 use Rattle.archive_check.proofs.Inside.{up_le}
 use Rattle.archive_write.specs.Written.{padding, IsBeginning, RoomFalls, ExplainsRefusal}
-use Rattle.archive_core.specs.Plans.{Stand, IsAt, GoesOn, Explains, HindersRegion, HindersWhole, region_place, one_plan}
+use Rattle.archive_core.specs.Plans.{Stand, IsAt, GoesOn, Explains, HindersRegion, HindersWhole, region_place, one_plan, IsOfWriting, of_layout}
 use Rattle.archive_core.proofs.Causes.{explains_write, explains_sooner, explains_later, goes_refused, goes_written, goes_both}
 
 align_low : (a : ℕ) → IsAlign a → 1 ≤ a
@@ -45,3 +45,10 @@ module _ {R : Type 0} (owned : Error → Type 0) (left : R → Type 0) (own : R 
   whole_region old mid low new s t r e g at pads k l h =
       let there : length low.bytes ≡ region_place L plan = pads.aligned ∙ ap (λ n. up n L.align) at.place in
       explains_later _ Whole (one_plan L plan).place old low new e g k (λ x. inr (r, l, x)) (rw there at h)
+
+-- each of these causes is one of writing, where the value's are
+pub whole_named : {R : Type 0} (owned : Error → Type 0) (left : R → Type 0) (own : R → ℕ → Error → Type 0) (L : Layout) (p : ℕ)
+    → ((e : Error) → owned e → IsOfWriting e) → ((r : R) (q : ℕ) (e : Error) → own r q e → IsOfWriting e) → (e : Error) → HindersWhole owned left own L p e → IsOfWriting e
+whole_named owned left own L p f g e (inl h) = f e h
+whole_named owned left own L p f g e (inr (r, l, (inl h))) = rw (h.0) of_layout
+whole_named owned left own L p f g e (inr (r, l, (inr h))) = g r p e h

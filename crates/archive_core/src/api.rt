@@ -3,7 +3,7 @@
 ghost use Rattle.std.specs.Prelude.{◌≡◌, ◌-◌, ◌⊎◌, ℕ, [], None, length, IfOk, IfErr};
 ghost use Rattle.archive_check.specs.Told.{Told};
 ghost use Rattle.archive_check.specs.declared.error.Error.TheVariants.{OutOfMemory};
-ghost use Rattle.archive_core.specs.Plans.{stand, at_start, GoesOn, Explains, HindersWhole, region_place, one_plan};
+ghost use Rattle.archive_core.specs.Plans.{stand, at_start, GoesOn, Explains, HindersWhole, region_place, one_plan, IsOfWriting};
 ghost use Rattle.archive_core.specs.Writing.{Archives};
 ghost use Rattle.archive_write.specs.Sharing.{KnowsNone};
 ghost use Rattle.archive_write.specs.Written.{IsBeginning};
@@ -35,6 +35,7 @@ fn serialize_whole<W: Writer + Drop, T: Serialize<Serializer<W, Global, ()>>>(
     ensures refused { IfErr result.1 (Explains (HindersWhole (T.hinders value.now (stand (W.told writer) (λ _. None))) (T.answers value.now (stand (W.told writer) (λ _. None))) (T.hinders_at value.now)
         T.Archived.layout (region_place T.Archived.layout (T.plan value.now (stand (W.told writer) (λ _. None)))))
         (one_plan T.Archived.layout (T.plan value.now (stand (W.told writer) (λ _. None)))).place (W.told writer) (W.told result.0)) }
+    ensures named { IfErr result.1 IsOfWriting }
 {
     let mut serializer = Serializer::new(writer, alloc, ());
     let root = serialize_one(value, &mut serializer);
@@ -54,6 +55,7 @@ pub fn to_bytes_in<W: Writer + Drop, T: Serialize<Serializer<W, Global, ()>>>(
     ensures refused { IfErr result (λ e. (end : Told) × GoesOn (W.told writer) end × Explains (HindersWhole (T.hinders value.now (stand (W.told writer) (λ _. None))) (T.answers value.now (stand (W.told writer) (λ _. None))) (T.hinders_at value.now)
         T.Archived.layout (region_place T.Archived.layout (T.plan value.now (stand (W.told writer) (λ _. None)))))
         (one_plan T.Archived.layout (T.plan value.now (stand (W.told writer) (λ _. None)))).place (W.told writer) end e) }
+    ensures named { IfErr result IsOfWriting }
 {
     let (writer, root) = serialize_whole(alloc, value, writer);
     root?;
@@ -70,6 +72,7 @@ pub fn to_bytes<T: Serialize<Serializer<Vec<u8>, Global, ()>>>(
         (T.keys value.now) (T.meaning value.now)) }
     ensures refused { IfErr result (λ e. (e ≡ OutOfMemory) ⊎ HindersWhole (T.hinders value.now at_start) (T.answers value.now at_start) (T.hinders_at value.now)
         T.Archived.layout (region_place T.Archived.layout (T.plan value.now at_start)) e) }
+    ensures named { IfErr result IsOfWriting }
 {
     let (bytes, root) = serialize_whole(alloc, value, Vec::new(alloc));
     root?;
