@@ -9,3 +9,4 @@ pub mod Causes
 pub mod TextCauses
 pub mod Regions
 pub mod WholeCauses
+pub mod Repeated

@@ -1,10 +1,14 @@
 // Worked rows: values with their archives, and buffers that are refused.
 
-ghost use Rattle.std.specs.Prelude.{◌≡◌, ⊤, refl, length, IfOk};
+ghost use Rattle.std.specs.Prelude.{◌≡◌, ⊤, refl, [], pos, length, IfOk, OnOk, IfErr};
 ghost use Rattle.std.specs.Int.{w32};
 ghost use Rattle.std.proofs.Common.{inl, inr};
 ghost use Rattle.archive_check.specs.Shape.{array, leaf, number, one, unsigned};
 ghost use Rattle.archive_check.specs.Definitions.{no_definition};
+ghost use Rattle.archive_check.specs.Value.{list, number as number_value};
+ghost use Rattle.archive_core.specs.Keyed.{repeated_keyed_by_none, stays};
+ghost use Rattle.archive_core.specs.Repeated.{repeated};
+ghost use Rattle.archive_core.specs.Writing.{Fresh, Resolves};
 
 use crate::api::{access, access_pos, from_bytes, root_position, to_bytes, to_bytes_in};
 use crate::error::Error;
@@ -12,7 +16,7 @@ use crate::place::Place;
 use crate::primitive::{ArchivedU32, ArchivedUsize};
 use crate::rel_ptr::signed_offset;
 use crate::ser::{Buffer, Positional, ResolveExt, Serializer, Writer};
-use crate::shape::{Defs, Expr, Kind, Schema};
+use crate::shape::{Defs, Expr, IntegerKind, Kind, Schema};
 use crate::sharing::{Share, Sharing, SharingExt};
 use crate::string::{ArchivedStr, ArchivedString, Text, repr};
 use crate::traits::{
@@ -315,7 +319,7 @@ fn a_schema_is_kept_and_checks(rt: HostRuntime) -> Result<(), Fail> {
     let schema = Schema::of::<ArchivedString>(rt.alloc())?;
     let layout = schema.layout(&Expr::Str)?;
     assert_eq!(rt; (layout.size, layout.align), (8, 4));
-    let layout = schema.layout(&Expr::Leaf(Kind::U32))?;
+    let layout = schema.layout(&Expr::Leaf(Kind::Number(IntegerKind::U32)))?;
     assert_eq!(rt; (layout.size, layout.align), (4, 4));
     let bytes = b"hello world\0\x8b\0\0\0\xf4\xff\xff\xff";
     let mut context = ArchiveValidator::new(bytes);
@@ -414,12 +418,37 @@ impl Archive for Sevens {
 
     type Resolver = ();
 
+    ghost meaning = { λ _. list (repeated 25 (number_value (pos 117901063))) };
+
+    ghost flat = { λ _ _. list (repeated 25 (number_value (pos 117901063))) };
+
+    ghost keys = { λ _. [] };
+
     ghost belongs = { λ _ _. ⊤ };
 
+    ghost plan = { λ _ s. s };
+
+    ghost answers = { λ _ _ _. ⊤ };
+
+    ghost hinders = { λ _ _ _. ⊥ };
+
+    ghost hinders_at = { λ _ _ _ _. ⊥ };
+
+    ghost keyed = { λ _. repeated_keyed_by_none 25 (number_value (pos 117901063)) tt };
+
+    ghost forward = { λ _ s. stays s };
+
+    ghost named = { λ _ _ _ h. absurd h };
+
+    ghost named_at = { λ _ _ _ _ h. absurd h };
+
+    #[tactic(auto, using(crate::proofs::Repeated::resolves_sevens))]
     fn resolve(&self, _resolver: (), place: Place<'_, ArchivedSevens>) -> Result<(), Error>
-        requires sized { length place.bytes.now ≡ 100 }
+        requires fresh { Fresh 100 place.pos place.bytes.now }
         requires same_value { ⊤ }
+        ensures resolved { OnOk result (Resolves no_definition place.entry.pos place.exit.0.now (array 25 (leaf (number unsigned w32))) (list (repeated 25 (number_value (pos 117901063))))) }
         ensures same_length { length place.exit.0.now ≡ length place.entry.bytes.now }
+        ensures refused { IfErr result (λ _. ⊥) }
     {
         let Place { bytes, .. } = place;
         bytes.fill(7);
