@@ -86,3 +86,6 @@ pub mod Skipping
 pub mod Passing
 pub mod PlansInOrder
 pub mod Unshared
+pub mod Standing
+pub mod Cleaning
+pub mod Tightness

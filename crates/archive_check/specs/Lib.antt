@@ -54,3 +54,5 @@ pub mod Archives
 pub mod Entries
 pub mod Pooled
 pub mod Unshared
+pub mod Tidy
+pub mod Held

@@ -1,2 +1,12 @@
 pub mod Coded
 pub mod Shown
+pub mod Appending
+pub mod Resolving
+pub mod Sameness
+pub mod StringsWritten
+pub mod Whole
+pub mod Causes
+pub mod TextCauses
+pub mod Regions
+pub mod WholeCauses
+pub mod Repeated

@@ -1,10 +1,14 @@
 // Worked rows: values with their archives, and buffers that are refused.
 
-ghost use Rattle.std.specs.Prelude.{◌≡◌, ⊤, refl, length, IfOk};
+ghost use Rattle.std.specs.Prelude.{◌≡◌, ⊤, refl, [], pos, length, IfOk, OnOk, IfErr};
 ghost use Rattle.std.specs.Int.{w32};
 ghost use Rattle.std.proofs.Common.{inl, inr};
 ghost use Rattle.archive_check.specs.Shape.{array, leaf, number, one, unsigned};
 ghost use Rattle.archive_check.specs.Definitions.{no_definition};
+ghost use Rattle.archive_check.specs.Value.{list, number as number_value};
+ghost use Rattle.archive_core.specs.Keyed.{repeated_keyed_by_none, stays};
+ghost use Rattle.archive_core.specs.Repeated.{repeated};
+ghost use Rattle.archive_core.specs.Writing.{Fresh, Resolves};
 
 use crate::api::{access, access_pos, from_bytes, root_position, to_bytes, to_bytes_in};
 use crate::error::Error;
@@ -504,12 +508,37 @@ impl Archive for Sevens {
 
     type Resolver = ();
 
+    ghost meaning = { λ _. list (repeated 25 (number_value (pos 117901063))) };
+
+    ghost flat = { λ _ _. list (repeated 25 (number_value (pos 117901063))) };
+
+    ghost keys = { λ _. [] };
+
     ghost belongs = { λ _ _. ⊤ };
 
+    ghost plan = { λ _ s. s };
+
+    ghost answers = { λ _ _ _. ⊤ };
+
+    ghost hinders = { λ _ _ _. ⊥ };
+
+    ghost hinders_at = { λ _ _ _ _. ⊥ };
+
+    ghost keyed = { λ _. repeated_keyed_by_none 25 (number_value (pos 117901063)) tt };
+
+    ghost forward = { λ _ s. stays s };
+
+    ghost named = { λ _ _ _ h. absurd h };
+
+    ghost named_at = { λ _ _ _ _ h. absurd h };
+
+    #[tactic(auto, using(crate::proofs::Repeated::resolves_sevens))]
     fn resolve(&self, _resolver: (), place: Place<'_, ArchivedSevens>) -> Result<(), Error>
-        requires sized { length place.bytes.now ≡ 100 }
+        requires fresh { Fresh 100 place.pos place.bytes.now }
         requires same_value { ⊤ }
+        ensures resolved { OnOk result (Resolves no_definition place.entry.pos place.exit.0.now (array 25 (leaf (number unsigned w32))) (list (repeated 25 (number_value (pos 117901063))))) }
         ensures same_length { length place.exit.0.now ≡ length place.entry.bytes.now }
+        ensures refused { IfErr result (λ _. ⊥) }
     {
         let Place { bytes, .. } = place;
         bytes.fill(7);
