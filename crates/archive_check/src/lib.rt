@@ -27,6 +27,8 @@ mod tests;
 mod tests_contexts;
 #[cfg(test)]
 mod tests_expressions;
+#[cfg(test)]
+mod tests_plans;
 pub mod traits;
 pub mod validation;
 pub mod validator;
