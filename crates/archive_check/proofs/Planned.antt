@@ -1,5 +1,5 @@
 -- A plan of all definitions, the root, and all that they lead to.
-use Rattle.std.proofs.Common.{◌≡◌, ◌⊎◌, inl, inr, ⊎_elim, ℕ, zero, suc, refl, sym, ap, ◌∙◌, subst, ◌+◌, ◌-◌, ◌<◌, ◌≤◌, arith, List, [], ◌∷◌, ◌++◌, length, slice_index_or, Option, Some, None, length-append}
+use Rattle.std.proofs.Common.{◌≡◌, inr, ⊎_elim, ℕ, zero, suc, refl, sym, ap, ◌∙◌, subst, ◌+◌, ◌<◌, ◌≤◌, arith, List, [], ◌∷◌, ◌++◌, length, slice_index_or, Some, length-append}
 use Rattle.std.proofs.lemmas.Bool.{cases_lt}
 use Rattle.archive_check.specs.declared.defs.Def.{Def}
 use Rattle.archive_check.specs.declared.plan.Plan.{Plan}
@@ -13,14 +13,13 @@ use Rattle.archive_check.specs.Reads.{Schema, LaidOut}
 use Rattle.archive_check.specs.Runs.{IsAt}
 use Rattle.archive_check.specs.Represents.{Stands, stands, stands_named, Sized, points_one}
 use Rattle.archive_check.specs.Fitting.{fits}
-use Rattle.archive_check.specs.Growing.{node_of, Lists, no_lists, lists_of, lists_in, Grows}
-use Rattle.archive_check.specs.Queued.{Wait, Waits, no_waits, wait_shapes, Reserved}
+use Rattle.archive_check.specs.Growing.{node_of, Lists, lists_of, Grows}
+use Rattle.archive_check.specs.Queued.{Wait, Waits, wait_shapes, Reserved}
 use Rattle.archive_check.specs.Compilable.{Can}
 use Rattle.archive_check.specs.Compiled.{Follows, Below, Knows, Settled, Given, ClosedTo, MadeTo, Compiled}
-use Rattle.archive_check.specs.Numbered.{def_shapes, start_of, FirstAt, IsRootOf, IsNumbered}
+use Rattle.archive_check.specs.Numbered.{def_shapes, start_of, FirstAt, IsNumbered}
 use Rattle.archive_check.specs.Planned.{IsOf, IsPlan, InOrder, Kept, Chained, CanFinish, Finishes}
 use Rattle.archive_check.proofs.GoingOn.{same_get, same_goes, some_at, at_more, at_behind, at_end, goes_longer, grows_trans}
-use Rattle.archive_check.proofs.Adding.{given_first, given_second, stands_of}
 use Rattle.archive_check.proofs.Numbered.{def_at, def_count, can_chain, can_root, all_before, start_next, start_later, start_prefix, start_behind, first_at, definition_is}
 use Rattle.archive_check.proofs.Chained.{root_same, compiled_same, chained_next}
 
