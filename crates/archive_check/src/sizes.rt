@@ -1,6 +1,6 @@
 //! Sizes in bytes. None: above `usize::MAX`.
 
-ghost use Rattle.std.specs.Prelude.{◌≡◌, ◌↔◌, ◌<◌, ◌≤◌, IsTrue};
+ghost use Rattle.std.specs.Prelude.{◌≡◌, ◌<◌};
 ghost use Rattle.std.specs.Int.{byte_len};
 ghost use Rattle.archive_check.specs.Layout.{up as up_to, kind_size};
 ghost use Rattle.archive_check.specs.Expressions.{kind_of, width_of};
