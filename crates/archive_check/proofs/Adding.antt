@@ -1,22 +1,20 @@
 -- Nodes that are added to a plan.
-use Rattle.std.proofs.Common.{◌≡◌, ◌≢◌, ◌⊎◌, inl, inr, ⊎_elim, ℕ, zero, suc, refl, sym, ap, ◌∙◌, subst, ◌+◌, ◌-◌, ◌*◌, ◌<◌, ◌≤◌, arith, List, [], ◌∷◌, ◌++◌, length, slice_index_or, Bool, true, Option, Some, None, length-append}
+use Rattle.std.proofs.Common.{◌≡◌, ◌≢◌, ◌⊎◌, inl, inr, ⊎_elim, ℕ, zero, suc, refl, sym, ap, ◌∙◌, subst, ◌+◌, ◌<◌, ◌≤◌, arith, List, [], ◌∷◌, ◌++◌, length, Bool, true, Option, Some, length-append}
 use Rattle.std.proofs.lemmas.Bool.{cases_lt}
 use Rattle.archive_check.specs.declared.plan.Job.{Job}
 use Rattle.archive_check.specs.declared.plan.Job.TheVariants.{Free}
 use Rattle.archive_check.specs.declared.plan.Node.{Node}
-use Rattle.archive_check.specs.declared.plan.Part.{Part as PlanPart}
-use Rattle.archive_check.specs.declared.plan.Span.{Span}
 use Rattle.archive_check.specs.declared.plan.Checker.{Checker}
 use Rattle.archive_check.specs.declared.growing.Known.{Known}
-use Rattle.archive_check.specs.Shape.{Shape, named}
+use Rattle.archive_check.specs.Shape.{Shape}
 use Rattle.archive_check.specs.Layout.{Layouts, size_of, align_of}
 use Rattle.archive_check.specs.Reads.{Schema}
 use Rattle.archive_check.specs.Runs.{IsAt}
 use Rattle.archive_check.specs.Closed.{JobFits}
-use Rattle.archive_check.specs.Represents.{Stands, stands, Sized, Made}
+use Rattle.archive_check.specs.Represents.{Stands, stands, Made}
 use Rattle.archive_check.specs.Fitting.{fits}
-use Rattle.archive_check.specs.Growing.{node_of, Lists, lists_in, Goes, Grows, IsPushed, IsSorted, IsExtended, Unless, IsMade}
-use Rattle.archive_check.specs.Compiled.{Follows, Below, Knows, ClosedTo, Settled, Given, MadeTo, Adds, IsRoot, Compiled}
+use Rattle.archive_check.specs.Growing.{Lists, Goes, Grows, IsPushed, Unless, IsMade}
+use Rattle.archive_check.specs.Compiled.{Follows, Below, Knows, ClosedTo, Settled, Given, MadeTo, Adds, Compiled}
 use Rattle.archive_check.specs.Counts.{count_of}
 use Rattle.archive_check.specs.Sizes.{shape_size}
 use Rattle.archive_check.specs.Compilable.{Can, AllKnown}

@@ -1,21 +1,21 @@
 -- Expressions that are compiled one after another.
-use Rattle.std.proofs.Common.{◌≡◌, ◌⊎◌, inl, inr, ⊎_elim, ℕ, zero, suc, refl, sym, ap, ap₂, ◌∙◌, subst, ◌+◌, ◌-◌, ◌<◌, ◌≤◌, arith, List, [], ◌∷◌, ◌++◌, length, take, drop, slice_index_or, Option, Some, None, length-append, append_assoc, append-nil}
+use Rattle.std.proofs.Common.{◌≡◌, inl, inr, ⊎_elim, ℕ, zero, suc, refl, sym, ap, ap₂, ◌∙◌, subst, ◌+◌, ◌-◌, ◌<◌, ◌≤◌, arith, List, [], ◌∷◌, ◌++◌, length, take, drop, Some, length-append, append_assoc, append-nil}
 use Rattle.archive_check.specs.declared.defs.Def.{Def}
 use Rattle.archive_check.specs.declared.growing.Known.{Known}
 use Rattle.archive_check.specs.declared.queue.Waiting.{Waiting}
-use Rattle.archive_check.specs.Shape.{Name, Shape, named}
+use Rattle.archive_check.specs.Shape.{Shape, named}
 use Rattle.archive_check.specs.Expressions.{shape_of}
 use Rattle.archive_check.specs.Sizes.{shape_size}
 use Rattle.archive_check.specs.Counts.{count_of}
 use Rattle.archive_check.specs.Runs.{IsAt}
-use Rattle.archive_check.specs.Growing.{node_of, Lists, no_lists, Goes, Grows}
+use Rattle.archive_check.specs.Growing.{node_of, Lists, no_lists, Goes}
 use Rattle.archive_check.specs.Queued.{Wait, Waits, no_waits, waits_in, wait_shapes, waits_size}
 use Rattle.archive_check.specs.Compilable.{Can}
 use Rattle.std.proofs.lemmas.List.{take-append-drop}
-use Rattle.archive_check.specs.Compiled.{Given, Adds, Compiled}
-use Rattle.archive_check.specs.Numbered.{def_shapes, start_of, FirstAt, IsRootOf}
+use Rattle.archive_check.specs.Compiled.{Compiled}
+use Rattle.archive_check.specs.Numbered.{def_shapes, start_of, IsRootOf}
 use Rattle.archive_check.specs.Planned.{Kept, Chained, CanFinish, Finishes, FinishesTo}
-use Rattle.archive_check.proofs.GoingOn.{same_at, at_less, at_more, at_last, at_end, goes_longer, grows_refl, grows_trans}
+use Rattle.archive_check.proofs.GoingOn.{at_less, at_more, at_last, at_end, goes_longer, grows_refl, grows_trans}
 use Rattle.archive_check.proofs.Adding.{given_first, given_second, adds_refl, adds_trans}
 use Rattle.archive_check.proofs.Numbered.{def_count, take_count, def_shapes-append, start_next, start_prefix, node_of_first}
 use Rattle.archive_check.proofs.Waiting.{wait_shapes-append, waits_size-append}

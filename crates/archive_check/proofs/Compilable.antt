@@ -1,8 +1,8 @@
 -- What holds an expression that can be compiled, and what it holds.
-use Rattle.std.proofs.Common.{◌≡◌, ℕ, ◌<◌, sym, ap, ◌∙◌, subst, true, false, is_some, List, ◌∷◌, Option, Some, None, IsSome}
+use Rattle.std.proofs.Common.{◌≡◌, ℕ, ◌<◌, sym, ap, ◌∙◌, subst, true, false, is_some, List, Option, Some, None, IsSome}
 use Rattle.archive_check.specs.declared.growing.Known.{Known}
 use Rattle.archive_check.specs.Shape.{Name, Shape, parts, choice, array, boxed, vec, shared, weak, named, Flavor, Pointee, one, run, Parts, part, Variants, variant}
-use Rattle.archive_check.specs.Defined.{Holds, holds_name, holds_parts, holds_choice, holds_array, holds_first, holds_later, holds_variant, holds_other, Mentions, mentions_held, mentions_array, mentions_parts, mentions_choice, mentions_boxed, mentions_vec, mentions_shared, mentions_weak, mentions_one, mentions_run, mentions_first, mentions_later, mentions_variant, mentions_other}
+use Rattle.archive_check.specs.Defined.{holds_name, holds_parts, holds_choice, holds_array, holds_first, holds_later, holds_variant, holds_other, Mentions, mentions_held, mentions_array, mentions_parts, mentions_choice, mentions_boxed, mentions_vec, mentions_shared, mentions_weak, mentions_one, mentions_run, mentions_first, mentions_later, mentions_variant, mentions_other}
 use Rattle.archive_check.specs.Growing.{node_of}
 use Rattle.archive_check.specs.Compilable.{Can, CanParts, CanVariants, CanPoint, CanWait}
 

@@ -1,38 +1,30 @@
 -- What compiling does, by cases.
-use Rattle.std.proofs.Common.{◌≡◌, ◌≢◌, ◌⊎◌, inl, inr, ⊎_elim, ℕ, zero, suc, refl, sym, ap, ap₂, ◌∙◌, subst, ◌+◌, ◌-◌, ◌*◌, ◌<◌, ◌≤◌, max, arith, List, [], ◌∷◌, ◌++◌, length, take, drop, slice_index_or, Bool, true, Option, Some, None, Result, Ok, Err, IfOk, length-append, mul_comm, Bor}
+use Rattle.std.proofs.Common.{◌≡◌, ◌⊎◌, inl, inr, ⊎_elim, ℕ, zero, suc, refl, sym, ap, ◌∙◌, subst, ◌+◌, ◌-◌, ◌*◌, ◌<◌, ◌≤◌, arith, List, [], ◌∷◌, length, drop, Bool, true, Option, Some, None, mul_comm, Bor}
 use Rattle.archive_check.specs.declared.expr.Kind.{Kind as KindExpr}
-use Rattle.archive_check.specs.declared.expr.FlavorInfo.{FlavorInfo}
-use Rattle.archive_check.specs.declared.plan.Target.{Target}
-use Rattle.archive_check.specs.declared.plan.Target.TheVariants.{One, Run, Text}
-use Rattle.archive_check.specs.declared.plan.Job.{Job}
-use Rattle.archive_check.specs.declared.plan.Job.TheVariants.{Free, Leaf, Record, Choice, Array, Pointer as PointerJob, Shared, Weak, Str}
+use Rattle.archive_check.specs.declared.plan.Job.TheVariants.{Free, Leaf, Record, Choice, Array}
 use Rattle.archive_check.specs.declared.plan.Node.{Node}
 use Rattle.archive_check.specs.declared.plan.Part.{Part as PlanPart}
-use Rattle.archive_check.specs.declared.plan.Span.{Span}
-use Rattle.archive_check.specs.declared.plan.Sort.{Sort}
 use Rattle.archive_check.specs.declared.plan.Checker.{Checker}
 use Rattle.archive_check.specs.declared.growing.Known.{Known}
 use Rattle.archive_check.specs.declared.growing.Laid.{Laid}
-use Rattle.archive_check.specs.Shape.{Name, Kind, Shape, leaf, parts, choice, array, boxed, vec, str, shared, weak, named, Pointee, one, run, text, Parts, Variants, variant_at}
-use Rattle.archive_check.specs.Layout.{Layouts, up, size_of, align_of, kind_size, kind_align, parts_end, parts_align, variants_end, variants_align, pointer_size}
+use Rattle.archive_check.specs.Shape.{Name, Kind, Shape, leaf, parts, choice, array, named, Parts, Variants}
+use Rattle.archive_check.specs.Layout.{Layouts, up, size_of, align_of, kind_size, kind_align, parts_end, variants_end}
 use Rattle.archive_check.specs.Plain.{is_plain_kind}
 use Rattle.archive_check.specs.Reads.{Schema}
 use Rattle.archive_check.specs.Walk.{walk_parts, walk_array, walk_none}
-use Rattle.archive_check.specs.Expressions.{kind_of, flavor_of, pointee_of}
-use Rattle.archive_check.specs.Runs.{IsAt, IsNode, Takes, times, target_size}
-use Rattle.archive_check.specs.Closed.{span, PartsWithin, SpanFits, VariantsFit, ArrayFits, JobFits}
-use Rattle.archive_check.specs.Represents.{Stands, PartsStand, Sized, Points, points_one, points_run, points_text, Made, made_free, made_leaf, made_record, made_choice, made_array, made_boxed, made_vec, made_str, made_shared, made_weak}
+use Rattle.archive_check.specs.Expressions.{kind_of}
+use Rattle.archive_check.specs.Runs.{IsAt, IsNode, Takes, times}
+use Rattle.archive_check.specs.Closed.{span, PartsWithin, SpanFits, ArrayFits}
+use Rattle.archive_check.specs.Represents.{Made, made_free, made_leaf, made_record, made_choice, made_array}
 use Rattle.archive_check.specs.Fitting.{fits, rounded}
-use Rattle.archive_check.specs.Queued.{Wait, Waits, waits_size}
-use Rattle.archive_check.specs.Growing.{node_of, Lists, lists_in, Grows, IsPushed, IsMade}
-use Rattle.archive_check.specs.Compiled.{Follows, Below, Knows, Settled, Given, MadeTo, Adds, Compiled, Targets, Leads, PartFits, CompiledParts, IsVariant, CompiledVariants}
-use Rattle.archive_check.specs.Counts.{count_of, count_pointee}
+use Rattle.archive_check.specs.Queued.{Waits}
+use Rattle.archive_check.specs.Growing.{node_of, Lists, IsMade}
+use Rattle.archive_check.specs.Compiled.{Follows, Knows, Settled, Given, MadeTo, Compiled, PartFits, CompiledParts, CompiledVariants}
 use Rattle.archive_check.proofs.Compilable.{can_parts, can_choice, can_array}
-use Rattle.archive_check.proofs.Inside.{pointer_few}
 use Rattle.archive_check.proofs.Runs.{plain_walk}
-use Rattle.archive_check.proofs.Fitting.{fits_some, fits_none, round_up, some_is, rounded_fits, rounded_some, times_none, times_fits}
-use Rattle.archive_check.proofs.GoingOn.{at_more, same_at, at_dropped, at_taken, goes_longer, grows_refl, grows_trans, pushed_grows, pushed_count, pushed_at, pushed_is}
-use Rattle.archive_check.proofs.Adding.{knows_settled, adds_refl, adds_push, compiled_push, compiled_made, stands_of, some_positive}
+use Rattle.archive_check.proofs.Fitting.{fits_some, round_up, some_is, rounded_fits, rounded_some, times_none, times_fits}
+use Rattle.archive_check.proofs.GoingOn.{at_more, same_at, at_dropped, at_taken, goes_longer, grows_trans, pushed_grows}
+use Rattle.archive_check.proofs.Adding.{knows_settled, adds_refl, compiled_made, stands_of}
 use Rattle.archive_check.proofs.FreeWalks.{kind_few, empty_plain, AnyBytes, any_stands, any_parts, any_run}
 
 -- a leaf

@@ -1,8 +1,8 @@
 -- Names with their nodes, and definitions.
-use Rattle.std.proofs.Common.{◌≡◌, ◌≢◌, ◌⊎◌, inl, inr, ⊎_elim, ℕ, zero, suc, refl, sym, ap, ◌∙◌, subst, ◌+◌, ◌-◌, ◌<◌, ◌≤◌, arith, List, [], ◌∷◌, ◌++◌, length, take, drop, is_some, IsSome, Bool, true, false, cond, bytes_eq, Option, Some, None, length-append, Bor}
+use Rattle.std.proofs.Common.{◌≡◌, inl, inr, ⊎_elim, ℕ, zero, suc, refl, sym, ap, ◌∙◌, subst, ◌+◌, ◌<◌, ◌≤◌, arith, List, [], ◌∷◌, ◌++◌, length, take, drop, is_some, IsSome, Bool, true, false, cond, bytes_eq, Option, Some, None, length-append}
 use Rattle.archive_check.specs.declared.defs.Def.{Def}
 use Rattle.archive_check.specs.declared.growing.Known.{Known}
-use Rattle.archive_check.specs.Shape.{Name, Shape, named, definition}
+use Rattle.archive_check.specs.Shape.{Name, Shape, definition}
 use Rattle.archive_check.specs.Expressions.{shape_of, entries_of}
 use Rattle.archive_check.specs.Runs.{IsAt}
 use Rattle.archive_check.specs.Growing.{node_of}

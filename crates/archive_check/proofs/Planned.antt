@@ -1,5 +1,5 @@
 -- A plan of all definitions, the root, and all that they lead to.
-use Rattle.std.proofs.Common.{◌≡◌, ◌⊎◌, inl, inr, ⊎_elim, ℕ, zero, suc, refl, sym, ap, ◌∙◌, subst, ◌+◌, ◌-◌, ◌<◌, ◌≤◌, arith, List, [], ◌∷◌, ◌++◌, length, slice_index_or, Option, Some, None, length-append}
+use Rattle.std.proofs.Common.{◌≡◌, inr, ⊎_elim, ℕ, zero, suc, refl, sym, ap, ◌∙◌, subst, ◌+◌, ◌<◌, ◌≤◌, arith, List, [], ◌∷◌, ◌++◌, length, slice_index_or, Some, length-append}
 use Rattle.std.proofs.lemmas.Bool.{cases_lt}
 use Rattle.archive_check.specs.declared.defs.Def.{Def}
 use Rattle.archive_check.specs.declared.plan.Plan.{Plan}
@@ -14,8 +14,8 @@ use Rattle.archive_check.specs.Reads.{Schema, LaidOut}
 use Rattle.archive_check.specs.Runs.{IsAt}
 use Rattle.archive_check.specs.Represents.{Stands, stands, stands_named, Sized, points_one}
 use Rattle.archive_check.specs.Fitting.{fits}
-use Rattle.archive_check.specs.Growing.{node_of, Lists, no_lists, lists_of, lists_in, Grows}
-use Rattle.archive_check.specs.Queued.{Wait, Waits, no_waits, wait_shapes, Reserved}
+use Rattle.archive_check.specs.Growing.{node_of, Lists, lists_of, Grows}
+use Rattle.archive_check.specs.Queued.{Wait, Waits, wait_shapes, Reserved}
 use Rattle.archive_check.specs.Compilable.{Can}
 use Rattle.archive_check.specs.Compiled.{Follows, Below, Knows, Settled, Given, ClosedTo, MadeTo, Compiled}
 use Rattle.archive_check.specs.Numbered.{def_shapes, start_of, FirstAt, IsRootOf, IsNumbered}

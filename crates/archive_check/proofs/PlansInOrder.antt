@@ -1,11 +1,11 @@
 -- The definitions that a schema keeps are in order, so that a plan of them is refused for want of memory alone.
-use Rattle.std.proofs.Common.{◌≡◌, ℕ, zero, suc, refl, sym, ap, ◌∙◌, subst, ◌<◌, arith, List, [], ◌∷◌, length, take, is_some, IsSome, false}
+use Rattle.std.proofs.Common.{◌≡◌, ℕ, zero, suc, refl, ap, subst, arith, List, [], ◌∷◌, take, is_some, IsSome, false}
 use Rattle.archive_check.specs.declared.defs.Def.{Def}
 use Rattle.archive_check.specs.Shape.{Name, Shape, Table, definition}
 use Rattle.archive_check.specs.Expressions.{shape_of, entries_of}
-use Rattle.archive_check.specs.Names.{missing, HasAll, Arranged}
+use Rattle.archive_check.specs.Names.{HasAll, Arranged}
 use Rattle.archive_check.specs.Runs.{IsAt}
-use Rattle.archive_check.specs.Planned.{DefsInOrder, InOrder}
+use Rattle.archive_check.specs.Planned.{InOrder}
 use Rattle.archive_check.proofs.Missing.{IsDefined, held_defined, mentioned_defined}
 use Rattle.archive_check.proofs.Named.{contains-at}
 

@@ -1,17 +1,16 @@
 -- What compiling pointers does, by cases.
-use Rattle.std.proofs.Common.{◌≡◌, ℕ, zero, suc, refl, sym, ap, ◌∙◌, subst, ◌+◌, ◌<◌, ◌≤◌, arith, List, [], ◌∷◌, ◌++◌, length, Option, Some, None, length-append}
+use Rattle.std.proofs.Common.{◌≡◌, ℕ, refl, sym, ap, ◌∙◌, subst, ◌+◌, ◌<◌, ◌≤◌, arith, List, [], ◌∷◌, length, Some}
 use Rattle.std.specs.Int.{w8}
 use Rattle.archive_check.specs.declared.expr.FlavorInfo.{FlavorInfo}
 use Rattle.archive_check.specs.declared.plan.Target.{Target}
 use Rattle.archive_check.specs.declared.plan.Target.TheVariants.{One, Run, Text}
 use Rattle.archive_check.specs.declared.plan.Job.{Job}
 use Rattle.archive_check.specs.declared.plan.Job.TheVariants.{Free, Pointer as PointerJob, Shared, Weak, Str}
-use Rattle.archive_check.specs.declared.plan.Node.{Node}
 use Rattle.archive_check.specs.declared.plan.Sort.{Sort}
 use Rattle.archive_check.specs.declared.plan.Checker.{Checker}
 use Rattle.archive_check.specs.declared.growing.Known.{Known}
 use Rattle.archive_check.specs.Shape.{unsigned, number, Shape, leaf, boxed, vec, str, shared, weak, Pointee, one, run, text}
-use Rattle.archive_check.specs.Layout.{Layouts, size_of, align_of, pointer_size}
+use Rattle.archive_check.specs.Layout.{Layouts, size_of, align_of}
 use Rattle.archive_check.specs.Reads.{Schema}
 use Rattle.archive_check.specs.Expressions.{flavor_of, pointee_of}
 use Rattle.archive_check.specs.Runs.{IsAt, target_size}
@@ -20,12 +19,11 @@ use Rattle.archive_check.specs.Represents.{Sized, Points, points_one, points_run
 use Rattle.archive_check.specs.Fitting.{fits}
 use Rattle.archive_check.specs.Sizes.{shape_size}
 use Rattle.archive_check.specs.Compilable.{Can, AllKnown}
-use Rattle.archive_check.specs.Queued.{Wait, Waits, waits_size}
+use Rattle.archive_check.specs.Queued.{Waits, waits_size}
 use Rattle.archive_check.specs.Growing.{Lists, IsPushed, IsSorted}
 use Rattle.archive_check.specs.Compiled.{Follows, Below, Settled, Given, Adds, Compiled, Targets, Leads}
-use Rattle.archive_check.specs.Counts.{count_of, count_pointee}
+use Rattle.archive_check.specs.Counts.{count_of}
 use Rattle.archive_check.proofs.Compilable.{can_one, can_run, can_boxed, can_vec, can_shared, can_weak}
-use Rattle.archive_check.proofs.Inside.{pointer_few}
 use Rattle.archive_check.proofs.Runs.{plain_walk}
 use Rattle.archive_check.proofs.Fitting.{fits_some}
 use Rattle.archive_check.proofs.GoingOn.{at_more, goes_longer, grows_trans, pushed_grows, pushed_at, pushed_is, sorted_grows, sorted_at}

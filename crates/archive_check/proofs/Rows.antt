@@ -1,5 +1,5 @@
 -- Parts and variants, laid out one after another.
-use Rattle.std.proofs.Common.{◌≡◌, ◌⊎◌, inl, inr, ⊎_elim, ℕ, zero, suc, refl, sym, ap, ap₂, ◌∙◌, subst, ◌+◌, ◌-◌, ◌*◌, ◌<◌, ◌≤◌, max, arith, List, [], ◌∷◌, ◌++◌, length, slice_index_or, Bool, true, Option, Some, None, length-append}
+use Rattle.std.proofs.Common.{◌≡◌, ◌⊎◌, inl, inr, ⊎_elim, ℕ, suc, refl, sym, ap, ap₂, ◌∙◌, subst, ◌+◌, ◌-◌, ◌<◌, ◌≤◌, max, arith, List, [], ◌∷◌, ◌++◌, length, Bool, true, Option, Some, length-append}
 use Rattle.archive_check.specs.declared.plan.Job.TheVariants.{Free}
 use Rattle.archive_check.specs.declared.plan.Node.{Node}
 use Rattle.archive_check.specs.declared.plan.Part.{Part as PlanPart}
@@ -14,14 +14,13 @@ use Rattle.archive_check.specs.Layout.{Layouts, up, size_of, align_of, parts_end
 use Rattle.archive_check.specs.Reads.{Schema}
 use Rattle.archive_check.specs.Runs.{IsAt, IsNode, Takes}
 use Rattle.archive_check.specs.Closed.{SpanFits}
-use Rattle.archive_check.specs.Represents.{Stands, PartsStand, parts_over, parts_more, Sized}
+use Rattle.archive_check.specs.Represents.{Stands, PartsStand, parts_over, parts_more}
 use Rattle.archive_check.specs.Fitting.{fits, rounded, sum_of, greater_of}
-use Rattle.archive_check.specs.Queued.{Wait, Waits, waits_size}
-use Rattle.archive_check.specs.Growing.{Lists, lists_in, Grows, IsExtended, IsPlaced, IsListed, PartsLaid, SpansLaid}
-use Rattle.archive_check.specs.Compiled.{Follows, Below, Knows, Settled, Given, Adds, Compiled, PartFits, RowIs, CompiledParts, IsVariant, SpansAre, CompiledVariants}
-use Rattle.archive_check.specs.Counts.{count_of, counts_of, variant_counts_of}
+use Rattle.archive_check.specs.Queued.{Waits}
+use Rattle.archive_check.specs.Growing.{Lists, IsPlaced, IsListed, PartsLaid, SpansLaid}
+use Rattle.archive_check.specs.Compiled.{Follows, Knows, Settled, Given, Compiled, PartFits, RowIs, CompiledParts, IsVariant, SpansAre, CompiledVariants}
 use Rattle.archive_check.proofs.Fitting.{fits_some, some_is, rounded_fits, rounded_some, sum_fits, sum_some, greater_fits, greater_some}
-use Rattle.archive_check.proofs.GoingOn.{at_more, at_less, at_last, at_end, same_at, goes_longer, grows_refl, grows_trans, extended_grows, part_at, part_of, span_at, span_of}
+use Rattle.archive_check.proofs.GoingOn.{at_more, at_less, at_last, at_end, same_at, goes_longer, grows_trans, extended_grows, part_at, part_of, span_of}
 use Rattle.archive_check.proofs.Adding.{given_first, given_second, settled_less, knows_settled, adds_refl, adds_trans, adds_same, stands_of}
 use Rattle.archive_check.proofs.Compilable.{can_first, can_later, can_variant, can_others}
 use Rattle.archive_check.proofs.Compiled.{fits_wider, span_within, span_wider}

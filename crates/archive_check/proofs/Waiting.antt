@@ -1,19 +1,18 @@
 -- Expressions that wait.
-use Rattle.std.proofs.Common.{◌≡◌, ◌≢◌, ◌⊎◌, inl, inr, ⊎_elim, ℕ, zero, suc, refl, sym, ap, ◌∙◌, subst, ◌+◌, ◌<◌, ◌≤◌, arith, List, [], ◌∷◌, ◌++◌, length, take, Some, append-nil, Bor}
+use Rattle.std.proofs.Common.{◌≡◌, inl, inr, ⊎_elim, ℕ, refl, sym, ap, subst, ◌+◌, ◌≤◌, arith, List, [], ◌∷◌, ◌++◌, length, Some, Bor}
 use Rattle.archive_check.specs.declared.growing.Known.{Known}
 use Rattle.archive_check.specs.declared.expr.Expr.{Expr}
 use Rattle.archive_check.specs.declared.expr.Expr.TheVariants as expr
 use Rattle.archive_check.specs.declared.queue.Waiting.{Waiting}
 use Rattle.archive_check.specs.Expressions.{shape_of}
 use Rattle.archive_check.specs.Shape.{Name, Shape, named}
-use Rattle.archive_check.specs.Sizes.{shape_size}
 use Rattle.archive_check.specs.Counts.{count_of}
 use Rattle.archive_check.specs.Runs.{IsAt}
-use Rattle.archive_check.specs.Growing.{node_of, Lists, Goes}
-use Rattle.archive_check.specs.Compilable.{CanWait, AllKnown}
+use Rattle.archive_check.specs.Growing.{node_of, Lists}
+use Rattle.archive_check.specs.Compilable.{CanWait}
 use Rattle.archive_check.specs.Queued.{Wait, Waits, waits_in, wait_shapes, waits_size, Reserved, IsWaiting, IsQueued}
-use Rattle.archive_check.specs.Compiled.{Adds, Targets}
-use Rattle.archive_check.proofs.GoingOn.{at_end, at_last, at_less, at_more, goes_refl, grows_refl}
+use Rattle.archive_check.specs.Compiled.{Targets}
+use Rattle.archive_check.proofs.GoingOn.{at_end, at_last, at_less, grows_refl}
 use Rattle.archive_check.proofs.Adding.{adds_refl}
 
 pub reserved_append : (base : ℕ) (xs : List Wait) (mid : ℕ) (x : Wait) (next : ℕ) → Reserved base xs mid → x.node + 1 ≡ mid + count_of x.shape → mid ≤ x.node → next ≡ mid + count_of x.shape → Reserved base (xs ++ x ∷ []) next

@@ -1,5 +1,5 @@
 -- Compiling: what an expression adds to a plan, and what the new nodes stand for. All is said of a checker whose lists go on from the plan's.
-use Rattle.std.specs.Prelude.{◌≡◌, ◌≢◌, ◌⊎◌, ℕ, zero, suc, ◌+◌, ◌<◌, ◌≤◌, max, List, [], ◌∷◌, ◌++◌, length, Bool, true, Option, Some, None}
+use Rattle.std.specs.Prelude.{◌≡◌, ◌⊎◌, ℕ, ◌+◌, ◌<◌, ◌≤◌, max, List, [], length, Bool, true, Option, Some, None}
 use Rattle.archive_check.specs.declared.plan.Target.{Target}
 use Rattle.archive_check.specs.declared.plan.Job.TheVariants.{Free}
 use Rattle.archive_check.specs.declared.plan.Node.{Node}
@@ -8,7 +8,7 @@ use Rattle.archive_check.specs.declared.plan.Span.{Span}
 use Rattle.archive_check.specs.declared.plan.Checker.{Checker}
 use Rattle.archive_check.specs.declared.growing.Known.{Known}
 use Rattle.archive_check.specs.declared.growing.Laid.{Laid}
-use Rattle.archive_check.specs.Shape.{Name, Shape, leaf, parts, choice, array, boxed, vec, str, shared, weak, named, Pointee, one, run, text, Parts, no_part, part, Variants, no_variant, variant, variant_at}
+use Rattle.archive_check.specs.Shape.{Name, Shape, named, Pointee, Parts, Variants, variant_at}
 use Rattle.archive_check.specs.Layout.{Layouts, size_of, align_of, parts_end, parts_align, variants_end, variants_align, pointer_size}
 use Rattle.archive_check.specs.Reads.{Schema, LaidOut}
 use Rattle.archive_check.specs.Runs.{IsAt, IsNode, Takes, target_size}

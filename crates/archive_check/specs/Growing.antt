@@ -1,5 +1,5 @@
 -- Plans that grow.
-use Rattle.std.specs.Prelude.{◌≡◌, ◌≢◌, ◌⊎◌, ℕ, ◌+◌, ◌<◌, max, List, [], ◌∷◌, ◌++◌, length, Bool, true, Option, Some, None, cond, bytes_eq}
+use Rattle.std.specs.Prelude.{◌≡◌, ◌≢◌, ◌⊎◌, ℕ, ◌<◌, max, List, [], ◌∷◌, ◌++◌, length, Bool, true, Option, Some, None, cond, bytes_eq}
 use Rattle.archive_check.specs.declared.plan.Job.{Job}
 use Rattle.archive_check.specs.declared.plan.Job.TheVariants.{Free}
 use Rattle.archive_check.specs.declared.plan.Node.{Node}
@@ -15,7 +15,6 @@ use Rattle.archive_check.specs.declared.growing.Laid.{Laid}
 use Rattle.archive_check.specs.Shape.{Name, Pointee}
 use Rattle.archive_check.specs.Expressions.{pointee_of}
 use Rattle.archive_check.specs.declared.expr.FlavorInfo.{FlavorInfo}
-use Rattle.archive_check.specs.Runs.{IsAt}
 use Rattle.archive_check.specs.Fitting.{rounded, sum_of, greater_of}
 
 -- the node of a name: of the first that is called so

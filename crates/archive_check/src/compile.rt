@@ -1,7 +1,7 @@
 //! From expressions to plans: an expression's node stands behind those of what it holds. What its pointers lead to waits, and comes later.
 
-ghost use Rattle.std.specs.Prelude.{ℕ, ◌≡◌, ◌<◌, ◌≤◌, ◌+◌, IfOk, IfErr, length};
-ghost use Rattle.archive_check.specs.Expressions.{kind_of, shape_of, pointee_of, shapes_in, variants_in};
+ghost use Rattle.std.specs.Prelude.{◌≡◌, ◌≤◌, IfOk, IfErr, length};
+ghost use Rattle.archive_check.specs.Expressions.{shape_of, pointee_of, shapes_in, variants_in};
 ghost use Rattle.archive_check.specs.Growing.{lists_of, IsCopied};
 ghost use Rattle.archive_check.specs.Queued.{waits_of};
 ghost use Rattle.archive_check.specs.Compilable.{Can, CanParts, CanVariants, CanPoint};

@@ -1,6 +1,6 @@
 //! Plans that grow: everything is added behind what there is, and nothing is changed.
 
-ghost use Rattle.std.specs.Prelude.{◌≡◌, ◌≢◌, ◌⊎◌, ◌<◌, ◌≤◌, ℕ, true, IfOk, IfErr, OnOk, length, [], Some, None};
+ghost use Rattle.std.specs.Prelude.{◌≡◌, ◌<◌, true, IfOk, IfErr, OnOk, [], Some};
 ghost use Rattle.archive_check.specs.Layout.{kind_size, kind_align};
 ghost use Rattle.archive_check.specs.Expressions.{kind_of};
 ghost use Rattle.archive_check.specs.Plain.{is_plain_kind};

@@ -1,11 +1,10 @@
 //! Plans of an expression and the definitions of its names. First come the nodes of the definitions, then those of the expression, then those of
 //! what pointers lead to: so each held name is there when it is looked for.
 
-ghost use Rattle.std.specs.Prelude.{◌≡◌, ◌++◌, ℕ, List, IfOk, IfErr, OnOk, length};
-ghost use Rattle.archive_check.specs.Shape.{Shape};
+ghost use Rattle.std.specs.Prelude.{◌≡◌, IfOk, IfErr, OnOk};
 ghost use Rattle.archive_check.specs.Expressions.{shape_of};
 ghost use Rattle.archive_check.specs.Growing.{lists_of};
-ghost use Rattle.archive_check.specs.Queued.{waits_of, wait_shapes};
+ghost use Rattle.archive_check.specs.Queued.{waits_of};
 ghost use Rattle.archive_check.specs.Numbered.{def_shapes};
 ghost use Rattle.archive_check.specs.Planned.{IsPlan, HasNames, InOrder, Chained, CanChain, CanFinish, Finishes};
 ghost use Rattle.archive_check.specs.declared.error.Error.TheVariants.{OutOfMemory};

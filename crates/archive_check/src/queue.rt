@@ -1,6 +1,6 @@
 //! Expressions that wait: what a pointer leads to is compiled behind all that holds it.
 
-ghost use Rattle.std.specs.Prelude.{◌≡◌, ◌+◌, ◌≤◌, IfOk, IfErr, IsSome};
+ghost use Rattle.std.specs.Prelude.{◌≡◌, IfOk, IfErr, IsSome};
 ghost use Rattle.archive_check.specs.Expressions.{shape_of};
 ghost use Rattle.archive_check.specs.Shape.{Name, named};
 ghost use Rattle.archive_check.specs.Growing.{node_of};

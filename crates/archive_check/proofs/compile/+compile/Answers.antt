@@ -1,10 +1,8 @@
-use Rattle.std.proofs.Common.{rules, ℕ, ◌≡◌, ◌<◌, ◌≤◌, ◌+◌, subst, sym, ap, ◌∙◌, refl, arith, Some, length, List, [], ◌∷◌, drop}
-use Rattle.archive_check.specs.Expressions.{kind_of, flavor_of, shape_of, pointee_of, shapes_in, variants_in}
+use Rattle.std.proofs.Common.{rules, ◌≡◌, ◌<◌, ◌+◌, subst, sym, ap, ◌∙◌, arith, drop}
+use Rattle.archive_check.specs.Expressions.{flavor_of, shape_of, pointee_of, shapes_in, variants_in}
 use Rattle.archive_check.specs.Sizes.{variants_size}
-use Rattle.archive_check.specs.Shape.{parts, choice, array, boxed, vec, str, shared, weak, one, run, text, variant}
-use Rattle.archive_check.specs.Growing.{lists_of}
+use Rattle.archive_check.specs.Shape.{parts, choice, array, boxed, vec, shared, weak, variant}
 use Rattle.archive_check.specs.Queued.{waits_of}
-use Rattle.archive_check.specs.Compiled.{Compiled, CompiledParts, CompiledVariants}
 use Rattle.archive_check.proofs.Views.{choice_falls, shape_of-Choice, shape_of-Record, shapes_in-drop, shapes_in-end, variants_in-drop, variants_in-end}
 use Rattle.archive_check.proofs.Cases.{ok_map, as_shape, row_left, spans_left}
 use Rattle.archive_check.proofs.Compiled.{compiled_leaf, compiled_record, compiled_choice, compiled_array, compiled_name}

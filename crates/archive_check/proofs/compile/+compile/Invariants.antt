@@ -1,4 +1,4 @@
-use Rattle.std.proofs.Common.{◌≡◌, ◌+◌, ◌≤◌, length, drop}
+use Rattle.std.proofs.Common.{drop}
 use Rattle.archive_check.specs.Expressions.{shape_of, shapes_in, variants_in}
 use Rattle.archive_check.specs.Sizes.{shape_size, parts_size, variants_size}
 use Rattle.archive_check.specs.Growing.{lists_of}

@@ -3,7 +3,7 @@ use Rattle.archive_check.specs.declared.defs.Def.{Def}
 use Rattle.archive_check.specs.Expressions.{shape_of}
 use Rattle.archive_check.specs.Runs.{IsAt}
 use Rattle.archive_check.specs.Counts.{count_of}
-use Rattle.archive_check.specs.Numbered.{RootIs, def_shapes, start_of}
+use Rattle.archive_check.specs.Numbered.{RootIs, def_shapes}
 use Rattle.archive_check.proofs.GoingOn.{same_at}
 use Rattle.archive_check.proofs.Numbered.{numbered_next, start_next, def_at, prefix_found}
 use Rattle.archive_check.specs.declared.error.Error.TheVariants.{OutOfMemory}
