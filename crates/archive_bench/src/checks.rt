@@ -105,3 +105,8 @@ pub extern "C" fn archive_bench_access_string(
 {
     accessed::<ArchivedString>(alloc, bytes, step, count)
 }
+
+// ==== THE PLACE FOR THE OTHER SETS ====
+// Once `Schema::check` knows their shapes: `archive_bench_check_record`, `archive_bench_check_numbers`, `archive_bench_check_rows` and
+// `archive_bench_check_list`, and `archive_bench_access_..` of the same four, each one line over `checked` or `accessed` at a type whose shape is
+// that of the set. bench/src/sets.rs writes the bytes. The driver finds an export by its name, and its row then shows figures in place of 'not yet'.
