@@ -1,8 +1,7 @@
 -- A leaf has one encoding.
-use Rattle.std.proofs.Common.{◌≡◌, ℕ, ◌+◌, ◌≤◌, List, [], ◌∷◌, length, refl, arith}
+use Rattle.std.proofs.Common.{◌≡◌, ℕ, List, [], ◌∷◌, length, refl, arith}
 use Rattle.std.specs.Int.{w8, w32}
-use Rattle.archive_check.specs.Shape.{Kind as LeafKind, unit, bool, char, number, non_zero, raw_rel, leaf, one}
-use Rattle.archive_check.specs.Layout.{kind_size}
+use Rattle.archive_check.specs.Shape.{Kind as LeafKind, unit, bool, char, number, non_zero, raw_rel}
 use Rattle.archive_check.specs.Reads.{IsLegal, kind_number, kind_value}
 use Rattle.archive_check.proofs.LittleEndian.{AreBytes, from_le_bytes-one, with_sign-one}
 

@@ -25,6 +25,13 @@ pub mod Inside
 pub mod Agrees
 pub mod TourAgrees
 pub mod Trails
+pub mod PooledPositions
+pub mod NamesKnown
+pub mod NamesReached
+pub mod Selected
+pub mod ReachedMeanings
+pub mod Sameness
+pub mod Faults
 pub mod Exists
 pub mod Positive
 pub mod LittleEndian

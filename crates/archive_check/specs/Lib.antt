@@ -19,7 +19,10 @@ pub mod Revised
 pub mod Plain
 pub mod Laws
 pub mod Definitions
+pub mod LeafFaults
+pub mod LeafLayout
 pub mod Readable
 pub mod Ranges
 pub mod Told
 pub mod Schemas
+pub mod Pooled

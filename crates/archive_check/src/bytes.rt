@@ -1,9 +1,15 @@
 //! Numbers and texts in bytes. Positions are in bytes from the buffer's first one.
 #![tactic(auto, unfolding(crate::specs::Reads::bytes_at, crate::specs::Reads::u32_at, crate::specs::Reads::i32_at, crate::specs::Reads::decoded_length))]
 
-ghost use Rattle.std.specs.Prelude.{◌≡◌, ◌↔◌, ◌+◌, ◌<◌, ◌≤◌, length, pos, ◌+ℤ◌, IsTrue, IsUtf8};
-ghost use Rattle.archive_check.specs.Reads.{bytes_at, u32_at, i32_at, before_end, decoded_length, IsOutOfLine};
+ghost use Rattle.std.specs.Prelude.{◌≡◌, ◌↔◌, ◌+◌, ◌<◌, ◌≤◌, length, pos, ◌+ℤ◌, IsTrue, IsOk, IfErr, IsUtf8, EachIndex, slice_index};
+ghost use Rattle.archive_check.specs.Expressions.{kind_of};
+ghost use Rattle.archive_check.specs.Layout.{kind_size};
+ghost use Rattle.archive_check.specs.LeafFaults.{IsLeafFault};
+ghost use Rattle.archive_check.specs.Reads.{bytes_at, u32_at, i32_at, before_end, decoded_length, IsLegal, IsOutOfLine};
 ghost use Rattle.archive_check.specs.Readable.{target_from};
+
+use crate::error::Error;
+use crate::expr::Kind;
 
 /// The number in the four bytes at `p`, the lowest first.
 pub fn read_u32(bytes: &[u8], p: usize) -> u32
@@ -41,6 +47,42 @@ pub fn read_target(bytes: &[u8], q: usize, p: usize) -> usize
         q - offset.unsigned_abs() as usize
     } else {
         q + offset.unsigned_abs() as usize
+    }
+}
+
+// Whether each byte is 0.
+fn is_zero(bytes: &[u8]) -> bool
+    ensures { IsTrue result ↔ EachIndex bytes.now (λ k. slice_index bytes.now k ≡ 0) }
+{
+    bytes.iter().all(|byte| *byte == 0)
+}
+
+// Refused with this fault unless the bytes of a leaf are legal.
+fn legal_or(fault: Error, is_legal: bool) -> Result<(), Error>
+    ensures legal { IsOk result ↔ IsTrue is_legal }
+    ensures fault { IfErr result (λ e. e ≡ fault) }
+{
+    if is_legal { Ok(()) } else { Err(fault) }
+}
+
+/// Whether the bytes at `p` are a leaf of this kind. Refused with 25 where a bool isn't 0 or 1, with 26 where a char is no Unicode scalar value, and
+/// with 27 where a number is 0 that must not be; a leaf of another kind isn't refused.
+pub fn check_leaf(kind: Kind, bytes: &[u8], p: usize) -> Result<(), Error>
+    requires { p + kind_size (kind_of kind) ≤ length bytes.now }
+    ensures legal { IsOk result ↔ IsLegal (kind_of kind) (bytes_at bytes.now p (kind_size (kind_of kind))) }
+    ensures fault { IfErr result (λ e. IsLeafFault (kind_of kind) e) }
+{
+    match kind {
+        Kind::Unit | Kind::Number(_) | Kind::RawRel(_) => Ok(()),
+        Kind::Bool => legal_or(Error::InvalidBool, bytes[p] < 2),
+        Kind::Char => {
+            let character = char::from_u32(read_u32(bytes, p));
+            legal_or(Error::InvalidChar, character.is_some())
+        }
+        Kind::NonZero(integer) => {
+            let number = &bytes[p..p + integer.size()];
+            legal_or(Error::ZeroNumber, !is_zero(number))
+        }
     }
 }
 

@@ -1,6 +1,6 @@
 //! The laws of archives. Each is what a function promises that does nothing, so that the check of this crate proves it.
 
-ghost use Rattle.archive_check.specs.Laws.{SomeMeaning, OneMeaning, AcceptedWhereWalked, FaultyNotWalked, FewSubtrees, RegionsDisjoint, LeavesInRegions, LeafEdited, LeafRevised, EmptyRunWalked, PlainRunWalked, PartsReached, OneReached, RootReached, PointersReached, WithinReached, ElementsReached, OneEncoding, PartsInside, SomeLayouts, OneLayout};
+ghost use Rattle.archive_check.specs.Laws.{SomeMeaning, OneMeaning, AcceptedWhereWalked, FaultyNotWalked, FewSubtrees, RegionsDisjoint, LeavesInRegions, LeafEdited, LeafRevised, EmptyRunWalked, PlainRunWalked, PartsReached, OneReached, RootReached, PointersReached, WithinReached, ElementsReached, OneEncoding, PartsInside, SomeLayouts, OneLayout, OneReading, OneTour, OneFault, RefusedKeepsPooled, SameItself, SameBack, SameThen, PartsReachedMeaning, OneReachedMeaning, NamesKnown, RootReachedMeaning};
 
 /// An accepted buffer has a meaning.
 pub fn some_meaning()
@@ -105,4 +105,59 @@ pub fn some_layouts()
 /// They have no others, nor has the shape.
 pub fn one_layout()
     ensures { OneLayout }
+{}
+
+/// The bytes at a position say one thing.
+pub fn one_reading()
+    ensures { OneReading }
+{}
+
+/// Pointers are followed on one tour.
+pub fn one_tour()
+    ensures { OneTour }
+{}
+
+/// A check finds one fault.
+pub fn one_fault()
+    ensures { OneFault }
+{}
+
+/// A refused call on a pooled position changes nothing.
+pub fn refused_keeps_pooled()
+    ensures { RefusedKeepsPooled }
+{}
+
+/// Each meaning is the same as itself.
+pub fn same_itself()
+    ensures { SameItself }
+{}
+
+/// Sameness goes both ways.
+pub fn same_back()
+    ensures { SameBack }
+{}
+
+/// It goes on from one meaning to the next.
+pub fn same_then()
+    ensures { SameThen }
+{}
+
+/// Each part of an archive says something, a map included.
+pub fn parts_reached_meaning()
+    ensures { PartsReachedMeaning }
+{}
+
+/// It says nothing else.
+pub fn one_reached_meaning()
+    ensures { OneReachedMeaning }
+{}
+
+/// Each name that what an archive means leads to is known to it.
+pub fn names_known()
+    ensures { NamesKnown }
+{}
+
+/// It knows no others: the root says what the archive means, its map included.
+pub fn root_reached_meaning()
+    ensures { RootReachedMeaning }
 {}

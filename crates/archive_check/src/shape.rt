@@ -8,9 +8,11 @@ ghost use Rattle.archive_check.specs.Readable.{Readable};
 ghost use Rattle.archive_check.specs.Schemas.{root_of};
 ghost use Rattle.archive_check.specs.declared.error.Error.TheVariants.{OutOfMemory, ShapeConflict, LayoutTooLarge};
 
-use crate::bytes::{inline_length, is_out_of_line, is_text, read_coded_length, read_position};
+use crate::bytes::{
+    check_leaf, inline_length, is_out_of_line, is_text, read_coded_length, read_position,
+};
 pub use crate::error::Error;
-pub use crate::expr::{Def, Defs, Expr, Kind};
+pub use crate::expr::{Def, Defs, Expr, IntegerKind, Kind};
 pub use crate::layout::Layout;
 use crate::traits::Portable;
 use crate::validation::ArchiveContext;
@@ -110,7 +112,7 @@ fn check_value<C: ArchiveContext>(
     ensures { OnOk result (Readable bytes.now at (one (shape_of expr.now)) 0) }
 {
     match expr {
-        Expr::Leaf(Kind::U32) => Ok(()),
+        Expr::Leaf(kind) => check_leaf(*kind, bytes, at),
         Expr::Str => check_string(context, bytes, at),
     }
 }
@@ -135,7 +137,10 @@ impl Schema {
             (λ e. (e ≡ LayoutTooLarge) × ((names : Layouts) → 2 ^ 64 ≤ size_of names (shape_of expr.now))) }
     {
         match expr {
-            Expr::Leaf(Kind::U32) => Ok(Layout { size: 4, align: 4 }),
+            Expr::Leaf(kind) => Ok(Layout {
+                size: kind.size(),
+                align: kind.align(),
+            }),
             Expr::Str => Ok(Layout { size: 8, align: 4 }),
         }
     }

@@ -2,8 +2,9 @@
 
 use crate::bytes;
 use crate::error::Error;
-use crate::expr::{Defs, Expr, Kind};
+use crate::expr::{Defs, Expr, IntegerKind, Kind};
 use crate::layout::Layout;
+use crate::traits::{ArchivePointee, Portable};
 use crate::validation::{ArchiveContext, ArchiveValidator};
 use std::ops::Range;
 use std::test::Fail;
@@ -125,8 +126,65 @@ fn bytes_are_read(rt: HostRuntime) -> Result<(), Fail> {
 }
 
 #[test]
+fn leaves_have_sizes_and_legal_bytes(rt: HostRuntime) -> Result<(), Fail> {
+    let sizes = [
+        (Kind::Unit, 0, 1),
+        (Kind::Bool, 1, 1),
+        (Kind::Char, 4, 4),
+        (Kind::Number(IntegerKind::I8), 1, 1),
+        (Kind::Number(IntegerKind::U16), 2, 2),
+        (Kind::NonZero(IntegerKind::I32), 4, 4),
+        (Kind::NonZero(IntegerKind::U64), 8, 8),
+        (Kind::RawRel(IntegerKind::I128), 16, 16),
+    ];
+    for (kind, size, align) in sizes {
+        assert_eq!(rt; (kind.size(), kind.align()), (size, align), "{kind:?}");
+    }
+    let rows = [
+        (Kind::Unit, "", Ok(())),
+        (Kind::Bool, "\u{1}", Ok(())),
+        (Kind::Bool, "\u{2}", Err(Error::InvalidBool)),
+        (Kind::Char, "\0\0\u{10}\0", Ok(())),
+        (Kind::Char, "\0\0\u{11}\0", Err(Error::InvalidChar)),
+        (Kind::NonZero(IntegerKind::U16), "\0\u{1}", Ok(())),
+        (
+            Kind::NonZero(IntegerKind::U16),
+            "\0\0",
+            Err(Error::ZeroNumber),
+        ),
+        (Kind::Number(IntegerKind::U16), "\0\0", Ok(())),
+    ];
+    for (kind, bytes, answer) in rows {
+        assert_eq!(rt;
+            bytes::check_leaf(kind, bytes.as_bytes(), 0),
+            answer,
+            "{kind:?}"
+        );
+    }
+    Ok(())
+}
+
+#[test]
+fn types_of_the_machine_are_leaves(rt: HostRuntime) -> Result<(), Fail> {
+    let alloc = rt.alloc();
+    assert_eq!(rt; <()>::expr(alloc)?, Expr::Leaf(Kind::Unit));
+    assert_eq!(rt; bool::expr(alloc)?, Expr::Leaf(Kind::Bool));
+    assert_eq!(rt; u8::expr(alloc)?, Expr::Leaf(Kind::Number(IntegerKind::U8)));
+    assert_eq!(rt; i8::expr(alloc)?, Expr::Leaf(Kind::Number(IntegerKind::I8)));
+    assert_eq!(rt; (<()>::size(), <()>::align()), (0, 1));
+    assert_eq!(rt; (bool::size(), u8::size(), i8::size()), (1, 1, 1));
+    assert_eq!(rt; (bool::align(), u8::align(), i8::align()), (1, 1, 1));
+    bool::define(alloc, &mut Defs::new(alloc))?;
+    assert_eq!(rt; u8::pointer_metadata(&()), 0);
+    Ok(())
+}
+
+#[test]
 fn expressions_are_compared_as_written(rt: HostRuntime) {
-    assert_eq!(rt; Expr::Leaf(Kind::U32), Expr::Leaf(Kind::U32));
-    assert_ne!(rt; Expr::Leaf(Kind::U32), Expr::Str);
+    assert_eq!(rt;
+        Expr::Leaf(Kind::Number(IntegerKind::U32)),
+        Expr::Leaf(Kind::Number(IntegerKind::U32))
+    );
+    assert_ne!(rt; Expr::Leaf(Kind::Number(IntegerKind::U32)), Expr::Str);
     let _ = Defs::new(rt.alloc());
 }

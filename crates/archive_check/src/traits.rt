@@ -13,6 +13,8 @@ use crate::error::Error;
 use crate::expr::{Defs, Expr};
 use std::alloc::{Allocator, Global};
 
+mod leaves;
+
 /// What a pointer may lead to: an archived value, a slice or a text.
 pub trait ArchivePointee {
     /// What stands in a pointer beside its offset: nothing for one value, else a length.
@@ -106,4 +108,14 @@ impl Entries for () {
     ghost entry_of = { λ _ _. None };
 
     ghost keeps = { true };
+}
+
+/// What is borrowed tells what its owner does.
+impl<W: Tells> Tells for &mut W {
+    ghost told = { λ r. W.told r.now };
+}
+
+/// What is borrowed has its owner's keys.
+impl<S: Keys> Keys for &mut S {
+    ghost state_of = { λ r. S.state_of r.now };
 }

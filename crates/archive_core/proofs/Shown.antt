@@ -1,15 +1,20 @@
 -- What may be read of a part that was checked.
-use Rattle.std.proofs.Common.{◌≡◌, ℕ, List, length, ◌+◌, ◌-◌, ◌≤◌, pos, ◌+ℤ◌, take, drop, arith, refl}
+use Rattle.std.proofs.Common.{◌≡◌, ◌≢◌, ℕ, ℤ, Bool, true, false, List, length, ◌+◌, ◌-◌, ◌≤◌, pos, negsuc, ◌+ℤ◌, take, drop, arith, refl, ap}
+use Rattle.std.specs.Bool.{Decides}
 use Rattle.std.specs.Str.{IsUtf8}
 use Rattle.std.specs.Coded.{le_prop}
+use Rattle.std.specs.Int.{Width, byte_len, from_le_bytes}
+use mir.Val.{sel}
 use Rattle.std.proofs.Math.Logic.{∥∥₁_elim, ∥∥₁_map}
 use Rattle.std.proofs.Math.IntN.{ℤ_set}
+use Rattle.std.proofs.lemmas.Bool.Decides.{Decides-int_eq}
 use Rattle.std.proofs.lemmas.Str.{IsUtf8-from_is_utf8, is_utf8-from_IsUtf8}
 use mathlib.Core.Bool.{Bool-set}
-use Rattle.archive_check.specs.Shape.{Kind, leaf, str, one, text}
+use Rattle.archive_check.specs.Shape.{Sign, unsigned, signed, Kind, number, non_zero, leaf, str, one, text}
 use Rattle.archive_check.specs.Layout.{kind_size}
-use Rattle.archive_check.specs.Reads.{bytes_at, u32_at, i32_at, IsLegal, IsOutOfLine, before_end, decoded_length}
-use Rattle.archive_check.specs.Readable.{Readable, readable_leaf, readable_text, readable_inline, readable_out_of_line, target_from}
+use Rattle.archive_check.specs.Reads.{bytes_at, u32_at, i32_at, kind_number, with_sign, kind_value, IsLegal, IsOutOfLine, before_end, decoded_length}
+use Rattle.archive_num.specs.Digits.{is_zero}
+use Rattle.archive_check.specs.Readable.{Readable, readable_leaf, readable_text, readable_inline, readable_out_of_line, position, target_from}
 
 -- leaves
 
@@ -34,6 +39,48 @@ slice_is bytes p m = let same : p + m - p ≡ m = omega arith in rw same refl
 pub leaf_slice : (bytes : List ℕ) (p n size m : ℕ) (kind : Kind) → kind_size kind ≡ size → m ≡ size → ∥ Readable bytes p (one (leaf kind)) n ∥₁
     → ∥ IsLegal kind (take (p + m - p) (drop p bytes)) ∥₁
 leaf_slice bytes p n size m kind e f h = rw (slice_is bytes p m, f, ← e) (leaf_shown bytes p n kind h).legal
+
+-- numbers that aren't 0
+
+as_number : {bytes : List ℕ} {p n : ℕ} {sign : Sign} {width : Width} → Readable bytes p (one (leaf (non_zero sign width))) n → Readable bytes p (one (leaf (number sign width))) n
+as_number (readable_leaf h legal) = readable_leaf h (record { size = legal.size; number = tt })
+
+-- such a leaf is a number's too
+pub number_shown : (bytes : List ℕ) (p n : ℕ) (sign : Sign) (width : Width) (kind : Kind) → kind ≡ number sign width → ∥ Readable bytes p (one (leaf (non_zero sign width))) n ∥₁
+    → ∥ Readable bytes p (one (leaf kind)) n ∥₁
+number_shown bytes p n sign width kind e h = rw e (∥∥₁_map h as_number)
+
+select_not_zero : (t : Bool) (n m : ℕ) → n ≢ 0 → sel t (pos n) (negsuc m) ≢ pos 0
+select_not_zero true n m h e = h (ap position e)
+select_not_zero false n m h e = cc
+
+signed_not_zero : (sign : Sign) (width : Width) (n : ℕ) → n ≢ 0 → with_sign sign width n ≢ pos 0
+signed_not_zero unsigned width n h e = h (ap position e)
+signed_not_zero signed width n h e = select_not_zero _ n _ h e
+
+untrue : {P : Type 0} (t : Bool) → Decides t P → (P → ⊥) → t ≡ false
+untrue true d never = absurd (never (d.0 refl))
+untrue false d never = refl
+
+legal_not_zero : (sign : Sign) (width : Width) (bs : List ℕ) → IsLegal (non_zero sign width) bs → is_zero (kind_value (number sign width) bs) ≡ false
+unfolding kind_number kind_value
+legal_not_zero sign width bs h =
+    untrue _ (Decides-int_eq (with_sign sign width (from_le_bytes width bs)) (pos 0)) (signed_not_zero sign width (from_le_bytes width bs) h.number)
+
+value_not_zero : {X : Type 0} (value_of : X → ℤ) (number_of : List ℕ → X) (bs : List ℕ) (sign : Sign) (width : Width) (kind : Kind) → kind ≡ number sign width
+    → ((xs : List ℕ) → IsLegal kind xs → value_of (number_of xs) ≡ kind_value kind xs) → IsLegal (non_zero sign width) bs → is_zero (value_of (number_of bs)) ≡ false
+value_not_zero value_of number_of bs sign width kind e law h =
+    let plain : IsLegal (number sign width) bs = record { size = h.size; number = tt } in
+    let value : value_of (number_of bs) ≡ kind_value kind bs = law bs (rw e plain) in
+    rw (value, e) (legal_not_zero sign width bs h)
+
+-- and what it is read as isn't 0
+pub not_zero_shown : {X : Type 0} (value_of : X → ℤ) (number_of : List ℕ → X) (bytes : List ℕ) (p n count : ℕ) (sign : Sign) (width : Width) (kind : Kind) → kind ≡ number sign width
+    → kind_size kind ≡ count → ((xs : List ℕ) → IsLegal kind xs → value_of (number_of xs) ≡ kind_value kind xs) → ∥ Readable bytes p (one (leaf (non_zero sign width))) n ∥₁
+    → is_zero (value_of (number_of (bytes_at bytes p count))) ≡ false
+not_zero_shown value_of number_of bytes p n count sign width kind e size law h =
+    let same : byte_len width ≡ count = rw e at size in
+    rw (← same) (∥∥₁_elim h (Bool-set _ _) (λ r. value_not_zero value_of number_of (bytes_at bytes p (byte_len width)) sign width kind e law (leaf_legal r)))
 
 -- texts
 

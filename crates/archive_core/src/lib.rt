@@ -6,6 +6,7 @@ pub mod place;
 pub mod primitive;
 pub mod rel_ptr;
 pub mod ser;
+pub mod sharing;
 pub mod string;
 #[cfg(test)]
 mod tests;

@@ -7,7 +7,7 @@ ghost use Rattle.archive_write.specs.Written.{IsBeginning};
 use crate::place::Place;
 use crate::traits::{Archive, Portable};
 use archive_check::error::Error;
-pub use archive_write::ser::{Positional, ResolverAlloc, Serializer, Writer, WriterExt};
+pub use archive_write::ser::{Buffer, Positional, ResolverAlloc, Serializer, Writer, WriterExt};
 use std::alloc::Allocator;
 
 /// Regions of this size or less are resolved in a local array.

@@ -8,6 +8,7 @@ ghost use Rattle.archive_check.specs.Reads.{bytes_at};
 ghost use Rattle.archive_check.specs.Readable.{Readable, string_text};
 ghost use Rattle.archive_check.specs.declared.error.Error.TheVariants.{OutOfMemory, StringTooLong};
 ghost use Rattle.archive_check.specs.Told.{KeepsKeys};
+ghost use Rattle.archive_write.specs.Sharing.{KeepsKnown, IsNoMisuse};
 ghost use Rattle.archive_write.specs.Written.{IsBeginning};
 ghost use Rattle.archive_core.specs.Refusals.{ExplainsTextRefusal, ExplainsStringRefusal};
 ghost use Rattle.archive_core.specs.Offsets.{distance, IsTooFar};
@@ -139,6 +140,8 @@ impl<'a, S: Writer + Keys> SerializeUnsized<S> for Text<'a> {
         ensures here { IfOk result (λ p. p ≡ length (S.told serializer.old).bytes) }
         ensures written { OnOk result ((S.told serializer.new).bytes ≡ (S.told serializer.old).bytes ++ self.now.text.now) }
         ensures kept { IsBeginning (S.told serializer.old).bytes (S.told serializer.new).bytes }
+        ensures known { KeepsKnown (S.state_of serializer.old) (S.state_of serializer.new) }
+        ensures no_misuse { IfErr result IsNoMisuse }
         ensures keys { KeepsKeys (S.state_of serializer.old) (S.state_of serializer.new) }
         ensures refused { IfErr result (ExplainsTextRefusal (length self.now.text.now) (S.place serializer.old) (S.told serializer.old) (S.told serializer.new)) }
     {
@@ -245,6 +248,8 @@ impl<S: Writer + Keys> Serialize<S> for String {
     fn serialize(&self, serializer: &mut S) -> Result<StringResolver, Error>
         ensures same_value { OnOk result (length (string_bytes self.now) ≤ 1073741823) }
         ensures kept { IsBeginning (S.told serializer.old).bytes (S.told serializer.new).bytes }
+        ensures known { KeepsKnown (S.state_of serializer.old) (S.state_of serializer.new) }
+        ensures no_misuse { IfErr result IsNoMisuse }
         ensures keys { KeepsKeys (S.state_of serializer.old) (S.state_of serializer.new) }
         ensures inline { length (string_bytes self.now) ≤ 8 → IsOk result × (S.told serializer.new ≡ S.told serializer.old) }
         ensures elsewhere { 8 < length (string_bytes self.now) → IfOk result (λ r. (r ≡ length (S.told serializer.old).bytes)

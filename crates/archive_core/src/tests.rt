@@ -1,6 +1,6 @@
 // Worked rows: values with their archives, and buffers that are refused.
 
-ghost use Rattle.std.specs.Prelude.{◌≡◌, ⊤, refl, length};
+ghost use Rattle.std.specs.Prelude.{◌≡◌, ⊤, refl, length, IfOk};
 ghost use Rattle.std.specs.Int.{w32};
 ghost use Rattle.std.proofs.Common.{inl, inr};
 ghost use Rattle.archive_check.specs.Shape.{array, leaf, number, one, unsigned};
@@ -9,10 +9,14 @@ ghost use Rattle.archive_check.specs.Definitions.{no_definition};
 use crate::api::{access, access_pos, from_bytes, root_position, to_bytes, to_bytes_in};
 use crate::error::Error;
 use crate::place::Place;
-use crate::primitive::{ArchivedU32, ArchivedUsize};
+use crate::primitive::{
+    ArchivedChar, ArchivedIsize, ArchivedNonZeroU16, ArchivedU16, ArchivedU32, ArchivedU128,
+    ArchivedUsize,
+};
 use crate::rel_ptr::signed_offset;
-use crate::ser::{Positional, ResolveExt, Serializer};
-use crate::shape::{Defs, Expr, Kind, Schema};
+use crate::ser::{Buffer, Positional, ResolveExt, Serializer, Writer};
+use crate::shape::{Defs, Expr, IntegerKind, Kind, Schema};
+use crate::sharing::{Share, Sharing, SharingExt};
 use crate::string::{ArchivedStr, ArchivedString, Text, repr};
 use crate::traits::{
     Archive, ArchivePointee, ArchiveUnsized, Deserialize, DeserializeUnsized, Portable,
@@ -75,6 +79,91 @@ fn numbers_and_their_archives(rt: HostRuntime) -> Result<(), Fail> {
         let again = to_bytes(rt.alloc(), &archived)?;
         assert_eq!(rt; again.as_slice(), archive);
     }
+    Ok(())
+}
+
+#[test]
+fn leaves_of_every_kind_and_their_archives(rt: HostRuntime) -> Result<(), Fail> {
+    let alloc = rt.alloc();
+    assert_eq!(rt; to_bytes(alloc, &())?.len(), 0);
+    assert_eq!(rt; to_bytes(alloc, &true)?.as_slice(), [1].as_slice());
+    assert_eq!(rt; to_bytes(alloc, &7u8)?.as_slice(), [7].as_slice());
+    assert_eq!(rt; to_bytes(alloc, &-1i8)?.as_slice(), [0xff].as_slice());
+    assert_eq!(rt; to_bytes(alloc, &1337u16)?.as_slice(), [0x39, 5].as_slice());
+    assert_eq!(rt;
+        to_bytes(alloc, &-2i16)?.as_slice(),
+        [0xfe, 0xff].as_slice()
+    );
+    assert_eq!(rt;
+        to_bytes(alloc, &'é')?.as_slice(),
+        [0xe9, 0, 0, 0].as_slice()
+    );
+    assert_eq!(rt;
+        to_bytes(alloc, &ArchivedU16::from_native(2))?.as_slice(),
+        [2, 0].as_slice()
+    );
+    assert_eq!(rt;
+        to_bytes(alloc, &ArchivedNonZeroU16::from_native(3))?.as_slice(),
+        [3, 0].as_slice()
+    );
+    assert!(rt; access::<bool>(alloc, &[1])?.get());
+    assert_eq!(rt; access::<()>(alloc, &[])?.get(), ());
+    assert_eq!(rt; access::<i8>(alloc, &[0xff])?.get(), -1);
+    assert_eq!(rt; access::<ArchivedChar>(alloc, &[0xe9, 0, 0, 0])?.get(), 'é');
+    assert_eq!(rt; access::<ArchivedNonZeroU16>(alloc, &[0, 1])?.get(), 256);
+    let one = [1, 0, 0, 0, 0, 0, 0, 0, 0, 0, 0, 0, 0, 0, 0, 0];
+    assert_eq!(rt; access::<ArchivedU128>(alloc, &one)?.get(), 1);
+    Ok(())
+}
+
+#[test]
+fn leaves_are_read_back(rt: HostRuntime) -> Result<(), Fail> {
+    let alloc = rt.alloc();
+    let number: i16 = from_bytes(alloc, &[0xfe, 0xff], &mut ())?;
+    assert_eq!(rt; number, -2);
+    let byte: u8 = from_bytes(alloc, &[7], &mut ())?;
+    assert_eq!(rt; byte, 7);
+    match from_bytes::<ArchivedNonZeroU16, ()>(alloc, &[3, 0], &mut ()) {
+        Ok(number) => assert_eq!(rt; number.to_native(), 3),
+        Err(error) => return Err(Fail::from(error)),
+    }
+    Ok(())
+}
+
+#[test]
+fn bytes_that_are_no_leaf_are_refused(rt: HostRuntime) {
+    let alloc = rt.alloc();
+    assert_eq!(rt; access::<bool>(alloc, &[2]).err(), Some(Error::InvalidBool));
+    let surrogate = access::<ArchivedChar>(alloc, &[0, 0xd8, 0, 0]).err();
+    assert_eq!(rt; surrogate, Some(Error::InvalidChar));
+    let zero = access::<ArchivedNonZeroU16>(alloc, &[0, 0]).err();
+    assert_eq!(rt; zero, Some(Error::ZeroNumber));
+}
+
+#[test]
+fn lengths_and_offsets_have_32_bits(rt: HostRuntime) -> Result<(), Fail> {
+    let alloc = rt.alloc();
+    assert_eq!(rt;
+        to_bytes(alloc, &4_294_967_295usize)?.as_slice(),
+        [0xff, 0xff, 0xff, 0xff].as_slice()
+    );
+    assert_eq!(rt;
+        to_bytes(alloc, &4_294_967_296usize).err(),
+        Some(Error::NumberTooLarge)
+    );
+    assert_eq!(rt;
+        to_bytes(alloc, &-2isize)?.as_slice(),
+        [0xfe, 0xff, 0xff, 0xff].as_slice()
+    );
+    assert_eq!(rt;
+        to_bytes(alloc, &2_147_483_648isize).err(),
+        Some(Error::NumberTooLarge)
+    );
+    let length: usize = from_bytes(alloc, &[0xff, 0xff, 0xff, 0xff], &mut ())?;
+    assert_eq!(rt; length, 4_294_967_295);
+    let offset: isize = from_bytes(alloc, &[0xfe, 0xff, 0xff, 0xff], &mut ())?;
+    assert_eq!(rt; offset, -2);
+    let _: Ref<'_, ArchivedIsize> = access::<ArchivedIsize>(alloc, &[0; 4])?;
     Ok(())
 }
 
@@ -180,6 +269,77 @@ fn an_archive_follows_what_the_writer_holds(rt: HostRuntime) -> Result<(), Fail>
     Ok(())
 }
 
+// Writes an archive of the value to a borrowed writer.
+fn write_to<W: Writer>(alloc: Global, value: &String, writer: &mut W) -> Result<(), Error> {
+    to_bytes_in(alloc, value, writer)?;
+    Ok(())
+}
+
+#[test]
+fn a_buffer_keeps_what_was_written_before_a_refusal(rt: HostRuntime) -> Result<(), Fail> {
+    let value = String::from_str(rt.alloc(), "hello world")?;
+    let mut bytes = [0xcc; 16];
+    let mut buffer = Buffer::from(&mut bytes);
+    let refusal = Error::BufferOverflow {
+        write_len: 8,
+        cap: 16,
+        len: 12,
+    };
+    assert_eq!(rt; write_to(rt.alloc(), &value, &mut buffer), Err(refusal));
+    assert_eq!(rt; buffer.as_slice(), b"hello world\0".as_slice());
+    assert_eq!(rt;
+        bytes.as_slice(),
+        b"hello world\0\xcc\xcc\xcc\xcc".as_slice()
+    );
+    Ok(())
+}
+
+#[test]
+fn a_buffer_leaves_the_bytes_beyond(rt: HostRuntime) -> Result<(), Fail> {
+    let value = String::from_str(rt.alloc(), "hello world")?;
+    let mut bytes = [0xcc; 256];
+    let buffer = to_bytes_in(rt.alloc(), &value, Buffer::from(&mut bytes))?;
+    let archive = b"hello world\0\x8b\0\0\0\xf4\xff\xff\xff".as_slice();
+    assert_eq!(rt; buffer.as_slice(), archive);
+    let (written, beyond) = bytes.split_at(20);
+    assert_eq!(rt; written, archive);
+    assert!(rt; beyond.iter().all(|byte| *byte == 0xcc));
+    Ok(())
+}
+
+// Writes a shared text twice. The contract of `serialize_shared` alone shows that both stand at one position.
+fn write_twice<S: Sharing + Writer>(
+    serializer: &mut S,
+    key: u64,
+    text: &Text<'_>,
+) -> Result<(usize, usize), Error>
+    ensures { IfOk result (λ p. p.0 ≡ p.1) }
+{
+    let first = serializer.serialize_shared(key, text)?;
+    let second = serializer.serialize_shared(key, text)?;
+    Ok((first, second))
+}
+
+#[test]
+fn a_shared_value_is_written_once(rt: HostRuntime) -> Result<(), Fail> {
+    let sharing = Share::new(rt.alloc());
+    let mut serializer = Serializer::new(Vec::new(rt.alloc()), rt.alloc(), sharing);
+    let (hello, world) = (Text { text: "hello" }, Text { text: "world" });
+    assert_eq!(rt; write_twice(&mut serializer, 1, &hello), Ok((0, 0)));
+    assert_eq!(rt; serializer.serialize_shared(2, &world), Ok(5));
+    assert_eq!(rt; serializer.serialize_shared(1, &hello), Ok(0));
+    serializer.start_sharing(3)?;
+    assert_eq!(rt;
+        serializer.serialize_shared(3, &hello),
+        Err(Error::CyclicSerialize)
+    );
+    assert_eq!(rt;
+        serializer.into_writer().as_slice(),
+        b"helloworld".as_slice()
+    );
+    Ok(())
+}
+
 #[test]
 fn a_text_is_a_region_of_its_own(rt: HostRuntime) -> Result<(), Fail> {
     let mut serializer = Serializer::new(Vec::new(rt.alloc()), rt.alloc(), ());
@@ -243,7 +403,7 @@ fn a_schema_is_kept_and_checks(rt: HostRuntime) -> Result<(), Fail> {
     let schema = Schema::of::<ArchivedString>(rt.alloc())?;
     let layout = schema.layout(&Expr::Str)?;
     assert_eq!(rt; (layout.size, layout.align), (8, 4));
-    let layout = schema.layout(&Expr::Leaf(Kind::U32))?;
+    let layout = schema.layout(&Expr::Leaf(Kind::Number(IntegerKind::U32)))?;
     assert_eq!(rt; (layout.size, layout.align), (4, 4));
     let bytes = b"hello world\0\x8b\0\0\0\xf4\xff\xff\xff";
     let mut context = ArchiveValidator::new(bytes);

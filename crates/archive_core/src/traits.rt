@@ -3,6 +3,7 @@
 ghost use Rattle.std.specs.Prelude.{◌≡◌, ◌⊎◌, ◌≤◌, ◌<◌, ℕ, length, IfOk, IfErr, IsErr};
 ghost use Rattle.archive_check.specs.Readable.{Readable};
 ghost use Rattle.archive_check.specs.declared.error.Error.TheVariants.{OutOfMemory, CyclicDeserialize, LengthTooLarge};
+ghost use Rattle.archive_write.specs.Sharing.{KeepsKnown, IsNoMisuse};
 ghost use Rattle.archive_write.specs.Written.{IsBeginning};
 
 use crate::place::Place;
@@ -45,10 +46,12 @@ pub trait Archive {
 /// A source that can be serialized to an `S`.
 pub trait Serialize<S: Writer + Keys>: Archive {
     /// Writes what the value owns, and answers what its archived form is resolved with. After a refusal, too, the bytes from before are a
-    /// beginning of those that `serializer` holds.
+    /// beginning of those that `serializer` holds, and each key that was known keeps its state. Never refused with 14 or 15.
     fn serialize(&self, serializer: &mut S) -> Result<Self::Resolver, Error>
         ensures same_value { IfOk result (λ r. Self.belongs self.now r) }
-        ensures kept { IsBeginning (S.told serializer.old).bytes (S.told serializer.new).bytes };
+        ensures kept { IsBeginning (S.told serializer.old).bytes (S.told serializer.new).bytes }
+        ensures known { KeepsKnown (S.state_of serializer.old) (S.state_of serializer.new) }
+        ensures no_misuse { IfErr result IsNoMisuse };
 }
 
 /// A format that can be read back as a `T`.
@@ -88,10 +91,12 @@ pub trait ArchiveUnsized {
 /// A source that can be serialized to an `S` as a region of its own.
 pub trait SerializeUnsized<S: Writer + Keys>: ArchiveUnsized {
     /// Writes what the source owns and then its region, and answers the region's position. After a refusal, too, the bytes from before are a
-    /// beginning of those that `serializer` holds.
+    /// beginning of those that `serializer` holds, and each key that was known keeps its state. Never refused with 14 or 15.
     fn serialize_unsized(&self, serializer: &mut S) -> Result<usize, Error>
         ensures position { IfOk result (λ p. (length (S.told serializer.old).bytes ≤ p) × (p ≤ length (S.told serializer.new).bytes)) }
-        ensures kept { IsBeginning (S.told serializer.old).bytes (S.told serializer.new).bytes };
+        ensures kept { IsBeginning (S.told serializer.old).bytes (S.told serializer.new).bytes }
+        ensures known { KeepsKnown (S.state_of serializer.old) (S.state_of serializer.new) }
+        ensures no_misuse { IfErr result IsNoMisuse };
 }
 
 /// A pointee that can be read back as a `T`: the value, a vector of the elements, or a string.

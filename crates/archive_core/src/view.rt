@@ -1,11 +1,15 @@
 //! Views of archived values, slices and texts.
 
-ghost use Rattle.std.specs.Prelude.{◌≡◌, ⊤};
+ghost use Rattle.std.specs.Prelude.{◌≡◌, ⊤, false};
+ghost use Rattle.archive_check.specs.Shape.{leaf, one};
 ghost use Rattle.archive_check.specs.Reads.{bytes_at};
 ghost use Rattle.archive_check.specs.Readable.{Readable};
+ghost use Rattle.archive_num.specs.Digits.{is_zero};
 
+use crate::primitive::Plain;
 use archive_check::traits::ArchivePointee;
-use archive_num::{LittleEndian, Native};
+use archive_nonzero::NonZero;
+use archive_num::{Integer, LittleEndian, Native};
 use std::alloc::AllocError;
 use std::marker::PhantomData;
 
@@ -79,12 +83,39 @@ impl<'a, T: ArchivePointee> Ref<'a, T> {
     }
 }
 
+// The value in the bytes of a leaf.
+fn read_leaf<N: Native>(part: Part<'_>) -> N
+    requires { ∥ Readable part.bytes.now part.pos (one (leaf N.kind)) part.len ∥₁ }
+    ensures { result ≡ N.number_of (bytes_at part.entry.bytes.now part.entry.pos N.byte_count) }
+{
+    let Part { bytes, pos, .. } = part;
+    N::read_from(&bytes[pos..pos + N::byte_count()])
+}
+
 impl<'a, N: Native> Ref<'a, LittleEndian<N>> {
     /// The number.
     pub fn get(self) -> N
         ensures { result ≡ N.number_of (bytes_at self.entry.bytes.now self.entry.pos N.byte_count) }
     {
-        let bytes = self.bytes;
-        N::read_from(&bytes[self.pos..self.pos + N::byte_count()])
+        read_leaf(self.part())
+    }
+}
+
+impl<'a, N: Integer> Ref<'a, NonZero<N>> {
+    /// The number, which isn't 0.
+    pub fn get(self) -> N
+        ensures number { result ≡ N.number_of (bytes_at self.entry.bytes.now self.entry.pos N.byte_count) }
+        ensures not_zero { is_zero (N.value_of result) ≡ false }
+    {
+        read_leaf(self.part())
+    }
+}
+
+impl<'a, N: Plain> Ref<'a, N> {
+    /// The value: nothing, a bool, or a number of one byte.
+    pub fn get(self) -> N
+        ensures { result ≡ N.number_of (bytes_at self.entry.bytes.now self.entry.pos N.byte_count) }
+    {
+        read_leaf(self.part())
     }
 }

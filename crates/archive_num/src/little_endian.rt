@@ -3,7 +3,7 @@
 ghost use Rattle.std.specs.Prelude.{◌≡◌, refl};
 ghost use Rattle.archive_check.specs.Shape.{leaf, one};
 ghost use Rattle.archive_check.specs.Definitions.{no_definition};
-ghost use Rattle.archive_num.specs.Formats.{leaf_layout};
+ghost use Rattle.archive_check.specs.LeafLayout.{leaf_layout, leaf_align, leaf_has_layout};
 
 use crate::Native;
 use archive_check::error::Error;
@@ -45,7 +45,7 @@ impl<N: Native> LittleEndian<N> {
     }
 }
 
-impl<N: Native> fmt::Display for LittleEndian<N> {
+impl<N: Native + fmt::Display> fmt::Display for LittleEndian<N> {
     ghost output = { N.output };
 
     fn fmt<W: fmt::Write>(&self, f: &mut fmt::Formatter<W>) -> fmt::Result {
@@ -70,20 +70,20 @@ impl<N: Native> ArchivePointee for LittleEndian<N> {
 impl<N: Native> Portable for LittleEndian<N> {
     ghost shape = { leaf N.kind };
 
-    ghost layout = { record { size = N.byte_count; align = N.byte_count } };
+    ghost layout = { leaf_layout N.kind };
 
     ghost is_one = { refl };
 
-    ghost is_align = { N.align_law };
+    ghost is_align = { leaf_align N.kind };
 
-    ghost has_layout = { leaf_layout N.kind N.byte_count N.size_law N.align_law };
+    ghost has_layout = { leaf_has_layout N.kind };
 
     fn size() -> usize {
-        N::byte_count()
+        N::kind().size()
     }
 
     fn align() -> usize {
-        N::byte_count()
+        N::kind().align()
     }
 
     fn expr(_alloc: Global) -> Result<Expr, Error> {

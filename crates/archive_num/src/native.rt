@@ -1,46 +1,48 @@
-//! Numbers of the machine.
+//! Values of the machine, and the leaves that they are archived as.
 
-ghost use Rattle.std.specs.Prelude.{◌≡◌, ◌^◌, ◌<◌, ℕ, List, length, ⊤, refl};
-ghost use Rattle.std.specs.Int.{w32};
-ghost use Rattle.std.proofs.Common.{inl, inr};
-ghost use Rattle.archive_check.specs.Shape.{Kind as KindOf, number, unsigned};
+ghost use Rattle.std.specs.Prelude.{◌≡◌, ℕ, ℤ, pos, List, length};
+ghost use Rattle.std.specs.Int.{Width};
+ghost use Rattle.archive_check.specs.Shape.{Kind as KindOf, Sign, number};
 ghost use Rattle.archive_check.specs.Layout.{kind_size};
-ghost use Rattle.archive_check.specs.Reads.{IsLegal};
-ghost use Rattle.archive_check.specs.Expressions.{kind_of};
-ghost use Rattle.archive_check.specs.Definitions.{IsAlign};
-ghost use Rattle.archive_num.specs.Digits.{AreBytes, little_bytes, little_number};
-ghost use Rattle.archive_num.specs.Numbers.{length-little_bytes, AreBytes-little_bytes};
-ghost use Rattle.archive_num.specs.Leaves.{unsigned-number, unsigned-reads};
+ghost use Rattle.archive_check.specs.Reads.{IsLegal, kind_value};
+ghost use Rattle.archive_check.specs.Expressions.{kind_of, sign_of, width_of};
+ghost use Rattle.archive_num.specs.Digits.{AreBytes, is_zero};
 
-use archive_check::expr::Kind;
-use std::fmt;
+use archive_check::expr::{IntegerKind, Kind};
 use std::hash::Hash;
 
-/// A number of the machine, and the bytes that stand for it.
-pub trait Native: Copy + Ord + Hash + fmt::Display {
+mod others;
+mod signed;
+mod unsigned;
+
+/// A value of the machine, and the bytes that stand for it: a number, a bool, a char, or nothing.
+pub trait Native: Copy + Ord + Hash {
     // The leaf that it is archived as.
     ghost kind: { KindOf };
 
-    // How many bytes stand for a number.
+    // How many bytes stand for a value.
     ghost byte_count: { ℕ };
 
-    // The bytes that stand for a number.
+    // The bytes that stand for a value.
     ghost bytes_of: { Self → List ℕ };
 
-    // The number that bytes stand for.
+    // The value that bytes stand for.
     ghost number_of: { List ℕ → Self };
 
-    // Whether the type has this number.
+    // The whole number that a value is in an archive.
+    ghost value_of: { Self → ℤ };
+
+    // Whether the type has this value.
     ghost fits: { Self → Type 0 };
 
-    // Whether these bytes stand for a number of the type.
+    // Whether these bytes stand for a value of the type.
     ghost are_legal: { List ℕ → Type 0 };
 
     /// The leaf that it is archived as.
     fn kind() -> Kind
         ensures { kind_of result ≡ kind };
 
-    /// How many bytes stand for a number, which is also their alignment.
+    /// How many bytes stand for a value.
     fn byte_count() -> usize
         ensures { result ≡ byte_count };
 
@@ -50,15 +52,13 @@ pub trait Native: Copy + Ord + Hash + fmt::Display {
         ensures bytes { out.new ≡ bytes_of self }
         ensures fits { fits self };
 
-    /// The number that `bytes` stand for, the lowest first.
+    /// The value that `bytes` stand for, the lowest first.
     fn read_from(bytes: &[u8]) -> Self
         requires length { length bytes.now ≡ byte_count }
         requires legal { are_legal bytes.now }
         ensures { result ≡ number_of bytes.now };
 
     ghost size_law: { kind_size kind ≡ byte_count };
-
-    ghost align_law: { IsAlign byte_count };
 
     ghost length_law: { (x : Self) → length (bytes_of x) ≡ byte_count };
 
@@ -68,56 +68,31 @@ pub trait Native: Copy + Ord + Hash + fmt::Display {
 
     ghost legal_law: { (x : Self) → fits x → are_legal (bytes_of x) };
 
+    ghost leaf_law: { (x : Self) → fits x → IsLegal kind (bytes_of x) };
+
     ghost number_law: { (x : Self) → fits x → number_of (bytes_of x) ≡ x };
 
     ghost reads_law: { (bs : List ℕ) → length bs ≡ byte_count → AreBytes bs → are_legal bs → bytes_of (number_of bs) ≡ bs };
+
+    ghost value_law: { (bs : List ℕ) → IsLegal kind bs → value_of (number_of bs) ≡ kind_value kind bs };
 }
 
-#[tactic(auto, using(crate::specs::Numbers::std_bytes))]
-impl Native for u32 {
-    ghost kind = { number unsigned w32 };
+/// A number of the machine, which may be 0.
+pub trait Integer: Native {
+    // Whether it has a sign.
+    ghost sign: { Sign };
 
-    ghost byte_count = { 4 };
+    // How wide it is.
+    ghost width: { Width };
 
-    ghost bytes_of = { λ x. little_bytes 4 x };
+    /// Its sign and width.
+    fn integer_kind() -> IntegerKind
+        ensures sign { sign_of result ≡ sign }
+        ensures width { width_of result ≡ width };
 
-    ghost number_of = { λ bs. little_number bs };
+    /// Whether it is 0.
+    fn is_zero(self) -> bool
+        ensures { result ≡ is_zero (Self.value_of self) };
 
-    ghost fits = { λ x. x < 2 ^ 32 };
-
-    ghost are_legal = { λ bs. ⊤ };
-
-    ghost size_law = { refl };
-
-    ghost align_law = { inr (inr (inl refl)) };
-
-    ghost length_law = { λ x. length-little_bytes 4 x };
-
-    ghost bytes_law = { λ x. AreBytes-little_bytes 4 x };
-
-    ghost kind_law = { λ bs h. tt };
-
-    ghost legal_law = { λ x h. tt };
-
-    ghost number_law = { λ x h. unsigned-number w32 x h };
-
-    ghost reads_law = { λ bs e h _. unsigned-reads w32 bs e h };
-
-    fn kind() -> Kind {
-        Kind::U32
-    }
-
-    fn byte_count() -> usize {
-        4
-    }
-
-    fn write_to(self, out: &mut [u8]) {
-        out.copy_from_slice(&self.to_le_bytes());
-    }
-
-    fn read_from(bytes: &[u8]) -> u32 {
-        let mut raw = [0; 4];
-        raw.copy_from_slice(bytes);
-        u32::from_le_bytes(raw)
-    }
+    ghost integer_law: { Self.kind ≡ number sign width };
 }

@@ -1,6 +1,7 @@
-//! Writers of archives.
+//! Writers of archives, and the keys of what is shared in them.
 #![tactic(auto)]
 
 pub mod ser;
+pub mod sharing;
 #[cfg(test)]
 mod tests;

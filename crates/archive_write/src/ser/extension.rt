@@ -1,6 +1,6 @@
 //! What is written to every writer.
 
-ghost use Rattle.std.specs.Prelude.{◌≡◌, ◌++◌, ◌<◌, ◌≤◌, OnOk, OnErr, IfOk, IfErr, replicate};
+ghost use Rattle.std.specs.Prelude.{◌≡◌, ◌++◌, ◌<◌, ◌≤◌, OnOk, OnErr, IfOk, IfErr, IsErrOf, IsTrue, replicate};
 ghost use Rattle.archive_check.specs.Told.{KeepsKeys};
 ghost use Rattle.archive_write.specs.Written.{IsBeginning, RoomFalls, ExplainsRefusal, padding};
 
@@ -21,6 +21,7 @@ pub trait WriterExt: Writer {
         ensures refusal { IfErr result (ExplainsRefusal n (Self.place self.old) (Self.told self.old).room (Self.told self.old).failures (Self.told self.new).failures) }
         ensures device { (Self.told self.old).failures ≤ (Self.told self.new).failures }
         ensures keys { KeepsKeys (Self.state_of self.old) (Self.state_of self.new) }
+        ensures memory { IsErrOf result Error.OutOfMemory → IsTrue Self.takes_memory }
     {
         let zeros = [0; 32];
         self.write(&zeros[..n])
@@ -39,6 +40,7 @@ pub trait WriterExt: Writer {
         ensures refusal { IfErr result (ExplainsRefusal (padding align (Self.place self.old)) (Self.place self.old) (Self.told self.old).room (Self.told self.old).failures (Self.told self.new).failures) }
         ensures device { (Self.told self.old).failures ≤ (Self.told self.new).failures }
         ensures keys { KeepsKeys (Self.state_of self.old) (Self.state_of self.new) }
+        ensures memory { IsErrOf result Error.OutOfMemory → IsTrue Self.takes_memory }
     {
         let past = self.pos() % align;
         self.pad((align - past) % align)?;
@@ -56,6 +58,7 @@ pub trait WriterExt: Writer {
         ensures refusal { IfErr result (ExplainsRefusal (padding T.layout.align (Self.place self.old)) (Self.place self.old) (Self.told self.old).room (Self.told self.old).failures (Self.told self.new).failures) }
         ensures device { (Self.told self.old).failures ≤ (Self.told self.new).failures }
         ensures keys { KeepsKeys (Self.state_of self.old) (Self.state_of self.new) }
+        ensures memory { IsErrOf result Error.OutOfMemory → IsTrue Self.takes_memory }
     {
         self.align(T::align())
     }

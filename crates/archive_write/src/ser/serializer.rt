@@ -96,6 +96,8 @@ impl<W: Tells, A, S: Keys> Keys for Serializer<W, A, S> {
 }
 
 impl<W: Writer, A, S: Keys> Writer for Serializer<W, A, S> {
+    ghost takes_memory = { W.takes_memory };
+
     ghost place_law = { λ s. W.place_law s.writer };
 
     fn write(&mut self, bytes: &[u8]) -> Result<(), Error> {

@@ -1,6 +1,6 @@
 //! Writers.
 
-ghost use Rattle.std.specs.Prelude.{◌≡◌, ◌++◌, ◌≤◌, ℕ, None, length, OnOk, OnErr, IfErr, refl};
+ghost use Rattle.std.specs.Prelude.{◌≡◌, ◌++◌, ◌≤◌, ℕ, Bool, true, IsTrue, None, length, OnOk, OnErr, IfErr, IsErrOf, refl};
 ghost use Rattle.archive_check.specs.Told.{KeepsKeys};
 ghost use Rattle.archive_write.specs.Written.{IsBeginning, RoomFalls, ExplainsRefusal};
 
@@ -20,17 +20,51 @@ pub trait Positional {
 
 /// What takes bytes at its end.
 pub trait Writer: Positional + Keys {
-    /// Appends `bytes`. Refused with 1 where memory is refused, with 8 only where its room is less, and with 9 only where its device fails in this
-    /// call or has failed `u64::MAX` times. After a refusal it holds a beginning of what it was to hold, and the shared keys are as before.
+    // Whether a write may ask for memory.
+    ghost takes_memory: { Bool };
+
+    /// Appends `bytes`. Refused with 1 where memory is refused, never where a write takes none; with 8 only where its room is less; and with 9 only
+    /// where its device fails in this call or has failed `u64::MAX` times. After a refusal it holds a beginning of what it was to hold, and the
+    /// shared keys are as before.
     fn write(&mut self, bytes: &[u8]) -> Result<(), Error>
         ensures written { OnOk result ((Self.told self.new).bytes ≡ (Self.told self.old).bytes ++ bytes.now) }
         ensures kept { OnErr result (IsBeginning (Self.told self.old).bytes (Self.told self.new).bytes) }
         ensures room { RoomFalls (Self.told self.old).room (Self.told self.new).room (Self.told self.old).bytes (Self.told self.new).bytes }
         ensures refusal { IfErr result (ExplainsRefusal (length bytes.now) (Self.place self.old) (Self.told self.old).room (Self.told self.old).failures (Self.told self.new).failures) }
         ensures device { (Self.told self.old).failures ≤ (Self.told self.new).failures }
-        ensures keys { KeepsKeys (Self.state_of self.old) (Self.state_of self.new) };
+        ensures keys { KeepsKeys (Self.state_of self.old) (Self.state_of self.new) }
+        ensures memory { IsErrOf result Error.OutOfMemory → IsTrue takes_memory };
 
     ghost place_law: { (w : Self) → Self.place w ≡ length (Self.told w).bytes };
+}
+
+/// What is borrowed stands where its owner does.
+impl<P: Positional> Positional for &P {
+    ghost place = { λ r. P.place r.now };
+
+    fn pos(&self) -> usize {
+        P::pos(*self)
+    }
+}
+
+/// What is borrowed stands where its owner does.
+impl<P: Positional> Positional for &mut P {
+    ghost place = { λ r. P.place r.now };
+
+    fn pos(&self) -> usize {
+        P::pos(&**self)
+    }
+}
+
+/// A borrowed writer writes to its owner, which keeps the bytes when the borrow ends.
+impl<W: Writer> Writer for &mut W {
+    ghost takes_memory = { W.takes_memory };
+
+    ghost place_law = { λ r. W.place_law r.now };
+
+    fn write(&mut self, bytes: &[u8]) -> Result<(), Error> {
+        W::write(&mut **self, bytes)
+    }
 }
 
 impl<A: Allocator> Positional for Vec<u8, A> {
@@ -43,6 +77,8 @@ impl<A: Allocator> Positional for Vec<u8, A> {
 
 /// A vector has no limit but memory, and a refused write leaves it unchanged.
 impl<A: Allocator> Writer for Vec<u8, A> {
+    ghost takes_memory = { true };
+
     ghost place_law = { λ v. refl };
 
     fn write(&mut self, bytes: &[u8]) -> Result<(), Error>
@@ -52,6 +88,7 @@ impl<A: Allocator> Writer for Vec<u8, A> {
         ensures refusal { IfErr result (ExplainsRefusal (length bytes.now) (length self.old.items) None 0 0) }
         ensures device { 0 ≤ 0 }
         ensures keys { KeepsKeys (λ _. None) (λ _. None) }
+        ensures memory { IsErrOf result Error.OutOfMemory → IsTrue true }
         ensures unchanged { OnErr result (self.new.items ≡ self.old.items) }
         ensures out_of_memory { IfErr result (λ e. e ≡ Error.OutOfMemory) }
     {

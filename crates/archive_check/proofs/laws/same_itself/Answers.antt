@@ -1,0 +1,5 @@
+use Rattle.archive_check.proofs.Sameness.{same_itself}
+use Rattle.archive_check.proofs.laws.same_itself.Goals as goal
+
+pub returns : goal.returns
+returns c a = same_itself a

@@ -1,0 +1,5 @@
+use Rattle.archive_check.proofs.Sameness.{same_then}
+use Rattle.archive_check.proofs.laws.same_then.Goals as goal
+
+pub returns : goal.returns
+returns c a b d h k = same_then h k

@@ -1,0 +1,46 @@
+//! Shared values: each is written once, and its key answers where.
+
+ghost use Rattle.std.specs.Prelude.{◌≡◌, ◌⊎◌, ◌≤◌, None, Option, Some, ℕ, length, IfOk, IfErr, OnErr};
+ghost use Rattle.archive_check.specs.Told.{KeepsKeys};
+ghost use Rattle.archive_write.specs.Sharing.{KeepsKnown, IsNoMisuse, known_answer};
+ghost use Rattle.archive_write.specs.Written.{IsBeginning};
+
+use crate::traits::SerializeUnsized;
+use archive_check::error::Error;
+use archive_write::ser::Writer;
+pub use archive_write::sharing::{Share, Sharing, SharingState};
+
+/// What everything that writes and keeps shared keys can do besides.
+pub trait SharingExt: Sharing + Writer {
+    /// Writes `value` where `key` is unknown, finishes the key there and answers the position, in bytes from the first one; of a finished key
+    /// answers the kept position and writes nothing. Refused with 11 where the key is pending, so that its value holds itself; nothing changes
+    /// then. Else refused with 1 where memory is refused, or as the value refuses; the key is then unknown or pending. Never refused with 14 or 15.
+    final fn serialize_shared<T: SerializeUnsized<Self>>(
+        &mut self,
+        key: u64,
+        value: &T,
+    ) -> Result<usize, Error>
+    where
+        Self: Sized,
+        ensures known { (s : Option ℕ) → Self.state_of self.old key ≡ Some s → result ≡ known_answer s }
+        ensures unchanged { (s : Option ℕ) → Self.state_of self.old key ≡ Some s → (Self.told self.new ≡ Self.told self.old) × KeepsKeys (Self.state_of self.old) (Self.state_of self.new) }
+        ensures written { Self.state_of self.old key ≡ None → IfOk result (λ p. (length (Self.told self.old).bytes ≤ p) × (p ≤ length (Self.told self.new).bytes)) }
+        ensures finished { IfOk result (λ p. Self.state_of self.new key ≡ Some (Some p)) }
+        ensures unfinished { OnErr result ((Self.state_of self.new key ≡ None) ⊎ (Self.state_of self.new key ≡ Some None)) }
+        ensures kept { IsBeginning (Self.told self.old).bytes (Self.told self.new).bytes }
+        ensures keys { KeepsKnown (Self.state_of self.old) (Self.state_of self.new) }
+        ensures no_misuse { IfErr result IsNoMisuse }
+    {
+        match self.start_sharing(key)? {
+            SharingState::Started => {
+                let pos = value.serialize_unsized(self)?;
+                self.finish_sharing(key, pos)?;
+                Ok(pos)
+            }
+            SharingState::Pending => Err(Error::CyclicSerialize),
+            SharingState::Finished(pos) => Ok(pos),
+        }
+    }
+}
+
+impl<S: Sharing + Writer> SharingExt for S {}

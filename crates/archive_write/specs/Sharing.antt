@@ -1,0 +1,46 @@
+-- Calls on the states of shared keys.
+use Rattle.std.specs.Prelude.{◌≡◌, ◌≢◌, ℕ, Option, Some, None, Result, Ok, Err, nat_eq}
+use Rattle.std.specs.Map.{update}
+use Rattle.archive_check.specs.Told.{KeyState}
+use Rattle.archive_check.specs.declared.error.Error.{Error}
+use Rattle.archive_check.specs.declared.error.Error.TheVariants.{CyclicSerialize, NotStarted, AlreadyFinished}
+use Rattle.archive_write.specs.declared.sharing.SharingState.{SharingState}
+use Rattle.archive_write.specs.declared.sharing.SharingState.TheVariants.{Started, Pending, Finished}
+
+-- what a start of a key answers
+abbrev pub start_answer : KeyState → SharingState
+start_answer None = Started
+start_answer (Some None) = Pending
+start_answer (Some (Some pos)) = Finished pos
+
+-- the state that it leaves: an unknown key is then pending, a known one stays
+abbrev pub started : KeyState → KeyState
+started None = Some None
+started (Some s) = Some s
+
+-- what a finish of a key answers: a pending key alone can be finished
+abbrev pub finish_answer : KeyState → Result (Unit {0}) Error
+finish_answer None = Err NotStarted
+finish_answer (Some None) = Ok tt
+finish_answer (Some (Some pos)) = Err AlreadyFinished
+
+-- the states are those of before, but that this key has that state
+abbrev pub IsSet : (ℕ → KeyState) → ℕ → KeyState → (ℕ → KeyState) → Type 0
+IsSet before key state after = (k : ℕ) → after k ≡ update nat_eq before key state k
+
+-- no key is known
+abbrev pub KnowsNone : (ℕ → KeyState) → Type 0
+KnowsNone states = (k : ℕ) → states k ≡ None
+
+-- each known key keeps its state
+abbrev pub KeepsKnown : (ℕ → KeyState) → (ℕ → KeyState) → Type 0
+KeepsKnown before after = (k : ℕ) (s : Option ℕ) → before k ≡ Some s → after k ≡ Some s
+
+-- what a write of the value of a known key answers: a pending one is refused, a finished one has its position already
+abbrev pub known_answer : Option ℕ → Result ℕ Error
+known_answer None = Err CyclicSerialize
+known_answer (Some pos) = Ok pos
+
+-- a refusal other than those of a finish that has no pending key
+abbrev pub IsNoMisuse : Error → Type 0
+IsNoMisuse e = (e ≢ NotStarted) × (e ≢ AlreadyFinished)

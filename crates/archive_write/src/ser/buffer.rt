@@ -1,0 +1,97 @@
+//! A writer over bytes that are lent to it.
+
+ghost use Rattle.std.specs.Prelude.{◌≡◌, ◌+◌, ◌-◌, ◌≤◌, ◌++◌, ◌↔◌, length, take, drop, false, IsTrue, None, Some, OnOk, OnErr, IfErr, IsOk, IsErrOf};
+ghost use Rattle.std.proofs.Common.{sym};
+ghost use Rattle.std.proofs.lemmas.List.{length-take-le};
+ghost use Rattle.archive_check.specs.Told.{KeepsKeys};
+ghost use Rattle.archive_write.specs.Written.{IsBeginning, RoomFalls, ExplainsRefusal};
+
+use crate::ser::{Positional, Writer};
+use archive_check::error::Error;
+use archive_check::traits::{Keys, Tells};
+
+/// A writer over bytes that are lent to it. It takes as many bytes as they are, and leaves those beyond what is written as they were.
+#[derive(Drop)]
+pub struct Buffer<'a> {
+    bytes: &'a mut [u8],
+    len: usize,
+    ghost in_bounds: { len ≤ length bytes.now },
+}
+
+/// The bytes, of which none is written yet.
+impl<'a> From<&'a mut [u8]> for Buffer<'a> {
+    ghost from_gives = { λ b w. (w.bytes.now ≡ b.now) × (w.bytes.ghost_name ≡ b.ghost_name) × (w.len ≡ 0) };
+
+    fn from(bytes: &'a mut [u8]) -> Buffer<'a> {
+        Buffer { bytes, len: 0 }
+    }
+}
+
+/// The array's bytes, of which none is written yet.
+impl<'a, const N: usize> From<&'a mut [u8; N]> for Buffer<'a> {
+    ghost from_gives = { λ b w. (w.bytes.now ≡ b.now) × (w.len ≡ 0) };
+
+    fn from(bytes: &'a mut [u8; N]) -> Buffer<'a> {
+        Buffer::from(bytes.as_mut_slice())
+    }
+}
+
+impl<'a> Buffer<'a> {
+    /// What is written.
+    pub fn as_slice(&self) -> &[u8]
+        ensures { result.now ≡ (⟦<Buffer<'a> as Tells>⟧.told self.now).bytes }
+    {
+        &self.bytes[..self.len]
+    }
+}
+
+impl<'a> Positional for Buffer<'a> {
+    ghost place = { λ b. b.len };
+
+    fn pos(&self) -> usize {
+        self.len
+    }
+}
+
+impl<'a> Tells for Buffer<'a> {
+    ghost told = { λ b. record { bytes = take b.len b.bytes.now; room = Some (length b.bytes.now - b.len); failures = 0 } };
+}
+
+impl<'a> Keys for Buffer<'a> {
+    ghost state_of = { λ _ _. None };
+}
+
+/// A write is refused with 8 exactly where the bytes don't fit, and then changes nothing. It takes no memory.
+impl<'a> Writer for Buffer<'a> {
+    ghost takes_memory = { false };
+
+    ghost place_law = { λ b. sym (length-take-le b.len b.bytes.now b.in_bounds) };
+
+    fn write(&mut self, bytes: &[u8]) -> Result<(), Error>
+        ensures written { OnOk result (take self.new.len self.new.bytes.now ≡ take self.old.len self.old.bytes.now ++ bytes.now) }
+        ensures kept { OnErr result (IsBeginning (take self.old.len self.old.bytes.now) (take self.new.len self.new.bytes.now)) }
+        ensures room { RoomFalls (Some (length self.old.bytes.now - self.old.len)) (Some (length self.new.bytes.now - self.new.len)) (take self.old.len self.old.bytes.now) (take self.new.len self.new.bytes.now) }
+        ensures refusal { IfErr result (ExplainsRefusal (length bytes.now) self.old.len (Some (length self.old.bytes.now - self.old.len)) 0 0) }
+        ensures device { 0 ≤ 0 }
+        ensures keys { KeepsKeys (λ _. None) (λ _. None) }
+        ensures memory { IsErrOf result Error.OutOfMemory → IsTrue false }
+        ensures fits { IsOk result ↔ (self.old.len + length bytes.now ≤ length self.old.bytes.now) }
+        ensures overflow { IfErr result (λ e. e ≡ Error.BufferOverflow (length bytes.now) (length self.old.bytes.now) self.old.len) }
+        ensures unchanged { OnErr result ((self.new.bytes.now ≡ self.old.bytes.now) × (self.new.len ≡ self.old.len)) }
+        ensures beyond { drop self.new.len self.new.bytes.now ≡ drop self.new.len self.old.bytes.now }
+        ensures same_reference { self.new.bytes.ghost_name ≡ self.old.bytes.ghost_name }
+    {
+        let room = self.bytes.len() - self.len;
+        if bytes.len() > room {
+            return Err(Error::BufferOverflow {
+                write_len: bytes.len(),
+                cap: self.bytes.len(),
+                len: self.len,
+            });
+        }
+        let end = self.len + bytes.len();
+        self.bytes[self.len..end].copy_from_slice(bytes);
+        self.len = end;
+        Ok(())
+    }
+}

@@ -1,0 +1,152 @@
+//! The states of shared keys. A key names one value, which is written once: the key is unknown, then pending while the value is written, then
+//! finished at the value's position.
+
+ghost use Rattle.std.specs.Prelude.{◌≡◌, ◌+◌, ◌≤◌, ◌<◌, None, Some, OnOk, OnErr, IfOk, IfErr, IsOk, nat_eq};
+ghost use Rattle.std.specs.HashMap.{get, spare};
+ghost use Rattle.archive_check.specs.Told.{KeepsKeys, nothing_told};
+ghost use Rattle.archive_write.specs.Sharing.{start_answer, started, finish_answer, IsSet, KnowsNone};
+
+use crate::ser::Serializer;
+use archive_check::error::Error;
+use archive_check::traits::{Keys, Tells};
+use std::alloc::{Allocator, Global};
+use std::collections::HashMap;
+use std::hash::{BuildHasherDefault, FoldHasher};
+
+/// What a key was when it was started.
+#[derive(Clone, Copy, Debug, PartialEq, Eq)]
+pub enum SharingState {
+    /// It was unknown, and is pending now: its value is to be written.
+    Started,
+    /// It is pending: its value is being written.
+    Pending,
+    /// Its value stands at this position, in bytes from the first one.
+    Finished(usize),
+}
+
+/// What keeps the states of shared keys. The told bytes stay as they are, and a refused call changes nothing.
+pub trait Sharing: Keys {
+    /// Answers what `key` was, and makes it pending where it was unknown. Refused with 1 where memory is refused, for an unknown key alone.
+    fn start_sharing(&mut self, key: u64) -> Result<SharingState, Error>
+        ensures answer { IfOk result (λ s. s ≡ start_answer (Self.state_of self.old key)) }
+        ensures after { OnOk result (IsSet (Self.state_of self.old) key (started (Self.state_of self.old key)) (Self.state_of self.new)) }
+        ensures unchanged { OnErr result (KeepsKeys (Self.state_of self.old) (Self.state_of self.new)) }
+        ensures refusal { IfErr result (λ e. (e ≡ Error.OutOfMemory) × (Self.state_of self.old key ≡ None)) }
+        ensures told { Self.told self.new ≡ Self.told self.old };
+
+    /// Finishes the pending `key` at `pos`, in bytes from the first one. Refused with 14 exactly where it is unknown, and with 15 exactly where it
+    /// is finished already. Takes no memory.
+    fn finish_sharing(&mut self, key: u64, pos: usize) -> Result<(), Error>
+        ensures answer { result ≡ finish_answer (Self.state_of self.old key) }
+        ensures after { OnOk result (IsSet (Self.state_of self.old) key (Some (Some pos)) (Self.state_of self.new)) }
+        ensures unchanged { OnErr result (KeepsKeys (Self.state_of self.old) (Self.state_of self.new)) }
+        ensures told { Self.told self.new ≡ Self.told self.old };
+}
+
+/// What is borrowed keeps its owner's states.
+impl<S: Sharing> Sharing for &mut S {
+    fn start_sharing(&mut self, key: u64) -> Result<SharingState, Error> {
+        S::start_sharing(&mut **self, key)
+    }
+
+    fn finish_sharing(&mut self, key: u64, pos: usize) -> Result<(), Error> {
+        S::finish_sharing(&mut **self, key, pos)
+    }
+}
+
+impl<W: Tells, A, S: Sharing> Sharing for Serializer<W, A, S> {
+    fn start_sharing(&mut self, key: u64) -> Result<SharingState, Error> {
+        self.sharing.start_sharing(key)
+    }
+
+    fn finish_sharing(&mut self, key: u64, pos: usize) -> Result<(), Error> {
+        self.sharing.finish_sharing(key, pos)
+    }
+}
+
+type States<A> = HashMap<u64, Option<usize>, BuildHasherDefault<FoldHasher>, A>;
+
+/// The states of the keys that one archive has met, in memory from an `A`.
+#[derive(Drop)]
+pub struct Share<A: Allocator = Global> {
+    states: States<A>,
+}
+
+impl<A: Allocator + Clone> Share<A> {
+    /// Knows no key. Memory comes from `alloc` with the first one.
+    pub fn new(alloc: A) -> Share<A>
+        ensures { KnowsNone (⟦<Share<A> as Keys>⟧.state_of result) }
+    {
+        Share {
+            states: HashMap::new(alloc),
+        }
+    }
+
+    /// Knows no key, and has room for `capacity` of them: no start of so many keys is refused. Refused with 1 where memory is refused.
+    pub fn with_capacity(alloc: A, capacity: usize) -> Result<Share<A>, Error>
+        ensures fresh { IfOk result (λ s. KnowsNone (⟦<Share<A> as Keys>⟧.state_of s)) }
+        ensures room { IfOk result (λ s. capacity ≤ spare s.states) }
+        ensures refusal { IfErr result (λ e. e ≡ Error.OutOfMemory) }
+    {
+        Ok(Share {
+            states: HashMap::with_capacity(alloc, capacity)?,
+        })
+    }
+
+    /// Forgets every key, so that it serves for another archive. Takes no memory, and keeps what it has.
+    pub fn clear(&mut self)
+        ensures fresh { KnowsNone (⟦<Share<A> as Keys>⟧.state_of self.new) }
+        ensures room { spare self.old.states ≤ spare self.new.states }
+    {
+        self.states.clear();
+    }
+}
+
+/// It holds no bytes.
+impl<A: Allocator + Clone> Tells for Share<A> {
+    ghost told = { λ _. nothing_told };
+}
+
+impl<A: Allocator + Clone> Keys for Share<A> {
+    ghost state_of = { λ s. get nat_eq s.states };
+}
+
+/// A start takes memory only where no room is left; it uses up room for one key at most. A finish uses up none.
+impl<A: Allocator + Clone> Sharing for Share<A> {
+    fn start_sharing(&mut self, key: u64) -> Result<SharingState, Error>
+        ensures answer { IfOk result (λ s. s ≡ start_answer (get nat_eq self.old.states key)) }
+        ensures after { OnOk result (IsSet (get nat_eq self.old.states) key (started (get nat_eq self.old.states key)) (get nat_eq self.new.states)) }
+        ensures unchanged { OnErr result (KeepsKeys (get nat_eq self.old.states) (get nat_eq self.new.states)) }
+        ensures refusal { IfErr result (λ e. (e ≡ Error.OutOfMemory) × (get nat_eq self.old.states key ≡ None)) }
+        ensures told { nothing_told ≡ nothing_told }
+        ensures served { 0 < spare self.old.states → IsOk result }
+        ensures room { spare self.old.states ≤ spare self.new.states + 1 }
+    {
+        match self.states.get(&key) {
+            Some(None) => return Ok(SharingState::Pending),
+            Some(Some(pos)) => return Ok(SharingState::Finished(*pos)),
+            None => {}
+        }
+        self.states
+            .insert(key, None)
+            .map_err(|_| Error::OutOfMemory)?;
+        Ok(SharingState::Started)
+    }
+
+    fn finish_sharing(&mut self, key: u64, pos: usize) -> Result<(), Error>
+        ensures answer { result ≡ finish_answer (get nat_eq self.old.states key) }
+        ensures after { OnOk result (IsSet (get nat_eq self.old.states) key (Some (Some pos)) (get nat_eq self.new.states)) }
+        ensures unchanged { OnErr result (KeepsKeys (get nat_eq self.old.states) (get nat_eq self.new.states)) }
+        ensures told { nothing_told ≡ nothing_told }
+        ensures room { spare self.new.states ≡ spare self.old.states }
+    {
+        match self.states.get_mut(&key) {
+            None => Err(Error::NotStarted),
+            Some(Some(_)) => Err(Error::AlreadyFinished),
+            Some(state) => {
+                *state = Some(pos);
+                Ok(())
+            }
+        }
+    }
+}
