@@ -66,7 +66,7 @@ impl Set {
         match self {
             Set::Number => "one u32".into(),
             Set::Text(n) => format!("string of {} bytes", grouped(n as f64)),
-            Set::Record => "README's record".into(),
+            Set::Record => "small record".into(),
             Set::Numbers(n) => format!("{} u32", grouped(n as f64)),
             Set::Rows(n) => format!("{} rows", grouped(n as f64)),
             Set::List(n) => format!("chain of {} boxes", grouped(n as f64)),

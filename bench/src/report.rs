@@ -113,28 +113,7 @@ fn shown(row: &Row, format: Format) -> String {
     }
 }
 
-const INTRODUCTION: &str = "\
-`bench/run` made this page. Times are nanoseconds an operation, the least of the rounds; MB/s are those of the format's own archive, and stand where
-its bytes are looked at. The bold number is **archive-core's time divided by the peer's**: below 1 archive-core is faster. Judge these ratios alone: all
-formats of a row ran in turns in one process, but figures of different rows or runs differ with what else the machine does. A row of one u32 takes a few
-cycles a round, so little more than that it is quick can be told from it.
-
-What an operation is:
-
-- **write**: a value of the language's own types into one contiguous archive, in new memory or in memory that is kept. rkyv: `to_bytes::<_, 256>`, or a
-  kept `AlignedVec` with kept scratch space. FlatBuffers: a new or a cleared `FlatBufferBuilder`. Cap'n Proto: a `MallocMessageBuilder` and
-  `messageToFlatArray`, or one over a kept first segment that is left there.
-- **checked access**: the bytes are checked, and the root is then read where it lies. archive-core does so with a schema that is kept (`Schema::check`), or
-  with one made for the call (`access`); a peer's figure is the same one in both rows. rkyv: `check_archived_root`. FlatBuffers: `Verifier`, which doesn't
-  test UTF-8. Cap'n Proto has no check: it tests each pointer when that is followed, so this is a tour that follows each pointer once.
-- **check and read back**: into values of the language's own types, checked first. rkyv: `from_bytes`. FlatBuffers: `Verifier`, then `UnPack`. Cap'n
-  Proto: by its readers, which test as they go.
-- **memcpy** copies as many bytes as archive-core's archive has: into new memory beside a write into a new buffer and a reading back, else into kept memory.
-
-Chains: the peers' limits of depth (64 levels in FlatBuffers and Cap'n Proto) are lifted and 8 GiB of stack are given, but for the last one, of 1,000,000
-boxes: there each format has its own limits and a stack of 8 MiB, and a cell says where one `refuses` the bytes or `stops` for want of stack.
-'not yet': archive-core can't do it yet.
-";
+const INTRODUCTION: &str = include_str!("introduction.md");
 
 fn tables(out: &mut String, rows: &[Row]) {
     for (set, limited) in SETS {
