@@ -3,13 +3,12 @@
 ghost use Rattle.std.specs.Prelude.{◌≤◌, IfOk};
 
 use crate::rounds::{LEVELS, next_end};
-use archive_core::api::{access, root_position};
+use archive_core::api::{HighValidator, access, root_position};
 use archive_core::error::Error;
 use archive_core::primitive::ArchivedU32;
 use archive_core::shape::Schema;
 use archive_core::string::ArchivedString;
 use archive_core::traits::Portable;
-use archive_core::validation::ArchiveValidator;
 use std::alloc::Global;
 
 // How many of `count` checks accept, all with one schema. Archives of `step` bytes stand one after another in `bytes`.
@@ -28,7 +27,7 @@ fn checked<T: Portable>(
         end = next_end(end, step, bytes.len());
         let archive = &bytes[..end];
         let depth = round.saturating_add(LEVELS);
-        let mut context = ArchiveValidator::with_max_depth(archive, Some(depth));
+        let mut context = HighValidator::with_max_depth(alloc, archive, Some(depth));
         if schema
             .check(archive, root_position::<T>(end), &mut context)
             .is_ok()

@@ -64,7 +64,7 @@ fn offset_of(plan: &Plan, i: usize) -> Option<usize> {
 fn a_list_holds_itself_behind_a_pointer(rt: HostRuntime) -> Result<(), Fail> {
     let defs = list(rt.alloc())?;
     let root = Expr::Named("List");
-    let (plan, node) = Plan::of(rt.alloc(), &defs, &root)?;
+    let (plan, node, _) = Plan::of(rt.alloc(), &defs, &root)?;
     assert_eq!(rt; plan.nodes.len(), 3);
     assert_eq!(rt; node, 2);
     assert_eq!(rt; size_of(&plan, node), Some(Some(8)));
@@ -78,7 +78,7 @@ fn a_list_holds_itself_behind_a_pointer(rt: HostRuntime) -> Result<(), Fail> {
 fn what_pointers_lead_to_comes_last(rt: HostRuntime) -> Result<(), Fail> {
     let defs = pairs(rt.alloc())?;
     let root = Expr::Named("Node");
-    let (plan, node) = Plan::of(rt.alloc(), &defs, &root)?;
+    let (plan, node, _) = Plan::of(rt.alloc(), &defs, &root)?;
     assert_eq!(rt; plan.nodes.len(), 4);
     assert_eq!(rt; node, 1);
     assert_eq!(rt; size_of(&plan, node), Some(Some(8)));
@@ -90,7 +90,7 @@ fn what_pointers_lead_to_comes_last(rt: HostRuntime) -> Result<(), Fail> {
 fn what_has_no_byte_to_look_at_is_free(rt: HostRuntime) -> Result<(), Fail> {
     let pair = Expr::Record(vec![in rt.alloc(); number(), Expr::Leaf(Kind::Unit)]?);
     let many = Expr::Array(3, Box::new(rt.alloc(), pair)?);
-    let (plan, node) = Plan::of(rt.alloc(), &[], &many)?;
+    let (plan, node, _) = Plan::of(rt.alloc(), &[], &many)?;
     assert_eq!(rt; plan.nodes.len(), 4);
     assert_eq!(rt; size_of(&plan, node), Some(Some(12)));
     assert_eq!(rt; is_free_at(&plan, node), Some(true));
@@ -101,7 +101,7 @@ fn what_has_no_byte_to_look_at_is_free(rt: HostRuntime) -> Result<(), Fail> {
 fn sizes_above_the_greatest_are_none(rt: HostRuntime) -> Result<(), Fail> {
     let huge = Expr::Array(usize::MAX, Box::new(rt.alloc(), number())?);
     let root = Expr::Record(vec![in rt.alloc(); Expr::Leaf(Kind::Bool), huge]?);
-    let (plan, node) = Plan::of(rt.alloc(), &[], &root)?;
+    let (plan, node, _) = Plan::of(rt.alloc(), &[], &root)?;
     assert_eq!(rt; size_of(&plan, node), Some(None));
     assert_eq!(rt; align_of(&plan, node), Some(4));
     Ok(())
@@ -110,7 +110,7 @@ fn sizes_above_the_greatest_are_none(rt: HostRuntime) -> Result<(), Fail> {
 #[test]
 fn a_shared_pointee_is_kept_as_written(rt: HostRuntime) -> Result<(), Fail> {
     let root = Expr::Weak(RC, Box::new(rt.alloc(), Pointee::Run(number()))?);
-    let (plan, node) = Plan::of(rt.alloc(), &[], &root)?;
+    let (plan, node, _) = Plan::of(rt.alloc(), &[], &root)?;
     assert_eq!(rt; plan.nodes.len(), 2);
     assert_eq!(rt; node, 0);
     match plan.sorts.get(0) {
