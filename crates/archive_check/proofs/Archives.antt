@@ -1,5 +1,5 @@
 -- What a check of a type's schema says of a buffer.
-use Rattle.std.proofs.Common.{◌≡◌, ◌⊎◌, inl, inr, ⊎_elim, ℕ, ◌<◌, ◌^◌, List, [], ◌++◌, length, Some, None, Option, Contains, arith, refl, sym, ap, subst, ◌∙◌}
+use Rattle.std.proofs.Common.{◌≡◌, ◌≢◌, ◌⊎◌, inl, inr, ⊎_elim, ℕ, ◌<◌, ◌^◌, List, [], ◌++◌, length, Some, None, Option, Contains, arith, refl, sym, ap, subst, ◌∙◌}
 use Rattle.std.proofs.Math.Logic.{∥∥₁_elim, ∥∥₁_map, ∥∥₁_prop}
 use Rattle.std.proofs.lemmas.List.Elements.{Contains-append_left, Contains-append_right, Contains-append_cases}
 use Rattle.archive_check.specs.declared.error.Error.{Error}
@@ -63,9 +63,9 @@ module _ (D : Definitions) (X : Shape) (well : WellFormed (listed D) X) (no_othe
     };
   })
 
--- a context of a whole buffer, without a limit, that met nothing
-pub is_whole : (s : RangeState) (met : Positions) (bytes : List ℕ) → s ≡ whole (length bytes) None → met ≡ nothing_met → IsWhole s met bytes
-is_whole s met bytes e f = rw (e, f) (record { fresh = record { nothing = λ p. refl; levels = λ h. cc h; few = λ d h. cc h }; start = refl; end = refl })
+-- a context of a whole buffer that met nothing
+pub is_whole : (s : RangeState) (met : Positions) (bytes : List ℕ) (depth : Option ℕ) → depth ≢ Some 0 → ((d : ℕ) → depth ≡ Some d → d < 18446744073709551616) → s ≡ whole (length bytes) depth → met ≡ nothing_met → IsWhole s met bytes
+is_whole s met bytes depth levels few e f = rw (e, f) (record { fresh = record { nothing = λ p. refl; levels = levels; few = few }; start = refl; end = refl })
 
 -- What a check says with a type's schema, it says with each that knows the type's definitions.
 module _ (r : RustSchema) (D : Definitions) (X : Shape) (bytes : List ℕ) (limit : Option ℕ) (pos : ℕ) (made : IsSchemaOf r X D) where

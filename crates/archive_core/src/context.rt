@@ -1,6 +1,6 @@
 //! The context of a check of a whole buffer.
 
-ghost use Rattle.std.specs.Prelude.{◌≡◌, None, length};
+ghost use Rattle.std.specs.Prelude.{◌≡◌, ◌≢◌, Some, None};
 ghost use Rattle.archive_check.specs.Exact.{IsWhole};
 
 use archive_check::error::Error;
@@ -13,7 +13,7 @@ use archive_check::validation::{
 use std::alloc::Global;
 use std::ops::Range;
 
-/// The range of one buffer, without a limit of depth, and the shared positions in it. rkyv has the name for a `Validator` of the two.
+/// The range of one buffer and the shared positions in it. rkyv has the name for a `Validator` of the two.
 #[derive(Drop)]
 pub struct HighValidator<'a> {
     archive: ArchiveValidator<'a>,
@@ -21,14 +21,24 @@ pub struct HighValidator<'a> {
 }
 
 impl<'a> HighValidator<'a> {
-    /// The whole of `bytes`, of which nothing was met yet. Memory comes from `alloc`, and none is taken yet.
-    #[tactic(auto, using(archive_check::proofs::Archives::is_whole))]
+    /// The whole of `bytes`, of which nothing was met yet, with no limit of depth. Memory comes from `alloc`, and none is taken yet.
     pub fn new(alloc: Global, bytes: &'a [u8]) -> HighValidator<'a>
         ensures whole { IsWhole (⟦<HighValidator<'a> as Context>⟧.state result) (⟦<HighValidator<'a> as Context>⟧.positions result) bytes.now }
         ensures unlimited { (⟦<HighValidator<'a> as Context>⟧.state result).depth ≡ None }
     {
+        HighValidator::with_max_depth(alloc, bytes, None)
+    }
+
+    /// The whole of `bytes`, of which nothing was met yet; of `depth` levels the last lets no region be entered. Memory comes from `alloc`, and none
+    /// is taken yet.
+    pub fn with_max_depth(alloc: Global, bytes: &'a [u8], depth: Option<usize>) -> HighValidator<'a>
+        requires { depth ≢ Some 0 }
+        ensures whole { IsWhole (⟦<HighValidator<'a> as Context>⟧.state result) (⟦<HighValidator<'a> as Context>⟧.positions result) bytes.now }
+        ensures limited { (⟦<HighValidator<'a> as Context>⟧.state result).depth ≡ depth }
+    {
+        prove!(depth.unwrap_or(0) <= usize::MAX);
         HighValidator {
-            archive: ArchiveValidator::new(bytes),
+            archive: ArchiveValidator::with_max_depth(bytes, depth),
             shared: SharedValidator::new(alloc),
         }
     }
