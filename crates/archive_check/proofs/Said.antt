@@ -79,6 +79,10 @@ out_leads {s = s} {bytes = bytes} {q = q} o l c =
     let there : pos q +ℤ i32_at bytes (q + 4) ≡ pos t = e in
     rw there (refl, i)
 
+-- it is a view of its own
+pub out_viewed : (D : Definitions) (bytes : List ℕ) (q n : ℕ) → IsOutOfLine bytes q → Viewed D bytes q (one str) n → Viewed D bytes (target_from bytes q (q + 4)) text (decoded_length (u32_at bytes q))
+out_viewed D bytes q n o v = ∥∥₁_map v (λ (s, k, l). (s, k, (out_leads o l (lies_reads s bytes l).1).1))
+
 string_lies : {s : Schema} {D : Definitions} {bytes : List ℕ} {q n : ℕ} (b : Bool) → nat_eq (slice_index bytes q / 64) 2 ≡ b → Knows s D → Lies s bytes q (one str) n → Readable bytes q (one str) n
 string_lies {s = s} {bytes = bytes} {q = q} true e k l =
     let o : IsOutOfLine bytes q = grind (arith, nat_tests) in

@@ -31,11 +31,7 @@ impl<'a> HighValidator<'a> {
 
     /// The whole of `bytes`, of which nothing was met yet; of `depth` levels the last lets no region be entered. Memory comes from `alloc`, and none
     /// is taken yet.
-    pub fn with_max_depth(
-        alloc: Global,
-        bytes: &'a [u8],
-        depth: Option<usize>,
-    ) -> HighValidator<'a>
+    pub fn with_max_depth(alloc: Global, bytes: &'a [u8], depth: Option<usize>) -> HighValidator<'a>
         requires { depth ≢ Some 0 }
         ensures whole { IsWhole (⟦<HighValidator<'a> as Context>⟧.state result) (⟦<HighValidator<'a> as Context>⟧.positions result) bytes.now }
         ensures limited { (⟦<HighValidator<'a> as Context>⟧.state result).depth ≡ depth }

@@ -1,6 +1,6 @@
 // Worked rows: values with their archives, and buffers that are refused.
 
-ghost use Rattle.std.specs.Prelude.{◌≡◌, ⊤, refl, [], pos, length, IfOk, OnOk, IfErr};
+ghost use Rattle.std.specs.Prelude.{◌≡◌, ⊤, refl, [], pos, length, IfOk, OnOk, IfErr, ◌-◌};
 ghost use Rattle.std.specs.Int.{w32};
 ghost use Rattle.std.proofs.Common.{inl, inr};
 ghost use Rattle.archive_check.specs.Shape.{array, leaf, number, one, unsigned};
@@ -9,8 +9,13 @@ ghost use Rattle.archive_check.specs.Value.{list, number as number_value};
 ghost use Rattle.archive_core.specs.Keyed.{repeated_keyed_by_none, stays};
 ghost use Rattle.archive_core.specs.Repeated.{repeated};
 ghost use Rattle.archive_core.specs.Writing.{Fresh, Resolves};
+ghost use Rattle.archive_check.specs.LeafLayout.{no_definition_reached};
+ghost use Rattle.archive_check.specs.Archives.{IsValueOf};
 
-use crate::api::{access, access_pos, from_bytes, root_position, to_bytes, to_bytes_in};
+use crate::api::{
+    HighValidator, access, access_pos, access_pos_with_context, access_with_context,
+    check_pos_with_context, from_bytes, root_position, to_bytes, to_bytes_in,
+};
 use crate::error::Error;
 use crate::place::Place;
 use crate::primitive::{
@@ -19,14 +24,13 @@ use crate::primitive::{
 };
 use crate::rel_ptr::signed_offset;
 use crate::ser::{Buffer, Positional, ResolveExt, Serializer, Writer};
-use crate::shape::{Defs, Expr, IntegerKind, Kind, Schema};
+use crate::shape::{Defs, Expr, Schema};
 use crate::sharing::{Share, Sharing, SharingExt};
 use crate::string::{ArchivedStr, ArchivedString, Text, repr};
 use crate::traits::{
     Archive, ArchivePointee, ArchiveUnsized, Deserialize, DeserializeUnsized, Portable,
     SerializeUnsized,
 };
-use crate::validation::ArchiveValidator;
 use crate::view::{Part, Ref};
 use std::alloc::Global;
 use std::test::Fail;
@@ -405,15 +409,58 @@ fn offsets_between_positions(rt: HostRuntime) {
 #[test]
 fn a_schema_is_kept_and_checks(rt: HostRuntime) -> Result<(), Fail> {
     let schema = Schema::of::<ArchivedString>(rt.alloc())?;
-    let layout = schema.layout(&Expr::Str)?;
-    assert_eq!(rt; (layout.size, layout.align), (8, 4));
-    let layout = schema.layout(&Expr::Leaf(Kind::Number(IntegerKind::U32)))?;
-    assert_eq!(rt; (layout.size, layout.align), (4, 4));
     let bytes = b"hello world\0\x8b\0\0\0\xf4\xff\xff\xff";
-    let mut context = ArchiveValidator::new(bytes);
+    let mut context = HighValidator::new(rt.alloc(), bytes);
     schema.check(bytes, 12, &mut context)?;
     assert_eq!(rt; context.subtrees(), 2);
     Ok(())
+}
+
+#[test]
+fn a_context_limits_the_depth(rt: HostRuntime) -> Result<(), Fail> {
+    let bytes = b"hello world\0\x8b\0\0\0\xf4\xff\xff\xff";
+    for depth in [1, 2] {
+        let mut context = HighValidator::with_max_depth(rt.alloc(), bytes, Some(depth));
+        assert_eq!(rt;
+            check_pos_with_context::<ArchivedString, HighValidator<'_>>(
+                rt.alloc(),
+                bytes,
+                12,
+                &mut context,
+            ),
+            Err(Error::ExceededMaximumSubtreeDepth),
+            "at depth {depth}"
+        );
+    }
+    let mut context = HighValidator::with_max_depth(rt.alloc(), bytes, Some(3));
+    let view = access_with_context::<ArchivedString, HighValidator<'_>>(
+        rt.alloc(),
+        bytes,
+        &mut context,
+    )?;
+    assert_eq!(rt; view.as_str(), "hello world");
+    let mut context = HighValidator::with_max_depth(rt.alloc(), bytes, None);
+    let view = access_pos_with_context::<ArchivedString, HighValidator<'_>>(
+        rt.alloc(),
+        bytes,
+        12,
+        &mut context,
+    )?;
+    assert_eq!(rt; view.pos(), 12);
+    Ok(())
+}
+
+// The number that an archive denotes, by the contracts of `access` and `get` alone.
+fn read_root(alloc: Global, bytes: &[u8]) -> Result<u32, Error>
+    ensures { IfOk result (λ n. IsValueOf no_definition bytes.now (length bytes.now - 4) (leaf (number unsigned w32)) (number_value (pos n))) }
+{
+    let view = access::<ArchivedU32>(alloc, bytes)?;
+    Ok(view.get())
+}
+
+#[test]
+fn a_view_shows_what_is_denoted(rt: HostRuntime) {
+    assert_eq!(rt; read_root(rt.alloc(), b"\x2a\0\0\0"), Ok(42));
 }
 
 #[test]
@@ -431,24 +478,26 @@ fn a_place_is_resolved_and_written(rt: HostRuntime) -> Result<(), Fail> {
 
 #[test]
 fn a_text_of_its_own_is_read(rt: HostRuntime) -> Result<(), Fail> {
-    let part = Part {
-        bytes: b"hello world",
-        pos: 6,
-        len: 5,
-    };
-    let view: Ref<'_, ArchivedStr> = Ref::at(part);
-    assert_eq!(rt; view.as_str(), "world");
-    assert_eq!(rt; view.len(), 5);
+    let bytes = b"hello world\0\x8b\0\0\0\xf4\xff\xff\xff";
+    let string = access_pos::<ArchivedString>(rt.alloc(), bytes, 12)?;
+    assert_eq!(rt; string.as_str(), "hello world");
+    let view: Ref<'_, ArchivedStr> = Ref::at(Part {
+        bytes,
+        pos: 0,
+        len: 11,
+    });
+    assert_eq!(rt; view.as_str(), "hello world");
+    assert_eq!(rt; view.len(), 11);
     assert_eq!(rt;
         <ArchivedStr as DeserializeUnsized<String, ()>>::deserialize_metadata(view),
-        5
+        11
     );
     let text = <ArchivedStr as DeserializeUnsized<String, ()>>::deserialize_unsized(
         rt.alloc(),
         view,
         &mut (),
     )?;
-    assert_eq!(rt; text.as_str(), "world");
+    assert_eq!(rt; text.as_str(), "hello world");
     Ok(())
 }
 
@@ -483,7 +532,7 @@ impl Portable for ArchivedSevens {
 
     ghost has_layout = { record { solved = λ s k. refl } };
 
-    ghost no_others = { no_definition_reached str };
+    ghost no_others = { no_definition_reached (array 25 (leaf (number unsigned w32))) };
 
     fn size() -> usize {
         100
