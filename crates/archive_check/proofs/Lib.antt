@@ -78,4 +78,5 @@ pub mod Chained
 pub mod Planned
 pub mod Suiting
 pub mod ExtentsOf
+pub mod Defining
 pub mod ClosedAgain

@@ -23,6 +23,7 @@ pub mod Laws
 pub mod Definitions
 pub mod LeafFaults
 pub mod LeafLayout
+pub mod NamedLayout
 pub mod Readable
 pub mod Ranges
 pub mod Met
