@@ -9,9 +9,10 @@ ghost use Rattle.archive_check.specs.NamedLayout.{name_has_layout, name_reached}
 
 use crate::error::Error;
 use crate::expr::{Defs, Expr, FlavorInfo, IntegerKind, Kind, Pointee};
+use crate::layout::Layout;
 use crate::names::missing;
 use crate::shape::Schema;
-use crate::traits::{ArchivePointee, Portable};
+use crate::traits::{ArchivePointee, LayoutRaw, Portable, layout_of_run};
 use std::alloc::{AllocError, Global};
 use std::test::Fail;
 
@@ -79,10 +80,7 @@ fn layout_in(schema: &Schema, expr: &Expr) -> Option<Result<(usize, usize), Erro
     if missing(expr, &schema.definitions, false).is_some() {
         return None;
     }
-    match schema.layout(expr) {
-        Ok(layout) => Some(Ok((layout.size, layout.align))),
-        Err(error) => Some(Err(error)),
-    }
+    Some(numbers(schema.layout(expr)))
 }
 
 // A choice whose variants hold so much.
@@ -179,5 +177,30 @@ fn names_have_the_layouts_of_their_definitions(rt: HostRuntime) -> Result<(), Fa
     let record = Expr::Record(vec![in alloc; number(IntegerKind::U8), id]?);
     assert_eq!(rt; layout_in(&schema, &record), Some(Ok((16, 8))));
     assert_eq!(rt; layout_in(&schema, &Expr::Named("ArchivedIds")), None);
+    Ok(())
+}
+
+fn numbers(layout: Result<Layout, Error>) -> Result<(usize, usize), Error> {
+    match layout {
+        Ok(layout) => Ok((layout.size, layout.align)),
+        Err(error) => Err(error),
+    }
+}
+
+#[test]
+fn regions_have_layouts(rt: HostRuntime) -> Result<(), Fail> {
+    assert_eq!(rt; numbers(ArchivedId::layout_raw(0)), Ok((8, 8)));
+    assert_eq!(rt; numbers(<()>::layout_raw(0)), Ok((0, 1)));
+    assert_eq!(rt; numbers(layout_of_run::<ArchivedId>(0)), Ok((0, 8)));
+    assert_eq!(rt; numbers(layout_of_run::<ArchivedId>(3)), Ok((24, 8)));
+    assert_eq!(rt;
+        numbers(layout_of_run::<u8>(usize::MAX)),
+        Ok((usize::MAX, 1))
+    );
+    assert_eq!(rt; numbers(layout_of_run::<()>(usize::MAX)), Ok((0, 1)));
+    assert_eq!(rt;
+        numbers(layout_of_run::<ArchivedId>(1 << 61)),
+        Err(Error::LayoutTooLarge)
+    );
     Ok(())
 }
