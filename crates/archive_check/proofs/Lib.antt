@@ -80,6 +80,7 @@ pub mod Viewed
 pub mod Said
 pub mod Suiting
 pub mod ExtentsOf
+pub mod Defining
 pub mod ClosedAgain
 pub mod Archives
 pub mod Skipping

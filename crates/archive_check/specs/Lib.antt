@@ -22,6 +22,8 @@ pub mod Plain
 pub mod Laws
 pub mod Definitions
 pub mod LeafLayout
+pub mod NamedLayout
+pub mod RawLayout
 pub mod Readable
 pub mod Ranges
 pub mod Met

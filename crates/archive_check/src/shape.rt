@@ -15,6 +15,8 @@ use crate::validation::{ArchiveContext, SharedContext};
 use std::alloc::Global;
 
 mod layouts;
+#[cfg(test)]
+mod tests;
 
 /// An expression, with the definitions of the names that it reaches. It is compiled once, and checks any number of buffers.
 #[derive(Drop)]
