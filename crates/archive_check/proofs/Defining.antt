@@ -1,10 +1,10 @@
 -- One definition, put behind others.
-use Rattle.std.proofs.Common.{◌≡◌, ◌≢◌, ◌⊎◌, inl, inr, ⊎_elim, List, [], ◌∷◌, ◌++◌, refl, sym, ap, ◌∙◌, subst, arith, Bool, true, false, Option, Some, None, Result, Ok, Err, if◌then◌else◌, Contains, OnOk, IfErr}
+use Rattle.std.proofs.Common.{◌≡◌, ◌⊎◌, inl, inr, ⊎_elim, [], ◌∷◌, ◌++◌, refl, sym, ap, ◌∙◌, subst, arith, Bool, true, false, Option, Some, None, Ok, Err, if◌then◌else◌, Contains}
 use Rattle.archive_check.specs.declared.error.Error.{Error}
 use Rattle.archive_check.specs.declared.error.Error.TheVariants.{OutOfMemory, ShapeConflict}
 use Rattle.archive_check.specs.Shape.{Name, Shape, Table, definition}
 use Rattle.archive_check.specs.Added.{IsAddAnswer}
-use Rattle.archive_check.specs.Definitions.{Definitions, defines, listed, Extended, Conflicts}
+use Rattle.archive_check.specs.Definitions.{defines, listed, Extended, Conflicts}
 use Rattle.archive_check.proofs.Named.{definition_here, append_known, append_unknown, push_some}
 use Rattle.archive_check.proofs.Descent.{contains_cases, contains_first}
 use Rattle.archive_check.proofs.WellFormed.{found_stands}

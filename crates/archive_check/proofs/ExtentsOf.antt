@@ -5,7 +5,7 @@ use Rattle.std.proofs.Math.Bool.{Bool-set}
 use Rattle.std.specs.Coded.{le_prop}
 use Rattle.std.proofs.Props.{props}
 use Rattle.std.proofs.lemmas.Bool.Decides.{nat_tests}
-use Rattle.std.proofs.Common.{◌≡◌, ℕ, refl, sym, ap, ap₂, ◌∙◌, subst, ◌+◌, ◌<◌, ◌≤◌, ◌^◌, max, arith, length, Bool, true, false, cond, is_some, Option, Some, None, List}
+use Rattle.std.proofs.Common.{◌≡◌, ℕ, refl, sym, ap, ap₂, ◌∙◌, subst, ◌+◌, ◌<◌, ◌≤◌, ◌^◌, max, arith, length, Bool, true, false, cond, is_some, Option, Some, None}
 use Rattle.archive_check.specs.declared.plan.Node.{Node}
 use Rattle.archive_check.specs.declared.extents.Extent.{Extent}
 use Rattle.archive_check.specs.declared.shape.Schema.{Schema as RustSchema}
@@ -14,7 +14,7 @@ use Rattle.archive_check.specs.Layout.{Layouts, up, pointer_size, size_of, align
 use Rattle.archive_check.specs.Reads.{Schema, LaidOut}
 use Rattle.archive_check.specs.Runs.{IsAt}
 use Rattle.archive_check.specs.Names.{missing}
-use Rattle.archive_check.specs.Schemas.{table_in, Suits}
+use Rattle.archive_check.specs.Schemas.{table_in}
 use Rattle.archive_check.specs.Fitting.{fits, rounded, sum_of, greater_of}
 use Rattle.archive_check.specs.Growing.{node_of}
 use Rattle.archive_check.specs.Extents.{Ends, HasExtent, PartsSoFar, VariantsSoFar}

@@ -1,6 +1,6 @@
 // The layouts of expressions.
 
-ghost use Rattle.std.specs.Prelude.{◌≡◌, refl, codes};
+ghost use Rattle.std.specs.Prelude.{refl, codes};
 ghost use Rattle.std.proofs.Common.{inl, inr};
 ghost use Rattle.std.specs.Int.{w64};
 ghost use Rattle.archive_check.specs.Shape.{one, named, leaf, number, unsigned};

@@ -1,4 +1,4 @@
-use Rattle.std.proofs.Common.{◌≡◌, ⊎_elim, ◌+◌, ◌<◌, ap, sym, ◌∙◌, subst, arith, refl, Some, None, false, drop}
+use Rattle.std.proofs.Common.{⊎_elim, ◌+◌, ◌<◌, ap, sym, ◌∙◌, subst, arith, refl, Some, false, drop}
 use Rattle.archive_check.specs.Expressions.{kind_of, flavor_of, shape_of, pointee_of, shapes_in, variants_in}
 use Rattle.archive_check.specs.Sizes.{variants_size}
 use Rattle.archive_check.specs.Shape.{parts, choice, array, boxed, shared, weak, variant}
