@@ -83,3 +83,4 @@ pub mod Archives
 pub mod Skipping
 pub mod Passing
 pub mod Unshared
+pub mod Before
