@@ -90,3 +90,4 @@ pub mod Unshared
 pub mod Standing
 pub mod Cleaning
 pub mod Tightness
+pub mod Before
