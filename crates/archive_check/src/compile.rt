@@ -10,13 +10,13 @@ ghost use Rattle.archive_check.specs.Compiled.{Compiled, Leads, CompiledParts, C
 
 use crate::error::Error;
 use crate::expr::{Expr, FlavorInfo, Pointee};
+use crate::extents::{offset_of, pointer_size, times};
 use crate::growing::{
     Known, Laid, Row, Spans, extend_parts, extend_variants, find, is_free, push, push_laid,
     push_leaf, push_sort,
 };
 use crate::plan::{Job, Plan, Target};
 use crate::queue::{Queue, wait};
-use crate::extents::{offset_of, pointer_size, times};
 use std::alloc::Global;
 
 // A sort more, with a copy of its pointee.

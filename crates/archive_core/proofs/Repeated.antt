@@ -35,4 +35,4 @@ module _ (D : Definitions) (X : Shape) (L : Layout) (a : List ℕ) (v : Value) (
 pub resolves_sevens : (D : Definitions) (p n : ℕ) (b : List ℕ) → b ≡ replicate n 7 → n ≡ 100 → Resolves D p b (array 25 (leaf (number_kind unsigned w32))) (list (repeated 25 (number (pos 117901063))))
 resolves_sevens D p n b e m =
     rw (e, m) (resolves_repeated D (leaf (number_kind unsigned w32)) (record { size = 4; align = 4 }) (7 ∷ 7 ∷ 7 ∷ 7 ∷ []) (number (pos 117901063)) (record { solved = λ s k. refl }) refl
-      (λ q. resolves_usize D q 117901063 (7 ∷ 7 ∷ 7 ∷ 7 ∷ []) (omega arith) refl) 25 p)
+    (λ q. resolves_usize D q 117901063 (7 ∷ 7 ∷ 7 ∷ 7 ∷ []) (omega arith) refl) 25 p)
