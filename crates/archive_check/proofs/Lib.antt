@@ -34,3 +34,4 @@ pub mod Ordered
 pub mod Standing
 pub mod Cleaning
 pub mod Tightness
+pub mod Sameness

@@ -1,14 +1,13 @@
 -- Arrays of one value.
-use Rattle.std.proofs.Common.{◌≡◌, ℕ, zero, suc, pos, ◌+◌, ◌<◌, List, [], ◌∷◌, ◌++◌, length, replicate, refl, ap, arith, ◌^◌}
+use Rattle.std.proofs.Common.{◌≡◌, ℕ, zero, suc, pos, ◌+◌, List, [], ◌∷◌, length, replicate, refl, arith}
 use Rattle.std.specs.Int.{w32}
 use Rattle.archive_check.specs.Shape.{Shape, leaf, array, number as number_kind, unsigned}
 use Rattle.archive_check.specs.Layout.{Layout, size_of}
 use Rattle.archive_check.specs.Definitions.{Definitions, Knows, HasLayout}
 use Rattle.archive_check.specs.Value.{Value, list, number}
-use Rattle.archive_check.specs.Reads.{Schema, Reads, reads_array, ReadsRun, reads_none, reads_element}
-use Rattle.archive_check.specs.Tidy.{Stands, Neat, neat_array, NeatRun, neat_none, neat_element}
+use Rattle.archive_check.specs.Reads.{Schema, reads_array, ReadsRun, reads_none, reads_element}
+use Rattle.archive_check.specs.Tidy.{Stands, neat_array, NeatRun, neat_none, neat_element}
 use Rattle.archive_check.proofs.Standing.{stands_front, stands_back}
-use Rattle.archive_num.specs.Digits.{little_bytes}
 use Rattle.archive_core.specs.Writing.{Resolves}
 use Rattle.archive_core.specs.Repeated.{repeated, copies}
 use Rattle.archive_core.proofs.Appending.{size_is}
@@ -35,4 +34,4 @@ module _ (D : Definitions) (X : Shape) (L : Layout) (a : List ℕ) (v : Value) (
 pub resolves_sevens : (D : Definitions) (p n : ℕ) (b : List ℕ) → b ≡ replicate n 7 → n ≡ 100 → Resolves D p b (array 25 (leaf (number_kind unsigned w32))) (list (repeated 25 (number (pos 117901063))))
 resolves_sevens D p n b e m =
     rw (e, m) (resolves_repeated D (leaf (number_kind unsigned w32)) (record { size = 4; align = 4 }) (7 ∷ 7 ∷ 7 ∷ 7 ∷ []) (number (pos 117901063)) (record { solved = λ s k. refl }) refl
-      (λ q. resolves_usize D q 117901063 (7 ∷ 7 ∷ 7 ∷ 7 ∷ []) (omega arith) refl) 25 p)
+    (λ q. resolves_usize D q 117901063 (7 ∷ 7 ∷ 7 ∷ 7 ∷ []) (omega arith) refl) 25 p)

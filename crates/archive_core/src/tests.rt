@@ -6,7 +6,7 @@ ghost use Rattle.std.proofs.Common.{inl, inr};
 ghost use Rattle.archive_check.specs.Shape.{array, leaf, number, one, unsigned};
 ghost use Rattle.archive_check.specs.Definitions.{no_definition};
 ghost use Rattle.archive_check.specs.Value.{list, number as number_value};
-ghost use Rattle.archive_core.specs.Keyed.{repeated_keyed_by_none, stays};
+ghost use Rattle.archive_core.specs.Keyed.{numbers_keyed, stays};
 ghost use Rattle.archive_core.specs.Repeated.{repeated};
 ghost use Rattle.archive_core.specs.Writing.{Fresh, Resolves};
 
@@ -434,7 +434,7 @@ impl Archive for Sevens {
 
     ghost hinders_at = { λ _ _ _ _. ⊥ };
 
-    ghost keyed = { λ _. repeated_keyed_by_none 25 (number_value (pos 117901063)) tt };
+    ghost keyed = { λ _. numbers_keyed 25 (pos 117901063) };
 
     ghost forward = { λ _ s. stays s };
 

@@ -1,5 +1,3 @@
-use Rattle.std.proofs.Common.{◌∙◌, ap}
-use Rattle.archive_num.specs.Digits.{is_zero}
 use Rattle.archive_core.proofs.Shown.{number_shown, not_zero_shown}
 use Rattle.archive_core.proofs.view.Ref+NonZero+N.get.Goals as goal
 
