@@ -11,3 +11,4 @@ pub mod Regions
 pub mod WholeCauses
 pub mod Repeated
 pub mod Shared
+pub mod SharedCauses
