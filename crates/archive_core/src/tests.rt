@@ -1,21 +1,21 @@
 // Worked rows: values with their archives, and buffers that are refused.
 
-ghost use Rattle.std.specs.Prelude.{◌≡◌, ⊤, refl, [], pos, length, IfOk, OnOk, IfErr};
+ghost use Rattle.std.specs.Prelude.{◌≡◌, ⊤, refl, ℕ, [], pos, length, string_bytes, IfOk, OnOk, IfErr};
 ghost use Rattle.std.specs.Int.{w32};
 ghost use Rattle.std.proofs.Common.{inl, inr};
-ghost use Rattle.archive_check.specs.Shape.{array, leaf, number, one, unsigned};
+ghost use Rattle.archive_check.specs.Shape.{array, leaf, number, one, str, unsigned};
 ghost use Rattle.archive_check.specs.Definitions.{no_definition};
-ghost use Rattle.archive_check.specs.Value.{list, number as number_value};
+ghost use Rattle.archive_check.specs.Value.{list, number as number_value, text_value};
 ghost use Rattle.archive_core.specs.Keyed.{numbers_keyed, stays};
 ghost use Rattle.archive_core.specs.Repeated.{repeated};
-ghost use Rattle.archive_core.specs.Writing.{Fresh, Resolves};
+ghost use Rattle.archive_core.specs.Writing.{Archives, Fresh, Resolves};
 
 use crate::api::{access, access_pos, from_bytes, root_position, to_bytes, to_bytes_in};
 use crate::error::Error;
 use crate::place::Place;
 use crate::primitive::{ArchivedU32, ArchivedUsize};
 use crate::rel_ptr::signed_offset;
-use crate::ser::{Buffer, Positional, ResolveExt, Serializer, Writer};
+use crate::ser::{Buffer, Positional, ResolveExt, Serializer, Writer, serialize_one};
 use crate::shape::{Defs, Expr, IntegerKind, Kind, Schema};
 use crate::sharing::{Share, Sharing, SharingExt};
 use crate::string::{ArchivedStr, ArchivedString, Text, repr};
@@ -80,6 +80,43 @@ fn numbers_and_their_archives(rt: HostRuntime) -> Result<(), Fail> {
         let again = to_bytes(rt.alloc(), &archived)?;
         assert_eq!(rt; again.as_slice(), archive);
     }
+    Ok(())
+}
+
+#[test]
+fn numbers_of_the_machine_that_dont_fit(rt: HostRuntime) -> Result<(), Fail> {
+    let bytes = to_bytes(rt.alloc(), &4_294_967_295usize)?;
+    assert_eq!(rt; bytes.as_slice(), b"\xff\xff\xff\xff".as_slice());
+    assert_eq!(rt;
+        to_bytes(rt.alloc(), &4_294_967_296usize).err(),
+        Some(Error::NumberTooLarge)
+    );
+    assert_eq!(rt;
+        to_bytes(rt.alloc(), &-2_147_483_649isize).err(),
+        Some(Error::NumberTooLarge)
+    );
+    Ok(())
+}
+
+// What the law says of a string: its archive, from the contract of `to_bytes` alone.
+fn archive_of(alloc: Global, text: &String) -> Result<Vec<u8>, Error>
+    ensures { IfOk result (λ bytes. (root : ℕ) × Archives no_definition [] bytes.items root str 8 [] (text_value (string_bytes text.now))) }
+{
+    to_bytes(alloc, text)
+}
+
+#[test]
+fn a_value_is_laid_out_as_a_region(rt: HostRuntime) -> Result<(), Fail> {
+    let text = String::from_str(rt.alloc(), "hello world")?;
+    let archive = archive_of(rt.alloc(), &text)?;
+    let mut serializer = Serializer::new(Vec::new(rt.alloc()), rt.alloc(), ());
+    assert_eq!(rt; serialize_one(&text, &mut serializer)?, 12);
+    assert_eq!(rt; serialize_one(&42u16, &mut serializer)?, 20);
+    assert_eq!(rt; serialize_one(&7u64, &mut serializer)?, 24);
+    let bytes = serializer.into_writer();
+    let (first, rest) = bytes.split_at(20);
+    assert_eq!(rt; first, archive.as_slice());
+    assert_eq!(rt; rest, b"\x2a\0\0\0\x07\0\0\0\0\0\0\0".as_slice());
     Ok(())
 }
 
