@@ -1,9 +1,10 @@
--- Values without keys, and plans that go nowhere.
-use Rattle.std.proofs.Common.{ℕ, ℤ, zero, suc, ◌≤◌, List, [], arith}
+-- Values without keys, and plans that go on.
+use Rattle.std.proofs.Common.{ℕ, ℤ, zero, suc, ◌+◌, ◌≤◌, List, [], length, nat_lt, if◌then◌else◌, Bool, true, false, arith}
 use Rattle.archive_check.specs.Value.{Value, number, text_value, list}
 use Rattle.archive_check.specs.Reached.{Names, names_list, NamesAmong, names_first, names_later}
 use Rattle.archive_core.specs.Plans.{Stand}
 use Rattle.archive_core.specs.Repeated.{repeated}
+use Rattle.archive_core.specs.TextPlans.{text_plan, string_plan}
 use Rattle.archive_core.specs.Writing.{HasKeys, IsKeyed}
 
 pub keyed_by_none : (v : Value) → HasKeys [] v → IsKeyed [] v
@@ -28,3 +29,13 @@ numbers_keyed n z = keyed_by_none (list (repeated n (number z))) (λ k h. absurd
 
 pub stays : (s : Stand) → s.place ≤ s.place
 stays s = omega arith
+
+pub text_forward : (bytes : List ℕ) (s : Stand) → s.place ≤ (text_plan bytes s).place
+text_forward bytes s = omega arith
+
+pub string_forward : (bytes : List ℕ) (s : Stand) → s.place ≤ (string_plan bytes s).place
+string_forward bytes s = by_test (nat_lt 8 (length bytes))
+  where
+    by_test : (b : Bool) → s.place ≤ (if b then text_plan bytes s else s).place
+    by_test true = omega arith
+    by_test false = omega arith
