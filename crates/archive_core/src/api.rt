@@ -1,7 +1,6 @@
 //! Whole archives: written, checked and read back.
 
 ghost use Rattle.std.specs.Prelude.{◌≡◌, ◌-◌, ◌⊎◌, ℕ, [], None, length, IfOk, IfErr};
-ghost use Rattle.archive_check.specs.Told.{Told};
 ghost use Rattle.archive_check.specs.declared.error.Error.TheVariants.{OutOfMemory};
 ghost use Rattle.archive_core.specs.Plans.{stand, at_start, GoesOn, Explains, HindersWhole, region_place, one_plan, IsOfWriting};
 ghost use Rattle.archive_core.specs.Writing.{Archives};
@@ -52,9 +51,10 @@ pub fn to_bytes_in<W: Writer + Drop, T: Serialize<Serializer<W, Global, ()>>>(
     ensures archived { IfOk result (λ w. (root : ℕ) × Archives T.Archived.definitions (W.told writer).bytes (W.told w).bytes root T.Archived.shape T.Archived.layout.size
         (T.keys value.now) (T.meaning value.now)) }
     ensures kept { IfOk result (λ w. IsBeginning (W.told writer).bytes (W.told w).bytes) }
-    ensures refused { IfErr result (λ e. (end : Told) × GoesOn (W.told writer) end × Explains (HindersWhole (T.hinders value.now (stand (W.told writer) (λ _. None))) (T.answers value.now (stand (W.told writer) (λ _. None))) (T.hinders_at value.now)
+    ensures goes_on { IfOk result (λ w. GoesOn (W.told writer) (W.told w)) }
+    ensures refused { IfErr result (λ e. (end : W) × GoesOn (W.told writer) (W.told end) × Explains (HindersWhole (T.hinders value.now (stand (W.told writer) (λ _. None))) (T.answers value.now (stand (W.told writer) (λ _. None))) (T.hinders_at value.now)
         T.Archived.layout (region_place T.Archived.layout (T.plan value.now (stand (W.told writer) (λ _. None)))))
-        (one_plan T.Archived.layout (T.plan value.now (stand (W.told writer) (λ _. None)))).place (W.told writer) end e) }
+        (one_plan T.Archived.layout (T.plan value.now (stand (W.told writer) (λ _. None)))).place (W.told writer) (W.told end) e) }
     ensures named { IfErr result IsOfWriting }
 {
     let (writer, root) = serialize_whole(alloc, value, writer);
