@@ -1,7 +1,6 @@
 -- The law of a shared value.
 use Rattle.std.proofs.Common.{◌≡◌, ◌⊎◌, inl, inr, ℕ, zero, suc, pos, ◌+◌, ◌<◌, ◌≤◌, List, [], ◌∷◌, ◌++◌, length, refl, sym, ap, ◌∙◌, append_assoc, length-append, arith, Option, Some, None, Bool, true, false, cond, ◌&&◌, nat_eq, Contains, nat_cmp, is_eq, Ordering, Less, Equal, Greater}
 use Rattle.std.proofs.lemmas.Bool.{cases_lt}
-use Rattle.std.proofs.lemmas.List.{append-nil}
 use Rattle.std.specs.FinMap.{get, insert, get-insert, nat_cmp-IsAntisymmetric}
 use Rattle.std.specs.Cmp.{nat_cmp_total, tied_itself}
 use Rattle.std.specs.Ordering.{eq_by_cmp}
@@ -18,7 +17,7 @@ use Rattle.archive_check.specs.Held.{States, Held}
 use Rattle.archive_check.proofs.Standing.{stands_fits, stands_zero, stands_begun}
 use Rattle.archive_check.proofs.Tightness.{tight_append, tidy_append}
 use Rattle.archive_core.specs.Writing.{Naming, World, Holds, Known, Unseen, Found, Appends, Finishes, AreFinished, Writes, LaysShared, Sets, to_shared}
-use Rattle.archive_core.proofs.Appending.{longer, finishes_nothing}
+use Rattle.archive_core.proofs.Appending.{longer, finishes_nothing, finishes_wider}
 
 pub same_or_not : (k l : ℕ) → (k ≡ l) ⊎ (k ≡ l → ⊥)
 same_or_not k l = elim (cases_lt k l) [
@@ -281,25 +280,32 @@ writes_shared_new D old mid new ks x P n flavor t key tail s more tailz taill sa
     by_size : (t size l : ℕ) → l ≡ t + size → ◌≡◌ {A = ℕ} (cond (nat_eq l t) 1 0) (cond (nat_eq size 0) 1 0)
     by_size t size l e = grind arith
 
--- A shared value whose key is finished: nothing is written.
-pub writes_shared_again : (D : Definitions) (told : Held) (ks : List Naming) (x : Value) (P : Pointee) (n : ℕ) (flavor : Flavor) (t key : ℕ)
-    → told.states key ≡ Some (Some t)
-    → Writes D told told ((key, (entry flavor (to_shared t flavor P n), x)) ∷ ks) (hole (to_shared t flavor P n)) (shared_value key)
-writes_shared_again D told ks x P n flavor t key finished = record {
-  added = [];
-  grown = sym (append-nil told.bytes);
-  states = finishes_nothing _ told.states;
-  finished = finished_key told.states key t finished;
-  appends = λ w pending seen k known unseen. record {
-    regions = [];
-    last = seen;
-    tour = tour_again refl refl (known.typed key t (entry flavor (to_shared t flavor P n)) x finished k.named.0) (inl (known.closed key t finished)) tour_end;
-    tight = refl;
-    tidy = tt;
-    known = known;
-    below = λ q l. refl;
-    above = λ q l. refl;
-    found = λ q e h. inl h;
-  };
-  fills = λ w k. fills_shared refl (ap pos (sym (k.placed key t finished)));
-}
+-- A shared value whose key is finished: nothing is written, unless the states are none that a writer can have.
+pub writes_shared_again : (D : Definitions) (old new : Held) (ks : List Naming) (x : Value) (P : Pointee) (n : ℕ) (flavor : Flavor) (t key : ℕ) (tail : List ℕ)
+    → old.states key ≡ Some (Some t) → new.bytes ≡ old.bytes ++ tail → length tail ≡ cond (nat_eq (length old.bytes) t) 1 0 → new.states ≡ old.states
+    → Writes D old new ((key, (entry flavor (to_shared t flavor P n), x)) ∷ ks) (hole (to_shared t flavor P n)) (shared_value key)
+writes_shared_again D old new ks x P n flavor t key tail finished grown few same =
+    let there : new.states key ≡ Some (Some t) = rw same finished in
+    record {
+      added = tail;
+      grown = grown;
+      states = rw same (finishes_wider (length old.bytes) (length old.bytes) (length new.bytes) old.states old.states (longer old.bytes new.bytes tail grown) (finishes_nothing _ old.states));
+      finished = finished_key new.states key t there;
+      appends = λ w pending seen k known unseen. (
+          let end : length new.bytes ≡ length old.bytes = stays (length old.bytes) (length new.bytes) (length tail) t (ap length grown ∙ length-append old.bytes tail) few (known.below key t finished) in
+          rw (same, end) (record {
+            regions = [];
+            last = seen;
+            tour = tour_again refl refl (known.typed key t (entry flavor (to_shared t flavor P n)) x finished k.named.0) (inl (known.closed key t finished)) tour_end;
+            tight = refl;
+            tidy = tt;
+            known = known;
+            below = λ q l. refl;
+            above = λ q l. refl;
+            found = λ q e h. inl h;
+          }));
+      fills = λ w k. fills_shared refl (ap pos (sym (k.placed key t there)));
+    }
+  where
+    stays : (a b l t : ℕ) → b ≡ a + l → l ≡ cond (nat_eq a t) 1 0 → t < a → b ≡ a
+    stays a b l t e f less = grind arith

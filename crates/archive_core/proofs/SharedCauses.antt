@@ -1,5 +1,5 @@
 -- How the writing of a shared value goes, from that of its pointee.
-use Rattle.std.proofs.Common.{◌≡◌, inl, inr, ℕ, ◌+◌, ◌≤◌, List, length, refl, sym, ap, subst, ◌∙◌, arith, Option, Some, None, cond, nat_eq, Bool, true, false, Result, Ok, Err}
+use Rattle.std.proofs.Common.{◌≡◌, inl, inr, ℕ, length, refl, ap, subst, ◌∙◌, arith, Some, None, cond, nat_eq, Bool, true, false, Result, Ok, Err}
 use Rattle.std.proofs.lemmas.Bool.Decides.{nat_tests}
 use Rattle.std.specs.Map.{update}
 use Rattle.archive_check.specs.Told.{Told, KeyState}

@@ -1,5 +1,5 @@
 -- Values without keys, and plans that go on.
-use Rattle.std.proofs.Common.{ℕ, ℤ, zero, suc, ◌+◌, ◌≤◌, List, [], length, nat_lt, if◌then◌else◌, Bool, true, false, arith}
+use Rattle.std.proofs.Common.{ℕ, ℤ, zero, suc, ◌≤◌, List, [], length, nat_lt, if◌then◌else◌, Bool, true, false, arith}
 use Rattle.archive_check.specs.Value.{Value, number, text_value, list}
 use Rattle.archive_check.specs.Reached.{Names, names_list, NamesAmong, names_first, names_later}
 use Rattle.archive_core.specs.Plans.{Stand}

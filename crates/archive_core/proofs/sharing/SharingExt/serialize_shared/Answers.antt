@@ -1,4 +1,3 @@
-use Rattle.std.proofs.Common.{◌∙◌, sym}
 use Rattle.archive_core.specs.Plans.{no_memory}
 use Rattle.archive_core.proofs.Causes.{err_by}
 use Rattle.archive_core.proofs.SharedCauses.{shared_hindered, shared_pending, started_unknown, pending_known, finished_served}
