@@ -1,5 +1,5 @@
 -- How what is appended goes together.
-use Rattle.std.proofs.Common.{◌≡◌, ◌⊎◌, inl, inr, ℕ, ℤ, pos, ◌+◌, ◌-◌, ◌<◌, ◌≤◌, List, [], ◌∷◌, ◌++◌, length, refl, sym, ap, ◌∙◌, append_assoc, length-append, arith, Option, Some, None}
+use Rattle.std.proofs.Common.{◌≡◌, inl, inr, ℕ, ℤ, ◌+◌, ◌<◌, ◌≤◌, List, [], ◌∷◌, ◌++◌, length, refl, sym, ap, ◌∙◌, append_assoc, length-append, arith, Option, Some, None}
 use Rattle.std.proofs.lemmas.List.{append-nil}
 use Rattle.std.specs.FinMap.{get}
 use Rattle.archive_check.specs.Shape.{Shape, Pointee, one}
@@ -9,13 +9,14 @@ use Rattle.archive_check.specs.Value.{Pointer, Value, number, Values, value, no_
 use Rattle.archive_check.specs.Reads.{Schema}
 use Rattle.archive_check.specs.Tour.{Region, contents_one, Leads, Entry, Seen, tour_end, tour_unique, pointee_size, pointee_align, region_of}
 use Rattle.archive_check.specs.Denotes.{Fills, rename, fills_number, fills_box, fills_unique, fills_product, fills_case, fills_no_value, fills_value}
+use Rattle.archive_check.specs.Reached.{Names, names_product, names_case, names_box, names_first, names_later}
 use Rattle.archive_check.specs.Written.{after}
 use Rattle.archive_check.specs.Tidy.{Stands, AreZero, NeatPointee, neat_one}
 use Rattle.archive_check.specs.Held.{States, Held, Pads}
 use Rattle.archive_check.proofs.Compose.{tour_append}
 use Rattle.archive_check.proofs.Standing.{stands_fits, stands_zero, zero_nowhere, stands_begun}
 use Rattle.archive_check.proofs.Tightness.{tight_append, tidy_append}
-use Rattle.archive_core.specs.Writing.{Names, Naming, AreNamed, World, Holds, Known, Unseen, Found, Appends, Finishes, AreFinished, Writes, WritesAll, Puts, Lays, to_pointee}
+use Rattle.archive_core.specs.Writing.{NameMap, Naming, AreNamed, World, Holds, Known, Unseen, Found, Appends, Finishes, AreFinished, AllFinished, Writes, WritesAll, Puts, Lays, to_pointee}
 
 -- the layout, in a schema that knows the definitions
 
@@ -33,15 +34,15 @@ knows_left s D E h = record { has = h.has.0; laid_out = h.laid_out }
 pub knows_right : (s : Schema) (D E : Definitions) → Knows s (both D E) → Knows s E
 knows_right s D E h = record { has = h.has.1; laid_out = h.laid_out }
 
-pub named_left : (names : Names) (ks ls : List Naming) → AreNamed names (ks ++ ls) → AreNamed names ks
+pub named_left : (names : NameMap) (ks ls : List Naming) → AreNamed names (ks ++ ls) → AreNamed names ks
 named_left names [] ls h = tt
 named_left names (k ∷ ks) ls h = (h.0, named_left names ks ls h.1)
 
-pub named_right : (names : Names) (ks ls : List Naming) → AreNamed names (ks ++ ls) → AreNamed names ls
+pub named_right : (names : NameMap) (ks ls : List Naming) → AreNamed names (ks ++ ls) → AreNamed names ls
 named_right names [] ls h = h
 named_right names (k ∷ ks) ls h = named_right names ks ls h.1
 
-pub named_both : (names : Names) (ks ls : List Naming) → AreNamed names ks → AreNamed names ls → AreNamed names (ks ++ ls)
+pub named_both : (names : NameMap) (ks ls : List Naming) → AreNamed names ks → AreNamed names ls → AreNamed names (ks ++ ls)
 named_both names [] ls h i = i
 named_both names (k ∷ ks) ls h i = (h.0, named_both names ks ls h.1 i)
 
@@ -93,13 +94,24 @@ finishes_apart a b c s t u k l q (Some x) (Some y) is js h i m n at too =
     let first : x ≡ Some q = (let there = i.kept k x is in cc) in let second : y ≡ Some q = (let there = i.kept l y js in cc) in
     h.apart k l q m n (rw first at is) (rw second at js)
 
-pub finished_later : (s t : States) (ks : List Naming) → ((k : ℕ) (x : Option ℕ) → s k ≡ Some x → t k ≡ Some x) → AreFinished s ks → AreFinished t ks
-finished_later s t [] kept h = tt
-finished_later s t (k ∷ ks) kept h = ((h.0.0, kept k.0 (Some h.0.0) h.0.1), finished_later s t ks kept h.1)
+pub finished_later : (s t : States) (v : Value) → ((k : ℕ) (x : Option ℕ) → s k ≡ Some x → t k ≡ Some x) → AreFinished s v → AreFinished t v
+finished_later s t v kept h k n = (let (q, is) = h k n in (q, kept k (Some q) is))
 
-pub finished_both : (s : States) (ks ls : List Naming) → AreFinished s ks → AreFinished s ls → AreFinished s (ks ++ ls)
-finished_both s [] ls h i = i
-finished_both s (k ∷ ks) ls h i = (h.0, finished_both s ks ls h.1 i)
+pub finished_more : (s : States) (v : Value) (vs : Values) → AreFinished s v → AllFinished s vs → AllFinished s (value v vs)
+finished_more s v vs h i k (names_first n) = h k n
+finished_more s v vs h i k (names_later n) = i k n
+
+finished_none : (s : States) → AllFinished s no_value
+finished_none s k n = elim n [ ]
+
+finished_product : (s : States) (vs : Values) → AllFinished s vs → AreFinished s (product vs)
+finished_product s vs h k (names_product n) = h k n
+
+finished_case : (s : States) (tag : ℕ) (vs : Values) → AllFinished s vs → AreFinished s (case tag vs)
+finished_case s tag vs h k (names_case n) = h k n
+
+finished_box : (s : States) (v : Value) → AreFinished s v → AreFinished s (box v)
+finished_box s v h k (names_box n) = h k n
 
 pub finishes_both : (a b c : ℕ) (s t u : States) → a ≤ b → b ≤ c → Finishes a b s t → Finishes b c t u → Finishes a c s u
 finishes_both a b c s t u le ge h i = record {
@@ -166,7 +178,7 @@ appends_region w a b c s pending seen p t v le own leads aligned zeros neat ge e
       tour = tour_unique own leads h.tour tour_end;
       tight = tight_append a h.regions b (r ∷ []) c h.tight (aligned, ends);
       tidy = tidy_append w.schema w.bytes a h.regions b (r ∷ []) h.tight h.tidy (zeros, neat, behind, tt);
-      known = record { typed = h.known.typed; closed = h.known.closed; below = λ k q is. omega (arith, h.known.below k q is); opened = h.known.opened };
+      known = record { typed = h.known.typed; inner = h.known.inner; closed = h.known.closed; below = λ k q is. omega (arith, h.known.below k q is); opened = h.known.opened };
       below = h.below;
       above = λ q l. h.above q (omega arith);
       found = h.found;
@@ -177,12 +189,12 @@ longer old new added e = omega (arith, ap length e, length-append old added)
 
 -- laws of types
 
-pub writes_nothing : (D : Definitions) (told : Held) (v : Value) → pointers v ≡ [] → ((w : World) → Fills w.schema w.bytes v (rename w.position v)) → Writes D told told [] v v
-writes_nothing D told v none fills = record {
+pub writes_nothing : (D : Definitions) (told : Held) (v : Value) → pointers v ≡ [] → ((k : ℕ) → Names k v → ⊥) → ((w : World) → Fills w.schema w.bytes v (rename w.position v)) → Writes D told told [] v v
+writes_nothing D told v none nameless fills = record {
   added = [];
   grown = sym (append-nil told.bytes);
   states = finishes_nothing _ told.states;
-  finished = tt;
+  finished = λ k n. absurd (nameless k n);
   appends = λ w pending seen h known unseen. rw none (appends_nothing w _ told.states pending seen known);
   fills = λ w h. fills w;
 }
@@ -192,7 +204,7 @@ writes_none D told = record {
   added = [];
   grown = sym (append-nil told.bytes);
   states = finishes_nothing _ told.states;
-  finished = tt;
+  finished = finished_none told.states;
   appends = λ w pending seen h known unseen. appends_nothing w _ told.states pending seen known;
   fills = λ w h. fills_no_value;
 }
@@ -208,7 +220,7 @@ writes_cons D E old mid new ks ls v x vs xs h i =
       added = h.added ++ i.added;
       grown = i.grown ∙ ap (λ z. z ++ i.added) h.grown ∙ append_assoc old.bytes h.added i.added;
       states = finishes_both _ _ _ _ _ _ le ge h.states i.states;
-      finished = finished_both _ ks ls (finished_later _ _ ks i.states.kept h.finished) i.finished;
+      finished = finished_more new.states x xs (finished_later mid.states new.states x i.states.kept h.finished) i.finished;
       appends = λ w pending seen n known unseen. (
           let first = h.appends w pending seen (early w n) known (unseen_before _ _ _ seen ge unseen) in
           let second = i.appends w pending first.last (holds_right w D E _ _ ks ls n) first.known (unseen_later _ _ _ seen first.last le first.above unseen) in
@@ -217,7 +229,7 @@ writes_cons D E old mid new ks ls v x vs xs h i =
     }
 
 pub writes_product : (D : Definitions) (old new : Held) (ks : List Naming) (vs xs : Values) → WritesAll D old new ks vs xs → Writes D old new ks (product vs) (product xs)
-writes_product D old new ks vs xs h = record { added = h.added; grown = h.grown; states = h.states; finished = h.finished; appends = h.appends; fills = λ w n. fills_product (h.fills w n) }
+writes_product D old new ks vs xs h = record { added = h.added; grown = h.grown; states = h.states; finished = finished_product new.states xs h.finished; appends = h.appends; fills = λ w n. fills_product (h.fills w n) }
 
 -- the region of a pointee, and what it owns before it
 pub writes_laid : (D : Definitions) (old new : Held) (ks : List Naming) (p : ℕ) (P : Pointee) (n : ℕ) (x : Value) → Lays D old new ks p P n x → Writes D old new ks (hole (to_pointee p P n)) x
@@ -283,18 +295,21 @@ writes_case D old new ks tag v x h = record {
   added = h.added;
   grown = h.grown;
   states = h.states;
-  finished = h.finished;
+  finished = finished_case new.states tag _ (finished_more new.states x no_value h.finished (finished_none new.states));
   appends = λ w pending seen n known unseen. rw (append-nil (pointers v)) (h.appends w pending seen n known unseen);
   fills = λ w n. fills_case (fills_value (h.fills w n) fills_no_value);
 }
 
+finished_case_none : (tag k : ℕ) → Names k (case tag no_value) → ⊥
+finished_case_none tag k (names_case n) = elim n [ ]
+
 pub writes_empty_case : (D : Definitions) (told : Held) (tag : ℕ) → Writes D told told [] (case tag no_value) (case tag no_value)
-writes_empty_case D told tag = writes_nothing D told (case tag no_value) refl (λ w. fills_case fills_no_value)
+writes_empty_case D told tag = writes_nothing D told (case tag no_value) refl (finished_case_none tag) (λ w. fills_case fills_no_value)
 
 -- a box of what stands as a region of its own
 pub writes_box : (D : Definitions) (old new : Held) (ks : List Naming) (p : Pointer) (x : Value)
     → Writes D old new ks (hole p) x → Writes D old new ks (box (hole p)) (box x)
-writes_box D old new ks p x h = record { added = h.added; grown = h.grown; states = h.states; finished = h.finished; appends = h.appends; fills = λ w n. fills_box (h.fills w n) }
+writes_box D old new ks p x h = record { added = h.added; grown = h.grown; states = h.states; finished = finished_box new.states x h.finished; appends = h.appends; fills = λ w n. fills_box (h.fills w n) }
 
 pub writes_number : (D : Definitions) (told : Held) (z : ℤ) → Writes D told told [] (number z) (number z)
-writes_number D told z = writes_nothing D told (number z) refl (λ w. fills_number)
+writes_number D told z = writes_nothing D told (number z) refl (λ k n. elim n [ ]) (λ w. fills_number)

@@ -2,7 +2,7 @@ pub mod Coded
 pub mod Shown
 pub mod Appending
 pub mod Resolving
-pub mod Sameness
+pub mod Denoting
 pub mod StringsWritten
 pub mod Whole
 pub mod Causes
@@ -10,3 +10,5 @@ pub mod TextCauses
 pub mod Regions
 pub mod WholeCauses
 pub mod Repeated
+pub mod Shared
+pub mod SharedCauses

@@ -7,12 +7,12 @@ use Rattle.archive_check.specs.Definitions.{Definitions, HasLayout}
 use Rattle.archive_check.specs.Value.{Value}
 use Rattle.archive_check.specs.Told.{Told, KeepsKeys}
 use Rattle.archive_check.specs.Tidy.{IsZeroed}
-use Rattle.archive_check.specs.Held.{States, Held, held}
+use Rattle.archive_check.specs.Held.{States, held}
 use Rattle.archive_check.specs.declared.error.Error.{Error}
-use Rattle.archive_check.specs.declared.error.Error.TheVariants.{OutOfMemory, LayoutTooLarge}
+use Rattle.archive_check.specs.declared.error.Error.TheVariants.{LayoutTooLarge}
 use Rattle.archive_write.specs.Written.{ExplainsRefusal}
 use Rattle.archive_core.specs.Writing.{Resolves, Puts, Fresh}
-use Rattle.archive_core.specs.Plans.{Explains, no_memory, own_cause, HindersRegion}
+use Rattle.archive_core.specs.Plans.{Explains, own_cause, HindersRegion}
 use Rattle.archive_core.proofs.Causes.{explains_write}
 
 zeroed_replicate : (n : ℕ) → IsZeroed (replicate n 0)

@@ -1,14 +1,13 @@
 -- Arrays of one value.
-use Rattle.std.proofs.Common.{◌≡◌, ℕ, zero, suc, pos, ◌+◌, ◌<◌, List, [], ◌∷◌, ◌++◌, length, replicate, refl, ap, arith, ◌^◌}
+use Rattle.std.proofs.Common.{◌≡◌, ℕ, zero, suc, pos, ◌+◌, List, [], ◌∷◌, length, replicate, refl, arith}
 use Rattle.std.specs.Int.{w32}
 use Rattle.archive_check.specs.Shape.{Shape, leaf, array, number as number_kind, unsigned}
 use Rattle.archive_check.specs.Layout.{Layout, size_of}
 use Rattle.archive_check.specs.Definitions.{Definitions, Knows, HasLayout}
 use Rattle.archive_check.specs.Value.{Value, list, number}
-use Rattle.archive_check.specs.Reads.{Schema, Reads, reads_array, ReadsRun, reads_none, reads_element}
-use Rattle.archive_check.specs.Tidy.{Stands, Neat, neat_array, NeatRun, neat_none, neat_element}
+use Rattle.archive_check.specs.Reads.{Schema, reads_array, ReadsRun, reads_none, reads_element}
+use Rattle.archive_check.specs.Tidy.{Stands, neat_array, NeatRun, neat_none, neat_element}
 use Rattle.archive_check.proofs.Standing.{stands_front, stands_back}
-use Rattle.archive_num.specs.Digits.{little_bytes}
 use Rattle.archive_core.specs.Writing.{Resolves}
 use Rattle.archive_core.specs.Repeated.{repeated, copies}
 use Rattle.archive_core.proofs.Appending.{size_is}

@@ -1,5 +1,5 @@
 -- What is resolved: the bytes of leaves.
-use Rattle.std.proofs.Common.{◌≡◌, ◌≢◌, ℕ, ℤ, pos, ◌<◌, ◌^◌, List, Bool, true, false, refl, sym, ap, subst, ◌∙◌}
+use Rattle.std.proofs.Common.{◌≡◌, ◌≢◌, ℕ, ℤ, pos, ◌<◌, ◌^◌, List, true, false, refl, sym, ap, subst, ◌∙◌}
 use Rattle.std.specs.Int.{Width, w8, w16, w32, w64, w128, from_le_bytes, cast_signed, cast_unsigned}
 use Rattle.std.specs.Int.RustNames.{FitsSigned}
 use Rattle.archive_check.specs.Shape.{Sign, unsigned, signed, Kind, number as number_kind, non_zero, leaf, Shape}

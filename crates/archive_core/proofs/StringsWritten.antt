@@ -1,5 +1,5 @@
 -- How a string reads back, and what its text leaves behind.
-use Rattle.std.proofs.Common.{◌≡◌, ◌⊎◌, inl, inr, ℕ, ℤ, pos, negsuc, ◌+ℤ◌, ◌-ℤ◌, ◌+◌, ◌-◌, ◌*◌, ◌/◌, ◌%◌, ◌<◌, ◌≤◌, ◌^◌, List, [], ◌∷◌, ◌++◌, zero, suc, length, replicate, slice_index, refl, sym, ap, subst, ◌∙◌, arith, None, length-append, IsUtf8, Bool, true, false, nat_lt}
+use Rattle.std.proofs.Common.{◌≡◌, ℕ, ℤ, pos, negsuc, ◌+ℤ◌, ◌+◌, ◌-◌, ◌/◌, ◌<◌, ◌≤◌, ◌^◌, List, [], ◌∷◌, ◌++◌, zero, suc, length, replicate, slice_index, refl, sym, ap, subst, ◌∙◌, arith, None, length-append, IsUtf8, Bool, true, false, nat_lt}
 use Rattle.std.specs.Prelude.{if◌then◌else◌, FitsSigned}
 use Rattle.std.specs.Int.{w32, from_le_bytes, to_le_bytes, cast_signed, cast_unsigned}
 use Rattle.std.proofs.lemmas.Nat.{from_le_bytes-to_le_bytes_4}
@@ -8,7 +8,7 @@ use Rattle.std.proofs.lemmas.List.{append-nil, get_or-replicate, length-replicat
 use Rattle.std.proofs.Math.IntN.{+ℤ_comm, -ℤ-+ℤ_cancel}
 use Rattle.archive_check.specs.Shape.{str, text}
 use Rattle.archive_check.specs.Layout.{up}
-use Rattle.archive_check.specs.Definitions.{Definitions, Knows}
+use Rattle.archive_check.specs.Definitions.{Definitions}
 use Rattle.archive_check.specs.Value.{text_value, hole}
 use Rattle.archive_check.specs.Reads.{bytes_at, u32_at, i32_at, before_end, IsOutOfLine, decoded_length, string_at, Reads, reads_inline, reads_out_of_line}
 use Rattle.archive_check.specs.Tour.{Contents, contents_text}
@@ -19,7 +19,7 @@ use Rattle.archive_check.specs.Held.{States, Held, held}
 use Rattle.archive_check.proofs.Standing.{stands_front, stands_back, stands_bytes, stands_index, zeroed_none}
 use Rattle.archive_check.proofs.Texts.{text_no_end, text_inline, text_before}
 use Rattle.archive_core.specs.Offsets.{distance}
-use Rattle.archive_core.specs.Strings.{coded_length, inline_bytes, out_of_line_bytes, string_form, to_text, string_flat}
+use Rattle.archive_core.specs.Strings.{coded_length, inline_bytes, out_of_line_bytes, to_text, string_flat}
 use Rattle.archive_core.specs.Writing.{Resolves, Writes, Lays}
 use Rattle.archive_core.proofs.Appending.{writes_nothing, writes_laid}
 
@@ -129,14 +129,14 @@ flat_out_of_line bs t h = by_test (nat_lt 8 (length bs)) refl
     by_test false e = absurd (grind (arith, e))
 
 pub writes_inline : (D : Definitions) (told : Held) (bs : List ℕ) (t : ℕ) → length bs ≤ 8 → Writes D told told [] (string_flat bs t) (text_value bs)
-writes_inline D told bs t h = rw (flat_inline bs t h) (writes_nothing D told (text_value bs) refl (λ w. fills_text))
+writes_inline D told bs t h = rw (flat_inline bs t h) (writes_nothing D told (text_value bs) refl (λ k n. elim n [ ]) (λ w. fills_text))
 
 pub lays_text : (D : Definitions) (old new : Told) (f g : States) (bs : List ℕ) (t : ℕ) → IsUtf8 bs → new.bytes ≡ old.bytes ++ bs → t ≡ length old.bytes → KeepsKeys f g
     → Lays D (held old f) (held new g) [] t text (length bs) (text_value bs)
 lays_text D old new f g bs t u grown here keys = record {
   mid = held old f;
   flat = text_value bs;
-  owned = writes_nothing D (held old f) (text_value bs) refl (λ w. fills_text);
+  owned = writes_nothing D (held old f) (text_value bs) refl (λ k n. elim n [ ]) (λ w. fills_text);
   zeros = [];
   region = bs;
   grown = grown;

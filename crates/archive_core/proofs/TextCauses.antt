@@ -1,12 +1,12 @@
 -- How the writing of a text or a string goes on, and why it is refused.
-use Rattle.std.proofs.Common.{◌≡◌, ◌⊎◌, inl, inr, ℕ, ◌+◌, ◌-◌, ◌<◌, ◌≤◌, List, ◌++◌, length, refl, ap, length-append, arith, Bool, true, false, nat_lt}
+use Rattle.std.proofs.Common.{◌≡◌, inl, inr, ℕ, ◌<◌, ◌≤◌, List, ◌++◌, length, refl, ap, length-append, arith, Bool, true, false, nat_lt}
 use Rattle.std.specs.Prelude.{if◌then◌else◌}
 use Rattle.archive_check.specs.Told.{Told, KeepsKeys}
 use Rattle.archive_check.specs.Held.{States}
 use Rattle.archive_check.specs.declared.error.Error.{Error}
 use Rattle.archive_check.specs.declared.error.Error.TheVariants.{PositionTooLarge, LengthTooLarge, StringTooLong}
-use Rattle.archive_write.specs.Written.{IsBeginning, RoomFalls, ExplainsRefusal}
-use Rattle.archive_core.specs.Plans.{Stand, stand, IsAt, GoesOn, Explains, own_cause}
+use Rattle.archive_write.specs.Written.{ExplainsRefusal}
+use Rattle.archive_core.specs.Plans.{Stand, stand, IsAt, Explains, own_cause}
 use Rattle.archive_core.specs.TextPlans.{text_plan, string_plan, HindersText, HindersString}
 use Rattle.archive_core.proofs.Causes.{explains_write, explains_sooner}
 

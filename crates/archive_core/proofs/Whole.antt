@@ -1,17 +1,17 @@
 -- A whole call of a writer.
-use Rattle.std.proofs.Common.{◌≡◌, inl, inr, ℕ, ◌+◌, ◌<◌, ◌≤◌, List, [], ◌∷◌, ◌++◌, length, refl, sym, ap, ◌∙◌, append_assoc, length-append, arith, Option, Some, None, Result, Ok, Err, IfOk, OnOk}
+use Rattle.std.proofs.Common.{◌≡◌, inl, inr, ℕ, ◌+◌, List, [], ◌∷◌, ◌++◌, length, refl, sym, ap, ◌∙◌, append_assoc, length-append, arith, Option, Some, None, Result, Ok, Err, IfOk, OnOk}
 use Rattle.std.specs.FinMap.{get, empty, get-empty}
 use Rattle.std.specs.Ordering.{nat_cmp}
 use Rattle.std.proofs.lemmas.List.{append-nil}
 use Rattle.archive_check.specs.Shape.{Shape, one}
-use Rattle.archive_check.specs.Layout.{Layout, up, size_of}
+use Rattle.archive_check.specs.Layout.{Layout, size_of}
 use Rattle.archive_check.specs.Definitions.{Definitions}
 use Rattle.archive_check.specs.Value.{Value, pointers}
 use Rattle.archive_check.specs.Reads.{Schema, Reads}
-use Rattle.archive_check.specs.Tour.{Region, Entry, Seen, Contents, contents_one, Accepted, root_region}
-use Rattle.archive_check.specs.Denotes.{Meaning, Denotes, Knows, rename}
+use Rattle.archive_check.specs.Tour.{Region, Entry, Contents, contents_one, Accepted, root_region}
+use Rattle.archive_check.specs.Denotes.{Knows, rename}
 use Rattle.archive_check.specs.Written.{Tight}
-use Rattle.archive_check.specs.Tidy.{Stands, neat_one, Tidy}
+use Rattle.archive_check.specs.Tidy.{Stands, Tidy}
 use Rattle.archive_check.specs.Told.{Told}
 use Rattle.archive_check.specs.Held.{States, Held, held}
 use Rattle.archive_check.specs.declared.error.Error.{Error}
@@ -23,8 +23,7 @@ use Rattle.archive_check.proofs.Standing.{stands_zero, zero_nowhere, stands_begu
 use Rattle.archive_check.proofs.Cleaning.{tidy_clean}
 use Rattle.archive_check.proofs.Tightness.{tight_append, tidy_append, ArePositive, positive_append, sized_append, tour_positive, tour_sized, rising_lower, tight_rises}
 use Rattle.archive_core.specs.Writing.{Naming, IsKeyed, World, Holds, Known as KnownKeys, Unseen, Found, Appends, Lays, Archives}
-use Rattle.archive_core.proofs.Appending.{size_is, align_is}
-use Rattle.archive_core.proofs.Sameness.{InTheEnd, same_in_the_end, rename_plain}
+use Rattle.archive_core.proofs.Denoting.{InTheEnd, same_in_the_end, rename_plain}
 
 abbrev position_in : Option (Option ℕ) → ℕ
 position_in None = 0
@@ -50,7 +49,7 @@ archives D old new ks x X size root fresh keyed h end =
           let position : ℕ → ℕ = λ k. position_in (mid.states k) in
           let w : World = record { schema = s; bytes = new.bytes; position = position; names = names } in
           let holds : Holds w D mid.bytes mid.states ks = record { knows = knows; rest = h.zeros ++ h.region; begins = h.grown; placed = λ k t is. ap position_in is; named = keys.named } in
-          let known : KnownKeys w old.states (length old.bytes) empty [] = record { typed = λ k t e y is names. (let no = fresh k in cc); closed = λ k t is. (let no = fresh k in cc); below = λ k t is. (let no = fresh k in cc); opened = λ t is. absurd (omega (arith, is.1)) } in
+          let known : KnownKeys w old.states (length old.bytes) empty [] = record { typed = λ k t e y is names. (let no = fresh k in cc); inner = λ k t e y is names. (let no = fresh k in cc); closed = λ k t is. (let no = fresh k in cc); below = λ k t is. (let no = fresh k in cc); opened = λ t is. absurd (omega (arith, is.1)) } in
           let unseen : Unseen empty (length old.bytes) (length mid.bytes) = record { unseen = λ t a b. get-empty {X = Entry} nat_cmp t } in
           let first : Appends w (length old.bytes) (length mid.bytes) mid.states [] empty (pointers v) = o.appends w [] empty holds known unseen in
           let apart : new.bytes ≡ (mid.bytes ++ h.zeros) ++ h.region = h.grown ∙ sym (append_assoc mid.bytes h.zeros h.region) in
@@ -85,6 +84,7 @@ archives D old new ks x X size root fresh keyed h end =
             keys = keys;
             keyed = keyed;
             typed = first.known.typed;
+            inner = first.known.inner;
             found = found;
             knows = shared;
           } in

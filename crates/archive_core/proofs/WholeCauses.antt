@@ -1,14 +1,14 @@
 -- Why a whole call of a writer is refused.
-use Rattle.std.proofs.Common.{◌≡◌, ◌⊎◌, inl, inr, ℕ, ◌+◌, ◌-◌, ◌%◌, ◌<◌, ◌≤◌, length, ap, ◌∙◌, sym, arith, ◌++◌, List, replicate, length-append}
+use Rattle.std.proofs.Common.{◌≡◌, inl, inr, ℕ, ◌+◌, ◌≤◌, length, ap, ◌∙◌, arith}
 use Rattle.archive_check.specs.Definitions.{IsAlign}
 use Rattle.archive_check.specs.Layout.{Layout, up}
 use Rattle.archive_check.specs.Told.{Told}
-use Rattle.archive_check.specs.Held.{States, Held, held, Pads}
+use Rattle.archive_check.specs.Held.{States, held, Pads}
 use Rattle.archive_check.specs.declared.error.Error.{Error}
 use Rattle.archive_check.proofs.Inside.{up_le}
-use Rattle.archive_write.specs.Written.{padding, IsBeginning, RoomFalls, ExplainsRefusal}
+use Rattle.archive_write.specs.Written.{padding, ExplainsRefusal}
 use Rattle.archive_core.specs.Plans.{Stand, IsAt, GoesOn, Explains, HindersRegion, HindersWhole, region_place, one_plan, IsOfWriting, of_layout}
-use Rattle.archive_core.proofs.Causes.{explains_write, explains_sooner, explains_later, goes_refused, goes_written, goes_both}
+use Rattle.archive_core.proofs.Causes.{explains_write, explains_sooner, explains_later}
 
 align_low : (a : ℕ) → IsAlign a → 1 ≤ a
 align_low a h = omega (arith, h)

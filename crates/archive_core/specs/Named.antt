@@ -2,7 +2,6 @@
 use Rattle.std.proofs.Common.{◌≡◌, inl, inr, ℕ, List}
 use Rattle.archive_check.specs.declared.error.Error.{Error}
 use Rattle.archive_check.specs.declared.error.Error.TheVariants.{NumberTooLarge}
-use Rattle.archive_core.specs.Offsets.{distance, IsTooFar}
 use Rattle.archive_core.specs.Plans.{Stand, IsOfWriting, of_isize, of_offset, of_position, of_length, of_number, of_string}
 use Rattle.archive_core.specs.TextPlans.{HindersText, HindersString, HindersStringAt}
 

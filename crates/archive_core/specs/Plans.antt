@@ -1,7 +1,8 @@
 -- What a write is planned to come to, and why one is refused.
-use Rattle.std.specs.Prelude.{◌≡◌, ◌⊎◌, ℕ, ◌+◌, ◌-◌, ◌^◌, ◌<◌, ◌≤◌, None, length, IsSomeAnd}
+use Rattle.std.specs.Prelude.{◌≡◌, ◌⊎◌, ℕ, ◌+◌, ◌-◌, ◌^◌, ◌<◌, ◌≤◌, None, Some, length, nat_eq, IsSomeAnd}
+use Rattle.std.specs.Map.{update}
 use Rattle.archive_check.specs.Layout.{Layout, up}
-use Rattle.archive_check.specs.Told.{Told}
+use Rattle.archive_check.specs.Told.{Told, KeyState}
 use Rattle.archive_check.specs.Held.{States}
 use Rattle.archive_check.specs.declared.error.Error.{Error}
 use Rattle.archive_check.specs.declared.error.Error.TheVariants.{OutOfMemory, IsizeOverflow, OffsetOverflow, PositionTooLarge, LengthTooLarge, NumberTooLarge, StringTooLong, BufferOverflow, WriterFailed, ItemWrote, CyclicSerialize, LayoutTooLarge}
@@ -75,3 +76,15 @@ HindersWhole owned left own L p e = owned e ⊎ ((r : _) × left r × HindersReg
 -- where a writer stands behind the region of a value, which was to come behind what it owns
 abbrev pub one_plan : Layout → Stand → Stand
 one_plan L s = record { place = region_place L s + L.size; states = s.states }
+
+-- a key is pending from here on
+abbrev pub begun : Stand → ℕ → Stand
+begun s key = record { place = s.place; states = update nat_eq s.states key (Some None) }
+
+-- it is finished at a position
+abbrev pub ended : Stand → ℕ → ℕ → Stand
+ended s key p = record { place = s.place; states = update nat_eq s.states key (Some (Some p)) }
+
+-- Why a shared value isn't written, by its key's state: a pending one holds itself, or the value's own cause.
+abbrev pub HindersShared : KeyState → (Error → Type 0) → Error → Type 0
+HindersShared state own e = ((e ≡ CyclicSerialize) × (state ≡ Some None)) ⊎ own e

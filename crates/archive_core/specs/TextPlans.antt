@@ -1,6 +1,5 @@
 -- What the writing of a text, or of a string, is planned to come to, and why it is refused.
-use Rattle.std.specs.Prelude.{◌≡◌, ◌⊎◌, ℕ, ◌+◌, ◌<◌, ◌≤◌, List, length, nat_lt, if◌then◌else◌}
-use Rattle.std.proofs.Common.{Bool, true, false, arith}
+use Rattle.std.specs.Prelude.{◌≡◌, ◌⊎◌, ℕ, ◌+◌, ◌<◌, List, length, nat_lt, if◌then◌else◌}
 use Rattle.archive_check.specs.declared.error.Error.{Error}
 use Rattle.archive_check.specs.declared.error.Error.TheVariants.{PositionTooLarge, LengthTooLarge, StringTooLong}
 use Rattle.archive_core.specs.Offsets.{distance, IsTooFar}
@@ -29,13 +28,3 @@ HindersString bytes s e = ((e ≡ StringTooLong) × (1073741823 < length bytes))
 -- the offset from the string at p to its text at t, which isn't inline, doesn't fit
 abbrev pub HindersStringAt : List ℕ → ℕ → ℕ → Error → Type 0
 HindersStringAt bytes t p e = (8 < length bytes) × IsTooFar e (distance p t)
-
-pub text_forward : (bytes : List ℕ) (s : Stand) → s.place ≤ (text_plan bytes s).place
-text_forward bytes s = omega arith
-
-pub string_forward : (bytes : List ℕ) (s : Stand) → s.place ≤ (string_plan bytes s).place
-string_forward bytes s = by_test (nat_lt 8 (length bytes))
-  where
-    by_test : (b : Bool) → s.place ≤ (if b then text_plan bytes s else s).place
-    by_test true = omega arith
-    by_test false = omega arith

@@ -1,63 +1,51 @@
 -- What the writing of a value leaves behind: the law of a type.
-use Rattle.std.specs.Prelude.{◌≡◌, ◌⊎◌, ℕ, ◌+◌, ◌*◌, ◌<◌, ◌≤◌, ◌^◌, pos, List, [], ◌∷◌, ◌++◌, length, Option, Some, None, Contains}
+use Rattle.std.specs.Prelude.{◌≡◌, ◌⊎◌, ℕ, ◌+◌, ◌<◌, ◌≤◌, ◌^◌, pos, List, [], ◌∷◌, ◌++◌, length, Option, Some, None, Contains}
 use Rattle.std.specs.Ordering.{nat_cmp}
 use Rattle.std.specs.FinMap.{FinMap, get}
-use Rattle.archive_check.specs.Shape.{Shape, Pointee, one}
+use Rattle.archive_check.specs.Shape.{Flavor, Shape, Pointee, one}
 use Rattle.archive_check.specs.Layout.{Layout, up}
 use Rattle.archive_check.specs.Definitions.{Definitions, Knows, HasLayout}
-use Rattle.archive_check.specs.Value.{Pointer, Value, number, product, case, list, text_value, box, null, shared_value, hole, Values, no_value, value, pointers, all_pointers}
+use Rattle.archive_check.specs.Value.{Pointer, Value, Values, pointers, all_pointers}
 use Rattle.archive_check.specs.Reads.{Schema, Reads}
 use Rattle.archive_check.specs.Tour.{Region, Contents, Entry, Seen, Tour, root_region, pointee_size, pointee_align}
 use Rattle.archive_check.specs.Denotes.{Meaning, Denotes, Same, Fills, FillsAll, rename, rename_all}
+use Rattle.archive_check.specs.Reached.{Names, NamesAmong, LeadsTo}
 use Rattle.archive_check.specs.Written.{Tight, Clean}
 use Rattle.archive_check.specs.Tidy.{Stands, IsZeroed, Neat, NeatPointee, Tidy}
 use Rattle.archive_check.specs.Held.{States, Held}
 
 -- what each key names: flavor, pointee and length, and the value
-abbrev pub Names : Type 0
-Names = FinMap nat_cmp (Entry × Value)
+abbrev pub NameMap : Type 0
+NameMap = FinMap nat_cmp (Entry × Value)
 
 -- a key that a value holds, with what it names
 abbrev pub Naming : Type 0
 Naming = ℕ × (Entry × Value)
 
-abbrev pub AreNamed : Names → List Naming → Type 0
+abbrev pub AreNamed : NameMap → List Naming → Type 0
 AreNamed names [] = Unit {0}
 AreNamed names (k ∷ ks) = (get names k.0 ≡ Some k.1) × AreNamed names ks
 
--- the names in the value are among these keys
-abbrev mutual
-  pub HasKeys : List Naming → Value → Type 0
-  HasKeys keys (number z) = Unit {0}
-  HasKeys keys (product vs) = HaveKeys keys vs
-  HasKeys keys (case tag vs) = HaveKeys keys vs
-  HasKeys keys (list vs) = HaveKeys keys vs
-  HasKeys keys (text_value text) = Unit {0}
-  HasKeys keys (box v) = HasKeys keys v
-  HasKeys keys null = Unit {0}
-  HasKeys keys (shared_value name) = (x : Entry × Value) × Contains keys (name, x)
-  HasKeys keys (hole p) = Unit {0}
-
-  pub HaveKeys : List Naming → Values → Type 0
-  HaveKeys keys no_value = Unit {0}
-  HaveKeys keys (value v vs) = HasKeys keys v × HaveKeys keys vs
+-- each name in the value is one of these keys
+abbrev pub HasKeys : List Naming → Value → Type 0
+HasKeys keys v = (k : ℕ) → Names k v → (x : Entry × Value) × Contains keys (k, x)
 
 -- the names in the value, and in what its keys name, are among its keys
 pub record IsKeyed (keys : List Naming) (v : Value) : Type 0 where
   pub value : HasKeys keys v
   pub named : (k : Naming) → Contains keys k → HasKeys keys k.1.1
 
--- The names are these keys', each of which names one thing.
-pub record AreKeys (names : Names) (keys : List Naming) : Type 0 where
+-- The map has these keys, each of which names one thing, and no others than those that the value leads to.
+pub record AreKeys (names : NameMap) (keys : List Naming) (v : Value) : Type 0 where
   pub named : AreNamed names keys
-  pub only : (k : ℕ) (x : Entry × Value) → get names k ≡ Some x → Contains keys (k, x)
+  pub only : (k : ℕ) (x : Entry × Value) → get names k ≡ Some x → LeadsTo names v k
 
 -- What a writer holds in the end, and what is known of it: its schema, where each key's value lies, and what each key names.
 pub record World : Type 0 where
   pub schema : Schema
   pub bytes : List ℕ
   pub position : ℕ → ℕ
-  pub names : Names
+  pub names : NameMap
 
 -- the world knows these definitions, begins with these bytes, and puts each finished key where the states have it
 pub record Holds (w : World) (definitions : Definitions) (told : List ℕ) (states : States) (keys : List Naming) : Type 0 where
@@ -67,9 +55,18 @@ pub record Holds (w : World) (definitions : Definitions) (told : List ℕ) (stat
   pub placed : (k t : ℕ) → states k ≡ Some (Some t) → w.position k ≡ t
   pub named : AreNamed w.names keys
 
--- Each finished key lies below the stop, has been seen, typed as it is named, and isn't pending. What is pending has been seen.
+-- each name in the value is finished
+abbrev pub AreFinished : States → Value → Type 0
+AreFinished states v = (k : ℕ) → Names k v → (t : ℕ) × (states k ≡ Some (Some t))
+
+abbrev pub AllFinished : States → Values → Type 0
+AllFinished states vs = (k : ℕ) → NamesAmong k vs → (t : ℕ) × (states k ≡ Some (Some t))
+
+-- Each finished key lies below the stop, has been seen, typed as it is named, and isn't pending; what it names has finished names alone. What is
+-- pending has been seen.
 pub record Known (w : World) (states : States) (stop : ℕ) (seen : Seen) (pending : List ℕ) : Type 0 where
   pub typed : (k t : ℕ) (e : Entry) (v : Value) → states k ≡ Some (Some t) → get w.names k ≡ Some (e, v) → get seen t ≡ Some e
+  pub inner : (k t : ℕ) (e : Entry) (v : Value) → states k ≡ Some (Some t) → get w.names k ≡ Some (e, v) → AreFinished states v
   pub closed : (k t : ℕ) → states k ≡ Some (Some t) → Contains pending t → ⊥
   pub below : (k t : ℕ) → states k ≡ Some (Some t) → t < stop
   pub opened : (t : ℕ) → Contains pending t → (e : Entry) × (get seen t ≡ Some e)
@@ -106,17 +103,12 @@ pub record Finishes (start stop : ℕ) (old new : States) : Type 0 where
   pub settled : (k : ℕ) (x : Option ℕ) → old k ≡ None → new k ≡ Some x → (t : ℕ) × (x ≡ Some t) × (start ≤ t) × (t < stop)
   pub apart : (k l t : ℕ) → old k ≡ None → old l ≡ None → new k ≡ Some (Some t) → new l ≡ Some (Some t) → k ≡ l
 
--- each of the keys is finished
-abbrev pub AreFinished : States → List Naming → Type 0
-AreFinished states [] = Unit {0}
-AreFinished states (k ∷ ks) = ((t : ℕ) × (states k.0 ≡ Some (Some t))) × AreFinished states ks
-
 -- The regions of the value's pointers were appended. `flat` is the value as it will be read, with a hole for each pointer.
 pub record Writes (definitions : Definitions) (old new : Held) (keys : List Naming) (flat value : Value) : Type 0 where
   pub added : List ℕ
   pub grown : new.bytes ≡ old.bytes ++ added
   pub states : Finishes (length old.bytes) (length new.bytes) old.states new.states
-  pub finished : AreFinished new.states keys
+  pub finished : AreFinished new.states value
   pub appends : (w : World) (pending : List ℕ) (seen : Seen) → Holds w definitions new.bytes new.states keys
       → Known w old.states (length old.bytes) seen pending → Unseen seen (length old.bytes) (length new.bytes)
       → Appends w (length old.bytes) (length new.bytes) new.states pending seen (pointers flat)
@@ -127,7 +119,7 @@ pub record WritesAll (definitions : Definitions) (old new : Held) (keys : List N
   pub added : List ℕ
   pub grown : new.bytes ≡ old.bytes ++ added
   pub states : Finishes (length old.bytes) (length new.bytes) old.states new.states
-  pub finished : AreFinished new.states keys
+  pub finished : AllFinished new.states values
   pub appends : (w : World) (pending : List ℕ) (seen : Seen) → Holds w definitions new.bytes new.states keys
       → Known w old.states (length old.bytes) seen pending → Unseen seen (length old.bytes) (length new.bytes)
       → Appends w (length old.bytes) (length new.bytes) new.states pending seen (all_pointers flats)
@@ -155,7 +147,7 @@ pub record Fresh (size p : ℕ) (bytes : List ℕ) : Type 0 where
 
 -- The buffer is an archive of the value at root, its keys renamed one to one; one without keys is denoted as it is. From start on it is tight and
 -- clean.
-pub record IsArchive (s : Schema) (start : ℕ) (bytes : List ℕ) (root : ℕ) (X : Shape) (names : Names) (value : Value) : Type 0 where
+pub record IsArchive (s : Schema) (start : ℕ) (bytes : List ℕ) (root : ℕ) (X : Shape) (names : NameMap) (value : Value) : Type 0 where
   pub meaning : Meaning
   pub denotes : Denotes s bytes root X meaning
   pub same : Same (record { value = value; shared = names }) meaning
@@ -169,7 +161,7 @@ pub record Archives (definitions : Definitions) (old new : List ℕ) (root : ℕ
   pub added : List ℕ
   pub grown : new ≡ old ++ added
   pub root_ends : root + size ≡ length new
-  pub archived : (s : Schema) (names : Names) → Knows s definitions → AreKeys names keys → IsArchive s (length old) new root X names value
+  pub archived : (s : Schema) (names : NameMap) → Knows s definitions → AreKeys names keys value → IsArchive s (length old) new root X names value
 
 -- the pointer to a pointee of n elements or bytes that has its region for itself
 abbrev pub to_pointee : ℕ → Pointee → ℕ → Pointer
@@ -194,3 +186,21 @@ pub record Lays (definitions : Definitions) (old new : Held) (keys : List Naming
   pub contents : (s : Schema) (bytes : List ℕ) → Knows s definitions → Stands bytes p region → Contents s bytes p P n flat
   pub neat : (s : Schema) (bytes : List ℕ) → Knows s definitions → Stands bytes p region → NeatPointee s bytes p P n
   pub states : new.states ≡ mid.states
+
+-- the pointer to a shared pointee
+abbrev pub to_shared : ℕ → Flavor → Pointee → ℕ → Pointer
+to_shared t flavor P n = record { target = pos t; sharing = Some flavor; pointee = P; length = n }
+
+-- the key's state is this one now, and the others are as before
+pub record Sets (key : ℕ) (state : Option ℕ) (old new : States) : Type 0 where
+  pub here : new key ≡ Some state
+  pub others : (k : ℕ) → (k ≡ key → ⊥) → new k ≡ old k
+
+-- What an unknown key names was laid out at p, the key pending meanwhile and finished there in the end.
+pub record LaysShared (definitions : Definitions) (old new : Held) (key : ℕ) (keys : List Naming) (p : ℕ) (P : Pointee) (n : ℕ) (value : Value) : Type 0 where
+  pub unknown : old.states key ≡ None
+  pub begun : States
+  pub begins : Sets key None old.states begun
+  pub laid : States
+  pub lays : Lays definitions (record { bytes = old.bytes; states = begun }) (record { bytes = new.bytes; states = laid }) keys p P n value
+  pub ends : Sets key (Some p) laid new.states

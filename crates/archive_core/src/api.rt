@@ -60,9 +60,10 @@ pub fn to_bytes_in<W: Writer + Drop, T: Serialize<Serializer<W, Global, ()>>>(
     ensures archived { IfOk result (λ w. (root : ℕ) × Archives T.Archived.definitions (W.told writer).bytes (W.told w).bytes root T.Archived.shape T.Archived.layout.size
         (T.keys value.now) (T.meaning value.now)) }
     ensures kept { IfOk result (λ w. IsBeginning (W.told writer).bytes (W.told w).bytes) }
-    ensures refused { IfErr result (λ e. (end : Told) × GoesOn (W.told writer) end × Explains (HindersWhole (T.hinders value.now (stand (W.told writer) (λ _. None))) (T.answers value.now (stand (W.told writer) (λ _. None))) (T.hinders_at value.now)
+    ensures goes_on { IfOk result (λ w. GoesOn (W.told writer) (W.told w)) }
+    ensures refused { IfErr result (λ e. (end : W) × GoesOn (W.told writer) (W.told end) × Explains (HindersWhole (T.hinders value.now (stand (W.told writer) (λ _. None))) (T.answers value.now (stand (W.told writer) (λ _. None))) (T.hinders_at value.now)
         T.Archived.layout (region_place T.Archived.layout (T.plan value.now (stand (W.told writer) (λ _. None)))))
-        (one_plan T.Archived.layout (T.plan value.now (stand (W.told writer) (λ _. None)))).place (W.told writer) end e) }
+        (one_plan T.Archived.layout (T.plan value.now (stand (W.told writer) (λ _. None)))).place (W.told writer) (W.told end) e) }
     ensures named { IfErr result IsOfWriting }
 {
     let (writer, root) = serialize_whole(alloc, value, writer);

@@ -9,7 +9,7 @@ ghost use Rattle.archive_check.specs.Viewed.{Viewed, Says};
 ghost use Rattle.archive_check.specs.Layout.{kind_size};
 ghost use Rattle.archive_check.specs.Held.{held};
 ghost use Rattle.archive_check.specs.Told.{KeepsKeys};
-ghost use Rattle.archive_core.specs.Keyed.{keyed_by_none, stays};
+ghost use Rattle.archive_core.specs.Keyed.{number_keyed, stays};
 ghost use Rattle.archive_core.specs.Plans.{stand, IsAt, GoesOn, Explains};
 ghost use Rattle.archive_core.specs.Writing.{Fresh, Resolves, Writes};
 ghost use Rattle.archive_write.specs.Sharing.{KeepsKnown, IsNoMisuse};
@@ -83,7 +83,7 @@ impl<N: Source> Archive for N {
 
     ghost hinders_at = { λ _ _ _ _. ⊥ };
 
-    ghost keyed = { λ n. keyed_by_none (number (N.value_of n)) tt };
+    ghost keyed = { λ n. number_keyed (N.value_of n) };
 
     ghost forward = { λ _ s. stays s };
 
@@ -148,7 +148,7 @@ impl<N: Native> Archive for LittleEndian<N> {
 
     ghost hinders_at = { λ _ _ _ _. ⊥ };
 
-    ghost keyed = { λ n. keyed_by_none (number (N.value_of n)) tt };
+    ghost keyed = { λ n. number_keyed (N.value_of n) };
 
     ghost forward = { λ _ s. stays s };
 

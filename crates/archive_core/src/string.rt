@@ -14,13 +14,13 @@ ghost use Rattle.archive_check.specs.declared.error.Error.TheVariants.{OutOfMemo
 ghost use Rattle.archive_check.specs.Told.{KeepsKeys};
 ghost use Rattle.archive_write.specs.Sharing.{KeepsKnown, IsNoMisuse};
 ghost use Rattle.archive_write.specs.Written.{IsBeginning};
-ghost use Rattle.archive_core.specs.Keyed.{keyed_by_none};
+ghost use Rattle.archive_core.specs.Keyed.{text_keyed, text_forward, string_forward};
 ghost use Rattle.archive_core.specs.Named.{text_named, string_named, string_at_named};
 ghost use Rattle.archive_core.specs.Offsets.{distance, IsTooFar};
 ghost use Rattle.archive_core.specs.Plans.{stand, IsAt, GoesOn, Explains};
 ghost use Rattle.archive_core.specs.Refusals.{ExplainsTextRefusal, ExplainsStringRefusal};
 ghost use Rattle.archive_core.specs.Strings.{string_form, string_flat};
-ghost use Rattle.archive_core.specs.TextPlans.{text_plan, string_plan, StringAnswers, HindersText, HindersString, HindersStringAt, text_forward, string_forward};
+ghost use Rattle.archive_core.specs.TextPlans.{text_plan, string_plan, StringAnswers, HindersText, HindersString, HindersStringAt};
 ghost use Rattle.archive_core.specs.Writing.{Fresh, Resolves, Writes, Lays};
 
 pub mod repr;
@@ -147,7 +147,7 @@ impl<'a> ArchiveUnsized for Text<'a> {
 
     ghost hinders = { λ t _ e. HindersText t.text.now e };
 
-    ghost keyed = { λ t. keyed_by_none (text_value t.text.now) tt };
+    ghost keyed = { λ t. text_keyed t.text.now };
 
     ghost forward = { λ t s. text_forward t.text.now s };
 
@@ -283,7 +283,7 @@ impl Archive for String {
 
     ghost hinders_at = { λ s r p e. HindersStringAt (string_bytes s) r p e };
 
-    ghost keyed = { λ s. keyed_by_none (text_value (string_bytes s)) tt };
+    ghost keyed = { λ s. text_keyed (string_bytes s) };
 
     ghost forward = { λ s at. string_forward (string_bytes s) at };
 

@@ -82,8 +82,9 @@ pub trait Archive {
 
 /// A source that can be serialized to an `S`.
 pub trait Serialize<S: Writer + Keys>: Archive {
-    /// Writes what the value owns, and answers what its archived form is resolved with. After a refusal, too, the bytes from before are a
-    /// beginning of those that `serializer` holds, and each key that was known keeps its state. Never refused with 14 or 15.
+    /// Writes what the value owns, region by region, and answers what its archived form is resolved with. Refused for a cause of the value's own,
+    /// as the writer refuses, or with 1 where memory is refused; never with 14 or 15. After a refusal, too, the bytes from before are a beginning of
+    /// those that `serializer` holds, and each key that was known keeps its state.
     fn serialize(&self, serializer: &mut S) -> Result<Self::Resolver, Error>
         ensures written { IfOk result (λ r. Writes Self.Archived.definitions (held (S.told serializer.old) (S.state_of serializer.old)) (held (S.told serializer.new) (S.state_of serializer.new))
             (Self.keys self.now) (Self.flat self.now r) (Self.meaning self.now)) }
@@ -161,8 +162,9 @@ pub trait ArchiveUnsized {
 
 /// A source that can be serialized to an `S` as a region of its own.
 pub trait SerializeUnsized<S: Writer + Keys>: ArchiveUnsized {
-    /// Writes what the source owns and then its region, and answers the region's position. After a refusal, too, the bytes from before are a
-    /// beginning of those that `serializer` holds, and each key that was known keeps its state. Never refused with 14 or 15.
+    /// Writes what the source owns and then its region, and answers the region's position. Refused for a cause of the source's own, as the writer
+    /// refuses, or with 1 where memory is refused; never with 14 or 15. After a refusal, too, the bytes from before are a beginning of those that
+    /// `serializer` holds, and each key that was known keeps its state.
     fn serialize_unsized(&self, serializer: &mut S) -> Result<usize, Error>
         ensures written { IfOk result (λ p. Lays Self.Archived.definitions (held (S.told serializer.old) (S.state_of serializer.old)) (held (S.told serializer.new) (S.state_of serializer.new))
             (Self.keys self.now) p Self.Archived.pointee (Self.source_length self.now) (Self.meaning self.now)) }

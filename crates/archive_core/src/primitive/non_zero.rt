@@ -9,7 +9,7 @@ ghost use Rattle.archive_check.specs.Reads.{bytes_at};
 ghost use Rattle.archive_check.specs.Value.{number};
 ghost use Rattle.archive_check.specs.Viewed.{Viewed, Says};
 ghost use Rattle.archive_check.specs.Told.{KeepsKeys};
-ghost use Rattle.archive_core.specs.Keyed.{keyed_by_none, stays};
+ghost use Rattle.archive_core.specs.Keyed.{stays, number_keyed};
 ghost use Rattle.archive_core.specs.Plans.{stand, IsAt, GoesOn, Explains};
 ghost use Rattle.archive_core.specs.Writing.{Fresh, Resolves, Writes};
 ghost use Rattle.archive_write.specs.Sharing.{KeepsKnown, IsNoMisuse};
@@ -46,7 +46,7 @@ impl<N: Integer> Archive for NonZero<N> {
 
     ghost hinders_at = { λ _ _ _ _. ⊥ };
 
-    ghost keyed = { λ n. keyed_by_none (number (N.value_of n)) tt };
+    ghost keyed = { λ n. number_keyed (N.value_of n) };
 
     ghost forward = { λ _ s. stays s };
 

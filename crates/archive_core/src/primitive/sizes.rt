@@ -12,7 +12,7 @@ ghost use Rattle.archive_check.specs.Viewed.{Viewed, Says};
 ghost use Rattle.archive_check.specs.Told.{KeepsKeys};
 ghost use Rattle.archive_check.specs.declared.error.Error.TheVariants.{NumberTooLarge};
 ghost use Rattle.archive_num.specs.Digits.{little_bytes, little_number};
-ghost use Rattle.archive_core.specs.Keyed.{keyed_by_none, stays};
+ghost use Rattle.archive_core.specs.Keyed.{number_keyed, stays};
 ghost use Rattle.archive_core.specs.Named.{too_large_named};
 ghost use Rattle.archive_core.specs.Plans.{stand, IsAt, GoesOn, Explains};
 ghost use Rattle.archive_core.specs.Writing.{Fresh, Resolves, Writes};
@@ -48,7 +48,7 @@ impl Archive for usize {
 
     ghost hinders_at = { λ _ _ _ _. ⊥ };
 
-    ghost keyed = { λ n. keyed_by_none (number_value (pos n)) tt };
+    ghost keyed = { λ n. number_keyed (pos n) };
 
     ghost forward = { λ _ s. stays s };
 
@@ -134,7 +134,7 @@ impl Archive for isize {
 
     ghost hinders_at = { λ _ _ _ _. ⊥ };
 
-    ghost keyed = { λ n. keyed_by_none (number_value n) tt };
+    ghost keyed = { λ n. number_keyed n };
 
     ghost forward = { λ _ s. stays s };
 

@@ -1,5 +1,4 @@
 use Rattle.std.proofs.Common.{refl}
-use Rattle.archive_core.specs.Plans.{stand}
 use Rattle.archive_core.proofs.Whole.{archives_of}
 use Rattle.archive_core.proofs.api.serialize_whole.Goals as goal
 

@@ -1,4 +1,3 @@
-use Rattle.std.proofs.Common.{◌≡◌, ◌∙◌}
 use Rattle.archive_core.specs.Plans.{stand}
 use Rattle.archive_core.proofs.Causes.{explains_named, err_by, err_from, goes_both, goes_written, goes_refused}
 use Rattle.archive_core.proofs.WholeCauses.{whole_named, whole_owned, whole_padded, whole_region}

@@ -1,4 +1,3 @@
-use Rattle.std.proofs.Common.{refl, ap, ◌∙◌}
 use Rattle.archive_core.proofs.Resolving.{resolves_non_zero}
 use Rattle.archive_core.proofs.primitive.non_zero.NonZeroArchive.resolve.Goals as goal
 
