@@ -24,7 +24,7 @@ use crate::primitive::{
 };
 use crate::rel_ptr::signed_offset;
 use crate::ser::{Buffer, Positional, ResolveExt, Serializer, Writer, serialize_one};
-use crate::shape::{Defs, Expr, IntegerKind, Kind, Schema};
+use crate::shape::{Defs, Expr, Schema};
 use crate::sharing::{Share, Sharing, SharingExt};
 use crate::string::{ArchivedStr, ArchivedString, Text, repr};
 use crate::traits::{
