@@ -1,13 +1,13 @@
 -- What is tidy is clean.
-use Rattle.std.proofs.Common.{◌≡◌, ◌⊎◌, inl, inr, ℕ, zero, suc, pos, ◌+◌, ◌-◌, ◌*◌, ◌<◌, ◌≤◌, List, [], ◌∷◌, ◌++◌, length, slice_index, Some, refl, sym, ap, subst, ◌∙◌, arith, Contains}
+use Rattle.std.proofs.Common.{◌≡◌, inl, inr, ℕ, zero, suc, pos, ◌+◌, ◌*◌, ◌<◌, ◌≤◌, List, [], ◌∷◌, length, slice_index, Some, refl, ap, subst, arith, Contains}
 use Rattle.std.proofs.lemmas.Bool.{cases_lt}
-use Rattle.archive_check.specs.Shape.{Name, Flavor, Shape, leaf, parts, choice, array, boxed, vec, str, shared, weak, named, Pointee, one, run, text, Parts, no_part, part, Variants, definition, variant_at}
-use Rattle.archive_check.specs.Layout.{up, kind_size, size_of, align_of, Solves}
-use Rattle.archive_check.specs.Reads.{Schema, bytes_at, i32_at, length_at, IsOutOfLine, before_end}
+use Rattle.archive_check.specs.Shape.{Name, Flavor, Shape, parts, choice, array, str, weak, named, Pointee, one, run, text, Parts, Variants, definition, variant_at}
+use Rattle.archive_check.specs.Layout.{up, size_of, align_of, Solves}
+use Rattle.archive_check.specs.Reads.{Schema, i32_at, length_at, IsOutOfLine}
 use Rattle.archive_check.specs.Tour.{Region, pointee_size}
 use Rattle.archive_check.specs.Within.{IsPart, first_part, later_part, Within, whole, in_parts, in_choice, in_array, in_named, PartOf, whole_region, in_one, in_run, in_string, PartOfSome}
 use Rattle.archive_check.specs.Written.{after, Tight, own_size, Owned, owned_part, owned_text, Clean}
-use Rattle.archive_check.specs.Tidy.{AreZero, IsFilled, Neat, neat_leaf, neat_parts, neat_choice, neat_array, neat_boxed, neat_vec, neat_inline, neat_out_of_line, neat_shared, neat_null, neat_weak, neat_named, NeatParts, neat_no_part, neat_part, NeatRun, neat_none, neat_element, NeatPointee, neat_one, neat_run, neat_text, Tidy}
+use Rattle.archive_check.specs.Tidy.{IsFilled, Neat, neat_leaf, neat_parts, neat_choice, neat_array, neat_boxed, neat_vec, neat_inline, neat_out_of_line, neat_shared, neat_null, neat_weak, neat_named, NeatParts, neat_no_part, neat_part, NeatRun, neat_none, neat_element, NeatPointee, neat_one, neat_run, neat_text, Tidy}
 
 abbrev pub AreSized : Schema → List Region → Type 0
 AreSized s [] = Unit {0}

@@ -1,5 +1,5 @@
 -- Tight and tidy lists of regions.
-use Rattle.std.proofs.Common.{◌≡◌, ℕ, ◌+◌, ◌-◌, ◌*◌, ◌/◌, ◌<◌, ◌≤◌, List, [], ◌∷◌, ◌++◌, refl, arith}
+use Rattle.std.proofs.Common.{ℕ, ◌+◌, ◌-◌, ◌/◌, ◌≤◌, List, [], ◌∷◌, ◌++◌, refl, arith}
 use Rattle.std.proofs.Math.Nat.{mul-mod_left}
 use Rattle.archive_check.specs.Shape.{Pointee, one, run, text}
 use Rattle.archive_check.specs.Value.{Pointer}

@@ -1,5 +1,5 @@
 -- Clean bytes, region by region and format by format: padding and the rest of a choice are 0, unused bytes of a string 0xff, a null's length 0.
-use Rattle.std.specs.Prelude.{◌≡◌, ◌≢◌, ℕ, zero, suc, ◌+◌, ◌*◌, ◌<◌, ◌≤◌, pos, List, [], ◌∷◌, ◌++◌, length, slice_index, Some}
+use Rattle.std.specs.Prelude.{◌≡◌, ◌≢◌, ℕ, zero, suc, ◌+◌, ◌<◌, ◌≤◌, pos, List, [], ◌∷◌, ◌++◌, length, slice_index, Some}
 use Rattle.archive_check.specs.Shape.{Name, Kind, Flavor, Shape, leaf, parts, choice, array, boxed, vec, str, shared, weak, named, Pointee, one, run, text, Parts, no_part, part, Variants, definition, variant_at}
 use Rattle.archive_check.specs.Layout.{up, size_of, align_of}
 use Rattle.archive_check.specs.Reads.{Schema, bytes_at, i32_at, length_at, before_end, IsOutOfLine}

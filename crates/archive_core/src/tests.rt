@@ -6,6 +6,7 @@ ghost use Rattle.std.proofs.Common.{inl, inr};
 ghost use Rattle.archive_check.specs.Shape.{array, leaf, number, one, str, unsigned};
 ghost use Rattle.archive_check.specs.Definitions.{no_definition};
 ghost use Rattle.archive_check.specs.Value.{list, number as number_value, text_value};
+ghost use Rattle.archive_check.specs.declared.error.Error.TheVariants.{OutOfMemory};
 ghost use Rattle.archive_core.specs.Keyed.{numbers_keyed, stays};
 ghost use Rattle.archive_core.specs.Repeated.{repeated};
 ghost use Rattle.archive_core.specs.Writing.{Fresh, Resolves, Archives};
@@ -182,6 +183,13 @@ fn archive_of(alloc: Global, text: &String) -> Result<Vec<u8>, Error>
     to_bytes(alloc, text)
 }
 
+// What it says of a number's refusals: none comes but for want of memory.
+fn archive_of_number(alloc: Global, number: &u32) -> Result<Vec<u8>, Error>
+    ensures { IfErr result (λ e. e ≡ OutOfMemory) }
+{
+    to_bytes(alloc, number)
+}
+
 #[test]
 fn a_value_is_laid_out_as_a_region(rt: HostRuntime) -> Result<(), Fail> {
     let text = String::from_str(rt.alloc(), "hello world")?;
@@ -191,6 +199,10 @@ fn a_value_is_laid_out_as_a_region(rt: HostRuntime) -> Result<(), Fail> {
     assert_eq!(rt; serialize_one(&42u16, &mut serializer)?, 20);
     assert_eq!(rt; serialize_one(&7u64, &mut serializer)?, 24);
     let bytes = serializer.into_writer();
+    assert_eq!(rt;
+        archive_of_number(rt.alloc(), &42)?.as_slice(),
+        b"\x2a\0\0\0".as_slice()
+    );
     let (first, rest) = bytes.split_at(20);
     assert_eq!(rt; first, archive.as_slice());
     assert_eq!(rt; rest, b"\x2a\0\0\0\x07\0\0\0\0\0\0\0".as_slice());

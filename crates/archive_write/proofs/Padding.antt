@@ -1,5 +1,5 @@
 -- Zeros up to a multiple.
-use Rattle.std.proofs.Common.{◌≡◌, inl, inr, ℕ, ◌+◌, ◌-◌, ◌%◌, ◌<◌, ◌≤◌, ◌++◌, length, replicate, refl, ap, ◌∙◌, arith, length-append}
+use Rattle.std.proofs.Common.{◌≡◌, inl, inr, ℕ, ◌+◌, ◌++◌, length, replicate, ap, ◌∙◌, arith, length-append}
 use Rattle.std.proofs.lemmas.List.{get_or-replicate, length-replicate}
 use Rattle.archive_check.specs.Definitions.{IsAlign}
 use Rattle.archive_check.specs.Layout.{up}
