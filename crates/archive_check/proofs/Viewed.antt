@@ -85,8 +85,10 @@ view_to D bytes q P n t Q m v f = ∥∥₁_map v (λ u. (u.0, u.1, f (u.0) (u.1
 pub view_fits : (D : Definitions) (bytes : List ℕ) (q : ℕ) (P : Pointee) (n m : ℕ) → Viewed D bytes q P n → ((s : Schema) → Knows s D → pointee_size s P n ≡ m) → q + m ≤ length bytes
 view_fits D bytes q P n m v size = view_fact D bytes q P n v le_prop (λ s k l. omega (arith, lies_fits s bytes k.laid_out l, size s k))
 
--- what a whole buffer's root says is what the buffer denotes
+-- what is said of a part is what is reached there
+pub reached_says : (D : Definitions) (bytes : List ℕ) (q : ℕ) (P : Pointee) (n : ℕ) (w : Value) (s : Schema) (u : Value) {root : ℕ} {X : Shape} → Says D bytes q P n w → Knows s D → Reached s bytes root X q P n u → u ≡ w
+reached_says D bytes q P n w s u h k r = fills_one s bytes r.filled (h.fills s r.value k (reached_lies s bytes r) r.reads)
+
+-- so what a whole buffer's root says is what the buffer denotes
 pub root_says : (D : Definitions) (bytes : List ℕ) (root : ℕ) (X : Shape) (w : Value) (s : Schema) (m : Meaning) → Says D bytes root (one X) 0 w → Knows s D → Denotes s bytes root X m → m.value ≡ w
-root_says D bytes root X w s m h k d =
-    let r = root_reached s bytes d in
-    fills_one s bytes r.filled (h.fills s r.value k (reached_lies s bytes r) r.reads)
+root_says D bytes root X w s m h k d = reached_says D bytes root (one X) 0 w s m.value h k (root_reached s bytes d)
