@@ -1,24 +1,23 @@
 -- Nodes that are added to a plan.
-use Rattle.std.proofs.Common.{◌≡◌, ◌≢◌, ◌⊎◌, inl, inr, ⊎_elim, ℕ, zero, suc, refl, sym, ap, ◌∙◌, subst, ◌+◌, ◌-◌, ◌*◌, ◌<◌, ◌≤◌, arith, List, [], ◌∷◌, ◌++◌, length, slice_index_or, Bool, true, Option, Some, None, length-append}
+use Rattle.std.proofs.Common.{◌≡◌, ◌≢◌, ◌⊎◌, inl, inr, ⊎_elim, ℕ, zero, suc, refl, sym, ap, ◌∙◌, subst, ◌+◌, ◌<◌, ◌≤◌, arith, List, [], ◌∷◌, ◌++◌, length, Bool, true, Option, Some, length-append}
 use Rattle.std.proofs.lemmas.Bool.{cases_lt}
 use Rattle.archive_check.specs.declared.plan.Job.{Job}
 use Rattle.archive_check.specs.declared.plan.Job.TheVariants.{Free}
 use Rattle.archive_check.specs.declared.plan.Node.{Node}
-use Rattle.archive_check.specs.declared.plan.Part.{Part as PlanPart}
-use Rattle.archive_check.specs.declared.plan.Span.{Span}
 use Rattle.archive_check.specs.declared.plan.Checker.{Checker}
 use Rattle.archive_check.specs.declared.growing.Known.{Known}
-use Rattle.archive_check.specs.Shape.{Shape, named}
+use Rattle.archive_check.specs.Shape.{Shape}
 use Rattle.archive_check.specs.Layout.{Layouts, size_of, align_of}
 use Rattle.archive_check.specs.Reads.{Schema}
 use Rattle.archive_check.specs.Runs.{IsAt}
 use Rattle.archive_check.specs.Closed.{JobFits}
-use Rattle.archive_check.specs.Represents.{Stands, stands, Sized, Made}
+use Rattle.archive_check.specs.Represents.{Stands, stands, Made}
 use Rattle.archive_check.specs.Fitting.{fits}
-use Rattle.archive_check.specs.Growing.{node_of, Lists, lists_in, Goes, Grows, IsPushed, IsSorted, IsExtended, Unless, IsMade}
-use Rattle.archive_check.specs.Compiled.{Follows, Below, Knows, ClosedTo, Settled, Given, MadeTo, Adds, IsRoot, Compiled}
+use Rattle.archive_check.specs.Growing.{Lists, Goes, Grows, IsPushed, Unless, IsMade}
+use Rattle.archive_check.specs.Compiled.{Follows, Below, Knows, ClosedTo, Settled, Given, MadeTo, Adds, Compiled}
 use Rattle.archive_check.specs.Counts.{count_of}
 use Rattle.archive_check.specs.Sizes.{shape_size}
+use Rattle.archive_check.specs.Compilable.{Can, AllKnown}
 use Rattle.archive_check.specs.Queued.{Wait, Waits, waits_size}
 use Rattle.archive_check.proofs.Fitting.{some_is}
 use Rattle.archive_check.proofs.GoingOn.{at_more, at_behind, at_end, same_at, goes_refl, goes_trans, grows_refl, grows_trans, pushed_grows, pushed_count, pushed_at, pushed_is}
@@ -128,18 +127,20 @@ module _ {names : List Known} {gives : List Shape} {v w : Waits} {a b c : Lists}
   }
 
   pub compiled_push : {done : ℕ} {size : Option ℕ} {align j : ℕ} {job : Job} (X : Shape) → IsPushed b c size align job j → length gives + 1 ≡ count_of X → waits_size w.items ≤ waits_size v.items + shape_size X
+      → (AllKnown names v.items → Can names done X → AllKnown names w.items)
       → ((m : Checker) (l : Layouts) → Follows c m → Knows names l done m → (size ≡ fits (size_of l X)) × (align ≡ align_of l X))
       → ((m : Checker) → Follows c m → Below names w.items m → (z : ℕ) → size ≡ Some z → JobFits m (length b.nodes) z job)
       → ((s : Schema) (shapes : ℕ → Shape) (m : Checker) → Follows c m → Settled names w.items s shapes m → Given shapes (length a.nodes) gives → MadeTo s shapes m (length b.nodes) → (z : ℕ) → size ≡ Some z → Made s shapes m job X)
       → (size ≡ Some 0 → job ≡ Free)
       → Compiled names done X v w a c j
-  compiled_push {done = done} {j = j} X p count few lay closed make empty =
+  compiled_push {done = done} {j = j} X p count few known lay closed make empty =
       let last : j ≡ length a.nodes + length gives = omega (arith, p.is, f.count) in
       record {
         gives = gives ++ X ∷ [];
         gives_count = length-append gives (X ∷ []) ∙ count;
         adds = adds_push X p closed (λ s shapes m g t. (lay m s.layouts g (knows_settled done t)).0) make empty;
         waits_few = few;
+        known = known;
         below = omega (arith, pushed_is p);
         root = inr (pushed_is p, omega (arith, last), λ shapes given. given_last gives j last given);
         lays = λ m l g k. let q = lay m l g k in record { node = p.node; at = at_more g.nodes (pushed_at p); size_is = p.size_is ∙ q.0; align_is = p.align_is ∙ q.1 };
@@ -157,12 +158,13 @@ some_positive (suc z) e n = omega arith
 
 module _ {names : List Known} {gives : List Shape} {v w : Waits} {a b c : Lists} (f : Adds names gives v w a b) where
   pub compiled_made : {done : ℕ} {size : Option ℕ} {align j : ℕ} {free : Bool} {job : Job} (X : Shape) → IsMade b c size align free job j → length gives + 1 ≡ count_of X → waits_size w.items ≤ waits_size v.items + shape_size X
+      → (AllKnown names v.items → Can names done X → AllKnown names w.items)
       → ((m : Checker) (l : Layouts) → Follows c m → Knows names l done m → (size ≡ fits (size_of l X)) × (align ≡ align_of l X))
       → ((m : Checker) → Follows c m → Below names w.items m → (z : ℕ) → size ≡ Some z → 0 < z → JobFits m (length b.nodes) z job)
       → ((s : Schema) (shapes : ℕ → Shape) (m : Checker) → Follows c m → Settled names w.items s shapes m → Given shapes (length a.nodes) gives → MadeTo s shapes m (length b.nodes) → (z : ℕ) → size ≡ Some z → (free ≡ true) ⊎ (z ≡ 0) → Made s shapes m Free X)
       → ((s : Schema) (shapes : ℕ → Shape) (m : Checker) → Follows c m → Settled names w.items s shapes m → Given shapes (length a.nodes) gives → (z : ℕ) → size ≡ Some z → 0 < z → Made s shapes m job X)
       → Compiled names done X v w a c j
-  compiled_made {size = size} {free = free} {job = job} X p count few lay closed make_free make = compiled_push f X p.pushed count few lay
+  compiled_made {size = size} {free = free} {job = job} X p count few known lay closed make_free make = compiled_push f X p.pushed count few known lay
       (λ m g w z e. unless_job free size job p.made p.which (λ q. JobFits m (length b.nodes) z q) (λ h. tt) (λ n. closed m g w z e (some_positive z e n)))
       (λ s shapes m g t given k z e. unless_job free size job p.made p.which (λ q. Made s shapes m q X)
       (λ h. make_free s shapes m g t given k z e (⊎_elim (λ y. inl y) (λ y. inr (y z e)) h))

@@ -38,9 +38,10 @@ has_each s (both D E) (h, k) name Y c = ⊎_elim (has_each s D h name Y) (has_ea
 each_has : (s : Schema) (D : Definitions) → ((name : Name) (Y : Shape) → Contains (listed D) (name, Y) → definition s.table name ≡ Some Y) → Has s D
 each_has s no_definition h = tt
 each_has s (defines n X) h = h n X (contains_first [] (n, X))
-each_has s (both D E) h =
-    (each_has s D (λ name Y c. h name Y (Contains-append_left (listed D) (listed E) (name, Y) c)),
-     each_has s E (λ name Y c. h name Y (Contains-append_right (listed D) (listed E) (name, Y) c)))
+each_has s (both D E) h = (
+  each_has s D (λ name Y c. h name Y (Contains-append_left (listed D) (listed E) (name, Y) c)),
+  each_has s E (λ name Y c. h name Y (Contains-append_right (listed D) (listed E) (name, Y) c)),
+)
 
 -- what a schema that knows a type's definitions has, the type's own schema has
 pub knows_suits : (r : RustSchema) (X : Shape) (D : Definitions) (s : Schema) → IsSchemaOf r X D → Knows s D → Suits r s
@@ -55,13 +56,16 @@ module _ (D : Definitions) (X : Shape) (well : WellFormed (listed D) X) (no_othe
   own_each name Y c = let (Z, e, only) = well.defined name (no_others name Y c) in e ∙ ap Some (sym (only Y c))
 
   pub some_knows : (s : Schema) × Knows s D
-  some_knows = (own, record {
-    has = each_has own D own_each;
-    laid_out = record {
-      solves = λ name Y e. rounds_solve_reached (listed D) X well name Y (no_others name Y (found_stands (listed D) name Y e)) e;
-      aligned = rounds_pos (listed D) (length (names_of (listed D)));
-    };
-  })
+  some_knows = (
+    own,
+    record {
+      has = each_has own D own_each;
+      laid_out = record {
+        solves = λ name Y e. rounds_solve_reached (listed D) X well name Y (no_others name Y (found_stands (listed D) name Y e)) e;
+        aligned = rounds_pos (listed D) (length (names_of (listed D)));
+      };
+    },
+  )
 
 -- a context of a whole buffer that met nothing
 pub is_whole : (s : RangeState) (met : Positions) (bytes : List ℕ) (depth : Option ℕ) → depth ≢ Some 0 → ((d : ℕ) → depth ≡ Some d → d < 18446744073709551616) → s ≡ whole (length bytes) depth → met ≡ nothing_met → IsWhole s met bytes

@@ -34,16 +34,18 @@ module _ (s : Schema) (bytes : List ℕ) where
       let r = region_of s p t in
       let back : Rising (r.begin + r.size) D stop = rising_back start C r D stop h in
       let inner = tour_before start t i (rising_front start C r D stop h) in
-      let outer = tour_before (r.begin + r.size) stop j back in
-      (All-cons (EndsBy s stop) p ps (ends_by stop l (rising_le (r.begin + r.size) D stop back)) (outer.0),
-       All-append Owns C (r ∷ D) (inner.1) (All-cons Owns r D (v, l.contents, inner.0) (outer.1)))
+      let outer = tour_before (r.begin + r.size) stop j back in (
+        All-cons (EndsBy s stop) p ps (ends_by stop l (rising_le (r.begin + r.size) D stop back)) (outer.0),
+        All-append Owns C (r ∷ D) (inner.1) (All-cons Owns r D (v, l.contents, inner.0) (outer.1)),
+      )
   tour_before start stop (tour_new {p = p} {ps = ps} {t = t} {v = v} {C = C} {D = D} e none l i j) h =
       let r = region_of s p t in
       let back : Rising (r.begin + r.size) D stop = rising_back start C r D stop h in
       let inner = tour_before start t i (rising_front start C r D stop h) in
-      let outer = tour_before (r.begin + r.size) stop j back in
-      (All-cons (EndsBy s stop) p ps (not_unique (λ unique. cc)) (outer.0),
-       All-append Owns C (r ∷ D) (inner.1) (All-cons Owns r D (v, l.contents, inner.0) (outer.1)))
+      let outer = tour_before (r.begin + r.size) stop j back in (
+        All-cons (EndsBy s stop) p ps (not_unique (λ unique. cc)) (outer.0),
+        All-append Owns C (r ∷ D) (inner.1) (All-cons Owns r D (v, l.contents, inner.0) (outer.1)),
+      )
   tour_before start stop (tour_again {p = p} {ps = ps} e t known free j) h =
       let rest = tour_before start stop j h in (All-cons (EndsBy s stop) p ps (not_unique (λ unique. cc)) (rest.0), rest.1)
 

@@ -1,21 +1,23 @@
 -- Expressions that are compiled one after another.
-use Rattle.std.proofs.Common.{◌≡◌, ◌⊎◌, inl, inr, ⊎_elim, ℕ, zero, suc, refl, sym, ap, ap₂, ◌∙◌, subst, ◌+◌, ◌-◌, ◌<◌, ◌≤◌, arith, List, [], ◌∷◌, ◌++◌, length, take, drop, slice_index_or, Option, Some, None, length-append, append_assoc, append-nil}
+use Rattle.std.proofs.Common.{◌≡◌, inl, inr, ⊎_elim, ℕ, zero, suc, refl, sym, ap, ap₂, ◌∙◌, subst, ◌+◌, ◌-◌, ◌<◌, ◌≤◌, arith, List, [], ◌∷◌, ◌++◌, length, take, drop, Some, length-append, append_assoc, append-nil}
 use Rattle.archive_check.specs.declared.defs.Def.{Def}
 use Rattle.archive_check.specs.declared.growing.Known.{Known}
 use Rattle.archive_check.specs.declared.queue.Waiting.{Waiting}
-use Rattle.archive_check.specs.Shape.{Name, Shape, named}
+use Rattle.archive_check.specs.Shape.{Shape, named}
 use Rattle.archive_check.specs.Expressions.{shape_of}
 use Rattle.archive_check.specs.Sizes.{shape_size}
 use Rattle.archive_check.specs.Counts.{count_of}
 use Rattle.archive_check.specs.Runs.{IsAt}
-use Rattle.archive_check.specs.Growing.{node_of, Lists, no_lists, Goes, Grows}
+use Rattle.archive_check.specs.Growing.{node_of, Lists, no_lists, Goes}
 use Rattle.archive_check.specs.Queued.{Wait, Waits, no_waits, waits_in, wait_shapes, waits_size}
-use Rattle.archive_check.specs.Compiled.{Given, Adds, Compiled}
-use Rattle.archive_check.specs.Numbered.{def_shapes, start_of, FirstAt, IsRootOf}
-use Rattle.archive_check.specs.Planned.{Kept, Chained, Finishes, FinishesTo}
-use Rattle.archive_check.proofs.GoingOn.{same_at, at_less, at_last, at_end, grows_refl, grows_trans}
+use Rattle.archive_check.specs.Compilable.{Can}
+use Rattle.std.proofs.lemmas.List.{take-append-drop}
+use Rattle.archive_check.specs.Compiled.{Compiled}
+use Rattle.archive_check.specs.Numbered.{def_shapes, start_of, IsRootOf}
+use Rattle.archive_check.specs.Planned.{Kept, Chained, CanFinish, Finishes, FinishesTo}
+use Rattle.archive_check.proofs.GoingOn.{at_less, at_more, at_last, at_end, goes_longer, grows_refl, grows_trans}
 use Rattle.archive_check.proofs.Adding.{given_first, given_second, adds_refl, adds_trans}
-use Rattle.archive_check.proofs.Numbered.{def_shapes-append, start_next, start_prefix, node_of_first}
+use Rattle.archive_check.proofs.Numbered.{def_count, take_count, def_shapes-append, start_next, start_prefix, node_of_first}
 use Rattle.archive_check.proofs.Waiting.{wait_shapes-append, waits_size-append}
 
 -- nothing yet
@@ -26,6 +28,7 @@ chained_start names Xs base w b eX ew eb =
       gives_count = refl;
       adds = adds_refl names (no_waits base) no_lists;
       each = λ i X at. absurd (omega (arith, at.below));
+      all_known = λ can. record { each = λ k x at. absurd (omega (arith, at.below)) };
     } in
     subst (λ x. Chained names Xs base w x) (sym eb) (subst (λ x. Chained names Xs base x no_lists) (sym ew) (subst (λ x. Chained names x base (no_waits base) no_lists) (sym eX) none))
 
@@ -69,6 +72,11 @@ chained_next {names} {Xs} {base} {v} {w} {b} {c} {X} {j} r f =
           } in
           subst (λ y. Kept names y (start_of (Xs ++ X ∷ []) p) w c (r.gives ++ f.gives)) (sym q.1) new)
           (at_last Xs X x p at);
+      all_known = λ can.
+          let begins : start_of (Xs ++ X ∷ []) (length Xs) ≡ length b.nodes = omega (arith, here, r.gives_count, front) in
+          f.known
+          (r.all_known (λ i Y at. subst (λ n. Can names n Y) (start_prefix Xs (X ∷ []) i (omega (arith, at.below))) (can i Y (at_more (record { more = X ∷ []; is = refl }) at))))
+          (subst (λ n. Can names n X) begins (can (length Xs) X (at_end Xs X)));
     }
 
 -- the first i + 1
@@ -158,10 +166,30 @@ compiled_same {names} {a = a} {b = b} {c = c} {d = d} {j = j} {k = k} X f g e = 
 
 -- nothing of what waits is compiled yet, and then one more, and all
 pub finishes_start : (names : List Known) (v : Waits) (a : Lists) → FinishesTo names 0 v v a a
-finishes_start names v a = record { grows_to = grows_refl a; chained_to = λ Xs base r. subst (λ Ys. Chained names Ys base v a) (sym (append-nil Xs)) r }
+finishes_start names v a = record { can_to = λ c. c; grows_to = grows_refl a; chained_to = λ Xs base r. subst (λ Ys. Chained names Ys base v a) (sym (append-nil Xs)) r }
 
 pub finishes_next : {names : List Known} {u v w : Waits} {a b c : Lists} {j : ℕ} (i : ℕ) (x : Wait) → FinishesTo names i u v a b → IsAt v.items i x → Compiled names (length b.nodes) x.shape v w b c j → FinishesTo names (i + 1) u w a c
-finishes_next i x r at f = record { grows_to = grows_trans r.grows_to f.adds.grows; chained_to = λ Xs base k. waits_next Xs i x (r.chained_to Xs base k) at f }
+finishes_next i x r at f = record {
+  can_to = λ c. let o = r.can_to c in record {
+    known = f.known o.known (record { known = (o.known.each i x at).shape_known; placed = λ name j h e. o.below name j e });
+    below = λ name j e. omega (arith, o.below name j e, goes_longer f.adds.grows.nodes);
+  };
+  grows_to = grows_trans r.grows_to f.adds.grows;
+  chained_to = λ Xs base k. waits_next Xs i x (r.chained_to Xs base k) at f;
+}
+
+-- what waits first can be compiled next
+pub finishes_can : {names : List Known} {u v : Waits} {a b : Lists} {i done : ℕ} (x : Wait) → FinishesTo names i u v a b → CanFinish names u a → IsAt v.items i x → done ≡ length b.nodes → Can names done x.shape
+finishes_can {names} {i = i} x r c at e = let o = r.can_to c in record { known = (o.known.each i x at).shape_known; placed = λ name j h n. omega (arith, o.below name j n, e) }
+
+-- where the next definition's nodes begin
+pub defs_begin : {names : List Known} {base : ℕ} {v : Waits} {b : Lists} (defs : List Def) (i : ℕ) → i ≤ length defs → Chained names (def_shapes (take i defs)) base v b → length b.nodes ≡ start_of (def_shapes defs) i
+defs_begin {b = b} defs i le r =
+    let size : length (def_shapes (take i defs)) ≡ i = def_count (take i defs) ∙ take_count i defs le in
+    let front : start_of (def_shapes (take i defs) ++ def_shapes (drop i defs)) i ≡ start_of (def_shapes (take i defs)) i = start_prefix (def_shapes (take i defs)) (def_shapes (drop i defs)) i (omega (arith, size)) in
+    let whole : def_shapes (take i defs) ++ def_shapes (drop i defs) ≡ def_shapes defs = sym (def_shapes-append (take i defs) (drop i defs)) ∙ ap def_shapes (take-append-drop i defs) in
+    let count : length b.nodes ≡ start_of (def_shapes (take i defs)) (length (def_shapes (take i defs))) = omega (arith, r.adds.count, r.gives_count) in
+    count ∙ ap (start_of (def_shapes (take i defs))) size ∙ sym front ∙ ap (λ Xs. start_of Xs i) whole
 
 pub finishes_end : {names : List Known} {u v : Waits} {a b : Lists} (i : ℕ) → FinishesTo names i u v a b → length v.items ≤ i → Finishes names u v a b
 finishes_end {names} {u} {v} {a} {b} i r h = record {

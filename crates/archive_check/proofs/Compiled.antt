@@ -1,37 +1,30 @@
 -- What compiling does, by cases.
-use Rattle.std.proofs.Common.{◌≡◌, ◌≢◌, ◌⊎◌, inl, inr, ⊎_elim, ℕ, zero, suc, refl, sym, ap, ap₂, ◌∙◌, subst, ◌+◌, ◌-◌, ◌*◌, ◌<◌, ◌≤◌, max, arith, List, [], ◌∷◌, ◌++◌, length, take, drop, slice_index_or, Bool, true, Option, Some, None, Result, Ok, Err, IfOk, length-append, mul_comm, Bor}
+use Rattle.std.proofs.Common.{◌≡◌, ◌⊎◌, inl, inr, ⊎_elim, ℕ, zero, suc, refl, sym, ap, ◌∙◌, subst, ◌+◌, ◌-◌, ◌*◌, ◌<◌, ◌≤◌, arith, List, [], ◌∷◌, length, drop, Bool, true, Option, Some, None, mul_comm, Bor}
 use Rattle.archive_check.specs.declared.expr.Kind.{Kind as KindExpr}
-use Rattle.archive_check.specs.declared.expr.FlavorInfo.{FlavorInfo}
-use Rattle.archive_check.specs.declared.plan.Target.{Target}
-use Rattle.archive_check.specs.declared.plan.Target.TheVariants.{One, Run, Text}
-use Rattle.archive_check.specs.declared.plan.Job.{Job}
-use Rattle.archive_check.specs.declared.plan.Job.TheVariants.{Free, Leaf, Record, Choice, Array, Pointer as PointerJob, Shared, Weak, Str}
+use Rattle.archive_check.specs.declared.plan.Job.TheVariants.{Free, Leaf, Record, Choice, Array}
 use Rattle.archive_check.specs.declared.plan.Node.{Node}
 use Rattle.archive_check.specs.declared.plan.Part.{Part as PlanPart}
-use Rattle.archive_check.specs.declared.plan.Span.{Span}
-use Rattle.archive_check.specs.declared.plan.Sort.{Sort}
 use Rattle.archive_check.specs.declared.plan.Checker.{Checker}
 use Rattle.archive_check.specs.declared.growing.Known.{Known}
 use Rattle.archive_check.specs.declared.growing.Laid.{Laid}
-use Rattle.archive_check.specs.Shape.{Name, Kind, Shape, leaf, parts, choice, array, boxed, vec, str, shared, weak, named, Pointee, one, run, text, Parts, Variants, variant_at}
-use Rattle.archive_check.specs.Layout.{Layouts, up, size_of, align_of, kind_size, kind_align, parts_end, parts_align, variants_end, variants_align, pointer_size}
+use Rattle.archive_check.specs.Shape.{Name, Kind, Shape, leaf, parts, choice, array, named, Parts, Variants}
+use Rattle.archive_check.specs.Layout.{Layouts, up, size_of, align_of, kind_size, kind_align, parts_end, variants_end}
 use Rattle.archive_check.specs.Plain.{is_plain_kind}
 use Rattle.archive_check.specs.Reads.{Schema}
 use Rattle.archive_check.specs.Walk.{walk_parts, walk_array, walk_none}
-use Rattle.archive_check.specs.Expressions.{kind_of, flavor_of, pointee_of}
-use Rattle.archive_check.specs.Runs.{IsAt, IsNode, Takes, times, target_size}
-use Rattle.archive_check.specs.Closed.{span, PartsWithin, SpanFits, VariantsFit, ArrayFits, JobFits}
-use Rattle.archive_check.specs.Represents.{Stands, PartsStand, Sized, Points, points_one, points_run, points_text, Made, made_free, made_leaf, made_record, made_choice, made_array, made_boxed, made_vec, made_str, made_shared, made_weak}
+use Rattle.archive_check.specs.Expressions.{kind_of}
+use Rattle.archive_check.specs.Runs.{IsAt, IsNode, Takes, times}
+use Rattle.archive_check.specs.Closed.{span, PartsWithin, SpanFits, ArrayFits}
+use Rattle.archive_check.specs.Represents.{Made, made_free, made_leaf, made_record, made_choice, made_array}
 use Rattle.archive_check.specs.Fitting.{fits, rounded}
-use Rattle.archive_check.specs.Queued.{Wait, Waits, waits_size}
-use Rattle.archive_check.specs.Growing.{node_of, Lists, lists_in, Grows, IsPushed, IsMade}
-use Rattle.archive_check.specs.Compiled.{Follows, Below, Knows, Settled, Given, MadeTo, Adds, Compiled, Targets, Leads, PartFits, CompiledParts, IsVariant, CompiledVariants}
-use Rattle.archive_check.specs.Counts.{count_of, count_pointee}
-use Rattle.archive_check.proofs.Inside.{pointer_few}
+use Rattle.archive_check.specs.Queued.{Waits}
+use Rattle.archive_check.specs.Growing.{node_of, Lists, IsMade}
+use Rattle.archive_check.specs.Compiled.{Follows, Knows, Settled, Given, MadeTo, Compiled, PartFits, CompiledParts, CompiledVariants}
+use Rattle.archive_check.proofs.Compilable.{can_parts, can_choice, can_array}
 use Rattle.archive_check.proofs.Runs.{plain_walk}
-use Rattle.archive_check.proofs.Fitting.{fits_some, fits_none, round_up, some_is, rounded_fits, rounded_some, times_none, times_fits}
-use Rattle.archive_check.proofs.GoingOn.{at_more, same_at, at_dropped, at_taken, goes_longer, grows_refl, grows_trans, pushed_grows, pushed_count, pushed_at, pushed_is}
-use Rattle.archive_check.proofs.Adding.{knows_settled, adds_refl, adds_push, compiled_push, compiled_made, stands_of, some_positive}
+use Rattle.archive_check.proofs.Fitting.{fits_some, round_up, some_is, rounded_fits, rounded_some, times_none, times_fits}
+use Rattle.archive_check.proofs.GoingOn.{at_more, same_at, at_dropped, at_taken, goes_longer, grows_trans, pushed_grows}
+use Rattle.archive_check.proofs.Adding.{knows_settled, adds_refl, compiled_made, stands_of}
 use Rattle.archive_check.proofs.FreeWalks.{kind_few, empty_plain, AnyBytes, any_stands, any_parts, any_run}
 
 -- a leaf
@@ -41,7 +34,7 @@ leaf_free k z e (inr h) = let same : kind_size k ≡ z = cc in empty_plain k (sa
 
 pub compiled_leaf : {names : List Known} {done : ℕ} {v : Waits} {a c : Lists} (kind : KindExpr) {j : ℕ} → IsMade a c (Some (kind_size (kind_of kind))) (kind_align (kind_of kind)) (is_plain_kind (kind_of kind)) (Leaf kind) j
     → Compiled names done (leaf (kind_of kind)) v v a c j
-compiled_leaf {names = names} {v = v} {a = a} kind p = compiled_made (adds_refl names v a) (leaf (kind_of kind)) p refl (omega arith)
+compiled_leaf {names = names} {v = v} {a = a} kind p = compiled_made (adds_refl names v a) (leaf (kind_of kind)) p refl (omega arith) (λ all can. all)
     (λ m l g k. (sym (fits_some (kind_size (kind_of kind)) (kind_few (kind_of kind))), refl))
     (λ m g w z e pos. let same : kind_size (kind_of kind) ≡ z = cc in omega (arith, same))
     (λ s shapes m g t given k z e h. made_free (λ bytes pending depth stop p start seen le. plain_walk s t.laid_out bytes (leaf (kind_of kind)) p (leaf_free (kind_of kind) z e h) le))
@@ -90,7 +83,7 @@ module _ {names : List Known} {done : ℕ} {v w : Waits} {a b c : Lists} where
   compiled_record {ps = ps} {laid = laid} {size = size} f es p =
       let grown = pushed_grows p.pushed in
       let split : (z : ℕ) → size ≡ Some z → (e : ℕ) × (laid.end ≡ Some e) × (e ≤ z) × (z ≡ up e laid.align) = λ z e. rounded_some laid.end laid.align z f.positive (sym es ∙ e) in
-      compiled_made f.adds (parts ps) p (ap (λ n. n + 1) f.gives_count) (omega (arith, f.waits_few))
+      compiled_made f.adds (parts ps) p (ap (λ n. n + 1) f.gives_count) (omega (arith, f.waits_few)) (λ all can. f.known all (can_parts can))
       (λ m l g n. let k = f.lays m l (grows_trans grown g) n in
       (es ∙ ap (λ o. rounded o laid.align) k.0 ∙ rounded_fits (parts_end l 0 ps) laid.align f.positive ∙ ap (λ x. fits (up (parts_end l 0 ps) x)) k.1, k.1))
       (λ m g w z e pos. let q = split z e in (
@@ -112,7 +105,7 @@ module _ {names : List Known} {done : ℕ} {v w : Waits} {a b c : Lists} where
   compiled_choice {name = name} {vs = vs} {laid = laid} {size = size} f es never p =
       let grown = pushed_grows p.pushed in
       let split : (z : ℕ) → size ≡ Some z → (e : ℕ) × (laid.end ≡ Some e) × (e ≤ z) × (z ≡ up e laid.align) = λ z e. rounded_some laid.end laid.align z f.positive (sym es ∙ e) in
-      compiled_made f.adds (choice name.now vs) p (ap (λ n. n + 1) f.gives_count) (omega (arith, f.waits_few))
+      compiled_made f.adds (choice name.now vs) p (ap (λ n. n + 1) f.gives_count) (omega (arith, f.waits_few)) (λ all can. f.known all (can_choice can))
       (λ m l g n. let k = f.lays m l (grows_trans grown g) n in
       (es ∙ ap (λ o. rounded o laid.align) k.0 ∙ rounded_fits (variants_end l vs) laid.align f.positive ∙ ap (λ x. fits (up (variants_end l vs) x)) k.1, k.1))
       (λ m g w z e pos. let q = split z e in
@@ -162,7 +155,7 @@ pub compiled_array : {names : List Known} {done : ℕ} {v w : Waits} {a b c : Li
     → n < 18446744073709551616 → size ≡ times here.size n → (free ≡ true → here.job ≡ Free) → IsMade b c size here.align free (Array n element) j → Compiled names done (array n X) v w a c j
 compiled_array {done = done} {X = X} {n = n} {here = here} {free = free} f at few es job p =
     let grown = pushed_grows p.pushed in
-    compiled_made f.adds (array n X) p (ap (λ n. n + 1) f.gives_count) (omega (arith, f.waits_few))
+    compiled_made f.adds (array n X) p (ap (λ n. n + 1) f.gives_count) (omega (arith, f.waits_few)) (λ all can. f.known all (can_array can))
     (λ m l g k. let q = element_sized f at m l (grows_trans grown g) k in (es ∙ ap (λ o. times o n) q.0 ∙ times_fits (size_of l X) n, q.1))
     (λ m g w z e pos. (pos, array_fits f at m (grows_trans grown g) here.size n z refl few (sym es ∙ e) pos))
     (λ s shapes m g t given k z e h. element_free f at (grows_trans grown g) t given k here.size free n z refl (sym es ∙ e) job h)
@@ -175,6 +168,7 @@ compiled_name {names = names} {name = name} {v = v} {a = a} {j = j} le e h = rec
   gives_count = refl;
   adds = adds_refl names v a;
   waits_few = omega arith;
+  known = λ all can. all;
   below = omega (arith, le, h);
   root = inl (name, refl, e);
   lays = λ m l g k. k name j e h;

@@ -1,5 +1,5 @@
 -- What fits, and what none does.
-use Rattle.std.proofs.Common.{◌≡◌, ◌≢◌, ⊎_elim, ℕ, zero, suc, refl, sym, ap, ap₂, ◌∙◌, ◌+◌, ◌*◌, ◌<◌, ◌≤◌, max, arith, Option, Some, None, nat_lt, nat_eq, cond, if◌then◌else◌, mul_comm}
+use Rattle.std.proofs.Common.{◌≡◌, ⊎_elim, ℕ, zero, suc, refl, sym, ap, ap₂, ◌∙◌, ◌+◌, ◌*◌, ◌<◌, ◌≤◌, max, arith, Option, Some, None, mul_comm}
 use Rattle.std.proofs.lemmas.Bool.Decides.{nat_tests}
 use Rattle.std.proofs.lemmas.Bool.{cases_lt}
 use Rattle.archive_check.specs.Layout.{up}

@@ -1,17 +1,17 @@
 -- What a node without anything to check stands for is walked whatever its bytes are.
-use Rattle.std.proofs.Common.{◌≡◌, ◌⊎◌, inl, inr, ⊎_elim, ℕ, zero, suc, refl, sym, ap, ◌∙◌, subst, ◌+◌, ◌-◌, ◌*◌, ◌<◌, ◌≤◌, arith, List, [], ◌∷◌, length, slice_index_or, Bool, true, Option, Some, None, IsTrue}
+use Rattle.std.proofs.Common.{◌≡◌, ℕ, zero, suc, refl, ap, ◌∙◌, subst, ◌+◌, ◌*◌, ◌<◌, ◌≤◌, arith, List, length, Option, Some, IsTrue}
 use Rattle.std.specs.Int.{Width, w8, w16, w32, w64, w128, byte_len}
 use Rattle.archive_check.specs.declared.plan.Job.TheVariants.{Free}
 use Rattle.archive_check.specs.declared.plan.Node.{Node}
 use Rattle.archive_check.specs.declared.plan.Part.{Part as PlanPart}
 use Rattle.archive_check.specs.declared.plan.Checker.{Checker}
-use Rattle.archive_check.specs.Shape.{Kind, unit, bool, char, number, non_zero, raw_rel, Shape, leaf, named, Parts, no_part, part}
+use Rattle.archive_check.specs.Shape.{Kind, unit, bool, char, number, non_zero, raw_rel, Shape, Parts}
 use Rattle.archive_check.specs.Layout.{up, kind_size, size_of, align_of, parts_end}
 use Rattle.archive_check.specs.Plain.{is_plain_kind}
 use Rattle.archive_check.specs.Reads.{Schema, LaidOut}
 use Rattle.archive_check.specs.Tour.{Seen}
 use Rattle.archive_check.specs.Walk.{Walk, walk_named, WalkParts, walk_no_part, walk_part, WalkRun, walk_none, walk_element}
-use Rattle.archive_check.specs.Runs.{IsAt, IsNode, Takes}
+use Rattle.archive_check.specs.Runs.{IsAt, IsNode}
 use Rattle.archive_check.specs.Represents.{Stands, stands, stands_named, PartsStand, parts_over, parts_more, Made, made_free}
 use Rattle.archive_check.specs.Compiled.{MadeTo}
 use Rattle.archive_check.proofs.Inside.{parts_end_le}

@@ -1,13 +1,11 @@
 -- Lists that go on, and plans that grow.
-use Rattle.std.proofs.Common.{◌≡◌, ◌⊎◌, inl, inr, ⊎_elim, ℕ, zero, suc, refl, sym, ap, ◌∙◌, subst, ◌+◌, ◌-◌, ◌<◌, ◌≤◌, arith, List, [], ◌∷◌, ◌++◌, length, slice_index_or, take, drop, Option, Some, None, length-append, append_assoc, append-nil}
-use Rattle.archive_check.specs.declared.plan.Node.{Node}
+use Rattle.std.proofs.Common.{◌≡◌, ◌⊎◌, inl, inr, ⊎_elim, ℕ, zero, suc, refl, sym, ap, ◌∙◌, subst, ◌+◌, ◌-◌, ◌<◌, ◌≤◌, arith, List, [], ◌∷◌, ◌++◌, length, slice_index_or, take, drop, Option, length-append, append_assoc, append-nil}
 use Rattle.archive_check.specs.declared.plan.Job.{Job}
 use Rattle.archive_check.specs.declared.plan.Part.{Part}
 use Rattle.archive_check.specs.declared.plan.Span.{Span}
 use Rattle.archive_check.specs.declared.plan.Sort.{Sort}
-use Rattle.archive_check.specs.declared.plan.Checker.{Checker}
 use Rattle.archive_check.specs.Runs.{IsAt}
-use Rattle.archive_check.specs.Growing.{Lists, lists_in, Goes, Grows, IsPushed, IsSorted, IsExtended}
+use Rattle.archive_check.specs.Growing.{Lists, Goes, Grows, IsPushed, IsSorted, IsExtended}
 
 index_more : {A : Type 0} (xs ys : List A) (i : ℕ) (x : A) → i < length xs → slice_index_or (xs ++ ys) i x ≡ slice_index_or xs i x
 index_more [] ys i x h = absurd (omega arith)

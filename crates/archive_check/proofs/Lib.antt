@@ -65,6 +65,7 @@ pub mod KeptPositions
 pub mod SubtreeSteps
 pub mod Fitting
 pub mod GoingOn
+pub mod Compilable
 pub mod Adding
 pub mod FreeWalks
 pub mod Compiled
@@ -78,9 +79,15 @@ pub mod Planned
 pub mod Viewed
 pub mod Said
 pub mod Suiting
+pub mod ExtentsOf
+pub mod Defining
 pub mod ClosedAgain
 pub mod Archives
 pub mod Skipping
 pub mod Passing
+pub mod PlansInOrder
 pub mod Unshared
+pub mod Standing
+pub mod Cleaning
+pub mod Tightness
 pub mod Before

@@ -12,7 +12,7 @@ or_some : (a b : Option Name) (n : Name) → or_else a b ≡ Some n → (a ≡ S
 or_some None b n e = inr e
 or_some (Some m) b n e = inl e
 
-or_none : (a b : Option Name) → or_else a b ≡ None → (a ≡ None) × (b ≡ None)
+pub or_none : (a b : Option Name) → or_else a b ≡ None → (a ≡ None) × (b ≡ None)
 or_none None b e = (refl, e)
 or_none (Some m) b e = cc
 

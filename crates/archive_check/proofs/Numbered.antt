@@ -1,14 +1,17 @@
 -- Names with their nodes, and definitions.
-use Rattle.std.proofs.Common.{◌≡◌, ◌≢◌, ◌⊎◌, inl, inr, ⊎_elim, ℕ, zero, suc, refl, sym, ap, ◌∙◌, subst, ◌+◌, ◌-◌, ◌<◌, ◌≤◌, arith, List, [], ◌∷◌, ◌++◌, length, Bool, true, false, cond, bytes_eq, Option, Some, None, length-append, Bor}
+use Rattle.std.proofs.Common.{◌≡◌, inl, inr, ⊎_elim, ℕ, zero, suc, refl, sym, ap, ◌∙◌, subst, ◌+◌, ◌<◌, ◌≤◌, arith, List, [], ◌∷◌, ◌++◌, length, take, drop, is_some, IsSome, Bool, true, false, cond, bytes_eq, Option, Some, None, length-append}
 use Rattle.archive_check.specs.declared.defs.Def.{Def}
 use Rattle.archive_check.specs.declared.growing.Known.{Known}
-use Rattle.archive_check.specs.Shape.{Name, Shape, named, definition}
+use Rattle.archive_check.specs.Shape.{Name, Shape, definition}
 use Rattle.archive_check.specs.Expressions.{shape_of, entries_of}
 use Rattle.archive_check.specs.Runs.{IsAt}
 use Rattle.archive_check.specs.Growing.{node_of}
 use Rattle.archive_check.specs.Counts.{count_of}
 use Rattle.archive_check.specs.Numbered.{def_shapes, start_of, FirstAt, IsRootOf, RootIs, IsNumbered}
-use Rattle.archive_check.proofs.GoingOn.{at_more, at_less, at_last, same_at, some_at}
+use Rattle.archive_check.specs.Compilable.{Can}
+use Rattle.archive_check.specs.Planned.{DefsInOrder, InOrder, CanChain}
+use Rattle.std.proofs.lemmas.List.{take-append-drop}
+use Rattle.archive_check.proofs.GoingOn.{at_more, at_less, at_last, at_taken, same_at, some_at}
 
 at_tail : {A : Type 0} {x y : A} {xs : List A} {i : ℕ} → IsAt (y ∷ xs) (suc i) x → IsAt xs i x
 at_tail h = record { below = omega (arith, h.below); is = h.is }
@@ -137,3 +140,103 @@ numbered_next {defs} {names} {new} {i} {start} {d} k r es at en root e =
           (subst (λ (z : Def). IsRootOf names p (start_of (def_shapes defs) p) (shape_of z.expr) y.node) (sym same) (subst (λ (z : Known). IsRootOf names p (start_of (def_shapes defs) p) (shape_of d.expr) z.node) (sym q.1) here_root)))
           (at_last names k y p g);
     })
+
+-- a name that is defined by the first definitions has an entry among the first names
+pub named_found : (ds : List Def) (ks : List Known) (name : Name) → ((p : ℕ) (d : Def) (k : Known) → IsAt ds p d → IsAt ks p k → k.name.now ≡ d.name.now) → length ds ≤ length ks
+    → IsSome (definition (entries_of ds) name) → IsSome (node_of ks name)
+named_found [] ks name same le h = let f : false ≡ true = h in absurd (cc f)
+named_found (d ∷ ds) [] name same le h = absurd (omega (arith, le))
+named_found (d ∷ ds) (k ∷ ks) name same le h =
+    by (named_found ds ks name (λ p x l at kt. same (suc p) x l (at_cons d at) (at_cons k kt)) (omega arith)) (bytes_eq d.name.now name) refl
+  where
+    same_test : bytes_eq k.name.now name ≡ bytes_eq d.name.now name
+    same_test = ap (λ n. bytes_eq n name) (same 0 d k (record { below = omega arith; is = refl }) (record { below = omega arith; is = refl }))
+
+    by : (IsSome (definition (entries_of ds) name) → IsSome (node_of ks name)) → (b : Bool) → bytes_eq d.name.now name ≡ b → IsSome (node_of (k ∷ ks) name)
+    by rest true e = ap is_some (ap (λ b. cond b (Some k.node) (node_of ks name)) (same_test ∙ e))
+    by rest false e =
+        let there : IsSome (definition (entries_of ds) name) = sym (ap is_some (ap (λ b. cond b (Some (shape_of d.expr)) (definition (entries_of ds) name)) e)) ∙ h in
+        ap is_some (ap (λ b. cond b (Some k.node) (node_of ks name)) (same_test ∙ e)) ∙ rest there
+
+take_short : {A : Type 0} (n : ℕ) (xs : List A) → length (take n xs) ≤ n
+take_short zero xs = omega arith
+take_short (suc n) [] = omega arith
+take_short (suc n) (x ∷ xs) = omega (arith, take_short n xs)
+
+pub take_count : {A : Type 0} (n : ℕ) (xs : List A) → n ≤ length xs → length (take n xs) ≡ n
+take_count zero xs h = refl
+take_count (suc n) [] h = absurd (omega arith)
+take_count (suc n) (x ∷ xs) h = ap suc (take_count n xs (omega arith))
+
+-- what the first i definitions define is found as soon as there are i names
+pub prefix_found : {defs : List Def} {names : List Known} (i : ℕ) (name : Name) → IsNumbered defs names i → IsSome (definition (entries_of (take i defs)) name) → IsSome (node_of names name)
+prefix_found {defs} {names} i name num h =
+    named_found (take i defs) names name (λ p d k at kt. num.name_is p d k (at_taken i defs p d at).1 kt) (omega (arith, take_short i defs, num.count)) h
+
+some_of : (o : Option ℕ) → IsSome o → (j : ℕ) × (o ≡ Some j)
+some_of None h = let f : false ≡ true = h in absurd (cc f)
+some_of (Some j) h = (j, refl)
+
+module _ {names : List Known} {defs : List Def} (num : IsNumbered defs names (length defs)) where
+  -- no name's node comes after its definition's
+  pub first_below : (r : ℕ) (name : Name) (q j : ℕ) → q < r → FirstAt names name q j → j < start_of (def_shapes defs) (q + 1)
+  first_below zero name q j lt f = absurd (omega (arith, lt))
+  first_below (suc r) name q j lt f =
+      let d = some_at defs q (omega (arith, f.at.below, num.count)) in ⊎_elim
+      (λ h.
+      let before = first_below r h.0 h.2.0 f.known.node (omega (arith, lt, h.2.1)) h.2.2 in
+      omega (arith, before, start_later (def_shapes defs) (h.2.0 + 1) (q + 1) (omega (arith, h.2.1)), f.node_is))
+      (λ h. omega (arith, h.0, start_next (def_shapes defs) q (shape_of d.0.expr) (def_at defs q d.1), f.node_is))
+      (num.root_is q d.0 f.known d.1 f.at)
+
+  -- and the node of one that is defined before i, before the nodes of i
+  pub placed_before : (i : ℕ) (name : Name) (j : ℕ) → i ≤ length defs → IsSome (definition (entries_of (take i defs)) name) → node_of names name ≡ Some j → j < start_of (def_shapes defs) i
+  placed_before i name j le h e =
+      let size = take_count i names (omega (arith, num.count, le)) in
+      let found : IsSome (node_of (take i names) name) =
+      named_found (take i defs) (take i names) name (λ p d k at kt. num.name_is p d k (at_taken i defs p d at).1 (at_taken i names p k kt).1) (omega (arith, take_short i defs, size)) h in
+      let there = some_of (node_of (take i names) name) found in
+      let f = first_at (take i names) name there.0 there.1 in
+      let whole : FirstAt names name f.0 there.0 = subst (λ ks. FirstAt ks name f.0 there.0) (take-append-drop i names) (first_more (drop i names) f.1) in
+      let same : Some there.0 ≡ Some j = sym (node_of_first names name f.0 there.0 whole) ∙ e in
+      let same_node : there.0 ≡ j = cc in
+      omega (arith, same_node, first_below (suc f.0) name f.0 there.0 (omega arith) whole, start_later (def_shapes defs) (f.0 + 1) i (omega (arith, f.1.at.below, size)))
+
+  pub all_before : (name : Name) (j : ℕ) → node_of names name ≡ Some j → j < start_of (def_shapes defs) (length defs)
+  all_before name j e =
+      let f = first_at names name j e in
+      omega (arith, first_below (suc f.0) name f.0 j (omega arith) f.1, start_later (def_shapes defs) (f.0 + 1) (length defs) (omega (arith, f.1.at.below, num.count)))
+
+  -- so where the definitions are in order, each can be compiled in its turn
+  pub can_defs : DefsInOrder defs → (i : ℕ) (d : Def) → IsAt defs i d → Can names (start_of (def_shapes defs) i) (shape_of d.expr)
+  can_defs o i d at = record {
+    known = λ name m. named_found defs names name num.name_is (omega (arith, num.count)) (o.defined i d at name m);
+    placed = λ name j h e. placed_before i name j (omega (arith, at.below)) (o.earlier i d at name h) e;
+  }
+
+  pub can_chain : DefsInOrder defs → CanChain names (def_shapes defs)
+  can_chain o i X at =
+      let d = some_at defs i (omega (arith, at.below, def_count defs)) in
+      subst (λ Y. Can names (start_of (def_shapes defs) i) Y) (same_at (def_at defs i d.1) at) (can_defs o i d.0 d.1)
+
+  pub can_root : {X : Shape} → InOrder defs X → Can names (start_of (def_shapes defs) (length defs)) X
+  can_root o = record {
+    known = λ name m. named_found defs names name num.name_is (omega (arith, num.count)) (o.root name m);
+    placed = λ name j h e. all_before name j e;
+  }
+
+-- the names are those that are defined
+pub numbered_known : (ds : List Def) (names : List Known) → length names ≡ length ds → ((i : ℕ) (d : Def) (k : Known) → IsAt ds i d → IsAt names i k → k.name.now ≡ d.name.now)
+    → (name : Name) → is_some (node_of names name) ≡ is_some (definition (entries_of ds) name)
+numbered_known [] [] e same name = refl
+numbered_known [] (k ∷ ks) e same name = absurd (omega (arith, e))
+numbered_known (d ∷ ds) [] e same name = absurd (omega (arith, e))
+numbered_known (d ∷ ds) (k ∷ ks) e same name =
+    let here = same 0 d k (record { below = omega arith; is = refl }) (record { below = omega arith; is = refl }) in
+    let rest = numbered_known ds ks (omega (arith, e)) (λ i y l h g. same (suc i) y l (at_cons d h) (at_cons k g)) name in
+    ap (λ n. is_some (cond (bytes_eq n name) (Some k.node) (node_of ks name))) here ∙ either (bytes_eq d.name.now name) rest
+  where
+    either : (b : Bool) → is_some (node_of ks name) ≡ is_some (definition (entries_of ds) name)
+        → is_some (cond b (Some k.node) (node_of ks name)) ≡ is_some (cond b (Some (shape_of d.expr)) (definition (entries_of ds) name))
+    either true r = refl
+    either false r = r

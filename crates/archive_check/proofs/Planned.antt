@@ -1,8 +1,9 @@
 -- A plan of all definitions, the root, and all that they lead to.
-use Rattle.std.proofs.Common.{◌≡◌, ◌⊎◌, inl, inr, ⊎_elim, ℕ, zero, suc, refl, sym, ap, ◌∙◌, subst, ◌+◌, ◌-◌, ◌<◌, ◌≤◌, arith, List, [], ◌∷◌, ◌++◌, length, slice_index_or, Option, Some, None, length-append}
+use Rattle.std.proofs.Common.{◌≡◌, inr, ⊎_elim, ℕ, zero, suc, refl, sym, ap, ◌∙◌, subst, ◌+◌, ◌<◌, ◌≤◌, arith, List, [], ◌∷◌, ◌++◌, length, slice_index_or, Some, length-append}
 use Rattle.std.proofs.lemmas.Bool.{cases_lt}
 use Rattle.archive_check.specs.declared.defs.Def.{Def}
 use Rattle.archive_check.specs.declared.plan.Plan.{Plan}
+use Rattle.archive_check.specs.declared.plan.Node.{Node}
 use Rattle.archive_check.specs.declared.plan.Checker.{Checker}
 use Rattle.archive_check.specs.declared.growing.Known.{Known}
 use Rattle.archive_check.specs.Shape.{Name, Shape, leaf, unit, named, definition}
@@ -13,14 +14,15 @@ use Rattle.archive_check.specs.Reads.{Schema, LaidOut}
 use Rattle.archive_check.specs.Runs.{IsAt}
 use Rattle.archive_check.specs.Represents.{Stands, stands, stands_named, Sized, points_one}
 use Rattle.archive_check.specs.Fitting.{fits}
-use Rattle.archive_check.specs.Growing.{node_of, Lists, no_lists, lists_of, lists_in, Grows}
-use Rattle.archive_check.specs.Queued.{Wait, Waits, no_waits, wait_shapes, Reserved}
+use Rattle.archive_check.specs.Growing.{node_of, Lists, lists_of, Grows}
+use Rattle.archive_check.specs.Queued.{Wait, Waits, wait_shapes, Reserved}
+use Rattle.archive_check.specs.Compilable.{Can}
 use Rattle.archive_check.specs.Compiled.{Follows, Below, Knows, Settled, Given, ClosedTo, MadeTo, Compiled}
 use Rattle.archive_check.specs.Numbered.{def_shapes, start_of, FirstAt, IsRootOf, IsNumbered}
-use Rattle.archive_check.specs.Planned.{IsOf, IsPlan, Kept, Chained, Finishes}
-use Rattle.archive_check.proofs.GoingOn.{same_get, same_goes, some_at, at_more, at_behind, at_end, goes_longer, grows_trans}
+use Rattle.archive_check.specs.Planned.{IsOf, IsPlan, HasNames, InOrder, Kept, Chained, CanFinish, Finishes}
+use Rattle.archive_check.proofs.GoingOn.{same_get, same_at, same_goes, some_at, at_more, at_behind, at_end, goes_longer, grows_trans}
 use Rattle.archive_check.proofs.Adding.{given_first, given_second, stands_of}
-use Rattle.archive_check.proofs.Numbered.{def_at, def_count, start_next, start_later, start_prefix, start_behind, first_at, definition_is}
+use Rattle.archive_check.proofs.Numbered.{def_at, def_count, can_chain, can_root, all_before, start_next, start_later, start_prefix, start_behind, first_at, definition_is, numbered_known}
 use Rattle.archive_check.proofs.Chained.{root_same, compiled_same, chained_next}
 
 layout_sized : {m : Checker} {j : ℕ} (l : Layouts) (name : Name) (X : Shape) → l name ≡ layout l X → Sized m j (size_of l X) (align_of l X) → Sized m j (l name).size (l name).align
@@ -231,6 +233,29 @@ planned {defs = defs} {w = w} {base = base} {j = j} {b = b} X plan num chain bas
           };
     }
 
+-- a checker of the plan, without a byte to check
+abbrev checker_of : Plan → Checker
+checker_of plan = record {
+  nodes = record { ref_ptr = (0, 0); now = plan.nodes.items };
+  parts = record { ref_ptr = (0, 0); now = plan.parts.items };
+  variants = record { ref_ptr = (0, 0); now = plan.variants.items };
+  sorts = record { ref_ptr = (0, 0); now = plan.sorts.items };
+  bytes = record { ref_ptr = (0, 0); now = [] };
+}
+
+-- the names' nodes
+names_planned : {names : List Known} {defs : List Def} {w : Waits} {base : ℕ} (X : Shape) (plan : Plan) → IsNumbered defs names (length defs) → Chained names (all_shapes defs X w) base w (lists_of plan)
+    → base ≡ start_of (def_shapes defs) (length defs) + count_of X → HasNames defs names plan
+names_planned {names} {defs} X plan num chain base_is =
+    let m = checker_of plan in
+    let g : Follows (lists_of plan) m = plan_follows m plan (record { nodes = refl; parts = refl; variants = refl; sorts = refl }) in
+    record {
+      known = numbered_known defs names num.count num.name_is;
+      there = λ name j e. (all_below X num chain base_is m g).names_below name j e;
+      sizes = λ s table laid name j node e at. let t = all_known X num chain base_is m g s table laid name j e in ap (λ (n : Node). n.size) (same_at at t.at) ∙ t.size_is;
+      aligns = λ s table laid name j node e at. let t = all_known X num chain base_is m g s table laid name j e in ap (λ (n : Node). n.align) (same_at at t.at) ∙ t.align_is;
+    }
+
 -- the definitions, then the root, then what waits
 pub all_planned : {names : List Known} {defs : List Def} {v u w : Waits} {base j : ℕ} {b c : Lists} (X : Shape) (plan : Plan) → IsNumbered defs names (length defs) → Chained names (def_shapes defs) base v b
     → base ≡ start_of (def_shapes defs) (length defs) + count_of X → Compiled names (length b.nodes) X v u b c j → Finishes names u w c (lists_of plan) → IsPlan defs X plan j
@@ -238,3 +263,21 @@ all_planned {defs = defs} {base = base} X plan num chain base_is root rest =
     let front = chained_next chain root in
     let starts = ap (start_of (def_shapes defs)) (def_count defs) in
     planned X plan num (rest.chained (def_shapes defs ++ X ∷ []) base front) base_is root (omega (arith, chain.adds.count, chain.gives_count, starts)) rest.grows
+
+-- where the definitions are in order, the root can be compiled behind them, and then all that waits
+module _ {names : List Known} {defs : List Def} {base : ℕ} {v : Waits} {b : Lists} {X : Shape} (num : IsNumbered defs names (length defs)) (chain : Chained names (def_shapes defs) base v b) (o : InOrder defs X) where
+  root_begins : length b.nodes ≡ start_of (def_shapes defs) (length defs)
+  root_begins = let starts = ap (start_of (def_shapes defs)) (def_count defs) in omega (arith, chain.adds.count, chain.gives_count, starts)
+
+  pub root_can : {done : ℕ} → done ≡ length b.nodes → Can names done X
+  root_can e = subst (λ n. Can names n X) (sym (e ∙ root_begins)) (can_root num o)
+
+  pub finish_can : {u : Waits} {c : Lists} {j : ℕ} → Compiled names (length b.nodes) X v u b c j → CanFinish names u c
+  finish_can root = record {
+    known = root.known (chain.all_known (can_chain num o.definitions)) (root_can refl);
+    below = λ name j e. omega (arith, all_before num name j e, root_begins, goes_longer root.adds.grows.nodes);
+  }
+
+pub all_named : {names : List Known} {defs : List Def} {v u w : Waits} {base j : ℕ} {b c : Lists} (X : Shape) (plan : Plan) → IsNumbered defs names (length defs) → Chained names (def_shapes defs) base v b
+    → base ≡ start_of (def_shapes defs) (length defs) + count_of X → Compiled names (length b.nodes) X v u b c j → Finishes names u w c (lists_of plan) → HasNames defs names plan
+all_named {defs = defs} {base = base} X plan num chain base_is root rest = names_planned X plan num (rest.chained (def_shapes defs ++ X ∷ []) base (chained_next chain root)) base_is

@@ -1,17 +1,16 @@
 -- What compiling pointers does, by cases.
-use Rattle.std.proofs.Common.{◌≡◌, ℕ, zero, suc, refl, sym, ap, ◌∙◌, subst, ◌+◌, ◌<◌, ◌≤◌, arith, List, [], ◌∷◌, ◌++◌, length, Option, Some, None, length-append}
+use Rattle.std.proofs.Common.{◌≡◌, ℕ, refl, sym, ap, ◌∙◌, subst, ◌+◌, ◌<◌, ◌≤◌, arith, List, [], ◌∷◌, length, Some}
 use Rattle.std.specs.Int.{w8}
 use Rattle.archive_check.specs.declared.expr.FlavorInfo.{FlavorInfo}
 use Rattle.archive_check.specs.declared.plan.Target.{Target}
 use Rattle.archive_check.specs.declared.plan.Target.TheVariants.{One, Run, Text}
 use Rattle.archive_check.specs.declared.plan.Job.{Job}
 use Rattle.archive_check.specs.declared.plan.Job.TheVariants.{Free, Pointer as PointerJob, Shared, Weak, Str}
-use Rattle.archive_check.specs.declared.plan.Node.{Node}
 use Rattle.archive_check.specs.declared.plan.Sort.{Sort}
 use Rattle.archive_check.specs.declared.plan.Checker.{Checker}
 use Rattle.archive_check.specs.declared.growing.Known.{Known}
 use Rattle.archive_check.specs.Shape.{unsigned, number, Shape, leaf, boxed, vec, str, shared, weak, Pointee, one, run, text}
-use Rattle.archive_check.specs.Layout.{Layouts, size_of, align_of, pointer_size}
+use Rattle.archive_check.specs.Layout.{Layouts, size_of, align_of}
 use Rattle.archive_check.specs.Reads.{Schema}
 use Rattle.archive_check.specs.Expressions.{flavor_of, pointee_of}
 use Rattle.archive_check.specs.Runs.{IsAt, target_size}
@@ -19,11 +18,12 @@ use Rattle.archive_check.specs.Closed.{JobFits}
 use Rattle.archive_check.specs.Represents.{Sized, Points, points_one, points_run, points_text, Made, made_free, made_boxed, made_vec, made_str, made_shared, made_weak}
 use Rattle.archive_check.specs.Fitting.{fits}
 use Rattle.archive_check.specs.Sizes.{shape_size}
-use Rattle.archive_check.specs.Queued.{Wait, Waits, waits_size}
+use Rattle.archive_check.specs.Compilable.{Can, AllKnown}
+use Rattle.archive_check.specs.Queued.{Waits, waits_size}
 use Rattle.archive_check.specs.Growing.{Lists, IsPushed, IsSorted}
 use Rattle.archive_check.specs.Compiled.{Follows, Below, Settled, Given, Adds, Compiled, Targets, Leads}
-use Rattle.archive_check.specs.Counts.{count_of, count_pointee}
-use Rattle.archive_check.proofs.Inside.{pointer_few}
+use Rattle.archive_check.specs.Counts.{count_of}
+use Rattle.archive_check.proofs.Compilable.{can_one, can_run, can_boxed, can_vec, can_shared, can_weak}
 use Rattle.archive_check.proofs.Runs.{plain_walk}
 use Rattle.archive_check.proofs.Fitting.{fits_some}
 use Rattle.archive_check.proofs.GoingOn.{at_more, goes_longer, grows_trans, pushed_grows, pushed_at, pushed_is, sorted_grows, sorted_at}
@@ -36,6 +36,7 @@ leads_one t = record {
   gives_count = refl;
   adds = t.adds;
   waits_few = omega (arith, t.waits_few);
+  known = λ all can. t.known all (can_one can);
   below = λ m g. t.below m;
   size_is = refl;
   points = λ s shapes m g u given. points_one (t.sized s shapes m u) (t.stands s shapes m u);
@@ -47,6 +48,7 @@ leads_run t = record {
   gives_count = refl;
   adds = t.adds;
   waits_few = omega (arith, t.waits_few);
+  known = λ all can. t.known all (can_run can);
   below = λ m g. t.below m;
   size_is = refl;
   points = λ s shapes m g u given. points_run (t.sized s shapes m u) (t.stands s shapes m u);
@@ -69,7 +71,7 @@ module _ {names : List Known} {v : Waits} {a b : Lists} {i : ℕ} (p : IsPushed 
       (λ s shapes m g t given k z e. made_free (λ bytes pending depth stop p start seen le. plain_walk s t.laid_out bytes byte p refl le)) (λ e. refl)
 
   pub leads_text : Leads names text v v a b Text i
-  leads_text = record { gives = byte ∷ []; gives_count = refl; adds = adds_byte; waits_few = omega arith; below = λ m g w. byte_below p m g; size_is = refl; points = λ s shapes m g t given. points_text (byte_sized p m g) }
+  leads_text = record { gives = byte ∷ []; gives_count = refl; adds = adds_byte; waits_few = omega arith; known = λ all can. all; below = λ m g w. byte_below p m g; size_is = refl; points = λ s shapes m g t given. points_text (byte_sized p m g) }
 
 target_few : (t : Target) → (4 ≤ target_size t) × (target_size t ≤ 8)
 target_few One = (omega arith, omega arith)
@@ -77,12 +79,12 @@ target_few Run = (omega arith, omega arith)
 target_few Text = (omega arith, omega arith)
 
 module _ {names : List Known} {gives : List Shape} {v w : Waits} {a b c : Lists} (f : Adds names gives v w a b) where
-  compiled_pointer : {done : ℕ} {j : ℕ} {job : Job} (X : Shape) (size : ℕ) → IsPushed b c (Some size) 4 job j → length gives + 1 ≡ count_of X → waits_size w.items ≤ waits_size v.items + shape_size X → 4 ≤ size → size ≤ 8
+  compiled_pointer : {done : ℕ} {j : ℕ} {job : Job} (X : Shape) (size : ℕ) → IsPushed b c (Some size) 4 job j → length gives + 1 ≡ count_of X → waits_size w.items ≤ waits_size v.items + shape_size X → (AllKnown names v.items → Can names done X → AllKnown names w.items) → 4 ≤ size → size ≤ 8
       → ((l : Layouts) → (size_of l X ≡ size) × (align_of l X ≡ 4))
       → ((m : Checker) → Follows c m → Below names w.items m → (z : ℕ) → size ≤ z → JobFits m (length b.nodes) z job)
       → ((s : Schema) (shapes : ℕ → Shape) (m : Checker) → Follows c m → Settled names w.items s shapes m → Given shapes (length a.nodes) gives → Made s shapes m job X)
       → Compiled names done X v w a c j
-  compiled_pointer X size p count few least most lay closed make = compiled_push f X p count few
+  compiled_pointer X size p count few known least most lay closed make = compiled_push f X p count few known
       (λ m l g k. let q = lay l in (sym (fits_some size (omega arith)) ∙ ap fits (sym q.0), sym q.1))
       (λ m g w z e. let same : size ≡ z = cc in closed m g w z (omega arith))
       (λ s shapes m g t given k z e. make s shapes m g t given)
@@ -90,19 +92,19 @@ module _ {names : List Known} {gives : List Shape} {v w : Waits} {a b c : Lists}
 
 module _ {names : List Known} {done : ℕ} {v w : Waits} {a b c : Lists} {j i : ℕ} where
   pub compiled_boxed : {P : Pointee} {target : Target} {size : ℕ} → Leads names P v w a b target i → size ≡ target_size target → IsPushed b c (Some size) 4 (PointerJob target i) j → Compiled names done (boxed P) v w a c j
-  compiled_boxed {P} {target} {size} t es p = compiled_pointer t.adds (boxed P) size p (ap (λ n. n + 1) t.gives_count) (omega (arith, t.waits_few)) (omega (arith, es, (target_few target).0)) (omega (arith, es, (target_few target).1))
+  compiled_boxed {P} {target} {size} t es p = compiled_pointer t.adds (boxed P) size p (ap (λ n. n + 1) t.gives_count) (omega (arith, t.waits_few)) (λ all can. t.known all (can_boxed can)) (omega (arith, es, (target_few target).0)) (omega (arith, es, (target_few target).1))
       (λ l. (sym t.size_is ∙ sym es, refl)) (λ m g w z le. (omega (arith, es, le), t.below m (grows_trans (pushed_grows p) g) w))
       (λ s shapes m g u given. made_boxed (t.points s shapes m (grows_trans (pushed_grows p) g) u given))
 
 module _ {names : List Known} {done : ℕ} {v w : Waits} {a c : Lists} {j i : ℕ} where
   pub compiled_vec : {X : Shape} → Targets names X v w a i → IsPushed a c (Some 8) 4 (PointerJob Run i) j → Compiled names done (vec X) v w a c j
-  compiled_vec {X} t p = compiled_pointer t.adds (vec X) 8 p refl (omega (arith, t.waits_few)) (omega arith) (omega arith)
+  compiled_vec {X} t p = compiled_pointer t.adds (vec X) 8 p refl (omega (arith, t.waits_few)) (λ all can. t.known all (can_vec can)) (omega arith) (omega arith)
       (λ l. (refl, refl)) (λ m g w z le. (le, t.below m w))
       (λ s shapes m g u given. made_vec (points_run (t.sized s shapes m u) (t.stands s shapes m u)))
 
 module _ {names : List Known} {done : ℕ} {v : Waits} {a b c : Lists} {j i : ℕ} where
   pub compiled_str : IsPushed a b (Some 1) 1 Free i → IsPushed b c (Some 8) 4 (Str i) j → Compiled names done str v v a c j
-  compiled_str q p = compiled_pointer (adds_byte q) str 8 p refl (omega arith) (omega arith) (omega arith)
+  compiled_str q p = compiled_pointer (adds_byte q) str 8 p refl (omega arith) (λ all can. all) (omega arith) (omega arith)
       (λ l. (refl, refl)) (λ m g w z le. (le, byte_below q m (grows_trans (pushed_grows p) g)))
       (λ s shapes m g u given. made_str (byte_sized q m (grows_trans (pushed_grows p) g)))
 
@@ -123,7 +125,7 @@ module _ {names : List Known} {v w : Waits} {a b c : Lists} {i k : ℕ} {P : Poi
 
   module _ {done : ℕ} {d : Lists} {j : ℕ} where
     pub compiled_shared : {size : ℕ} → size ≡ target_size target → IsPushed c d (Some size) 4 (Shared k target i) j → Compiled names done (shared (flavor_of flavor) P) v w a d j
-    compiled_shared {size} es p = compiled_pointer shared_adds (shared (flavor_of flavor) P) size p (ap (λ n. n + 1) t.gives_count) (omega (arith, t.waits_few)) (omega (arith, es, (target_few target).0)) (omega (arith, es, (target_few target).1))
+    compiled_shared {size} es p = compiled_pointer shared_adds (shared (flavor_of flavor) P) size p (ap (λ n. n + 1) t.gives_count) (omega (arith, t.waits_few)) (λ all can. t.known all (can_shared can)) (omega (arith, es, (target_few target).0)) (omega (arith, es, (target_few target).1))
         (λ l. (sym t.size_is ∙ sym es, refl))
         (λ m g w z le. let h = grows_trans (pushed_grows p) g in let there = sort_at m h in (omega (arith, es, le), there.below, t.below m (over m h) w))
         (λ s shapes m g u given. let h = grows_trans (pushed_grows p) g in
@@ -131,7 +133,7 @@ module _ {names : List Known} {v w : Waits} {a b c : Lists} {i k : ℕ} {P : Poi
         subst (λ F. Made s shapes m (Shared k target i) (shared (flavor_of F) P)) ef (subst (λ Q. Made s shapes m (Shared k target i) (shared (flavor_of sort.flavor) Q)) ep made))
 
     pub compiled_weak : {size : ℕ} → size ≡ target_size target → IsPushed c d (Some size) 4 (Weak k target i) j → Compiled names done (weak (flavor_of flavor) P) v w a d j
-    compiled_weak {size} es p = compiled_pointer shared_adds (weak (flavor_of flavor) P) size p (ap (λ n. n + 1) t.gives_count) (omega (arith, t.waits_few)) (omega (arith, es, (target_few target).0)) (omega (arith, es, (target_few target).1))
+    compiled_weak {size} es p = compiled_pointer shared_adds (weak (flavor_of flavor) P) size p (ap (λ n. n + 1) t.gives_count) (omega (arith, t.waits_few)) (λ all can. t.known all (can_weak can)) (omega (arith, es, (target_few target).0)) (omega (arith, es, (target_few target).1))
         (λ l. (sym t.size_is ∙ sym es, refl))
         (λ m g w z le. let h = grows_trans (pushed_grows p) g in let there = sort_at m h in (omega (arith, es, le), there.below, t.below m (over m h) w))
         (λ s shapes m g u given. let h = grows_trans (pushed_grows p) g in

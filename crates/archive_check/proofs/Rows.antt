@@ -1,5 +1,5 @@
 -- Parts and variants, laid out one after another.
-use Rattle.std.proofs.Common.{◌≡◌, ◌⊎◌, inl, inr, ⊎_elim, ℕ, zero, suc, refl, sym, ap, ap₂, ◌∙◌, subst, ◌+◌, ◌-◌, ◌*◌, ◌<◌, ◌≤◌, max, arith, List, [], ◌∷◌, ◌++◌, length, slice_index_or, Bool, true, Option, Some, None, length-append}
+use Rattle.std.proofs.Common.{◌≡◌, ◌⊎◌, inl, inr, ⊎_elim, ℕ, suc, refl, sym, ap, ap₂, ◌∙◌, subst, ◌+◌, ◌-◌, ◌<◌, ◌≤◌, max, arith, List, [], ◌∷◌, ◌++◌, length, Bool, true, Option, Some, length-append}
 use Rattle.archive_check.specs.declared.plan.Job.TheVariants.{Free}
 use Rattle.archive_check.specs.declared.plan.Node.{Node}
 use Rattle.archive_check.specs.declared.plan.Part.{Part as PlanPart}
@@ -14,26 +14,26 @@ use Rattle.archive_check.specs.Layout.{Layouts, up, size_of, align_of, parts_end
 use Rattle.archive_check.specs.Reads.{Schema}
 use Rattle.archive_check.specs.Runs.{IsAt, IsNode, Takes}
 use Rattle.archive_check.specs.Closed.{SpanFits}
-use Rattle.archive_check.specs.Represents.{Stands, PartsStand, parts_over, parts_more, Sized}
+use Rattle.archive_check.specs.Represents.{Stands, PartsStand, parts_over, parts_more}
 use Rattle.archive_check.specs.Fitting.{fits, rounded, sum_of, greater_of}
-use Rattle.archive_check.specs.Queued.{Wait, Waits, waits_size}
-use Rattle.archive_check.specs.Growing.{Lists, lists_in, Grows, IsExtended, IsPlaced, IsListed, PartsLaid, SpansLaid}
-use Rattle.archive_check.specs.Compiled.{Follows, Below, Knows, Settled, Given, Adds, Compiled, PartFits, RowIs, CompiledParts, IsVariant, SpansAre, CompiledVariants}
-use Rattle.archive_check.specs.Counts.{count_of, counts_of, variant_counts_of}
+use Rattle.archive_check.specs.Queued.{Waits}
+use Rattle.archive_check.specs.Growing.{Lists, IsPlaced, IsListed, PartsLaid, SpansLaid}
+use Rattle.archive_check.specs.Compiled.{Follows, Knows, Settled, Given, Compiled, PartFits, RowIs, CompiledParts, IsVariant, SpansAre, CompiledVariants}
 use Rattle.archive_check.proofs.Fitting.{fits_some, some_is, rounded_fits, rounded_some, sum_fits, sum_some, greater_fits, greater_some}
-use Rattle.archive_check.proofs.GoingOn.{at_more, at_less, at_last, at_end, same_at, goes_longer, grows_refl, grows_trans, extended_grows, part_at, part_of, span_at, span_of}
+use Rattle.archive_check.proofs.GoingOn.{at_more, at_less, at_last, at_end, same_at, goes_longer, grows_trans, extended_grows, part_at, part_of, span_of}
 use Rattle.archive_check.proofs.Adding.{given_first, given_second, settled_less, knows_settled, adds_refl, adds_trans, adds_same, stands_of}
+use Rattle.archive_check.proofs.Compilable.{can_first, can_later, can_variant, can_others}
 use Rattle.archive_check.proofs.Compiled.{fits_wider, span_within, span_wider}
 
-align_positive : (l : Layouts) (ps : Parts) → 0 < parts_align l ps
+pub align_positive : (l : Layouts) (ps : Parts) → 0 < parts_align l ps
 align_positive l no_part = omega arith
 align_positive l (part X ps) = omega (arith, align_positive l ps)
 
-variants_positive : (l : Layouts) (vs : Variants) → 0 < variants_align l vs
+pub variants_positive : (l : Layouts) (vs : Variants) → 0 < variants_align l vs
 variants_positive l no_variant = omega arith
 variants_positive l (variant ps vs) = omega (arith, variants_positive l vs)
 
-ends_positive : (l : Layouts) (vs : Variants) → 0 < variants_end l vs
+pub ends_positive : (l : Layouts) (vs : Variants) → 0 < variants_end l vs
 ends_positive l no_variant = omega arith
 ends_positive l (variant ps vs) = omega (arith, ends_positive l vs)
 
@@ -44,6 +44,8 @@ row_start {names = names} start {v = v} {a = a} ps row end align free few none e
   gives = [];
   adds = adds_refl names v a;
   waits_few = omega arith;
+  known = λ all can. all;
+  can_rest = λ can. can;
   left = omega arith;
   positive = omega arith;
   row_fits = λ m g e q k x at. absurd (let at_none : IsAt [] k x = subst (λ r. IsAt r k x) none at in omega (arith, at_none.below));
@@ -56,15 +58,15 @@ row_start {names = names} start {v = v} {a = a} ps row end align free few none e
 }
 
 module _ {names : List Known} {done start : ℕ} {all rest : Parts} {v w u : Waits} {a b c : Lists} {X : Shape} {row next : Row} {node : ℕ} {here : Node}
-    (r : RowIs names done start all (part X rest) v w a b row.parts.items row.end row.align row.free) (f : Compiled names done X w u b c node) (at : IsAt c.nodes node here) (p : IsPlaced node here row next) where
+    (r : RowIs names done start all (part X rest) v w a b row.parts.items row.extent.end row.extent.align row.free) (f : Compiled names done X w u b c node) (at : IsAt c.nodes node here) (p : IsPlaced node here row next) where
   longer : length next.parts.items ≡ length row.parts.items + 1
   longer = ap length p.parts_are ∙ length-append row.parts.items (p.last ∷ [])
 
   -- where the part begins, and how far the parts before it reach
-  next_split : (e : ℕ) → next.end ≡ Some e → (o : ℕ) × (y : ℕ) × (w : ℕ) × (p.offset ≡ Some o) × (here.size ≡ Some y) × (o + y ≡ e) × (row.end ≡ Some w) × (w ≤ o) × (o ≡ up w here.align) × (p.last.offset ≡ o)
+  next_split : (e : ℕ) → next.extent.end ≡ Some e → (o : ℕ) × (y : ℕ) × (w : ℕ) × (p.offset ≡ Some o) × (here.size ≡ Some y) × (o + y ≡ e) × (row.extent.end ≡ Some w) × (w ≤ o) × (o ≡ up w here.align) × (p.last.offset ≡ o)
   next_split e q =
       let s = sum_some p.offset here.size e (sym p.end_is ∙ q) in
-      let old = rounded_some row.end here.align s.0 here.positive (sym p.offset_is ∙ s.2) in
+      let old = rounded_some row.extent.end here.align s.0 here.positive (sym p.offset_is ∙ s.2) in
       (s.0, s.1, old.0, s.2, s.3, s.4, old.1, old.2, old.3, p.begins s.0 s.2)
 
   here_sized : (m : Checker) (l : Layouts) → Follows c m → Knows names l done m → (here.size ≡ fits (size_of l X)) × (here.align ≡ align_of l X)
@@ -76,7 +78,7 @@ module _ {names : List Known} {done start : ℕ} {all rest : Parts} {v w u : Wai
       let i : IsAt (row.parts.items ++ p.last ∷ []) k x = subst (λ t. IsAt t k x) p.parts_are h in
       ⊎_elim (λ lt. inl (at_less (record { more = p.last ∷ []; is = refl }) lt i)) (λ q. inr q.1) (at_last row.parts.items p.last x k i)
 
-  next_fits : (m : Checker) → Follows c m → (e : ℕ) → next.end ≡ Some e → (k : ℕ) (x : PlanPart) → IsAt next.parts.items k x → PartFits m (length c.nodes) e x
+  next_fits : (m : Checker) → Follows c m → (e : ℕ) → next.extent.end ≡ Some e → (k : ℕ) (x : PlanPart) → IsAt next.parts.items k x → PartFits m (length c.nodes) e x
   next_fits m g e q k x h =
       let s = next_split e q in
       ⊎_elim
@@ -94,7 +96,7 @@ module _ {names : List Known} {done start : ℕ} {all rest : Parts} {v w u : Wai
       (row_cases k x i)
 
   next_lays : (m : Checker) (l : Layouts) → Follows c m → Knows names l done m
-      → ((at : ℕ) × (next.end ≡ fits at) × (parts_end l start all ≡ parts_end l at rest)) × (parts_align l all ≡ max next.align (parts_align l rest))
+      → ((at : ℕ) × (next.extent.end ≡ fits at) × (parts_end l start all ≡ parts_end l at rest)) × (parts_align l all ≡ max next.extent.align (parts_align l rest))
   next_lays m l g n =
       let before = r.lays m l (grows_trans f.adds.grows g) n in
       let q = here_sized m l g n in
@@ -108,7 +110,7 @@ module _ {names : List Known} {done start : ℕ} {all rest : Parts} {v w u : Wai
       )
 
   next_stand : (s : Schema) (shapes : ℕ → Shape) (m : Checker) → Follows c m → Settled names u.items s shapes m → Given shapes (length a.nodes) (r.gives ++ f.gives)
-      → (e : ℕ) → next.end ≡ Some e → (first last : ℕ) → ((k : ℕ) (x : PlanPart) → IsAt next.parts.items k x → IsAt m.parts.now (first + k) x) → first + length next.parts.items ≤ last
+      → (e : ℕ) → next.extent.end ≡ Some e → (first last : ℕ) → ((k : ℕ) (x : PlanPart) → IsAt next.parts.items k x → IsAt m.parts.now (first + k) x) → first + length next.parts.items ≤ last
       → PartsStand s shapes m (first + length next.parts.items) last e rest → PartsStand s shapes m first last start all
   next_stand s shapes m g t given e q first last placed room tail =
       let over = grows_trans f.adds.grows g in
@@ -130,11 +132,13 @@ module _ {names : List Known} {done start : ℕ} {all rest : Parts} {v w u : Wai
       r.stand s shapes m over (settled_less f.adds.waits_go t) (given_first f.gives given) w.2 w.6 first last old (omega (arith, less)) (parts_more less there (w.9 ∙ offset) stands takes more)
 
   -- one part more
-  pub row_next : RowIs names done start all rest v u a c next.parts.items next.end next.align next.free
+  pub row_next : RowIs names done start all rest v u a c next.parts.items next.extent.end next.extent.align next.free
   row_next = record {
     gives = r.gives ++ f.gives;
     adds = adds_trans r.adds f.adds;
     waits_few = omega (arith, r.waits_few, f.waits_few);
+    known = λ all can. f.known (r.known all can) (can_first (r.can_rest can));
+    can_rest = λ can. can_later (r.can_rest can);
     left = omega (arith, r.left, f.gives_count, length-append r.gives f.gives);
     positive = omega (arith, r.positive, p.align_is);
     row_fits = next_fits;
@@ -143,7 +147,7 @@ module _ {names : List Known} {done start : ℕ} {all rest : Parts} {v w u : Wai
     stand = next_stand;
   }
 
-module _ {names : List Known} {done start : ℕ} {all : Parts} {v w : Waits} {a c d : Lists} {row : Row} {laid : Laid} (r : RowIs names done start all no_part v w a c row.parts.items row.end row.align row.free) (p : PartsLaid c d row laid) where
+module _ {names : List Known} {done start : ℕ} {all : Parts} {v w : Waits} {a c d : Lists} {row : Row} {laid : Laid} (r : RowIs names done start all no_part v w a c row.parts.items row.extent.end row.extent.align row.free) (p : PartsLaid c d row laid) where
   laid_length : laid.last ≡ laid.first + length row.parts.items
   laid_length = omega (arith, p.last_is, p.first_is, ap length p.extended.parts_are, length-append c.parts row.parts.items)
 
@@ -163,6 +167,7 @@ module _ {names : List Known} {done start : ℕ} {all : Parts} {v w : Waits} {a 
         gives_count = omega (arith, r.left);
         adds = adds_same r.adds grown p.extended.nodes_are;
         waits_few = omega (arith, r.waits_few);
+        known = r.known;
         positive = omega (arith, r.positive, p.align_is);
         last = omega (arith, p.last_is);
         few = p.few;
@@ -178,6 +183,8 @@ spans_start {names = names} {v = v} {a = a} vs row end align none e one = record
   gives = [];
   adds = adds_refl names v a;
   waits_few = omega arith;
+  known = λ all can. all;
+  can_rest = λ can. can;
   left = omega arith;
   positive = omega arith;
   tag = λ z ez. let same : 1 ≡ z = cc in omega (arith, same);
@@ -188,19 +195,19 @@ spans_start {names = names} {v = v} {a = a} vs row end align none e one = record
 }
 
 module _ {names : List Known} {done : ℕ} {all rest : Variants} {v w u : Waits} {a b c : Lists} {ps : Parts} {spans next : Spans} {laid : Laid}
-    (r : SpansAre names done all (variant ps rest) v w a b spans.items.items spans.end spans.align) (f : CompiledParts names done 1 ps w u b c laid) (p : IsListed laid spans next) where
+    (r : SpansAre names done all (variant ps rest) v w a b spans.items.items spans.extent.end spans.extent.align) (f : CompiledParts names done 1 ps w u b c laid) (p : IsListed laid spans next) where
   spans_longer : length next.items.items ≡ length spans.items.items + 1
   spans_longer = ap length p.items_are ∙ length-append spans.items.items (p.span ∷ [])
 
-  spans_split : (e : ℕ) → next.end ≡ Some e → (x : ℕ) × (y : ℕ) × (spans.end ≡ Some x) × (laid.end ≡ Some y) × (max x y ≡ e)
-  spans_split e q = greater_some spans.end laid.end e (sym p.end_is ∙ q)
+  spans_split : (e : ℕ) → next.extent.end ≡ Some e → (x : ℕ) × (y : ℕ) × (spans.extent.end ≡ Some x) × (laid.end ≡ Some y) × (max x y ≡ e)
+  spans_split e q = greater_some spans.extent.end laid.end e (sym p.end_is ∙ q)
 
   spans_cases : (k : ℕ) (x : Span) → IsAt next.items.items k x → IsAt spans.items.items k x ⊎ ((k ≡ length spans.items.items) × (x ≡ p.span))
   spans_cases k x h =
       let i : IsAt (spans.items.items ++ p.span ∷ []) k x = subst (λ t. IsAt t k x) p.items_are h in
       ⊎_elim (λ lt. inl (at_less (record { more = p.span ∷ []; is = refl }) lt i)) (λ q. inr q) (at_last spans.items.items p.span x k i)
 
-  spans_fit : (m : Checker) → Follows c m → (e : ℕ) → next.end ≡ Some e → (k : ℕ) (x : Span) → IsAt next.items.items k x → SpanFits m (length c.nodes) e x.first x.last
+  spans_fit : (m : Checker) → Follows c m → (e : ℕ) → next.extent.end ≡ Some e → (k : ℕ) (x : Span) → IsAt next.items.items k x → SpanFits m (length c.nodes) e x.first x.last
   spans_fit m g e q k x h =
       let s = spans_split e q in
       ⊎_elim
@@ -214,7 +221,7 @@ module _ {names : List Known} {done : ℕ} {all rest : Variants} {v w u : Waits}
       (spans_cases k x h)
 
   spans_stand : (s : Schema) (shapes : ℕ → Shape) (m : Checker) → Follows c m → Settled names u.items s shapes m → Given shapes (length a.nodes) (r.gives ++ f.gives)
-      → (e : ℕ) → next.end ≡ Some e → (k : ℕ) (x : Span) → IsAt next.items.items k x → IsVariant s shapes m all k x
+      → (e : ℕ) → next.extent.end ≡ Some e → (k : ℕ) (x : Span) → IsAt next.items.items k x → IsVariant s shapes m all k x
   spans_stand s shapes m g t given e q k x h =
       let w = spans_split e q in
       ⊎_elim
@@ -228,11 +235,13 @@ module _ {names : List Known} {done : ℕ} {all rest : Variants} {v w u : Waits}
       (spans_cases k x h)
 
   -- one variant more
-  pub spans_next : SpansAre names done all rest v u a c next.items.items next.end next.align
+  pub spans_next : SpansAre names done all rest v u a c next.items.items next.extent.end next.extent.align
   spans_next = record {
     gives = r.gives ++ f.gives;
     adds = adds_trans r.adds f.adds;
     waits_few = omega (arith, r.waits_few, f.waits_few);
+    known = λ all can. f.known (r.known all can) (can_variant (r.can_rest can));
+    can_rest = λ can. can_others (r.can_rest can);
     left = omega (arith, r.left, f.gives_count, length-append r.gives f.gives);
     positive = omega (arith, r.positive, p.align_is);
     tag = λ e q. let s = spans_split e q in omega (arith, r.tag s.0 s.2, s.4);
@@ -245,7 +254,7 @@ module _ {names : List Known} {done : ℕ} {all rest : Variants} {v w u : Waits}
     others = λ k. let i : length next.items.items + k ≡ length spans.items.items + suc k = omega (arith, spans_longer) in ap (variant_at all) i ∙ r.others (suc k);
   }
 
-module _ {names : List Known} {done : ℕ} {all : Variants} {v w : Waits} {a c d : Lists} {spans : Spans} {laid : Laid} (r : SpansAre names done all no_variant v w a c spans.items.items spans.end spans.align) (p : SpansLaid c d spans laid) where
+module _ {names : List Known} {done : ℕ} {all : Variants} {v w : Waits} {a c d : Lists} {spans : Spans} {laid : Laid} (r : SpansAre names done all no_variant v w a c spans.items.items spans.extent.end spans.extent.align) (p : SpansLaid c d spans laid) where
   spans_length : laid.last ≡ laid.first + length spans.items.items
   spans_length = omega (arith, p.last_is, p.first_is, ap length p.extended.variants_are, length-append c.variants spans.items.items)
 
@@ -262,6 +271,7 @@ module _ {names : List Known} {done : ℕ} {all : Variants} {v w : Waits} {a c d
         gives_count = omega (arith, r.left);
         adds = adds_same r.adds grown p.extended.nodes_are;
         waits_few = omega (arith, r.waits_few);
+        known = r.known;
         positive = omega (arith, r.positive, p.align_is);
         last = omega (arith, p.last_is);
         few = p.few;

@@ -1,18 +1,18 @@
 -- Expressions that wait.
-use Rattle.std.proofs.Common.{◌≡◌, ◌≢◌, ◌⊎◌, inl, inr, ⊎_elim, ℕ, zero, suc, refl, sym, ap, ◌∙◌, subst, ◌+◌, ◌<◌, ◌≤◌, arith, List, [], ◌∷◌, ◌++◌, length, take, Some, append-nil, Bor}
+use Rattle.std.proofs.Common.{◌≡◌, inl, inr, ⊎_elim, ℕ, refl, sym, ap, subst, ◌+◌, ◌≤◌, arith, List, [], ◌∷◌, ◌++◌, length, Some, Bor}
 use Rattle.archive_check.specs.declared.growing.Known.{Known}
 use Rattle.archive_check.specs.declared.expr.Expr.{Expr}
 use Rattle.archive_check.specs.declared.expr.Expr.TheVariants as expr
 use Rattle.archive_check.specs.declared.queue.Waiting.{Waiting}
 use Rattle.archive_check.specs.Expressions.{shape_of}
 use Rattle.archive_check.specs.Shape.{Name, Shape, named}
-use Rattle.archive_check.specs.Sizes.{shape_size}
 use Rattle.archive_check.specs.Counts.{count_of}
 use Rattle.archive_check.specs.Runs.{IsAt}
-use Rattle.archive_check.specs.Growing.{node_of, Lists, Goes}
+use Rattle.archive_check.specs.Growing.{node_of, Lists}
+use Rattle.archive_check.specs.Compilable.{CanWait}
 use Rattle.archive_check.specs.Queued.{Wait, Waits, waits_in, wait_shapes, waits_size, Reserved, IsWaiting, IsQueued}
-use Rattle.archive_check.specs.Compiled.{Adds, Targets}
-use Rattle.archive_check.proofs.GoingOn.{at_end, at_more, goes_refl, grows_refl}
+use Rattle.archive_check.specs.Compiled.{Targets}
+use Rattle.archive_check.proofs.GoingOn.{at_end, at_last, at_less, grows_refl}
 use Rattle.archive_check.proofs.Adding.{adds_refl}
 
 pub reserved_append : (base : ℕ) (xs : List Wait) (mid : ℕ) (x : Wait) (next : ℕ) → Reserved base xs mid → x.node + 1 ≡ mid + count_of x.shape → mid ≤ x.node → next ≡ mid + count_of x.shape → Reserved base (xs ++ x ∷ []) next
@@ -31,6 +31,7 @@ pub targets_name : {names : List Known} {name : Name} {v : Waits} {a : Lists} {j
 targets_name {names = names} {name = name} {v = v} {a = a} {j = j} e = record {
   adds = adds_refl names v a;
   waits_few = omega arith;
+  known = λ all can. all;
   below = λ m w. w.names_below name j e;
   sized = λ s shapes m t. t.sized name j e;
   stands = λ s shapes m t. t.stand name j e;
@@ -50,6 +51,12 @@ targets_waiting {names} {X} {v} {w} {a} {j} q =
         made = λ s shapes m g t given k. k;
       };
       waits_few = omega (arith, ap waits_size q.items_are, waits_size-append v.items (x ∷ []));
+      known = λ all can. record {
+        each = λ k y at. ⊎_elim
+            (λ lt. all.each k y (at_less (record { more = x ∷ []; is = refl }) lt (subst (λ xs. IsAt xs k y) q.items_are at)))
+            (λ h. subst (λ (z : Wait). CanWait names z.shape) (sym h.1) can)
+            (at_last v.items x y k (subst (λ xs. IsAt xs k y) q.items_are at));
+      };
       below = λ m below. below.waits_below (length v.items) x here;
       sized = λ s shapes m t. t.waits_sized (length v.items) x here;
       stands = λ s shapes m t. t.waits_stand (length v.items) x here;

@@ -1,5 +1,5 @@
 -- Compiling: what an expression adds to a plan, and what the new nodes stand for. All is said of a checker whose lists go on from the plan's.
-use Rattle.std.specs.Prelude.{◌≡◌, ◌≢◌, ◌⊎◌, ℕ, zero, suc, ◌+◌, ◌<◌, ◌≤◌, max, List, [], ◌∷◌, ◌++◌, length, Bool, true, Option, Some, None}
+use Rattle.std.specs.Prelude.{◌≡◌, ◌⊎◌, ℕ, ◌+◌, ◌<◌, ◌≤◌, max, List, [], length, Bool, true, Option, Some, None}
 use Rattle.archive_check.specs.declared.plan.Target.{Target}
 use Rattle.archive_check.specs.declared.plan.Job.TheVariants.{Free}
 use Rattle.archive_check.specs.declared.plan.Node.{Node}
@@ -8,7 +8,7 @@ use Rattle.archive_check.specs.declared.plan.Span.{Span}
 use Rattle.archive_check.specs.declared.plan.Checker.{Checker}
 use Rattle.archive_check.specs.declared.growing.Known.{Known}
 use Rattle.archive_check.specs.declared.growing.Laid.{Laid}
-use Rattle.archive_check.specs.Shape.{Name, Shape, leaf, parts, choice, array, boxed, vec, str, shared, weak, named, Pointee, one, run, text, Parts, no_part, part, Variants, no_variant, variant, variant_at}
+use Rattle.archive_check.specs.Shape.{Name, Shape, named, Pointee, Parts, Variants, variant_at}
 use Rattle.archive_check.specs.Layout.{Layouts, size_of, align_of, parts_end, parts_align, variants_end, variants_align, pointer_size}
 use Rattle.archive_check.specs.Reads.{Schema, LaidOut}
 use Rattle.archive_check.specs.Runs.{IsAt, IsNode, Takes, target_size}
@@ -18,6 +18,7 @@ use Rattle.archive_check.specs.Fitting.{fits}
 use Rattle.archive_check.specs.Counts.{count_of, count_pointee, counts_of, variant_counts_of}
 use Rattle.archive_check.specs.Sizes.{shape_size, parts_size, variants_size, pointee_size}
 use Rattle.archive_check.specs.Growing.{node_of, Lists, lists_in, Goes, Grows}
+use Rattle.archive_check.specs.Compilable.{Can, CanParts, CanVariants, CanPoint, CanWait, AllKnown}
 use Rattle.archive_check.specs.Queued.{Wait, Waits, Reserved, waits_size}
 
 -- the checker's lists go on from a plan's
@@ -76,6 +77,7 @@ pub record Compiled (names : List Known) (done : ℕ) (X : Shape) (v w : Waits) 
   pub gives_count : length gives ≡ count_of X
   pub adds : Adds names gives v w a b
   pub waits_few : waits_size w.items ≤ waits_size v.items + shape_size X
+  pub known : AllKnown names v.items → Can names done X → AllKnown names w.items
   pub below : j < length b.nodes
   pub root : IsRoot names X a b gives j
   pub lays : (m : Checker) (l : Layouts) → Follows b m → Knows names l done m → Sized m j (size_of l X) (align_of l X)
@@ -84,6 +86,7 @@ pub record Compiled (names : List Known) (done : ℕ) (X : Shape) (v w : Waits) 
 pub record Targets (names : List Known) (X : Shape) (v w : Waits) (a : Lists) (j : ℕ) : Type 0 where
   pub adds : Adds names [] v w a a
   pub waits_few : waits_size w.items ≤ waits_size v.items + shape_size X + 1
+  pub known : AllKnown names v.items → CanWait names X → AllKnown names w.items
   pub below : (m : Checker) → Below names w.items m → j < length m.nodes.now
   pub sized : (s : Schema) (shapes : ℕ → Shape) (m : Checker) → Settled names w.items s shapes m → Sized m j (size_of s.layouts X) (align_of s.layouts X)
   pub stands : (s : Schema) (shapes : ℕ → Shape) (m : Checker) → Settled names w.items s shapes m → Stands s shapes X j
@@ -94,6 +97,7 @@ pub record Leads (names : List Known) (P : Pointee) (v w : Waits) (a b : Lists) 
   pub gives_count : length gives ≡ count_pointee P
   pub adds : Adds names gives v w a b
   pub waits_few : waits_size w.items ≤ waits_size v.items + pointee_size P
+  pub known : AllKnown names v.items → CanPoint names P → AllKnown names w.items
   pub below : (m : Checker) → Follows b m → Below names w.items m → j < length m.nodes.now
   pub size_is : target_size target ≡ pointer_size P
   pub points : (s : Schema) (shapes : ℕ → Shape) (m : Checker) → Follows b m → Settled names w.items s shapes m → Given shapes (length a.nodes) gives → Points s shapes m target j P
@@ -110,6 +114,8 @@ pub record RowIs (names : List Known) (done start : ℕ) (all rest : Parts) (v w
   pub gives : List Shape
   pub adds : Adds names gives v w a b
   pub waits_few : waits_size w.items + parts_size rest ≤ waits_size v.items + parts_size all
+  pub known : AllKnown names v.items → CanParts names done all → AllKnown names w.items
+  pub can_rest : CanParts names done all → CanParts names done rest
   pub left : length gives + counts_of rest ≡ counts_of all
   pub positive : 0 < align
   pub row_fits : (m : Checker) → Follows b m → (e : ℕ) → end ≡ Some e → (k : ℕ) (x : PlanPart) → IsAt row k x → PartFits m (length b.nodes) e x
@@ -126,6 +132,7 @@ pub record CompiledParts (names : List Known) (done start : ℕ) (ps : Parts) (v
   pub gives_count : length gives ≡ counts_of ps
   pub adds : Adds names gives v w a b
   pub waits_few : waits_size w.items ≤ waits_size v.items + parts_size ps
+  pub known : AllKnown names v.items → CanParts names done ps → AllKnown names w.items
   pub positive : 0 < laid.align
   pub last : laid.last ≤ length b.parts
   pub few : laid.last < 18446744073709551616
@@ -144,6 +151,8 @@ pub record SpansAre (names : List Known) (done : ℕ) (all rest : Variants) (v w
   pub gives : List Shape
   pub adds : Adds names gives v w a b
   pub waits_few : waits_size w.items + variants_size rest ≤ waits_size v.items + variants_size all
+  pub known : AllKnown names v.items → CanVariants names done all → AllKnown names w.items
+  pub can_rest : CanVariants names done all → CanVariants names done rest
   pub left : length gives + variant_counts_of rest ≡ variant_counts_of all
   pub positive : 0 < align
   pub tag : (e : ℕ) → end ≡ Some e → 0 < e
@@ -160,6 +169,7 @@ pub record CompiledVariants (names : List Known) (done : ℕ) (vs : Variants) (v
   pub gives_count : length gives ≡ variant_counts_of vs
   pub adds : Adds names gives v w a b
   pub waits_few : waits_size w.items ≤ waits_size v.items + variants_size vs
+  pub known : AllKnown names v.items → CanVariants names done vs → AllKnown names w.items
   pub positive : 0 < laid.align
   pub last : laid.last ≤ length b.variants
   pub few : laid.last < 18446744073709551616

@@ -1,5 +1,5 @@
 -- Plans that grow.
-use Rattle.std.specs.Prelude.{◌≡◌, ◌≢◌, ◌⊎◌, ℕ, ◌+◌, ◌<◌, max, List, [], ◌∷◌, ◌++◌, length, Bool, true, Option, Some, None, cond, bytes_eq}
+use Rattle.std.specs.Prelude.{◌≡◌, ◌≢◌, ◌⊎◌, ℕ, ◌<◌, max, List, [], ◌∷◌, ◌++◌, length, Bool, true, Option, Some, None, cond, bytes_eq}
 use Rattle.archive_check.specs.declared.plan.Job.{Job}
 use Rattle.archive_check.specs.declared.plan.Job.TheVariants.{Free}
 use Rattle.archive_check.specs.declared.plan.Node.{Node}
@@ -15,7 +15,6 @@ use Rattle.archive_check.specs.declared.growing.Laid.{Laid}
 use Rattle.archive_check.specs.Shape.{Name, Pointee}
 use Rattle.archive_check.specs.Expressions.{pointee_of}
 use Rattle.archive_check.specs.declared.expr.FlavorInfo.{FlavorInfo}
-use Rattle.archive_check.specs.Runs.{IsAt}
 use Rattle.archive_check.specs.Fitting.{rounded, sum_of, greater_of}
 
 -- the node of a name: of the first that is called so
@@ -99,12 +98,12 @@ pub record IsMade (a b : Lists) (size : Option ℕ) (align : ℕ) (free : Bool) 
 pub record IsPlaced (node : ℕ) (here : Node) (row next : Row) : Type 0 where
   pub last : Part
   pub offset : Option ℕ
-  pub offset_is : offset ≡ rounded row.end here.align
+  pub offset_is : offset ≡ rounded row.extent.end here.align
   pub node_is : last.node ≡ node
   pub begins : (o : ℕ) → offset ≡ Some o → last.offset ≡ o
   pub parts_are : next.parts.items ≡ row.parts.items ++ last ∷ []
-  pub end_is : next.end ≡ sum_of offset here.size
-  pub align_is : next.align ≡ max row.align here.align
+  pub end_is : next.extent.end ≡ sum_of offset here.size
+  pub align_is : next.extent.align ≡ max row.extent.align here.align
   pub still_free : next.free ≡ true → (row.free ≡ true) × (here.job ≡ Free)
 
 -- a variant more
@@ -113,8 +112,8 @@ pub record IsListed (laid : Laid) (spans next : Spans) : Type 0 where
   pub first_is : span.first ≡ laid.first
   pub last_is : span.last ≡ laid.last
   pub items_are : next.items.items ≡ spans.items.items ++ span ∷ []
-  pub end_is : next.end ≡ greater_of spans.end laid.end
-  pub align_is : next.align ≡ max spans.align laid.align
+  pub end_is : next.extent.end ≡ greater_of spans.extent.end laid.end
+  pub align_is : next.extent.align ≡ max spans.extent.align laid.align
 
 -- a row stands in a plan
 pub record PartsLaid (a b : Lists) (row : Row) (laid : Laid) : Type 0 where
@@ -122,8 +121,8 @@ pub record PartsLaid (a b : Lists) (row : Row) (laid : Laid) : Type 0 where
   pub first_is : laid.first ≡ length a.parts
   pub last_is : laid.last ≡ length b.parts
   pub few : laid.last < 18446744073709551616
-  pub end_is : laid.end ≡ row.end
-  pub align_is : laid.align ≡ row.align
+  pub end_is : laid.end ≡ row.extent.end
+  pub align_is : laid.align ≡ row.extent.align
   pub free_is : laid.free ≡ row.free
 
 -- so do variants
@@ -132,5 +131,5 @@ pub record SpansLaid (a b : Lists) (spans : Spans) (laid : Laid) : Type 0 where
   pub first_is : laid.first ≡ length a.variants
   pub last_is : laid.last ≡ length b.variants
   pub few : laid.last < 18446744073709551616
-  pub end_is : laid.end ≡ spans.end
-  pub align_is : laid.align ≡ spans.align
+  pub end_is : laid.end ≡ spans.extent.end
+  pub align_is : laid.align ≡ spans.extent.align

@@ -22,6 +22,8 @@ pub mod Plain
 pub mod Laws
 pub mod Definitions
 pub mod LeafLayout
+pub mod NamedLayout
+pub mod RawLayout
 pub mod Readable
 pub mod Ranges
 pub mod Met
@@ -31,6 +33,7 @@ pub mod InSubtree
 pub mod Validators
 pub mod Told
 pub mod Schemas
+pub mod Extents
 pub mod Names
 pub mod Sizes
 pub mod Runs
@@ -42,6 +45,7 @@ pub mod Fitting
 pub mod Growing
 pub mod Counts
 pub mod Queued
+pub mod Compilable
 pub mod Compiled
 pub mod Numbered
 pub mod Planned
@@ -52,3 +56,5 @@ pub mod Archives
 pub mod Entries
 pub mod Pooled
 pub mod Unshared
+pub mod Tidy
+pub mod Held

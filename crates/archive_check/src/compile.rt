@@ -1,9 +1,11 @@
 //! From expressions to plans: an expression's node stands behind those of what it holds. What its pointers lead to waits, and comes later.
 
-ghost use Rattle.std.specs.Prelude.{ℕ, ◌≡◌, ◌<◌, ◌≤◌, ◌+◌, IfOk, OnOk, length};
-ghost use Rattle.archive_check.specs.Expressions.{kind_of, shape_of, pointee_of, shapes_in, variants_in};
+ghost use Rattle.std.specs.Prelude.{◌≡◌, ◌≤◌, IfOk, IfErr, length};
+ghost use Rattle.archive_check.specs.Expressions.{shape_of, pointee_of, shapes_in, variants_in};
 ghost use Rattle.archive_check.specs.Growing.{lists_of, IsCopied};
 ghost use Rattle.archive_check.specs.Queued.{waits_of};
+ghost use Rattle.archive_check.specs.Compilable.{Can, CanParts, CanVariants, CanPoint};
+ghost use Rattle.archive_check.specs.declared.error.Error.TheVariants.{OutOfMemory};
 ghost use Rattle.archive_check.specs.Compiled.{Compiled, Leads, CompiledParts, CompiledVariants};
 
 use crate::error::Error;
@@ -19,7 +21,8 @@ use std::alloc::Global;
 
 // A sort more, with a copy of its pointee.
 fn copy_sort(plan: &mut Plan, flavor: FlavorInfo, pointee: &Pointee) -> Result<usize, Error>
-    ensures { IfOk result (λ k. IsCopied (lists_of plan.old) (lists_of plan.new) flavor (pointee_of pointee.now) k) }
+    ensures ok { IfOk result (λ k. IsCopied (lists_of plan.old) (lists_of plan.new) flavor (pointee_of pointee.now) k) }
+    ensures err { IfErr result (λ e. e ≡ OutOfMemory) }
 {
     let copy = pointee.clone()?;
     push_sort(plan, flavor, copy)
@@ -32,7 +35,8 @@ fn compile_pointee<'e>(
     plan: &mut Plan,
     queue: &mut Queue<'e>,
 ) -> Result<(Target, usize), Error>
-    ensures { IfOk result (λ r. Leads names.now (pointee_of pointee.now) (waits_of queue.old) (waits_of queue.new) (lists_of plan.old) (lists_of plan.new) r.0 r.1) }
+    ensures ok { IfOk result (λ r. Leads names.now (pointee_of pointee.now) (waits_of queue.old) (waits_of queue.new) (lists_of plan.old) (lists_of plan.new) r.0 r.1) }
+    ensures err { IfErr result (λ e. CanPoint names.now (pointee_of pointee.now) → e ≡ OutOfMemory) }
 {
     match pointee {
         Pointee::One(x) => {
@@ -64,7 +68,8 @@ pub fn compile<'e>(
     queue: &mut Queue<'e>,
 ) -> Result<usize, Error>
     requires { done ≤ length plan.old.nodes.items }
-    ensures { IfOk result (λ j. Compiled names.now done (shape_of expr.now) (waits_of queue.old) (waits_of queue.new) (lists_of plan.old) (lists_of plan.new) j) }
+    ensures ok { IfOk result (λ j. Compiled names.now done (shape_of expr.now) (waits_of queue.old) (waits_of queue.new) (lists_of plan.old) (lists_of plan.new) j) }
+    ensures err { IfErr result (λ e. Can names.now done (shape_of expr.now) → e ≡ OutOfMemory) }
 {
     match expr {
         Expr::Leaf(kind) => push_leaf(plan, *kind),
@@ -190,7 +195,8 @@ fn compile_parts<'e>(
     queue: &mut Queue<'e>,
 ) -> Result<Laid, Error>
     requires { done ≤ length plan.old.nodes.items }
-    ensures { IfOk result (λ laid. CompiledParts names.now done start (shapes_in parts.now) (waits_of queue.old) (waits_of queue.new) (lists_of plan.old) (lists_of plan.new) laid) }
+    ensures ok { IfOk result (λ laid. CompiledParts names.now done start (shapes_in parts.now) (waits_of queue.old) (waits_of queue.new) (lists_of plan.old) (lists_of plan.new) laid) }
+    ensures err { IfErr result (λ e. CanParts names.now done (shapes_in parts.now) → e ≡ OutOfMemory) }
 {
     let mut row = Row::new(alloc, start);
     for i in 0..parts.len() {
@@ -212,7 +218,8 @@ fn compile_variants<'e>(
     queue: &mut Queue<'e>,
 ) -> Result<Laid, Error>
     requires { done ≤ length plan.old.nodes.items }
-    ensures { IfOk result (λ laid. CompiledVariants names.now done (variants_in variants.now) (waits_of queue.old) (waits_of queue.new) (lists_of plan.old) (lists_of plan.new) laid) }
+    ensures ok { IfOk result (λ laid. CompiledVariants names.now done (variants_in variants.now) (waits_of queue.old) (waits_of queue.new) (lists_of plan.old) (lists_of plan.new) laid) }
+    ensures err { IfErr result (λ e. CanVariants names.now done (variants_in variants.now) → e ≡ OutOfMemory) }
 {
     let mut spans = Spans::new(alloc);
     for i in 0..variants.len() {

@@ -1,8 +1,12 @@
 //! How many nodes expressions are compiled to, and which is whose.
 
-ghost use Rattle.std.specs.Prelude.{ℕ, ◌≡◌, ◌+◌, IfOk, length};
+ghost use Rattle.std.specs.Prelude.{◌≡◌, ◌+◌, IfOk, IfErr, IsSome, length};
 ghost use Rattle.archive_check.specs.Expressions.{shape_of, pointee_of, shapes_in, variants_in};
 ghost use Rattle.archive_check.specs.Counts.{count_of, count_pointee as pointee_count, counts_of, variant_counts_of};
+ghost use Rattle.archive_check.specs.Shape.{Name, named};
+ghost use Rattle.archive_check.specs.Growing.{node_of};
+ghost use Rattle.archive_check.specs.declared.error.Error.TheVariants.{OutOfMemory};
+ghost use Rattle.archive_check.specs.Planned.{DefsInOrder};
 ghost use Rattle.archive_check.specs.Numbered.{RootIs, IsNumbered, def_shapes, start_of};
 
 use crate::defs::Def;
@@ -13,7 +17,8 @@ use std::alloc::Global;
 
 /// So many and so many. Refused with 1 where that is above `usize::MAX`: there is no memory for it.
 pub fn add(a: usize, b: usize) -> Result<usize, Error>
-    ensures { IfOk result (λ n. n ≡ a + b) }
+    ensures ok { IfOk result (λ n. n ≡ a + b) }
+    ensures err { IfErr result (λ e. e ≡ OutOfMemory) }
 {
     a.checked_add(b).ok_or(Error::OutOfMemory)
 }
@@ -32,7 +37,8 @@ fn count_pointee(pointee: &Pointee) -> usize
 #[cycle(count)]
 #[tactic(auto, using(crate::proofs::Views::views))]
 pub fn count(expr: &Expr) -> Result<usize, Error>
-    ensures { IfOk result (λ n. n ≡ count_of (shape_of expr.now)) }
+    ensures ok { IfOk result (λ n. n ≡ count_of (shape_of expr.now)) }
+    ensures err { IfErr result (λ e. e ≡ OutOfMemory) }
 {
     match expr {
         Expr::Leaf(_) | Expr::Vec(_) => Ok(1),
@@ -58,7 +64,8 @@ pub fn count(expr: &Expr) -> Result<usize, Error>
 #[cycle(count)]
 #[tactic(auto, using(crate::proofs::Views::views))]
 fn count_parts(parts: &[Expr]) -> Result<usize, Error>
-    ensures { IfOk result (λ n. n ≡ counts_of (shapes_in parts.now)) }
+    ensures ok { IfOk result (λ n. n ≡ counts_of (shapes_in parts.now)) }
+    ensures err { IfErr result (λ e. e ≡ OutOfMemory) }
 {
     let mut total = 0;
     for i in 0..parts.len() {
@@ -72,7 +79,8 @@ fn count_parts(parts: &[Expr]) -> Result<usize, Error>
 #[cycle(count)]
 #[tactic(auto, using(crate::proofs::Views::views))]
 fn count_variants(variants: &[Vec<Expr>]) -> Result<usize, Error>
-    ensures { IfOk result (λ n. n ≡ variant_counts_of (variants_in variants.now)) }
+    ensures ok { IfOk result (λ n. n ≡ variant_counts_of (variants_in variants.now)) }
+    ensures err { IfErr result (λ e. e ≡ OutOfMemory) }
 {
     let mut total = 0;
     for i in 0..variants.len() {
@@ -85,7 +93,8 @@ fn count_variants(variants: &[Vec<Expr>]) -> Result<usize, Error>
 /// The node of an expression whose nodes begin at `start`, and where they end: a name has its own, which is elsewhere. Refused with 31 where it
 /// is a name that isn't known yet.
 pub fn root(names: &[Known], expr: &Expr, start: usize) -> Result<(usize, usize), Error>
-    ensures { IfOk result (λ r. RootIs names.now start (shape_of expr.now) r.0 × (r.1 ≡ start + count_of (shape_of expr.now))) }
+    ensures ok { IfOk result (λ r. RootIs names.now start (shape_of expr.now) r.0 × (r.1 ≡ start + count_of (shape_of expr.now))) }
+    ensures err { IfErr result (λ e. ((name : Name) → shape_of expr.now ≡ named name → IsSome (node_of names.now name)) → e ≡ OutOfMemory) }
 {
     let more = count(expr)?;
     let end = add(start, more)?;
@@ -101,7 +110,8 @@ pub fn root(names: &[Known], expr: &Expr, start: usize) -> Result<(usize, usize)
 /// The nodes that definitions are compiled to, one after another, and how many there are. Memory comes from `alloc`. Refused with 1 where
 /// memory is refused, and with 31 where one is a name that isn't defined before it.
 pub fn number(alloc: Global, defs: &[Def]) -> Result<(Vec<Known>, usize), Error>
-    ensures { IfOk result (λ r. IsNumbered defs.now r.0.items (length defs.now) × (r.1 ≡ start_of (def_shapes defs.now) (length defs.now))) }
+    ensures ok { IfOk result (λ r. IsNumbered defs.now r.0.items (length defs.now) × (r.1 ≡ start_of (def_shapes defs.now) (length defs.now))) }
+    ensures err { IfErr result (λ e. DefsInOrder defs.now → e ≡ OutOfMemory) }
 {
     let mut names: Vec<Known> = Vec::new(alloc);
     let mut start = 0;

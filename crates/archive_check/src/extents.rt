@@ -1,6 +1,6 @@
 //! Sizes in bytes. None: above `usize::MAX`.
 
-ghost use Rattle.std.specs.Prelude.{◌≡◌, ◌↔◌, ◌<◌, ◌≤◌, IsTrue};
+ghost use Rattle.std.specs.Prelude.{◌≡◌, ◌↔◌, ◌<◌, ◌≤◌, max, IsTrue, Some};
 ghost use Rattle.std.specs.Int.{byte_len};
 ghost use Rattle.archive_check.specs.Layout.{up as up_to, kind_size};
 ghost use Rattle.archive_check.specs.Expressions.{kind_of, width_of};
@@ -114,5 +114,61 @@ pub fn times(size: Option<usize>, count: usize) -> Option<usize>
     match size {
         None => { if count == 0 { Some(0) } else { None } }
         Some(size) => narrow(size as u128 * count as u128),
+    }
+}
+
+/// Where what is laid out ends, and the greatest alignment in it: of parts one behind another, or of variants each for itself.
+#[derive(Debug, Clone, Copy)]
+pub struct Extent {
+    /// Where it ends. None: above `usize::MAX`.
+    pub end: Option<usize>,
+    /// The greatest alignment.
+    pub align: usize,
+    pub ghost positive: { 0 < align },
+}
+
+impl Extent {
+    /// Nothing yet, from an offset on.
+    pub fn new(start: usize) -> Extent
+        ensures end { result.end ≡ Some start }
+        ensures align { result.align ≡ 1 }
+    {
+        Extent {
+            end: Some(start),
+            align: 1,
+        }
+    }
+
+    /// One part more, at the next multiple of its alignment. Says where it begins.
+    pub fn add(&mut self, size: Option<usize>, align: usize) -> Option<usize>
+        requires { 0 < align }
+        ensures offset { result ≡ rounded self.old.end align }
+        ensures end { self.new.end ≡ sum_of (rounded self.old.end align) size }
+        ensures align { self.new.align ≡ max self.old.align align }
+    {
+        let offset = offset_of(self.end, align);
+        self.end = end_of(offset, size);
+        self.align = self.align.max(align);
+        offset
+    }
+
+    /// One variant more, laid out for itself.
+    pub fn join(&mut self, end: Option<usize>, align: usize)
+        ensures end { self.new.end ≡ greater_of self.old.end end }
+        ensures align { self.new.align ≡ max self.old.align align }
+    {
+        self.end = greater(self.end, end);
+        self.align = self.align.max(align);
+    }
+
+    /// All of it: the end at the next multiple of the alignment.
+    pub fn whole(self) -> Extent
+        ensures end { result.end ≡ rounded self.end self.align }
+        ensures align { result.align ≡ self.align }
+    {
+        Extent {
+            end: offset_of(self.end, self.align),
+            align: self.align,
+        }
     }
 }

@@ -1,15 +1,16 @@
 //! Plans that grow: everything is added behind what there is, and nothing is changed.
 
-ghost use Rattle.std.specs.Prelude.{◌≡◌, ◌≢◌, ◌⊎◌, ◌<◌, ◌≤◌, ℕ, true, IfOk, OnOk, length, [], Some, None};
+ghost use Rattle.std.specs.Prelude.{◌≡◌, ◌<◌, true, IfOk, IfErr, OnOk, [], Some};
 ghost use Rattle.archive_check.specs.Layout.{kind_size, kind_align};
 ghost use Rattle.archive_check.specs.Expressions.{kind_of};
 ghost use Rattle.archive_check.specs.Plain.{is_plain_kind};
 ghost use Rattle.archive_check.specs.Growing.{node_of, lists_of, no_lists, IsPushed, IsSorted, Unless, IsMade, IsPlaced, IsListed, PartsLaid, SpansLaid};
 ghost use Rattle.archive_check.specs.declared.plan.Job.TheVariants.{Free};
+ghost use Rattle.archive_check.specs.declared.error.Error.TheVariants.{OutOfMemory};
 
 use crate::error::Error;
 use crate::expr::{FlavorInfo, Kind, Pointee};
-use crate::extents::{end_of, greater, is_plain, leaf_size, offset_of};
+use crate::extents::{Extent, is_plain, leaf_size};
 use crate::plan::{Job, Node, Part, Plan, Sort, Span};
 use std::alloc::Global;
 
@@ -27,10 +28,8 @@ pub struct Known {
 pub struct Row {
     /// The parts.
     pub parts: Vec<Part>,
-    /// Where they end.
-    pub end: Option<usize>,
-    /// The greatest alignment.
-    pub align: usize,
+    /// Where they end, and their greatest alignment.
+    pub extent: Extent,
     /// Whether each of them has nothing to check.
     pub free: bool,
 }
@@ -40,10 +39,8 @@ pub struct Row {
 pub struct Spans {
     /// Their parts.
     pub items: Vec<Span>,
-    /// Where the longest ends.
-    pub end: Option<usize>,
-    /// The greatest alignment.
-    pub align: usize,
+    /// Where the longest ends, and the greatest alignment.
+    pub extent: Extent,
 }
 
 /// Parts or variants that stand in a plan, from `first` up to `last`.
@@ -93,7 +90,8 @@ pub fn find(names: &[Known], name: &str) -> Option<usize>
 /// One node more.
 pub fn push(plan: &mut Plan, size: Option<usize>, align: usize, job: Job) -> Result<usize, Error>
     requires { 0 < align }
-    ensures { IfOk result (λ j. IsPushed (lists_of plan.old) (lists_of plan.new) size align job j) }
+    ensures ok { IfOk result (λ j. IsPushed (lists_of plan.old) (lists_of plan.new) size align job j) }
+    ensures err { IfErr result (λ e. e ≡ OutOfMemory) }
 {
     let node = plan.nodes.len();
     plan.nodes.push(Node { size, align, job })?;
@@ -102,7 +100,8 @@ pub fn push(plan: &mut Plan, size: Option<usize>, align: usize, job: Job) -> Res
 
 /// One sort more.
 pub fn push_sort(plan: &mut Plan, flavor: FlavorInfo, pointee: Pointee) -> Result<usize, Error>
-    ensures { IfOk result (λ k. IsSorted (lists_of plan.old) (lists_of plan.new) (record { flavor = flavor; pointee = pointee }) k) }
+    ensures ok { IfOk result (λ k. IsSorted (lists_of plan.old) (lists_of plan.new) (record { flavor = flavor; pointee = pointee }) k) }
+    ensures err { IfErr result (λ e. e ≡ OutOfMemory) }
 {
     let sort = plan.sorts.len();
     plan.sorts.push(Sort { flavor, pointee })?;
@@ -128,7 +127,8 @@ pub fn push_laid(
     job: Job,
 ) -> Result<usize, Error>
     requires { 0 < align }
-    ensures { IfOk result (λ j. IsMade (lists_of plan.old) (lists_of plan.new) size align free job j) }
+    ensures ok { IfOk result (λ j. IsMade (lists_of plan.old) (lists_of plan.new) size align free job j) }
+    ensures err { IfErr result (λ e. e ≡ OutOfMemory) }
 {
     let made = unless_free(free, size, job);
     push(plan, size, align, made)
@@ -136,7 +136,8 @@ pub fn push_laid(
 
 /// A leaf's node.
 pub fn push_leaf(plan: &mut Plan, kind: Kind) -> Result<usize, Error>
-    ensures { IfOk result (λ j. IsMade (lists_of plan.old) (lists_of plan.new) (Some (kind_size (kind_of kind))) (kind_align (kind_of kind)) (is_plain_kind (kind_of kind)) (Job.Leaf kind) j) }
+    ensures ok { IfOk result (λ j. IsMade (lists_of plan.old) (lists_of plan.new) (Some (kind_size (kind_of kind))) (kind_align (kind_of kind)) (is_plain_kind (kind_of kind)) (Job.Leaf kind) j) }
+    ensures err { IfErr result (λ e. e ≡ OutOfMemory) }
 {
     let size = leaf_size(kind);
     push_laid(
@@ -159,28 +160,26 @@ impl Row {
     /// No part, at an offset.
     pub fn new(alloc: Global, start: usize) -> Row
         ensures parts { result.parts.items ≡ [] }
-        ensures end { result.end ≡ Some start }
-        ensures align { result.align ≡ 1 }
+        ensures end { result.extent.end ≡ Some start }
+        ensures align { result.extent.align ≡ 1 }
     {
         Row {
             parts: Vec::new(alloc),
-            end: Some(start),
-            align: 1,
+            extent: Extent::new(start),
             free: true,
         }
     }
 
     /// One part more, which is a node.
     pub fn place(&mut self, node: usize, here: Node) -> Result<(), Error>
-        ensures { OnOk result (IsPlaced node here self.old self.new) }
+        ensures ok { OnOk result (IsPlaced node here self.old self.new) }
+        ensures err { IfErr result (λ e. e ≡ OutOfMemory) }
     {
-        let offset = offset_of(self.end, here.align);
+        let offset = self.extent.add(here.size, here.align);
         self.parts.push(Part {
             offset: offset.unwrap_or(0),
             node,
         })?;
-        self.end = end_of(offset, here.size);
-        self.align = self.align.max(here.align);
         self.free = self.free && is_free(here.job);
         Ok(())
     }
@@ -190,56 +189,57 @@ impl Spans {
     /// No variant. A tag takes one byte.
     pub fn new(alloc: Global) -> Spans
         ensures items { result.items.items ≡ [] }
-        ensures end { result.end ≡ Some 1 }
-        ensures align { result.align ≡ 1 }
+        ensures end { result.extent.end ≡ Some 1 }
+        ensures align { result.extent.align ≡ 1 }
     {
         Spans {
             items: Vec::new(alloc),
-            end: Some(1),
-            align: 1,
+            extent: Extent::new(1),
         }
     }
 
     /// One variant more.
     pub fn list(&mut self, laid: Laid) -> Result<(), Error>
-        ensures { OnOk result (IsListed laid self.old self.new) }
+        ensures ok { OnOk result (IsListed laid self.old self.new) }
+        ensures err { IfErr result (λ e. e ≡ OutOfMemory) }
     {
         self.items.push(Span {
             first: laid.first,
             last: laid.last,
         })?;
-        self.end = greater(self.end, laid.end);
-        self.align = self.align.max(laid.align);
+        self.extent.join(laid.end, laid.align);
         Ok(())
     }
 }
 
 /// The parts of a row, behind those of a plan.
 pub fn extend_parts(plan: &mut Plan, row: &Row) -> Result<Laid, Error>
-    ensures { IfOk result (λ laid. PartsLaid (lists_of plan.old) (lists_of plan.new) row.now laid) }
+    ensures ok { IfOk result (λ laid. PartsLaid (lists_of plan.old) (lists_of plan.new) row.now laid) }
+    ensures err { IfErr result (λ e. e ≡ OutOfMemory) }
 {
     let first = plan.parts.len();
     plan.parts.extend_from_slice(&row.parts)?;
     Ok(Laid {
         first,
         last: plan.parts.len(),
-        end: row.end,
-        align: row.align,
+        end: row.extent.end,
+        align: row.extent.align,
         free: row.free,
     })
 }
 
 /// Variants, behind those of a plan.
 pub fn extend_variants(plan: &mut Plan, spans: &Spans) -> Result<Laid, Error>
-    ensures { IfOk result (λ laid. SpansLaid (lists_of plan.old) (lists_of plan.new) spans.now laid) }
+    ensures ok { IfOk result (λ laid. SpansLaid (lists_of plan.old) (lists_of plan.new) spans.now laid) }
+    ensures err { IfErr result (λ e. e ≡ OutOfMemory) }
 {
     let first = plan.variants.len();
     plan.variants.extend_from_slice(&spans.items)?;
     Ok(Laid {
         first,
         last: plan.variants.len(),
-        end: spans.end,
-        align: spans.align,
+        end: spans.extent.end,
+        align: spans.extent.align,
         free: false,
     })
 }

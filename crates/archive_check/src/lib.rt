@@ -29,6 +29,8 @@ mod tests_contexts;
 mod tests_expressions;
 #[cfg(test)]
 mod tests_memory;
+#[cfg(test)]
+mod tests_plans;
 pub mod traits;
 pub mod validation;
 pub mod validator;

@@ -42,7 +42,7 @@ fn take(defs: &mut Vec<Def>, name: &str) -> Option<Def>
 // The first name in an expression that has no definition; behind pointers too, where `far` says so.
 #[cycle(missing)]
 #[tactic(auto, using(crate::proofs::Views::views))]
-fn missing(expr: &Expr, defs: &[Def], far: bool) -> Option<&'static str>
+pub(crate) fn missing(expr: &Expr, defs: &[Def], far: bool) -> Option<&'static str>
     ensures { option_map (λ name. name.now) result ≡ missing_in far (entries_of defs.now) (shape_of expr.now) }
 {
     match expr {

@@ -1,8 +1,10 @@
 //! Expressions that wait: what a pointer leads to is compiled behind all that holds it.
 
-ghost use Rattle.std.specs.Prelude.{◌≡◌, ◌+◌, ◌≤◌, IfOk, OnOk, length, [], ◌∷◌, ◌++◌};
+ghost use Rattle.std.specs.Prelude.{◌≡◌, IfOk, IfErr, IsSome};
 ghost use Rattle.archive_check.specs.Expressions.{shape_of};
-ghost use Rattle.archive_check.specs.Counts.{count_of};
+ghost use Rattle.archive_check.specs.Shape.{Name, named};
+ghost use Rattle.archive_check.specs.Growing.{node_of};
+ghost use Rattle.archive_check.specs.declared.error.Error.TheVariants.{OutOfMemory};
 ghost use Rattle.archive_check.specs.Queued.{waits_of, no_waits, IsQueued};
 
 use crate::counting::root;
@@ -43,7 +45,8 @@ impl<'e> Queue<'e> {
 
 /// The node of what a pointer leads to: a name's, or that of an expression that waits from now on.
 pub fn wait<'e>(names: &[Known], expr: &'e Expr, queue: &mut Queue<'e>) -> Result<usize, Error>
-    ensures { IfOk result (λ j. IsQueued names.now (shape_of expr.now) (waits_of queue.old) (waits_of queue.new) j) }
+    ensures ok { IfOk result (λ j. IsQueued names.now (shape_of expr.now) (waits_of queue.old) (waits_of queue.new) j) }
+    ensures err { IfErr result (λ e. ((name : Name) → shape_of expr.now ≡ named name → IsSome (node_of names.now name)) → e ≡ OutOfMemory) }
 {
     if let Expr::Named(name) = expr {
         return match find(names, name) {

@@ -2,16 +2,21 @@
 
 ghost use Rattle.archive_check.specs.Expressions.{shape_of, entries_of};
 ghost use Rattle.archive_check.specs.Names.{HasAll};
-ghost use Rattle.archive_check.specs.Planned.{IsPlan};
+ghost use Rattle.archive_check.specs.Planned.{IsPlan, HasNames};
 
 pub use crate::error::Error;
 pub use crate::expr::{Def, Defs, Expr, FlavorInfo, IntegerKind, Kind, Pointee};
+use crate::growing::Known;
 pub use crate::layout::Layout;
 use crate::names::definitions_of;
 use crate::plan::{Checker, Plan};
 use crate::traits::Portable;
 use crate::validation::{ArchiveContext, SharedContext};
 use std::alloc::Global;
+
+mod layouts;
+#[cfg(test)]
+mod tests;
 
 /// An expression, with the definitions of the names that it reaches. It is compiled once, and checks any number of buffers.
 #[derive(Drop)]
@@ -20,16 +25,20 @@ pub struct Schema {
     definitions: Vec<Def>,
     plan: Plan,
     node: usize,
+    names: Vec<Known>,
     ghost complete: { HasAll (entries_of definitions.items) (shape_of root) },
     ghost planned: { ∥ IsPlan definitions.items (shape_of root) plan node ∥₁ },
+    ghost named: { ∥ HasNames definitions.items names.items plan ∥₁ },
 }
 
 impl Schema {
-    ghost use Rattle.std.specs.Prelude.{◌≡◌, ◌⊎◌, ◌≤◌, length, OnOk, IfOk, IfErr};
-    ghost use Rattle.archive_check.specs.declared.error.Error.TheVariants.{OutOfMemory};
+    ghost use Rattle.std.specs.Prelude.{◌≡◌, ◌⊎◌, ◌≤◌, false, None, length, OnOk, IfOk, IfErr};
+    ghost use Rattle.archive_check.specs.declared.error.Error.TheVariants.{OutOfMemory, LayoutTooLarge};
     ghost use Rattle.archive_check.specs.Exact.{IsWhole};
-    ghost use Rattle.archive_check.specs.Schemas.{Accepts, Refuses, IsExact, IsSchemaOf};
-    ghost use Rattle.archive_check.specs.Names.{ExplainsNoSchema};
+    ghost use Rattle.archive_check.specs.Schemas.{Accepts, Refuses, IsExact, IsSchemaOf, table_in};
+    ghost use Rattle.archive_check.specs.Expressions.{shape_of};
+    ghost use Rattle.archive_check.specs.Extents.{IsLayoutOf, IsTooLarge};
+    ghost use Rattle.archive_check.specs.Names.{ExplainsNoSchema, missing};
 
     /// The schema of `T`: its expression and the definitions of all names that it reaches, compiled. Memory comes from `alloc`, also that which a
     /// check takes. Refused with 1 where memory is refused, with 30 exactly where a name that is reached has none or two definitions, and else with
@@ -40,13 +49,31 @@ impl Schema {
     {
         let root = T::expr(alloc)?;
         let definitions = definitions_of::<T>(alloc, &root)?;
-        let (plan, node) = Plan::of(alloc, &definitions, &root)?;
+        let (plan, node, names) = Plan::of(alloc, &definitions, &root)?;
         Ok(Schema {
             root,
             definitions,
             plan,
             node,
+            names,
         })
+    }
+
+    /// The layout of an expression, in bytes. It asks that each name that `expr` holds, other than behind a pointer, is defined in the schema. It
+    /// takes no memory. Refused with 23 exactly where the size is above `usize::MAX`; an array of nothing has size 0, whatever its element.
+    pub fn layout(&self, expr: &Expr) -> Result<Layout, Error>
+        requires defined { missing false (table_in self.now) (shape_of expr.now) ≡ None }
+        ensures ok { IfOk result (λ l. IsLayoutOf self.now (shape_of expr.now) l) }
+        ensures err { IfErr result (λ e. (e ≡ LayoutTooLarge) × IsTooLarge self.now (shape_of expr.now)) }
+    {
+        let extent = layouts::extent_of(self, expr);
+        match extent.end {
+            None => Err(Error::LayoutTooLarge),
+            Some(size) => Ok(Layout {
+                size,
+                align: extent.align,
+            }),
+        }
     }
 
     /// Whether `bytes` hold a value of the schema at `pos`, in the order that docs/FORMAT.md gives. In a context for these bytes that met nothing

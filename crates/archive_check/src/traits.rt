@@ -14,7 +14,10 @@ use crate::error::Error;
 use crate::expr::{Defs, Expr};
 use std::alloc::{Allocator, Global};
 
+mod layouts;
 mod leaves;
+
+pub use layouts::{LayoutRaw, layout_of_run};
 
 /// What a pointer may lead to: an archived value, a slice or a text.
 pub trait ArchivePointee {

@@ -1,2 +1,14 @@
 pub mod Coded
 pub mod Shown
+pub mod Appending
+pub mod Resolving
+pub mod Denoting
+pub mod StringsWritten
+pub mod Whole
+pub mod Causes
+pub mod TextCauses
+pub mod Regions
+pub mod WholeCauses
+pub mod Repeated
+pub mod Shared
+pub mod SharedCauses

@@ -1,6 +1,8 @@
 -- The eight bytes of a string.
-use Rattle.std.specs.Prelude.{ℕ, ◌+◌, ◌-◌, ◌*◌, ◌/◌, ◌%◌, ℤ, List, ◌++◌, length, replicate, nat_lt, if◌then◌else◌}
+use Rattle.std.specs.Prelude.{ℕ, ◌+◌, ◌-◌, ◌*◌, ◌/◌, ◌%◌, ℤ, pos, List, ◌++◌, length, replicate, None, nat_lt, if◌then◌else◌}
 use Rattle.std.specs.Int.{w32, to_le_bytes, cast_unsigned}
+use Rattle.archive_check.specs.Shape.{text}
+use Rattle.archive_check.specs.Value.{Pointer, Value, text_value, hole}
 use Rattle.archive_core.specs.Offsets.{distance}
 
 -- the number that codes the length of a text that stands elsewhere
@@ -18,3 +20,11 @@ out_of_line_bytes n offset = to_le_bytes w32 (coded_length n) ++ to_le_bytes w32
 -- of the string at p of a text, which stands at t if it isn't inline
 abbrev pub string_form : List ℕ → ℕ → ℕ → List ℕ
 string_form bytes p t = if nat_lt 8 (length bytes) then out_of_line_bytes (length bytes) (distance p t) else inline_bytes bytes
+
+-- the pointer to a text of n bytes
+abbrev pub to_text : ℕ → ℕ → Pointer
+to_text t n = record { target = pos t; sharing = None; pointee = text; length = n }
+
+-- what is read in a string's place: its text, or a hole for one that stands at t
+abbrev pub string_flat : List ℕ → ℕ → Value
+string_flat bytes t = if nat_lt 8 (length bytes) then hole (to_text t (length bytes)) else text_value bytes

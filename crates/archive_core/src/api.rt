@@ -1,6 +1,6 @@
 //! Whole archives: written, checked and read back.
 
-ghost use Rattle.std.specs.Prelude.{◌≡◌, ◌⊎◌, ◌≤◌, ◌-◌, None, length, IfOk, OnOk, IfErr};
+ghost use Rattle.std.specs.Prelude.{◌≡◌, ◌⊎◌, ◌≤◌, ◌-◌, None, length, IfOk, OnOk, IfErr, ℕ, []};
 ghost use Rattle.archive_check.specs.Exact.{IsWhole};
 ghost use Rattle.archive_check.specs.Names.{ExplainsNoSchema};
 ghost use Rattle.archive_check.specs.Archives.{IsArchiveWithin, IsArchive, IsValueOf, IsRefusal, IsNoArchive};
@@ -9,11 +9,15 @@ ghost use Rattle.archive_check.specs.Definitions.{listed};
 ghost use Rattle.archive_check.specs.Entries.{NoEntries, AreNamedByPosition, KeepsEntries, IsCyclic};
 ghost use Rattle.archive_check.specs.Unshared.{IsUnshared};
 ghost use Rattle.archive_check.specs.Viewed.{Says};
-ghost use Rattle.archive_check.specs.declared.error.Error.TheVariants.{OutOfMemory, CyclicDeserialize};
+ghost use Rattle.archive_check.specs.declared.error.Error.TheVariants.{CyclicDeserialize, OutOfMemory};
+ghost use Rattle.archive_check.specs.Told.{Told};
+ghost use Rattle.archive_core.specs.Plans.{stand, at_start, GoesOn, Explains, HindersWhole, region_place, one_plan, IsOfWriting};
+ghost use Rattle.archive_core.specs.Writing.{Archives};
+ghost use Rattle.archive_write.specs.Sharing.{KnowsNone};
 ghost use Rattle.archive_write.specs.Written.{IsBeginning};
 
 pub use crate::context::HighValidator;
-use crate::ser::{ResolveExt, ResolverAlloc, Serializer, Writer, WriterExt};
+use crate::ser::{Serializer, Writer, serialize_one};
 use crate::traits::{Archive, Deserialize, Entries, Keys, Portable, Serialize};
 use crate::view::{Part, Ref};
 use archive_check::error::Error;
@@ -28,40 +32,61 @@ pub fn root_position<T: Portable>(len: usize) -> usize
     len.saturating_sub(T::size())
 }
 
-// Writes what the value owns and then the value, at the next multiple of its alignment.
-fn serialize_root<S: Writer + Keys + ResolverAlloc, T: Serialize<S>>(
-    serializer: &mut S,
+// The writer behind an archive of `value`, or behind what was written of one, and the root's position.
+fn serialize_whole<W: Writer + Drop, T: Serialize<Serializer<W, Global, ()>>>(
+    alloc: Global,
     value: &T,
-) -> Result<usize, Error>
-    ensures { IsBeginning (S.told serializer.old).bytes (S.told serializer.new).bytes }
+    writer: W,
+) -> (W, Result<usize, Error>)
+    ensures archived { IfOk result.1 (λ root. Archives T.Archived.definitions (W.told writer).bytes (W.told result.0).bytes root T.Archived.shape T.Archived.layout.size
+        (T.keys value.now) (T.meaning value.now)) }
+    ensures goes_on { GoesOn (W.told writer) (W.told result.0) }
+    ensures refused { IfErr result.1 (Explains (HindersWhole (T.hinders value.now (stand (W.told writer) (λ _. None))) (T.answers value.now (stand (W.told writer) (λ _. None))) (T.hinders_at value.now)
+        T.Archived.layout (region_place T.Archived.layout (T.plan value.now (stand (W.told writer) (λ _. None)))))
+        (one_plan T.Archived.layout (T.plan value.now (stand (W.told writer) (λ _. None)))).place (W.told writer) (W.told result.0)) }
+    ensures named { IfErr result.1 IsOfWriting }
 {
-    let resolver = value.serialize(serializer)?;
-    serializer.align_for::<T::Archived>()?;
-    let alloc = serializer.resolver_alloc();
-    serializer.resolve_aligned(alloc, value, resolver)
+    let mut serializer = Serializer::new(writer, alloc, ());
+    let root = serialize_one(value, &mut serializer);
+    (serializer.into_writer(), root)
 }
 
 /// Appends an archive of `value` to what `writer` holds, its root at the end, and answers the writer. Memory comes from `alloc`. Refused with what
-/// the value's parts or the writer refuse with, or with 1 where memory is refused.
+/// the value's parts or the writer refuse with, with 23 where the root would end above `usize::MAX`, or with 1 where memory is refused.
 pub fn to_bytes_in<W: Writer + Drop, T: Serialize<Serializer<W, Global, ()>>>(
     alloc: Global,
     value: &T,
     writer: W,
 ) -> Result<W, Error>
-    ensures { IfOk result (λ w. IsBeginning (W.told writer).bytes (W.told w).bytes) }
+    ensures archived { IfOk result (λ w. (root : ℕ) × Archives T.Archived.definitions (W.told writer).bytes (W.told w).bytes root T.Archived.shape T.Archived.layout.size
+        (T.keys value.now) (T.meaning value.now)) }
+    ensures kept { IfOk result (λ w. IsBeginning (W.told writer).bytes (W.told w).bytes) }
+    ensures goes_on { IfOk result (λ w. GoesOn (W.told writer) (W.told w)) }
+    ensures refused { IfErr result (λ e. (end : W) × GoesOn (W.told writer) (W.told end) × Explains (HindersWhole (T.hinders value.now (stand (W.told writer) (λ _. None))) (T.answers value.now (stand (W.told writer) (λ _. None))) (T.hinders_at value.now)
+        T.Archived.layout (region_place T.Archived.layout (T.plan value.now (stand (W.told writer) (λ _. None)))))
+        (one_plan T.Archived.layout (T.plan value.now (stand (W.told writer) (λ _. None)))).place (W.told writer) (W.told end) e) }
+    ensures named { IfErr result IsOfWriting }
 {
-    let mut serializer = Serializer::new(writer, alloc, ());
-    serialize_root(&mut serializer, value)?;
-    Ok(serializer.into_writer())
+    let (writer, root) = serialize_whole(alloc, value, writer);
+    root?;
+    Ok(writer)
 }
 
-/// An archive of `value`, its root at the end. Memory comes from `alloc`. Refused with what the value's parts refuse with, or with 1 where memory
-/// is refused.
+/// An archive of `value`, its root at the end. Memory comes from `alloc`. Refused with what the value's parts refuse with, with 23 where the root
+/// would end above `usize::MAX`, or with 1 where memory is refused.
 pub fn to_bytes<T: Serialize<Serializer<Vec<u8>, Global, ()>>>(
     alloc: Global,
     value: &T,
-) -> Result<Vec<u8>, Error> {
-    to_bytes_in(alloc, value, Vec::new(alloc))
+) -> Result<Vec<u8>, Error>
+    ensures archived { IfOk result (λ bytes. (root : ℕ) × Archives T.Archived.definitions [] bytes.items root T.Archived.shape T.Archived.layout.size
+        (T.keys value.now) (T.meaning value.now)) }
+    ensures refused { IfErr result (λ e. (e ≡ OutOfMemory) ⊎ HindersWhole (T.hinders value.now at_start) (T.answers value.now at_start) (T.hinders_at value.now)
+        T.Archived.layout (region_place T.Archived.layout (T.plan value.now at_start)) e) }
+    ensures named { IfErr result IsOfWriting }
+{
+    let (bytes, root) = serialize_whole(alloc, value, Vec::new(alloc));
+    root?;
+    Ok(bytes)
 }
 
 /// Checks that `bytes` are an archive whose root, a `T`, lies at `pos`. In a context for these bytes that met nothing yet the answer is exact. Memory

@@ -1,12 +1,17 @@
 //! Numbers, bools, chars and `()`: their formats, and how they are archived and read back.
 
-ghost use Rattle.std.specs.Prelude.{◌≡◌, ⊤, refl, length, IfOk, IfErr, IsOk};
+ghost use Rattle.std.specs.Prelude.{◌≡◌, ⊤, refl, ℕ, [], length, IfOk, OnOk, IfErr, IsOk};
 ghost use Rattle.archive_check.specs.Shape.{leaf, one};
-ghost use Rattle.archive_check.specs.Reads.{bytes_at};
-ghost use Rattle.archive_check.specs.Definitions.{no_definition};
+ghost use Rattle.archive_check.specs.Reads.{bytes_at, IsLegal};
+ghost use Rattle.archive_check.specs.Definitions.{no_definition, Definitions};
 ghost use Rattle.archive_check.specs.Value.{number};
 ghost use Rattle.archive_check.specs.Viewed.{Viewed, Says};
+ghost use Rattle.archive_check.specs.Layout.{kind_size};
+ghost use Rattle.archive_check.specs.Held.{held};
 ghost use Rattle.archive_check.specs.Told.{KeepsKeys};
+ghost use Rattle.archive_core.specs.Keyed.{number_keyed, stays};
+ghost use Rattle.archive_core.specs.Plans.{stand, IsAt, GoesOn, Explains};
+ghost use Rattle.archive_core.specs.Writing.{Fresh, Resolves, Writes};
 ghost use Rattle.archive_write.specs.Sharing.{KeepsKnown, IsNoMisuse};
 ghost use Rattle.archive_write.specs.Written.{IsBeginning};
 
@@ -37,11 +42,24 @@ pub trait Source: Native {
     type Format: Portable;
 
     ghost same_size: { Self.Format.layout.size ≡ Self.byte_count };
+
+    ghost same_shape: { Self.Format.shape ≡ leaf Self.kind };
 }
 
 /// A source that lies in an archive as it is, so that its format is itself: `()`, `bool`, `u8`, `i8`.
 pub trait Plain: Source + Portable {
     ghost same_pointee: { Self.pointee ≡ one (leaf Self.kind) };
+}
+
+// Writes the bytes of a leaf: wherever they stand, they are read as the value.
+fn write_leaf<N: Native>(value: N, bytes: &mut [u8])
+    requires { length bytes.old ≡ N.byte_count }
+    ensures bytes { bytes.new ≡ N.bytes_of value }
+    ensures legal { IsLegal N.kind (N.bytes_of value) }
+    ensures back { N.number_of (N.bytes_of value) ≡ value }
+    ensures resolved { (D : Definitions) (p : ℕ) → Resolves D p bytes.new (leaf N.kind) (number (N.value_of value)) }
+{
+    value.write_to(bytes)
 }
 
 impl<N: Source> Archive for N {
@@ -51,27 +69,56 @@ impl<N: Source> Archive for N {
 
     ghost meaning = { λ n. number (N.value_of n) };
 
+    ghost flat = { λ n _. number (N.value_of n) };
+
+    ghost keys = { λ _. [] };
+
     ghost belongs = { λ _ _. ⊤ };
 
+    ghost plan = { λ _ s. s };
+
+    ghost answers = { λ _ _ _. ⊤ };
+
+    ghost hinders = { λ _ _ _. ⊥ };
+
+    ghost hinders_at = { λ _ _ _ _. ⊥ };
+
+    ghost keyed = { λ n. number_keyed (N.value_of n) };
+
+    ghost forward = { λ _ s. stays s };
+
+    ghost named = { λ _ _ _ h. absurd h };
+
+    ghost named_at = { λ _ _ _ _ h. absurd h };
+
     fn resolve(&self, _resolver: (), place: Place<'_, N::Format>) -> Result<(), Error>
-        requires sized { length place.bytes.now ≡ N.Format.layout.size }
+        requires fresh { Fresh (N.Format.layout.size) place.pos place.bytes.now }
         requires same_value { ⊤ }
+        ensures resolved { OnOk result (Resolves N.Format.definitions place.entry.pos place.exit.0.now (N.Format.shape) (number (N.value_of self.now))) }
         ensures same_length { length place.exit.0.now ≡ length place.entry.bytes.now }
+        ensures refused { IfErr result (λ _. ⊥) }
         ensures written { place.exit.0.now ≡ N.bytes_of self.now }
         ensures succeeds { IsOk result }
     {
         let Place { bytes, .. } = place;
-        self.write_to(bytes);
+        write_leaf(*self, bytes);
         Ok(())
     }
 }
 
 impl<N: Source, S: Writer + Keys> Serialize<S> for N {
+    #[tactic(auto, using(crate::proofs::Appending::writes_number, crate::proofs::Causes::goes_nowhere))]
     fn serialize(&self, _serializer: &mut S) -> Result<(), Error>
+        ensures written { IfOk result (λ _. Writes N.Format.definitions (held (S.told _serializer.old) (S.state_of _serializer.old)) (held (S.told _serializer.new) (S.state_of _serializer.new))
+            [] (number (N.value_of self.now)) (number (N.value_of self.now))) }
         ensures same_value { ⊤ }
+        ensures answered { ⊤ }
+        ensures planned { OnOk result (IsAt (stand (S.told _serializer.old) (S.state_of _serializer.old)) (S.told _serializer.new) (S.state_of _serializer.new)) }
+        ensures goes_on { GoesOn (S.told _serializer.old) (S.told _serializer.new) }
         ensures kept { IsBeginning (S.told _serializer.old).bytes (S.told _serializer.new).bytes }
         ensures known { KeepsKnown (S.state_of _serializer.old) (S.state_of _serializer.new) }
         ensures no_misuse { IfErr result IsNoMisuse }
+        ensures refused { IfErr result (Explains (λ _. ⊥) (length (S.told _serializer.old).bytes) (S.told _serializer.old) (S.told _serializer.new)) }
         ensures unchanged { S.told _serializer.new ≡ S.told _serializer.old }
         ensures keys { KeepsKeys (S.state_of _serializer.old) (S.state_of _serializer.new) }
         ensures succeeds { IsOk result }
@@ -87,27 +134,56 @@ impl<N: Native> Archive for LittleEndian<N> {
 
     ghost meaning = { λ n. number (N.value_of n) };
 
+    ghost flat = { λ n _. number (N.value_of n) };
+
+    ghost keys = { λ _. [] };
+
     ghost belongs = { λ _ _. ⊤ };
 
+    ghost plan = { λ _ s. s };
+
+    ghost answers = { λ _ _ _. ⊤ };
+
+    ghost hinders = { λ _ _ _. ⊥ };
+
+    ghost hinders_at = { λ _ _ _ _. ⊥ };
+
+    ghost keyed = { λ n. number_keyed (N.value_of n) };
+
+    ghost forward = { λ _ s. stays s };
+
+    ghost named = { λ _ _ _ h. absurd h };
+
+    ghost named_at = { λ _ _ _ _ h. absurd h };
+
     fn resolve(&self, _resolver: (), place: Place<'_, LittleEndian<N>>) -> Result<(), Error>
-        requires sized { length place.bytes.now ≡ N.byte_count }
+        requires fresh { Fresh (kind_size N.kind) place.pos place.bytes.now }
         requires same_value { ⊤ }
+        ensures resolved { OnOk result (Resolves no_definition place.entry.pos place.exit.0.now (leaf N.kind) (number (N.value_of self.now))) }
         ensures same_length { length place.exit.0.now ≡ length place.entry.bytes.now }
+        ensures refused { IfErr result (λ _. ⊥) }
         ensures written { place.exit.0.now ≡ N.bytes_of self.now }
         ensures succeeds { IsOk result }
     {
         let Place { bytes, .. } = place;
-        self.to_native().write_to(bytes);
+        write_leaf(self.to_native(), bytes);
         Ok(())
     }
 }
 
 impl<N: Native, S: Writer + Keys> Serialize<S> for LittleEndian<N> {
+    #[tactic(auto, using(crate::proofs::Appending::writes_number, crate::proofs::Causes::goes_nowhere))]
     fn serialize(&self, _serializer: &mut S) -> Result<(), Error>
+        ensures written { IfOk result (λ _. Writes no_definition (held (S.told _serializer.old) (S.state_of _serializer.old)) (held (S.told _serializer.new) (S.state_of _serializer.new))
+            [] (number (N.value_of self.now)) (number (N.value_of self.now))) }
         ensures same_value { ⊤ }
+        ensures answered { ⊤ }
+        ensures planned { OnOk result (IsAt (stand (S.told _serializer.old) (S.state_of _serializer.old)) (S.told _serializer.new) (S.state_of _serializer.new)) }
+        ensures goes_on { GoesOn (S.told _serializer.old) (S.told _serializer.new) }
         ensures kept { IsBeginning (S.told _serializer.old).bytes (S.told _serializer.new).bytes }
         ensures known { KeepsKnown (S.state_of _serializer.old) (S.state_of _serializer.new) }
         ensures no_misuse { IfErr result IsNoMisuse }
+        ensures refused { IfErr result (Explains (λ _. ⊥) (length (S.told _serializer.old).bytes) (S.told _serializer.old) (S.told _serializer.new)) }
         ensures unchanged { S.told _serializer.new ≡ S.told _serializer.old }
         ensures keys { KeepsKeys (S.state_of _serializer.old) (S.state_of _serializer.new) }
         ensures succeeds { IsOk result }

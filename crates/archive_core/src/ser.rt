@@ -1,11 +1,16 @@
 //! Writers, and the regions that are resolved into them.
 
-ghost use Rattle.std.specs.Prelude.{◌≡◌, ◌+◌, ◌%◌, length, IfOk, OnOk};
+ghost use Rattle.std.specs.Prelude.{◌≡◌, ◌+◌, ◌%◌, length, IfOk, OnOk, IfErr};
+ghost use Rattle.archive_check.specs.Held.{held};
+ghost use Rattle.archive_check.specs.Shape.{one};
 ghost use Rattle.archive_check.specs.Told.{KeepsKeys};
+ghost use Rattle.archive_core.specs.Plans.{stand, IsAt, GoesOn, Explains, HindersRegion, HindersWhole, region_place, one_plan, IsOfWriting};
+ghost use Rattle.archive_core.specs.Writing.{Fresh, Resolves, Puts, Lays};
+ghost use Rattle.archive_write.specs.Sharing.{KeepsKnown};
 ghost use Rattle.archive_write.specs.Written.{IsBeginning};
 
 use crate::place::Place;
-use crate::traits::{Archive, Portable};
+use crate::traits::{Archive, Keys, Portable, Serialize};
 use archive_check::error::Error;
 pub use archive_write::ser::{Buffer, Positional, ResolverAlloc, Serializer, Writer, WriterExt};
 use std::alloc::Allocator;
@@ -13,16 +18,42 @@ use std::alloc::Allocator;
 /// Regions of this size or less are resolved in a local array.
 const LOCAL_SIZE: usize = 64;
 
-// Resolves a value into bytes that stand at a position.
+// Resolves a value into zeros that are to stand at the writer's end, and writes them.
+#[tactic(auto, using(crate::proofs::Regions::puts_by, crate::proofs::Regions::region_hindered, crate::proofs::Regions::region_refused, crate::proofs::Causes::goes_nowhere, crate::proofs::Causes::goes_written, crate::proofs::Causes::goes_refused))]
+fn resolve_region<W: Writer, T: Archive>(
+    writer: &mut W,
+    value: &T,
+    resolver: T::Resolver,
+    region: &mut [u8],
+) -> Result<usize, Error>
+    requires fresh { Fresh T.Archived.layout.size (length (W.told writer.old).bytes) region.old }
+    requires same_value { T.belongs value.now resolver }
+    ensures put { OnOk result (Puts T.Archived.definitions (held (W.told writer.old) (W.state_of writer.old)) (held (W.told writer.new) (W.state_of writer.new))
+        T.Archived.shape T.Archived.layout (T.flat value.now resolver)) }
+    ensures position { IfOk result (λ p. p ≡ length (W.told writer.old).bytes) }
+    ensures refused { IfErr result (Explains (HindersRegion (T.hinders_at value.now resolver) T.Archived.layout (length (W.told writer.old).bytes))
+        (length (W.told writer.old).bytes + T.Archived.layout.size) (W.told writer.old) (W.told writer.new)) }
+    ensures goes_on { GoesOn (W.told writer.old) (W.told writer.new) }
+    ensures keys { KeepsKeys (W.state_of writer.old) (W.state_of writer.new) }
+{
+    let pos = writer.pos();
+    resolve_into(value, resolver, pos, region)?;
+    writer.write(region)?;
+    Ok(pos)
+}
+
+// Resolves a value into zeros that stand at a position.
 fn resolve_into<T: Archive>(
     value: &T,
     resolver: T::Resolver,
     pos: usize,
     bytes: &mut [u8],
 ) -> Result<(), Error>
-    requires sized { length bytes.old ≡ T.Archived.layout.size }
+    requires fresh { Fresh T.Archived.layout.size pos bytes.old }
     requires same_value { T.belongs value.now resolver }
-    ensures { length bytes.new ≡ length bytes.old }
+    ensures resolved { OnOk result (Resolves T.Archived.definitions pos bytes.new T.Archived.shape (T.flat value.now resolver)) }
+    ensures same_length { length bytes.new ≡ length bytes.old }
+    ensures refused { IfErr result (T.hinders_at value.now resolver pos) }
 {
     value.resolve(resolver, Place::new(pos, bytes))
 }
@@ -32,6 +63,7 @@ pub trait ResolveExt: Writer {
     /// Resolves `value` into the next region and writes it; answers the region's position. The writer stands at a multiple of the archived
     /// type's alignment. Memory for a large region comes from `alloc`: refused with 1 where it is refused, with 23 where the region would end
     /// above `usize::MAX`, with what `resolve` refuses with, or as the writer refuses.
+    #[tactic(auto, using(crate::proofs::Regions::fresh_zeros, crate::proofs::Regions::fresh_front, crate::proofs::Regions::region_too_large, crate::proofs::Causes::goes_nowhere))]
     final fn resolve_aligned<A: Allocator + Drop, T: Archive>(
         &mut self,
         alloc: A,
@@ -42,27 +74,52 @@ pub trait ResolveExt: Writer {
         Self: Sized,
         requires aligned { Self.place self.old % T.Archived.layout.align ≡ 0 }
         requires same_value { T.belongs value.now resolver }
+        ensures region { OnOk result (Puts T.Archived.definitions (held (Self.told self.old) (Self.state_of self.old)) (held (Self.told self.new) (Self.state_of self.new))
+            T.Archived.shape T.Archived.layout (T.flat value.now resolver)) }
         ensures position { IfOk result (λ p. p ≡ Self.place self.old) }
+        ensures refused { IfErr result (Explains (HindersRegion (T.hinders_at value.now resolver) T.Archived.layout (length (Self.told self.old).bytes))
+            (length (Self.told self.old).bytes + T.Archived.layout.size) (Self.told self.old) (Self.told self.new)) }
+        ensures goes_on { GoesOn (Self.told self.old) (Self.told self.new) }
         ensures sized { OnOk result (length (Self.told self.new).bytes ≡ length (Self.told self.old).bytes + T.Archived.layout.size) }
         ensures kept { IsBeginning (Self.told self.old).bytes (Self.told self.new).bytes }
         ensures keys { KeepsKeys (Self.state_of self.old) (Self.state_of self.new) }
     {
-        let pos = self.pos();
         let size = T::Archived::size();
-        if pos.checked_add(size).is_none() {
+        if self.pos().checked_add(size).is_none() {
             return Err(Error::LayoutTooLarge);
         }
         if size <= LOCAL_SIZE {
             let mut region = [0; LOCAL_SIZE];
-            resolve_into(value, resolver, pos, &mut region[..size])?;
-            self.write(&region[..size])?;
-        } else {
-            let mut region = vec![in alloc; 0u8; size]?;
-            resolve_into(value, resolver, pos, &mut region)?;
-            self.write(region.as_slice())?;
+            return resolve_region(self, value, resolver, &mut region[..size]);
         }
-        Ok(pos)
+        let mut region = vec![in alloc; 0u8; size]?;
+        resolve_region(self, value, resolver, &mut region)
     }
 }
 
 impl<W: Writer> ResolveExt for W {}
+
+/// Writes what `value` owns and then the value as a region of its own, at the next multiple of its alignment, and answers the region's position.
+/// Refused as the value's serialization or its resolving refuses, with 23 where the region would end above `usize::MAX`, with 1 where memory is
+/// refused, or as the writer refuses.
+#[tactic(auto, using(crate::proofs::Appending::lays_one))]
+pub fn serialize_one<S: Writer + Keys + ResolverAlloc, T: Serialize<S>>(
+    value: &T,
+    serializer: &mut S,
+) -> Result<usize, Error>
+    ensures written { IfOk result (λ p. Lays T.Archived.definitions (held (S.told serializer.old) (S.state_of serializer.old)) (held (S.told serializer.new) (S.state_of serializer.new))
+        (T.keys value.now) p (one T.Archived.shape) 0 (T.meaning value.now)) }
+    ensures there { IfOk result (λ p. p ≡ region_place T.Archived.layout (T.plan value.now (stand (S.told serializer.old) (S.state_of serializer.old)))) }
+    ensures planned { OnOk result (IsAt (one_plan T.Archived.layout (T.plan value.now (stand (S.told serializer.old) (S.state_of serializer.old)))) (S.told serializer.new) (S.state_of serializer.new)) }
+    ensures goes_on { GoesOn (S.told serializer.old) (S.told serializer.new) }
+    ensures known { KeepsKnown (S.state_of serializer.old) (S.state_of serializer.new) }
+    ensures refused { IfErr result (Explains (HindersWhole (T.hinders value.now (stand (S.told serializer.old) (S.state_of serializer.old))) (T.answers value.now (stand (S.told serializer.old) (S.state_of serializer.old))) (T.hinders_at value.now)
+        T.Archived.layout (region_place T.Archived.layout (T.plan value.now (stand (S.told serializer.old) (S.state_of serializer.old)))))
+        (one_plan T.Archived.layout (T.plan value.now (stand (S.told serializer.old) (S.state_of serializer.old)))).place (S.told serializer.old) (S.told serializer.new)) }
+    ensures named { IfErr result IsOfWriting }
+{
+    let resolver = value.serialize(serializer)?;
+    serializer.align_for::<T::Archived>()?;
+    let alloc = serializer.resolver_alloc();
+    serializer.resolve_aligned(alloc, value, resolver)
+}

@@ -1,7 +1,10 @@
 //! Shared values: each is written once, and its key answers where.
 
 ghost use Rattle.std.specs.Prelude.{◌≡◌, ◌⊎◌, ◌≤◌, None, Option, Some, ℕ, length, IfOk, IfErr, OnErr};
+ghost use Rattle.archive_check.specs.Held.{held};
 ghost use Rattle.archive_check.specs.Told.{KeepsKeys};
+ghost use Rattle.archive_core.specs.Plans.{stand, begun, ended, IsAt, GoesOn, Explains, HindersShared};
+ghost use Rattle.archive_core.specs.Writing.{LaysShared};
 ghost use Rattle.archive_write.specs.Sharing.{KeepsKnown, IsNoMisuse, known_answer};
 ghost use Rattle.archive_write.specs.Written.{IsBeginning};
 
@@ -15,6 +18,7 @@ pub trait SharingExt: Sharing + Writer {
     /// Writes `value` where `key` is unknown, finishes the key there and answers the position, in bytes from the first one; of a finished key
     /// answers the kept position and writes nothing. Refused with 11 where the key is pending, so that its value holds itself; nothing changes
     /// then. Else refused with 1 where memory is refused, or as the value refuses; the key is then unknown or pending. Never refused with 14 or 15.
+    #[tactic(auto, using(crate::proofs::Causes::goes_nowhere))]
     final fn serialize_shared<T: SerializeUnsized<Self>>(
         &mut self,
         key: u64,
@@ -25,6 +29,13 @@ pub trait SharingExt: Sharing + Writer {
         ensures known { (s : Option ℕ) → Self.state_of self.old key ≡ Some s → result ≡ known_answer s }
         ensures unchanged { (s : Option ℕ) → Self.state_of self.old key ≡ Some s → (Self.told self.new ≡ Self.told self.old) × KeepsKeys (Self.state_of self.old) (Self.state_of self.new) }
         ensures written { Self.state_of self.old key ≡ None → IfOk result (λ p. (length (Self.told self.old).bytes ≤ p) × (p ≤ length (Self.told self.new).bytes)) }
+        ensures laid { Self.state_of self.old key ≡ None → IfOk result (λ p. LaysShared T.Archived.definitions (held (Self.told self.old) (Self.state_of self.old)) (held (Self.told self.new) (Self.state_of self.new))
+            key (T.keys value.now) p T.Archived.pointee (T.source_length value.now) (T.meaning value.now)) }
+        ensures there { Self.state_of self.old key ≡ None → IfOk result (λ p. p ≡ T.planned_at value.now (begun (stand (Self.told self.old) (Self.state_of self.old)) key)) }
+        ensures planned { Self.state_of self.old key ≡ None → IfOk result (λ p. IsAt (ended (T.plan value.now (begun (stand (Self.told self.old) (Self.state_of self.old)) key)) key p) (Self.told self.new) (Self.state_of self.new)) }
+        ensures goes_on { GoesOn (Self.told self.old) (Self.told self.new) }
+        ensures refused { IfErr result (Explains (HindersShared (Self.state_of self.old key) (T.hinders value.now (begun (stand (Self.told self.old) (Self.state_of self.old)) key)))
+            (T.plan value.now (begun (stand (Self.told self.old) (Self.state_of self.old)) key)).place (Self.told self.old) (Self.told self.new)) }
         ensures finished { IfOk result (λ p. Self.state_of self.new key ≡ Some (Some p)) }
         ensures unfinished { OnErr result ((Self.state_of self.new key ≡ None) ⊎ (Self.state_of self.new key ≡ Some None)) }
         ensures kept { IsBeginning (Self.told self.old).bytes (Self.told self.new).bytes }

@@ -1,14 +1,16 @@
 // Worked rows: values with their archives, and buffers that are refused.
 
-ghost use Rattle.std.specs.Prelude.{◌≡◌, ◌-◌, ⊤, refl, pos, length, IfOk};
+ghost use Rattle.std.specs.Prelude.{◌≡◌, ⊤, refl, [], pos, length, IfOk, OnOk, IfErr, ◌-◌, ℕ, string_bytes};
 ghost use Rattle.std.specs.Int.{w32};
 ghost use Rattle.std.proofs.Common.{inl, inr};
-ghost use Rattle.archive_check.specs.Shape.{array, leaf, number, one, unsigned};
+ghost use Rattle.archive_check.specs.Shape.{array, leaf, number, one, str, unsigned};
 ghost use Rattle.archive_check.specs.Definitions.{no_definition};
-ghost use Rattle.archive_check.specs.LeafLayout.{no_definition_reached};
-ghost use Rattle.archive_check.specs.Value.{number as number_value, list};
-ghost use Rattle.archive_check.specs.Archives.{IsValueOf};
+ghost use Rattle.archive_check.specs.Value.{list, number as number_value, text_value};
+ghost use Rattle.archive_core.specs.Keyed.{numbers_keyed, stays};
 ghost use Rattle.archive_core.specs.Repeated.{repeated};
+ghost use Rattle.archive_core.specs.Writing.{Fresh, Resolves, Archives};
+ghost use Rattle.archive_check.specs.LeafLayout.{no_definition_reached};
+ghost use Rattle.archive_check.specs.Archives.{IsValueOf};
 
 use crate::api::{
     HighValidator, access, access_pos, access_pos_with_context, access_with_context,
@@ -22,8 +24,8 @@ use crate::primitive::{
     ArchivedUsize,
 };
 use crate::rel_ptr::signed_offset;
-use crate::ser::{Buffer, Positional, ResolveExt, Serializer, Writer};
-use crate::shape::{Defs, Expr, Schema};
+use crate::ser::{Buffer, Positional, ResolveExt, Serializer, Writer, serialize_one};
+use crate::shape::{Defs, Expr, IntegerKind, Kind, Schema};
 use crate::sharing::{Share, Sharing, SharingExt};
 use crate::string::{ArchivedStr, ArchivedString, Text, repr};
 use crate::traits::{
@@ -171,6 +173,28 @@ fn lengths_and_offsets_have_32_bits(rt: HostRuntime) -> Result<(), Fail> {
     let offset: isize = from_bytes(alloc, &[0xfe, 0xff, 0xff, 0xff], &mut ())?;
     assert_eq!(rt; offset, -2);
     let _: Ref<'_, ArchivedIsize> = access::<ArchivedIsize>(alloc, &[0; 4])?;
+    Ok(())
+}
+
+// What the law says of a string: its archive, from the contract of `to_bytes` alone.
+fn archive_of(alloc: Global, text: &String) -> Result<Vec<u8>, Error>
+    ensures { IfOk result (λ bytes. (root : ℕ) × Archives no_definition [] bytes.items root str 8 [] (text_value (string_bytes text.now))) }
+{
+    to_bytes(alloc, text)
+}
+
+#[test]
+fn a_value_is_laid_out_as_a_region(rt: HostRuntime) -> Result<(), Fail> {
+    let text = String::from_str(rt.alloc(), "hello world")?;
+    let archive = archive_of(rt.alloc(), &text)?;
+    let mut serializer = Serializer::new(Vec::new(rt.alloc()), rt.alloc(), ());
+    assert_eq!(rt; serialize_one(&text, &mut serializer)?, 12);
+    assert_eq!(rt; serialize_one(&42u16, &mut serializer)?, 20);
+    assert_eq!(rt; serialize_one(&7u64, &mut serializer)?, 24);
+    let bytes = serializer.into_writer();
+    let (first, rest) = bytes.split_at(20);
+    assert_eq!(rt; first, archive.as_slice());
+    assert_eq!(rt; rest, b"\x2a\0\0\0\x07\0\0\0\0\0\0\0".as_slice());
     Ok(())
 }
 
@@ -568,12 +592,35 @@ impl Archive for Sevens {
 
     ghost meaning = { λ _. list (repeated 25 (number_value (pos 117901063))) };
 
+    ghost flat = { λ _ _. list (repeated 25 (number_value (pos 117901063))) };
+
+    ghost keys = { λ _. [] };
+
     ghost belongs = { λ _ _. ⊤ };
 
+    ghost plan = { λ _ s. s };
+
+    ghost answers = { λ _ _ _. ⊤ };
+
+    ghost hinders = { λ _ _ _. ⊥ };
+
+    ghost hinders_at = { λ _ _ _ _. ⊥ };
+
+    ghost keyed = { λ _. numbers_keyed 25 (pos 117901063) };
+
+    ghost forward = { λ _ s. stays s };
+
+    ghost named = { λ _ _ _ h. absurd h };
+
+    ghost named_at = { λ _ _ _ _ h. absurd h };
+
+    #[tactic(auto, using(crate::proofs::Repeated::resolves_sevens))]
     fn resolve(&self, _resolver: (), place: Place<'_, ArchivedSevens>) -> Result<(), Error>
-        requires sized { length place.bytes.now ≡ 100 }
+        requires fresh { Fresh 100 place.pos place.bytes.now }
         requires same_value { ⊤ }
+        ensures resolved { OnOk result (Resolves no_definition place.entry.pos place.exit.0.now (array 25 (leaf (number unsigned w32))) (list (repeated 25 (number_value (pos 117901063))))) }
         ensures same_length { length place.exit.0.now ≡ length place.entry.bytes.now }
+        ensures refused { IfErr result (λ _. ⊥) }
     {
         let Place { bytes, .. } = place;
         bytes.fill(7);

@@ -1,10 +1,14 @@
 //! What is archived and how, and what is read back.
 
-ghost use Rattle.std.specs.Prelude.{◌≡◌, ◌⊎◌, ◌≤◌, ◌<◌, ℕ, length, IfOk, OnOk, IfErr, IsErr};
+ghost use Rattle.std.specs.Prelude.{◌≡◌, ◌⊎◌, ◌≤◌, ◌<◌, ℕ, length, IfOk, OnOk, IfErr, IsErr, List};
 ghost use Rattle.archive_check.specs.Entries.{AreNamedByPosition, KeepsEntries, IsCyclic};
 ghost use Rattle.archive_check.specs.Value.{Value};
 ghost use Rattle.archive_check.specs.Viewed.{Viewed, Says};
+ghost use Rattle.archive_check.specs.Held.{held};
 ghost use Rattle.archive_check.specs.declared.error.Error.TheVariants.{OutOfMemory, CyclicDeserialize, LengthTooLarge};
+ghost use Rattle.archive_check.specs.declared.error.Error.{Error as ErrorOf};
+ghost use Rattle.archive_core.specs.Plans.{Stand, stand, IsAt, GoesOn, Explains, IsOfWriting};
+ghost use Rattle.archive_core.specs.Writing.{Naming, IsKeyed, Fresh, Resolves, Writes, Lays};
 ghost use Rattle.archive_write.specs.Sharing.{KeepsKnown, IsNoMisuse};
 ghost use Rattle.archive_write.specs.Written.{IsBeginning};
 
@@ -33,8 +37,26 @@ pub trait Archive {
     // What a value means, its shared values named by their keys.
     ghost meaning: { Self → Value };
 
+    // What is read in its place: its meaning, with a hole for each pointer. The resolver says where these lead.
+    ghost flat: { Self → Self.Resolver → Value };
+
+    // The keys that it holds, with what each names.
+    ghost keys: { Self → List Naming };
+
     // The resolver is one of this value.
     ghost belongs: { Self → Self.Resolver → Type 0 };
+
+    // Where a writer will stand behind what the value owns.
+    ghost plan: { Self → Stand → Stand };
+
+    // A serialization from there answers this resolver.
+    ghost answers: { Self → Stand → Self.Resolver → Type 0 };
+
+    // What hinders a serialization from there.
+    ghost hinders: { Self → Stand → ErrorOf → Type 0 };
+
+    // What hinders its resolving at a position.
+    ghost hinders_at: { Self → Self.Resolver → ℕ → ErrorOf → Type 0 };
 
     /// Writes the archived value over the bytes of `place`, which are zeros. Refused with 2 or 3 where an offset doesn't fit, else with what the
     /// value's parts refuse with.
@@ -43,20 +65,38 @@ pub trait Archive {
         resolver: Self::Resolver,
         place: Place<'_, Self::Archived>,
     ) -> Result<(), Error>
-        requires sized { length place.bytes.now ≡ Self.Archived.layout.size }
+        requires fresh { Fresh Self.Archived.layout.size place.pos place.bytes.now }
         requires same_value { belongs self.now resolver }
-        ensures same_length { length place.exit.0.now ≡ length place.entry.bytes.now };
+        ensures resolved { OnOk result (Resolves Self.Archived.definitions place.entry.pos place.exit.0.now Self.Archived.shape (flat self.now resolver)) }
+        ensures same_length { length place.exit.0.now ≡ length place.entry.bytes.now }
+        ensures refused { IfErr result (hinders_at self.now resolver place.entry.pos) };
+
+    ghost keyed: { (v : Self) → IsKeyed (keys v) (meaning v) };
+
+    ghost forward: { (v : Self) (s : Stand) → s.place ≤ (plan v s).place };
+
+    ghost named: { (v : Self) (s : Stand) (e : ErrorOf) → hinders v s e → IsOfWriting e };
+
+    ghost named_at: { (v : Self) (r : Self.Resolver) (p : ℕ) (e : ErrorOf) → hinders_at v r p e → IsOfWriting e };
 }
 
 /// A source that can be serialized to an `S`.
 pub trait Serialize<S: Writer + Keys>: Archive {
-    /// Writes what the value owns, and answers what its archived form is resolved with. After a refusal, too, the bytes from before are a
-    /// beginning of those that `serializer` holds, and each key that was known keeps its state. Never refused with 14 or 15.
+    /// Writes what the value owns, region by region, and answers what its archived form is resolved with. Refused for a cause of the value's own,
+    /// as the writer refuses, or with 1 where memory is refused; never with 14 or 15. After a refusal, too, the bytes from before are a beginning of
+    /// those that `serializer` holds, and each key that was known keeps its state.
     fn serialize(&self, serializer: &mut S) -> Result<Self::Resolver, Error>
+        ensures written { IfOk result (λ r. Writes Self.Archived.definitions (held (S.told serializer.old) (S.state_of serializer.old)) (held (S.told serializer.new) (S.state_of serializer.new))
+            (Self.keys self.now) (Self.flat self.now r) (Self.meaning self.now)) }
         ensures same_value { IfOk result (λ r. Self.belongs self.now r) }
+        ensures answered { IfOk result (λ r. Self.answers self.now (stand (S.told serializer.old) (S.state_of serializer.old)) r) }
+        ensures planned { OnOk result (IsAt (Self.plan self.now (stand (S.told serializer.old) (S.state_of serializer.old))) (S.told serializer.new) (S.state_of serializer.new)) }
+        ensures goes_on { GoesOn (S.told serializer.old) (S.told serializer.new) }
         ensures kept { IsBeginning (S.told serializer.old).bytes (S.told serializer.new).bytes }
         ensures known { KeepsKnown (S.state_of serializer.old) (S.state_of serializer.new) }
-        ensures no_misuse { IfErr result IsNoMisuse };
+        ensures no_misuse { IfErr result IsNoMisuse }
+        ensures refused { IfErr result (Explains (Self.hinders self.now (stand (S.told serializer.old) (S.state_of serializer.old)))
+            (Self.plan self.now (stand (S.told serializer.old) (S.state_of serializer.old))).place (S.told serializer.old) (S.told serializer.new)) };
 }
 
 /// A format that can be read back as a `T`.
@@ -92,22 +132,51 @@ pub trait ArchiveUnsized {
     // Its length: 0 for one value, else the number of elements or bytes.
     ghost source_length: { Self → ℕ };
 
+    // What it means, its shared values named by their keys.
+    ghost meaning: { Self → Value };
+
+    // The keys that it holds, with what each names.
+    ghost keys: { Self → List Naming };
+
+    // Where a writer will stand behind its region.
+    ghost plan: { Self → Stand → Stand };
+
+    // Where its region will begin.
+    ghost planned_at: { Self → Stand → ℕ };
+
+    // What hinders a serialization from there.
+    ghost hinders: { Self → Stand → ErrorOf → Type 0 };
+
     /// What stands in a pointer to it beside the offset. Refused with 5 exactly where its length is above 4,294,967,295.
     fn archived_metadata(&self) -> Result<ArchivedMetadata<Self>, Error>
         ensures value { IfOk result (λ m. Self.Archived.metadata_length m ≡ source_length self.now) }
         ensures refused { IfErr result (λ e. (e ≡ LengthTooLarge) × (4294967295 < source_length self.now)) }
         ensures too_long { 4294967295 < source_length self.now → IsErr result };
+
+    ghost keyed: { (v : Self) → IsKeyed (keys v) (meaning v) };
+
+    ghost forward: { (v : Self) (s : Stand) → s.place ≤ (plan v s).place };
+
+    ghost named: { (v : Self) (s : Stand) (e : ErrorOf) → hinders v s e → IsOfWriting e };
 }
 
 /// A source that can be serialized to an `S` as a region of its own.
 pub trait SerializeUnsized<S: Writer + Keys>: ArchiveUnsized {
-    /// Writes what the source owns and then its region, and answers the region's position. After a refusal, too, the bytes from before are a
-    /// beginning of those that `serializer` holds, and each key that was known keeps its state. Never refused with 14 or 15.
+    /// Writes what the source owns and then its region, and answers the region's position. Refused for a cause of the source's own, as the writer
+    /// refuses, or with 1 where memory is refused; never with 14 or 15. After a refusal, too, the bytes from before are a beginning of those that
+    /// `serializer` holds, and each key that was known keeps its state.
     fn serialize_unsized(&self, serializer: &mut S) -> Result<usize, Error>
+        ensures written { IfOk result (λ p. Lays Self.Archived.definitions (held (S.told serializer.old) (S.state_of serializer.old)) (held (S.told serializer.new) (S.state_of serializer.new))
+            (Self.keys self.now) p Self.Archived.pointee (Self.source_length self.now) (Self.meaning self.now)) }
         ensures position { IfOk result (λ p. (length (S.told serializer.old).bytes ≤ p) × (p ≤ length (S.told serializer.new).bytes)) }
+        ensures there { IfOk result (λ p. p ≡ Self.planned_at self.now (stand (S.told serializer.old) (S.state_of serializer.old))) }
+        ensures planned { OnOk result (IsAt (Self.plan self.now (stand (S.told serializer.old) (S.state_of serializer.old))) (S.told serializer.new) (S.state_of serializer.new)) }
+        ensures goes_on { GoesOn (S.told serializer.old) (S.told serializer.new) }
         ensures kept { IsBeginning (S.told serializer.old).bytes (S.told serializer.new).bytes }
         ensures known { KeepsKnown (S.state_of serializer.old) (S.state_of serializer.new) }
-        ensures no_misuse { IfErr result IsNoMisuse };
+        ensures no_misuse { IfErr result IsNoMisuse }
+        ensures refused { IfErr result (Explains (Self.hinders self.now (stand (S.told serializer.old) (S.state_of serializer.old)))
+            (Self.plan self.now (stand (S.told serializer.old) (S.state_of serializer.old))).place (S.told serializer.old) (S.told serializer.new)) };
 }
 
 /// A pointee that can be read back as a `T`: the value, a vector of the elements, or a string.

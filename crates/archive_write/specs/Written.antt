@@ -1,5 +1,5 @@
 -- What a write does to a writer.
-use Rattle.std.specs.Prelude.{◌≡◌, ℕ, ◌+◌, ◌-◌, ◌^◌, ◌<◌, ◌≤◌, ◌⊎◌, ◌%◌, List, ◌++◌, length, Option, Some, None, IfSome, ⊤}
+use Rattle.std.specs.Prelude.{◌≡◌, ℕ, ◌+◌, ◌-◌, ◌^◌, ◌<◌, ◌≤◌, ◌⊎◌, ◌%◌, List, ◌++◌, length, Option, Some, None, IsSomeAnd, ⊤}
 use Rattle.archive_check.specs.declared.error.Error.{Error}
 use Rattle.archive_check.specs.declared.error.Error.TheVariants.{OutOfMemory, BufferOverflow, WriterFailed}
 
@@ -17,7 +17,7 @@ RoomFalls (Some room) new xs ys = (length ys ≤ length xs + room) × (new ≡ S
 abbrev pub ExplainsRefusal : ℕ → ℕ → Option ℕ → ℕ → ℕ → Error → Type 0
 ExplainsRefusal n place room before after OutOfMemory = ⊤
 ExplainsRefusal n place room before after (BufferOverflow write_len cap len) =
-    (write_len ≡ n) × (len ≡ place) × IfSome room (λ r. (r < n) × (cap ≡ place + r))
+    (write_len ≡ n) × (len ≡ place) × IsSomeAnd room (λ r. (r < n) × (cap ≡ place + r))
 ExplainsRefusal n place room before after WriterFailed = (before < after) ⊎ (before ≡ 2 ^ 64 - 1)
 ExplainsRefusal n place room before after _ = ⊥
 

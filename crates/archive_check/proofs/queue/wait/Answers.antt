@@ -1,15 +1,15 @@
-use Rattle.std.proofs.Common.{◌≡◌, inl, inr, ⊎_elim, ap, ◌∙◌, [], ◌∷◌}
+use Rattle.std.proofs.Common.{inr, ⊎_elim, ap, ◌∙◌, [], ◌∷◌}
 use Rattle.archive_check.specs.Queued.{waits_in}
 use Rattle.archive_check.proofs.Waiting.{waits_in-append, no_name}
 use Rattle.archive_check.proofs.queue.wait.Goals as goal
 
-pub returns : goal.returns
-returns c = ⊎_elim
+pub returns-clause-ok : goal.returns-clause-ok
+returns-clause-ok c = ⊎_elim
     (λ r. absurd (no_name c.args.expr.now c.in_default.not-Named r.0 r.1))
     (λ r. inr (record {
       node_is = r.0;
       begins = r.1;
       items_are = ap waits_in c.in_ok-push.ensures.items ∙ waits_in-append c.args.queue.now.items.items (record { expr = c.args.expr; node = c.in_ok-node.node } ∷ []);
-      next_is = c.in_ok-node.ensures.1;
+      next_is = c.in_ok-node.ensures.ok.1;
     }))
-    c.in_ok-node.ensures.0
+    c.in_ok-node.ensures.ok.0

@@ -1,0 +1,94 @@
+// FlatBuffers: written by a builder from values, checked by a Verifier, read back by UnPack after a check.
+#include "sets_generated.h"
+#include "values.h"
+
+using flatbuffers::FlatBufferBuilder;
+using flatbuffers::Offset;
+
+static Offset<flat::Number> put(FlatBufferBuilder& b, Number const& v) { return flat::CreateNumber(b, v.value); }
+static Offset<flat::Words> put(FlatBufferBuilder& b, Words const& v) { return flat::CreateWords(b, b.CreateString(v.text)); }
+static Offset<flat::Record> put(FlatBufferBuilder& b, Record const& v) {
+  auto text = b.CreateString(v.text);
+  Offset<flatbuffers::Vector<int32_t>> list = v.list ? b.CreateVector(*v.list) : 0;
+  return flat::CreateRecord(b, v.byte, text, list);
+}
+static Offset<flat::Numbers> put(FlatBufferBuilder& b, Numbers const& v) { return flat::CreateNumbers(b, b.CreateVector(v.values)); }
+static Offset<flat::Rows> put(FlatBufferBuilder& b, Rows const& v) {
+  std::vector<Offset<flat::Row>> rows;
+  rows.reserve(v.rows.size());
+  for (auto const& row : v.rows) {
+    auto name = b.CreateString(row.name);
+    auto values = b.CreateVector(row.values);
+    rows.push_back(flat::CreateRow(b, row.id, name, values));
+  }
+  return flat::CreateRows(b, b.CreateVector(rows));
+}
+static Offset<flat::Node> put(FlatBufferBuilder& b, Node const& v) {
+  Offset<flat::Node> last = flat::CreateNode(b);
+  for (Node const* node = v.next.get(); node; node = node->next.get()) last = flat::CreateNode(b, last);
+  return last;
+}
+
+template <class Value> struct RootOf;
+template <> struct RootOf<Number> { using Root = flat::Number; };
+template <> struct RootOf<Words> { using Root = flat::Words; };
+template <> struct RootOf<Record> { using Root = flat::Record; };
+template <> struct RootOf<Numbers> { using Root = flat::Numbers; };
+template <> struct RootOf<Rows> { using Root = flat::Rows; };
+template <> struct RootOf<Node> { using Root = flat::Node; };
+
+template <class Value> struct Flat : Case {
+  using Root = typename RootOf<Value>::Root;
+  Value value;
+  bool limited;
+  FlatBufferBuilder kept;
+  std::vector<uint8_t> written;
+
+  Flat(Value v, bool limited) : value(std::move(v)), limited(limited) {
+    kept.Finish(put(kept, value));
+    written.assign(kept.GetBufferPointer(), kept.GetBufferPointer() + kept.GetSize());
+  }
+  size_t bytes() const override { return written.size(); }
+
+  // With its own limits (64 levels, a million tables), or with none to speak of.
+  bool verify() const {
+    flatbuffers::Verifier verifier(written.data(), written.size(), limited ? 64 : 1u << 31, limited ? 1000000 : 1u << 31);
+    return verifier.VerifyBuffer<Root>(nullptr);
+  }
+  uint64_t once(int operation) {
+    hide(value);
+    hide(*written.data());
+    switch (operation) {
+      case WRITE_NEW: {
+        FlatBufferBuilder fresh;
+        fresh.Finish(put(fresh, value));
+        hide(*fresh.GetBufferPointer());
+        return fresh.GetSize();
+      }
+      case WRITE_REUSED: {
+        kept.Clear();
+        kept.Finish(put(kept, value));
+        hide(*kept.GetBufferPointer());
+        return kept.GetSize();
+      }
+      case CHECK: return verify() ? 1 : REFUSED;
+      default: {
+        if (!verify()) return REFUSED;
+        std::unique_ptr<typename Root::NativeTableType> back(flatbuffers::GetRoot<Root>(written.data())->UnPack());
+        hide(*back);
+        return 1;
+      }
+    }
+  }
+  uint64_t run(int operation, size_t count) override {
+    uint64_t total = 0;
+    for (size_t i = 0; i < count; i++) {
+      uint64_t one = once(operation);
+      if (one == REFUSED) return REFUSED;
+      total += one;
+    }
+    return total;
+  }
+};
+
+PEER(flat, Flat)

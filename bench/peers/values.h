@@ -1,0 +1,94 @@
+// The values of the data sets in C++, and what the driver calls of a peer.
+#pragma once
+#include <cstddef>
+#include <cstdint>
+#include <cstdio>
+#include <memory>
+#include <optional>
+#include <string>
+#include <vector>
+
+struct Number { uint32_t value; };
+struct Words { std::string text; };
+struct Record { uint8_t byte; std::string text; std::optional<std::vector<int32_t>> list; };
+struct Numbers { std::vector<uint32_t> values; };
+struct Row { uint64_t id; std::string name; std::vector<uint32_t> values; };
+struct Rows { std::vector<Row> rows; };
+
+// A chain of boxes. It is freed from the front, so that a long one needs no deep stack.
+struct Node {
+  std::unique_ptr<Node> next;
+  Node() = default;
+  explicit Node(std::unique_ptr<Node> next) : next(std::move(next)) {}
+  Node(Node&&) = default;
+  ~Node() { while (next) next = std::unique_ptr<Node>(std::move(next->next)); }
+};
+
+// The sets as the driver numbers them.
+enum SetNumber { NUMBER, WORDS, RECORD, NUMBERS, ROWS, LIST };
+enum OperationNumber { WRITE_NEW, WRITE_REUSED, CHECK, READ };
+
+// What a run answers where the peer refuses the bytes.
+constexpr uint64_t REFUSED = UINT64_MAX;
+
+// One set in one format. A run carries an operation out `count` times and answers a number that depends on each result.
+struct Case {
+  virtual ~Case() {}
+  virtual uint64_t run(int operation, size_t count) = 0;
+  virtual size_t bytes() const = 0;
+};
+
+inline Number make_number() { return {42}; }
+inline Words make_words(size_t n) {
+  Words w;
+  if (n == 11) w.text = "hello world";
+  else for (size_t i = 0; i < n; i++) w.text.push_back(char('a' + i % 26));
+  return w;
+}
+inline Record make_record() { return {42, "hello world", std::vector<int32_t>{1, 2, 3, 4}}; }
+inline Numbers make_numbers(size_t n) {
+  Numbers v;
+  for (size_t i = 0; i < n; i++) v.values.push_back(uint32_t(i) * 2654435761u);
+  return v;
+}
+inline Rows make_rows(size_t n) {
+  Rows v;
+  for (size_t i = 0; i < n; i++) {
+    char name[48];
+    snprintf(name, sizeof name, "record-name-%08u", unsigned(i));
+    Row row{uint64_t(i) * 7919, name, {}};
+    for (uint32_t k = 0; k < 8; k++) row.values.push_back(uint32_t(i) ^ (k * 77));
+    v.rows.push_back(std::move(row));
+  }
+  return v;
+}
+inline Node make_list(size_t n) {
+  std::unique_ptr<Node> front;
+  for (size_t i = 0; i < n; i++) {
+    auto node = std::make_unique<Node>();
+    node->next = std::move(front);
+    front = std::move(node);
+  }
+  return Node(std::move(front));
+}
+
+// Hides from the compiler that a value is the same in each round.
+template <class T> inline void hide(T const& value) { asm volatile("" : : "r"(&value) : "memory"); }
+
+template <template <class> class Make> Case* make_case(int set, size_t size, bool limited) {
+  switch (set) {
+    case NUMBER: return new Make<Number>(make_number(), limited);
+    case WORDS: return new Make<Words>(make_words(size), limited);
+    case RECORD: return new Make<Record>(make_record(), limited);
+    case NUMBERS: return new Make<Numbers>(make_numbers(size), limited);
+    case ROWS: return new Make<Rows>(make_rows(size), limited);
+    default: return new Make<Node>(make_list(size), limited);
+  }
+}
+
+// The calls of one peer.
+#define PEER(name, Make)                                                                                              \
+  extern "C" Case* name##_make(int set, size_t size, bool limited) { return make_case<Make>(set, size, limited); }    \
+  extern "C" size_t name##_bytes(Case* c) { return c->bytes(); }                                                      \
+  extern "C" uint64_t name##_run(Case* c, int operation, size_t count) { return c->run(operation, count); }           \
+  extern "C" void name##_free(Case* c) { delete c; }

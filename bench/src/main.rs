@@ -1,0 +1,80 @@
+//! Times the project beside its peers, in one process and in turns, and writes RESULTS.md, results.svg and the table in the README.
+//! `driver` does all; `driver deep FORMAT OPERATION` and `driver heap` are what it starts as children.
+
+mod chart;
+mod copy;
+mod cpp_peers;
+mod format;
+mod measure;
+mod project;
+mod report;
+mod rkyv_peer;
+mod sets;
+mod timing;
+
+use format::{Format, Operation};
+
+// Chains are written, checked and freed by calls within calls in some formats: the stack for those, in bytes.
+const STACK: usize = 8 << 30;
+
+fn rounds() -> usize {
+    std::env::var("BENCH_ROUNDS")
+        .ok()
+        .and_then(|it| it.parse().ok())
+        .unwrap_or(40)
+}
+
+fn all() {
+    sets::verify();
+    let machine = report::Machine::now();
+    let mut rows = Vec::new();
+    for (set, limited) in measure::SETS {
+        for operation in Operation::ALL {
+            eprintln!("{}: {}", set.title(), operation.title());
+            rows.push(measure::row(
+                set,
+                operation,
+                limited,
+                &Format::ALL,
+                rounds(),
+            ));
+        }
+    }
+    let mut growth = Vec::new();
+    for set in measure::growing() {
+        eprintln!("growth: {}", set.title());
+        for operation in measure::GROWTH {
+            growth.push(measure::row(
+                set,
+                operation,
+                false,
+                &measure::GROWING,
+                rounds(),
+            ));
+        }
+    }
+    eprintln!("the heap");
+    let heap = measure::heap_of_child();
+    report::write(&machine, &rows, &growth, &heap, rounds());
+    chart::write(&rows);
+}
+
+fn on_a_large_stack(work: fn()) {
+    let thread = std::thread::Builder::new()
+        .stack_size(STACK)
+        .spawn(work)
+        .expect("a thread");
+    thread.join().expect("the thread ends");
+}
+
+fn main() {
+    let words: Vec<String> = std::env::args().skip(1).collect();
+    match words.iter().map(String::as_str).collect::<Vec<_>>()[..] {
+        ["deep", format, operation] => {
+            let number = |it: &str| it.parse().expect("a number");
+            std::process::exit(measure::deep(number(format), number(operation)))
+        }
+        ["heap"] => on_a_large_stack(measure::heap),
+        _ => on_a_large_stack(all),
+    }
+}

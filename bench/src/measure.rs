@@ -1,0 +1,206 @@
+//! The tables' rows: each operation on each set, and how times and the heap grow.
+
+use crate::format::{Format, Operation, Ready, Set, Task};
+use crate::timing;
+use std::process::Command;
+
+/// What stands for a format in a row.
+pub enum Cell {
+    /// Its time in nanoseconds and its archive's bytes.
+    Time { ns: f64, bytes: usize },
+    /// Why there is no time.
+    Word(String),
+}
+
+impl Cell {
+    pub fn ns(&self) -> Option<f64> {
+        match self {
+            Cell::Time { ns, .. } => Some(*ns),
+            Cell::Word(_) => None,
+        }
+    }
+}
+
+/// One operation on one set, in each format.
+pub struct Row {
+    pub set: Set,
+    pub operation: Operation,
+    pub cells: Vec<Cell>,
+}
+
+impl Row {
+    /// The project's time as a ratio to that of a format.
+    pub fn ratio(&self, format: Format) -> Option<f64> {
+        let of = |it: Format| self.cells.get(it as usize).and_then(Cell::ns);
+        Some(of(Format::Project)? / of(format)?)
+    }
+}
+
+/// The sets of the table, and whether a peer keeps its own limits of depth and size.
+pub const SETS: [(Set, bool); 9] = [
+    (Set::Number, false),
+    (Set::Text(11), false),
+    (Set::Text(65_536), false),
+    (Set::Record, false),
+    (Set::Numbers(100_000), false),
+    (Set::Rows(10_000), false),
+    (Set::List(1_000), false),
+    (Set::List(100_000), false),
+    (DEEP, true),
+];
+
+/// The deep set, which is run on the machine's own stack too.
+pub const DEEP: Set = Set::List(1_000_000);
+
+// What a child of this program says of an operation on the deep set, on the stack that a program gets. None where it is carried out.
+fn stopped(format: Format, operation: Operation) -> Option<String> {
+    let child = std::env::current_exe().expect("the program's path");
+    let place = Operation::ALL
+        .iter()
+        .position(|it| *it == operation)
+        .expect("an operation");
+    let done = Command::new(child)
+        .args(["deep", &(format as usize).to_string(), &place.to_string()])
+        .output()
+        .expect("a child");
+    match done.status.code() {
+        Some(0) => None,
+        Some(3) => Some("refuses".into()),
+        Some(_) => Some("fails".into()),
+        None => Some("stops: stack".into()),
+    }
+}
+
+/// Carries an operation on the deep set out once; answers the status for `stopped`.
+pub fn deep(format: usize, operation: usize) -> i32 {
+    match Format::ALL[format].task(DEEP, Operation::ALL[operation], true) {
+        Task::Ready(mut ready) => {
+            let refused = (ready.run)(1) == crate::format::REFUSED;
+            // Nothing is freed: that may need a deep stack, too.
+            std::process::exit(if refused { 3 } else { 0 })
+        }
+        Task::NotYet => 0,
+    }
+}
+
+/// Times one operation on one set in these formats, in turns.
+pub fn row(
+    set: Set,
+    operation: Operation,
+    limited: bool,
+    formats: &[Format],
+    rounds: usize,
+) -> Row {
+    let mut held: Vec<Result<Ready, String>> = Vec::new();
+    for format in formats {
+        let stops = if set == DEEP && limited {
+            stopped(*format, operation)
+        } else {
+            None
+        };
+        held.push(
+            match stops.map_or_else(|| Ok(format.task(set, operation, limited)), Err) {
+                Ok(Task::Ready(ready)) => Ok(ready),
+                Ok(Task::NotYet) => Err("not yet".into()),
+                Err(why) => Err(why),
+            },
+        );
+    }
+    let mut tasks: Vec<&mut Ready> = held.iter_mut().filter_map(|it| it.as_mut().ok()).collect();
+    tasks.iter_mut().for_each(|it| timing::verify(it));
+    let mut times = timing::least(&mut tasks, rounds).into_iter();
+    let cells = held.iter().map(|it| match it {
+        Ok(ready) => Cell::Time {
+            ns: times.next().expect("a time for each"),
+            bytes: ready.bytes,
+        },
+        Err(why) => Cell::Word(why.clone()),
+    });
+    Row {
+        set,
+        operation,
+        cells: cells.collect(),
+    }
+}
+
+/// The formats whose growth is shown.
+pub const GROWING: [Format; 4] = [Format::Project, Format::Rkyv, Format::Flat, Format::Proto];
+
+/// The operations whose growth is shown.
+pub const GROWTH: [Operation; 3] = [Operation::WriteNew, Operation::Check, Operation::Read];
+
+/// The sizes whose growth is shown.
+pub const SIZES: [usize; 7] = [1, 10, 100, 1_000, 10_000, 100_000, 1_000_000];
+
+/// The sets whose growth is shown, of each size.
+pub fn growing() -> Vec<Set> {
+    let of = |make: fn(usize) -> Set| SIZES.map(make);
+    [
+        of(Set::Text),
+        of(Set::Numbers),
+        of(Set::Rows),
+        of(Set::List),
+    ]
+    .concat()
+}
+
+extern "C" {
+    fn dlsym(library: *mut u8, name: *const u8) -> *mut u8;
+}
+
+// A function of the counter of the heap, which is loaded before the C library.
+fn heap_call<F>(name: &[u8]) -> F {
+    let found = unsafe { dlsym(std::ptr::null_mut(), name.as_ptr()) };
+    assert!(!found.is_null(), "the counter of the heap isn't loaded");
+    unsafe { std::mem::transmute_copy(&found) }
+}
+
+// The most of the heap that a run held beyond what it found, in bytes.
+fn peak(ready: &mut Ready, count: usize) -> usize {
+    let restart: extern "C" fn() = heap_call(b"heap_restart\0");
+    let most: extern "C" fn() -> usize = heap_call(b"heap_most\0");
+    let held: extern "C" fn() -> usize = heap_call(b"heap_held\0");
+    let before = held();
+    restart();
+    let _ = (ready.run)(count);
+    most() - before
+}
+
+/// Prints the heap's peak of each operation whose growth is shown, one line for each set: in bytes, or a dash.
+pub fn heap() {
+    for set in growing() {
+        for operation in GROWTH {
+            let peaks = GROWING.map(|format| match format.task(set, operation, false) {
+                Task::Ready(mut ready) => {
+                    let prepared = if ready.prepares {
+                        peak(&mut ready, 0)
+                    } else {
+                        0
+                    };
+                    peak(&mut ready, 1).saturating_sub(prepared).to_string()
+                }
+                Task::NotYet => "-".into(),
+            });
+            println!("{}", peaks.join(" "));
+        }
+    }
+}
+
+/// The lines of `heap`, run in a child that counts its heap.
+pub fn heap_of_child() -> Vec<Vec<Option<usize>>> {
+    let child = std::env::current_exe().expect("the program's path");
+    let done = Command::new(child)
+        .arg("heap")
+        .env("LD_PRELOAD", env!("HEAP_LIBRARY"))
+        .output()
+        .expect("a child");
+    assert!(
+        done.status.success(),
+        "counting the heap: {}",
+        String::from_utf8_lossy(&done.stderr)
+    );
+    let said = String::from_utf8_lossy(&done.stdout).into_owned();
+    said.lines()
+        .map(|line| line.split(' ').map(|it| it.parse().ok()).collect())
+        .collect()
+}

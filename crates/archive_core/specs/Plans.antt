@@ -1,0 +1,90 @@
+-- What a write is planned to come to, and why one is refused.
+use Rattle.std.specs.Prelude.{◌≡◌, ◌⊎◌, ℕ, ◌+◌, ◌-◌, ◌^◌, ◌<◌, ◌≤◌, None, Some, length, nat_eq, IsSomeAnd}
+use Rattle.std.specs.Map.{update}
+use Rattle.archive_check.specs.Layout.{Layout, up}
+use Rattle.archive_check.specs.Told.{Told, KeyState}
+use Rattle.archive_check.specs.Held.{States}
+use Rattle.archive_check.specs.declared.error.Error.{Error}
+use Rattle.archive_check.specs.declared.error.Error.TheVariants.{OutOfMemory, IsizeOverflow, OffsetOverflow, PositionTooLarge, LengthTooLarge, NumberTooLarge, StringTooLong, BufferOverflow, WriterFailed, ItemWrote, CyclicSerialize, LayoutTooLarge}
+use Rattle.archive_write.specs.Written.{IsBeginning, RoomFalls}
+
+-- where a writer stands: how many bytes it holds, and the states of the shared keys
+pub record Stand : Type 0 where
+  pub place : ℕ
+  pub states : States
+
+abbrev pub stand : Told → States → Stand
+stand told states = record { place = length told.bytes; states = states }
+
+-- of what holds nothing and knows no key
+abbrev pub at_start : Stand
+at_start = record { place = 0; states = λ _. None }
+
+-- the writer stands there
+pub record IsAt (s : Stand) (told : Told) (states : States) : Type 0 where
+  pub place : length told.bytes ≡ s.place
+  pub keys : (k : ℕ) → states k ≡ s.states k
+
+-- What was told before is a beginning of what is told now; the room has fallen by as many bytes as came; no failure is forgotten.
+pub record GoesOn (old new : Told) : Type 0 where
+  pub kept : IsBeginning old.bytes new.bytes
+  pub room : RoomFalls old.room new.room old.bytes new.bytes
+  pub device : old.failures ≤ new.failures
+
+-- Of the bytes planned up to stop, the writer was to take `count` at a position and has none left for them: it ends at `cap`.
+pub record Overflows (old : Told) (stop count cap position : ℕ) : Type 0 where
+  pub behind : length old.bytes ≤ position
+  pub planned : position + count ≤ stop
+  pub full : IsSomeAnd old.room (λ room. (cap ≡ length old.bytes + room) × (cap < position + count))
+
+-- Why what was planned to end at stop was refused: for want of memory; for want of room, which the planned bytes don't fit; by the writer's device,
+-- which failed now or had failed too often; or for a cause of its own.
+pub data Explains (own : Error → Type 0) (stop : ℕ) (old new : Told) : Error → Type 0 where
+  no_memory : Explains own stop old new OutOfMemory
+  no_room : {count cap position : ℕ} → Overflows old stop count cap position → Explains own stop old new (BufferOverflow count cap position)
+  device_failed : (old.failures < new.failures) ⊎ (old.failures ≡ 2 ^ 64 - 1) → Explains own stop old new WriterFailed
+  own_cause : {e : Error} → own e → Explains own stop old new e
+
+-- The refusals that a write may meet: of memory; of an owner's offset; of a position, a length, a number, a string's text; of the writer; of an item
+-- that wrote; of a key that is pending; of a region's end.
+pub data IsOfWriting : Error → Type 0 where
+  of_memory : IsOfWriting OutOfMemory
+  of_isize : IsOfWriting IsizeOverflow
+  of_offset : IsOfWriting OffsetOverflow
+  of_position : IsOfWriting PositionTooLarge
+  of_length : IsOfWriting LengthTooLarge
+  of_number : IsOfWriting NumberTooLarge
+  of_string : IsOfWriting StringTooLong
+  of_room : {count cap position : ℕ} → IsOfWriting (BufferOverflow count cap position)
+  of_device : IsOfWriting WriterFailed
+  of_item : IsOfWriting ItemWrote
+  of_key : IsOfWriting CyclicSerialize
+  of_layout : IsOfWriting LayoutTooLarge
+
+-- Why a value of this layout, as a region at p, isn't resolved: its end is above `usize::MAX`, or the value's own cause at p.
+abbrev pub HindersRegion : (ℕ → Error → Type 0) → Layout → ℕ → Error → Type 0
+HindersRegion own L p e = ((e ≡ LayoutTooLarge) × (2 ^ 64 ≤ p + L.size)) ⊎ own p e
+
+-- where the region of a value begins, behind what the value owns
+abbrev pub region_place : Layout → Stand → ℕ
+region_place L s = up s.place L.align
+
+-- Why a value isn't written with what it owns: what hinders its serialization, or the resolving with a resolver that a serialization leaves.
+abbrev pub HindersWhole : {R : Type 0} → (Error → Type 0) → (R → Type 0) → (R → ℕ → Error → Type 0) → Layout → ℕ → Error → Type 0
+HindersWhole owned left own L p e = owned e ⊎ ((r : _) × left r × HindersRegion (own r) L p e)
+
+-- where a writer stands behind the region of a value, which was to come behind what it owns
+abbrev pub one_plan : Layout → Stand → Stand
+one_plan L s = record { place = region_place L s + L.size; states = s.states }
+
+-- a key is pending from here on
+abbrev pub begun : Stand → ℕ → Stand
+begun s key = record { place = s.place; states = update nat_eq s.states key (Some None) }
+
+-- it is finished at a position
+abbrev pub ended : Stand → ℕ → ℕ → Stand
+ended s key p = record { place = s.place; states = update nat_eq s.states key (Some (Some p)) }
+
+-- Why a shared value isn't written, by its key's state: a pending one holds itself, or the value's own cause.
+abbrev pub HindersShared : KeyState → (Error → Type 0) → Error → Type 0
+HindersShared state own e = ((e ≡ CyclicSerialize) × (state ≡ Some None)) ⊎ own e

@@ -1,0 +1,30 @@
+-- What the writing of a text, or of a string, is planned to come to, and why it is refused.
+use Rattle.std.specs.Prelude.{◌≡◌, ◌⊎◌, ℕ, ◌+◌, ◌<◌, List, length, nat_lt, if◌then◌else◌}
+use Rattle.archive_check.specs.declared.error.Error.{Error}
+use Rattle.archive_check.specs.declared.error.Error.TheVariants.{PositionTooLarge, LengthTooLarge, StringTooLong}
+use Rattle.archive_core.specs.Offsets.{distance, IsTooFar}
+use Rattle.archive_core.specs.Plans.{Stand}
+
+-- a text's bytes come at once
+abbrev pub text_plan : List ℕ → Stand → Stand
+text_plan bytes s = record { place = s.place + length bytes; states = s.states }
+
+-- and a string's if it isn't inline
+abbrev pub string_plan : List ℕ → Stand → Stand
+string_plan bytes s = if nat_lt 8 (length bytes) then text_plan bytes s else s
+
+-- the text of a string that isn't inline stands where the writer stood
+abbrev pub StringAnswers : List ℕ → Stand → ℕ → Type 0
+StringAnswers bytes s t = 8 < length bytes → t ≡ s.place
+
+-- the text has more bytes than a pointer can say
+abbrev pub HindersText : List ℕ → Error → Type 0
+HindersText bytes e = (e ≡ LengthTooLarge) × (4294967295 < length bytes)
+
+-- it has more than a string can, or isn't inline and stands above 4,294,967,295
+abbrev pub HindersString : List ℕ → Stand → Error → Type 0
+HindersString bytes s e = ((e ≡ StringTooLong) × (1073741823 < length bytes)) ⊎ ((e ≡ PositionTooLarge) × (8 < length bytes) × (4294967295 < s.place))
+
+-- the offset from the string at p to its text at t, which isn't inline, doesn't fit
+abbrev pub HindersStringAt : List ℕ → ℕ → ℕ → Error → Type 0
+HindersStringAt bytes t p e = (8 < length bytes) × IsTooFar e (distance p t)
