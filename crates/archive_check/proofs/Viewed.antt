@@ -1,19 +1,19 @@
 -- What lies in an accepted buffer fits it, and is read, and leads to what lies there too.
-use Rattle.std.proofs.Common.{◌≡◌, ℕ, ℤ, zero, suc, ◌+◌, ◌*◌, ◌<◌, ◌≤◌, pos, List, [], ◌∷◌, ◌++◌, length, Contains, All, arith, refl, sym, ◌∙◌}
+use Rattle.std.proofs.Common.{◌≡◌, ℕ, ◌+◌, ◌*◌, ◌≤◌, pos, List, [], ◌∷◌, ◌++◌, length, Contains, All, arith, refl}
 use Rattle.std.proofs.Math.Logic.{∥∥₁_elim, ∥∥₁_map}
 use Rattle.std.proofs.Math.Nat.{mul-le-mul_right}
 use Rattle.std.proofs.lemmas.List.Elements.{All-nil, All-cons, All-append, All-contains, Contains-push}
 use Rattle.std.specs.Coded.{le_prop}
-use Rattle.archive_check.specs.Shape.{Shape, Pointee, one, run}
-use Rattle.archive_check.specs.Layout.{Layout, size_of}
+use Rattle.archive_check.specs.Shape.{Shape, Pointee, one}
+use Rattle.archive_check.specs.Layout.{size_of}
 use Rattle.archive_check.specs.Value.{Pointer, Value, pointers}
 use Rattle.archive_check.specs.Reads.{Schema, LaidOut, bytes_at}
-use Rattle.archive_check.specs.Tour.{Region, region_of, root_region, pointee_size, Contents, Leads, Seen, Tour, tour_end, tour_unique, tour_new, tour_again, Accepted}
+use Rattle.archive_check.specs.Tour.{Region, region_of, root_region, pointee_size, Contents, Seen, Tour, tour_end, tour_unique, tour_new, tour_again, Accepted}
 use Rattle.archive_check.specs.Leaves.{regions_of}
-use Rattle.archive_check.specs.Within.{PartOf, whole_region, in_one, in_run, in_string, PartOfSome}
-use Rattle.archive_check.specs.Denotes.{Meaning, Denotes, Fills}
+use Rattle.archive_check.specs.Within.{PartOf, whole_region, in_one, in_run, in_string}
+use Rattle.archive_check.specs.Denotes.{Meaning, Denotes}
 use Rattle.archive_check.specs.Reached.{Reached}
-use Rattle.archive_check.specs.Definitions.{Definitions, Knows, HasLayout}
+use Rattle.archive_check.specs.Definitions.{Definitions, Knows}
 use Rattle.archive_check.specs.Viewed.{Lies, Viewed, Says}
 use Rattle.archive_check.proofs.Closed.{part_reached, pointer_reached, root_reached}
 use Rattle.archive_check.proofs.Determined.{contents_one_value}
