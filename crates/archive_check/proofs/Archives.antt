@@ -1,21 +1,21 @@
 -- What a check of a type's schema says of a buffer.
-use Rattle.std.proofs.Common.{◌≡◌, ◌≢◌, ◌⊎◌, inl, inr, ⊎_elim, ℕ, ◌<◌, ◌^◌, List, [], ◌++◌, length, Some, None, Option, Contains, arith, refl, sym, ap, subst, ◌∙◌}
+use Rattle.std.proofs.Common.{◌≡◌, ◌≢◌, ◌⊎◌, inl, inr, ⊎_elim, ℕ, ◌<◌, ◌^◌, List, [], length, Some, Option, Contains, arith, refl, sym, ap, subst, ◌∙◌}
 use Rattle.std.proofs.Math.Logic.{∥∥₁_elim, ∥∥₁_map, ∥∥₁_prop}
 use Rattle.std.proofs.lemmas.List.Elements.{Contains-append_left, Contains-append_right, Contains-append_cases}
 use Rattle.archive_check.specs.declared.error.Error.{Error}
 use Rattle.archive_check.specs.declared.error.Error.TheVariants.{OutOfMemory}
 use Rattle.archive_check.specs.declared.shape.Schema.{Schema as RustSchema}
-use Rattle.archive_check.specs.Shape.{Name, Shape, Pointee, one, Table, definition}
+use Rattle.archive_check.specs.Shape.{Name, Shape, one, definition}
 use Rattle.archive_check.specs.Value.{Value}
 use Rattle.archive_check.specs.Reads.{Schema}
 use Rattle.archive_check.specs.Depth.{AcceptedWithin}
 use Rattle.archive_check.specs.Defined.{Reaches, WellFormed, rounds}
 use Rattle.archive_check.specs.Definitions.{Definitions, no_definition, defines, both, listed, Has, Knows}
-use Rattle.archive_check.specs.Trail.{Fault, RootTrips}
+use Rattle.archive_check.specs.Trail.{RootTrips}
 use Rattle.archive_check.specs.Ranges.{RangeState, whole}
 use Rattle.archive_check.specs.Met.{Positions, nothing_met}
 use Rattle.archive_check.specs.Exact.{IsWhole}
-use Rattle.archive_check.specs.Schemas.{root_of, table_in, Suits, Accepts, Refuses, IsSchemaOf}
+use Rattle.archive_check.specs.Schemas.{Suits, Accepts, Refuses, IsSchemaOf}
 use Rattle.archive_check.specs.Pooled.{Entries}
 use Rattle.archive_check.specs.Entries.{NoEntries, AreNamedByPosition}
 use Rattle.archive_check.specs.Viewed.{Viewed, Says}

@@ -1,7 +1,7 @@
 -- What a unique pointer leads to ends by the position of its owner, so that following such pointers ends.
-use Rattle.std.proofs.Common.{◌≡◌, ℕ, ◌+◌, ◌*◌, ◌≤◌, pos, List, [], ◌∷◌, ◌++◌, length, Some, None, Contains, All, arith, refl, sym, ◌∙◌}
+use Rattle.std.proofs.Common.{◌≡◌, ℕ, ◌+◌, ◌≤◌, pos, List, [], ◌∷◌, length, None, Contains, All, arith, sym, ◌∙◌}
 use Rattle.std.proofs.lemmas.List.Elements.{All-nil, All-cons, All-append, All-contains}
-use Rattle.archive_check.specs.Shape.{Shape, Pointee, one}
+use Rattle.archive_check.specs.Shape.{Shape, Pointee}
 use Rattle.archive_check.specs.Value.{Pointer, Value, pointers}
 use Rattle.archive_check.specs.Reads.{Schema, LaidOut}
 use Rattle.archive_check.specs.Tour.{Region, region_of, root_region, pointee_size, Rising, Contents, contents_one, Leads, Seen, Tour, tour_end, tour_unique, tour_new, tour_again, Accepted}

@@ -1,13 +1,13 @@
 -- What leaves, texts and strings say, and that they may be read.
-use Rattle.std.proofs.Common.{◌≡◌, ℕ, zero, suc, ◌+◌, ◌/◌, ◌<◌, ◌≤◌, ℤ, pos, ◌+ℤ◌, List, [], ◌∷◌, length, slice_index, Some, None, Bool, true, false, nat_eq, ◌==◌, if◌then◌else◌, Contains, IsUtf8, arith, refl, sym, ap}
+use Rattle.std.proofs.Common.{◌≡◌, ℕ, ◌+◌, ◌/◌, pos, ◌+ℤ◌, List, [], slice_index, None, Bool, true, false, nat_eq, if◌then◌else◌, Contains, IsUtf8, arith, refl}
 use Rattle.std.proofs.lemmas.Bool.Decides.{nat_tests}
-use Rattle.std.proofs.Math.Logic.{∥∥₁_elim, ∥∥₁_map}
+use Rattle.std.proofs.Math.Logic.{∥∥₁_map}
 use Rattle.std.proofs.lemmas.List.Elements.{Contains-push}
 use Rattle.archive_check.specs.Shape.{Kind, leaf, str, Pointee, one, text}
 use Rattle.archive_check.specs.Layout.{kind_size}
 use Rattle.archive_check.specs.Value.{Pointer, Value, number, text_value, hole, pointers}
 use Rattle.archive_check.specs.Reads.{Schema, bytes_at, u32_at, i32_at, kind_value, IsLegal, IsOutOfLine, before_end, decoded_length, string_at, reads_leaf, reads_inline, reads_out_of_line}
-use Rattle.archive_check.specs.Tour.{Contents, contents_one, contents_text, Leads}
+use Rattle.archive_check.specs.Tour.{Contents, contents_one, contents_text}
 use Rattle.archive_check.specs.Denotes.{Fills, fills_number, fills_text, fills_unique}
 use Rattle.archive_check.specs.Definitions.{Definitions, Knows}
 use Rattle.archive_check.specs.Readable.{Readable, readable_leaf, readable_text, readable_inline, readable_out_of_line, target_from, string_text}

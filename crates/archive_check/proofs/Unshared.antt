@@ -1,12 +1,12 @@
 -- Where nothing is shared, no pointer that is read is shared, and no open position is met.
-use Rattle.std.proofs.Common.{◌≡◌, ℕ, zero, suc, List, [], ◌∷◌, ◌++◌, Option, Some, None, is_some, Bool, true, false, ◌&&◌, IsTrue, All, Contains, slice_index, refl, sym, ap, ◌∙◌}
+use Rattle.std.proofs.Common.{◌≡◌, ℕ, zero, suc, List, [], ◌∷◌, Option, Some, None, is_some, Bool, true, false, ◌&&◌, IsTrue, All, Contains, refl}
 use Rattle.std.proofs.Math.Logic.{∥∥₁_elim}
 use Rattle.std.proofs.lemmas.List.Elements.{All-nil, All-cons, All-append, All-contains}
-use Rattle.archive_check.specs.Shape.{Name, Shape, leaf, parts, choice, array, boxed, vec, str, shared, weak, named, Pointee, one, run, text, Parts, no_part, part, Variants, no_variant, variant, definition, variant_at}
+use Rattle.archive_check.specs.Shape.{Name, Shape, Pointee, one, Parts, Variants, no_variant, variant, definition, variant_at}
 use Rattle.archive_check.specs.Value.{Pointer, Value, Values, pointers, all_pointers}
-use Rattle.archive_check.specs.Reads.{Schema, pointer_at, string_at, Reads, reads_leaf, reads_parts, reads_choice, reads_array, reads_boxed, reads_vec, reads_inline, reads_out_of_line, reads_shared, reads_null, reads_weak, reads_named, ReadsParts, reads_no_part, reads_part, ReadsRun, reads_none, reads_element}
+use Rattle.archive_check.specs.Reads.{Schema, Reads, reads_leaf, reads_parts, reads_choice, reads_array, reads_boxed, reads_vec, reads_inline, reads_out_of_line, reads_shared, reads_null, reads_weak, reads_named, ReadsParts, reads_no_part, reads_part, ReadsRun, reads_none, reads_element}
 use Rattle.archive_check.specs.Tour.{Contents, contents_one, contents_run, contents_text}
-use Rattle.archive_check.specs.Definitions.{Definitions, listed, Has, Knows}
+use Rattle.archive_check.specs.Definitions.{Definitions, listed, Has}
 use Rattle.archive_check.specs.Pooled.{Entries}
 use Rattle.archive_check.specs.Entries.{MeetsOpen, meets_open, meets_in_unique, meets_in_shared, IsCyclic}
 use Rattle.archive_check.specs.Archives.{IsArchiveWithin}

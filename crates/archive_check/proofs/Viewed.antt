@@ -1,19 +1,19 @@
 -- What lies in an accepted buffer fits it, and is read, and leads to what lies there too.
-use Rattle.std.proofs.Common.{◌≡◌, ℕ, ℤ, zero, suc, ◌+◌, ◌*◌, ◌<◌, ◌≤◌, pos, List, [], ◌∷◌, ◌++◌, length, Contains, All, arith, refl, sym, ◌∙◌}
+use Rattle.std.proofs.Common.{◌≡◌, ℕ, ◌+◌, ◌*◌, ◌≤◌, pos, List, [], ◌∷◌, ◌++◌, length, Contains, All, arith, refl}
 use Rattle.std.proofs.Math.Logic.{∥∥₁_elim, ∥∥₁_map}
 use Rattle.std.proofs.Math.Nat.{mul-le-mul_right}
 use Rattle.std.proofs.lemmas.List.Elements.{All-nil, All-cons, All-append, All-contains, Contains-push}
 use Rattle.std.specs.Coded.{le_prop}
-use Rattle.archive_check.specs.Shape.{Shape, Pointee, one, run}
-use Rattle.archive_check.specs.Layout.{Layout, size_of}
+use Rattle.archive_check.specs.Shape.{Shape, Pointee, one}
+use Rattle.archive_check.specs.Layout.{size_of}
 use Rattle.archive_check.specs.Value.{Pointer, Value, pointers}
 use Rattle.archive_check.specs.Reads.{Schema, LaidOut, bytes_at}
-use Rattle.archive_check.specs.Tour.{Region, region_of, root_region, pointee_size, Contents, Leads, Seen, Tour, tour_end, tour_unique, tour_new, tour_again, Accepted}
+use Rattle.archive_check.specs.Tour.{Region, region_of, root_region, pointee_size, Contents, Seen, Tour, tour_end, tour_unique, tour_new, tour_again, Accepted}
 use Rattle.archive_check.specs.Leaves.{regions_of}
-use Rattle.archive_check.specs.Within.{PartOf, whole_region, in_one, in_run, in_string, PartOfSome}
-use Rattle.archive_check.specs.Denotes.{Meaning, Denotes, Fills}
+use Rattle.archive_check.specs.Within.{PartOf, whole_region, in_one, in_run, in_string}
+use Rattle.archive_check.specs.Denotes.{Meaning, Denotes}
 use Rattle.archive_check.specs.Reached.{Reached}
-use Rattle.archive_check.specs.Definitions.{Definitions, Knows, HasLayout}
+use Rattle.archive_check.specs.Definitions.{Definitions, Knows}
 use Rattle.archive_check.specs.Viewed.{Lies, Viewed, Says}
 use Rattle.archive_check.proofs.Closed.{part_reached, pointer_reached, root_reached}
 use Rattle.archive_check.proofs.Determined.{contents_one_value}
@@ -85,8 +85,10 @@ view_to D bytes q P n t Q m v f = ∥∥₁_map v (λ u. (u.0, u.1, f (u.0) (u.1
 pub view_fits : (D : Definitions) (bytes : List ℕ) (q : ℕ) (P : Pointee) (n m : ℕ) → Viewed D bytes q P n → ((s : Schema) → Knows s D → pointee_size s P n ≡ m) → q + m ≤ length bytes
 view_fits D bytes q P n m v size = view_fact D bytes q P n v le_prop (λ s k l. omega (arith, lies_fits s bytes k.laid_out l, size s k))
 
--- what a whole buffer's root says is what the buffer denotes
+-- what is said of a part is what is reached there
+pub reached_says : (D : Definitions) (bytes : List ℕ) (q : ℕ) (P : Pointee) (n : ℕ) (w : Value) (s : Schema) (u : Value) {root : ℕ} {X : Shape} → Says D bytes q P n w → Knows s D → Reached s bytes root X q P n u → u ≡ w
+reached_says D bytes q P n w s u h k r = fills_one s bytes r.filled (h.fills s r.value k (reached_lies s bytes r) r.reads)
+
+-- so what a whole buffer's root says is what the buffer denotes
 pub root_says : (D : Definitions) (bytes : List ℕ) (root : ℕ) (X : Shape) (w : Value) (s : Schema) (m : Meaning) → Says D bytes root (one X) 0 w → Knows s D → Denotes s bytes root X m → m.value ≡ w
-root_says D bytes root X w s m h k d =
-    let r = root_reached s bytes d in
-    fills_one s bytes r.filled (h.fills s r.value k (reached_lies s bytes r) r.reads)
+root_says D bytes root X w s m h k d = reached_says D bytes root (one X) 0 w s m.value h k (root_reached s bytes d)

@@ -1,6 +1,7 @@
 //! The laws of archives. Each is what a function promises that does nothing, so that the check of this crate proves it.
 
 ghost use Rattle.archive_check.specs.Laws.{SomeMeaning, OneMeaning, AcceptedWhereWalked, FaultyNotWalked, FewSubtrees, RegionsDisjoint, LeavesInRegions, LeafEdited, LeafRevised, EmptyRunWalked, PlainRunWalked, PartsReached, OneReached, RootReached, PointersReached, WithinReached, ElementsReached, OneEncoding, PartsInside, SomeLayouts, OneLayout, OneReading, OneTour, OneFault, RefusedKeepsPooled, SameItself, SameBack, SameThen, PartsReachedMeaning, OneReachedMeaning, NamesKnown, RootReachedMeaning};
+ghost use Rattle.archive_check.specs.Laws.{SaidReached, UniqueBefore};
 
 /// An accepted buffer has a meaning.
 pub fn some_meaning()
@@ -160,4 +161,14 @@ pub fn names_known()
 /// It knows no others: the root says what the archive means, its map included.
 pub fn root_reached_meaning()
     ensures { RootReachedMeaning }
+{}
+
+/// What is said of a part, where a view shows it, is what is reached there.
+pub fn said_reached()
+    ensures { SaidReached }
+{}
+
+/// What a unique pointer leads to ends by its owner's position.
+pub fn unique_before()
+    ensures { UniqueBefore }
 {}

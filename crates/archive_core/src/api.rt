@@ -6,8 +6,9 @@ ghost use Rattle.archive_check.specs.Names.{ExplainsNoSchema};
 ghost use Rattle.archive_check.specs.Archives.{IsArchiveWithin, IsArchive, IsValueOf, IsRefusal, IsNoArchive};
 ghost use Rattle.archive_check.specs.Defined.{WellFormed};
 ghost use Rattle.archive_check.specs.Definitions.{listed};
-ghost use Rattle.archive_check.specs.Entries.{NoEntries, IsCyclic};
+ghost use Rattle.archive_check.specs.Entries.{NoEntries, AreNamedByPosition, KeepsEntries, IsCyclic};
 ghost use Rattle.archive_check.specs.Unshared.{IsUnshared};
+ghost use Rattle.archive_check.specs.Viewed.{Says};
 ghost use Rattle.archive_check.specs.declared.error.Error.TheVariants.{CyclicDeserialize, OutOfMemory};
 ghost use Rattle.archive_check.specs.Told.{Told};
 ghost use Rattle.archive_core.specs.Plans.{stand, at_start, GoesOn, Explains, HindersWhole, region_place, one_plan, IsOfWriting};
@@ -124,12 +125,8 @@ pub fn access_pos<'a, T: Portable>(
     ensures whole { IfOk result (λ r. r.len ≡ 0) }
 {
     let mut context = HighValidator::new(alloc, bytes);
-    if let Err(error) = check_pos_with_context::<T, HighValidator<'_>>(
-        alloc,
-        bytes,
-        pos,
-        &mut context,
-    ) {
+    let checked = check_pos_with_context::<T, HighValidator<'_>>(alloc, bytes, pos, &mut context);
+    if let Err(error) = checked {
         return Err(error);
     }
     Ok(Ref::at(Part { bytes, pos, len: 0 }))
@@ -207,4 +204,33 @@ where
 {
     let root = access::<T::Archived>(alloc, bytes)?;
     <T::Archived as Deserialize<T, D>>::deserialize(alloc, root, deserializer)
+}
+
+/// Reads back what `view` shows, with a `deserializer` that may have met shared positions of this buffer before, each finished one named by its
+/// position, and no pending one: the answer means what the archive says there. Memory comes from `alloc`: refused with 1 where it is refused, and
+/// with 13 where a shared value holds itself.
+pub fn deserialize_using<T: Archive, U: Deserialize<T, D>, D: Entries>(
+    alloc: Global,
+    view: Ref<'_, U>,
+    deserializer: &mut D,
+) -> Result<T, Error>
+    ensures value { IfOk result (λ t. AreNamedByPosition (D.entry_of deserializer.old) → Says U.definitions view.entry.bytes.now view.entry.pos U.pointee view.entry.len (T.meaning t)) }
+    ensures entries { OnOk result (KeepsEntries (D.entry_of deserializer.old) (D.entry_of deserializer.new)) }
+    ensures refused { IfErr result (λ e. (e ≡ OutOfMemory) ⊎ ((e ≡ CyclicDeserialize) × IsCyclic U.definitions view.entry.bytes.now (D.entry_of deserializer.old) view.entry.pos U.pointee view.entry.len)) }
+{
+    U::deserialize(alloc, view, deserializer)
+}
+
+/// Reads back what `view` shows, with an empty `deserializer`, `()` where nothing is shared: the answer means what the archive says there, its shared
+/// values named by their positions. Memory comes from `alloc`: refused with 1 where it is refused, and with 13 where a shared value holds itself.
+pub fn deserialize<T: Archive, U: Deserialize<T, D>, D: Entries>(
+    alloc: Global,
+    view: Ref<'_, U>,
+    deserializer: &mut D,
+) -> Result<T, Error>
+    ensures value { IfOk result (λ t. NoEntries (D.entry_of deserializer.old) → Says U.definitions view.entry.bytes.now view.entry.pos U.pointee view.entry.len (T.meaning t)) }
+    ensures entries { OnOk result (KeepsEntries (D.entry_of deserializer.old) (D.entry_of deserializer.new)) }
+    ensures refused { IfErr result (λ e. (e ≡ OutOfMemory) ⊎ ((e ≡ CyclicDeserialize) × IsCyclic U.definitions view.entry.bytes.now (D.entry_of deserializer.old) view.entry.pos U.pointee view.entry.len)) }
+{
+    deserialize_using(alloc, view, deserializer)
 }

@@ -15,7 +15,8 @@ ghost use Rattle.archive_check.specs.Archives.{IsValueOf};
 
 use crate::api::{
     HighValidator, access, access_pos, access_pos_with_context, access_with_context,
-    check_pos_with_context, from_bytes, root_position, to_bytes, to_bytes_in,
+    check_pos_with_context, deserialize, deserialize_using, from_bytes, root_position, to_bytes,
+    to_bytes_in,
 };
 use crate::error::Error;
 use crate::place::Place;
@@ -481,6 +482,16 @@ fn a_context_limits_the_depth(rt: HostRuntime) -> Result<(), Fail> {
         &mut context,
     )?;
     assert_eq!(rt; view.pos(), 12);
+    Ok(())
+}
+
+#[test]
+fn a_view_is_read_back(rt: HostRuntime) -> Result<(), Fail> {
+    let view = access::<ArchivedString>(rt.alloc(), b"12345678")?;
+    let text: String = deserialize(rt.alloc(), view, &mut ())?;
+    assert_eq!(rt; text.as_str(), "12345678");
+    let again: String = deserialize_using(rt.alloc(), view, &mut ())?;
+    assert_eq!(rt; again.as_str(), "12345678");
     Ok(())
 }
 

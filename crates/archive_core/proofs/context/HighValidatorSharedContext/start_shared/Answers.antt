@@ -1,4 +1,3 @@
-use Rattle.std.proofs.Common.{to_z, of_z}
 use Rattle.std.proofs.lemmas.Int.{to_z-of_z}
 use mir.Syntax.{w128}
 use Rattle.archive_core.proofs.context.HighValidatorSharedContext.start_shared.Goals as goal

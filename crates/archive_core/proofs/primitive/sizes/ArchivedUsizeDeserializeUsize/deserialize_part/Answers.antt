@@ -1,5 +1,5 @@
 use Rattle.std.proofs.Common.{pos, refl}
-use Rattle.std.specs.Int.{w32, cast_signed}
+use Rattle.std.specs.Int.{w32}
 use Rattle.archive_check.specs.Shape.{number, unsigned}
 use Rattle.archive_num.specs.Digits.{little_number}
 use Rattle.archive_num.specs.Leaves.{unsigned-value}
