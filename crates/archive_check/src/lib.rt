@@ -24,6 +24,8 @@ pub mod subtree;
 #[cfg(test)]
 mod tests;
 #[cfg(test)]
+mod tests_check;
+#[cfg(test)]
 mod tests_contexts;
 #[cfg(test)]
 mod tests_expressions;
