@@ -80,7 +80,7 @@ pub fn is_text(bytes: &[u8], p: usize, n: usize) -> bool
     requires { p + n ≤ length bytes.now }
     ensures { IsTrue result ↔ IsUtf8 (bytes_at bytes.now p n) }
 {
-    std::str::from_utf8(&bytes[p..p + n]).is_ok()
+    simdutf8::basic::from_utf8(&bytes[p..p + n]).is_ok()
 }
 
 /// The `n` bytes at `p`, which are UTF-8.
