@@ -11,14 +11,14 @@ use Rattle.archive_check.specs.Layout.{Layouts, size_of, align_of}
 use Rattle.archive_check.specs.Reads.{Schema}
 use Rattle.archive_check.specs.Runs.{IsAt}
 use Rattle.archive_check.specs.Closed.{JobFits}
-use Rattle.archive_check.specs.Represents.{Stands, stands, Made}
-use Rattle.archive_check.specs.Fitting.{fits}
-use Rattle.archive_check.specs.Growing.{Lists, Goes, Grows, IsPushed, Unless, IsMade}
-use Rattle.archive_check.specs.Compiled.{Follows, Below, Knows, ClosedTo, Settled, Given, MadeTo, Adds, Compiled}
-use Rattle.archive_check.specs.Counts.{count_of}
-use Rattle.archive_check.specs.Sizes.{shape_size}
+use Rattle.archive_check.specs.Represents.{StandsFor, stands, Made}
+use Rattle.archive_check.specs.BoundedSizes.{fits}
+use Rattle.archive_check.specs.PlanGrowth.{PlanLists, Goes, Grows, IsPushed, Unless, IsMade}
+use Rattle.archive_check.specs.Compiled.{Follows, Below, NamesSized, ClosedTo, Settled, Given, MadeTo, Adds, Compiled}
+use Rattle.archive_check.specs.NodeCounts.{count_of}
+use Rattle.archive_check.specs.Measure.{measure_of}
 use Rattle.archive_check.specs.Compilable.{Can, AllKnown}
-use Rattle.archive_check.specs.Queued.{Wait, Waits, waits_size}
+use Rattle.archive_check.specs.CompileQueue.{Wait, Waits, measure_of_waits}
 use Rattle.archive_check.proofs.Fitting.{some_is}
 use Rattle.archive_check.proofs.GoingOn.{at_more, at_behind, at_end, same_at, goes_refl, goes_trans, grows_refl, grows_trans, pushed_grows, pushed_count, pushed_at, pushed_is}
 
@@ -32,7 +32,7 @@ given_second {shapes} {from} {ys} xs to e g = record { are = λ k X h. let i : t
 pub given_last : {shapes : ℕ → Shape} {from : ℕ} {X : Shape} (xs : List Shape) (j : ℕ) → j ≡ from + length xs → Given shapes from (xs ++ X ∷ []) → shapes j ≡ X
 given_last {shapes} {from} {X} xs j e g = ap shapes e ∙ g.are (length xs) X (at_end xs X)
 
-pub knows_settled : {names : List Known} {ws : List Wait} {s : Schema} {shapes : ℕ → Shape} {m : Checker} (done : ℕ) → Settled names ws s shapes m → Knows names s.layouts done m
+pub knows_settled : {names : List Known} {ws : List Wait} {s : Schema} {shapes : ℕ → Shape} {m : Checker} (done : ℕ) → Settled names ws s shapes m → NamesSized names s.layouts done m
 knows_settled done t name j e h = t.sized name j e
 
 -- fewer wait
@@ -48,10 +48,10 @@ settled_less g t = record {
 below_less : {names : List Known} {us ws : List Wait} {m : Checker} → Goes ws us → Below names us m → Below names ws m
 below_less g t = record { names_below = t.names_below; waits_below = λ k x at. t.waits_below k x (at_more g at) }
 
-pub adds_refl : (names : List Known) (v : Waits) (a : Lists) → Adds names [] v v a a
+pub adds_refl : (names : List Known) (v : Waits) (a : PlanLists) → Adds names [] v v a a
 adds_refl names v a = record { grows = grows_refl a; waits_go = goes_refl v.items; reserved = λ base r. r; count = omega arith; closed = λ m g w c. c; made = λ s shapes m g t given h. h }
 
-pub adds_trans : {names : List Known} {g h : List Shape} {v w u : Waits} {a b c : Lists} → Adds names g v w a b → Adds names h w u b c → Adds names (g ++ h) v u a c
+pub adds_trans : {names : List Known} {g h : List Shape} {v w u : Waits} {a b c : PlanLists} → Adds names g v w a b → Adds names h w u b c → Adds names (g ++ h) v u a c
 adds_trans {g = g} {h = h} f k = record {
   grows = grows_trans f.grows k.grows;
   waits_go = goes_trans f.waits_go k.waits_go;
@@ -62,7 +62,7 @@ adds_trans {g = g} {h = h} f k = record {
 }
 
 -- no node more
-pub adds_same : {names : List Known} {g : List Shape} {v w : Waits} {a b c : Lists} → Adds names g v w a b → Grows b c → c.nodes ≡ b.nodes → Adds names g v w a c
+pub adds_same : {names : List Known} {g : List Shape} {v w : Waits} {a b c : PlanLists} → Adds names g v w a b → Grows b c → c.nodes ≡ b.nodes → Adds names g v w a c
 adds_same f r e = record {
   grows = grows_trans f.grows r;
   waits_go = f.waits_go;
@@ -73,7 +73,7 @@ adds_same f r e = record {
 }
 
 -- one node more
-module _ {b c : Lists} {size : Option ℕ} {align j : ℕ} {job : Job} (p : IsPushed b c size align job j) (m : Checker) (g : Follows c m) where
+module _ {b c : PlanLists} {size : Option ℕ} {align j : ℕ} {job : Job} (p : IsPushed b c size align job j) (m : Checker) (g : Follows c m) where
   new_node : (i : ℕ) (node : Node) → i < length c.nodes → length b.nodes ≤ i → IsAt m.nodes.now i node → (i ≡ length b.nodes) × (node ≡ p.node)
   new_node i node lt le at =
       let e : i ≡ length b.nodes = omega (arith, lt, le, pushed_count p) in
@@ -107,7 +107,7 @@ module _ {b c : Lists} {size : Option ℕ} {align j : ℕ} {job : Job} (p : IsPu
         (cases_lt i (length b.nodes));
   }
 
-module _ {names : List Known} {gives : List Shape} {v w : Waits} {a b c : Lists} (f : Adds names gives v w a b) where
+module _ {names : List Known} {gives : List Shape} {v w : Waits} {a b c : PlanLists} (f : Adds names gives v w a b) where
   pub adds_push : {size : Option ℕ} {align j : ℕ} {job : Job} (X : Shape) → IsPushed b c size align job j
       → ((m : Checker) → Follows c m → Below names w.items m → (z : ℕ) → size ≡ Some z → JobFits m (length b.nodes) z job)
       → ((s : Schema) (shapes : ℕ → Shape) (m : Checker) → Follows c m → Settled names w.items s shapes m → size ≡ fits (size_of s.layouts X))
@@ -126,9 +126,9 @@ module _ {names : List Known} {gives : List Shape} {v w : Waits} {a b c : Lists}
         push_made p m g X (given_last gives (length b.nodes) f.count given) (lay s shapes m g t) (make s shapes m g t first old) empty old;
   }
 
-  pub compiled_push : {done : ℕ} {size : Option ℕ} {align j : ℕ} {job : Job} (X : Shape) → IsPushed b c size align job j → length gives + 1 ≡ count_of X → waits_size w.items ≤ waits_size v.items + shape_size X
+  pub compiled_push : {done : ℕ} {size : Option ℕ} {align j : ℕ} {job : Job} (X : Shape) → IsPushed b c size align job j → length gives + 1 ≡ count_of X → measure_of_waits w.items ≤ measure_of_waits v.items + measure_of X
       → (AllKnown names v.items → Can names done X → AllKnown names w.items)
-      → ((m : Checker) (l : Layouts) → Follows c m → Knows names l done m → (size ≡ fits (size_of l X)) × (align ≡ align_of l X))
+      → ((m : Checker) (l : Layouts) → Follows c m → NamesSized names l done m → (size ≡ fits (size_of l X)) × (align ≡ align_of l X))
       → ((m : Checker) → Follows c m → Below names w.items m → (z : ℕ) → size ≡ Some z → JobFits m (length b.nodes) z job)
       → ((s : Schema) (shapes : ℕ → Shape) (m : Checker) → Follows c m → Settled names w.items s shapes m → Given shapes (length a.nodes) gives → MadeTo s shapes m (length b.nodes) → (z : ℕ) → size ≡ Some z → Made s shapes m job X)
       → (size ≡ Some 0 → job ≡ Free)
@@ -156,10 +156,10 @@ pub some_positive : {size : Option ℕ} (z : ℕ) → size ≡ Some z → size �
 some_positive zero e n = absurd (n e)
 some_positive (suc z) e n = omega arith
 
-module _ {names : List Known} {gives : List Shape} {v w : Waits} {a b c : Lists} (f : Adds names gives v w a b) where
-  pub compiled_made : {done : ℕ} {size : Option ℕ} {align j : ℕ} {free : Bool} {job : Job} (X : Shape) → IsMade b c size align free job j → length gives + 1 ≡ count_of X → waits_size w.items ≤ waits_size v.items + shape_size X
+module _ {names : List Known} {gives : List Shape} {v w : Waits} {a b c : PlanLists} (f : Adds names gives v w a b) where
+  pub compiled_made : {done : ℕ} {size : Option ℕ} {align j : ℕ} {free : Bool} {job : Job} (X : Shape) → IsMade b c size align free job j → length gives + 1 ≡ count_of X → measure_of_waits w.items ≤ measure_of_waits v.items + measure_of X
       → (AllKnown names v.items → Can names done X → AllKnown names w.items)
-      → ((m : Checker) (l : Layouts) → Follows c m → Knows names l done m → (size ≡ fits (size_of l X)) × (align ≡ align_of l X))
+      → ((m : Checker) (l : Layouts) → Follows c m → NamesSized names l done m → (size ≡ fits (size_of l X)) × (align ≡ align_of l X))
       → ((m : Checker) → Follows c m → Below names w.items m → (z : ℕ) → size ≡ Some z → 0 < z → JobFits m (length b.nodes) z job)
       → ((s : Schema) (shapes : ℕ → Shape) (m : Checker) → Follows c m → Settled names w.items s shapes m → Given shapes (length a.nodes) gives → MadeTo s shapes m (length b.nodes) → (z : ℕ) → size ≡ Some z → (free ≡ true) ⊎ (z ≡ 0) → Made s shapes m Free X)
       → ((s : Schema) (shapes : ℕ → Shape) (m : Checker) → Follows c m → Settled names w.items s shapes m → Given shapes (length a.nodes) gives → (z : ℕ) → size ≡ Some z → 0 < z → Made s shapes m job X)
@@ -172,9 +172,9 @@ module _ {names : List Known} {gives : List Shape} {v w : Waits} {a b c : Lists}
       (λ e. unless_job free size job p.made p.which (λ q. q ≡ Free) (λ h. refl) (λ n. absurd (n e)))
 
 -- an expression's node stands for it
-pub stands_of : {names : List Known} {done : ℕ} {X : Shape} {v w : Waits} {a b : Lists} {j : ℕ} {s : Schema} {shapes : ℕ → Shape} {m : Checker}
-    → (c : Compiled names done X v w a b j) → Settled names w.items s shapes m → Given shapes (length a.nodes) c.gives → Stands s shapes X j
+pub stands_of : {names : List Known} {done : ℕ} {X : Shape} {v w : Waits} {a b : PlanLists} {j : ℕ} {s : Schema} {shapes : ℕ → Shape} {m : Checker}
+    → (c : Compiled names done X v w a b j) → Settled names w.items s shapes m → Given shapes (length a.nodes) c.gives → StandsFor s shapes X j
 stands_of {j = j} {s = s} {shapes = shapes} c t given = ⊎_elim
-    (λ h. subst (λ Y. Stands s shapes Y j) (sym h.1) (t.stand h.0 j h.2))
+    (λ h. subst (λ Y. StandsFor s shapes Y j) (sym h.1) (t.stand h.0 j h.2))
     (λ h. stands (h.2 shapes given))
     c.root

@@ -9,17 +9,18 @@ use Rattle.archive_check.specs.Shape.{Name, Shape, one, definition}
 use Rattle.archive_check.specs.Value.{Value}
 use Rattle.archive_check.specs.Reads.{Schema}
 use Rattle.archive_check.specs.Depth.{AcceptedWithin}
-use Rattle.archive_check.specs.Defined.{Reaches, WellFormed, rounds}
+use Rattle.archive_check.specs.Defined.{Reaches, WellFormed}
 use Rattle.archive_check.specs.Definitions.{Definitions, no_definition, defines, both, listed, Has, Knows}
 use Rattle.archive_check.specs.Trail.{RootTrips}
 use Rattle.archive_check.specs.Ranges.{RangeState, whole}
 use Rattle.archive_check.specs.Met.{Positions, nothing_met}
-use Rattle.archive_check.specs.Exact.{IsWhole}
+use Rattle.archive_check.specs.Fresh.{IsWhole}
 use Rattle.archive_check.specs.Schemas.{Suits, Accepts, Refuses, IsSchemaOf}
 use Rattle.archive_check.specs.Pooled.{Entries}
 use Rattle.archive_check.specs.Entries.{NoEntries, AreNamedByPosition}
 use Rattle.archive_check.specs.Viewed.{Viewed, Says}
 use Rattle.archive_check.specs.Archives.{IsArchiveWithin, IsArchive, IsValueOf, IsFaulty, IsRefusal, IsNoArchive}
+use Rattle.archive_check.proofs.Rounds.{rounds}
 use Rattle.archive_check.proofs.AcceptedWalks.{walks}
 use Rattle.archive_check.proofs.Trails.{root_no_walk}
 use Rattle.archive_check.proofs.Positive.{rounds_pos}

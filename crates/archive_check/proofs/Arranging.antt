@@ -1,5 +1,5 @@
 -- Definitions are put in order one by one.
-use Rattle.std.proofs.Common.{◌≡◌, ◌≢◌, ◌⊎◌, inl, inr, ⊎_elim, ℕ, zero, suc, ◌+◌, ◌<◌, ◌≤◌, List, [], ◌∷◌, ◌++◌, length, take, get_or, refl, sym, ap, ◌∙◌, subst, arith, length-append, Bool, true, false, Option, Some, None, option_map, is_some, Bor, Contains}
+use Rattle.std.proofs.Common.{◌≡◌, ◌⊎◌, inl, inr, ⊎_elim, ℕ, zero, suc, ◌+◌, ◌<◌, ◌≤◌, List, [], ◌∷◌, ◌++◌, length, take, get_or, refl, sym, ap, ◌∙◌, subst, arith, length-append, true, false, Option, Some, None, option_map, is_some, Bor, Contains}
 use Rattle.std.specs.List.{remove}
 use Rattle.std.proofs.lemmas.List.{take-append-le}
 use Rattle.std.proofs.Math.Seq.{take-append_seam, get_or-append_seam}
@@ -12,7 +12,7 @@ use Rattle.archive_check.specs.Defined.{HeldIn}
 use Rattle.archive_check.specs.Names.{missing, NextReady, Complete, Arranged}
 use Rattle.archive_check.proofs.Named.{append_known, append_unknown, definition_here, definition_other, names_decided, definition-remove, entries_of-append, push_some, push_none, contains-remove, contains-at, one_at}
 use Rattle.archive_check.proofs.Missing.{missed_held, held_defined}
-use Rattle.archive_check.proofs.Descent.{DefinitionHolds, LeadsTo, OneComesBack, some_comes_back}
+use Rattle.archive_check.proofs.Descent.{DefinitionHolds, some_comes_back}
 use Rattle.archive_check.proofs.Placed.{names_of, defined_named, named_defined}
 
 below_or_last : (k n : ℕ) → k < n + 1 → (k < n) ⊎ (k ≡ n)

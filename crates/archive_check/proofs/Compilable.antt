@@ -3,7 +3,7 @@ use Rattle.std.proofs.Common.{◌≡◌, ℕ, ◌<◌, sym, ap, ◌∙◌, subst
 use Rattle.archive_check.specs.declared.growing.Known.{Known}
 use Rattle.archive_check.specs.Shape.{Name, Shape, parts, choice, array, boxed, vec, shared, weak, named, Flavor, Pointee, one, run, Parts, part, Variants, variant}
 use Rattle.archive_check.specs.Defined.{holds_name, holds_parts, holds_choice, holds_array, holds_first, holds_later, holds_variant, holds_other, Mentions, mentions_held, mentions_array, mentions_parts, mentions_choice, mentions_boxed, mentions_vec, mentions_shared, mentions_weak, mentions_one, mentions_run, mentions_first, mentions_later, mentions_variant, mentions_other}
-use Rattle.archive_check.specs.Growing.{node_of}
+use Rattle.archive_check.specs.PlanGrowth.{node_of}
 use Rattle.archive_check.specs.Compilable.{Can, CanParts, CanVariants, CanPoint, CanWait}
 
 module _ {names : List Known} {done : ℕ} where

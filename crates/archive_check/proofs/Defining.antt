@@ -3,7 +3,7 @@ use Rattle.std.proofs.Common.{◌≡◌, ◌⊎◌, inl, inr, ⊎_elim, [], ◌�
 use Rattle.archive_check.specs.declared.error.Error.{Error}
 use Rattle.archive_check.specs.declared.error.Error.TheVariants.{OutOfMemory, ShapeConflict}
 use Rattle.archive_check.specs.Shape.{Name, Shape, Table, definition}
-use Rattle.archive_check.specs.Added.{IsAddAnswer}
+use Rattle.archive_check.specs.AddAnswer.{IsAddAnswer}
 use Rattle.archive_check.specs.Definitions.{defines, listed, Extended, Conflicts}
 use Rattle.archive_check.proofs.Named.{definition_here, append_known, append_unknown, push_some}
 use Rattle.archive_check.proofs.Descent.{contains_cases, contains_first}

@@ -15,8 +15,8 @@ use Rattle.archive_check.specs.Reads.{Schema, LaidOut}
 use Rattle.archive_check.specs.Runs.{IsAt}
 use Rattle.archive_check.specs.Names.{missing}
 use Rattle.archive_check.specs.Schemas.{table_in}
-use Rattle.archive_check.specs.Fitting.{fits, rounded, sum_of, greater_of}
-use Rattle.archive_check.specs.Growing.{node_of}
+use Rattle.archive_check.specs.BoundedSizes.{fits, rounded, sum_of, greater_of}
+use Rattle.archive_check.specs.PlanGrowth.{node_of}
 use Rattle.archive_check.specs.Extents.{Ends, HasExtent, PartsSoFar, VariantsSoFar}
 use Rattle.archive_check.proofs.Fitting.{fits_some, rounded_fits, sum_fits, greater_fits}
 use Rattle.archive_check.proofs.Rows.{align_positive, variants_positive, ends_positive}

@@ -4,7 +4,7 @@ use Rattle.std.proofs.lemmas.Bool.Decides.{nat_tests}
 use Rattle.std.proofs.lemmas.Bool.{cases_lt}
 use Rattle.archive_check.specs.Layout.{up}
 use Rattle.archive_check.specs.Runs.{times}
-use Rattle.archive_check.specs.Fitting.{fits, rounded, sum_of, greater_of}
+use Rattle.archive_check.specs.BoundedSizes.{fits, rounded, sum_of, greater_of}
 
 pub fits_some : (n : ℕ) → n < 18446744073709551616 → fits n ≡ Some n
 fits_some n h = grind (arith, nat_tests)

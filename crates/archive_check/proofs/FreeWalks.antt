@@ -7,12 +7,12 @@ use Rattle.archive_check.specs.declared.plan.Part.{Part as PlanPart}
 use Rattle.archive_check.specs.declared.plan.Checker.{Checker}
 use Rattle.archive_check.specs.Shape.{Kind, unit, bool, char, number, non_zero, raw_rel, Shape, Parts}
 use Rattle.archive_check.specs.Layout.{up, kind_size, size_of, align_of, parts_end}
-use Rattle.archive_check.specs.Plain.{is_plain_kind}
+use Rattle.archive_check.specs.PlainData.{is_plain_kind}
 use Rattle.archive_check.specs.Reads.{Schema, LaidOut}
 use Rattle.archive_check.specs.Tour.{Seen}
 use Rattle.archive_check.specs.Walk.{Walk, walk_named, WalkParts, walk_no_part, walk_part, WalkRun, walk_none, walk_element}
 use Rattle.archive_check.specs.Runs.{IsAt, IsNode}
-use Rattle.archive_check.specs.Represents.{Stands, stands, stands_named, PartsStand, parts_over, parts_more, Made, made_free}
+use Rattle.archive_check.specs.Represents.{StandsFor, stands, stands_named, PartsStand, parts_over, parts_more, Made, made_free}
 use Rattle.archive_check.specs.Compiled.{MadeTo}
 use Rattle.archive_check.proofs.Inside.{parts_end_le}
 use Rattle.archive_check.proofs.GoingOn.{same_at}
@@ -49,7 +49,7 @@ free_walks : {s : Schema} {shapes : ℕ → Shape} {m : Checker} {X : Shape} →
 free_walks (made_free w) = w
 
 module _ {s : Schema} {shapes : ℕ → Shape} {m : Checker} {n : ℕ} (made : MadeTo s shapes m n) where
-  pub any_stands : {X : Shape} {j : ℕ} → Stands s shapes X j → j < n → (node : Node) (z : ℕ) → IsAt m.nodes.now j node → node.job ≡ Free → node.size ≡ Some z → AnyBytes s X z
+  pub any_stands : {X : Shape} {j : ℕ} → StandsFor s shapes X j → j < n → (node : Node) (z : ℕ) → IsAt m.nodes.now j node → node.job ≡ Free → node.size ≡ Some z → AnyBytes s X z
   any_stands {j = j} (stands e) lt node z at free size =
       let q = made.made j node z lt at size in
       subst (λ Y. AnyBytes s Y z) e (subst (λ y. AnyBytes s (shapes j) y) q.0 (free_walks (subst (λ w. Made s shapes m w (shapes j)) free q.1)))

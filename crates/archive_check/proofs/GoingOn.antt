@@ -5,7 +5,7 @@ use Rattle.archive_check.specs.declared.plan.Part.{Part}
 use Rattle.archive_check.specs.declared.plan.Span.{Span}
 use Rattle.archive_check.specs.declared.plan.Sort.{Sort}
 use Rattle.archive_check.specs.Runs.{IsAt}
-use Rattle.archive_check.specs.Growing.{Lists, Goes, Grows, IsPushed, IsSorted, IsExtended}
+use Rattle.archive_check.specs.PlanGrowth.{PlanLists, Goes, Grows, IsPushed, IsSorted, IsExtended}
 
 index_more : {A : Type 0} (xs ys : List A) (i : ℕ) (x : A) → i < length xs → slice_index_or (xs ++ ys) i x ≡ slice_index_or xs i x
 index_more [] ys i x h = absurd (omega arith)
@@ -77,17 +77,17 @@ at_taken (suc n) (z ∷ xs) zero x h = (omega arith, record { below = omega arit
 at_taken (suc n) (z ∷ xs) (suc k) x h = let b = at_taken n xs k x (record { below = omega (arith, h.below); is = h.is }) in
     (omega (arith, b.0), record { below = omega (arith, b.1.below); is = b.1.is })
 
-pub grows_refl : (a : Lists) → Grows a a
+pub grows_refl : (a : PlanLists) → Grows a a
 grows_refl a = record { nodes = goes_refl a.nodes; parts = goes_refl a.parts; variants = goes_refl a.variants; sorts = goes_refl a.sorts }
 
-pub grows_trans : {a b c : Lists} → Grows a b → Grows b c → Grows a c
+pub grows_trans : {a b c : PlanLists} → Grows a b → Grows b c → Grows a c
 grows_trans g h = record { nodes = goes_trans g.nodes h.nodes; parts = goes_trans g.parts h.parts; variants = goes_trans g.variants h.variants; sorts = goes_trans g.sorts h.sorts }
 
 pub same_goes : {A : Type 0} {xs ys : List A} → ys ≡ xs → Goes xs ys
 same_goes {xs = xs} e = record { more = []; is = e ∙ sym (append-nil xs) }
 
 -- one node more
-module _ {a b : Lists} {size : Option ℕ} {align j : ℕ} {job : Job} (p : IsPushed a b size align job j) where
+module _ {a b : PlanLists} {size : Option ℕ} {align j : ℕ} {job : Job} (p : IsPushed a b size align job j) where
   pub pushed_grows : Grows a b
   pushed_grows = record { nodes = record { more = p.node ∷ []; is = p.nodes }; parts = same_goes p.parts; variants = same_goes p.variants; sorts = same_goes p.sorts }
 
@@ -101,7 +101,7 @@ module _ {a b : Lists} {size : Option ℕ} {align j : ℕ} {job : Job} (p : IsPu
   pushed_is = omega (arith, pushed_count, p.is)
 
 -- one sort more
-module _ {a b : Lists} {sort : Sort} {k : ℕ} (p : IsSorted a b sort k) where
+module _ {a b : PlanLists} {sort : Sort} {k : ℕ} (p : IsSorted a b sort k) where
   pub sorted_grows : Grows a b
   sorted_grows = record { nodes = same_goes p.nodes; parts = same_goes p.parts; variants = same_goes p.variants; sorts = record { more = sort ∷ []; is = p.sorts } }
 
@@ -109,7 +109,7 @@ module _ {a b : Lists} {sort : Sort} {k : ℕ} (p : IsSorted a b sort k) where
   sorted_at = subst (λ xs. IsAt xs k sort) (sym p.sorts) (subst (λ i. IsAt (a.sorts ++ sort ∷ []) i sort) (sym p.is) (at_end a.sorts sort))
 
 -- parts and variants more
-module _ {a b : Lists} {row : List Part} {spans : List Span} (p : IsExtended a b row spans) where
+module _ {a b : PlanLists} {row : List Part} {spans : List Span} (p : IsExtended a b row spans) where
   pub extended_grows : Grows a b
   extended_grows = record { nodes = same_goes p.nodes_are; parts = record { more = row; is = p.parts_are }; variants = record { more = spans; is = p.variants_are }; sorts = same_goes p.sorts_are }
 

@@ -10,7 +10,7 @@ use Rattle.std.specs.HashMap.{HashMap, get, Updates, IsUnchanged}
 use Rattle.std.specs.Option.{ForSome}
 use Rattle.archive_check.specs.declared.error.Error.TheVariants.{AlreadyFinished}
 use Rattle.archive_check.specs.declared.plan.Sort.{Sort}
-use Rattle.archive_check.specs.declared.shared.Kept.{Kept}
+use Rattle.archive_check.specs.declared.shared.SharedPosition.{SharedPosition}
 use Rattle.archive_check.specs.declared.expr.FlavorInfo.{FlavorInfo}
 use Rattle.archive_check.specs.declared.expr.Pointee.{Pointee as PointeeExpr}
 use Rattle.archive_check.specs.declared.error.Error.{Error}
@@ -20,7 +20,7 @@ use Rattle.archive_check.specs.Expressions.{flavor_of, pointee_of}
 use Rattle.archive_check.specs.Same.{same_flavor-Decides}
 use Rattle.archive_check.specs.Tour.{Entry}
 use Rattle.archive_check.specs.Met.{Met, Positions, started, started_at, finish_answer, IsStartAnswer}
-use Rattle.archive_check.specs.Kept.{met_as, met_in, positions_in, AreKnown, HasType, IsGrown}
+use Rattle.archive_check.specs.SharedPositions.{met_as, met_in, positions_in, AreKnown, HasType, IsGrown}
 
 slice_get-append : {A : Type 0} (xs ys : List A) (k : ℕ) → k < length xs → slice_get (xs ++ ys) k ≡ slice_get xs k
 slice_get-append [] ys k h = absurd (omega arith)
@@ -36,21 +36,21 @@ slice_get-last : {A : Type 0} (xs : List A) (x : A) → slice_get (xs ++ x ∷ [
 slice_get-last [] x = refl
 slice_get-last (y ∷ xs) x = slice_get-last xs x
 
-met_in-grown : (sorts more : List Sort) (kept : Option Kept) → ForSome kept (λ k. k.sort < length sorts) → met_in (sorts ++ more) kept ≡ met_in sorts kept
+met_in-grown : (sorts more : List Sort) (kept : Option SharedPosition) → ForSome kept (λ k. k.sort < length sorts) → met_in (sorts ++ more) kept ≡ met_in sorts kept
 met_in-grown sorts more None h = refl
 met_in-grown sorts more (Some k) h = ap (option_map (met_as k)) (slice_get-append sorts more k.sort (h k refl))
 
-pub positions_in-grown : (old new : List Sort) (f : ℤ → Option Kept) → IsGrown old new → AreKnown old f → positions_in new f ≡ positions_in old f
+pub positions_in-grown : (old new : List Sort) (f : ℤ → Option SharedPosition) → IsGrown old new → AreKnown old f → positions_in new f ≡ positions_in old f
 positions_in-grown old new f g h =
     let grown : positions_in (old ++ g.more) f ≡ positions_in old f = λ i q. met_in-grown old g.more (f q) (h q) i in
     ap (λ sorts. positions_in sorts f) g.is ∙ grown
 
 -- one position gets another value
-met_in-cond : (sorts : List Sort) (b : Bool) (x y : Option Kept) → met_in sorts (cond b x y) ≡ cond b (met_in sorts x) (met_in sorts y)
+met_in-cond : (sorts : List Sort) (b : Bool) (x y : Option SharedPosition) → met_in sorts (cond b x y) ≡ cond b (met_in sorts x) (met_in sorts y)
 met_in-cond sorts true x y = refl
 met_in-cond sorts false x y = refl
 
-pub positions_in-update : (sorts : List Sort) (f g : ℤ → Option Kept) (p : ℤ) (x : Option Kept) → ((q : ℤ) → g q ≡ cond (int_eq p q) x (f q)) → positions_in sorts g ≡ update int_eq (positions_in sorts f) p (met_in sorts x)
+pub positions_in-update : (sorts : List Sort) (f g : ℤ → Option SharedPosition) (p : ℤ) (x : Option SharedPosition) → ((q : ℤ) → g q ≡ cond (int_eq p q) x (f q)) → positions_in sorts g ≡ update int_eq (positions_in sorts f) p (met_in sorts x)
 positions_in-update sorts f g p x e = λ i q. (ap (met_in sorts) (e q) ∙ met_in-cond sorts (int_eq p q) x (f q)) i
 
 -- a position that was met stays as it was
@@ -64,12 +64,12 @@ started-again met p old new e =
     same ∙ ap (λ x. update int_eq met p (Some (started_at x new))) (sym e)
 
 -- a position that is kept was met, with its type in the list
-pub met_in-kept : (sorts : List Sort) (f : ℤ → Option Kept) (p key : ℤ) (k : Kept) → AreKnown sorts f → key ≡ p → f key ≡ Some k → (sort : Sort) × (slice_get sorts k.sort ≡ Some sort) × (positions_in sorts f p ≡ Some (met_as k sort))
+pub met_in-kept : (sorts : List Sort) (f : ℤ → Option SharedPosition) (p key : ℤ) (k : SharedPosition) → AreKnown sorts f → key ≡ p → f key ≡ Some k → (sort : Sort) × (slice_get sorts k.sort ≡ Some sort) × (positions_in sorts f p ≡ Some (met_as k sort))
 met_in-kept sorts f p key k h same e =
     let (sort, at) = slice_get-some sorts k.sort (h key k e) in
     (sort, at, ap (positions_in sorts f) (sym same) ∙ ap (met_in sorts) e ∙ ap (option_map (met_as k)) at)
 
-pub finish_kept : (sorts : List Sort) (f : ℤ → Option Kept) (p key : ℤ) (k : Kept) (b : Bool) → AreKnown sorts f → key ≡ p → Some k ≡ f key → k.finished ≡ b → cond b (Err AlreadyFinished) (Ok tt) ≡ finish_answer (positions_in sorts f p)
+pub finish_kept : (sorts : List Sort) (f : ℤ → Option SharedPosition) (p key : ℤ) (k : SharedPosition) (b : Bool) → AreKnown sorts f → key ≡ p → Some k ≡ f key → k.finished ≡ b → cond b (Err AlreadyFinished) (Ok tt) ≡ finish_answer (positions_in sorts f p)
 finish_kept sorts f p key k b h same e is =
     let answer : Bool → Result (Unit {0}) Error = λ b. cond b (Err AlreadyFinished) (Ok tt) in
     sym (ap finish_answer (met_in-kept sorts f p key k h same (sym e)).2 ∙ ap answer is)
@@ -91,26 +91,26 @@ has_pushed sorts new k f p P grown h s =
     record { sort = sort; at = ap (λ xs. slice_get xs k) grown ∙ here; flavor_is = refl; pointee_is = s }
 
 -- the types' list grows, and a position is entered
-pub AreKnown-grown : (old new : List Sort) (f : ℤ → Option Kept) → AreKnown old f → IsGrown old new → AreKnown new f
+pub AreKnown-grown : (old new : List Sort) (f : ℤ → Option SharedPosition) → AreKnown old f → IsGrown old new → AreKnown new f
 AreKnown-grown old new f h g q k e =
     let l : length new ≡ length old + length g.more = ap length g.is ∙ length-append old g.more in
     let b : k.sort < length old = h q k e in
     omega arith
 
 -- what is answered and left where a kept position is started again
-start_kept : (sorts : List Sort) (f : ℤ → Option Kept) (p key : ℤ) (k : Kept) (sort : Sort) → AreKnown sorts f → key ≡ p → Some k ≡ f key → sort ≡ get_or sorts k.sort sort → positions_in sorts f p ≡ Some (met_as k sort)
+start_kept : (sorts : List Sort) (f : ℤ → Option SharedPosition) (p key : ℤ) (k : SharedPosition) (sort : Sort) → AreKnown sorts f → key ≡ p → Some k ≡ f key → sort ≡ get_or sorts k.sort sort → positions_in sorts f p ≡ Some (met_as k sort)
 start_kept sorts f p key k sort h same e is =
     let at : slice_get sorts k.sort ≡ Some sort = slice_get_read sorts (length sorts) k.sort sort refl (h key k (sym e)) is in
     ap (positions_in sorts f) (sym same) ∙ ap (met_in sorts) (sym e) ∙ ap (option_map (met_as k)) at
 
-pub answer_kept : (sorts : List Sort) (f : ℤ → Option Kept) (p key : ℤ) (k : Kept) (sort : Sort) (new : Entry) (r : Result ValidationState Error) → AreKnown sorts f → key ≡ p → Some k ≡ f key → sort ≡ get_or sorts k.sort sort → IsStartAnswer (Some (met_as k sort)) new r → IsStartAnswer (positions_in sorts f p) new r
+pub answer_kept : (sorts : List Sort) (f : ℤ → Option SharedPosition) (p key : ℤ) (k : SharedPosition) (sort : Sort) (new : Entry) (r : Result ValidationState Error) → AreKnown sorts f → key ≡ p → Some k ≡ f key → sort ≡ get_or sorts k.sort sort → IsStartAnswer (Some (met_as k sort)) new r → IsStartAnswer (positions_in sorts f p) new r
 answer_kept sorts f p key k sort new r h same e is a = subst (λ met. IsStartAnswer met new r) (sym (start_kept sorts f p key k sort h same e is)) a
 
-pub started_kept : (sorts : List Sort) (f : ℤ → Option Kept) (p key : ℤ) (k : Kept) (sort : Sort) (new : Entry) → AreKnown sorts f → key ≡ p → Some k ≡ f key → sort ≡ get_or sorts k.sort sort → positions_in sorts f ≡ started (positions_in sorts f) p new
+pub started_kept : (sorts : List Sort) (f : ℤ → Option SharedPosition) (p key : ℤ) (k : SharedPosition) (sort : Sort) (new : Entry) → AreKnown sorts f → key ≡ p → Some k ≡ f key → sort ≡ get_or sorts k.sort sort → positions_in sorts f ≡ started (positions_in sorts f) p new
 started_kept sorts f p key k sort new h same e is = started-again (positions_in sorts f) p (met_as k sort) new (start_kept sorts f p key k sort h same e is)
 
 -- a position is entered, with a type of the grown list
-pub started_new : (old new : List Sort) (f g : ℤ → Option Kept) (p key put : ℤ) (k : Kept) (flavor : Flavor) (pointee : Pointee)
+pub started_new : (old new : List Sort) (f g : ℤ → Option SharedPosition) (p key put : ℤ) (k : SharedPosition) (flavor : Flavor) (pointee : Pointee)
     → AreKnown old f → IsGrown old new → HasType new k.sort flavor pointee → key ≡ p → put ≡ p → None ≡ f key → k.finished ≡ false
     → ((q : ℤ) → g q ≡ cond (int_eq put q) (Some k) (f q))
     → positions_in new g ≡ started (positions_in old f) p (record { flavor = flavor; pointee = pointee; length = k.length })
@@ -124,19 +124,19 @@ started_new old new f g p key put k flavor pointee known grown type same putting
     ∙ (λ i. update int_eq (stays i) (putting i) (met i))
     ∙ ap (λ x. update int_eq (positions_in old f) p (Some (started_at x entry))) (sym before)
 
-known_cond : (sorts : List Sort) (b : Bool) (k x : Kept) (old now : Option Kept) → k.sort < length sorts → ForSome old (λ k. k.sort < length sorts) → now ≡ cond b (Some k) old → now ≡ Some x → x.sort < length sorts
+known_cond : (sorts : List Sort) (b : Bool) (k x : SharedPosition) (old now : Option SharedPosition) → k.sort < length sorts → ForSome old (λ k. k.sort < length sorts) → now ≡ cond b (Some k) old → now ≡ Some x → x.sort < length sorts
 known_cond sorts true k x old now h o e s = let same : Some k ≡ Some x = sym e ∙ s in let one : k ≡ x = cc in subst (λ y. y.sort < length sorts) one h
 known_cond sorts false k x old now h o e s = o x (sym e ∙ s)
 
 -- every position is still known where one of them was entered, or none
-pub AreKnown-inserted : {S E : Type 0} (sorts : List Sort) (m n : HashMap ℤ Kept S) (key : ℤ) (k : Kept) (flavor : Flavor) (pointee : Pointee) (r : Result (Option Kept) E)
+pub AreKnown-inserted : {S E : Type 0} (sorts : List Sort) (m n : HashMap ℤ SharedPosition S) (key : ℤ) (k : SharedPosition) (flavor : Flavor) (pointee : Pointee) (r : Result (Option SharedPosition) E)
     → AreKnown sorts (get int_eq m) → HasType sorts k.sort flavor pointee → OnOk r (Updates int_eq m n key (Some k)) → OnErr r (IsUnchanged m n) → AreKnown sorts (get int_eq n)
 AreKnown-inserted sorts m n key k flavor pointee (Ok old) known type ok err q x e =
     known_cond sorts (int_eq key q) k x (get int_eq m q) (get int_eq n q) (slice_get_within sorts k.sort type.sort type.at) (known q) (ok.0 q) e
 AreKnown-inserted sorts m n key k flavor pointee (Err e') known type ok err q x e =
     known q x (ap (λ es. lookup (int_eq q) es) (sym err) ∙ e)
 
-pub unchanged_kept : {S : Type 0} (old new : List Sort) (m n : HashMap ℤ Kept S) → AreKnown old (get int_eq m) → IsGrown old new → IsUnchanged m n → positions_in new (get int_eq n) ≡ positions_in old (get int_eq m)
+pub unchanged_kept : {S : Type 0} (old new : List Sort) (m n : HashMap ℤ SharedPosition S) → AreKnown old (get int_eq m) → IsGrown old new → IsUnchanged m n → positions_in new (get int_eq n) ≡ positions_in old (get int_eq m)
 unchanged_kept old new m n known grown same =
     let stays = positions_in-grown old new (get int_eq m) grown known in
     let entries : positions_in new (get int_eq n) ≡ positions_in new (get int_eq m) = ap (λ es. positions_in new (λ q. lookup (int_eq q) es)) same in

@@ -57,13 +57,13 @@ pub mod LegalBytes
 pub mod Following
 pub mod Steps
 pub mod Running
-pub mod SizesFall
 pub mod Same
 pub mod Copies
 pub mod Tables
 pub mod KeptPositions
 pub mod SubtreeSteps
 pub mod Fitting
+pub mod Rounds
 pub mod GoingOn
 pub mod Compilable
 pub mod Adding

@@ -7,7 +7,7 @@ use Rattle.archive_check.specs.Shape.{Shape, one}
 use Rattle.archive_check.specs.Value.{Pointer, Value, Values, hole, shared_value, value, pointers, all_pointers}
 use Rattle.archive_check.specs.Reads.{Schema}
 use Rattle.archive_check.specs.Tour.{Region, Contents, Entry, Seen, entry, Tour, tour_end, tour_unique, tour_new, tour_again}
-use Rattle.archive_check.specs.Denotes.{Meaning, Fills, fills_number, fills_product, fills_case, fills_list, fills_text, fills_box, fills_null, fills_shared_value, fills_unique, fills_shared, FillsAll, fills_no_value, fills_value, Knows, Denotes}
+use Rattle.archive_check.specs.Denotes.{Meaning, Fills, fills_number, fills_product, fills_case, fills_list, fills_text, fills_box, fills_null, fills_shared_value, fills_unique, fills_shared, FillsAll, fills_no_value, fills_value, IsSharedValue, Denotes}
 use Rattle.archive_check.specs.Reached.{Names, names_itself, names_product, names_case, names_list, names_box, NamesAmong, names_first, names_later, LeadsTo, leads_at_once, leads_through, ReachedMeaning}
 use Rattle.archive_check.proofs.Determined.{contents_one_value}
 use Rattle.archive_check.proofs.Denoted.{fill, tour_fills, fills_one}
@@ -44,12 +44,12 @@ module _ (s : Schema) (bytes : List ℕ) where
     pub fills : Fills s bytes read filled
     pub known : get shared t ≡ Some (e, filled)
 
-  says_at : (shared : Shared) (t : ℕ) (e : Entry) (seen : Option Entry) → Knows s bytes t seen (get shared t) → seen ≡ Some e → Says shared t e
+  says_at : (shared : Shared) (t : ℕ) (e : Entry) (seen : Option Entry) → IsSharedValue s bytes t seen (get shared t) → seen ≡ Some e → Says shared t e
   says_at shared t e None k is = let never : ⊥ = cc in absurd never
   says_at shared t e (Some f) (v, w, c, g, k) is = let same : f ≡ e = cc in rw (← same) (record { read = v; filled = w; contents = c; fills = g; known = k })
 
   -- and it was seen, where the map has an entry
-  seen_at : (shared : Shared) (t : ℕ) (e : Entry) (w : Value) (seen : Option Entry) → Knows s bytes t seen (get shared t) → get shared t ≡ Some (e, w) → seen ≡ Some e
+  seen_at : (shared : Shared) (t : ℕ) (e : Entry) (w : Value) (seen : Option Entry) → IsSharedValue s bytes t seen (get shared t) → get shared t ≡ Some (e, w) → seen ≡ Some e
   seen_at shared t e w None k is = let never : ⊥ = cc in absurd never
   seen_at shared t e w (Some f) (v, x, c, g, k) is = let same : Some (f, x) ≡ Some (e, w) = sym k ∙ is in ap (λ z. Some (z.0)) (same_some same)
 

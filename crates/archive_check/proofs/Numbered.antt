@@ -5,8 +5,8 @@ use Rattle.archive_check.specs.declared.growing.Known.{Known}
 use Rattle.archive_check.specs.Shape.{Name, Shape, definition}
 use Rattle.archive_check.specs.Expressions.{shape_of, entries_of}
 use Rattle.archive_check.specs.Runs.{IsAt}
-use Rattle.archive_check.specs.Growing.{node_of}
-use Rattle.archive_check.specs.Counts.{count_of}
+use Rattle.archive_check.specs.PlanGrowth.{node_of}
+use Rattle.archive_check.specs.NodeCounts.{count_of}
 use Rattle.archive_check.specs.Numbered.{def_shapes, start_of, FirstAt, IsRootOf, RootIs, IsNumbered}
 use Rattle.archive_check.specs.Compilable.{Can}
 use Rattle.archive_check.specs.Planned.{DefsInOrder, InOrder, CanChain}

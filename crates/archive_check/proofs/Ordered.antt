@@ -4,7 +4,8 @@ use Rattle.std.proofs.lemmas.List.Elements.{Contains-append_left, Contains-push,
 use Rattle.std.proofs.lemmas.Slice.Eq.{bytes_eq-Decides}
 use Rattle.archive_check.specs.Shape.{Name, Shape, parts, choice, array, named, Parts, no_part, part, Variants, no_variant, variant, Table, definition}
 use Rattle.archive_check.specs.Layout.{Solves}
-use Rattle.archive_check.specs.Defined.{Holds, holds_name, holds_parts, holds_choice, holds_array, PartsHold, holds_first, holds_later, VariantsHold, holds_variant, holds_other, mentions_held, Reaches, WellFormed, Ranked, rounds}
+use Rattle.archive_check.specs.Defined.{Holds, holds_name, holds_parts, holds_choice, holds_array, PartsHold, holds_first, holds_later, VariantsHold, holds_variant, holds_other, mentions_held, Reaches, WellFormed}
+use Rattle.archive_check.proofs.Rounds.{Ranked, rounds}
 use Rattle.archive_check.proofs.Descent.{contains_cases, contains_first, contains_later, Rest, rest_of, DefinitionHolds, LeadsTo, OneComesBack, one_comes_back}
 use Rattle.archive_check.proofs.Placed.{Placed, placed, placed_later, placed_never, placed_solved, reaches_next, names_of, defined_named, named_defined}
 

@@ -3,7 +3,8 @@ use Rattle.std.proofs.Common.{◌≡◌, ⊎_elim, ℕ, zero, suc, ◌≤◌, Li
 use Rattle.std.proofs.lemmas.Slice.Eq.{bytes_eq-Decides}
 use Rattle.archive_check.specs.Shape.{Name, Shape, Table, definition}
 use Rattle.archive_check.specs.Layout.{Layouts, layout}
-use Rattle.archive_check.specs.Defined.{Holds, Mentions, mentions_held, Reaches, reaches, reaches_through, HeldIn, held, held_through, WellFormed, layout_or, rounds, SolvesReached}
+use Rattle.archive_check.specs.Defined.{Holds, Mentions, mentions_held, Reaches, reaches, reaches_through, HeldIn, held, held_through, WellFormed, SolvesReached}
+use Rattle.archive_check.proofs.Rounds.{layout_or, rounds}
 use Rattle.archive_check.proofs.Layouts.{layout_same}
 use Rattle.archive_check.proofs.Descent.{contains_cases, contains_first, contains_later, DefinitionHolds, LeadsTo, by_descent}
 

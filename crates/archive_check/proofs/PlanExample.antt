@@ -18,8 +18,8 @@ use Rattle.archive_check.specs.Reads.{Schema}
 use Rattle.archive_check.specs.Expressions.{flavor_of}
 use Rattle.archive_check.specs.Runs.{IsAt, Takes}
 use Rattle.archive_check.specs.Closed.{span, PartsWithin, JobFits, SpanFits, IsClosed}
-use Rattle.archive_check.specs.Represents.{Stands, stands, stands_named, PartsStand, parts_over, parts_more, Sized, points_one, Made, made_leaf, made_choice, made_boxed, made_shared}
-use Rattle.archive_check.specs.Exact.{PlanOf}
+use Rattle.archive_check.specs.Represents.{StandsFor, stands, stands_named, PartsStand, parts_over, parts_more, Sized, points_one, Made, made_leaf, made_choice, made_boxed, made_shared}
+use Rattle.archive_check.specs.PlanChecks.{PlanOf}
 
 module _ (name : Bor (List ℕ)) (flavor : FlavorInfo) where
   abbrev own : Parts
@@ -107,7 +107,7 @@ module _ (name : Bor (List ℕ)) (flavor : FlavorInfo) where
     defined : definition lists.table name.now ≡ Some (choice name.now either)
     defined = let same : bytes_eq name.now name.now ≡ true = (bytes_eq-Decides name.now name.now).1 refl in rw same refl
 
-    list_stands : Stands lists shape_at (named name.now) 3
+    list_stands : StandsFor lists shape_at (named name.now) 3
     list_stands = stands_named defined (stands refl)
 
     variant_stands : (tag : ℕ) (x : Span) → 0 + tag < 3 → IsAt m.variants.now (0 + tag) x → (ps : Parts) × (variant_at either tag ≡ Some ps) × PartsStand lists shape_at m x.first x.last 1 ps

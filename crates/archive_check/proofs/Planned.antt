@@ -9,19 +9,18 @@ use Rattle.archive_check.specs.declared.growing.Known.{Known}
 use Rattle.archive_check.specs.Shape.{Name, Shape, leaf, unit, named, definition}
 use Rattle.archive_check.specs.Layout.{Layouts, layout, size_of, align_of}
 use Rattle.archive_check.specs.Expressions.{shape_of, entries_of}
-use Rattle.archive_check.specs.Counts.{count_of}
+use Rattle.archive_check.specs.NodeCounts.{count_of}
 use Rattle.archive_check.specs.Reads.{Schema, LaidOut}
 use Rattle.archive_check.specs.Runs.{IsAt}
-use Rattle.archive_check.specs.Represents.{Stands, stands, stands_named, Sized, points_one}
-use Rattle.archive_check.specs.Fitting.{fits}
-use Rattle.archive_check.specs.Growing.{node_of, Lists, lists_of, Grows}
-use Rattle.archive_check.specs.Queued.{Wait, Waits, wait_shapes, Reserved}
+use Rattle.archive_check.specs.Represents.{StandsFor, stands, stands_named, Sized, points_one}
+use Rattle.archive_check.specs.BoundedSizes.{fits}
+use Rattle.archive_check.specs.PlanGrowth.{node_of, PlanLists, lists_of, Grows}
+use Rattle.archive_check.specs.CompileQueue.{Wait, Waits, wait_shapes, Reserved}
 use Rattle.archive_check.specs.Compilable.{Can}
-use Rattle.archive_check.specs.Compiled.{Follows, Below, Knows, Settled, Given, ClosedTo, MadeTo, Compiled}
-use Rattle.archive_check.specs.Numbered.{def_shapes, start_of, FirstAt, IsRootOf, IsNumbered}
-use Rattle.archive_check.specs.Planned.{IsOf, IsPlan, HasNames, InOrder, Kept, Chained, CanFinish, Finishes}
+use Rattle.archive_check.specs.Compiled.{Follows, Below, NamesSized, Settled, Given, ClosedTo, MadeTo, Compiled}
+use Rattle.archive_check.specs.Numbered.{def_shapes, start_of, FirstAt, IsNumbered}
+use Rattle.archive_check.specs.Planned.{IsOf, IsPlan, HasNames, InOrder, CompiledFrom, Chained, CanFinish, Finishes}
 use Rattle.archive_check.proofs.GoingOn.{same_get, same_at, same_goes, some_at, at_more, at_behind, at_end, goes_longer, grows_trans}
-use Rattle.archive_check.proofs.Adding.{given_first, given_second, stands_of}
 use Rattle.archive_check.proofs.Numbered.{def_at, def_count, can_chain, can_root, all_before, start_next, start_later, start_prefix, start_behind, first_at, definition_is, numbered_known}
 use Rattle.archive_check.proofs.Chained.{root_same, compiled_same, chained_next}
 
@@ -44,16 +43,16 @@ wait_node base (y ∷ ws) next r (suc k) x h =
     let q = wait_node (base + count_of y.shape) ws next r.2 k x (record { below = omega (arith, h.below); is = h.is }) in (omega (arith, q.0), omega (arith, q.1))
 
 -- what was compiled and is no name stands for its shape
-kept_stands : {names : List Known} {X : Shape} {start : ℕ} {w : Waits} {b : Lists} {gives : List Shape} {s : Schema} {shapes : ℕ → Shape} {j : ℕ} → (c : Kept names X start w b gives) → Given shapes 0 gives
-    → j ≡ c.node → j + 1 ≡ start + count_of X → start ≤ j → Stands s shapes X j
+kept_stands : {names : List Known} {X : Shape} {start : ℕ} {w : Waits} {b : PlanLists} {gives : List Shape} {s : Schema} {shapes : ℕ → Shape} {j : ℕ} → (c : CompiledFrom names X start w b gives) → Given shapes 0 gives
+    → j ≡ c.node → j + 1 ≡ start + count_of X → start ≤ j → StandsFor s shapes X j
 kept_stands {X = X} {s = s} {shapes = shapes} c given same last from = ⊎_elim
     (λ w. absurd (omega (arith, last, from, ap count_of w.1)))
-    (λ w. subst (λ i. Stands s shapes X i) (sym same) (stands (w.2 shapes (c.given shapes given))))
+    (λ w. subst (λ i. StandsFor s shapes X i) (sym same) (stands (w.2 shapes (c.given shapes given))))
     c.compiled.root
 
-root_stands : {names : List Known} {X : Shape} {start : ℕ} {w : Waits} {ws : List Wait} {b : Lists} {gives : List Shape} {s : Schema} {shapes : ℕ → Shape} {m : Checker} → (c : Kept names X start w b gives) → Settled names ws s shapes m → Given shapes 0 gives → Stands s shapes X c.node
+root_stands : {names : List Known} {X : Shape} {start : ℕ} {w : Waits} {ws : List Wait} {b : PlanLists} {gives : List Shape} {s : Schema} {shapes : ℕ → Shape} {m : Checker} → (c : CompiledFrom names X start w b gives) → Settled names ws s shapes m → Given shapes 0 gives → StandsFor s shapes X c.node
 root_stands {s = s} {shapes = shapes} c t given = ⊎_elim
-    (λ h. subst (λ Y. Stands s shapes Y c.node) (sym h.1) (t.stand h.0 c.node h.2))
+    (λ h. subst (λ Y. StandsFor s shapes Y c.node) (sym h.1) (t.stand h.0 c.node h.2))
     (λ h. stands (h.2 shapes (c.given shapes given)))
     c.compiled.root
 
@@ -61,7 +60,7 @@ root_stands {s = s} {shapes = shapes} c t given = ⊎_elim
 abbrev all_shapes : List Def → Shape → Waits → List Shape
 all_shapes defs X w = (def_shapes defs ++ X ∷ []) ++ wait_shapes w.items
 
-module _ {names : List Known} {defs : List Def} {w : Waits} {base : ℕ} {b : Lists} (X : Shape)
+module _ {names : List Known} {defs : List Def} {w : Waits} {base : ℕ} {b : PlanLists} (X : Shape)
     (num : IsNumbered defs names (length defs)) (chain : Chained names (all_shapes defs X w) base w b) (base_is : base ≡ start_of (def_shapes defs) (length defs) + count_of X) where
   front_count : length (def_shapes defs ++ X ∷ []) ≡ length defs + 1
   front_count = length-append (def_shapes defs) (X ∷ []) ∙ ap (λ n. n + 1) (def_count defs)
@@ -85,16 +84,16 @@ module _ {names : List Known} {defs : List Def} {w : Waits} {base : ℕ} {b : Li
   wait_start k = start_behind (def_shapes defs ++ X ∷ []) (wait_shapes w.items) k ∙ ap (λ n. n + start_of (wait_shapes w.items) k) front_start
 
   -- each, as it was compiled
-  def_kept : (i : ℕ) (d : Def) → IsAt defs i d → Kept names (shape_of d.expr) (start_of (def_shapes defs) i) w b chain.gives
+  def_kept : (i : ℕ) (d : Def) → IsAt defs i d → CompiledFrom names (shape_of d.expr) (start_of (def_shapes defs) i) w b chain.gives
   def_kept i d at =
       let there : IsAt (all_shapes defs X w) i (shape_of d.expr) = at_more (record { more = wait_shapes w.items; is = refl }) (at_more (record { more = X ∷ []; is = refl }) (def_at defs i at)) in
-      subst (λ n. Kept names (shape_of d.expr) n w b chain.gives) (def_start i (omega (arith, at.below))) (chain.each i (shape_of d.expr) there)
+      subst (λ n. CompiledFrom names (shape_of d.expr) n w b chain.gives) (def_start i (omega (arith, at.below))) (chain.each i (shape_of d.expr) there)
 
-  root_kept : Kept names X (start_of (def_shapes defs) (length defs)) w b chain.gives
-  root_kept = subst (λ n. Kept names X n w b chain.gives) (def_start (length defs) (omega arith)) (chain.each (length defs) X root_at)
+  root_kept : CompiledFrom names X (start_of (def_shapes defs) (length defs)) w b chain.gives
+  root_kept = subst (λ n. CompiledFrom names X n w b chain.gives) (def_start (length defs) (omega arith)) (chain.each (length defs) X root_at)
 
-  wait_kept : (k : ℕ) (x : Wait) → IsAt w.items k x → Kept names x.shape (base + start_of (wait_shapes w.items) k) w b chain.gives
-  wait_kept k x at = subst (λ n. Kept names x.shape n w b chain.gives) (wait_start k) (chain.each (length (def_shapes defs ++ X ∷ []) + k) x.shape (at_behind (def_shapes defs ++ X ∷ []) k (wait_at w.items k x at)))
+  wait_kept : (k : ℕ) (x : Wait) → IsAt w.items k x → CompiledFrom names x.shape (base + start_of (wait_shapes w.items) k) w b chain.gives
+  wait_kept k x at = subst (λ n. CompiledFrom names x.shape n w b chain.gives) (wait_start k) (chain.each (length (def_shapes defs ++ X ∷ []) + k) x.shape (at_behind (def_shapes defs ++ X ∷ []) k (wait_at w.items k x at)))
 
   -- what waits has its node
   wait_place : (k : ℕ) (x : Wait) → IsAt w.items k x → (x.node + 1 ≡ base + start_of (wait_shapes w.items) k + count_of x.shape) × (base + start_of (wait_shapes w.items) k ≤ x.node)
@@ -161,7 +160,7 @@ module _ {names : List Known} {defs : List Def} {w : Waits} {base : ℕ} {b : Li
           let e : q ≡ p = omega (arith, lt, h) in
           let c = def_kept q d at in
           let old : AreLaid p = all_laid p (omega arith) in
-          let known : Knows names s.layouts (length c.before.nodes) m = λ name j n below.
+          let known : NamesSized names s.layouts (length c.before.nodes) m = λ name j n below.
           let f = first_at names name j n in name_sized p old (suc f.0) name f.0 j (omega arith) f.1 (omega (arith, below, c.starts, ap (start_of (def_shapes defs)) e)) in
           let same : k.node ≡ c.node = root_same q (start_of (def_shapes defs) q) (shape_of d.expr) k.node c.compiled c.starts (num.root_is q d k at kt) in
           node_sized (sym same) (c.compiled.lays m s.layouts (grows_trans c.grows g) known))
@@ -173,15 +172,15 @@ module _ {names : List Known} {defs : List Def} {w : Waits} {base : ℕ} {b : Li
           name_sized (length defs) (all_laid (length defs) (omega arith)) (suc f.0) name f.0 j (omega arith) f.1 (names_below (suc f.0) name f.0 j (omega arith) f.1)
 
       module _ (shapes : ℕ → Shape) (given : Given shapes 0 chain.gives) where
-        name_stands : (r : ℕ) (name : Name) (q j : ℕ) → q < r → FirstAt names name q j → Stands s shapes (named name) j
+        name_stands : (r : ℕ) (name : Name) (q j : ℕ) → q < r → FirstAt names name q j → StandsFor s shapes (named name) j
         name_stands zero name q j lt f = absurd (omega (arith, lt))
         name_stands (suc r) name q j lt f =
             let d = defined_at f in
             let is = definition_at f d.0 d.1 in
             let c = def_kept q d.0 d.1 in
             let same = root_same q (start_of (def_shapes defs) q) (shape_of d.0.expr) f.known.node c.compiled c.starts (num.root_is q d.0 f.known d.1 f.at) in
-            subst (λ i. Stands s shapes (named name) i) f.node_is (⊎_elim
-            (λ k. stands_named is (subst (λ Y. Stands s shapes Y f.known.node) (sym k.1) (name_stands r k.0 k.2.0 f.known.node (omega (arith, lt, k.2.1)) k.2.2)))
+            subst (λ i. StandsFor s shapes (named name) i) f.node_is (⊎_elim
+            (λ k. stands_named is (subst (λ Y. StandsFor s shapes Y f.known.node) (sym k.1) (name_stands r k.0 k.2.0 f.known.node (omega (arith, lt, k.2.1)) k.2.2)))
             (λ k. stands_named is (kept_stands c given same k.0 k.1))
             (num.root_is q d.0 f.known d.1 f.at))
 
@@ -205,7 +204,7 @@ plan_follows : (m : Checker) (plan : Plan) → IsOf m plan → Follows (lists_of
 plan_follows m plan o = record { nodes = same_goes o.nodes; parts = same_goes o.parts; variants = same_goes o.variants; sorts = same_goes o.sorts }
 
 -- the plan of all
-pub planned : {names : List Known} {defs : List Def} {w v u : Waits} {base j : ℕ} {b c : Lists} (X : Shape) (plan : Plan) → IsNumbered defs names (length defs) → Chained names (all_shapes defs X w) base w (lists_of plan)
+pub planned : {names : List Known} {defs : List Def} {w v u : Waits} {base j : ℕ} {b c : PlanLists} (X : Shape) (plan : Plan) → IsNumbered defs names (length defs) → Chained names (all_shapes defs X w) base w (lists_of plan)
     → base ≡ start_of (def_shapes defs) (length defs) + count_of X
     → Compiled names (length b.nodes) X v u b c j → length b.nodes ≡ start_of (def_shapes defs) (length defs) → Grows c (lists_of plan) → IsPlan defs X plan j
 planned {defs = defs} {w = w} {base = base} {j = j} {b = b} X plan num chain base_is root starts grows =
@@ -229,7 +228,7 @@ planned {defs = defs} {w = w} {base = base} {j = j} {b = b} X plan num chain bas
             shapes = shapes;
             represents = record { made = λ i node z at e. all.made i node z (omega (arith, at.below, ap length o.nodes)) at e };
             points = points_one (root.lays m s.layouts (grows_trans grows g) (λ name i n below. t.sized name i n))
-                (subst (λ i. Stands s shapes X i) (sym same) (root_stands kept t given));
+                (subst (λ i. StandsFor s shapes X i) (sym same) (root_stands kept t given));
           };
     }
 
@@ -257,7 +256,7 @@ names_planned {names} {defs} X plan num chain base_is =
     }
 
 -- the definitions, then the root, then what waits
-pub all_planned : {names : List Known} {defs : List Def} {v u w : Waits} {base j : ℕ} {b c : Lists} (X : Shape) (plan : Plan) → IsNumbered defs names (length defs) → Chained names (def_shapes defs) base v b
+pub all_planned : {names : List Known} {defs : List Def} {v u w : Waits} {base j : ℕ} {b c : PlanLists} (X : Shape) (plan : Plan) → IsNumbered defs names (length defs) → Chained names (def_shapes defs) base v b
     → base ≡ start_of (def_shapes defs) (length defs) + count_of X → Compiled names (length b.nodes) X v u b c j → Finishes names u w c (lists_of plan) → IsPlan defs X plan j
 all_planned {defs = defs} {base = base} X plan num chain base_is root rest =
     let front = chained_next chain root in
@@ -265,19 +264,19 @@ all_planned {defs = defs} {base = base} X plan num chain base_is root rest =
     planned X plan num (rest.chained (def_shapes defs ++ X ∷ []) base front) base_is root (omega (arith, chain.adds.count, chain.gives_count, starts)) rest.grows
 
 -- where the definitions are in order, the root can be compiled behind them, and then all that waits
-module _ {names : List Known} {defs : List Def} {base : ℕ} {v : Waits} {b : Lists} {X : Shape} (num : IsNumbered defs names (length defs)) (chain : Chained names (def_shapes defs) base v b) (o : InOrder defs X) where
+module _ {names : List Known} {defs : List Def} {base : ℕ} {v : Waits} {b : PlanLists} {X : Shape} (num : IsNumbered defs names (length defs)) (chain : Chained names (def_shapes defs) base v b) (o : InOrder defs X) where
   root_begins : length b.nodes ≡ start_of (def_shapes defs) (length defs)
   root_begins = let starts = ap (start_of (def_shapes defs)) (def_count defs) in omega (arith, chain.adds.count, chain.gives_count, starts)
 
   pub root_can : {done : ℕ} → done ≡ length b.nodes → Can names done X
   root_can e = subst (λ n. Can names n X) (sym (e ∙ root_begins)) (can_root num o)
 
-  pub finish_can : {u : Waits} {c : Lists} {j : ℕ} → Compiled names (length b.nodes) X v u b c j → CanFinish names u c
+  pub finish_can : {u : Waits} {c : PlanLists} {j : ℕ} → Compiled names (length b.nodes) X v u b c j → CanFinish names u c
   finish_can root = record {
     known = root.known (chain.all_known (can_chain num o.definitions)) (root_can refl);
     below = λ name j e. omega (arith, all_before num name j e, root_begins, goes_longer root.adds.grows.nodes);
   }
 
-pub all_named : {names : List Known} {defs : List Def} {v u w : Waits} {base j : ℕ} {b c : Lists} (X : Shape) (plan : Plan) → IsNumbered defs names (length defs) → Chained names (def_shapes defs) base v b
+pub all_named : {names : List Known} {defs : List Def} {v u w : Waits} {base j : ℕ} {b c : PlanLists} (X : Shape) (plan : Plan) → IsNumbered defs names (length defs) → Chained names (def_shapes defs) base v b
     → base ≡ start_of (def_shapes defs) (length defs) + count_of X → Compiled names (length b.nodes) X v u b c j → Finishes names u w c (lists_of plan) → HasNames defs names plan
 all_named {defs = defs} {base = base} X plan num chain base_is root rest = names_planned X plan num (rest.chained (def_shapes defs ++ X ∷ []) base (chained_next chain root)) base_is

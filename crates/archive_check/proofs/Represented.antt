@@ -23,11 +23,11 @@ use Rattle.archive_check.specs.Expressions.{kind_of, flavor_of, pointee_of}
 use Rattle.archive_check.specs.Met.{SameType}
 use Rattle.archive_check.specs.Runs.{target_size, count_at, length_of, entry_for, IsAt, IsNode, Takes, RegionIs, Outcome, done, refused, NodeRuns, run_free, run_leaf, run_illegal, run_record, run_choice, run_tag, run_array, run_pointer, run_inline, run_no_text, run_short, run_out_of_line, run_shared, run_null, run_weak, FollowRuns, follow_before, follow_new as runs_new, follow_again as runs_again, follow_type, follow_length, follow_cycle, PartsRun, parts_end, parts_next, parts_stop, ElementsRun, elements_end, elements_next, elements_free, elements_stop, EnterRuns, enter_too_large, enter_outside, enter_unaligned, enter_too_deep, enter_within, enter_stop, ContentsRun, contents_empty, contents_one, contents_run, contents_text, contents_no_text}
 use Rattle.archive_check.specs.Closed.{JobFits, IsClosed}
-use Rattle.archive_check.specs.Represents.{Stands, stands, stands_named, PartsStand, parts_over, parts_more, Sized, Points, points_one, points_run, points_text, Made, made_free, made_leaf, made_record, made_choice, made_array, made_boxed, made_vec, made_str, made_shared, made_weak, Represents, Says}
+use Rattle.archive_check.specs.Represents.{StandsFor, stands, stands_named, PartsStand, parts_over, parts_more, Sized, Points, points_one, points_run, points_text, Made, made_free, made_leaf, made_record, made_choice, made_array, made_boxed, made_vec, made_str, made_shared, made_weak, Represents, OutcomeSays}
 use Rattle.archive_check.proofs.Determined.{pos_one}
 use Rattle.archive_check.proofs.PlanSizes.{same_at, take_same, times_some, times_many, sized_takes, element_few, no_product}
 
-pub says_map : {W V : ℕ → Seen → Type 0} {T F : Fault → Type 0} (o : Outcome) → ((a : ℕ) (k : Seen) → W a k → V a k) → ((e : Fault) → T e → F e) → Says W T o → Says V F o
+pub says_map : {W V : ℕ → Seen → Type 0} {T F : Fault → Type 0} (o : Outcome) → ((a : ℕ) (k : Seen) → W a k → V a k) → ((e : Fault) → T e → F e) → OutcomeSays W T o → OutcomeSays V F o
 says_map (done a k) f g h = f a k h
 says_map (refused e) f g h = g e h
 
@@ -94,35 +94,35 @@ abbrev pub sorted : Sort → ℤ → ℕ → Pointer
 sorted sort where_to l = leading (Some (flavor_of sort.flavor)) where_to (pointee_of sort.pointee) l
 
 module _ (s : Schema) (shapes : ℕ → Shape) (m : Checker) where
-  pub stands_walk : {X : Shape} {j : ℕ} {pending : List ℕ} {depth : Option ℕ} {stop p start later : ℕ} {seen last : Seen} → Stands s shapes X j → Walk s m.bytes.now pending depth stop p (shapes j) start seen later last → Walk s m.bytes.now pending depth stop p X start seen later last
+  pub stands_walk : {X : Shape} {j : ℕ} {pending : List ℕ} {depth : Option ℕ} {stop p start later : ℕ} {seen last : Seen} → StandsFor s shapes X j → Walk s m.bytes.now pending depth stop p (shapes j) start seen later last → Walk s m.bytes.now pending depth stop p X start seen later last
   stands_walk (stands e) w = rw e at w
   stands_walk (stands_named d h) w = walk_named d (stands_walk h w)
 
-  pub stands_trips : {X : Shape} {j : ℕ} {pending : List ℕ} {depth : Option ℕ} {stop p start : ℕ} {seen : Seen} {e : Fault} → Stands s shapes X j → Trips s m.bytes.now pending depth stop p (shapes j) start seen e → Trips s m.bytes.now pending depth stop p X start seen e
+  pub stands_trips : {X : Shape} {j : ℕ} {pending : List ℕ} {depth : Option ℕ} {stop p start : ℕ} {seen : Seen} {e : Fault} → StandsFor s shapes X j → Trips s m.bytes.now pending depth stop p (shapes j) start seen e → Trips s m.bytes.now pending depth stop p X start seen e
   stands_trips (stands e) w = rw e at w
   stands_trips (stands_named d h) w = trips_named d (stands_trips h w)
 
   -- what each kind of run says: with each outcome a walk or a fault
   abbrev pub ShapeSays : Shape → List ℕ → Option ℕ → ℕ → ℕ → ℕ → Seen → Outcome → Type 0
-  ShapeSays X pending depth stop p start seen o = Says (Walk s m.bytes.now pending depth stop p X start seen) (Trips s m.bytes.now pending depth stop p X start seen) o
+  ShapeSays X pending depth stop p start seen o = OutcomeSays (Walk s m.bytes.now pending depth stop p X start seen) (Trips s m.bytes.now pending depth stop p X start seen) o
 
   abbrev pub NodeSays : List ℕ → Option ℕ → ℕ → ℕ → ℕ → ℕ → Seen → Outcome → Type 0
   NodeSays pending depth stop i p start seen o = ShapeSays (shapes i) pending depth stop p start seen o
 
   abbrev pub PartsSay : ℕ → Parts → List ℕ → Option ℕ → ℕ → ℕ → ℕ → Seen → Outcome → Type 0
-  PartsSay at ps pending depth stop p start seen o = Says (WalkParts s m.bytes.now pending depth stop p at ps start seen) (TripsParts s m.bytes.now pending depth stop p at ps start seen) o
+  PartsSay at ps pending depth stop p start seen o = OutcomeSays (WalkParts s m.bytes.now pending depth stop p at ps start seen) (TripsParts s m.bytes.now pending depth stop p at ps start seen) o
 
   abbrev pub RunSays : ℕ → Shape → List ℕ → Option ℕ → ℕ → ℕ → ℕ → Seen → Outcome → Type 0
-  RunSays n X pending depth stop p start seen o = Says (WalkRun s m.bytes.now pending depth stop p n X start seen) (TripsRun s m.bytes.now pending depth stop p n X start seen) o
+  RunSays n X pending depth stop p start seen o = OutcomeSays (WalkRun s m.bytes.now pending depth stop p n X start seen) (TripsRun s m.bytes.now pending depth stop p n X start seen) o
 
   abbrev pub FollowSays : Pointer → List ℕ → Option ℕ → ℕ → ℕ → Seen → Outcome → Type 0
-  FollowSays ptr pending depth stop start seen o = Says (Follow s m.bytes.now pending depth stop ptr start seen) (TripsFollow s m.bytes.now pending depth stop ptr start seen) o
+  FollowSays ptr pending depth stop start seen o = OutcomeSays (Follow s m.bytes.now pending depth stop ptr start seen) (TripsFollow s m.bytes.now pending depth stop ptr start seen) o
 
   abbrev pub EnterSays : Pointer → List ℕ → Option ℕ → ℕ → ℕ → Seen → Outcome → Type 0
-  EnterSays ptr pending depth stop start seen o = Says (λ later last. (t : ℕ) × Enter s m.bytes.now pending depth stop ptr t start seen later last) (TripsEnter s m.bytes.now pending depth stop ptr start seen) o
+  EnterSays ptr pending depth stop start seen o = OutcomeSays (λ later last. (t : ℕ) × Enter s m.bytes.now pending depth stop ptr t start seen later last) (TripsEnter s m.bytes.now pending depth stop ptr start seen) o
 
   abbrev pub ContentsSay : Pointee → ℕ → ℕ → List ℕ → Option ℕ → ℕ → Seen → Outcome → Type 0
-  ContentsSay P l t pending depth start seen o = Says (WalkContents s m.bytes.now pending depth t t P l start seen) (TripsContents s m.bytes.now pending depth t t P l start seen) o
+  ContentsSay P l t pending depth start seen o = OutcomeSays (WalkContents s m.bytes.now pending depth t t P l start seen) (TripsContents s m.bytes.now pending depth t t P l start seen) o
 
   made_of : {i z : ℕ} {job : Job} → Represents s shapes m → IsNode m i job → Takes m i z → (size_of s.layouts (shapes i) ≡ z) × Made s shapes m job (shapes i)
   made_of {i = i} {z = z} r h t =
@@ -140,7 +140,7 @@ module _ (s : Schema) (shapes : ℕ → Shape) (m : Checker) where
   record_case : {X : Shape} {a b : ℕ} (pending : List ℕ) (depth : Option ℕ) (stop p start : ℕ) (seen : Seen) (o : Outcome) → Made s shapes m (Record a b) X → ((ps : Parts) → PartsStand s shapes m a b 0 ps → PartsSay 0 ps pending depth stop p start seen o) → ShapeSays X pending depth stop p start seen o
   record_case pending depth stop p start seen o (made_record h) says = says_map o (λ a k w. walk_parts w) (λ e t. trips_parts t) (says _ h)
 
-  part_case : {X : Shape} {j mid : ℕ} {pending : List ℕ} {depth : Option ℕ} {stop start : ℕ} {seen known : Seen} (ps : Parts) (at p : ℕ) (o : Outcome) → Stands s shapes X j → Walk s m.bytes.now pending depth stop (p + up at (align_of s.layouts X)) (shapes j) start seen mid known → PartsSay (up at (align_of s.layouts X) + size_of s.layouts X) ps pending depth stop p mid known o → PartsSay at (part X ps) pending depth stop p start seen o
+  part_case : {X : Shape} {j mid : ℕ} {pending : List ℕ} {depth : Option ℕ} {stop start : ℕ} {seen known : Seen} (ps : Parts) (at p : ℕ) (o : Outcome) → StandsFor s shapes X j → Walk s m.bytes.now pending depth stop (p + up at (align_of s.layouts X)) (shapes j) start seen mid known → PartsSay (up at (align_of s.layouts X) + size_of s.layouts X) ps pending depth stop p mid known o → PartsSay at (part X ps) pending depth stop p start seen o
   part_case ps at p o st w rest = says_map o (λ a k ws. walk_part (stands_walk st w) ws) (λ e t. trips_later (stands_walk st w) t) rest
 
   choice_case : {X : Shape} {a b tag : ℕ} {name : Bor (List ℕ)} {x : Span} (pending : List ℕ) (depth : Option ℕ) (stop p start : ℕ) (seen : Seen) (o : Outcome) → Made s shapes m (Choice name a b) X → tag ≡ slice_index m.bytes.now p → a + tag < b → IsAt m.variants.now (a + tag) x → ((ps : Parts) → PartsStand s shapes m x.first x.last 1 ps → PartsSay 1 ps pending depth stop p start seen o) → ShapeSays X pending depth stop p start seen o
@@ -152,24 +152,24 @@ module _ (s : Schema) (shapes : ℕ → Shape) (m : Checker) where
   tag_case : {X : Shape} {a b p : ℕ} {name : Bor (List ℕ)} {pending : List ℕ} {depth : Option ℕ} {stop start : ℕ} {seen : Seen} → Made s shapes m (Choice name a b) X → b ≤ a + slice_index m.bytes.now p → Trips s m.bytes.now pending depth stop p X start seen (no_such_variant name.now (slice_index m.bytes.now p))
   tag_case (made_choice f g) le = trips_tag (g _ le)
 
-  array_case : {X : Shape} {n j : ℕ} (pending : List ℕ) (depth : Option ℕ) (stop p start : ℕ) (seen : Seen) (o : Outcome) → Made s shapes m (Array n j) X → ((Y : Shape) → Stands s shapes Y j → Takes m j (size_of s.layouts Y) → RunSays n Y pending depth stop p start seen o) → ShapeSays X pending depth stop p start seen o
+  array_case : {X : Shape} {n j : ℕ} (pending : List ℕ) (depth : Option ℕ) (stop p start : ℕ) (seen : Seen) (o : Outcome) → Made s shapes m (Array n j) X → ((Y : Shape) → StandsFor s shapes Y j → Takes m j (size_of s.layouts Y) → RunSays n Y pending depth stop p start seen o) → ShapeSays X pending depth stop p start seen o
   array_case pending depth stop p start seen o (made_array st t) says = says_map o (λ a k w. walk_array w) (λ e t. trips_array t) (says _ st t)
 
   none_case : {X : Shape} {pending : List ℕ} {depth : Option ℕ} {stop p start : ℕ} {seen : Seen} (n : ℕ) → n ≡ 0 → WalkRun s m.bytes.now pending depth stop p n X start seen start seen
   none_case n e = rw e walk_none
 
-  element_case : {X : Shape} {j z mid : ℕ} {pending : List ℕ} {depth : Option ℕ} {stop start : ℕ} {seen known : Seen} (n p : ℕ) (o : Outcome) → 0 < n → Stands s shapes X j → size_of s.layouts X ≡ z → Walk s m.bytes.now pending depth stop p (shapes j) start seen mid known → RunSays (n - 1) X pending depth stop (p + z) mid known o → RunSays n X pending depth stop p start seen o
+  element_case : {X : Shape} {j z mid : ℕ} {pending : List ℕ} {depth : Option ℕ} {stop start : ℕ} {seen known : Seen} (n p : ℕ) (o : Outcome) → 0 < n → StandsFor s shapes X j → size_of s.layouts X ≡ z → Walk s m.bytes.now pending depth stop p (shapes j) start seen mid known → RunSays (n - 1) X pending depth stop (p + z) mid known o → RunSays n X pending depth stop p start seen o
   element_case zero p o lt st e w rest = absurd (omega arith)
   element_case {X = X} (suc n) p o lt st e w rest =
       let less : suc n - 1 ≡ n = omega arith in
       says_map o (λ a k ws. walk_element (stands_walk st w) (rw (less, ← e) at ws)) (λ f t. trips_later_element (stands_walk st w) (rw (less, ← e) at t)) rest
 
-  element_stop_case : {X : Shape} {j : ℕ} {pending : List ℕ} {depth : Option ℕ} {stop start : ℕ} {seen : Seen} {e : Fault} (n p : ℕ) → 0 < n → Stands s shapes X j → Trips s m.bytes.now pending depth stop p (shapes j) start seen e → TripsRun s m.bytes.now pending depth stop p n X start seen e
+  element_stop_case : {X : Shape} {j : ℕ} {pending : List ℕ} {depth : Option ℕ} {stop start : ℕ} {seen : Seen} {e : Fault} (n p : ℕ) → 0 < n → StandsFor s shapes X j → Trips s m.bytes.now pending depth stop p (shapes j) start seen e → TripsRun s m.bytes.now pending depth stop p n X start seen e
   element_stop_case zero p lt st w = absurd (omega arith)
   element_stop_case (suc n) p lt st w = trips_element (stands_trips st w)
 
   -- any bytes are such elements
-  free_run : {X : Shape} {j : ℕ} {pending : List ℕ} {depth : Option ℕ} {stop start : ℕ} {seen : Seen} (n p : ℕ) → Stands s shapes X j → Made s shapes m Free (shapes j) → size_of s.layouts (shapes j) ≡ size_of s.layouts X → p + n * size_of s.layouts X ≤ length m.bytes.now → WalkRun s m.bytes.now pending depth stop p n X start seen start seen
+  free_run : {X : Shape} {j : ℕ} {pending : List ℕ} {depth : Option ℕ} {stop start : ℕ} {seen : Seen} (n p : ℕ) → StandsFor s shapes X j → Made s shapes m Free (shapes j) → size_of s.layouts (shapes j) ≡ size_of s.layouts X → p + n * size_of s.layouts X ≤ length m.bytes.now → WalkRun s m.bytes.now pending depth stop p n X start seen start seen
   free_run zero p st made e room = walk_none
   free_run {X = X} (suc n) p st made e room = walk_element (stands_walk st (free_case made (omega (arith, e)))) (free_run n (p + size_of s.layouts X) st made e (omega arith))
 
@@ -292,7 +292,7 @@ module _ (s : Schema) (shapes : ℕ → Shape) (m : Checker) where
   run_case : (X : Shape) (pending : List ℕ) (depth : Option ℕ) (t start : ℕ) (seen : Seen) (l : ℕ) (o : Outcome) → RunSays l X pending depth t t start seen o → ContentsSay (run X) l t pending depth start seen o
   run_case X pending depth t start seen l o h = says_map o (λ a k w. walk_run w) (λ e t. trips_run t) h
 
-  one_case : {X : Shape} {j : ℕ} (pending : List ℕ) (depth : Option ℕ) (t start : ℕ) (seen : Seen) (l : ℕ) (o : Outcome) → Stands s shapes X j → NodeSays pending depth t j t start seen o → ContentsSay (one X) l t pending depth start seen o
+  one_case : {X : Shape} {j : ℕ} (pending : List ℕ) (depth : Option ℕ) (t start : ℕ) (seen : Seen) (l : ℕ) (o : Outcome) → StandsFor s shapes X j → NodeSays pending depth t j t start seen o → ContentsSay (one X) l t pending depth start seen o
   one_case pending depth t start seen l o st h = says_map o (λ a k w. walk_one (stands_walk st w)) (λ e t. trips_one (stands_trips st t)) h
 
   -- what takes nothing is there
@@ -302,18 +302,18 @@ module _ (s : Schema) (shapes : ℕ → Shape) (m : Checker) where
       leaf_case (rw is at made) (record { size = empty_length m.bytes.now p (kind_size (kind_of kind)) none; number = empty_number (kind_of kind) (kind_number (kind_of kind) (bytes_at m.bytes.now p (kind_size (kind_of kind)))) none })
 
   module _ (r : Represents s shapes m) (closed : IsClosed m) where
-    empty_walk : {X : Shape} {j align : ℕ} {pending : List ℕ} {depth : Option ℕ} {stop p start : ℕ} {seen : Seen} → Stands s shapes X j → Sized m j (size_of s.layouts X) align → size_of s.layouts X ≡ 0 → p ≤ length m.bytes.now → Walk s m.bytes.now pending depth stop p X start seen start seen
+    empty_walk : {X : Shape} {j align : ℕ} {pending : List ℕ} {depth : Option ℕ} {stop p start : ℕ} {seen : Seen} → StandsFor s shapes X j → Sized m j (size_of s.layouts X) align → size_of s.layouts X ≡ 0 → p ≤ length m.bytes.now → Walk s m.bytes.now pending depth stop p X start seen start seen
     empty_walk {j = j} st k e room =
         let t = sized_takes k (omega (arith, e)) in
         let size_is = t.size_is ∙ ap Some e in
         let made = r.made j t.node 0 t.at size_is in
         stands_walk st (empty_node t.node.job (empty_job m j t.node.job (closed.fits j t.node 0 t.at size_is)) made.1 (omega (arith, made.0, room)))
 
-    empty_run : {X : Shape} {j align : ℕ} {pending : List ℕ} {depth : Option ℕ} {stop start : ℕ} {seen : Seen} (n p : ℕ) → Stands s shapes X j → Sized m j (size_of s.layouts X) align → size_of s.layouts X ≡ 0 → p ≤ length m.bytes.now → WalkRun s m.bytes.now pending depth stop p n X start seen start seen
+    empty_run : {X : Shape} {j align : ℕ} {pending : List ℕ} {depth : Option ℕ} {stop start : ℕ} {seen : Seen} (n p : ℕ) → StandsFor s shapes X j → Sized m j (size_of s.layouts X) align → size_of s.layouts X ≡ 0 → p ≤ length m.bytes.now → WalkRun s m.bytes.now pending depth stop p n X start seen start seen
     empty_run zero p st k e room = walk_none
     empty_run (suc n) p st k e room = walk_element (empty_walk st k e room) (empty_run n _ st k e (omega (arith, e)))
 
-    empty_some : {X : Shape} {j align : ℕ} {pending : List ℕ} {depth : Option ℕ} {stop start : ℕ} {seen : Seen} (n p : ℕ) → Stands s shapes X j → Sized m j (size_of s.layouts X) align → n * size_of s.layouts X ≡ 0 → p ≤ length m.bytes.now → WalkRun s m.bytes.now pending depth stop p n X start seen start seen
+    empty_some : {X : Shape} {j align : ℕ} {pending : List ℕ} {depth : Option ℕ} {stop start : ℕ} {seen : Seen} (n p : ℕ) → StandsFor s shapes X j → Sized m j (size_of s.layouts X) align → n * size_of s.layouts X ≡ 0 → p ≤ length m.bytes.now → WalkRun s m.bytes.now pending depth stop p n X start seen start seen
     empty_some zero p st k e room = walk_none
     empty_some {X = X} (suc n) p st k e room = empty_run (suc n) p st k (no_product (suc n) (size_of s.layouts X) e (omega arith)) room
 
@@ -364,7 +364,7 @@ module _ (s : Schema) (shapes : ℕ → Shape) (m : Checker) where
           let w = node_says v (rw (← ap (λ q. q.node) same) at t) room in
           trips_first (stands_trips st (rw (same, off) at w))
 
-      pub elements_say : {X : Shape} {pending : List ℕ} {depth : Option ℕ} {stop j n p start : ℕ} {seen : Seen} {o : Outcome} → ElementsRun m pending depth stop j n p start seen o → Stands s shapes X j → Takes m j (size_of s.layouts X) → stop ≤ length m.bytes.now → RunSays n X pending depth stop p start seen o
+      pub elements_say : {X : Shape} {pending : List ℕ} {depth : Option ℕ} {stop j n p start : ℕ} {seen : Seen} {o : Outcome} → ElementsRun m pending depth stop j n p start seen o → StandsFor s shapes X j → Takes m j (size_of s.layouts X) → stop ≤ length m.bytes.now → RunSays n X pending depth stop p start seen o
       elements_say (elements_end {n = n} e) st t le = none_case n e
       elements_say (elements_next {n = n} {p = p} {o = o} lt t' v vs) st t le =
           element_case n p o lt st (take_same t t') (node_says v t le) (elements_say vs st t le)

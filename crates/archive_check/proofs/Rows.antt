@@ -14,11 +14,11 @@ use Rattle.archive_check.specs.Layout.{Layouts, up, size_of, align_of, parts_end
 use Rattle.archive_check.specs.Reads.{Schema}
 use Rattle.archive_check.specs.Runs.{IsAt, IsNode, Takes}
 use Rattle.archive_check.specs.Closed.{SpanFits}
-use Rattle.archive_check.specs.Represents.{Stands, PartsStand, parts_over, parts_more}
-use Rattle.archive_check.specs.Fitting.{fits, rounded, sum_of, greater_of}
-use Rattle.archive_check.specs.Queued.{Waits}
-use Rattle.archive_check.specs.Growing.{Lists, IsPlaced, IsListed, PartsLaid, SpansLaid}
-use Rattle.archive_check.specs.Compiled.{Follows, Knows, Settled, Given, Compiled, PartFits, RowIs, CompiledParts, IsVariant, SpansAre, CompiledVariants}
+use Rattle.archive_check.specs.Represents.{StandsFor, PartsStand, parts_over, parts_more}
+use Rattle.archive_check.specs.BoundedSizes.{fits, rounded, sum_of, greater_of}
+use Rattle.archive_check.specs.CompileQueue.{Waits}
+use Rattle.archive_check.specs.PlanGrowth.{PlanLists, IsPlaced, IsListed, PartsLaid, SpansLaid}
+use Rattle.archive_check.specs.Compiled.{Follows, NamesSized, Settled, Given, Compiled, IsPartWithin, RowIs, CompiledParts, IsVariant, SpansAre, CompiledVariants}
 use Rattle.archive_check.proofs.Fitting.{fits_some, some_is, rounded_fits, rounded_some, sum_fits, sum_some, greater_fits, greater_some}
 use Rattle.archive_check.proofs.GoingOn.{at_more, at_less, at_last, at_end, same_at, goes_longer, grows_trans, extended_grows, part_at, part_of, span_of}
 use Rattle.archive_check.proofs.Adding.{given_first, given_second, settled_less, knows_settled, adds_refl, adds_trans, adds_same, stands_of}
@@ -38,7 +38,7 @@ ends_positive l no_variant = omega arith
 ends_positive l (variant ps vs) = omega (arith, ends_positive l vs)
 
 -- no part yet
-pub row_start : {names : List Known} {done : ℕ} (start : ℕ) {v : Waits} {a : Lists} (ps : Parts) (row : List PlanPart) (end : Option ℕ) (align : ℕ) (free : Bool) → start < 18446744073709551616 → row ≡ [] → end ≡ Some start → align ≡ 1
+pub row_start : {names : List Known} {done : ℕ} (start : ℕ) {v : Waits} {a : PlanLists} (ps : Parts) (row : List PlanPart) (end : Option ℕ) (align : ℕ) (free : Bool) → start < 18446744073709551616 → row ≡ [] → end ≡ Some start → align ≡ 1
     → RowIs names done start ps ps v v a a row end align free
 row_start {names = names} start {v = v} {a = a} ps row end align free few none e one = record {
   gives = [];
@@ -57,7 +57,7 @@ row_start {names = names} start {v = v} {a = a} ps row end align free few none e
       subst (λ f. PartsStand s shapes m f last start ps) here (subst (λ w. PartsStand s shapes m (first + length row) last w ps) (sym same) rest);
 }
 
-module _ {names : List Known} {done start : ℕ} {all rest : Parts} {v w u : Waits} {a b c : Lists} {X : Shape} {row next : Row} {node : ℕ} {here : Node}
+module _ {names : List Known} {done start : ℕ} {all rest : Parts} {v w u : Waits} {a b c : PlanLists} {X : Shape} {row next : Row} {node : ℕ} {here : Node}
     (r : RowIs names done start all (part X rest) v w a b row.parts.items row.extent.end row.extent.align row.free) (f : Compiled names done X w u b c node) (at : IsAt c.nodes node here) (p : IsPlaced node here row next) where
   longer : length next.parts.items ≡ length row.parts.items + 1
   longer = ap length p.parts_are ∙ length-append row.parts.items (p.last ∷ [])
@@ -69,7 +69,7 @@ module _ {names : List Known} {done start : ℕ} {all rest : Parts} {v w u : Wai
       let old = rounded_some row.extent.end here.align s.0 here.positive (sym p.offset_is ∙ s.2) in
       (s.0, s.1, old.0, s.2, s.3, s.4, old.1, old.2, old.3, p.begins s.0 s.2)
 
-  here_sized : (m : Checker) (l : Layouts) → Follows c m → Knows names l done m → (here.size ≡ fits (size_of l X)) × (here.align ≡ align_of l X)
+  here_sized : (m : Checker) (l : Layouts) → Follows c m → NamesSized names l done m → (here.size ≡ fits (size_of l X)) × (here.align ≡ align_of l X)
   here_sized m l g k = let q = f.lays m l g k in let same = same_at (at_more g.nodes at) q.at in (ap (λ (w : Node). w.size) same ∙ q.size_is, ap (λ (w : Node). w.align) same ∙ q.align_is)
 
   -- a part of the longer row is an old one, or the new one
@@ -78,12 +78,12 @@ module _ {names : List Known} {done start : ℕ} {all rest : Parts} {v w u : Wai
       let i : IsAt (row.parts.items ++ p.last ∷ []) k x = subst (λ t. IsAt t k x) p.parts_are h in
       ⊎_elim (λ lt. inl (at_less (record { more = p.last ∷ []; is = refl }) lt i)) (λ q. inr q.1) (at_last row.parts.items p.last x k i)
 
-  next_fits : (m : Checker) → Follows c m → (e : ℕ) → next.extent.end ≡ Some e → (k : ℕ) (x : PlanPart) → IsAt next.parts.items k x → PartFits m (length c.nodes) e x
+  next_fits : (m : Checker) → Follows c m → (e : ℕ) → next.extent.end ≡ Some e → (k : ℕ) (x : PlanPart) → IsAt next.parts.items k x → IsPartWithin m (length c.nodes) e x
   next_fits m g e q k x h =
       let s = next_split e q in
       ⊎_elim
       (λ i. fits_wider (omega (arith, f.adds.count)) (omega (arith, s.5, s.7)) (r.row_fits m (grows_trans f.adds.grows g) s.2 s.6 k x i))
-      (λ i. subst (λ (t : PlanPart). PartFits m (length c.nodes) e t) (sym i)
+      (λ i. subst (λ (t : PlanPart). IsPartWithin m (length c.nodes) e t) (sym i)
       (record { size = s.1; earlier = omega (arith, p.node_is, f.below); takes = record { node = here; at = subst (λ i. IsAt m.nodes.now i here) (sym p.node_is) (at_more g.nodes at); size_is = s.4 }; within = omega (arith, s.5, s.9) }))
       (row_cases k x h)
 
@@ -95,7 +95,7 @@ module _ {names : List Known} {done start : ℕ} {all rest : Parts} {v w u : Wai
       (λ j. subst (λ (t : PlanPart). IsNode m t.node Free) (sym j) (record { node = here; at = subst (λ i. IsAt m.nodes.now i here) (sym p.node_is) (at_more g.nodes at); job_is = w.1 }))
       (row_cases k x i)
 
-  next_lays : (m : Checker) (l : Layouts) → Follows c m → Knows names l done m
+  next_lays : (m : Checker) (l : Layouts) → Follows c m → NamesSized names l done m
       → ((at : ℕ) × (next.extent.end ≡ fits at) × (parts_end l start all ≡ parts_end l at rest)) × (parts_align l all ≡ max next.extent.align (parts_align l rest))
   next_lays m l g n =
       let before = r.lays m l (grows_trans f.adds.grows g) n in
@@ -120,7 +120,7 @@ module _ {names : List Known} {done start : ℕ} {all rest : Parts} {v w u : Wai
       let size : size_of s.layouts X ≡ w.1 = some_is (sym lays.0 ∙ w.4) in
       let offset : w.0 ≡ up w.2 (align_of s.layouts X) = w.8 ∙ ap (λ x. up w.2 x) lays.1 in
       let there : IsAt m.parts.now (first + k) p.last = placed k p.last (subst (λ xs. IsAt xs k p.last) (sym p.parts_are) (at_end row.parts.items p.last)) in
-      let stands : Stands s shapes X p.last.node = subst (λ i. Stands s shapes X i) (sym p.node_is) (stands_of f t (given_second r.gives (length b.nodes) r.adds.count given)) in
+      let stands : StandsFor s shapes X p.last.node = subst (λ i. StandsFor s shapes X i) (sym p.node_is) (stands_of f t (given_second r.gives (length b.nodes) r.adds.count given)) in
       let takes : Takes m p.last.node (size_of s.layouts X) = record { node = here; at = subst (λ i. IsAt m.nodes.now i here) (sym p.node_is) (at_more g.nodes at); size_is = w.4 ∙ ap Some (sym size) } in
       let behind : first + length next.parts.items ≡ first + k + 1 = omega (arith, longer) in
       let ends : e ≡ up w.2 (align_of s.layouts X) + size_of s.layouts X = sym w.5 ∙ ap₂ (λ x y. x + y) offset (sym size) in
@@ -147,7 +147,7 @@ module _ {names : List Known} {done start : ℕ} {all rest : Parts} {v w u : Wai
     stand = next_stand;
   }
 
-module _ {names : List Known} {done start : ℕ} {all : Parts} {v w : Waits} {a c d : Lists} {row : Row} {laid : Laid} (r : RowIs names done start all no_part v w a c row.parts.items row.extent.end row.extent.align row.free) (p : PartsLaid c d row laid) where
+module _ {names : List Known} {done start : ℕ} {all : Parts} {v w : Waits} {a c d : PlanLists} {row : Row} {laid : Laid} (r : RowIs names done start all no_part v w a c row.parts.items row.extent.end row.extent.align row.free) (p : PartsLaid c d row laid) where
   laid_length : laid.last ≡ laid.first + length row.parts.items
   laid_length = omega (arith, p.last_is, p.first_is, ap length p.extended.parts_are, length-append c.parts row.parts.items)
 
@@ -178,7 +178,7 @@ module _ {names : List Known} {done start : ℕ} {all : Parts} {v w : Waits} {a 
       }
 
 -- no variant yet
-pub spans_start : {names : List Known} {done : ℕ} {v : Waits} {a : Lists} (vs : Variants) (row : List Span) (end : Option ℕ) (align : ℕ) → row ≡ [] → end ≡ Some 1 → align ≡ 1 → SpansAre names done vs vs v v a a row end align
+pub spans_start : {names : List Known} {done : ℕ} {v : Waits} {a : PlanLists} (vs : Variants) (row : List Span) (end : Option ℕ) (align : ℕ) → row ≡ [] → end ≡ Some 1 → align ≡ 1 → SpansAre names done vs vs v v a a row end align
 spans_start {names = names} {v = v} {a = a} vs row end align none e one = record {
   gives = [];
   adds = adds_refl names v a;
@@ -194,7 +194,7 @@ spans_start {names = names} {v = v} {a = a} vs row end align none e one = record
   others = λ k. let i : length row + k ≡ k = omega (arith, ap length none) in ap (variant_at vs) i;
 }
 
-module _ {names : List Known} {done : ℕ} {all rest : Variants} {v w u : Waits} {a b c : Lists} {ps : Parts} {spans next : Spans} {laid : Laid}
+module _ {names : List Known} {done : ℕ} {all rest : Variants} {v w u : Waits} {a b c : PlanLists} {ps : Parts} {spans next : Spans} {laid : Laid}
     (r : SpansAre names done all (variant ps rest) v w a b spans.items.items spans.extent.end spans.extent.align) (f : CompiledParts names done 1 ps w u b c laid) (p : IsListed laid spans next) where
   spans_longer : length next.items.items ≡ length spans.items.items + 1
   spans_longer = ap length p.items_are ∙ length-append spans.items.items (p.span ∷ [])
@@ -254,7 +254,7 @@ module _ {names : List Known} {done : ℕ} {all rest : Variants} {v w u : Waits}
     others = λ k. let i : length next.items.items + k ≡ length spans.items.items + suc k = omega (arith, spans_longer) in ap (variant_at all) i ∙ r.others (suc k);
   }
 
-module _ {names : List Known} {done : ℕ} {all : Variants} {v w : Waits} {a c d : Lists} {spans : Spans} {laid : Laid} (r : SpansAre names done all no_variant v w a c spans.items.items spans.extent.end spans.extent.align) (p : SpansLaid c d spans laid) where
+module _ {names : List Known} {done : ℕ} {all : Variants} {v w : Waits} {a c d : PlanLists} {spans : Spans} {laid : Laid} (r : SpansAre names done all no_variant v w a c spans.items.items spans.extent.end spans.extent.align) (p : SpansLaid c d spans laid) where
   spans_length : laid.last ≡ laid.first + length spans.items.items
   spans_length = omega (arith, p.last_is, p.first_is, ap length p.extended.variants_are, length-append c.variants spans.items.items)
 

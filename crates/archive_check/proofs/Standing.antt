@@ -2,7 +2,7 @@
 use Rattle.std.proofs.Common.{◌≡◌, ℕ, ◌+◌, ◌-◌, ◌<◌, ◌≤◌, List, [], ◌++◌, length, take, slice_index, sym, ap, ◌∙◌, append_assoc, length-append, arith}
 use Rattle.std.proofs.lemmas.List.{drop_at, take_at, get_or-append-add, get_or_append_left}
 use Rattle.archive_check.specs.Reads.{bytes_at}
-use Rattle.archive_check.specs.Tidy.{Stands, AreZero, IsZeroed}
+use Rattle.archive_check.specs.CleanRegions.{Stands, AreZero, IsZeroed}
 
 pub stands_front : (B : List ℕ) (p : ℕ) (a b : List ℕ) → Stands B p (a ++ b) → Stands B p a
 stands_front B p a b h = record { before = h.before; behind = b ++ h.behind; is = h.is ∙ ap (λ x. h.before ++ x) (append_assoc a b h.behind); at = h.at }

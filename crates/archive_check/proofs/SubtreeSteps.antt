@@ -5,7 +5,7 @@ use Rattle.archive_check.specs.declared.error.Error.{Error}
 use Rattle.archive_check.specs.declared.error.Error.TheVariants.{ExceededMaximumSubtreeDepth}
 use Rattle.archive_check.specs.Ranges.{RangeState, subtree_answer, pushed, pop_answer, popped}
 use Rattle.archive_check.specs.Met.{Positions}
-use Rattle.archive_check.specs.InSubtree.{IsAt, InSubtree, check_refused, push_refused, call_refused, pop_refused, entered_and_left}
+use Rattle.archive_check.specs.InSubtree.{IsInState, InSubtree, check_refused, push_refused, call_refused, pop_refused, entered_and_left}
 
 -- a position that is accepted isn't below 0
 accepted_at : (s : RangeState) (z : ℤ) (size align : ℕ) → Ok tt ≡ subtree_answer s z size align → z ≡ pos (nat_abs z)
@@ -49,7 +49,7 @@ module _ {C R E : Type 0} (state : C → RangeState) (positions : C → Position
   root_is : {z key : ℤ} {checked inner : C} → Entered z key checked inner → z ≡ pos (nat_abs key)
   root_is {key = key} c = sym c.is_checked.same ∙ accepted_at (state old) key size align c.is_checked.accepted
 
-  entered_at : {z key : ℤ} {checked inner : C} → Entered z key checked inner → IsAt state positions inner (pushed (state old) (nat_abs key)) old
+  entered_at : {z key : ℤ} {checked inner : C} → Entered z key checked inner → IsInState state positions inner (pushed (state old) (nat_abs key)) old
   entered_at {key = key} c = record {
     state_is = c.state_is ∙ ap (λ s. pushed s (nat_abs key)) c.is_checked.state_is;
     positions_are = c.positions_are ∙ c.is_checked.positions_are;

@@ -2,24 +2,17 @@
 use Rattle.std.proofs.Math.Logic.{∥∥₁_elim, ∥∥₁_map}
 use Rattle.std.specs.Coded.{le_prop}
 use mathlib.Core.Bool.{Bool-set}
-use Rattle.std.proofs.Common.{◌<◌, length, ◌≡◌, ◌⊎◌, ◌↔◌, inl, inr, ⊎_elim, ℕ, refl, sym, ap, ◌∙◌, List, Option, Some, None, Result, IsOk, IsErrOf}
+use Rattle.std.proofs.Common.{◌<◌, length, ◌↔◌, inl, inr, ℕ, refl, sym, ◌∙◌, Option, Result}
 use Rattle.archive_check.specs.declared.error.Error.{Error}
-use Rattle.archive_check.specs.declared.error.Error.TheVariants.{OutOfMemory}
-use Rattle.archive_check.specs.declared.expr.Expr.{Expr}
-use Rattle.archive_check.specs.declared.plan.Plan.{Plan}
 use Rattle.archive_check.specs.declared.plan.Checker.{Checker}
-use Rattle.archive_check.specs.declared.defs.Def.{Def}
 use Rattle.archive_check.specs.declared.shape.Schema.{Schema as RustSchema}
-use Rattle.archive_check.specs.Shape.{Name, Shape, Table, definition}
-use Rattle.archive_check.specs.Expressions.{shape_of, entries_of}
+use Rattle.archive_check.specs.Shape.{Name}
 use Rattle.archive_check.specs.Reads.{Schema, LaidOut}
 use Rattle.archive_check.specs.Depth.{AcceptedWithin}
 use Rattle.archive_check.specs.Trail.{Fault, RootTrips}
-use Rattle.archive_check.specs.Faults.{IsFor}
 use Rattle.archive_check.specs.Defined.{Reaches}
 use Rattle.archive_check.specs.Names.{HasAll}
-use Rattle.archive_check.specs.Exact as exact
-use Rattle.archive_check.specs.Exact.{PlanOf}
+use Rattle.archive_check.specs.PlanChecks.{PlanOf, PlanAccepts, PlanRefuses, PlanIsExact}
 use Rattle.archive_check.specs.Planned.{IsOf, IsPlan}
 use Rattle.archive_check.specs.Schemas.{root_of, table_in, Suits, Accepts, Refuses, IsExact}
 use Rattle.archive_check.specs.Closed.{IsClosed}
@@ -52,15 +45,15 @@ module _ (s : RustSchema) (all : HasAll (table_in s) (root_of s)) (t : Schema) (
 
 -- what a check over the plan says, said of the schema
 module _ (s : RustSchema) (all : HasAll (table_in s) (root_of s)) (m : Checker) (is : IsOf m s.plan) (plan : ∥ IsPlan s.definitions.items (root_of s) s.plan s.node ∥₁) (limit : Option ℕ) (root : ℕ) where
-  pub plan_accepts : exact.Accepts m s.node limit root → Accepts s m.bytes.now limit root
+  pub plan_accepts : PlanAccepts m s.node limit root → Accepts s m.bytes.now limit root
   plan_accepts h t suits = ∥∥₁_map plan (λ p. (accepted_own s all t suits m is p limit root).0 (h (of_own s t) (root_of s) (own_plan s all t suits m is p)))
 
-  pub plan_refuses : (error : Error) → exact.Refuses m s.node limit root error → Refuses s m.bytes.now limit root error
+  pub plan_refuses : (error : Error) → PlanRefuses m s.node limit root error → Refuses s m.bytes.now limit root error
   plan_refuses error (fault, said, h) =
       (fault, said, λ t suits. ∥∥₁_map plan (λ p. faults_own s all t suits m is p limit root fault (h (of_own s t) (root_of s) (own_plan s all t suits m is p))))
 
   module _ (answer : Result (Unit {0}) Error) where
-    pub plan_exact : exact.IsExact m s.node limit root answer → IsExact s m.bytes.now limit root answer
+    pub plan_exact : PlanIsExact m s.node limit root answer → IsExact s m.bytes.now limit root answer
     plan_exact (inl memory) = inl memory
     plan_exact (inr h) = inr (λ t suits. (
       λ ok. ∥∥₁_map plan (λ p. (accepted_own s all t suits m is p limit root).0 ((h (of_own s t) (root_of s) (own_plan s all t suits m is p)).0 ok)),

@@ -6,7 +6,7 @@ use Rattle.archive_check.specs.Value.{Pointer}
 use Rattle.archive_check.specs.Reads.{Schema, LaidOut}
 use Rattle.archive_check.specs.Tour.{Region, Seen, Tour, tour_end, tour_unique, tour_new, tour_again, Rising, region_of, pointee_align}
 use Rattle.archive_check.specs.Written.{after, Tight}
-use Rattle.archive_check.specs.Tidy.{Tidy}
+use Rattle.archive_check.specs.CleanRegions.{CleanRegions}
 use Rattle.archive_check.proofs.Positive.{align_pos}
 use Rattle.archive_check.proofs.Inside.{up_le}
 use Rattle.archive_check.proofs.Cleaning.{AreSized}
@@ -15,9 +15,9 @@ pub tight_append : (a : ℕ) (C : List Region) (b : ℕ) (D : List Region) (c : 
 tight_append a [] b D c h k = rw h at k
 tight_append a (r ∷ C) b D c h k = (h.0, tight_append (after r) C b D c h.1 k)
 
-pub tidy_append : (s : Schema) (bytes : List ℕ) (a : ℕ) (C : List Region) (b : ℕ) (D : List Region) → Tight a C b → Tidy s bytes a C → Tidy s bytes b D → Tidy s bytes a (C ++ D)
-tidy_append s bytes a [] b D h i k = rw h at k
-tidy_append s bytes a (r ∷ C) b D h i k = (i.0, i.1, i.2, tidy_append s bytes (after r) C b D h.1 i.3 k)
+pub clean_regions_append : (s : Schema) (bytes : List ℕ) (a : ℕ) (C : List Region) (b : ℕ) (D : List Region) → Tight a C b → CleanRegions s bytes a C → CleanRegions s bytes b D → CleanRegions s bytes a (C ++ D)
+clean_regions_append s bytes a [] b D h i k = rw h at k
+clean_regions_append s bytes a (r ∷ C) b D h i k = (i.0, i.1, i.2, clean_regions_append s bytes (after r) C b D h.1 i.3 k)
 
 abbrev pub ArePositive : List Region → Type 0
 ArePositive [] = Unit {0}

@@ -1,12 +1,11 @@
 -- The equations of the views at the variants that hold a `Vec`.
-use Rattle.std.proofs.Common.{◌≡◌, ℕ, ◌+◌, ◌<◌, ◌≢◌, List, [], ◌∷◌, length, drop, get_or, Bool, true, false, ◌&&◌, refl, sym, ap, ◌∙◌, subst, Vec, Global, arith, suc, zero, Bor, ◌==◌}
-use Rattle.std.specs.Cmp.Lexicographic.{pointwise}
+use Rattle.std.proofs.Common.{◌≡◌, ℕ, ◌+◌, ◌<◌, List, [], ◌∷◌, length, drop, get_or, refl, sym, ap, ◌∙◌, subst, Vec, Global, arith, suc, zero, Bor}
 use Rattle.std.proofs.Math.Seq.{drop-cons, drop-length}
 use Rattle.archive_check.specs.declared.expr.Expr.{Expr, Row_of-Expr, end_of-Expr, more_of-Expr, Row_of-Expr-Choice-1-1, end_of-Expr-Choice-1-1, more_of-Expr-Choice-1-1, items-the_row-Expr, items-the_row-Expr-Choice-1-1, items_hidden-the_row-Expr-0, items_hidden-the_row-Expr-Choice-1-1-1, items_shown-the_row-Expr-0}
 use Rattle.archive_check.specs.declared.expr.Expr.TheVariants as expr
-use Rattle.archive_check.specs.Shape.{Shape, parts, choice, Parts, no_part, part, Variants, no_variant, variant}
+use Rattle.archive_check.specs.Shape.{parts, choice, no_part, part, no_variant, variant}
 use Rattle.archive_check.specs.Expressions.{shape_of, shapes_of, variants_of, shapes_in, variants_in}
-use Rattle.archive_check.specs.Sizes.{shape_size, parts_size, variants_size}
+use Rattle.archive_check.specs.Measure.{measure_of, measure_of_parts, measure_of_variants}
 
 pub shapes_row : (n : _) (row : Row_of-Expr n) → shapes_of row ≡ shapes_in (items-the_row-Expr n row)
 shapes_row n end_of-Expr = refl
@@ -58,24 +57,24 @@ pub variants_in-end : (xs : List (Vec Expr Global)) (i : ℕ) → length xs ≡ 
 variants_in-end xs i e = ap variants_in (drop_all xs i e)
 
 -- an element is smaller than the list
-pub shapes_size-at : (xs : List Expr) (i : ℕ) (x : Expr) → i < length xs → x ≡ get_or xs i x → shape_size (shape_of x) < parts_size (shapes_in xs)
+pub shapes_size-at : (xs : List Expr) (i : ℕ) (x : Expr) → i < length xs → x ≡ get_or xs i x → measure_of (shape_of x) < measure_of_parts (shapes_in xs)
 shapes_size-at [] i x h e = absurd (omega arith)
 shapes_size-at (y ∷ ys) zero x h e = rw e (omega arith)
 shapes_size-at (y ∷ ys) (suc i) x h e = omega (arith, shapes_size-at ys i x (omega arith) e)
 
-pub variants_size-at : (xs : List (Vec Expr Global)) (i : ℕ) (x : Vec Expr Global) → i < length xs → x ≡ get_or xs i x → parts_size (shapes_in x.items) < variants_size (variants_in xs)
-variants_size-at [] i x h e = absurd (omega arith)
-variants_size-at (y ∷ ys) zero x h e = rw e (omega arith)
-variants_size-at (y ∷ ys) (suc i) x h e = omega (arith, variants_size-at ys i x (omega arith) e)
+pub measure_of_variants-at : (xs : List (Vec Expr Global)) (i : ℕ) (x : Vec Expr Global) → i < length xs → x ≡ get_or xs i x → measure_of_parts (shapes_in x.items) < measure_of_variants (variants_in xs)
+measure_of_variants-at [] i x h e = absurd (omega arith)
+measure_of_variants-at (y ∷ ys) zero x h e = rw e (omega arith)
+measure_of_variants-at (y ∷ ys) (suc i) x h e = omega (arith, measure_of_variants-at ys i x (omega arith) e)
 
-pub record_size : (x : Vec Expr Global) → parts_size (shapes_in x.items) < shape_size (shape_of (expr.Record x))
-record_size x = omega (arith, ap shape_size (shape_of-Record x))
+pub record_size : (x : Vec Expr Global) → measure_of_parts (shapes_in x.items) < measure_of (shape_of (expr.Record x))
+record_size x = omega (arith, ap measure_of (shape_of-Record x))
 
-pub choice_size : (m : Bor (List ℕ)) (x : Vec (Vec Expr Global) Global) → variants_size (variants_in x.items) < shape_size (shape_of (expr.Choice m x))
-choice_size m x = omega (arith, ap shape_size (shape_of-Choice m x))
+pub choice_size : (m : Bor (List ℕ)) (x : Vec (Vec Expr Global) Global) → measure_of_variants (variants_in x.items) < measure_of (shape_of (expr.Choice m x))
+choice_size m x = omega (arith, ap measure_of (shape_of-Choice m x))
 
-pub choice_falls : (a : Expr) (m : Bor (List ℕ)) (x : Vec (Vec Expr Global) Global) (ys : List (Vec Expr Global)) → a ≡ expr.Choice m x → ys ≡ x.items → variants_size (variants_in ys) < shape_size (shape_of a)
+pub choice_falls : (a : Expr) (m : Bor (List ℕ)) (x : Vec (Vec Expr Global) Global) (ys : List (Vec Expr Global)) → a ≡ expr.Choice m x → ys ≡ x.items → measure_of_variants (variants_in ys) < measure_of (shape_of a)
 choice_falls a m x ys e f =
-    subst (λ b. variants_size (variants_in ys) < shape_size (shape_of b)) (sym e) (subst (λ zs. variants_size (variants_in zs) < shape_size (shape_of (expr.Choice m x))) (sym f) (choice_size m x))
+    subst (λ b. measure_of_variants (variants_in ys) < measure_of (shape_of b)) (sym e) (subst (λ zs. measure_of_variants (variants_in zs) < measure_of (shape_of (expr.Choice m x))) (sym f) (choice_size m x))
 
-pub ruleset views = (shape_of-Record, shape_of-Choice, shapes_in-drop, variants_in-drop, shapes_in-end, variants_in-end, shapes_size-at, variants_size-at, record_size, choice_size)
+pub ruleset views = (shape_of-Record, shape_of-Choice, shapes_in-drop, variants_in-drop, shapes_in-end, variants_in-end, shapes_size-at, measure_of_variants-at, record_size, choice_size)

@@ -6,12 +6,12 @@ use Rattle.archive_check.specs.declared.expr.Expr.TheVariants as expr
 use Rattle.archive_check.specs.declared.queue.Waiting.{Waiting}
 use Rattle.archive_check.specs.Expressions.{shape_of}
 use Rattle.archive_check.specs.Shape.{Name, Shape, named}
-use Rattle.archive_check.specs.Counts.{count_of}
+use Rattle.archive_check.specs.NodeCounts.{count_of}
 use Rattle.archive_check.specs.Runs.{IsAt}
-use Rattle.archive_check.specs.Growing.{node_of, Lists}
+use Rattle.archive_check.specs.PlanGrowth.{node_of, PlanLists}
 use Rattle.archive_check.specs.Compilable.{CanWait}
-use Rattle.archive_check.specs.Queued.{Wait, Waits, waits_in, wait_shapes, waits_size, Reserved, IsWaiting, IsQueued}
-use Rattle.archive_check.specs.Compiled.{Targets}
+use Rattle.archive_check.specs.CompileQueue.{Wait, Waits, waits_in, wait_shapes, measure_of_waits, Reserved, IsWaiting, IsQueued}
+use Rattle.archive_check.specs.Compiled.{CompiledTarget}
 use Rattle.archive_check.proofs.GoingOn.{at_end, at_last, at_less, grows_refl}
 use Rattle.archive_check.proofs.Adding.{adds_refl}
 
@@ -19,15 +19,15 @@ pub reserved_append : (base : ℕ) (xs : List Wait) (mid : ℕ) (x : Wait) (next
 reserved_append base [] mid x next r e le n = (omega (arith, r, e), omega (arith, r, le), omega (arith, r, n))
 reserved_append base (y ∷ xs) mid x next r e le n = (r.0, r.1, reserved_append (base + count_of y.shape) xs mid x next r.2 e le n)
 
-pub waits_size-append : (xs ys : List Wait) → waits_size (xs ++ ys) ≡ waits_size xs + waits_size ys
-waits_size-append [] ys = omega arith
-waits_size-append (x ∷ xs) ys = omega (arith, waits_size-append xs ys)
+pub measure_of_waits-append : (xs ys : List Wait) → measure_of_waits (xs ++ ys) ≡ measure_of_waits xs + measure_of_waits ys
+measure_of_waits-append [] ys = omega arith
+measure_of_waits-append (x ∷ xs) ys = omega (arith, measure_of_waits-append xs ys)
 
 pub wait_shapes-append : (xs ys : List Wait) → wait_shapes (xs ++ ys) ≡ wait_shapes xs ++ wait_shapes ys
 wait_shapes-append [] ys = refl
 wait_shapes-append (x ∷ xs) ys = ap (λ l. x.shape ∷ l) (wait_shapes-append xs ys)
 
-pub targets_name : {names : List Known} {name : Name} {v : Waits} {a : Lists} {j : ℕ} → node_of names name ≡ Some j → Targets names (named name) v v a j
+pub targets_name : {names : List Known} {name : Name} {v : Waits} {a : PlanLists} {j : ℕ} → node_of names name ≡ Some j → CompiledTarget names (named name) v v a j
 targets_name {names = names} {name = name} {v = v} {a = a} {j = j} e = record {
   adds = adds_refl names v a;
   waits_few = omega arith;
@@ -37,7 +37,7 @@ targets_name {names = names} {name = name} {v = v} {a = a} {j = j} e = record {
   stands = λ s shapes m t. t.stand name j e;
 }
 
-pub targets_waiting : {names : List Known} {X : Shape} {v w : Waits} {a : Lists} {j : ℕ} → IsWaiting X v w j → Targets names X v w a j
+pub targets_waiting : {names : List Known} {X : Shape} {v w : Waits} {a : PlanLists} {j : ℕ} → IsWaiting X v w j → CompiledTarget names X v w a j
 targets_waiting {names} {X} {v} {w} {a} {j} q =
     let x : Wait = record { shape = X; node = j } in
     let here : IsAt w.items (length v.items) x = subst (λ xs. IsAt xs (length v.items) x) (sym q.items_are) (at_end v.items x) in
@@ -50,7 +50,7 @@ targets_waiting {names} {X} {v} {w} {a} {j} q =
         closed = λ m g below k. k;
         made = λ s shapes m g t given k. k;
       };
-      waits_few = omega (arith, ap waits_size q.items_are, waits_size-append v.items (x ∷ []));
+      waits_few = omega (arith, ap measure_of_waits q.items_are, measure_of_waits-append v.items (x ∷ []));
       known = λ all can. record {
         each = λ k y at. ⊎_elim
             (λ lt. all.each k y (at_less (record { more = x ∷ []; is = refl }) lt (subst (λ xs. IsAt xs k y) q.items_are at)))
@@ -62,8 +62,8 @@ targets_waiting {names} {X} {v} {w} {a} {j} q =
       stands = λ s shapes m t. t.waits_stand (length v.items) x here;
     }
 
-pub targets_queued : {names : List Known} {a : Lists} (X : Shape) (v w : Waits) (j : ℕ) → IsQueued names X v w j → Targets names X v w a j
-targets_queued {names} {a} X v w j (inl h) = subst (λ Y. Targets names Y v w a j) (sym h.1) (subst (λ u. Targets names (named h.0) v u a j) (sym h.3) (targets_name h.2))
+pub targets_queued : {names : List Known} {a : PlanLists} (X : Shape) (v w : Waits) (j : ℕ) → IsQueued names X v w j → CompiledTarget names X v w a j
+targets_queued {names} {a} X v w j (inl h) = subst (λ Y. CompiledTarget names Y v w a j) (sym h.1) (subst (λ u. CompiledTarget names (named h.0) v u a j) (sym h.3) (targets_name h.2))
 targets_queued {names} {a} X v w j (inr h) = targets_waiting h
 
 pub waits_in-append : (xs ys : List Waiting) → waits_in (xs ++ ys) ≡ waits_in xs ++ waits_in ys

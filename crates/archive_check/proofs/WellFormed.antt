@@ -1,18 +1,20 @@
 -- A shape is well formed exactly where its definitions can be collected and put in order.
-use Rattle.std.proofs.Common.{◌≡◌, ◌≢◌, ◌⊎◌, inl, inr, ⊎_elim, ℕ, zero, suc, ◌+◌, ◌<◌, ◌≤◌, List, [], ◌∷◌, ◌++◌, length, take, get_or, refl, sym, ap, ◌∙◌, subst, arith, Bool, true, false, Option, Some, None, Contains}
+use Rattle.std.proofs.Common.{◌≡◌, ◌⊎◌, inl, inr, ⊎_elim, ℕ, zero, suc, ◌+◌, ◌<◌, ◌≤◌, [], ◌∷◌, ◌++◌, length, take, get_or, refl, sym, ap, ◌∙◌, arith, true, false, Some, None, Contains}
 use Rattle.std.proofs.lemmas.List.{take_more, take_all, get_or_default}
 use Rattle.std.proofs.lemmas.List.Elements.{Contains-get_or}
 use Rattle.archive_check.specs.declared.error.Error.{Error}
 use Rattle.archive_check.specs.declared.error.Error.TheVariants.{OutOfMemory, ShapeConflict, RecursiveLayout}
 use Rattle.archive_check.specs.Shape.{Name, Shape, str, Table, definition}
-use Rattle.archive_check.specs.Layout.{Layouts, Solves}
+use Rattle.archive_check.specs.Layout.{Layouts}
 use Rattle.archive_check.specs.Reads.{LaidOut}
-use Rattle.archive_check.specs.Defined.{Holds, mentions_held, Reaches, reaches, reaches_through, HeldIn, held, held_through, AllDefined, WellFormed, rounds}
+use Rattle.archive_check.specs.Defined.{Holds, Reaches, reaches, reaches_through, HeldIn, held, held_through, AllDefined, WellFormed}
 use Rattle.archive_check.specs.Definitions.{Definitions, listed, Extended, Conflicts}
-use Rattle.archive_check.specs.Names.{missing, Complete, HasAll, Collected, Arranged, Prepared, ExplainsNoSchema}
+use Rattle.archive_check.specs.Names.{missing, Complete, Collected, Arranged, Prepared}
+use Rattle.archive_check.specs.Schemas.{ExplainsNoSchema}
+use Rattle.archive_check.proofs.Rounds.{rounds}
 use Rattle.archive_check.proofs.Named.{names_decided, definition_here, definition_other}
 use Rattle.archive_check.proofs.Missing.{IsDefined, held_defined, mentioned_defined, none_near, none_missed}
-use Rattle.archive_check.proofs.Descent.{contains_cases, contains_first, contains_later, LeadsTo}
+use Rattle.archive_check.proofs.Descent.{contains_cases, contains_later}
 use Rattle.archive_check.proofs.Placed.{names_of, names_of-push, names_of-nil, defined_named}
 use Rattle.archive_check.proofs.Ordered.{Ordered, ordered_none, ordered_next, ordered_never, ordered_solves}
 use Rattle.archive_check.proofs.Positive.{rounds_pos}
@@ -151,6 +153,13 @@ module _ (D : Definitions) (X : Shape) (table : Table) (added : Extended [] D ta
       pub placed_listed : (n : Name) (Y : Shape) → definition placed n ≡ Some Y → definition (listed D) n ≡ Some Y
       placed_listed n Y e = looked_up n Y (collected.kept n Y (placed_kept n Y e))
 
+      -- and all that it reaches are there
+      pub placed_reached : (n : Name) (Y : Shape) → Reaches (listed D) n X → definition (listed D) n ≡ Some Y → definition placed n ≡ Some Y
+      placed_reached n Y r e =
+          let (Z, f) = listed_to_found r in
+          let same : Z ≡ Y = cc (sym (looked_up n Z (collected.kept n Z f)) ∙ e) in
+          placed_back n Y (f ∙ ap Some same)
+
 -- what is collected is complete
 pub collected_complete : (old : Table) (X : Shape) (new : Table) → Collected old X new → Complete new
 collected_complete old X new c = record { once = c.once; closed = λ n Y e. none_near new Y (c.closed n Y e) }
@@ -159,6 +168,7 @@ collected_complete old X new c = record { once = c.once; closed = λ n Y e. none
 pub prepared : (D : Definitions) (X : Shape) (table : Table) → Extended [] D table → (found : Table) → Collected table X found → (placed : Table) → Arranged found placed → Prepared D X placed
 prepared D X table added found collected placed arranged = record {
   known = placed_listed D X table added found collected placed arranged;
+  has = placed_reached D X table added found collected placed arranged;
   complete = record {
     root = none_missed found placed (λ n Y e. (Y, arranged.same n ∙ e)) true X collected.root;
     closed = λ n Y e. none_missed found placed (λ m Z f. (Z, arranged.same m ∙ f)) true Y (collected.closed n Y (sym (arranged.same n) ∙ e));

@@ -9,7 +9,7 @@ use Rattle.archive_check.specs.Depth.{AcceptedWithin}
 use Rattle.archive_check.specs.Denotes.{Meaning, Denotes}
 use Rattle.archive_check.specs.Defined.{WellFormed}
 use Rattle.archive_check.specs.Definitions.{Definitions, listed, Knows}
-use Rattle.archive_check.specs.Names.{ExplainsNoSchema}
+use Rattle.archive_check.specs.Schemas.{ExplainsNoSchema}
 use Rattle.archive_check.specs.Trail.{Fault, RootTrips}
 use Rattle.archive_check.specs.Faults.{IsFor}
 

@@ -4,8 +4,8 @@ use Rattle.archive_check.specs.declared.growing.Known.{Known}
 use Rattle.archive_check.specs.Shape.{Name, Shape, Pointee, Parts, Variants}
 use Rattle.archive_check.specs.Defined.{Holds, PartsHold, VariantsHold, Mentions, PointeeMentions, PartsMention, VariantsMention}
 use Rattle.archive_check.specs.Runs.{IsAt}
-use Rattle.archive_check.specs.Growing.{node_of}
-use Rattle.archive_check.specs.Queued.{Wait}
+use Rattle.archive_check.specs.PlanGrowth.{node_of}
+use Rattle.archive_check.specs.CompileQueue.{Wait}
 
 -- each name that is mentioned has a node, and each that is held, and stands behind no pointer, one before `done`
 pub record Can (names : List Known) (done : ℕ) (X : Shape) : Type 0 where

@@ -1,22 +1,12 @@
 -- What expressions take under the definitions of a schema.
-use Rattle.std.specs.Prelude.{◌≡◌, ℕ, ◌≤◌, ◌^◌, max}
-use Rattle.archive_check.specs.declared.layout.Layout.{Layout as RustLayout}
+use Rattle.std.specs.Prelude.{◌≡◌, ℕ, ◌≤◌, max}
 use Rattle.archive_check.specs.declared.extents.Extent.{Extent}
 use Rattle.archive_check.specs.declared.shape.Schema.{Schema as RustSchema}
 use Rattle.archive_check.specs.Shape.{Shape, Parts, Variants}
 use Rattle.archive_check.specs.Layout.{Layouts, size_of, align_of, parts_end, parts_align, variants_end, variants_align}
 use Rattle.archive_check.specs.Reads.{Schema}
 use Rattle.archive_check.specs.Schemas.{Suits}
-use Rattle.archive_check.specs.Fitting.{fits}
-
--- this is the layout of X, whatever suits the schema
-pub record IsLayoutOf (s : RustSchema) (X : Shape) (l : RustLayout) : Type 0 where
-  pub size : (t : Schema) → Suits s t → l.size ≡ size_of t.layouts X
-  pub align : (t : Schema) → Suits s t → l.align ≡ align_of t.layouts X
-
--- X takes more than usize::MAX, whatever suits the schema
-abbrev pub IsTooLarge : RustSchema → Shape → Type 0
-IsTooLarge s X = (t : Schema) → Suits s t → 2 ^ 64 ≤ size_of t.layouts X
+use Rattle.archive_check.specs.BoundedSizes.{fits}
 
 -- it ends there, or nowhere up to usize::MAX, and is aligned so
 pub record Ends (e : Extent) (end align : ℕ) : Type 0 where

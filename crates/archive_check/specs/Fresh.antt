@@ -1,5 +1,5 @@
--- When a check begins anew.
-use Rattle.std.specs.Prelude.{◌≡◌, ◌≢◌, ◌<◌, ℕ, ℤ, Some, None}
+-- A context that a check begins with.
+use Rattle.std.specs.Prelude.{◌≡◌, ◌≢◌, ◌<◌, ℕ, ℤ, List, length, Some, None}
 use Rattle.archive_check.specs.Ranges.{RangeState}
 use Rattle.archive_check.specs.Met.{Positions}
 
@@ -8,3 +8,9 @@ pub record IsFresh (s : RangeState) (met : Positions) : Type 0 where
   pub nothing : (position : ℤ) → met position ≡ None
   pub levels : s.depth ≢ Some 0
   pub few : (d : ℕ) → s.depth ≡ Some d → d < 18446744073709551616
+
+-- and regions may lie in the whole buffer
+pub record IsWhole (s : RangeState) (met : Positions) (bytes : List ℕ) : Type 0 where
+  pub fresh : IsFresh s met
+  pub start : s.start ≡ 0
+  pub end : s.end ≡ length bytes

@@ -8,14 +8,14 @@ use Rattle.archive_check.specs.Met.{Positions}
 
 module _ {C : Type 0} (state : C → RangeState) (positions : C → Positions) where
   -- the context at the left is in the state s, and met what the one at the right did
-  pub record IsAt (c : C) (s : RangeState) (d : C) : Type 0 where
+  pub record IsInState (c : C) (s : RangeState) (d : C) : Type 0 where
     pub state_is : state c ≡ s
     pub positions_are : positions c ≡ positions d
 
   -- the call may be made in each context that an accepted region's push leaves
   abbrev pub IsCallable : (MutBor C → Type 0) → C → ℤ → ℕ → ℕ → Type 0
   IsCallable May old position size align =
-      (inner : MutBor C) (root : ℕ) → subtree_answer (state old) position size align ≡ Ok tt → position ≡ pos root → IsAt inner.now (pushed (state old) root) old → May inner
+      (inner : MutBor C) (root : ℕ) → subtree_answer (state old) position size align ≡ Ok tt → position ≡ pos root → IsInState inner.now (pushed (state old) root) old → May inner
 
   -- `InSubtree Call Gives old position size align result new`: what is answered and left where the call answers and leaves as `Call` says, and
   -- a refusal of the context gives one of the call's as `Gives` says
@@ -23,34 +23,34 @@ module _ {C : Type 0} (state : C → RangeState) (positions : C → Positions) w
     check_refused : {new : C} {e : Error} {given : E}
         → subtree_answer (state old) position size align ≡ Err e
         → Gives e given
-        → IsAt new (state old) old
+        → IsInState new (state old) old
         → InSubtree Call Gives old position size align (Err given) new
     push_refused : {new : C} {given : E}
         → subtree_answer (state old) position size align ≡ Ok tt
         → (state old).depth ≡ Some 1
         → Gives ExceededMaximumSubtreeDepth given
-        → IsAt new (state old) old
+        → IsInState new (state old) old
         → InSubtree Call Gives old position size align (Err given) new
     call_refused : {inner new : C} {root : ℕ} {given : E}
         → subtree_answer (state old) position size align ≡ Ok tt
         → position ≡ pos root
-        → IsAt inner (pushed (state old) root) old
+        → IsInState inner (pushed (state old) root) old
         → Call inner (Err given) new
         → InSubtree Call Gives old position size align (Err given) new
     pop_refused : {inner after new : C} {root : ℕ} {r : R} {e : Error} {given : E}
         → subtree_answer (state old) position size align ≡ Ok tt
         → position ≡ pos root
-        → IsAt inner (pushed (state old) root) old
+        → IsInState inner (pushed (state old) root) old
         → Call inner (Ok r) after
         → pop_answer (state after) (root + size) ≡ Err e
         → Gives e given
-        → IsAt new (state after) after
+        → IsInState new (state after) after
         → InSubtree Call Gives old position size align (Err given) new
     entered_and_left : {inner after new : C} {root : ℕ} {r : R}
         → subtree_answer (state old) position size align ≡ Ok tt
         → position ≡ pos root
-        → IsAt inner (pushed (state old) root) old
+        → IsInState inner (pushed (state old) root) old
         → Call inner (Ok r) after
         → pop_answer (state after) (root + size) ≡ Ok tt
-        → IsAt new (popped (state after) (root + size) (state old).end) after
+        → IsInState new (popped (state after) (root + size) (state old).end) after
         → InSubtree Call Gives old position size align (Ok r) new

@@ -1,11 +1,10 @@
 -- The names in expressions, and the definitions that they need.
-use Rattle.std.specs.Prelude.{◌≡◌, ◌≢◌, ◌⊎◌, ℕ, suc, ◌<◌, Bool, true, false, Option, Some, None, cond, is_some, List, [], ◌∷◌, length, take, get_or, Contains}
+use Rattle.std.specs.Prelude.{◌≡◌, ◌≢◌, ℕ, suc, ◌<◌, Bool, true, false, Option, Some, None, cond, is_some, List, ◌∷◌, length, take, get_or, Contains}
 use Rattle.archive_check.specs.declared.defs.Def.{Def}
 use Rattle.archive_check.specs.Expressions.{shape_of, entries_of}
-use Rattle.archive_check.specs.declared.error.Error.{Error}
-use Rattle.archive_check.specs.declared.error.Error.TheVariants.{OutOfMemory, ShapeConflict, RecursiveLayout}
-use Rattle.archive_check.specs.Defined.{Reaches, HeldIn, AllDefined, WellFormed}
+use Rattle.archive_check.specs.Defined.{Reaches, WellFormed}
 use Rattle.archive_check.specs.Definitions.{Definitions, listed}
+use Rattle.archive_check.specs.Numbered.{def_shapes}
 use Rattle.archive_check.specs.Shape.{Name, Shape, parts, choice, array, boxed, vec, shared, weak, named, Pointee, one, run, text, Parts, no_part, part, Variants, no_variant, variant, Table, definition}
 
 -- the first of two
@@ -72,13 +71,9 @@ pub record Complete (table : Table) : Type 0 where
   pub once : (name : Name) (Y : Shape) → Contains table (name, Y) → definition table name ≡ Some Y
   pub closed : (name : Name) (Y : Shape) → definition table name ≡ Some Y → missing false table Y ≡ None
 
-abbrev pub shapes_in_defs : List Def → List Shape
-shapes_in_defs [] = []
-shapes_in_defs (d ∷ ds) = shape_of d.expr ∷ shapes_in_defs ds
-
 -- the root's shape, and those of the definitions
 abbrev pub shapes_from : Shape → List Def → List Shape
-shapes_from X ds = X ∷ shapes_in_defs ds
+shapes_from X ds = X ∷ def_shapes ds
 
 -- each name that the expression or a definition mentions is defined
 pub record HasAll (table : Table) (X : Shape) : Type 0 where
@@ -88,13 +83,7 @@ pub record HasAll (table : Table) (X : Shape) : Type 0 where
 -- The definitions that a shape reaches, of those that come with it, in order; and the shape is well formed.
 pub record Prepared (D : Definitions) (X : Shape) (table : Table) : Type 0 where
   pub known : (name : Name) (Y : Shape) → definition table name ≡ Some Y → definition (listed D) name ≡ Some Y
+  pub has : (name : Name) (Y : Shape) → Reaches (listed D) name X → definition (listed D) name ≡ Some Y → definition table name ≡ Some Y
   pub complete : HasAll table X
   pub ordered : Arranged table table
   pub well_formed : WellFormed (listed D) X
-
--- Why a shape has no schema: a name that it reaches has none or two definitions, or else one holds itself.
-abbrev pub ExplainsNoSchema : Shape → Definitions → Error → Type 0
-ExplainsNoSchema X D e =
-    (e ≡ OutOfMemory)
-    ⊎ ((e ≡ ShapeConflict) × (AllDefined (listed D) X → ⊥))
-    ⊎ ((e ≡ RecursiveLayout) × AllDefined (listed D) X × (WellFormed (listed D) X → ⊥))

@@ -5,8 +5,8 @@ use Rattle.archive_check.specs.declared.growing.Known.{Known}
 use Rattle.archive_check.specs.Shape.{Name, Shape, named}
 use Rattle.archive_check.specs.Expressions.{shape_of}
 use Rattle.archive_check.specs.Runs.{IsAt}
-use Rattle.archive_check.specs.Growing.{node_of}
-use Rattle.archive_check.specs.Counts.{count_of}
+use Rattle.archive_check.specs.PlanGrowth.{node_of}
+use Rattle.archive_check.specs.NodeCounts.{count_of}
 
 -- the shapes of definitions
 abbrev pub def_shapes : List Def → List Shape

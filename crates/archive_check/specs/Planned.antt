@@ -1,5 +1,5 @@
 -- Plans of an expression and the definitions of its names.
-use Rattle.std.specs.Prelude.{◌≡◌, ℕ, ◌<◌, List, [], ◌++◌, length, take, Some, IsSome, is_some}
+use Rattle.std.specs.Prelude.{◌≡◌, ℕ, ◌<◌, List, ◌++◌, length, take, Some, IsSome, is_some}
 use Rattle.archive_check.specs.declared.defs.Def.{Def}
 use Rattle.archive_check.specs.declared.plan.Plan.{Plan}
 use Rattle.archive_check.specs.declared.plan.Checker.{Checker}
@@ -11,10 +11,10 @@ use Rattle.archive_check.specs.Defined.{Holds, Mentions}
 use Rattle.archive_check.specs.Reads.{Schema, LaidOut}
 use Rattle.archive_check.specs.Runs.{IsAt}
 use Rattle.archive_check.specs.Closed.{IsClosed}
-use Rattle.archive_check.specs.Exact.{PlanOf}
-use Rattle.archive_check.specs.Fitting.{fits}
-use Rattle.archive_check.specs.Growing.{node_of, Lists, no_lists, Goes, Grows}
-use Rattle.archive_check.specs.Queued.{Waits, no_waits, wait_shapes}
+use Rattle.archive_check.specs.PlanChecks.{PlanOf}
+use Rattle.archive_check.specs.BoundedSizes.{fits}
+use Rattle.archive_check.specs.PlanGrowth.{node_of, PlanLists, no_lists, Grows}
+use Rattle.archive_check.specs.CompileQueue.{Waits, no_waits, wait_shapes}
 use Rattle.archive_check.specs.Compilable.{Can, AllKnown}
 use Rattle.archive_check.specs.Compiled.{Given, Adds, Compiled}
 use Rattle.archive_check.specs.Numbered.{start_of}
@@ -47,7 +47,7 @@ abbrev pub CanChain : List Known → List Shape → Type 0
 CanChain names Xs = (i : ℕ) (X : Shape) → IsAt Xs i X → Can names (start_of Xs i) X
 
 -- what waits can be compiled behind all names
-pub record CanFinish (names : List Known) (w : Waits) (b : Lists) : Type 0 where
+pub record CanFinish (names : List Known) (w : Waits) (b : PlanLists) : Type 0 where
   pub known : AllKnown names w.items
   pub below : (name : Name) (j : ℕ) → node_of names name ≡ Some j → j < length b.nodes
 
@@ -59,9 +59,9 @@ pub record HasNames (defs : List Def) (names : List Known) (plan : Plan) : Type 
   pub aligns : (s : Schema) → s.table ≡ entries_of defs → LaidOut s → (name : Name) (j : ℕ) (node : Node) → node_of names name ≡ Some j → IsAt plan.nodes.items j node → node.align ≡ (s.layouts name).align
 
 -- X was compiled from the node `start` on, on the way to the plan
-pub record Kept (names : List Known) (X : Shape) (start : ℕ) (w : Waits) (b : Lists) (gives : List Shape) : Type 0 where
-  pub before : Lists
-  pub after : Lists
+pub record CompiledFrom (names : List Known) (X : Shape) (start : ℕ) (w : Waits) (b : PlanLists) (gives : List Shape) : Type 0 where
+  pub before : PlanLists
+  pub after : PlanLists
   pub waits : Waits
   pub later : Waits
   pub node : ℕ
@@ -71,20 +71,20 @@ pub record Kept (names : List Known) (X : Shape) (start : ℕ) (w : Waits) (b : 
   pub given : (shapes : ℕ → Shape) → Given shapes 0 gives → Given shapes (length before.nodes) compiled.gives
 
 -- these were compiled, one after another; what they lead to waits for the nodes from `base` on
-pub record Chained (names : List Known) (Xs : List Shape) (base : ℕ) (w : Waits) (b : Lists) : Type 0 where
+pub record Chained (names : List Known) (Xs : List Shape) (base : ℕ) (w : Waits) (b : PlanLists) : Type 0 where
   pub gives : List Shape
   pub gives_count : length gives ≡ start_of Xs (length Xs)
   pub adds : Adds names gives (no_waits base) w no_lists b
-  pub each : (i : ℕ) (X : Shape) → IsAt Xs i X → Kept names X (start_of Xs i) w b gives
+  pub each : (i : ℕ) (X : Shape) → IsAt Xs i X → CompiledFrom names X (start_of Xs i) w b gives
   pub all_known : CanChain names Xs → AllKnown names w.items
 
 -- from v and a on, all that waits is compiled: behind whatever was before, if nothing of v was
-pub record Finishes (names : List Known) (v w : Waits) (a b : Lists) : Type 0 where
+pub record Finishes (names : List Known) (v w : Waits) (a b : PlanLists) : Type 0 where
   pub grows : Grows a b
   pub chained : (Xs : List Shape) (base : ℕ) → Chained names Xs base v a → Chained names (Xs ++ wait_shapes w.items) base w b
 
 -- the same, as far as the first i
-pub record FinishesTo (names : List Known) (i : ℕ) (v w : Waits) (a b : Lists) : Type 0 where
+pub record FinishesTo (names : List Known) (i : ℕ) (v w : Waits) (a b : PlanLists) : Type 0 where
   pub can_to : CanFinish names v a → CanFinish names w b
   pub grows_to : Grows a b
   pub chained_to : (Xs : List Shape) (base : ℕ) → Chained names Xs base v a → Chained names (Xs ++ wait_shapes (take i w.items)) base w b

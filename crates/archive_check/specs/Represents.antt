@@ -1,5 +1,5 @@
 -- A plan's nodes stand for shapes.
-use Rattle.std.specs.Prelude.{◌≡◌, ℕ, ◌+◌, ◌-◌, ◌*◌, ◌<◌, ◌≤◌, List, length, Option, Some, None, nat_lt, if◌then◌else◌}
+use Rattle.std.specs.Prelude.{◌≡◌, ℕ, ◌+◌, ◌<◌, ◌≤◌, List, length, Option, Some, None, nat_lt, if◌then◌else◌}
 use Rattle.std.specs.Borrow.{Bor}
 use Rattle.archive_check.specs.declared.expr.Kind.{Kind as KindExpr}
 use Rattle.archive_check.specs.declared.plan.Target.{Target}
@@ -21,15 +21,15 @@ use Rattle.archive_check.specs.Expressions.{kind_of, flavor_of, pointee_of}
 use Rattle.archive_check.specs.Runs.{IsAt, Takes, Outcome, done, refused}
 
 -- a node stands for a shape; a name for its definition's node
-pub data Stands (s : Schema) (shapes : ℕ → Shape) : Shape → ℕ → Type 0 where
-  stands : {X : Shape} {j : ℕ} → shapes j ≡ X → Stands s shapes X j
-  stands_named : {name : Name} {X : Shape} {j : ℕ} → definition s.table name ≡ Some X → Stands s shapes X j → Stands s shapes (named name) j
+pub data StandsFor (s : Schema) (shapes : ℕ → Shape) : Shape → ℕ → Type 0 where
+  stands : {X : Shape} {j : ℕ} → shapes j ≡ X → StandsFor s shapes X j
+  stands_named : {name : Name} {X : Shape} {j : ℕ} → definition s.table name ≡ Some X → StandsFor s shapes X j → StandsFor s shapes (named name) j
 
 -- the parts from a to b, laid out from an offset on
 pub data PartsStand (s : Schema) (shapes : ℕ → Shape) (m : Checker) : ℕ → ℕ → ℕ → Parts → Type 0 where
   parts_over : {a b at : ℕ} → b ≤ a → PartsStand s shapes m a b at no_part
   parts_more : {a b at : ℕ} {x : PlanPart} {X : Shape} {ps : Parts}
-      → a < b → IsAt m.parts.now a x → x.offset ≡ up at (align_of s.layouts X) → Stands s shapes X x.node → Takes m x.node (size_of s.layouts X)
+      → a < b → IsAt m.parts.now a x → x.offset ≡ up at (align_of s.layouts X) → StandsFor s shapes X x.node → Takes m x.node (size_of s.layouts X)
       → PartsStand s shapes m (a + 1) b (up at (align_of s.layouts X) + size_of s.layouts X) ps
       → PartsStand s shapes m a b at (part X ps)
 
@@ -41,8 +41,8 @@ pub record Sized (m : Checker) (j size align : ℕ) : Type 0 where
   pub align_is : node.align ≡ align
 
 pub data Points (s : Schema) (shapes : ℕ → Shape) (m : Checker) : Target → ℕ → Pointee → Type 0 where
-  points_one : {j : ℕ} {X : Shape} → Sized m j (size_of s.layouts X) (align_of s.layouts X) → Stands s shapes X j → Points s shapes m One j (one X)
-  points_run : {j : ℕ} {X : Shape} → Sized m j (size_of s.layouts X) (align_of s.layouts X) → Stands s shapes X j → Points s shapes m Run j (run X)
+  points_one : {j : ℕ} {X : Shape} → Sized m j (size_of s.layouts X) (align_of s.layouts X) → StandsFor s shapes X j → Points s shapes m One j (one X)
+  points_run : {j : ℕ} {X : Shape} → Sized m j (size_of s.layouts X) (align_of s.layouts X) → StandsFor s shapes X j → Points s shapes m Run j (run X)
   points_text : {j : ℕ} → Sized m j 1 1 → Points s shapes m Text j text
 
 pub data Made (s : Schema) (shapes : ℕ → Shape) (m : Checker) : Job → Shape → Type 0 where
@@ -56,7 +56,7 @@ pub data Made (s : Schema) (shapes : ℕ → Shape) (m : Checker) : Job → Shap
       → ((tag : ℕ) (x : Span) → a + tag < b → IsAt m.variants.now (a + tag) x → (ps : Parts) × (variant_at vs tag ≡ Some ps) × PartsStand s shapes m x.first x.last 1 ps)
       → ((tag : ℕ) → b ≤ a + tag → variant_at vs tag ≡ None)
       → Made s shapes m (Choice name a b) (choice name.now vs)
-  made_array : {n j : ℕ} {X : Shape} → Stands s shapes X j → Takes m j (size_of s.layouts X) → Made s shapes m (Array n j) (array n X)
+  made_array : {n j : ℕ} {X : Shape} → StandsFor s shapes X j → Takes m j (size_of s.layouts X) → Made s shapes m (Array n j) (array n X)
   made_boxed : {target : Target} {j : ℕ} {P : Pointee} → Points s shapes m target j P → Made s shapes m (PointerJob target j) (boxed P)
   made_vec : {j : ℕ} {X : Shape} → Points s shapes m Run j (run X) → Made s shapes m (PointerJob Run j) (vec X)
   made_str : {j : ℕ} → Sized m j 1 1 → Made s shapes m (Str j) str
@@ -68,6 +68,6 @@ pub record Represents (s : Schema) (shapes : ℕ → Shape) (m : Checker) : Type
   pub made : (i : ℕ) (node : Node) (z : ℕ) → IsAt m.nodes.now i node → node.size ≡ Some z → (size_of s.layouts (shapes i) ≡ z) × Made s shapes m node.job (shapes i)
 
 -- what an outcome means
-abbrev pub Says : (ℕ → Seen → Type 0) → (Fault → Type 0) → Outcome → Type 0
-Says Walks Faults (done later last) = Walks later last
-Says Walks Faults (refused e) = Faults e
+abbrev pub OutcomeSays : (ℕ → Seen → Type 0) → (Fault → Type 0) → Outcome → Type 0
+OutcomeSays Walks Faults (done later last) = Walks later last
+OutcomeSays Walks Faults (refused e) = Faults e

@@ -1,12 +1,14 @@
 -- What a schema of the program stands for, and what its check says. What it says is a fact, so it stands between ∥ and ∥₁: there is a tour, or a
 -- trail, and which one doesn't matter, since there is no other.
-use Rattle.std.specs.Prelude.{◌≡◌, ◌⊎◌, ◌↔◌, ℕ, List, Option, Some, Result, IsOk, IsErrOf}
+use Rattle.std.specs.Prelude.{◌≡◌, ◌⊎◌, ◌↔◌, ℕ, ◌≤◌, ◌^◌, List, Option, Some, IsSome, Result, IsOk, IsErrOf}
 use Rattle.archive_check.specs.declared.error.Error.{Error}
-use Rattle.archive_check.specs.declared.error.Error.TheVariants.{OutOfMemory}
+use Rattle.archive_check.specs.declared.error.Error.TheVariants.{OutOfMemory, ShapeConflict, RecursiveLayout}
+use Rattle.archive_check.specs.declared.layout.Layout.{Layout as RustLayout}
 use Rattle.archive_check.specs.declared.shape.Schema.{Schema as RustSchema}
 use Rattle.archive_check.specs.Shape.{Name, Shape, Table, definition}
 use Rattle.archive_check.specs.Expressions.{shape_of, entries_of}
-use Rattle.archive_check.specs.Defined.{WellFormed}
+use Rattle.archive_check.specs.Layout.{size_of, align_of}
+use Rattle.archive_check.specs.Defined.{Holds, Reaches, AllDefined, WellFormed}
 use Rattle.archive_check.specs.Definitions.{Definitions, listed}
 use Rattle.archive_check.specs.Reads.{Schema, LaidOut}
 use Rattle.archive_check.specs.Depth.{AcceptedWithin}
@@ -38,8 +40,29 @@ Refuses s bytes limit root error = (fault : Fault) × IsFor fault error × ((t :
 abbrev pub IsExact : RustSchema → List ℕ → Option ℕ → ℕ → Result (Unit {0}) Error → Type 0
 IsExact s bytes limit root answer = IsErrOf answer OutOfMemory ⊎ ((t : Schema) → Suits s t → IsOk answer ↔ ∥ AcceptedWithin t bytes limit root (root_of s) ∥₁)
 
--- the schema is that of a shape and the definitions that come with it: those that the shape reaches
+-- The schema is that of a shape and the definitions that come with it: it has those that the shape reaches, and they are well formed.
 pub record IsSchemaOf (s : RustSchema) (X : Shape) (D : Definitions) : Type 0 where
   pub root : root_of s ≡ X
   pub known : (name : Name) (Y : Shape) → definition (table_in s) name ≡ Some Y → definition (listed D) name ≡ Some Y
+  pub has : (name : Name) (Y : Shape) → Reaches (listed D) name X → definition (listed D) name ≡ Some Y → definition (table_in s) name ≡ Some Y
   pub well_formed : WellFormed (listed D) X
+
+-- each name that X holds, behind no pointer, is defined in the schema
+abbrev pub HasHeld : RustSchema → Shape → Type 0
+HasHeld s X = (name : Name) → Holds name X → IsSome (definition (table_in s) name)
+
+-- this is the layout of X, whatever suits the schema
+pub record IsLayoutOf (s : RustSchema) (X : Shape) (l : RustLayout) : Type 0 where
+  pub size : (t : Schema) → Suits s t → l.size ≡ size_of t.layouts X
+  pub align : (t : Schema) → Suits s t → l.align ≡ align_of t.layouts X
+
+-- X takes more than usize::MAX, whatever suits the schema
+abbrev pub IsTooLarge : RustSchema → Shape → Type 0
+IsTooLarge s X = (t : Schema) → Suits s t → 2 ^ 64 ≤ size_of t.layouts X
+
+-- Why a shape has no schema: a name that it reaches has none or two definitions, or else one holds itself.
+abbrev pub ExplainsNoSchema : Shape → Definitions → Error → Type 0
+ExplainsNoSchema X D e =
+    (e ≡ OutOfMemory)
+    ⊎ ((e ≡ ShapeConflict) × (AllDefined (listed D) X → ⊥))
+    ⊎ ((e ≡ RecursiveLayout) × AllDefined (listed D) X × (WellFormed (listed D) X → ⊥))

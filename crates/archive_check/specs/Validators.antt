@@ -5,7 +5,7 @@ use Rattle.std.specs.Ordering.{int_eq}
 use Rattle.archive_check.specs.declared.shared.SharedValidator.{SharedValidator}
 use Rattle.archive_check.specs.declared.validator.Validator.{Validator}
 use Rattle.archive_check.specs.Met.{Positions}
-use Rattle.archive_check.specs.Kept.{positions_in}
+use Rattle.archive_check.specs.SharedPositions.{positions_in}
 
 -- the positions that a validator of shared ones met
 abbrev pub positions_of : {A : Type 0} → SharedValidator A → Positions

@@ -3,7 +3,8 @@
 ghost use Rattle.std.specs.Prelude.{◌≡◌, ◌⊎◌, ◌<◌, ◌≤◌, length, OnOk, IfErr};
 ghost use Rattle.archive_check.specs.declared.error.Error.TheVariants.{OutOfMemory};
 ghost use Rattle.archive_check.specs.Closed.{IsClosed};
-ghost use Rattle.archive_check.specs.Exact.{IsWhole, Accepts, Refuses, IsExact};
+ghost use Rattle.archive_check.specs.Fresh.{IsWhole};
+ghost use Rattle.archive_check.specs.PlanChecks.{PlanAccepts, PlanRefuses, PlanIsExact};
 
 use crate::error::Error;
 use crate::plan::Checker;
@@ -24,9 +25,9 @@ impl Checker<'_> {
         requires closed { IsClosed self.now }
         requires below { (C.state context.old).end ≤ length self.now.bytes.now }
         requires known { root < length self.now.nodes.now }
-        ensures ok { OnOk result (IsWhole (C.state context.old) (C.positions context.old) self.now.bytes.now → Accepts self.now root (C.state context.old).depth at) }
-        ensures err { IfErr result (λ e. (e ≡ OutOfMemory) ⊎ (IsWhole (C.state context.old) (C.positions context.old) self.now.bytes.now → Refuses self.now root (C.state context.old).depth at e)) }
-        ensures exact { IsWhole (C.state context.old) (C.positions context.old) self.now.bytes.now → IsExact self.now root (C.state context.old).depth at result }
+        ensures ok { OnOk result (IsWhole (C.state context.old) (C.positions context.old) self.now.bytes.now → PlanAccepts self.now root (C.state context.old).depth at) }
+        ensures err { IfErr result (λ e. (e ≡ OutOfMemory) ⊎ (IsWhole (C.state context.old) (C.positions context.old) self.now.bytes.now → PlanRefuses self.now root (C.state context.old).depth at e)) }
+        ensures exact { IsWhole (C.state context.old) (C.positions context.old) self.now.bytes.now → PlanIsExact self.now root (C.state context.old).depth at result }
     {
         prove!(self.bytes.len() <= usize::MAX);
         if let Err(error) = self.run(alloc, root, at, context) {

@@ -2,11 +2,11 @@
 
 ghost use Rattle.std.specs.Prelude.{◌≡◌, ◌≤◌, IfOk, IfErr, length};
 ghost use Rattle.archive_check.specs.Expressions.{shape_of, pointee_of, shapes_in, variants_in};
-ghost use Rattle.archive_check.specs.Growing.{lists_of, IsCopied};
-ghost use Rattle.archive_check.specs.Queued.{waits_of};
+ghost use Rattle.archive_check.specs.PlanGrowth.{lists_of, IsCopied};
+ghost use Rattle.archive_check.specs.CompileQueue.{waits_of};
 ghost use Rattle.archive_check.specs.Compilable.{Can, CanParts, CanVariants, CanPoint};
 ghost use Rattle.archive_check.specs.declared.error.Error.TheVariants.{OutOfMemory};
-ghost use Rattle.archive_check.specs.Compiled.{Compiled, Leads, CompiledParts, CompiledVariants};
+ghost use Rattle.archive_check.specs.Compiled.{Compiled, CompiledPointee, CompiledParts, CompiledVariants};
 
 use crate::error::Error;
 use crate::expr::{Expr, FlavorInfo, Pointee};
@@ -35,7 +35,7 @@ fn compile_pointee<'e>(
     plan: &mut Plan,
     queue: &mut Queue<'e>,
 ) -> Result<(Target, usize), Error>
-    ensures ok { IfOk result (λ r. Leads names.now (pointee_of pointee.now) (waits_of queue.old) (waits_of queue.new) (lists_of plan.old) (lists_of plan.new) r.0 r.1) }
+    ensures ok { IfOk result (λ r. CompiledPointee names.now (pointee_of pointee.now) (waits_of queue.old) (waits_of queue.new) (lists_of plan.old) (lists_of plan.new) r.0 r.1) }
     ensures err { IfErr result (λ e. CanPoint names.now (pointee_of pointee.now) → e ≡ OutOfMemory) }
 {
     match pointee {

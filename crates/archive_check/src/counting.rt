@@ -2,9 +2,9 @@
 
 ghost use Rattle.std.specs.Prelude.{◌≡◌, ◌+◌, IfOk, IfErr, IsSome, length};
 ghost use Rattle.archive_check.specs.Expressions.{shape_of, pointee_of, shapes_in, variants_in};
-ghost use Rattle.archive_check.specs.Counts.{count_of, count_pointee as pointee_count, counts_of, variant_counts_of};
+ghost use Rattle.archive_check.specs.NodeCounts.{count_of, count_pointee as pointee_count, counts_of, variant_counts_of};
 ghost use Rattle.archive_check.specs.Shape.{Name, named};
-ghost use Rattle.archive_check.specs.Growing.{node_of};
+ghost use Rattle.archive_check.specs.PlanGrowth.{node_of};
 ghost use Rattle.archive_check.specs.declared.error.Error.TheVariants.{OutOfMemory};
 ghost use Rattle.archive_check.specs.Planned.{DefsInOrder};
 ghost use Rattle.archive_check.specs.Numbered.{RootIs, IsNumbered, def_shapes, start_of};

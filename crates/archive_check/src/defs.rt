@@ -3,7 +3,7 @@
 ghost use Rattle.std.specs.Prelude.{◌≡◌, ◌++◌, ◌∷◌, [], IfOk, OnErr, if◌then◌else◌};
 ghost use Rattle.archive_check.specs.Shape.{definition};
 ghost use Rattle.archive_check.specs.Expressions.{shape_of, entries_of, table_of};
-ghost use Rattle.archive_check.specs.Added.{IsFound, IsAddAnswer};
+ghost use Rattle.archive_check.specs.AddAnswer.{IsFound, IsAddAnswer};
 
 use crate::error::Error;
 use crate::expr::Expr;

@@ -1,42 +1,14 @@
 //! Sizes in bytes. None: above `usize::MAX`.
 
 ghost use Rattle.std.specs.Prelude.{◌≡◌, ◌↔◌, ◌<◌, ◌≤◌, max, IsTrue, Some};
-ghost use Rattle.std.specs.Int.{byte_len};
-ghost use Rattle.archive_check.specs.Layout.{up as up_to, kind_size};
-ghost use Rattle.archive_check.specs.Expressions.{kind_of, width_of};
+ghost use Rattle.archive_check.specs.Layout.{up as up_to};
+ghost use Rattle.archive_check.specs.Expressions.{kind_of};
 ghost use Rattle.archive_check.specs.Runs.{times as times_of, target_size};
-ghost use Rattle.archive_check.specs.Plain.{is_plain_kind};
-ghost use Rattle.archive_check.specs.Fitting.{fits, rounded, sum_of, greater_of};
+ghost use Rattle.archive_check.specs.PlainData.{is_plain_kind};
+ghost use Rattle.archive_check.specs.BoundedSizes.{fits, rounded, sum_of, greater_of};
 
-use crate::expr::{IntegerKind, Kind};
+use crate::expr::Kind;
 use crate::plan::Target;
-
-// How many bytes an integer takes.
-fn integer_size(integer: IntegerKind) -> usize
-    ensures { result ≡ byte_len (width_of integer) }
-{
-    match integer {
-        IntegerKind::U8 | IntegerKind::I8 => 1,
-        IntegerKind::U16 | IntegerKind::I16 => 2,
-        IntegerKind::U32 | IntegerKind::I32 => 4,
-        IntegerKind::U64 | IntegerKind::I64 => 8,
-        IntegerKind::U128 | IntegerKind::I128 => 16,
-    }
-}
-
-/// How many bytes a leaf takes.
-pub fn leaf_size(kind: Kind) -> usize
-    ensures { result ≡ kind_size (kind_of kind) }
-{
-    match kind {
-        Kind::Unit => 0,
-        Kind::Bool => 1,
-        Kind::Char => 4,
-        Kind::Number(integer) | Kind::NonZero(integer) | Kind::RawRel(integer) => integer_size(
-            integer,
-        ),
-    }
-}
 
 /// Whether any bytes of its size are a leaf.
 pub fn is_plain(kind: Kind) -> bool

@@ -3,14 +3,14 @@
 ghost use Rattle.std.specs.Prelude.{◌≡◌, ◌<◌, true, IfOk, IfErr, OnOk, [], Some};
 ghost use Rattle.archive_check.specs.Layout.{kind_size, kind_align};
 ghost use Rattle.archive_check.specs.Expressions.{kind_of};
-ghost use Rattle.archive_check.specs.Plain.{is_plain_kind};
-ghost use Rattle.archive_check.specs.Growing.{node_of, lists_of, no_lists, IsPushed, IsSorted, Unless, IsMade, IsPlaced, IsListed, PartsLaid, SpansLaid};
+ghost use Rattle.archive_check.specs.PlainData.{is_plain_kind};
+ghost use Rattle.archive_check.specs.PlanGrowth.{node_of, lists_of, no_lists, IsPushed, IsSorted, Unless, IsMade, IsPlaced, IsListed, PartsLaid, SpansLaid};
 ghost use Rattle.archive_check.specs.declared.plan.Job.TheVariants.{Free};
 ghost use Rattle.archive_check.specs.declared.error.Error.TheVariants.{OutOfMemory};
 
 use crate::error::Error;
 use crate::expr::{FlavorInfo, Kind, Pointee};
-use crate::extents::{Extent, is_plain, leaf_size};
+use crate::extents::{Extent, is_plain};
 use crate::plan::{Job, Node, Part, Plan, Sort, Span};
 use std::alloc::Global;
 
@@ -139,11 +139,10 @@ pub fn push_leaf(plan: &mut Plan, kind: Kind) -> Result<usize, Error>
     ensures ok { IfOk result (λ j. IsMade (lists_of plan.old) (lists_of plan.new) (Some (kind_size (kind_of kind))) (kind_align (kind_of kind)) (is_plain_kind (kind_of kind)) (Job.Leaf kind) j) }
     ensures err { IfErr result (λ e. e ≡ OutOfMemory) }
 {
-    let size = leaf_size(kind);
     push_laid(
         plan,
-        Some(size),
-        size.max(1),
+        Some(kind.size()),
+        kind.align(),
         is_plain(kind),
         Job::Leaf(kind),
     )

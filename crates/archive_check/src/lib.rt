@@ -1,4 +1,4 @@
-//! What archived values look like, and the check of bytes against it.
+//! What archived values look like, and the check of bytes against that.
 #![tactic(auto)]
 
 pub mod bytes;
@@ -14,9 +14,9 @@ mod growing;
 pub mod laws;
 pub mod layout;
 pub mod leaf;
-pub mod names;
-pub mod plan;
-pub mod planning;
+mod names;
+mod plan;
+mod planning;
 mod queue;
 pub mod shape;
 pub mod shared;
@@ -36,4 +36,4 @@ mod tests_plans;
 pub mod traits;
 pub mod validation;
 pub mod validator;
-pub mod work;
+mod work;

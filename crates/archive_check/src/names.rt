@@ -3,7 +3,8 @@
 ghost use Rattle.std.specs.Prelude.{◌≡◌, ◌≢◌, ◌⊎◌, ◌+◌, ◌≤◌, ℕ, Bool, Some, None, OnOk, IfOk, IfErr, IfSome, IfNone, true, get_or, option_map, is_some, length};
 ghost use Rattle.archive_check.specs.Shape.{definition};
 ghost use Rattle.archive_check.specs.Expressions.{shape_of, pointee_of, shapes_in, variants_in, entries_of};
-ghost use Rattle.archive_check.specs.Names.{missing as missing_in, pointee_missing, parts_missing, variants_missing, Taken, Collected, Arranged, NextReady, Complete, Prepared, ExplainsNoSchema, shapes_from};
+ghost use Rattle.archive_check.specs.Names.{missing as missing_in, pointee_missing, parts_missing, variants_missing, Taken, Collected, Arranged, NextReady, Complete, Prepared, shapes_from};
+ghost use Rattle.archive_check.specs.Schemas.{ExplainsNoSchema};
 ghost use Rattle.archive_check.specs.Shape.{Name, Shape};
 ghost use Rattle.archive_check.specs.Defined.{Reaches, HeldIn};
 ghost use Rattle.archive_check.specs.declared.error.Error.TheVariants.{OutOfMemory, ShapeConflict, RecursiveLayout};

@@ -3,8 +3,8 @@
 
 ghost use Rattle.std.specs.Prelude.{◌≡◌, IfOk, IfErr, OnOk};
 ghost use Rattle.archive_check.specs.Expressions.{shape_of};
-ghost use Rattle.archive_check.specs.Growing.{lists_of};
-ghost use Rattle.archive_check.specs.Queued.{waits_of};
+ghost use Rattle.archive_check.specs.PlanGrowth.{lists_of};
+ghost use Rattle.archive_check.specs.CompileQueue.{waits_of};
 ghost use Rattle.archive_check.specs.Numbered.{def_shapes};
 ghost use Rattle.archive_check.specs.Planned.{IsPlan, HasNames, InOrder, Chained, CanChain, CanFinish, Finishes};
 ghost use Rattle.archive_check.specs.declared.error.Error.TheVariants.{OutOfMemory};

@@ -3,9 +3,9 @@
 ghost use Rattle.std.specs.Prelude.{◌≡◌, IfOk, IfErr, IsSome};
 ghost use Rattle.archive_check.specs.Expressions.{shape_of};
 ghost use Rattle.archive_check.specs.Shape.{Name, named};
-ghost use Rattle.archive_check.specs.Growing.{node_of};
+ghost use Rattle.archive_check.specs.PlanGrowth.{node_of};
 ghost use Rattle.archive_check.specs.declared.error.Error.TheVariants.{OutOfMemory};
-ghost use Rattle.archive_check.specs.Queued.{waits_of, no_waits, IsQueued};
+ghost use Rattle.archive_check.specs.CompileQueue.{waits_of, no_waits, IsQueued};
 
 use crate::counting::root;
 use crate::error::Error;

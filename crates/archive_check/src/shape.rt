@@ -32,19 +32,18 @@ pub struct Schema {
 }
 
 impl Schema {
-    ghost use Rattle.std.specs.Prelude.{◌≡◌, ◌⊎◌, ◌≤◌, false, None, length, OnOk, IfOk, IfErr};
+    ghost use Rattle.std.specs.Prelude.{◌≡◌, ◌⊎◌, ◌≤◌, length, OnOk, IfOk, IfErr};
     ghost use Rattle.archive_check.specs.declared.error.Error.TheVariants.{OutOfMemory, LayoutTooLarge};
-    ghost use Rattle.archive_check.specs.Exact.{IsWhole};
-    ghost use Rattle.archive_check.specs.Schemas.{Accepts, Refuses, IsExact, IsSchemaOf, table_in};
+    ghost use Rattle.archive_check.specs.Fresh.{IsWhole};
+    ghost use Rattle.archive_check.specs.Schemas.{Accepts, Refuses, IsExact, IsSchemaOf, HasHeld, ExplainsNoSchema, IsLayoutOf, IsTooLarge};
     ghost use Rattle.archive_check.specs.Expressions.{shape_of};
-    ghost use Rattle.archive_check.specs.Extents.{IsLayoutOf, IsTooLarge};
-    ghost use Rattle.archive_check.specs.Names.{ExplainsNoSchema, missing};
 
     /// The schema of `T`: its expression and the definitions of all names that it reaches, compiled. Memory comes from `alloc`, also that which a
     /// check takes. Refused with 1 where memory is refused, with 30 exactly where a name that is reached has none or two definitions, and else with
     /// 31 exactly where a name holds itself other than behind a pointer.
     pub fn of<T: Portable>(alloc: Global) -> Result<Schema, Error>
         ensures made { IfOk result (λ s. IsSchemaOf s T.shape T.definitions) }
+        ensures held { IfOk result (λ s. HasHeld s T.shape) }
         ensures refused { IfErr result (λ e. ExplainsNoSchema T.shape T.definitions e) }
     {
         let root = T::expr(alloc)?;
@@ -59,10 +58,11 @@ impl Schema {
         })
     }
 
-    /// The layout of an expression, in bytes. It asks that each name that `expr` holds, other than behind a pointer, is defined in the schema. It
-    /// takes no memory. Refused with 23 exactly where the size is above `usize::MAX`; an array of nothing has size 0, whatever its element.
+    /// The layout of an expression, in bytes. It asks that each name that `expr` holds, other than behind a pointer, is defined in the schema, as
+    /// those of the type's own expression are. It takes no memory. Refused with 23 exactly where the size is above `usize::MAX`; an array of nothing
+    /// has size 0, whatever its element.
     pub fn layout(&self, expr: &Expr) -> Result<Layout, Error>
-        requires defined { missing false (table_in self.now) (shape_of expr.now) ≡ None }
+        requires { HasHeld self.now (shape_of expr.now) }
         ensures ok { IfOk result (λ l. IsLayoutOf self.now (shape_of expr.now) l) }
         ensures err { IfErr result (λ e. (e ≡ LayoutTooLarge) × IsTooLarge self.now (shape_of expr.now)) }
     {

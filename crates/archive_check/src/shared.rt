@@ -3,7 +3,7 @@
 ghost use Rattle.std.specs.Prelude.{◌≡◌, ◌↔◌, ◌≤◌, IsTrue, Some, None, IfOk, IfErr};
 ghost use Rattle.std.specs.HashMap.{get};
 ghost use Rattle.std.specs.Ordering.{int_eq};
-ghost use Rattle.archive_check.specs.Kept.{met_as, AreKnown, HasType, IsGrown};
+ghost use Rattle.archive_check.specs.SharedPositions.{met_as, AreKnown, HasType, IsGrown};
 ghost use Rattle.archive_check.specs.Expressions.{flavor_of, pointee_of};
 ghost use Rattle.archive_check.specs.Ranges.{whole};
 ghost use Rattle.archive_check.specs.Met.{nothing_met, IsStartAnswer};
@@ -19,7 +19,7 @@ use std::hash::{BuildHasherDefault, FoldHasher};
 
 /// What is kept of a shared position: its type, by its place in the list of types, its length, and whether it is finished.
 #[derive(Debug, Clone, Copy)]
-struct Kept {
+struct SharedPosition {
     sort: usize,
     length: usize,
     finished: bool,
@@ -33,7 +33,7 @@ fn is_of(sort: &Sort, flavor: &FlavorInfo, pointee: &Pointee) -> bool
     sort.flavor == *flavor && sort.pointee == *pointee
 }
 
-impl Kept {
+impl SharedPosition {
     // What is answered where this position, whose type is `sort`, is started again.
     fn answer(
         &self,
@@ -58,7 +58,7 @@ impl Kept {
     }
 }
 
-type Positions<A> = HashMap<i128, Kept, BuildHasherDefault<FoldHasher>, A>;
+type Positions<A> = HashMap<i128, SharedPosition, BuildHasherDefault<FoldHasher>, A>;
 
 /// The shared positions that a check came to. Each type is kept once, and a position keeps its type's place.
 #[derive(Drop)]
@@ -115,7 +115,7 @@ impl<A: Allocator + Copy> SharedContext for SharedValidator<A> {
             return kept.answer(&self.sorts[kept.sort], flavor, pointee, length);
         }
         let sort = place_of(&mut self.sorts, flavor, pointee)?;
-        let kept = Kept {
+        let kept = SharedPosition {
             sort,
             length,
             finished: false,

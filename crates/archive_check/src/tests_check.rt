@@ -8,14 +8,10 @@ ghost use Rattle.archive_check.specs.declared.plan.Checker.{Checker};
 use crate::defs::Def;
 use crate::error::Error;
 use crate::expr::{Expr, FlavorInfo, IntegerKind, Kind, Pointee};
-use crate::layout::Layout;
 use crate::plan::{Checker, Plan};
-use crate::shared::SharedValidator;
-use crate::validation::{
-    ArchiveContext, ArchiveValidator, Context, SharedContext, ValidationState,
-};
+use crate::validation::{ArchiveContext, SharedContext};
+use crate::validator::HighValidator;
 use std::alloc::{AllocError, Global};
-use std::ops::Range;
 use std::test::Fail;
 
 const RC: FlavorInfo = FlavorInfo {
@@ -76,54 +72,6 @@ fn check<C: ArchiveContext + SharedContext>(
     checker.check(alloc, node, at, context)
 }
 
-// The range of a buffer and its shared positions: a type of one lifetime, which a generic call takes.
-#[derive(Drop)]
-struct Whole<'a> {
-    archive: ArchiveValidator<'a>,
-    shared: SharedValidator,
-}
-
-impl Context for Whole<'_> {
-    ghost state = { λ v. v.archive };
-
-    ghost positions = { λ v. ⟦<SharedValidator as Context>⟧.positions v.shared };
-}
-
-impl ArchiveContext for Whole<'_> {
-    fn check_subtree_ptr(&mut self, position: i128, layout: &Layout) -> Result<(), Error> {
-        self.archive.check_subtree_ptr(position, layout)
-    }
-
-    fn push_subtree_range(&mut self, root: usize, end: usize) -> Result<Range<usize>, Error> {
-        self.archive.push_subtree_range(root, end)
-    }
-
-    fn pop_subtree_range(&mut self, range: Range<usize>) -> Result<(), Error> {
-        self.archive.pop_subtree_range(range)
-    }
-}
-
-impl SharedContext for Whole<'_> {
-    fn start_shared(
-        &mut self,
-        flavor: &FlavorInfo,
-        pointee: &Pointee,
-        position: i128,
-        length: usize,
-    ) -> Result<ValidationState, Error> {
-        self.shared.start_shared(flavor, pointee, position, length)
-    }
-
-    fn finish_shared(
-        &mut self,
-        flavor: &FlavorInfo,
-        pointee: &Pointee,
-        position: i128,
-    ) -> Result<(), Error> {
-        self.shared.finish_shared(flavor, pointee, position)
-    }
-}
-
 // How many regions a check enters, under definitions and a limit of depth.
 fn entered(
     alloc: Global,
@@ -136,12 +84,9 @@ fn entered(
     requires { levels ≢ Some 0 }
 {
     let (plan, node, _) = Plan::of(alloc, defs, root)?;
-    let mut context = Whole {
-        archive: ArchiveValidator::with_max_depth(bytes, levels),
-        shared: SharedValidator::new(alloc),
-    };
+    let mut context = HighValidator::with_max_depth(alloc, bytes, levels);
     check(alloc, &plan, node, bytes, at, &mut context)?;
-    Ok(context.archive.subtrees())
+    Ok(context.subtrees())
 }
 
 fn checked(alloc: Global, root: &Expr, bytes: &[u8], at: usize) -> Result<usize, Error> {

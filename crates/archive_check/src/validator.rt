@@ -1,13 +1,16 @@
-//! A context of a check, made of one for the range and one for the shared positions.
+//! Contexts of a check that are made of one for the range and one for the shared positions.
 
-ghost use Rattle.std.specs.Prelude.{◌≡◌};
+ghost use Rattle.std.specs.Prelude.{◌≡◌, ◌≢◌, Some, None};
+ghost use Rattle.archive_check.specs.Fresh.{IsWhole};
 
 use crate::error::Error;
 use crate::expr::{FlavorInfo, Pointee};
 use crate::layout::Layout;
+use crate::shared::SharedValidator;
 use crate::validation::{
     ArchiveContext, ArchiveValidator, Context, SharedContext, ValidationState,
 };
+use std::alloc::Global;
 use std::ops::Range;
 
 /// A context that asks `archive` about the range, and `shared` about shared positions.
@@ -76,5 +79,87 @@ impl<A: Context, S: SharedContext> SharedContext for Validator<A, S> {
         position: i128,
     ) -> Result<(), Error> {
         self.shared.finish_shared(flavor, pointee, position)
+    }
+}
+
+/// The range of one buffer and the shared positions in it. rkyv has the name for a `Validator` of the two.
+#[derive(Drop)]
+pub struct HighValidator<'a> {
+    range: ArchiveValidator<'a>,
+    positions: SharedValidator,
+}
+
+impl<'a> HighValidator<'a> {
+    /// The whole of `bytes`, of which nothing was met yet, with no limit of depth. Memory comes from `alloc`, and none is taken yet.
+    pub fn new(alloc: Global, bytes: &'a [u8]) -> HighValidator<'a>
+        ensures whole { IsWhole (⟦<HighValidator<'a> as Context>⟧.state result) (⟦<HighValidator<'a> as Context>⟧.positions result) bytes.now }
+        ensures unlimited { (⟦<HighValidator<'a> as Context>⟧.state result).depth ≡ None }
+        ensures none_entered { (⟦<HighValidator<'a> as Context>⟧.state result).pushes ≡ 0 }
+    {
+        HighValidator::with_max_depth(alloc, bytes, None)
+    }
+
+    /// The whole of `bytes`, of which nothing was met yet; of `depth` levels the last lets no region be entered. Memory comes from `alloc`, and none
+    /// is taken yet.
+    pub fn with_max_depth(alloc: Global, bytes: &'a [u8], depth: Option<usize>) -> HighValidator<'a>
+        requires { depth ≢ Some 0 }
+        ensures whole { IsWhole (⟦<HighValidator<'a> as Context>⟧.state result) (⟦<HighValidator<'a> as Context>⟧.positions result) bytes.now }
+        ensures limited { (⟦<HighValidator<'a> as Context>⟧.state result).depth ≡ depth }
+        ensures none_entered { (⟦<HighValidator<'a> as Context>⟧.state result).pushes ≡ 0 }
+    {
+        prove!(depth.unwrap_or(0) <= usize::MAX);
+        HighValidator {
+            range: ArchiveValidator::with_max_depth(bytes, depth),
+            positions: SharedValidator::new(alloc),
+        }
+    }
+
+    /// How many regions were entered, `usize::MAX` where it is more.
+    pub fn subtrees(&self) -> usize
+        ensures { result ≡ (⟦<HighValidator<'a> as Context>⟧.state self.now).pushes }
+    {
+        self.range.subtrees()
+    }
+}
+
+impl Context for HighValidator<'_> {
+    ghost state = { λ v. v.range };
+
+    ghost positions = { λ v. ⟦<SharedValidator as Context>⟧.positions v.positions };
+}
+
+impl ArchiveContext for HighValidator<'_> {
+    fn check_subtree_ptr(&mut self, position: i128, layout: &Layout) -> Result<(), Error> {
+        self.range.check_subtree_ptr(position, layout)
+    }
+
+    fn push_subtree_range(&mut self, root: usize, end: usize) -> Result<Range<usize>, Error> {
+        self.range.push_subtree_range(root, end)
+    }
+
+    fn pop_subtree_range(&mut self, range: Range<usize>) -> Result<(), Error> {
+        self.range.pop_subtree_range(range)
+    }
+}
+
+impl SharedContext for HighValidator<'_> {
+    fn start_shared(
+        &mut self,
+        flavor: &FlavorInfo,
+        pointee: &Pointee,
+        position: i128,
+        length: usize,
+    ) -> Result<ValidationState, Error> {
+        self.positions
+            .start_shared(flavor, pointee, position, length)
+    }
+
+    fn finish_shared(
+        &mut self,
+        flavor: &FlavorInfo,
+        pointee: &Pointee,
+        position: i128,
+    ) -> Result<(), Error> {
+        self.positions.finish_shared(flavor, pointee, position)
     }
 }

@@ -11,11 +11,11 @@ use Rattle.archive_check.specs.Tour.{Region, contents_one, Leads, Entry, Seen, t
 use Rattle.archive_check.specs.Denotes.{Fills, rename, fills_number, fills_box, fills_unique, fills_product, fills_case, fills_no_value, fills_value}
 use Rattle.archive_check.specs.Reached.{Names, names_product, names_case, names_box, names_first, names_later}
 use Rattle.archive_check.specs.Written.{after}
-use Rattle.archive_check.specs.Tidy.{Stands, AreZero, NeatPointee, neat_one}
-use Rattle.archive_check.specs.Held.{States, Held, Pads}
+use Rattle.archive_check.specs.CleanRegions.{Stands, AreZero, CleanPointee, clean_one}
+use Rattle.archive_check.specs.WriterState.{KeyStates, WriterState, Pads}
 use Rattle.archive_check.proofs.Compose.{tour_append}
 use Rattle.archive_check.proofs.Standing.{stands_fits, stands_zero, zero_nowhere, stands_begun}
-use Rattle.archive_check.proofs.Tightness.{tight_append, tidy_append}
+use Rattle.archive_check.proofs.Tightness.{tight_append, clean_regions_append}
 use Rattle.archive_core.specs.Writing.{NameMap, Naming, AreNamed, World, Holds, Known, Unseen, Found, Appends, Finishes, AreFinished, AllFinished, Writes, WritesAll, Puts, Lays, to_pointee}
 
 -- the layout, in a schema that knows the definitions
@@ -47,7 +47,7 @@ named_both names [] ls h i = i
 named_both names (k ∷ ks) ls h i = (h.0, named_both names ks ls h.1 i)
 
 -- a world that holds what is written later holds what was written before
-pub holds_before : (w : World) (D : Definitions) (mid new added : List ℕ) (s t : States) (ks : List Naming)
+pub holds_before : (w : World) (D : Definitions) (mid new added : List ℕ) (s t : KeyStates) (ks : List Naming)
     → new ≡ mid ++ added → ((k : ℕ) (x : Option ℕ) → s k ≡ Some x → t k ≡ Some x) → Holds w D new t ks → Holds w D mid s ks
 holds_before w D mid new added s t ks e kept h = record {
   knows = h.knows;
@@ -57,18 +57,18 @@ holds_before w D mid new added s t ks e kept h = record {
   named = h.named;
 }
 
-pub holds_left : (w : World) (D E : Definitions) (new : List ℕ) (t : States) (ks ls : List Naming) → Holds w (both D E) new t (ks ++ ls) → Holds w D new t ks
+pub holds_left : (w : World) (D E : Definitions) (new : List ℕ) (t : KeyStates) (ks ls : List Naming) → Holds w (both D E) new t (ks ++ ls) → Holds w D new t ks
 holds_left w D E new t ks ls h = record { knows = knows_left _ D E h.knows; rest = h.rest; begins = h.begins; placed = h.placed; named = named_left _ ks ls h.named }
 
-pub holds_right : (w : World) (D E : Definitions) (new : List ℕ) (t : States) (ks ls : List Naming) → Holds w (both D E) new t (ks ++ ls) → Holds w E new t ls
+pub holds_right : (w : World) (D E : Definitions) (new : List ℕ) (t : KeyStates) (ks ls : List Naming) → Holds w (both D E) new t (ks ++ ls) → Holds w E new t ls
 holds_right w D E new t ks ls h = record { knows = knows_right _ D E h.knows; rest = h.rest; begins = h.begins; placed = h.placed; named = named_right _ ks ls h.named }
 
 -- states
 
-pub finishes_nothing : (a : ℕ) (s : States) → Finishes a a s s
+pub finishes_nothing : (a : ℕ) (s : KeyStates) → Finishes a a s s
 finishes_nothing a s = record { kept = λ k x h. h; settled = λ k x h i. cc; apart = λ k l t h i j m. cc }
 
-finishes_later : (a b c : ℕ) (s t u : States) (k : ℕ) (x : Option ℕ) (y : Option (Option ℕ)) → t k ≡ y → a ≤ b → b ≤ c
+finishes_later : (a b c : ℕ) (s t u : KeyStates) (k : ℕ) (x : Option ℕ) (y : Option (Option ℕ)) → t k ≡ y → a ≤ b → b ≤ c
     → Finishes a b s t → Finishes b c t u → s k ≡ None → u k ≡ Some x → (q : ℕ) × (x ≡ Some q) × (a ≤ q) × (q < c)
 finishes_later a b c s t u k x None is le ge h i old new =
     let later = i.settled k x is new in (later.0, later.1, omega (arith, later.2), later.3)
@@ -77,7 +77,7 @@ finishes_later a b c s t u k x (Some y) is le ge h i old new =
     let same : x ≡ y = (let there = i.kept k y is in cc) in
     (early.0, same ∙ early.1, early.2, omega (arith, early.3))
 
-finishes_apart : (a b c : ℕ) (s t u : States) (k l q : ℕ) (x y : Option (Option ℕ)) → t k ≡ x → t l ≡ y → Finishes a b s t → Finishes b c t u
+finishes_apart : (a b c : ℕ) (s t u : KeyStates) (k l q : ℕ) (x y : Option (Option ℕ)) → t k ≡ x → t l ≡ y → Finishes a b s t → Finishes b c t u
     → s k ≡ None → s l ≡ None → u k ≡ Some (Some q) → u l ≡ Some (Some q) → k ≡ l
 finishes_apart a b c s t u k l q None None is js h i m n at too = i.apart k l q is js at too
 finishes_apart a b c s t u k l q None (Some y) is js h i m n at too =
@@ -94,51 +94,51 @@ finishes_apart a b c s t u k l q (Some x) (Some y) is js h i m n at too =
     let first : x ≡ Some q = (let there = i.kept k x is in cc) in let second : y ≡ Some q = (let there = i.kept l y js in cc) in
     h.apart k l q m n (rw first at is) (rw second at js)
 
-pub finished_later : (s t : States) (v : Value) → ((k : ℕ) (x : Option ℕ) → s k ≡ Some x → t k ≡ Some x) → AreFinished s v → AreFinished t v
+pub finished_later : (s t : KeyStates) (v : Value) → ((k : ℕ) (x : Option ℕ) → s k ≡ Some x → t k ≡ Some x) → AreFinished s v → AreFinished t v
 finished_later s t v kept h k n = (let (q, is) = h k n in (q, kept k (Some q) is))
 
-pub finished_more : (s : States) (v : Value) (vs : Values) → AreFinished s v → AllFinished s vs → AllFinished s (value v vs)
+pub finished_more : (s : KeyStates) (v : Value) (vs : Values) → AreFinished s v → AllFinished s vs → AllFinished s (value v vs)
 finished_more s v vs h i k (names_first n) = h k n
 finished_more s v vs h i k (names_later n) = i k n
 
-finished_none : (s : States) → AllFinished s no_value
+finished_none : (s : KeyStates) → AllFinished s no_value
 finished_none s k n = elim n [ ]
 
-finished_product : (s : States) (vs : Values) → AllFinished s vs → AreFinished s (product vs)
+finished_product : (s : KeyStates) (vs : Values) → AllFinished s vs → AreFinished s (product vs)
 finished_product s vs h k (names_product n) = h k n
 
-finished_case : (s : States) (tag : ℕ) (vs : Values) → AllFinished s vs → AreFinished s (case tag vs)
+finished_case : (s : KeyStates) (tag : ℕ) (vs : Values) → AllFinished s vs → AreFinished s (case tag vs)
 finished_case s tag vs h k (names_case n) = h k n
 
-finished_box : (s : States) (v : Value) → AreFinished s v → AreFinished s (box v)
+finished_box : (s : KeyStates) (v : Value) → AreFinished s v → AreFinished s (box v)
 finished_box s v h k (names_box n) = h k n
 
-pub finishes_both : (a b c : ℕ) (s t u : States) → a ≤ b → b ≤ c → Finishes a b s t → Finishes b c t u → Finishes a c s u
+pub finishes_both : (a b c : ℕ) (s t u : KeyStates) → a ≤ b → b ≤ c → Finishes a b s t → Finishes b c t u → Finishes a c s u
 finishes_both a b c s t u le ge h i = record {
   kept = λ k x old. i.kept k x (h.kept k x old);
   settled = λ k x old new. finishes_later a b c s t u k x (t k) refl le ge h i old new;
   apart = λ k l q m n at too. finishes_apart a b c s t u k l q (t k) (t l) refl refl h i m n at too;
 }
 
-pub finishes_wider : (a b c : ℕ) (s t : States) → b ≤ c → Finishes a b s t → Finishes a c s t
+pub finishes_wider : (a b c : ℕ) (s t : KeyStates) → b ≤ c → Finishes a b s t → Finishes a c s t
 finishes_wider a b c s t le h = record { kept = h.kept; settled = λ k x old new. (let i = h.settled k x old new in (i.0, i.1, i.2, omega (arith, i.3))); apart = h.apart }
 
 -- tours
 
-pub appends_nothing : (w : World) (a : ℕ) (s : States) (pending : List ℕ) (seen : Seen) → Known w s a seen pending → Appends w a a s pending seen []
+pub appends_nothing : (w : World) (a : ℕ) (s : KeyStates) (pending : List ℕ) (seen : Seen) → Known w s a seen pending → Appends w a a s pending seen []
 appends_nothing w a s pending seen known = record {
   regions = [];
   last = seen;
   tour = tour_end;
   tight = refl;
-  tidy = tt;
+  clean = tt;
   known = known;
   below = λ t h. refl;
   above = λ t h. refl;
   found = λ t e h. inl h;
 }
 
-pub found_later : (w : World) (s t : States) (q : ℕ) (e : Entry) → ((k : ℕ) (x : Option ℕ) → s k ≡ Some x → t k ≡ Some x) → Found w s q e → Found w t q e
+pub found_later : (w : World) (s t : KeyStates) (q : ℕ) (e : Entry) → ((k : ℕ) (x : Option ℕ) → s k ≡ Some x → t k ≡ Some x) → Found w s q e → Found w t q e
 found_later w s t q e kept h = record { key = h.key; flat = h.flat; value = h.value; finished = kept h.key (Some q) h.finished; names = h.names; contents = h.contents; fills = h.fills }
 
 pub unseen_later : (a b c : ℕ) (seen last : Seen) → a ≤ b → ((t : ℕ) → b ≤ t → get last t ≡ get seen t) → Unseen seen a c → Unseen last b c
@@ -147,7 +147,7 @@ unseen_later a b c seen last le above h = record { unseen = λ t l m. above t l 
 pub unseen_before : (a b c : ℕ) (seen : Seen) → b ≤ c → Unseen seen a c → Unseen seen a b
 unseen_before a b c seen le h = record { unseen = λ t l m. h.unseen t l (omega arith) }
 
-pub appends_both : (w : World) (a b c : ℕ) (s t : States) (pending : List ℕ) (seen : Seen) (O P : List Pointer)
+pub appends_both : (w : World) (a b c : ℕ) (s t : KeyStates) (pending : List ℕ) (seen : Seen) (O P : List Pointer)
     → a ≤ b → b ≤ c → ((k : ℕ) (x : Option ℕ) → s k ≡ Some x → t k ≡ Some x)
     → (h : Appends w a b s pending seen O) → Appends w b c t pending h.last P → Appends w a c t pending seen (O ++ P)
 appends_both w a b c s t pending seen O P le ge kept h i = record {
@@ -155,7 +155,7 @@ appends_both w a b c s t pending seen O P le ge kept h i = record {
   last = i.last;
   tour = (tour_append w.schema w.bytes h.tour i.tour).0;
   tight = tight_append a h.regions b i.regions c h.tight i.tight;
-  tidy = tidy_append w.schema w.bytes a h.regions b i.regions h.tight h.tidy i.tidy;
+  clean = clean_regions_append w.schema w.bytes a h.regions b i.regions h.tight h.clean i.clean;
   known = i.known;
   below = λ q l. i.below q (omega arith) ∙ h.below q l;
   above = λ q l. i.above q l ∙ h.above q (omega arith);
@@ -166,18 +166,18 @@ appends_both w a b c s t pending seen O P le ge kept h i = record {
 }
 
 -- after the regions of its own pointers, the region of a pointer that is its own
-pub appends_region : (w : World) (a b c : ℕ) (s : States) (pending : List ℕ) (seen : Seen) (p : Pointer) (t : ℕ) (v : Value)
+pub appends_region : (w : World) (a b c : ℕ) (s : KeyStates) (pending : List ℕ) (seen : Seen) (p : Pointer) (t : ℕ) (v : Value)
     → a ≤ b → p.sharing ≡ None → Leads w.schema w.bytes p t v
-    → t ≡ up b (pointee_align w.schema p.pointee) → AreZero w.bytes b t → NeatPointee w.schema w.bytes t p.pointee p.length
+    → t ≡ up b (pointee_align w.schema p.pointee) → AreZero w.bytes b t → CleanPointee w.schema w.bytes t p.pointee p.length
     → b ≤ c → c ≡ after (region_of w.schema p t) → AreZero w.bytes (t + pointee_size w.schema p.pointee p.length) (after (region_of w.schema p t))
     → Appends w a b s pending seen (pointers v) → Appends w a c s pending seen (p ∷ [])
-appends_region w a b c s pending seen p t v le own leads aligned zeros neat ge ends behind h =
+appends_region w a b c s pending seen p t v le own leads aligned zeros clean ge ends behind h =
     let r : Region = region_of w.schema p t in record {
       regions = h.regions ++ r ∷ [];
       last = h.last;
       tour = tour_unique own leads h.tour tour_end;
       tight = tight_append a h.regions b (r ∷ []) c h.tight (aligned, ends);
-      tidy = tidy_append w.schema w.bytes a h.regions b (r ∷ []) h.tight h.tidy (zeros, neat, behind, tt);
+      clean = clean_regions_append w.schema w.bytes a h.regions b (r ∷ []) h.tight h.clean (zeros, clean, behind, tt);
       known = record { typed = h.known.typed; inner = h.known.inner; closed = h.known.closed; below = λ k q is. omega (arith, h.known.below k q is); opened = h.known.opened };
       below = h.below;
       above = λ q l. h.above q (omega arith);
@@ -189,7 +189,7 @@ longer old new added e = omega (arith, ap length e, length-append old added)
 
 -- laws of types
 
-pub writes_nothing : (D : Definitions) (told : Held) (v : Value) → pointers v ≡ [] → ((k : ℕ) → Names k v → ⊥) → ((w : World) → Fills w.schema w.bytes v (rename w.position v)) → Writes D told told [] v v
+pub writes_nothing : (D : Definitions) (told : WriterState) (v : Value) → pointers v ≡ [] → ((k : ℕ) → Names k v → ⊥) → ((w : World) → Fills w.schema w.bytes v (rename w.position v)) → Writes D told told [] v v
 writes_nothing D told v none nameless fills = record {
   added = [];
   grown = sym (append-nil told.bytes);
@@ -199,7 +199,7 @@ writes_nothing D told v none nameless fills = record {
   fills = λ w h. fills w;
 }
 
-pub writes_none : (D : Definitions) (told : Held) → WritesAll D told told [] no_value no_value
+pub writes_none : (D : Definitions) (told : WriterState) → WritesAll D told told [] no_value no_value
 writes_none D told = record {
   added = [];
   grown = sym (append-nil told.bytes);
@@ -209,7 +209,7 @@ writes_none D told = record {
   fills = λ w h. fills_no_value;
 }
 
-pub writes_cons : (D E : Definitions) (old mid new : Held) (ks ls : List Naming) (v x : Value) (vs xs : Values)
+pub writes_cons : (D E : Definitions) (old mid new : WriterState) (ks ls : List Naming) (v x : Value) (vs xs : Values)
     → Writes D old mid ks v x → WritesAll E mid new ls vs xs → WritesAll (both D E) old new (ks ++ ls) (value v vs) (value x xs)
 writes_cons D E old mid new ks ls v x vs xs h i =
     let le : length old.bytes ≤ length mid.bytes = longer _ _ _ h.grown in
@@ -228,11 +228,11 @@ writes_cons D E old mid new ks ls v x vs xs h i =
       fills = λ w n. fills_value (h.fills w (early w n)) (i.fills w (holds_right w D E _ _ ks ls n));
     }
 
-pub writes_product : (D : Definitions) (old new : Held) (ks : List Naming) (vs xs : Values) → WritesAll D old new ks vs xs → Writes D old new ks (product vs) (product xs)
+pub writes_product : (D : Definitions) (old new : WriterState) (ks : List Naming) (vs xs : Values) → WritesAll D old new ks vs xs → Writes D old new ks (product vs) (product xs)
 writes_product D old new ks vs xs h = record { added = h.added; grown = h.grown; states = h.states; finished = finished_product new.states xs h.finished; appends = h.appends; fills = λ w n. fills_product (h.fills w n) }
 
 -- the region of a pointee, and what it owns before it
-pub writes_laid : (D : Definitions) (old new : Held) (ks : List Naming) (p : ℕ) (P : Pointee) (n : ℕ) (x : Value) → Lays D old new ks p P n x → Writes D old new ks (hole (to_pointee p P n)) x
+pub writes_laid : (D : Definitions) (old new : WriterState) (ks : List Naming) (p : ℕ) (P : Pointee) (n : ℕ) (x : Value) → Lays D old new ks p P n x → Writes D old new ks (hole (to_pointee p P n)) x
 writes_laid D old new ks p P n x h =
     let m = h.owned in
     let le : length old.bytes ≤ length h.mid.bytes = longer _ _ _ m.grown in
@@ -257,14 +257,14 @@ writes_laid D old new ks p P n x h =
           rw h.states (appends_region w _ _ _ _ pending seen (to_pointee p P n) p h.flat le refl (leads w k)
           (h.aligned w.schema k.knows)
           (stands_zero w.bytes _ p h.zeros h.zeroed h.at (stands_begun w.bytes h.mid.bytes h.zeros (h.region ++ k.rest) _ (begins w k) refl))
-          (h.neat w.schema w.bytes k.knows (stands w k))
+          (h.clean w.schema w.bytes k.knows (stands w k))
           ge (omega (arith, ends, size)) (zero_nowhere w.bytes _ _ (omega arith))
           first));
       fills = λ w k. fills_unique refl (leads w k) (m.fills w (early w k));
     }
 
 -- one value
-pub lays_one : (D : Definitions) (old mid low new : Held) (ks : List Naming) (v x : Value) (X : Shape) (L : Layout) (t : ℕ)
+pub lays_one : (D : Definitions) (old mid low new : WriterState) (ks : List Naming) (v x : Value) (X : Shape) (L : Layout) (t : ℕ)
     → Writes D old mid ks v x → Pads L.align mid low → Puts D low new X L v → t ≡ length low.bytes
     → Lays D old new ks t (one X) 0 x
 lays_one D old mid low new ks v x X L t h pads puts here = record {
@@ -279,17 +279,17 @@ lays_one D old mid low new ks v x X L t h pads puts here = record {
   aligned = λ s k. here ∙ pads.aligned ∙ ap (up (length mid.bytes)) (sym (align_is puts.layout s k));
   sized = λ s k. puts.sized ∙ sym (size_is puts.layout s k);
   contents = λ s bytes k stands. contents_one (rw here (puts.resolved.reads s bytes k (rw (← here) stands)));
-  neat = λ s bytes k stands. neat_one (rw here (puts.resolved.neat s bytes k (rw (← here) stands)));
+  clean = λ s bytes k stands. clean_one (rw here (puts.resolved.clean s bytes k (rw (← here) stands)));
   states = puts.states ∙ pads.states;
 }
 
-pub writes_pair : (D E : Definitions) (old mid new : Held) (ks ls : List Naming) (v x w y : Value)
+pub writes_pair : (D E : Definitions) (old mid new : WriterState) (ks ls : List Naming) (v x w y : Value)
     → Writes D old mid ks v x → Writes E mid new ls w y
     → Writes (both D (both E no_definition)) old new (ks ++ (ls ++ [])) (product (value v (value w no_value))) (product (value x (value y no_value)))
 writes_pair D E old mid new ks ls v x w y h i =
     writes_product _ old new _ _ _ (writes_cons D (both E no_definition) old mid new ks (ls ++ []) v x _ _ h (writes_cons E no_definition mid new new ls [] w y _ _ i (writes_none no_definition new)))
 
-pub writes_case : (D : Definitions) (old new : Held) (ks : List Naming) (tag : ℕ) (v x : Value)
+pub writes_case : (D : Definitions) (old new : WriterState) (ks : List Naming) (tag : ℕ) (v x : Value)
     → Writes D old new ks v x → Writes D old new ks (case tag (value v no_value)) (case tag (value x no_value))
 writes_case D old new ks tag v x h = record {
   added = h.added;
@@ -303,13 +303,13 @@ writes_case D old new ks tag v x h = record {
 finished_case_none : (tag k : ℕ) → Names k (case tag no_value) → ⊥
 finished_case_none tag k (names_case n) = elim n [ ]
 
-pub writes_empty_case : (D : Definitions) (told : Held) (tag : ℕ) → Writes D told told [] (case tag no_value) (case tag no_value)
+pub writes_empty_case : (D : Definitions) (told : WriterState) (tag : ℕ) → Writes D told told [] (case tag no_value) (case tag no_value)
 writes_empty_case D told tag = writes_nothing D told (case tag no_value) refl (finished_case_none tag) (λ w. fills_case fills_no_value)
 
 -- a box of what stands as a region of its own
-pub writes_box : (D : Definitions) (old new : Held) (ks : List Naming) (p : Pointer) (x : Value)
+pub writes_box : (D : Definitions) (old new : WriterState) (ks : List Naming) (p : Pointer) (x : Value)
     → Writes D old new ks (hole p) x → Writes D old new ks (box (hole p)) (box x)
 writes_box D old new ks p x h = record { added = h.added; grown = h.grown; states = h.states; finished = finished_box new.states x h.finished; appends = h.appends; fills = λ w n. fills_box (h.fills w n) }
 
-pub writes_number : (D : Definitions) (told : Held) (z : ℤ) → Writes D told told [] (number z) (number z)
+pub writes_number : (D : Definitions) (told : WriterState) (z : ℤ) → Writes D told told [] (number z) (number z)
 writes_number D told z = writes_nothing D told (number z) refl (λ k n. elim n [ ]) (λ w. fills_number)

@@ -4,9 +4,9 @@ use Rattle.std.specs.Ordering.{nat_cmp}
 use Rattle.std.specs.FinMap.{FinMap, get}
 use Rattle.archive_check.specs.Value.{Value}
 use Rattle.archive_check.specs.Tour.{Entry, Seen}
-use Rattle.archive_check.specs.Denotes.{Knows, Same, rename}
+use Rattle.archive_check.specs.Denotes.{IsSharedValue, Same, rename}
 use Rattle.archive_check.specs.Reached.{Names, LeadsTo, leads_at_once, leads_through}
-use Rattle.archive_check.specs.Held.{States}
+use Rattle.archive_check.specs.WriterState.{KeyStates}
 use Rattle.archive_check.proofs.Determined.{contents_one_value}
 use Rattle.archive_check.proofs.Denoted.{fills_one}
 use Rattle.archive_check.proofs.Sameness.{rename_again, rename_stays}
@@ -52,7 +52,7 @@ one_entry : (m : Option (Entry × Value)) (e d : Entry) (x y : Value) → m ≡ 
 one_entry m e d x y h i = sym (ap (entry_or e) h) ∙ ap (entry_or e) i
 
 -- what is known of the keys in the end
-pub record InTheEnd (w : World) (states : States) (ks : List Naming) (x : Value) (seen : Seen) (shared : FinMap nat_cmp (Entry × Value)) : Type 0 where
+pub record InTheEnd (w : World) (states : KeyStates) (ks : List Naming) (x : Value) (seen : Seen) (shared : FinMap nat_cmp (Entry × Value)) : Type 0 where
   pub placed : (k t : ℕ) → states k ≡ Some (Some t) → w.position k ≡ t
   pub apart : (k l t : ℕ) → states k ≡ Some (Some t) → states l ≡ Some (Some t) → k ≡ l
   pub finished : AreFinished states x
@@ -61,9 +61,9 @@ pub record InTheEnd (w : World) (states : States) (ks : List Naming) (x : Value)
   pub typed : (k t : ℕ) (e : Entry) (v : Value) → states k ≡ Some (Some t) → get w.names k ≡ Some (e, v) → get seen t ≡ Some e
   pub inner : (k t : ℕ) (e : Entry) (v : Value) → states k ≡ Some (Some t) → get w.names k ≡ Some (e, v) → AreFinished states v
   pub found : (t : ℕ) (e : Entry) → get seen t ≡ Some e → Found w states t e
-  pub knows : (t : ℕ) → Knows w.schema w.bytes t (get seen t) (get shared t)
+  pub knows : (t : ℕ) → IsSharedValue w.schema w.bytes t (get seen t) (get shared t)
 
-module _ (w : World) (states : States) (ks : List Naming) (x : Value) (seen : Seen) (shared : FinMap nat_cmp (Entry × Value)) (h : InTheEnd w states ks x seen shared) where
+module _ (w : World) (states : KeyStates) (ks : List Naming) (x : Value) (seen : Seen) (shared : FinMap nat_cmp (Entry × Value)) (h : InTheEnd w states ks x seen shared) where
   -- a name that the value leads to is one of its keys, and finished
   is_key : (k : ℕ) → LeadsTo w.names x k → (y : Entry × Value) × Contains ks (k, y)
   is_key k (leads_at_once n) = h.keyed.value k n
@@ -89,14 +89,14 @@ module _ (w : World) (states : States) (ks : List Naming) (x : Value) (seen : Se
       rw (h.placed k t is) (from_is k t y.0 is (h.typed k t y.0 y.1 is (named_in w.names ks (k, y) h.keys.named c)))
 
   -- what is known of a position that was seen
-  known_value : (t : ℕ) (e : Entry) (o : Option Entry) (m : Option (Entry × Value)) (f : Found w states t e) → o ≡ Some e → Knows w.schema w.bytes t o m → m ≡ Some (e, rename w.position f.value)
+  known_value : (t : ℕ) (e : Entry) (o : Option Entry) (m : Option (Entry × Value)) (f : Found w states t e) → o ≡ Some e → IsSharedValue w.schema w.bytes t o m → m ≡ Some (e, rename w.position f.value)
   known_value t e None m f is k = cc
   known_value t e (Some d) m f is k =
       let same : d ≡ e = cc in
       let (v, y, contents, fills, at) = rw same at k in
       at ∙ ap (λ z. Some (e, z)) (fills_one w.schema w.bytes fills (rw (contents_one_value f.contents contents) at f.fills))
 
-  seen_or : (t : ℕ) (o : Option Entry) (m : Option (Entry × Value)) (e : Entry) (z : Value) → Knows w.schema w.bytes t o m → m ≡ Some (e, z) → o ≡ Some e
+  seen_or : (t : ℕ) (o : Option Entry) (m : Option (Entry × Value)) (e : Entry) (z : Value) → IsSharedValue w.schema w.bytes t o m → m ≡ Some (e, z) → o ≡ Some e
   seen_or t None m e z k is = cc
   seen_or t (Some d) m e z (v, y, contents, fills, at) is = ap Some (one_entry m d e y z at is)
 

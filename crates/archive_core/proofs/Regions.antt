@@ -6,8 +6,8 @@ use Rattle.archive_check.specs.Layout.{Layout}
 use Rattle.archive_check.specs.Definitions.{Definitions, HasLayout}
 use Rattle.archive_check.specs.Value.{Value}
 use Rattle.archive_check.specs.Told.{Told, KeepsKeys}
-use Rattle.archive_check.specs.Tidy.{IsZeroed}
-use Rattle.archive_check.specs.Held.{States, held}
+use Rattle.archive_check.specs.CleanRegions.{IsZeroed}
+use Rattle.archive_check.specs.WriterState.{KeyStates, writer_state}
 use Rattle.archive_check.specs.declared.error.Error.{Error}
 use Rattle.archive_check.specs.declared.error.Error.TheVariants.{LayoutTooLarge}
 use Rattle.archive_write.specs.Written.{ExplainsRefusal}
@@ -24,9 +24,9 @@ fresh_zeros size p n a e m ends = record { sized = ap length e ∙ length-replic
 pub fresh_front : (size p n : ℕ) → n ≡ size → n ≤ 64 → p + size < 2 ^ 64 → Fresh size p (take n (replicate 64 0))
 fresh_front size p n m few ends = fresh_zeros size p n _ (take-replicate n 64 0 few) m ends
 
-pub puts_by : (D : Definitions) (old new : Told) (s t : States) (X : Shape) (L : Layout) (a : List ℕ) (p : ℕ) (v : Value)
+pub puts_by : (D : Definitions) (old new : Told) (s t : KeyStates) (X : Shape) (L : Layout) (a : List ℕ) (p : ℕ) (v : Value)
     → HasLayout D X L → Resolves D p a X v → length a ≡ L.size → new.bytes ≡ old.bytes ++ a → p ≡ length old.bytes → KeepsKeys s t
-    → Puts D (held old s) (held new t) X L v
+    → Puts D (writer_state old s) (writer_state new t) X L v
 puts_by D old new s t X L a p v layout r sized grown here keys = record {
   layout = layout;
   added = a;

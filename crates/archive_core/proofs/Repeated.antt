@@ -6,7 +6,7 @@ use Rattle.archive_check.specs.Layout.{Layout, size_of}
 use Rattle.archive_check.specs.Definitions.{Definitions, Knows, HasLayout}
 use Rattle.archive_check.specs.Value.{Value, list, number}
 use Rattle.archive_check.specs.Reads.{Schema, reads_array, ReadsRun, reads_none, reads_element}
-use Rattle.archive_check.specs.Tidy.{Stands, neat_array, NeatRun, neat_none, neat_element}
+use Rattle.archive_check.specs.CleanRegions.{Stands, clean_array, CleanRun, clean_none, clean_element}
 use Rattle.archive_check.proofs.Standing.{stands_front, stands_back}
 use Rattle.archive_core.specs.Writing.{Resolves}
 use Rattle.archive_core.specs.Repeated.{repeated, copies}
@@ -22,13 +22,13 @@ module _ (D : Definitions) (X : Shape) (L : Layout) (a : List ℕ) (v : Value) (
   run_reads (suc n) p s bytes k h = reads_element ((each p).reads s bytes k (stands_front bytes p a (copies n a) h))
       (rw (next s k p) (run_reads n (p + length a) s bytes k (stands_back bytes p (p + length a) a (copies n a) refl h)))
 
-  run_neat : (n p : ℕ) (s : Schema) (bytes : List ℕ) → Knows s D → Stands bytes p (copies n a) → NeatRun s bytes p n X
-  run_neat zero p s bytes k h = neat_none
-  run_neat (suc n) p s bytes k h = neat_element ((each p).neat s bytes k (stands_front bytes p a (copies n a) h))
-      (rw (next s k p) (run_neat n (p + length a) s bytes k (stands_back bytes p (p + length a) a (copies n a) refl h)))
+  run_clean : (n p : ℕ) (s : Schema) (bytes : List ℕ) → Knows s D → Stands bytes p (copies n a) → CleanRun s bytes p n X
+  run_clean zero p s bytes k h = clean_none
+  run_clean (suc n) p s bytes k h = clean_element ((each p).clean s bytes k (stands_front bytes p a (copies n a) h))
+      (rw (next s k p) (run_clean n (p + length a) s bytes k (stands_back bytes p (p + length a) a (copies n a) refl h)))
 
   pub resolves_repeated : (n p : ℕ) → Resolves D p (copies n a) (array n X) (list (repeated n v))
-  resolves_repeated n p = record { reads = λ s bytes k h. reads_array (run_reads n p s bytes k h); neat = λ s bytes k h. neat_array (run_neat n p s bytes k h) }
+  resolves_repeated n p = record { reads = λ s bytes k h. reads_array (run_reads n p s bytes k h); clean = λ s bytes k h. clean_array (run_clean n p s bytes k h) }
 
 -- a hundred bytes of 7 are 25 numbers
 pub resolves_sevens : (D : Definitions) (p n : ℕ) (b : List ℕ) → b ≡ replicate n 7 → n ≡ 100 → Resolves D p b (array 25 (leaf (number_kind unsigned w32))) (list (repeated 25 (number (pos 117901063))))

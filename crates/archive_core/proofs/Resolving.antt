@@ -7,7 +7,7 @@ use Rattle.archive_check.specs.Layout.{kind_size}
 use Rattle.archive_check.specs.Definitions.{Definitions}
 use Rattle.archive_check.specs.Value.{number}
 use Rattle.archive_check.specs.Reads.{bytes_at, IsLegal, kind_number, kind_value, with_sign, Reads, reads_leaf}
-use Rattle.archive_check.specs.Tidy.{neat_leaf}
+use Rattle.archive_check.specs.CleanRegions.{clean_leaf}
 use Rattle.archive_check.proofs.Standing.{stands_bytes}
 use Rattle.archive_num.specs.Digits.{little_bytes, little_number, is_zero}
 use Rattle.archive_num.specs.Numbers.{length-little_bytes}
@@ -19,7 +19,7 @@ resolves_leaf D p a kind legal = record {
   reads = λ s bytes fits stands. (
       let e : bytes_at bytes p (kind_size kind) ≡ a = stands_bytes bytes p (kind_size kind) a legal.size stands in
       subst (λ b. Reads s bytes p (leaf kind) (number (kind_value kind b))) e (reads_leaf (rw e legal)));
-  neat = λ s bytes fits stands. neat_leaf;
+  clean = λ s bytes fits stands. clean_leaf;
 }
 
 -- the bytes of a number

@@ -12,10 +12,10 @@ use Rattle.archive_check.specs.Tour.{Region, Leads, Entry, entry, Seen, tour_end
 use Rattle.archive_check.specs.Denotes.{Fills, fills_shared, rename}
 use Rattle.archive_check.specs.Reached.{names_itself}
 use Rattle.archive_check.specs.Written.{after}
-use Rattle.archive_check.specs.Tidy.{Stands, AreZero, IsZeroed, NeatPointee}
-use Rattle.archive_check.specs.Held.{States, Held}
+use Rattle.archive_check.specs.CleanRegions.{Stands, AreZero, IsZeroed, CleanPointee}
+use Rattle.archive_check.specs.WriterState.{KeyStates, WriterState}
 use Rattle.archive_check.proofs.Standing.{stands_fits, stands_zero, stands_begun}
-use Rattle.archive_check.proofs.Tightness.{tight_append, tidy_append}
+use Rattle.archive_check.proofs.Tightness.{tight_append, clean_regions_append}
 use Rattle.archive_core.specs.Writing.{Naming, World, Holds, Known, Unseen, Found, Appends, Finishes, AreFinished, Writes, LaysShared, Sets, to_shared}
 use Rattle.archive_core.proofs.Appending.{longer, finishes_nothing, finishes_wider}
 
@@ -40,16 +40,16 @@ apart_false q t false is n = refl
 get_other : (seen : Seen) (t q : ℕ) (e : Entry) → (q ≡ t → ⊥) → get (insert seen t e) q ≡ get seen q
 get_other seen t q e n = get-insert nat_cmp_total seen t e q ∙ ap (λ b. cond b (Some e) (get seen q)) (apart_false q t (eq_by_cmp nat_cmp q t) refl n)
 
-sets_other : (key : ℕ) (x : Option ℕ) (old new : States) (k : ℕ) (y : Option ℕ) → Sets key x old new → (k ≡ key → ⊥) → old k ≡ Some y → new k ≡ Some y
+sets_other : (key : ℕ) (x : Option ℕ) (old new : KeyStates) (k : ℕ) (y : Option ℕ) → Sets key x old new → (k ≡ key → ⊥) → old k ≡ Some y → new k ≡ Some y
 sets_other key x old new k y h n is = h.others k n ∙ is
 
-finished_by : (s t : States) (v : Value) → ((k q : ℕ) → s k ≡ Some (Some q) → t k ≡ Some (Some q)) → AreFinished s v → AreFinished t v
+finished_by : (s t : KeyStates) (v : Value) → ((k q : ℕ) → s k ≡ Some (Some q) → t k ≡ Some (Some q)) → AreFinished s v → AreFinished t v
 finished_by s t v kept h k n = (let (q, is) = h k n in (q, kept k q is))
 
-finished_key : (s : States) (key t : ℕ) → s key ≡ Some (Some t) → AreFinished s (shared_value key)
+finished_key : (s : KeyStates) (key t : ℕ) → s key ≡ Some (Some t) → AreFinished s (shared_value key)
 finished_key s key t h k names_itself = (t, h)
 
-module _ (a b c t key : ℕ) (old begun mid put new : States) (unknown : old key ≡ None) (start : Sets key None old begun) (h : Finishes a b begun mid) (same : put ≡ mid) (finish : Sets key (Some t) put new) (le : a ≤ b) (lower : b ≤ t) (inside : t < c) where
+module _ (a b c t key : ℕ) (old begun mid put new : KeyStates) (unknown : old key ≡ None) (start : Sets key None old begun) (h : Finishes a b begun mid) (same : put ≡ mid) (finish : Sets key (Some t) put new) (le : a ≤ b) (lower : b ≤ t) (inside : t < c) where
   -- a key's state in the end, where it is another one
   in_the_middle : (k : ℕ) (y : Option (Option ℕ)) → (k ≡ key → ⊥) → new k ≡ y → mid k ≡ y
   in_the_middle k y n is = sym (ap (λ f. f k) same) ∙ sym (finish.others k n) ∙ is
@@ -112,7 +112,7 @@ pop_pending t q pending (zero, less, e) = inl (sym e)
 pop_pending t q pending (suc k, less, e) = inr (k, omega arith, e)
 
 -- what is known where a shared position is entered
-pub known_entered : (w : World) (a c t : ℕ) (old begun : States) (seen : Seen) (pending : List ℕ) (e : Entry)
+pub known_entered : (w : World) (a c t : ℕ) (old begun : KeyStates) (seen : Seen) (pending : List ℕ) (e : Entry)
     → a ≤ t → t < c → ((k q : ℕ) → begun k ≡ Some (Some q) → old k ≡ Some (Some q)) → ((k q : ℕ) → old k ≡ Some (Some q) → begun k ≡ Some (Some q))
     → Unseen seen a c → Known w old a seen pending → Known w begun a (insert seen t e) (t ∷ pending)
 known_entered w a c t old begun seen pending e le less which kept unseen known = record {
@@ -134,7 +134,7 @@ known_entered w a c t old begun seen pending e le less which kept unseen known =
 pub unseen_entered : (a b c t : ℕ) (seen : Seen) (e : Entry) → b ≤ t → b ≤ c → Unseen seen a c → Unseen (insert seen t e) a b
 unseen_entered a b c t seen e le ge h = record { unseen = λ q l m. get_other seen t q e (λ eq. omega (arith, eq)) ∙ h.unseen q l (omega arith) }
 
-found_in : (w : World) (s u : States) (q : ℕ) (e : Entry) → ((k q : ℕ) → s k ≡ Some (Some q) → u k ≡ Some (Some q)) → Found w s q e → Found w u q e
+found_in : (w : World) (s u : KeyStates) (q : ℕ) (e : Entry) → ((k q : ℕ) → s k ≡ Some (Some q) → u k ≡ Some (Some q)) → Found w s q e → Found w u q e
 found_in w s u q e kept h = record { key = h.key; flat = h.flat; value = h.value; finished = kept h.key q h.finished; names = h.names; contents = h.contents; fills = h.fills }
 
 abbrev entry_or : Entry → Option (Entry × Value) → Entry
@@ -154,15 +154,15 @@ one_named m e d x y h i = sym (ap (value_of_named x) i) ∙ ap (value_of_named x
 one_seen : (m : Option Entry) (e d : Entry) → m ≡ Some e → m ≡ Some d → d ≡ e
 one_seen m e d h i = cc
 
-pub appends_shared : (w : World) (a b c t key : ℕ) (old mid new : States) (pending : List ℕ) (seen : Seen) (flavor : Flavor) (P : Pointee) (n : ℕ) (v x : Value)
+pub appends_shared : (w : World) (a b c t key : ℕ) (old mid new : KeyStates) (pending : List ℕ) (seen : Seen) (flavor : Flavor) (P : Pointee) (n : ℕ) (v x : Value)
     → a ≤ b → b ≤ t → t < c → Leads w.schema w.bytes (to_shared t flavor P n) t v
-    → t ≡ up b (pointee_align w.schema P) → AreZero w.bytes b t → NeatPointee w.schema w.bytes t P n
+    → t ≡ up b (pointee_align w.schema P) → AreZero w.bytes b t → CleanPointee w.schema w.bytes t P n
     → c ≡ after (region_of w.schema (to_shared t flavor P n) t) → AreZero w.bytes (t + pointee_size w.schema P n) (after (region_of w.schema (to_shared t flavor P n) t))
     → Known w old a seen pending → Unseen seen a c → Appends w a b mid (t ∷ pending) (insert seen t (entry flavor (to_shared t flavor P n))) (pointers v)
     → ((k q : ℕ) → new k ≡ Some (Some q) → ((k ≡ key) × (q ≡ t)) ⊎ (mid k ≡ Some (Some q))) → ((k q : ℕ) → mid k ≡ Some (Some q) → new k ≡ Some (Some q))
     → new key ≡ Some (Some t) → get w.names key ≡ Some (entry flavor (to_shared t flavor P n), x) → Fills w.schema w.bytes v (rename w.position x) → AreFinished mid x
     → Appends w a c new pending seen (to_shared t flavor P n ∷ [])
-appends_shared w a b c t key old mid new pending seen flavor P n v x le ge less leads aligned zeros neat ends behind known unseen h which kept finished names fills all =
+appends_shared w a b c t key old mid new pending seen flavor P n v x le ge less leads aligned zeros clean ends behind known unseen h which kept finished names fills all =
     let e : Entry = entry flavor (to_shared t flavor P n) in
     let r : Region = region_of w.schema (to_shared t flavor P n) t in
     let fresh : get seen t ≡ None = unseen.unseen t (omega arith) less in
@@ -172,7 +172,7 @@ appends_shared w a b c t key old mid new pending seen flavor P n v x le ge less 
       last = h.last;
       tour = tour_new refl fresh leads h.tour tour_end;
       tight = tight_append a h.regions b (r ∷ []) c h.tight (aligned, ends);
-      tidy = tidy_append w.schema w.bytes a h.regions b (r ∷ []) h.tight h.tidy (zeros, neat, behind, tt);
+      clean = clean_regions_append w.schema w.bytes a h.regions b (r ∷ []) h.tight h.clean (zeros, clean, behind, tt);
       known = record {
         inner = λ k q d y is named. elim (which k q is) [
           | inl eq ↦ (let there : get w.names k ≡ Some (e, x) = rw (eq.0) names in let same : y ≡ x = one_named (get w.names k) e d x y there named in rw same (finished_by mid new x kept all))
@@ -205,7 +205,7 @@ after_shared : (n t : ℕ) → t + n + cond (nat_eq n 0) 1 0 ≡ t + cond (true 
 after_shared n t = grind arith
 
 -- A shared value under a new key: a byte of 0 follows a region of no size.
-pub writes_shared_new : (D : Definitions) (old mid new : Held) (ks : List Naming) (x : Value) (P : Pointee) (n : ℕ) (flavor : Flavor) (t key : ℕ) (tail : List ℕ)
+pub writes_shared_new : (D : Definitions) (old mid new : WriterState) (ks : List Naming) (x : Value) (P : Pointee) (n : ℕ) (flavor : Flavor) (t key : ℕ) (tail : List ℕ)
     → LaysShared D old mid key ks t P n x → new.bytes ≡ mid.bytes ++ tail → IsZeroed tail → length tail ≡ cond (nat_eq (length mid.bytes) t) 1 0 → new.states ≡ mid.states
     → Writes D old new ((key, (entry flavor (to_shared t flavor P n), x)) ∷ ks) (hole (to_shared t flavor P n)) (shared_value key)
 writes_shared_new D old mid new ks x P n flavor t key tail s more tailz taill same_states =
@@ -258,7 +258,7 @@ writes_shared_new D old mid new ks x P n flavor t key tail s more tailz taill sa
           le lower inside (leads w k)
           (h.aligned w.schema k.knows)
           (stands_zero w.bytes _ t h.zeros h.zeroed h.at (stands_begun w.bytes m.bytes h.zeros (h.region ++ (tail ++ k.rest)) _ (apart w k) refl))
-          (h.neat w.schema w.bytes k.knows (stands w k))
+          (h.clean w.schema w.bytes k.knows (stands w k))
           ends2
           (rw (← ends2) (stands_zero w.bytes _ (length new.bytes) tail tailz (omega (arith, new_len, size))
           (record {
@@ -281,7 +281,7 @@ writes_shared_new D old mid new ks x P n flavor t key tail s more tailz taill sa
     by_size t size l e = grind arith
 
 -- A shared value whose key is finished: nothing is written, unless the states are none that a writer can have.
-pub writes_shared_again : (D : Definitions) (old new : Held) (ks : List Naming) (x : Value) (P : Pointee) (n : ℕ) (flavor : Flavor) (t key : ℕ) (tail : List ℕ)
+pub writes_shared_again : (D : Definitions) (old new : WriterState) (ks : List Naming) (x : Value) (P : Pointee) (n : ℕ) (flavor : Flavor) (t key : ℕ) (tail : List ℕ)
     → old.states key ≡ Some (Some t) → new.bytes ≡ old.bytes ++ tail → length tail ≡ cond (nat_eq (length old.bytes) t) 1 0 → new.states ≡ old.states
     → Writes D old new ((key, (entry flavor (to_shared t flavor P n), x)) ∷ ks) (hole (to_shared t flavor P n)) (shared_value key)
 writes_shared_again D old new ks x P n flavor t key tail finished grown few same =
@@ -298,7 +298,7 @@ writes_shared_again D old new ks x P n flavor t key tail finished grown few same
             last = seen;
             tour = tour_again refl refl (known.typed key t (entry flavor (to_shared t flavor P n)) x finished k.named.0) (inl (known.closed key t finished)) tour_end;
             tight = refl;
-            tidy = tt;
+            clean = tt;
             known = known;
             below = λ q l. refl;
             above = λ q l. refl;

@@ -3,7 +3,7 @@ use Rattle.std.proofs.Common.{◌≡◌, inl, inr, ℕ, length, refl, ap, subst,
 use Rattle.std.proofs.lemmas.Bool.Decides.{nat_tests}
 use Rattle.std.specs.Map.{update}
 use Rattle.archive_check.specs.Told.{Told, KeyState}
-use Rattle.archive_check.specs.Held.{States}
+use Rattle.archive_check.specs.WriterState.{KeyStates}
 use Rattle.archive_check.specs.declared.error.Error.{Error}
 use Rattle.archive_check.specs.declared.error.Error.TheVariants.{CyclicSerialize}
 use Rattle.archive_write.specs.Sharing.{IsSet, KeepsKnown, started, start_answer, finish_answer}
@@ -13,12 +13,12 @@ use Rattle.archive_core.specs.Plans.{Stand, stand, begun, Explains, own_cause, H
 use Rattle.archive_core.proofs.Causes.{explains_sooner}
 
 -- where a new key's value is begun
-pub begun_stand : (old mid : Told) (f g : States) (key : ℕ) → f key ≡ None → mid ≡ old → IsSet f key (started (f key)) g → stand mid g ≡ begun (stand old f) key
+pub begun_stand : (old mid : Told) (f g : KeyStates) (key : ℕ) → f key ≡ None → mid ≡ old → IsSet f key (started (f key)) g → stand mid g ≡ begun (stand old f) key
 begun_stand old mid f g key unknown same set =
     let states : g ≡ update nat_eq f key (Some None) = (λ i k. (set k ∙ ap (λ s. update nat_eq f key (started s) k) unknown) i) in
     (λ i. record { place = length (same i).bytes; states = states i })
 
-pub shared_hindered : (own : Stand → Error → Type 0) (plan : Stand → Stand) (old mid new : Told) (f g : States) (key : ℕ) (e : Error) → f key ≡ None → mid ≡ old → IsSet f key (started (f key)) g
+pub shared_hindered : (own : Stand → Error → Type 0) (plan : Stand → Stand) (old mid new : Told) (f g : KeyStates) (key : ℕ) (e : Error) → f key ≡ None → mid ≡ old → IsSet f key (started (f key)) g
     → Explains (own (stand mid g)) (plan (stand mid g)).place mid new e → Explains (HindersShared (f key) (own (begun (stand old f) key))) (plan (begun (stand old f) key)).place old new e
 shared_hindered own plan old mid new f g key e unknown same set h =
     let at = begun_stand old mid f g key unknown same set in
@@ -29,7 +29,7 @@ shared_hindered own plan old mid new f g key e unknown same set h =
 pub shared_pending : (own : Error → Type 0) (stop : ℕ) (state : KeyState) (old new : Told) → state ≡ Some None → Explains (HindersShared state own) stop old new CyclicSerialize
 shared_pending own stop state old new is = own_cause (inl (refl, is))
 
-update_here : (f : States) (key : ℕ) (w : KeyState) → update nat_eq f key w key ≡ w
+update_here : (f : KeyStates) (key : ℕ) (w : KeyState) → update nat_eq f key w key ≡ w
 update_here f key w = by_test (nat_eq key key) refl
   where
     by_test : (t : Bool) → nat_eq key key ≡ t → cond t w (f key) ≡ w
@@ -49,7 +49,7 @@ pending_known (Some None) a e f = refl
 pending_known (Some (Some p)) a e f = cc
 
 -- a key that was started, and stayed so, is finished
-pub finished_served : (f g h : States) (key : ℕ) (r : Result (Unit {0}) Error) (e : Error) → f key ≡ None → IsSet f key (started (f key)) g → KeepsKnown g h → r ≡ finish_answer (h key) → r ≡ Err e → ⊥
+pub finished_served : (f g h : KeyStates) (key : ℕ) (r : Result (Unit {0}) Error) (e : Error) → f key ≡ None → IsSet f key (started (f key)) g → KeepsKnown g h → r ≡ finish_answer (h key) → r ≡ Err e → ⊥
 finished_served f g h key r e unknown set kept answer is =
     let here : g key ≡ Some None = set key ∙ ap (λ s. update nat_eq f key (started s) key) unknown ∙ update_here f key (Some None) in
     let there : h key ≡ Some None = kept key None here in

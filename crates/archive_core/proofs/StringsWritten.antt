@@ -13,9 +13,9 @@ use Rattle.archive_check.specs.Value.{text_value, hole}
 use Rattle.archive_check.specs.Reads.{bytes_at, u32_at, i32_at, before_end, IsOutOfLine, decoded_length, string_at, Reads, reads_inline, reads_out_of_line}
 use Rattle.archive_check.specs.Tour.{Contents, contents_text}
 use Rattle.archive_check.specs.Denotes.{fills_text}
-use Rattle.archive_check.specs.Tidy.{Stands, neat_inline, neat_out_of_line, neat_text}
+use Rattle.archive_check.specs.CleanRegions.{Stands, clean_inline, clean_out_of_line, clean_text}
 use Rattle.archive_check.specs.Told.{Told, KeepsKeys}
-use Rattle.archive_check.specs.Held.{States, Held, held}
+use Rattle.archive_check.specs.WriterState.{KeyStates, WriterState, writer_state}
 use Rattle.archive_check.proofs.Standing.{stands_front, stands_back, stands_bytes, stands_index, zeroed_none}
 use Rattle.archive_check.proofs.Texts.{text_no_end, text_inline, text_before}
 use Rattle.archive_core.specs.Offsets.{distance}
@@ -64,7 +64,7 @@ resolves_inline D p bs a u h e =
     omega (arith, at, same, plain, out)) in
     record {
       reads = λ s bytes knows stands. subst (λ x. Reads s bytes p str (text_value x)) (here bytes stands) (reads_inline (first bytes stands) (rw (here bytes stands) u));
-      neat = λ s bytes knows stands. neat_inline (first bytes stands) (record {
+      clean = λ s bytes knows stands. clean_inline (first bytes stands) (record {
         filled = λ i above below. (
             let few : length bs ≤ i = omega (arith, ap length (here bytes stands)) in
             let at = stands_index bytes p i a (omega (arith, ap length e, inline_length bs h)) stands in
@@ -106,7 +106,7 @@ resolves_out_of_line D p t n z a long few small there e =
       reads = λ s bytes knows stands. (
           let v : string_at bytes p ≡ to_text t n = λ i. record { target = offset bytes stands i; sharing = None; pointee = text; length = many bytes stands i } in
           subst (λ q. Reads s bytes p str (hole q)) v (reads_out_of_line (first bytes stands) (rw (many bytes stands) long)));
-      neat = λ s bytes knows stands. neat_out_of_line (first bytes stands);
+      clean = λ s bytes knows stands. clean_out_of_line (first bytes stands);
     }
 
 -- what is written
@@ -128,15 +128,15 @@ flat_out_of_line bs t h = by_test (nat_lt 8 (length bs)) refl
     by_test true e = refl
     by_test false e = absurd (grind (arith, e))
 
-pub writes_inline : (D : Definitions) (told : Held) (bs : List ℕ) (t : ℕ) → length bs ≤ 8 → Writes D told told [] (string_flat bs t) (text_value bs)
+pub writes_inline : (D : Definitions) (told : WriterState) (bs : List ℕ) (t : ℕ) → length bs ≤ 8 → Writes D told told [] (string_flat bs t) (text_value bs)
 writes_inline D told bs t h = rw (flat_inline bs t h) (writes_nothing D told (text_value bs) refl (λ k n. elim n [ ]) (λ w. fills_text))
 
-pub lays_text : (D : Definitions) (old new : Told) (f g : States) (bs : List ℕ) (t : ℕ) → IsUtf8 bs → new.bytes ≡ old.bytes ++ bs → t ≡ length old.bytes → KeepsKeys f g
-    → Lays D (held old f) (held new g) [] t text (length bs) (text_value bs)
+pub lays_text : (D : Definitions) (old new : Told) (f g : KeyStates) (bs : List ℕ) (t : ℕ) → IsUtf8 bs → new.bytes ≡ old.bytes ++ bs → t ≡ length old.bytes → KeepsKeys f g
+    → Lays D (writer_state old f) (writer_state new g) [] t text (length bs) (text_value bs)
 lays_text D old new f g bs t u grown here keys = record {
-  mid = held old f;
+  mid = writer_state old f;
   flat = text_value bs;
-  owned = writes_nothing D (held old f) (text_value bs) refl (λ k n. elim n [ ]) (λ w. fills_text);
+  owned = writes_nothing D (writer_state old f) (text_value bs) refl (λ k n. elim n [ ]) (λ w. fills_text);
   zeros = [];
   region = bs;
   grown = grown;
@@ -147,11 +147,11 @@ lays_text D old new f g bs t u grown here keys = record {
   contents = λ s bytes k stands. (
       let is : bytes_at bytes t (length bs) ≡ bs = stands_bytes bytes t (length bs) bs refl stands in
       subst (λ x. Contents s bytes t text (length bs) (text_value x)) is (contents_text (rw is u)));
-  neat = λ s bytes k stands. neat_text;
+  clean = λ s bytes k stands. clean_text;
   states = λ i k. keys k i;
 }
 
-pub writes_out_of_line : (D : Definitions) (old new : Held) (bs : List ℕ) (t : ℕ) → 8 < length bs
+pub writes_out_of_line : (D : Definitions) (old new : WriterState) (bs : List ℕ) (t : ℕ) → 8 < length bs
     → Lays D old new [] t text (length bs) (text_value bs) → Writes D old new [] (string_flat bs t) (text_value bs)
 writes_out_of_line D old new bs t long h = rw (flat_out_of_line bs t long) (writes_laid D old new [] t text (length bs) (text_value bs) h)
 

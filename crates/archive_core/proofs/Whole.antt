@@ -9,19 +9,19 @@ use Rattle.archive_check.specs.Definitions.{Definitions}
 use Rattle.archive_check.specs.Value.{Value, pointers}
 use Rattle.archive_check.specs.Reads.{Schema, Reads}
 use Rattle.archive_check.specs.Tour.{Region, Entry, Contents, contents_one, Accepted, root_region}
-use Rattle.archive_check.specs.Denotes.{Knows, rename}
+use Rattle.archive_check.specs.Denotes.{IsSharedValue, rename}
 use Rattle.archive_check.specs.Written.{Tight}
-use Rattle.archive_check.specs.Tidy.{Stands, Tidy}
+use Rattle.archive_check.specs.CleanRegions.{Stands, CleanRegions}
 use Rattle.archive_check.specs.Told.{Told}
-use Rattle.archive_check.specs.Held.{States, Held, held}
+use Rattle.archive_check.specs.WriterState.{KeyStates, WriterState, writer_state}
 use Rattle.archive_check.specs.declared.error.Error.{Error}
 use Rattle.archive_core.specs.Plans.{Stand, IsAt, region_place, one_plan}
 use Rattle.archive_check.proofs.Positive.{align_pos}
 use Rattle.archive_check.proofs.Exists.{has_meaning}
 use Rattle.archive_check.proofs.Denoted.{tours_one}
 use Rattle.archive_check.proofs.Standing.{stands_zero, zero_nowhere, stands_begun}
-use Rattle.archive_check.proofs.Cleaning.{tidy_clean}
-use Rattle.archive_check.proofs.Tightness.{tight_append, tidy_append, ArePositive, positive_append, sized_append, tour_positive, tour_sized, rising_lower, tight_rises}
+use Rattle.archive_check.proofs.Cleaning.{regions_clean}
+use Rattle.archive_check.proofs.Tightness.{tight_append, clean_regions_append, ArePositive, positive_append, sized_append, tour_positive, tour_sized, rising_lower, tight_rises}
 use Rattle.archive_core.specs.Writing.{Naming, IsKeyed, World, Holds, Known as KnownKeys, Unseen, Found, Appends, Lays, Archives}
 use Rattle.archive_core.proofs.Denoting.{InTheEnd, same_in_the_end, rename_plain}
 
@@ -34,7 +34,7 @@ of_one : {s : Schema} {bytes : List ℕ} {t n : ℕ} {X : Shape} {v : Value} →
 of_one (contents_one r) = r
 
 -- where no key was known, what was laid out last is an archive
-pub archives : (D : Definitions) (old new : Held) (ks : List Naming) (x : Value) (X : Shape) (size root : ℕ)
+pub archives : (D : Definitions) (old new : WriterState) (ks : List Naming) (x : Value) (X : Shape) (size root : ℕ)
     → ((k : ℕ) → old.states k ≡ None) → IsKeyed ks x → Lays D old new ks root (one X) 0 x → root + size ≡ length new.bytes
     → Archives D old.bytes new.bytes root X size ks x
 archives D old new ks x X size root fresh keyed h end =
@@ -61,9 +61,9 @@ archives D old new ks x X size root fresh keyed h end =
           let tight : Tight (length old.bytes) C (length new.bytes)
           = tight_append (length old.bytes) first.regions (length mid.bytes) (root_region s root X ∷ []) (length new.bytes) first.tight (h.aligned s knows, ends) in
           let zeros = stands_zero new.bytes (length mid.bytes) root h.zeros h.zeroed h.at (stands_begun new.bytes mid.bytes h.zeros h.region _ apart refl) in
-          let tidy : Tidy s new.bytes (length old.bytes) C
-          = tidy_append s new.bytes (length old.bytes) first.regions (length mid.bytes) (root_region s root X ∷ []) first.tight first.tidy
-          (zeros, h.neat s new.bytes knows stands, zero_nowhere new.bytes _ _ (omega arith), tt) in
+          let clean : CleanRegions s new.bytes (length old.bytes) C
+          = clean_regions_append s new.bytes (length old.bytes) first.regions (length mid.bytes) (root_region s root X ∷ []) first.tight first.clean
+          (zeros, h.clean s new.bytes knows stands, zero_nowhere new.bytes _ _ (omega arith), tt) in
           let positive : ArePositive C = positive_append first.regions (root_region s root X ∷ []) (tour_positive s knows.laid_out first.tour) (align_pos s.layouts knows.laid_out.aligned X, tt) in
           let accepted : Accepted s new.bytes root X = record {
             value = v;
@@ -74,7 +74,7 @@ archives D old new ks x X size root fresh keyed h end =
             rising = rising_lower 0 (length old.bytes) C (length new.bytes) (omega arith) (tight_rises (length old.bytes) C (length new.bytes) positive tight);
           } in
           let (m, d) = has_meaning s new.bytes accepted in
-          let shared : (t : ℕ) → Knows s new.bytes t (get first.last t) (get m.shared t) = rw ((tours_one s new.bytes accepted d.accepted).1) at d.shared in
+          let shared : (t : ℕ) → IsSharedValue s new.bytes t (get first.last t) (get m.shared t) = rw ((tours_one s new.bytes accepted d.accepted).1) at d.shared in
           let found : (t : ℕ) (e : Entry) → get first.last t ≡ Some e → Found w mid.states t e
           = λ t e is. elim (first.found t e is) [ inl at ↦ (let none = get-empty {X = Entry} nat_cmp t in cc) | inr f ↦ f ] in
           let all : InTheEnd w mid.states ks x first.last m.shared = record {
@@ -94,12 +94,12 @@ archives D old new ks x X size root fresh keyed h end =
             same = same_in_the_end w mid.states ks x first.last m.shared all;
             plain = rename_plain position x;
             tight = tight;
-            clean = tidy_clean s new.bytes knows.laid_out.solves (length old.bytes) C (sized_append s first.regions (root_region s root X ∷ []) (tour_sized s first.tour) (refl, tt)) tight tidy;
+            clean = regions_clean s new.bytes knows.laid_out.solves (length old.bytes) C (sized_append s first.regions (root_region s root X ∷ []) (tour_sized s first.tour) (refl, tt)) tight clean;
           });
     }
 
-pub archives_of : (r : Result ℕ Error) (D : Definitions) (old new : Told) (f g : States) (ks : List Naming) (x : Value) (X : Shape) (L : Layout) (plan : Stand)
-    → ((k : ℕ) → f k ≡ None) → IsKeyed ks x → IfOk r (λ p. Lays D (held old f) (held new g) ks p (one X) 0 x) → IfOk r (λ p. p ≡ region_place L plan) → OnOk r (IsAt (one_plan L plan) new g)
+pub archives_of : (r : Result ℕ Error) (D : Definitions) (old new : Told) (f g : KeyStates) (ks : List Naming) (x : Value) (X : Shape) (L : Layout) (plan : Stand)
+    → ((k : ℕ) → f k ≡ None) → IsKeyed ks x → IfOk r (λ p. Lays D (writer_state old f) (writer_state new g) ks p (one X) 0 x) → IfOk r (λ p. p ≡ region_place L plan) → OnOk r (IsAt (one_plan L plan) new g)
     → IfOk r (λ root. Archives D old.bytes new.bytes root X L.size ks x)
-archives_of (Ok p) D old new f g ks x X L plan fresh keyed h there at = archives D (held old f) (held new g) ks x X L.size p fresh keyed h (ap (λ n. n + L.size) there ∙ sym at.place)
+archives_of (Ok p) D old new f g ks x X L plan fresh keyed h there at = archives D (writer_state old f) (writer_state new g) ks x X L.size p fresh keyed h (ap (λ n. n + L.size) there ∙ sym at.place)
 archives_of (Err e) D old new f g ks x X L plan fresh keyed h there at = tt

@@ -3,7 +3,7 @@ use Rattle.std.proofs.Common.{◌≡◌, inl, inr, ℕ, ◌+◌, ◌≤◌, leng
 use Rattle.archive_check.specs.Definitions.{IsAlign}
 use Rattle.archive_check.specs.Layout.{Layout, up}
 use Rattle.archive_check.specs.Told.{Told}
-use Rattle.archive_check.specs.Held.{States, held, Pads}
+use Rattle.archive_check.specs.WriterState.{KeyStates, writer_state, Pads}
 use Rattle.archive_check.specs.declared.error.Error.{Error}
 use Rattle.archive_check.proofs.Inside.{up_le}
 use Rattle.archive_write.specs.Written.{padding, ExplainsRefusal}
@@ -32,7 +32,7 @@ module _ {R : Type 0} (owned : Error → Type 0) (left : R → Type 0) (own : R 
   whole_owned old new e h = explains_sooner owned Whole plan.place (one_plan L plan).place old new e (omega (arith, behind)) (λ x. inl x) h
 
   -- nor the zeros behind that
-  pub whole_padded : (place : ℕ) (old mid new : Told) (s : States) (e : Error) → GoesOn old mid → IsAt plan mid s → place ≡ length mid.bytes
+  pub whole_padded : (place : ℕ) (old mid new : Told) (s : KeyStates) (e : Error) → GoesOn old mid → IsAt plan mid s → place ≡ length mid.bytes
       → GoesOn mid new → ExplainsRefusal (padding L.align place) place mid.room mid.failures new.failures e → Explains Whole (one_plan L plan).place old new e
   whole_padded place old mid new s e g at here k h =
       let same : place ≡ plan.place = here ∙ at.place in
@@ -40,7 +40,7 @@ module _ {R : Type 0} (owned : Error → Type 0) (left : R → Type 0) (own : R 
       explains_later Whole Whole (one_plan L plan).place old mid new e g k (λ x. x) (explains_write Whole (padding L.align place) place (one_plan L plan).place mid new e here fits h)
 
   -- nor its own region
-  pub whole_region : (old mid low new : Told) (s t : States) (r : R) (e : Error) → GoesOn old low → IsAt plan mid s → Pads L.align (held mid s) (held low t) → GoesOn low new → left r
+  pub whole_region : (old mid low new : Told) (s t : KeyStates) (r : R) (e : Error) → GoesOn old low → IsAt plan mid s → Pads L.align (writer_state mid s) (writer_state low t) → GoesOn low new → left r
       → Explains (HindersRegion (own r) L (length low.bytes)) (length low.bytes + L.size) low new e → Explains Whole (one_plan L plan).place old new e
   whole_region old mid low new s t r e g at pads k l h =
       let there : length low.bytes ≡ region_place L plan = pads.aligned ∙ ap (λ n. up n L.align) at.place in

@@ -3,7 +3,7 @@ use Rattle.std.specs.Prelude.{◌≡◌, ◌⊎◌, ℕ, ◌+◌, ◌-◌, ◌^�
 use Rattle.std.specs.Map.{update}
 use Rattle.archive_check.specs.Layout.{Layout, up}
 use Rattle.archive_check.specs.Told.{Told, KeyState}
-use Rattle.archive_check.specs.Held.{States}
+use Rattle.archive_check.specs.WriterState.{KeyStates}
 use Rattle.archive_check.specs.declared.error.Error.{Error}
 use Rattle.archive_check.specs.declared.error.Error.TheVariants.{OutOfMemory, IsizeOverflow, OffsetOverflow, PositionTooLarge, LengthTooLarge, NumberTooLarge, StringTooLong, BufferOverflow, WriterFailed, ItemWrote, CyclicSerialize, LayoutTooLarge}
 use Rattle.archive_write.specs.Written.{IsBeginning, RoomFalls}
@@ -11,9 +11,9 @@ use Rattle.archive_write.specs.Written.{IsBeginning, RoomFalls}
 -- where a writer stands: how many bytes it holds, and the states of the shared keys
 pub record Stand : Type 0 where
   pub place : ℕ
-  pub states : States
+  pub states : KeyStates
 
-abbrev pub stand : Told → States → Stand
+abbrev pub stand : Told → KeyStates → Stand
 stand told states = record { place = length told.bytes; states = states }
 
 -- of what holds nothing and knows no key
@@ -21,7 +21,7 @@ abbrev pub at_start : Stand
 at_start = record { place = 0; states = λ _. None }
 
 -- the writer stands there
-pub record IsAt (s : Stand) (told : Told) (states : States) : Type 0 where
+pub record IsAt (s : Stand) (told : Told) (states : KeyStates) : Type 0 where
   pub place : length told.bytes ≡ s.place
   pub keys : (k : ℕ) → states k ≡ s.states k
 

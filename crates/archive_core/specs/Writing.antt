@@ -7,12 +7,12 @@ use Rattle.archive_check.specs.Layout.{Layout, up}
 use Rattle.archive_check.specs.Definitions.{Definitions, Knows, HasLayout}
 use Rattle.archive_check.specs.Value.{Pointer, Value, Values, pointers, all_pointers}
 use Rattle.archive_check.specs.Reads.{Schema, Reads}
-use Rattle.archive_check.specs.Tour.{Region, Contents, Entry, Seen, Tour, root_region, pointee_size, pointee_align}
+use Rattle.archive_check.specs.Tour.{Region, Contents, Entry, Seen, Tour, pointee_size, pointee_align}
 use Rattle.archive_check.specs.Denotes.{Meaning, Denotes, Same, Fills, FillsAll, rename, rename_all}
 use Rattle.archive_check.specs.Reached.{Names, NamesAmong, LeadsTo}
-use Rattle.archive_check.specs.Written.{Tight, Clean}
-use Rattle.archive_check.specs.Tidy.{Stands, IsZeroed, Neat, NeatPointee, Tidy}
-use Rattle.archive_check.specs.Held.{States, Held}
+use Rattle.archive_check.specs.Written.{Tight, TightFrom, CleanFrom}
+use Rattle.archive_check.specs.CleanRegions.{Stands, IsZeroed, CleanValue, CleanPointee, CleanRegions}
+use Rattle.archive_check.specs.WriterState.{KeyStates, WriterState}
 
 -- what each key names: flavor, pointee and length, and the value
 abbrev pub NameMap : Type 0
@@ -48,7 +48,7 @@ pub record World : Type 0 where
   pub names : NameMap
 
 -- the world knows these definitions, begins with these bytes, and puts each finished key where the states have it
-pub record Holds (w : World) (definitions : Definitions) (told : List ℕ) (states : States) (keys : List Naming) : Type 0 where
+pub record Holds (w : World) (definitions : Definitions) (told : List ℕ) (states : KeyStates) (keys : List Naming) : Type 0 where
   pub knows : Knows w.schema definitions
   pub rest : List ℕ
   pub begins : w.bytes ≡ told ++ rest
@@ -56,15 +56,15 @@ pub record Holds (w : World) (definitions : Definitions) (told : List ℕ) (stat
   pub named : AreNamed w.names keys
 
 -- each name in the value is finished
-abbrev pub AreFinished : States → Value → Type 0
+abbrev pub AreFinished : KeyStates → Value → Type 0
 AreFinished states v = (k : ℕ) → Names k v → (t : ℕ) × (states k ≡ Some (Some t))
 
-abbrev pub AllFinished : States → Values → Type 0
+abbrev pub AllFinished : KeyStates → Values → Type 0
 AllFinished states vs = (k : ℕ) → NamesAmong k vs → (t : ℕ) × (states k ≡ Some (Some t))
 
 -- Each finished key lies below the stop, has been seen, typed as it is named, and isn't pending; what it names has finished names alone. What is
 -- pending has been seen.
-pub record Known (w : World) (states : States) (stop : ℕ) (seen : Seen) (pending : List ℕ) : Type 0 where
+pub record Known (w : World) (states : KeyStates) (stop : ℕ) (seen : Seen) (pending : List ℕ) : Type 0 where
   pub typed : (k t : ℕ) (e : Entry) (v : Value) → states k ≡ Some (Some t) → get w.names k ≡ Some (e, v) → get seen t ≡ Some e
   pub inner : (k t : ℕ) (e : Entry) (v : Value) → states k ≡ Some (Some t) → get w.names k ≡ Some (e, v) → AreFinished states v
   pub closed : (k t : ℕ) → states k ≡ Some (Some t) → Contains pending t → ⊥
@@ -76,7 +76,7 @@ pub record Unseen (seen : Seen) (start stop : ℕ) : Type 0 where
   pub unseen : (t : ℕ) → start ≤ t → t < stop → get seen t ≡ None
 
 -- a key finished at t names the entry, and what stands there is its value
-pub record Found (w : World) (states : States) (t : ℕ) (e : Entry) : Type 0 where
+pub record Found (w : World) (states : KeyStates) (t : ℕ) (e : Entry) : Type 0 where
   pub key : ℕ
   pub flat : Value
   pub value : Value
@@ -86,25 +86,25 @@ pub record Found (w : World) (states : States) (t : ℕ) (e : Entry) : Type 0 wh
   pub fills : Fills w.schema w.bytes flat (rename w.position value)
 
 -- From start to stop stand the regions of the tour of these pointers, tight and clean.
-pub record Appends (w : World) (start stop : ℕ) (states : States) (pending : List ℕ) (seen : Seen) (O : List Pointer) : Type 0 where
+pub record Appends (w : World) (start stop : ℕ) (states : KeyStates) (pending : List ℕ) (seen : Seen) (O : List Pointer) : Type 0 where
   pub regions : List Region
   pub last : Seen
   pub tour : Tour w.schema w.bytes pending seen O regions last
   pub tight : Tight start regions stop
-  pub tidy : Tidy w.schema w.bytes start regions
+  pub clean : CleanRegions w.schema w.bytes start regions
   pub known : Known w states stop last pending
   pub below : (t : ℕ) → t < start → get last t ≡ get seen t
   pub above : (t : ℕ) → stop ≤ t → get last t ≡ get seen t
   pub found : (t : ℕ) (e : Entry) → get last t ≡ Some e → (get seen t ≡ Some e) ⊎ Found w states t e
 
 -- Known keys keep their states. New ones were finished from start on and before stop, each at a position of its own.
-pub record Finishes (start stop : ℕ) (old new : States) : Type 0 where
+pub record Finishes (start stop : ℕ) (old new : KeyStates) : Type 0 where
   pub kept : (k : ℕ) (x : Option ℕ) → old k ≡ Some x → new k ≡ Some x
   pub settled : (k : ℕ) (x : Option ℕ) → old k ≡ None → new k ≡ Some x → (t : ℕ) × (x ≡ Some t) × (start ≤ t) × (t < stop)
   pub apart : (k l t : ℕ) → old k ≡ None → old l ≡ None → new k ≡ Some (Some t) → new l ≡ Some (Some t) → k ≡ l
 
 -- The regions of the value's pointers were appended. `flat` is the value as it will be read, with a hole for each pointer.
-pub record Writes (definitions : Definitions) (old new : Held) (keys : List Naming) (flat value : Value) : Type 0 where
+pub record Writes (definitions : Definitions) (old new : WriterState) (keys : List Naming) (flat value : Value) : Type 0 where
   pub added : List ℕ
   pub grown : new.bytes ≡ old.bytes ++ added
   pub states : Finishes (length old.bytes) (length new.bytes) old.states new.states
@@ -115,7 +115,7 @@ pub record Writes (definitions : Definitions) (old new : Held) (keys : List Nami
   pub fills : (w : World) → Holds w definitions new.bytes new.states keys → Fills w.schema w.bytes flat (rename w.position value)
 
 -- the same for values one after another
-pub record WritesAll (definitions : Definitions) (old new : Held) (keys : List Naming) (flats values : Values) : Type 0 where
+pub record WritesAll (definitions : Definitions) (old new : WriterState) (keys : List Naming) (flats values : Values) : Type 0 where
   pub added : List ℕ
   pub grown : new.bytes ≡ old.bytes ++ added
   pub states : Finishes (length old.bytes) (length new.bytes) old.states new.states
@@ -128,10 +128,10 @@ pub record WritesAll (definitions : Definitions) (old new : Held) (keys : List N
 -- these bytes, at p, are clean and read as the value, with its pointers
 pub record Resolves (definitions : Definitions) (p : ℕ) (a : List ℕ) (X : Shape) (flat : Value) : Type 0 where
   pub reads : (s : Schema) (bytes : List ℕ) → Knows s definitions → Stands bytes p a → Reads s bytes p X flat
-  pub neat : (s : Schema) (bytes : List ℕ) → Knows s definitions → Stands bytes p a → Neat s bytes p X
+  pub clean : (s : Schema) (bytes : List ℕ) → Knows s definitions → Stands bytes p a → CleanValue s bytes p X
 
 -- one value was appended
-pub record Puts (definitions : Definitions) (old new : Held) (X : Shape) (L : Layout) (flat : Value) : Type 0 where
+pub record Puts (definitions : Definitions) (old new : WriterState) (X : Shape) (L : Layout) (flat : Value) : Type 0 where
   pub layout : HasLayout definitions X L
   pub added : List ℕ
   pub grown : new.bytes ≡ old.bytes ++ added
@@ -145,15 +145,15 @@ pub record Fresh (size p : ℕ) (bytes : List ℕ) : Type 0 where
   pub zeroed : IsZeroed bytes
   pub ends : p + size < 2 ^ 64
 
--- The buffer is an archive of the value at root, its keys renamed one to one; one without keys is denoted as it is. From start on it is tight and
--- clean.
-pub record IsArchive (s : Schema) (start : ℕ) (bytes : List ℕ) (root : ℕ) (X : Shape) (names : NameMap) (value : Value) : Type 0 where
+-- The value is written with its root there: the buffer is an archive of it, its keys renamed one to one; one without keys is denoted as it is. From
+-- start on it is tight and clean.
+pub record IsWritten (s : Schema) (start : ℕ) (bytes : List ℕ) (root : ℕ) (X : Shape) (names : NameMap) (value : Value) : Type 0 where
   pub meaning : Meaning
   pub denotes : Denotes s bytes root X meaning
   pub same : Same (record { value = value; shared = names }) meaning
   pub plain : HasKeys [] value → meaning.value ≡ value
-  pub tight : Tight start (denotes.accepted.regions ++ root_region s root X ∷ []) (length bytes)
-  pub clean : Clean s bytes start (denotes.accepted.regions ++ root_region s root X ∷ [])
+  pub tight : TightFrom start denotes.accepted
+  pub clean : CleanFrom start denotes.accepted
 
 -- Behind the old bytes an archive of the value was written, its root at the end. Each schema that knows the definitions accepts it, where each
 -- key names one thing.
@@ -161,7 +161,7 @@ pub record Archives (definitions : Definitions) (old new : List ℕ) (root : ℕ
   pub added : List ℕ
   pub grown : new ≡ old ++ added
   pub root_ends : root + size ≡ length new
-  pub archived : (s : Schema) (names : NameMap) → Knows s definitions → AreKeys names keys value → IsArchive s (length old) new root X names value
+  pub archived : (s : Schema) (names : NameMap) → Knows s definitions → AreKeys names keys value → IsWritten s (length old) new root X names value
 
 -- the pointer to a pointee of n elements or bytes that has its region for itself
 abbrev pub to_pointee : ℕ → Pointee → ℕ → Pointer
@@ -172,8 +172,8 @@ abbrev pub to_one : ℕ → Shape → Pointer
 to_one t X = to_pointee t (one X) 0
 
 -- What a pointee owns was appended, and then its own region, which stands at p.
-pub record Lays (definitions : Definitions) (old new : Held) (keys : List Naming) (p : ℕ) (P : Pointee) (n : ℕ) (value : Value) : Type 0 where
-  pub mid : Held
+pub record Lays (definitions : Definitions) (old new : WriterState) (keys : List Naming) (p : ℕ) (P : Pointee) (n : ℕ) (value : Value) : Type 0 where
+  pub mid : WriterState
   pub flat : Value
   pub owned : Writes definitions old mid keys flat value
   pub zeros : List ℕ
@@ -184,7 +184,7 @@ pub record Lays (definitions : Definitions) (old new : Held) (keys : List Naming
   pub aligned : (s : Schema) → Knows s definitions → p ≡ up (length mid.bytes) (pointee_align s P)
   pub sized : (s : Schema) → Knows s definitions → length region ≡ pointee_size s P n
   pub contents : (s : Schema) (bytes : List ℕ) → Knows s definitions → Stands bytes p region → Contents s bytes p P n flat
-  pub neat : (s : Schema) (bytes : List ℕ) → Knows s definitions → Stands bytes p region → NeatPointee s bytes p P n
+  pub clean : (s : Schema) (bytes : List ℕ) → Knows s definitions → Stands bytes p region → CleanPointee s bytes p P n
   pub states : new.states ≡ mid.states
 
 -- the pointer to a shared pointee
@@ -192,15 +192,15 @@ abbrev pub to_shared : ℕ → Flavor → Pointee → ℕ → Pointer
 to_shared t flavor P n = record { target = pos t; sharing = Some flavor; pointee = P; length = n }
 
 -- the key's state is this one now, and the others are as before
-pub record Sets (key : ℕ) (state : Option ℕ) (old new : States) : Type 0 where
+pub record Sets (key : ℕ) (state : Option ℕ) (old new : KeyStates) : Type 0 where
   pub here : new key ≡ Some state
   pub others : (k : ℕ) → (k ≡ key → ⊥) → new k ≡ old k
 
 -- What an unknown key names was laid out at p, the key pending meanwhile and finished there in the end.
-pub record LaysShared (definitions : Definitions) (old new : Held) (key : ℕ) (keys : List Naming) (p : ℕ) (P : Pointee) (n : ℕ) (value : Value) : Type 0 where
+pub record LaysShared (definitions : Definitions) (old new : WriterState) (key : ℕ) (keys : List Naming) (p : ℕ) (P : Pointee) (n : ℕ) (value : Value) : Type 0 where
   pub unknown : old.states key ≡ None
-  pub begun : States
+  pub begun : KeyStates
   pub begins : Sets key None old.states begun
-  pub laid : States
+  pub laid : KeyStates
   pub lays : Lays definitions (record { bytes = old.bytes; states = begun }) (record { bytes = new.bytes; states = laid }) keys p P n value
   pub ends : Sets key (Some p) laid new.states

@@ -1,8 +1,8 @@
 //! Whole archives: written, checked and read back.
 
 ghost use Rattle.std.specs.Prelude.{◌≡◌, ◌⊎◌, ◌≤◌, ◌-◌, None, length, IfOk, OnOk, IfErr, ℕ, []};
-ghost use Rattle.archive_check.specs.Exact.{IsWhole};
-ghost use Rattle.archive_check.specs.Names.{ExplainsNoSchema};
+ghost use Rattle.archive_check.specs.Fresh.{IsWhole};
+ghost use Rattle.archive_check.specs.Schemas.{ExplainsNoSchema};
 ghost use Rattle.archive_check.specs.Archives.{IsArchiveWithin, IsArchive, IsValueOf, IsRefusal, IsNoArchive};
 ghost use Rattle.archive_check.specs.Defined.{WellFormed};
 ghost use Rattle.archive_check.specs.Definitions.{listed};

@@ -7,7 +7,7 @@ ghost use Rattle.archive_check.specs.Definitions.{no_definition, Definitions};
 ghost use Rattle.archive_check.specs.Value.{number};
 ghost use Rattle.archive_check.specs.Viewed.{Viewed, Says};
 ghost use Rattle.archive_check.specs.Layout.{kind_size};
-ghost use Rattle.archive_check.specs.Held.{held};
+ghost use Rattle.archive_check.specs.WriterState.{writer_state};
 ghost use Rattle.archive_check.specs.Told.{KeepsKeys};
 ghost use Rattle.archive_core.specs.Keyed.{number_keyed, stays};
 ghost use Rattle.archive_core.specs.Plans.{stand, IsAt, GoesOn, Explains};
@@ -109,7 +109,7 @@ impl<N: Source> Archive for N {
 impl<N: Source, S: Writer + Keys> Serialize<S> for N {
     #[tactic(auto, using(crate::proofs::Appending::writes_number, crate::proofs::Causes::goes_nowhere))]
     fn serialize(&self, _serializer: &mut S) -> Result<(), Error>
-        ensures written { IfOk result (λ _. Writes N.Format.definitions (held (S.told _serializer.old) (S.state_of _serializer.old)) (held (S.told _serializer.new) (S.state_of _serializer.new))
+        ensures written { IfOk result (λ _. Writes N.Format.definitions (writer_state (S.told _serializer.old) (S.state_of _serializer.old)) (writer_state (S.told _serializer.new) (S.state_of _serializer.new))
             [] (number (N.value_of self.now)) (number (N.value_of self.now))) }
         ensures same_value { ⊤ }
         ensures answered { ⊤ }
@@ -174,7 +174,7 @@ impl<N: Native> Archive for LittleEndian<N> {
 impl<N: Native, S: Writer + Keys> Serialize<S> for LittleEndian<N> {
     #[tactic(auto, using(crate::proofs::Appending::writes_number, crate::proofs::Causes::goes_nowhere))]
     fn serialize(&self, _serializer: &mut S) -> Result<(), Error>
-        ensures written { IfOk result (λ _. Writes no_definition (held (S.told _serializer.old) (S.state_of _serializer.old)) (held (S.told _serializer.new) (S.state_of _serializer.new))
+        ensures written { IfOk result (λ _. Writes no_definition (writer_state (S.told _serializer.old) (S.state_of _serializer.old)) (writer_state (S.told _serializer.new) (S.state_of _serializer.new))
             [] (number (N.value_of self.now)) (number (N.value_of self.now))) }
         ensures same_value { ⊤ }
         ensures answered { ⊤ }

@@ -1,7 +1,7 @@
 //! Writers, and the regions that are resolved into them.
 
 ghost use Rattle.std.specs.Prelude.{◌≡◌, ◌+◌, ◌%◌, length, IfOk, OnOk, IfErr};
-ghost use Rattle.archive_check.specs.Held.{held};
+ghost use Rattle.archive_check.specs.WriterState.{writer_state};
 ghost use Rattle.archive_check.specs.Shape.{one};
 ghost use Rattle.archive_check.specs.Told.{KeepsKeys};
 ghost use Rattle.archive_core.specs.Plans.{stand, IsAt, GoesOn, Explains, HindersRegion, HindersWhole, region_place, one_plan, IsOfWriting};
@@ -28,7 +28,7 @@ fn resolve_region<W: Writer, T: Archive>(
 ) -> Result<usize, Error>
     requires fresh { Fresh T.Archived.layout.size (length (W.told writer.old).bytes) region.old }
     requires same_value { T.belongs value.now resolver }
-    ensures put { OnOk result (Puts T.Archived.definitions (held (W.told writer.old) (W.state_of writer.old)) (held (W.told writer.new) (W.state_of writer.new))
+    ensures put { OnOk result (Puts T.Archived.definitions (writer_state (W.told writer.old) (W.state_of writer.old)) (writer_state (W.told writer.new) (W.state_of writer.new))
         T.Archived.shape T.Archived.layout (T.flat value.now resolver)) }
     ensures position { IfOk result (λ p. p ≡ length (W.told writer.old).bytes) }
     ensures refused { IfErr result (Explains (HindersRegion (T.hinders_at value.now resolver) T.Archived.layout (length (W.told writer.old).bytes))
@@ -74,7 +74,7 @@ pub trait ResolveExt: Writer {
         Self: Sized,
         requires aligned { Self.place self.old % T.Archived.layout.align ≡ 0 }
         requires same_value { T.belongs value.now resolver }
-        ensures region { OnOk result (Puts T.Archived.definitions (held (Self.told self.old) (Self.state_of self.old)) (held (Self.told self.new) (Self.state_of self.new))
+        ensures region { OnOk result (Puts T.Archived.definitions (writer_state (Self.told self.old) (Self.state_of self.old)) (writer_state (Self.told self.new) (Self.state_of self.new))
             T.Archived.shape T.Archived.layout (T.flat value.now resolver)) }
         ensures position { IfOk result (λ p. p ≡ Self.place self.old) }
         ensures refused { IfErr result (Explains (HindersRegion (T.hinders_at value.now resolver) T.Archived.layout (length (Self.told self.old).bytes))
@@ -107,7 +107,7 @@ pub fn serialize_one<S: Writer + Keys + ResolverAlloc, T: Serialize<S>>(
     value: &T,
     serializer: &mut S,
 ) -> Result<usize, Error>
-    ensures written { IfOk result (λ p. Lays T.Archived.definitions (held (S.told serializer.old) (S.state_of serializer.old)) (held (S.told serializer.new) (S.state_of serializer.new))
+    ensures written { IfOk result (λ p. Lays T.Archived.definitions (writer_state (S.told serializer.old) (S.state_of serializer.old)) (writer_state (S.told serializer.new) (S.state_of serializer.new))
         (T.keys value.now) p (one T.Archived.shape) 0 (T.meaning value.now)) }
     ensures there { IfOk result (λ p. p ≡ region_place T.Archived.layout (T.plan value.now (stand (S.told serializer.old) (S.state_of serializer.old)))) }
     ensures planned { OnOk result (IsAt (one_plan T.Archived.layout (T.plan value.now (stand (S.told serializer.old) (S.state_of serializer.old)))) (S.told serializer.new) (S.state_of serializer.new)) }

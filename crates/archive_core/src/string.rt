@@ -9,7 +9,7 @@ ghost use Rattle.archive_check.specs.Reads.{bytes_at};
 ghost use Rattle.archive_check.specs.Readable.{string_text};
 ghost use Rattle.archive_check.specs.Value.{text_value};
 ghost use Rattle.archive_check.specs.Viewed.{Viewed, Says};
-ghost use Rattle.archive_check.specs.Held.{held};
+ghost use Rattle.archive_check.specs.WriterState.{writer_state};
 ghost use Rattle.archive_check.specs.declared.error.Error.TheVariants.{OutOfMemory, StringTooLong};
 ghost use Rattle.archive_check.specs.Told.{KeepsKeys};
 ghost use Rattle.archive_write.specs.Sharing.{KeepsKnown, IsNoMisuse};
@@ -164,7 +164,7 @@ impl<'a> ArchiveUnsized for Text<'a> {
 impl<'a, S: Writer + Keys> SerializeUnsized<S> for Text<'a> {
     #[tactic(auto, using(crate::proofs::StringsWritten::lays_text, crate::proofs::TextCauses::text_written, crate::proofs::TextCauses::text_refused, crate::proofs::TextCauses::text_too_long, crate::proofs::Causes::goes_nowhere, crate::proofs::Causes::goes_written, crate::proofs::Causes::goes_refused))]
     fn serialize_unsized(&self, serializer: &mut S) -> Result<usize, Error>
-        ensures written { IfOk result (λ p. Lays no_definition (held (S.told serializer.old) (S.state_of serializer.old)) (held (S.told serializer.new) (S.state_of serializer.new)) [] p text (length self.now.text.now) (text_value self.now.text.now)) }
+        ensures written { IfOk result (λ p. Lays no_definition (writer_state (S.told serializer.old) (S.state_of serializer.old)) (writer_state (S.told serializer.new) (S.state_of serializer.new)) [] p text (length self.now.text.now) (text_value self.now.text.now)) }
         ensures position { IfOk result (λ p. (length (S.told serializer.old).bytes ≤ p) × (p ≤ length (S.told serializer.new).bytes)) }
         ensures there { IfOk result (λ p. p ≡ length (S.told serializer.old).bytes) }
         ensures planned { OnOk result (IsAt (text_plan self.now.text.now (stand (S.told serializer.old) (S.state_of serializer.old))) (S.told serializer.new) (S.state_of serializer.new)) }
@@ -211,7 +211,7 @@ impl ArchivedString {
         value: &str,
         serializer: &mut S,
     ) -> Result<StringResolver, Error>
-        ensures serialized { IfOk result (λ r. Writes no_definition (held (S.told serializer.old) (S.state_of serializer.old)) (held (S.told serializer.new) (S.state_of serializer.new)) [] (string_flat value.now r) (text_value value.now)) }
+        ensures serialized { IfOk result (λ r. Writes no_definition (writer_state (S.told serializer.old) (S.state_of serializer.old)) (writer_state (S.told serializer.new) (S.state_of serializer.new)) [] (string_flat value.now r) (text_value value.now)) }
         ensures held { OnOk result (length value.now ≤ 1073741823) }
         ensures inline { length value.now ≤ 8 → IsOk result × (S.told serializer.new ≡ S.told serializer.old) }
         ensures too_long { 1073741823 < length value.now → IsErrOf result StringTooLong × (S.told serializer.new ≡ S.told serializer.old) }
@@ -311,7 +311,7 @@ impl Archive for String {
 
 impl<S: Writer + Keys> Serialize<S> for String {
     fn serialize(&self, serializer: &mut S) -> Result<StringResolver, Error>
-        ensures written { IfOk result (λ r. Writes no_definition (held (S.told serializer.old) (S.state_of serializer.old)) (held (S.told serializer.new) (S.state_of serializer.new)) [] (string_flat (string_bytes self.now) r) (text_value (string_bytes self.now))) }
+        ensures written { IfOk result (λ r. Writes no_definition (writer_state (S.told serializer.old) (S.state_of serializer.old)) (writer_state (S.told serializer.new) (S.state_of serializer.new)) [] (string_flat (string_bytes self.now) r) (text_value (string_bytes self.now))) }
         ensures same_value { OnOk result (length (string_bytes self.now) ≤ 1073741823) }
         ensures answered { IfOk result (λ r. StringAnswers (string_bytes self.now) (stand (S.told serializer.old) (S.state_of serializer.old)) r) }
         ensures planned { OnOk result (IsAt (string_plan (string_bytes self.now) (stand (S.told serializer.old) (S.state_of serializer.old))) (S.told serializer.new) (S.state_of serializer.new)) }

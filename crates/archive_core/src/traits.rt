@@ -4,7 +4,7 @@ ghost use Rattle.std.specs.Prelude.{◌≡◌, ◌⊎◌, ◌≤◌, ◌<◌, �
 ghost use Rattle.archive_check.specs.Entries.{AreNamedByPosition, KeepsEntries, IsCyclic};
 ghost use Rattle.archive_check.specs.Value.{Value};
 ghost use Rattle.archive_check.specs.Viewed.{Viewed, Says};
-ghost use Rattle.archive_check.specs.Held.{held};
+ghost use Rattle.archive_check.specs.WriterState.{writer_state};
 ghost use Rattle.archive_check.specs.declared.error.Error.TheVariants.{OutOfMemory, CyclicDeserialize, LengthTooLarge};
 ghost use Rattle.archive_check.specs.declared.error.Error.{Error as ErrorOf};
 ghost use Rattle.archive_core.specs.Plans.{Stand, stand, IsAt, GoesOn, Explains, IsOfWriting};
@@ -86,7 +86,7 @@ pub trait Serialize<S: Writer + Keys>: Archive {
     /// as the writer refuses, or with 1 where memory is refused; never with 14 or 15. After a refusal, too, the bytes from before are a beginning of
     /// those that `serializer` holds, and each key that was known keeps its state.
     fn serialize(&self, serializer: &mut S) -> Result<Self::Resolver, Error>
-        ensures written { IfOk result (λ r. Writes Self.Archived.definitions (held (S.told serializer.old) (S.state_of serializer.old)) (held (S.told serializer.new) (S.state_of serializer.new))
+        ensures written { IfOk result (λ r. Writes Self.Archived.definitions (writer_state (S.told serializer.old) (S.state_of serializer.old)) (writer_state (S.told serializer.new) (S.state_of serializer.new))
             (Self.keys self.now) (Self.flat self.now r) (Self.meaning self.now)) }
         ensures same_value { IfOk result (λ r. Self.belongs self.now r) }
         ensures answered { IfOk result (λ r. Self.answers self.now (stand (S.told serializer.old) (S.state_of serializer.old)) r) }
@@ -166,7 +166,7 @@ pub trait SerializeUnsized<S: Writer + Keys>: ArchiveUnsized {
     /// refuses, or with 1 where memory is refused; never with 14 or 15. After a refusal, too, the bytes from before are a beginning of those that
     /// `serializer` holds, and each key that was known keeps its state.
     fn serialize_unsized(&self, serializer: &mut S) -> Result<usize, Error>
-        ensures written { IfOk result (λ p. Lays Self.Archived.definitions (held (S.told serializer.old) (S.state_of serializer.old)) (held (S.told serializer.new) (S.state_of serializer.new))
+        ensures written { IfOk result (λ p. Lays Self.Archived.definitions (writer_state (S.told serializer.old) (S.state_of serializer.old)) (writer_state (S.told serializer.new) (S.state_of serializer.new))
             (Self.keys self.now) p Self.Archived.pointee (Self.source_length self.now) (Self.meaning self.now)) }
         ensures position { IfOk result (λ p. (length (S.told serializer.old).bytes ≤ p) × (p ≤ length (S.told serializer.new).bytes)) }
         ensures there { IfOk result (λ p. p ≡ Self.planned_at self.now (stand (S.told serializer.old) (S.state_of serializer.old))) }

@@ -4,8 +4,8 @@ use Rattle.std.proofs.lemmas.List.{get_or-replicate, length-replicate}
 use Rattle.archive_check.specs.Definitions.{IsAlign}
 use Rattle.archive_check.specs.Layout.{up}
 use Rattle.archive_check.specs.Told.{Told, KeepsKeys}
-use Rattle.archive_check.specs.Tidy.{IsZeroed}
-use Rattle.archive_check.specs.Held.{States, held, Pads}
+use Rattle.archive_check.specs.CleanRegions.{IsZeroed}
+use Rattle.archive_check.specs.WriterState.{KeyStates, writer_state, Pads}
 use Rattle.archive_write.specs.Written.{padding}
 
 padded : (n a : ℕ) → IsAlign a → n + padding a n ≡ up n a
@@ -17,8 +17,8 @@ padded n a h = elim h [
 pub zeroed_replicate : (n : ℕ) → IsZeroed (replicate n 0)
 zeroed_replicate n = record { zero_at = λ i h. get_or-replicate n i 0 0 (omega (arith, length-replicate {A = ℕ} n 0)) }
 
-pub pads_by : (align place : ℕ) (old new : Told) (s t : States) → IsAlign align → place ≡ length old.bytes
-    → new.bytes ≡ old.bytes ++ replicate (padding align place) 0 → KeepsKeys s t → Pads align (held old s) (held new t)
+pub pads_by : (align place : ℕ) (old new : Told) (s t : KeyStates) → IsAlign align → place ≡ length old.bytes
+    → new.bytes ≡ old.bytes ++ replicate (padding align place) 0 → KeepsKeys s t → Pads align (writer_state old s) (writer_state new t)
 pads_by align place old new s t is here grown keys = record {
   zeros = replicate (padding align place) 0;
   grown = grown;

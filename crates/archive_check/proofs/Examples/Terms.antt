@@ -8,7 +8,7 @@ use Rattle.archive_check.specs.Value.{Value, number, product, Values, no_value, 
 use Rattle.archive_check.specs.Reads.{Schema, LaidOut}
 use Rattle.archive_check.specs.Tour.{Entry, Accepted}
 use Rattle.archive_check.specs.Trail.{Fault, RootTrips}
-use Rattle.archive_check.specs.Denotes.{Knows, Denotes}
+use Rattle.archive_check.specs.Denotes.{IsSharedValue, Denotes}
 use Rattle.archive_check.proofs.AcceptedWalks.{walks}
 use Rattle.archive_check.proofs.Trails.{root_no_walk}
 
@@ -55,7 +55,7 @@ Refused s bytes root X fault = RootTrips s bytes None root X fault × (Accepted 
 pub refused : {s : Schema} {bytes : List ℕ} {root : ℕ} {X : Shape} {fault : Fault} → length bytes < 2 ^ 64 → RootTrips s bytes None root X fault → Refused s bytes root X fault
 refused {s} {bytes} {root} {X} small t = (t, λ a. root_no_walk s bytes small t (walks s bytes None root X (a, tt)))
 
-pub shares_nothing : (s : Schema) (bytes : List ℕ) (t : ℕ) → Knows s bytes t (get {R = nat_cmp} empty t) (get {R = nat_cmp} empty t)
+pub shares_nothing : (s : Schema) (bytes : List ℕ) (t : ℕ) → IsSharedValue s bytes t (get {R = nat_cmp} empty t) (get {R = nat_cmp} empty t)
 shares_nothing s bytes t = rw (get-empty {X = Entry} nat_cmp t) (rw (get-empty {X = Entry × Value} nat_cmp t) refl)
 
 pub laid_out : LaidOut no_names

@@ -77,10 +77,10 @@ fn number(integer: IntegerKind) -> Expr {
 
 // The size and the alignment, where the schema has the names in it.
 fn layout_in(schema: &Schema, expr: &Expr) -> Option<Result<(usize, usize), Error>> {
-    if missing(expr, &schema.definitions, false).is_some() {
-        return None;
+    match missing(expr, &schema.definitions, false) {
+        Some(_) => None,
+        None => Some(numbers(schema.layout(expr))),
     }
-    Some(numbers(schema.layout(expr)))
 }
 
 // A choice whose variants hold so much.
@@ -173,7 +173,7 @@ fn names_have_the_layouts_of_their_definitions(rt: HostRuntime) -> Result<(), Fa
     let alloc = rt.alloc();
     let schema = Schema::of::<ArchivedId>(alloc)?;
     let id = ArchivedId::expr(alloc)?;
-    assert_eq!(rt; layout_in(&schema, &id), Some(Ok((8, 8))));
+    assert_eq!(rt; numbers(schema.layout(&id)), Ok((8, 8)));
     let record = Expr::Record(vec![in alloc; number(IntegerKind::U8), id]?);
     assert_eq!(rt; layout_in(&schema, &record), Some(Ok((16, 8))));
     assert_eq!(rt; layout_in(&schema, &Expr::Named("ArchivedIds")), None);

@@ -2,7 +2,7 @@
 
 ghost use Rattle.std.specs.Prelude.{◌≡◌, ⊤, [], length, IfOk, OnOk, IfErr, IsOk};
 ghost use Rattle.archive_check.specs.Definitions.{no_definition};
-ghost use Rattle.archive_check.specs.Held.{held};
+ghost use Rattle.archive_check.specs.WriterState.{writer_state};
 ghost use Rattle.archive_check.specs.Layout.{kind_size};
 ghost use Rattle.archive_check.specs.Shape.{leaf, one, non_zero};
 ghost use Rattle.archive_check.specs.Reads.{bytes_at};
@@ -72,7 +72,7 @@ impl<N: Integer> Archive for NonZero<N> {
 impl<N: Integer, S: Writer + Keys> Serialize<S> for NonZero<N> {
     #[tactic(auto, using(crate::proofs::Appending::writes_number, crate::proofs::Causes::goes_nowhere))]
     fn serialize(&self, _serializer: &mut S) -> Result<(), Error>
-        ensures written { IfOk result (λ _. Writes no_definition (held (S.told _serializer.old) (S.state_of _serializer.old)) (held (S.told _serializer.new) (S.state_of _serializer.new)) [] (number (N.value_of self.now)) (number (N.value_of self.now))) }
+        ensures written { IfOk result (λ _. Writes no_definition (writer_state (S.told _serializer.old) (S.state_of _serializer.old)) (writer_state (S.told _serializer.new) (S.state_of _serializer.new)) [] (number (N.value_of self.now)) (number (N.value_of self.now))) }
         ensures same_value { ⊤ }
         ensures answered { ⊤ }
         ensures planned { OnOk result (IsAt (stand (S.told _serializer.old) (S.state_of _serializer.old)) (S.told _serializer.new) (S.state_of _serializer.new)) }

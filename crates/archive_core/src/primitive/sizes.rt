@@ -5,7 +5,7 @@ ghost use Rattle.std.specs.Int.{w32, cast_signed, cast_unsigned};
 ghost use Rattle.std.specs.Int.RustNames.{FitsSigned};
 ghost use Rattle.archive_check.specs.Shape.{leaf, one, number, signed, unsigned};
 ghost use Rattle.archive_check.specs.Definitions.{no_definition};
-ghost use Rattle.archive_check.specs.Held.{held};
+ghost use Rattle.archive_check.specs.WriterState.{writer_state};
 ghost use Rattle.archive_check.specs.Reads.{bytes_at};
 ghost use Rattle.archive_check.specs.Value.{number as number_value};
 ghost use Rattle.archive_check.specs.Viewed.{Viewed, Says};
@@ -76,7 +76,7 @@ impl<S: Writer + Keys> Serialize<S> for usize {
     /// Writes nothing. Refused with 6 exactly where the number doesn't fit 32 bits.
     #[tactic(auto, using(crate::proofs::Appending::writes_number, crate::proofs::Causes::goes_nowhere, crate::proofs::Causes::explains_own))]
     fn serialize(&self, _serializer: &mut S) -> Result<(), Error>
-        ensures written { IfOk result (λ _. Writes no_definition (held (S.told _serializer.old) (S.state_of _serializer.old)) (held (S.told _serializer.new) (S.state_of _serializer.new)) [] (number_value (pos self.now)) (number_value (pos self.now))) }
+        ensures written { IfOk result (λ _. Writes no_definition (writer_state (S.told _serializer.old) (S.state_of _serializer.old)) (writer_state (S.told _serializer.new) (S.state_of _serializer.new)) [] (number_value (pos self.now)) (number_value (pos self.now))) }
         ensures same_value { IfOk result (λ _. self.now < 2 ^ 32) }
         ensures answered { IfOk result (λ _. ⊤) }
         ensures planned { OnOk result (IsAt (stand (S.told _serializer.old) (S.state_of _serializer.old)) (S.told _serializer.new) (S.state_of _serializer.new)) }
@@ -162,7 +162,7 @@ impl<S: Writer + Keys> Serialize<S> for isize {
     /// Writes nothing. Refused with 6 exactly where the number doesn't fit 32 bits.
     #[tactic(auto, using(crate::proofs::Appending::writes_number, crate::proofs::Causes::goes_nowhere, crate::proofs::Causes::explains_own))]
     fn serialize(&self, _serializer: &mut S) -> Result<(), Error>
-        ensures written { IfOk result (λ _. Writes no_definition (held (S.told _serializer.old) (S.state_of _serializer.old)) (held (S.told _serializer.new) (S.state_of _serializer.new)) [] (number_value self.now) (number_value self.now)) }
+        ensures written { IfOk result (λ _. Writes no_definition (writer_state (S.told _serializer.old) (S.state_of _serializer.old)) (writer_state (S.told _serializer.new) (S.state_of _serializer.new)) [] (number_value self.now) (number_value self.now)) }
         ensures same_value { IfOk result (λ _. FitsSigned w32 self.now) }
         ensures answered { IfOk result (λ _. ⊤) }
         ensures planned { OnOk result (IsAt (stand (S.told _serializer.old) (S.state_of _serializer.old)) (S.told _serializer.new) (S.state_of _serializer.new)) }

@@ -1,7 +1,7 @@
 //! What is written to every writer.
 
 ghost use Rattle.std.specs.Prelude.{◌≡◌, ◌++◌, ◌<◌, ◌≤◌, OnOk, OnErr, IfOk, IfErr, IsErrOf, IsTrue, replicate};
-ghost use Rattle.archive_check.specs.Held.{held, Pads};
+ghost use Rattle.archive_check.specs.WriterState.{writer_state, Pads};
 ghost use Rattle.archive_check.specs.Told.{KeepsKeys};
 ghost use Rattle.archive_write.specs.Written.{IsBeginning, RoomFalls, ExplainsRefusal, padding};
 
@@ -54,7 +54,7 @@ pub trait WriterExt: Writer {
     where
         Self: Sized,
         ensures position { IfOk result (λ p. p ≡ Self.place self.new) }
-        ensures padded { OnOk result (Pads T.layout.align (held (Self.told self.old) (Self.state_of self.old)) (held (Self.told self.new) (Self.state_of self.new))) }
+        ensures padded { OnOk result (Pads T.layout.align (writer_state (Self.told self.old) (Self.state_of self.old)) (writer_state (Self.told self.new) (Self.state_of self.new))) }
         ensures written { OnOk result ((Self.told self.new).bytes ≡ (Self.told self.old).bytes ++ replicate (padding T.layout.align (Self.place self.old)) 0) }
         ensures kept { OnErr result (IsBeginning (Self.told self.old).bytes (Self.told self.new).bytes) }
         ensures room { RoomFalls (Self.told self.old).room (Self.told self.new).room (Self.told self.old).bytes (Self.told self.new).bytes }

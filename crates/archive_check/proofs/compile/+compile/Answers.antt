@@ -1,8 +1,8 @@
 use Rattle.std.proofs.Common.{rules, ◌≡◌, ◌<◌, ◌+◌, subst, sym, ap, ◌∙◌, arith, drop}
 use Rattle.archive_check.specs.Expressions.{flavor_of, shape_of, pointee_of, shapes_in, variants_in}
-use Rattle.archive_check.specs.Sizes.{variants_size}
+use Rattle.archive_check.specs.Measure.{measure_of_variants}
 use Rattle.archive_check.specs.Shape.{parts, choice, array, boxed, vec, shared, weak, variant}
-use Rattle.archive_check.specs.Queued.{waits_of}
+use Rattle.archive_check.specs.CompileQueue.{waits_of}
 use Rattle.archive_check.proofs.Views.{choice_falls, shape_of-Choice, shape_of-Record, shapes_in-drop, shapes_in-end, variants_in-drop, variants_in-end}
 use Rattle.archive_check.proofs.Cases.{ok_map, as_shape, row_left, spans_left}
 use Rattle.archive_check.proofs.Compiled.{compiled_leaf, compiled_record, compiled_choice, compiled_array, compiled_name}
@@ -16,7 +16,7 @@ use Rattle.archive_check.proofs.compile.+compile.Goals as goal
 
 pub compile-compile_variants-requires : goal.compile-compile_variants-requires
 compile-compile_variants-requires t c =
-    (let h = choice_falls _ _ _ _ c.in-Choice.is c.deref-in-Choice.ensures.value in subst (λ n. variants_size (variants_in c.deref-in-Choice.result.now) < n) c.decreases h, c.requires)
+    (let h = choice_falls _ _ _ _ c.in-Choice.is c.deref-in-Choice.ensures.value in subst (λ n. measure_of_variants (variants_in c.deref-in-Choice.result.now) < n) c.decreases h, c.requires)
 
 pub compile-returns-in-Leaf-clause-ok : goal.compile-returns-in-Leaf-clause-ok
 compile-returns-in-Leaf-clause-ok t c = ok_map c.push_leaf.result c.push_leaf.ensures.ok (λ j p. as_shape (ap shape_of c.in-Leaf.is) (compiled_leaf c.in-Leaf.kind p))

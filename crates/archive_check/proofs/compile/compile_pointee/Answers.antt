@@ -3,7 +3,7 @@ use Rattle.archive_check.specs.declared.error.Error.TheVariants.{OutOfMemory}
 use Rattle.archive_check.specs.Compilable.{CanPoint}
 use Rattle.archive_check.proofs.Compilable.{can_one, can_run, wait_name}
 use Rattle.archive_check.specs.Expressions.{shape_of, pointee_of}
-use Rattle.archive_check.specs.Queued.{waits_of}
+use Rattle.archive_check.specs.CompileQueue.{waits_of}
 use Rattle.archive_check.proofs.Cases.{as_pointee}
 use Rattle.archive_check.proofs.Waiting.{targets_queued}
 use Rattle.archive_check.proofs.Pointing.{leads_one, leads_run, leads_text}

@@ -1,14 +1,14 @@
 use Rattle.std.proofs.Common.{◌+◌, ◌<◌, ap, sym, ◌∙◌, subst}
 use Rattle.archive_check.specs.Expressions.{shape_of, variants_in}
-use Rattle.archive_check.specs.Sizes.{variants_size}
-use Rattle.archive_check.specs.Counts.{count_of, variant_counts_of}
+use Rattle.archive_check.specs.Measure.{measure_of_variants}
+use Rattle.archive_check.specs.NodeCounts.{count_of, variant_counts_of}
 use Rattle.archive_check.proofs.Views.{choice_falls, shape_of-Choice}
 use Rattle.archive_check.proofs.Cases.{ok_map}
 use Rattle.archive_check.proofs.counting.+count.Goals as goal
 
 pub count-count_variants-requires : goal.count-count_variants-requires
 count-count_variants-requires t c =
-    (let h = choice_falls _ _ _ _ c.in-Choice.is c.deref-in-Choice.ensures.value in subst (λ n. variants_size (variants_in c.deref-in-Choice.result.now) < n) c.decreases h, tt)
+    (let h = choice_falls _ _ _ _ c.in-Choice.is c.deref-in-Choice.ensures.value in subst (λ n. measure_of_variants (variants_in c.deref-in-Choice.result.now) < n) c.decreases h, tt)
 
 pub count-returns-in_ok-variants-in-Choice-clause-ok : goal.count-returns-in_ok-variants-in-Choice-clause-ok
 count-returns-in_ok-variants-in-Choice-clause-ok t c =

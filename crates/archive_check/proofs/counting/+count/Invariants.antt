@@ -1,17 +1,17 @@
 use Rattle.std.proofs.Common.{◌≡◌, ◌+◌, drop}
 use Rattle.archive_check.specs.Expressions.{shape_of, shapes_in, variants_in}
-use Rattle.archive_check.specs.Sizes.{shape_size, parts_size, variants_size}
-use Rattle.archive_check.specs.Counts.{counts_of, variant_counts_of}
+use Rattle.archive_check.specs.Measure.{measure_of, measure_of_parts, measure_of_variants}
+use Rattle.archive_check.specs.NodeCounts.{counts_of, variant_counts_of}
 use Rattle.archive_check.proofs.counting.+count.Given as goal
 
 abbrev pub decreases-count : goal.decreases-count
-decreases-count l = shape_size (shape_of l.expr.now)
+decreases-count l = measure_of (shape_of l.expr.now)
 
 abbrev pub decreases-count_parts : goal.decreases-count_parts
-decreases-count_parts l = parts_size (shapes_in l.parts.now)
+decreases-count_parts l = measure_of_parts (shapes_in l.parts.now)
 
 abbrev pub decreases-count_variants : goal.decreases-count_variants
-decreases-count_variants l = variants_size (variants_in l.variants.now)
+decreases-count_variants l = measure_of_variants (variants_in l.variants.now)
 
 abbrev pub invariant-count_parts-loop-i : goal.invariant-count_parts-loop-i
 invariant-count_parts-loop-i l = l.total + counts_of (shapes_in (drop l.i l.parts)) ≡ counts_of (shapes_in l.parts)

@@ -2,14 +2,14 @@ use Rattle.std.proofs.Common.{rules, IsSome, ◌≡◌, ◌+◌, ap, sym, ◌∙
 use Rattle.archive_check.specs.declared.defs.Def.{Def}
 use Rattle.archive_check.specs.Expressions.{shape_of}
 use Rattle.archive_check.specs.Runs.{IsAt}
-use Rattle.archive_check.specs.Counts.{count_of}
+use Rattle.archive_check.specs.NodeCounts.{count_of}
 use Rattle.archive_check.specs.Numbered.{RootIs, def_shapes}
 use Rattle.archive_check.proofs.GoingOn.{same_at}
 use Rattle.archive_check.proofs.Numbered.{numbered_next, start_next, def_at, prefix_found}
 use Rattle.archive_check.specs.declared.error.Error.TheVariants.{OutOfMemory}
 use Rattle.archive_check.specs.Shape.{named}
 use Rattle.archive_check.specs.Defined.{Holds, holds_name}
-use Rattle.archive_check.specs.Growing.{node_of}
+use Rattle.archive_check.specs.PlanGrowth.{node_of}
 use Rattle.archive_check.specs.Planned.{DefsInOrder}
 use Rattle.archive_check.proofs.counting.number.Goals as goal
 

@@ -1,13 +1,13 @@
 use Rattle.std.proofs.Common.{◌<◌, subst, sym, ap, ◌∙◌}
 use Rattle.archive_check.specs.Shape.{choice}
 use Rattle.archive_check.specs.Expressions.{shape_of, variants_in}
-use Rattle.archive_check.proofs.Views.{shape_of-Choice}
-use Rattle.archive_check.proofs.SizesFall.{variants_size, choice_falls}
+use Rattle.archive_check.specs.Measure.{measure_of_variants}
+use Rattle.archive_check.proofs.Views.{choice_falls, shape_of-Choice}
 use Rattle.archive_check.proofs.expr.+copy.Goals as goal
 
 pub copy_expression-copy_variants-requires : goal.copy_expression-copy_variants-requires
 copy_expression-copy_variants-requires t c =
-    (let h = choice_falls _ _ _ _ c.in-Choice.is c.deref-in-Choice.ensures.value in subst (λ n. variants_size (variants_in c.deref-in-Choice.result.now) < n) c.decreases h, tt)
+    (let h = choice_falls _ _ _ _ c.in-Choice.is c.deref-in-Choice.ensures.value in subst (λ n. measure_of_variants (variants_in c.deref-in-Choice.result.now) < n) c.decreases h, tt)
 
 pub copy_expression-returns-in_ok-copy_variants-in-Choice :
     goal.copy_expression-returns-in_ok-copy_variants-in-Choice

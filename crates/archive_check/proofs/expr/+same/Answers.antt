@@ -1,6 +1,7 @@
 use Rattle.std.proofs.Common.{sym, subst, ◌<◌}
 use Rattle.archive_check.specs.Expressions.{variants_in}
-use Rattle.archive_check.proofs.SizesFall.{variants_size, choice_falls}
+use Rattle.archive_check.specs.Measure.{measure_of_variants}
+use Rattle.archive_check.proofs.Views.{choice_falls}
 use Rattle.archive_check.proofs.Same.{choice_same}
 use Rattle.archive_check.proofs.expr.+same.Goals as goal
 
@@ -10,4 +11,4 @@ same_expressions-returns-then-eq t c =
 
 pub same_expressions-same_variant_lists-requires : goal.same_expressions-same_variant_lists-requires
 same_expressions-same_variant_lists-requires t c =
-    (let h = choice_falls _ _ _ _ c.in-Choice-Choice.is-0 c.deref-then-eq.ensures.value in subst (λ n. variants_size (variants_in c.deref-then-eq.result.now) < n) c.decreases h, tt)
+    (let h = choice_falls _ _ _ _ c.in-Choice-Choice.is-0 c.deref-then-eq.ensures.value in subst (λ n. measure_of_variants (variants_in c.deref-then-eq.result.now) < n) c.decreases h, tt)

@@ -1,13 +1,13 @@
-use Rattle.std.proofs.Common.{◌≡◌, ◌<◌, ap, sym, ◌∙◌, subst, option_map}
+use Rattle.std.proofs.Common.{◌<◌, ap, sym, ◌∙◌, subst}
 use Rattle.archive_check.specs.Expressions.{shape_of, variants_in, entries_of}
-use Rattle.archive_check.specs.Sizes.{variants_size}
+use Rattle.archive_check.specs.Measure.{measure_of_variants}
 use Rattle.archive_check.specs.Names.{missing as missing_in, variants_missing}
 use Rattle.archive_check.proofs.Views.{choice_falls, shape_of-Choice}
 use Rattle.archive_check.proofs.names.+missing.Goals as goal
 
 pub missing-missing_variant-requires : goal.missing-missing_variant-requires
 missing-missing_variant-requires t c =
-    (let h = choice_falls _ _ _ _ c.in-Choice.is c.deref-in-Choice.ensures.value in subst (λ n. variants_size (variants_in c.deref-in-Choice.result.now) < n) c.decreases h, tt)
+    (let h = choice_falls _ _ _ _ c.in-Choice.is c.deref-in-Choice.ensures.value in subst (λ n. measure_of_variants (variants_in c.deref-in-Choice.result.now) < n) c.decreases h, tt)
 
 pub missing-returns-in-Choice : goal.missing-returns-in-Choice
 missing-returns-in-Choice t c =

@@ -1,8 +1,8 @@
 use Rattle.std.proofs.Common.{rules, ◌≡◌, arith, sym, ◌∙◌, subst, ap, length, [], refl}
 use Rattle.archive_check.specs.declared.defs.Def.{Def}
 use Rattle.archive_check.specs.Expressions.{shape_of}
-use Rattle.archive_check.specs.Growing.{lists_of}
-use Rattle.archive_check.specs.Queued.{waits_of}
+use Rattle.archive_check.specs.PlanGrowth.{lists_of}
+use Rattle.archive_check.specs.CompileQueue.{waits_of}
 use Rattle.archive_check.proofs.Cases.{as_shape, as_done, handed_on}
 use Rattle.archive_check.proofs.Chained.{chained_start, defs_next, defs_begin}
 use Rattle.archive_check.specs.declared.error.Error.TheVariants.{OutOfMemory}

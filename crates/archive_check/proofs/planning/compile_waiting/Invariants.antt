@@ -1,6 +1,6 @@
 use Rattle.std.proofs.Common.{◌-◌, take}
-use Rattle.archive_check.specs.Growing.{lists_of}
-use Rattle.archive_check.specs.Queued.{waits_of, waits_size}
+use Rattle.archive_check.specs.PlanGrowth.{lists_of}
+use Rattle.archive_check.specs.CompileQueue.{waits_of, measure_of_waits}
 use Rattle.archive_check.specs.Planned.{FinishesTo}
 use Rattle.archive_check.proofs.planning.compile_waiting.Given as goal
 
@@ -8,4 +8,4 @@ abbrev pub invariant-loop-i : goal.invariant-loop-i
 invariant-loop-i l = FinishesTo l.names l.i (waits_of l.fn.queue) (waits_of l.queue) (lists_of l.fn.plan) (lists_of l.plan)
 
 abbrev pub decreases-loop-i : goal.decreases-loop-i
-decreases-loop-i l = waits_size (waits_of l.queue).items - waits_size (take l.i (waits_of l.queue).items)
+decreases-loop-i l = measure_of_waits (waits_of l.queue).items - measure_of_waits (take l.i (waits_of l.queue).items)

@@ -1,5 +1,5 @@
 use Rattle.std.proofs.Common.{inr, ⊎_elim, ap, ◌∙◌, [], ◌∷◌}
-use Rattle.archive_check.specs.Queued.{waits_in}
+use Rattle.archive_check.specs.CompileQueue.{waits_in}
 use Rattle.archive_check.proofs.Waiting.{waits_in-append, no_name}
 use Rattle.archive_check.proofs.queue.wait.Goals as goal
 

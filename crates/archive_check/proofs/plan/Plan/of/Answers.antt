@@ -1,8 +1,8 @@
 use Rattle.std.proofs.Common.{rules, ◌≡◌, ◌+◌, sym, subst, length, arith}
 use Rattle.archive_check.specs.Expressions.{shape_of}
-use Rattle.archive_check.specs.Counts.{count_of}
-use Rattle.archive_check.specs.Growing.{lists_of}
-use Rattle.archive_check.specs.Queued.{waits_of}
+use Rattle.archive_check.specs.NodeCounts.{count_of}
+use Rattle.archive_check.specs.PlanGrowth.{lists_of}
+use Rattle.archive_check.specs.CompileQueue.{waits_of}
 use Rattle.archive_check.specs.Compiled.{Compiled}
 use Rattle.archive_check.specs.Numbered.{def_shapes, start_of}
 use Rattle.archive_check.specs.Planned.{Chained, Finishes, InOrder, CanChain, CanFinish}

@@ -1,6 +1,6 @@
 use Rattle.std.proofs.Common.{⊎_elim, ◌+◌, ◌<◌, ap, sym, ◌∙◌, subst, arith, refl, Some, false, drop}
 use Rattle.archive_check.specs.Expressions.{kind_of, flavor_of, shape_of, pointee_of, shapes_in, variants_in}
-use Rattle.archive_check.specs.Sizes.{variants_size}
+use Rattle.archive_check.specs.Measure.{measure_of_variants}
 use Rattle.archive_check.specs.Shape.{parts, choice, array, boxed, shared, weak, variant}
 use Rattle.archive_check.specs.Runs.{times}
 use Rattle.archive_check.specs.Names.{missing, parts_missing, variants_missing}
@@ -15,7 +15,7 @@ use Rattle.archive_check.proofs.shape.layouts.+extent.Goals.{extent_of-in-Leaf, 
 
 pub extent_of-extent_of_variants-requires : goal.extent_of-extent_of_variants-requires
 extent_of-extent_of_variants-requires t c = (
-  let h = choice_falls _ _ _ _ c.in-Choice.is c.deref-in-Choice.ensures.value in subst (λ n. variants_size (variants_in c.deref-in-Choice.result.now) < n) c.decreases h,
+  let h = choice_falls _ _ _ _ c.in-Choice.is c.deref-in-Choice.ensures.value in subst (λ n. measure_of_variants (variants_in c.deref-in-Choice.result.now) < n) c.decreases h,
   ap (λ vs. variants_missing false (table_in c.args.schema.now) (variants_in vs)) c.deref-in-Choice.ensures.value
       ∙ sym (ap (missing false (table_in c.args.schema.now)) (ap shape_of c.in-Choice.is ∙ shape_of-Choice c.in-Choice.field-0 c.in-Choice.variants))
       ∙ c.requires,

@@ -1,6 +1,6 @@
 use Rattle.std.proofs.Common.{◌≡◌, None, false, drop}
 use Rattle.archive_check.specs.Expressions.{shape_of, shapes_in, variants_in}
-use Rattle.archive_check.specs.Sizes.{shape_size, parts_size, variants_size}
+use Rattle.archive_check.specs.Measure.{measure_of, measure_of_parts, measure_of_variants}
 use Rattle.archive_check.specs.Names.{parts_missing, variants_missing}
 use Rattle.archive_check.specs.Reads.{Schema}
 use Rattle.archive_check.specs.Schemas.{table_in, Suits}
@@ -8,13 +8,13 @@ use Rattle.archive_check.specs.Extents.{PartsSoFar, VariantsSoFar}
 use Rattle.archive_check.proofs.shape.layouts.+extent.Given as goal
 
 abbrev pub decreases-extent_of : goal.decreases-extent_of
-decreases-extent_of l = shape_size (shape_of l.expr.now)
+decreases-extent_of l = measure_of (shape_of l.expr.now)
 
 abbrev pub decreases-extent_of_parts : goal.decreases-extent_of_parts
-decreases-extent_of_parts l = parts_size (shapes_in l.parts.now)
+decreases-extent_of_parts l = measure_of_parts (shapes_in l.parts.now)
 
 abbrev pub decreases-extent_of_variants : goal.decreases-extent_of_variants
-decreases-extent_of_variants l = variants_size (variants_in l.variants.now)
+decreases-extent_of_variants l = measure_of_variants (variants_in l.variants.now)
 
 abbrev pub invariant-extent_of_parts-loop-i : goal.invariant-extent_of_parts-loop-i
 invariant-extent_of_parts-loop-i l =

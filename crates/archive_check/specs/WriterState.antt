@@ -1,23 +1,23 @@
--- What a writer holds, and zeros up to a multiple.
+-- What a writer holds, with the states of the shared keys; and zeros up to a multiple.
 use Rattle.std.specs.Prelude.{◌≡◌, ℕ, List, ◌++◌, length}
 use Rattle.archive_check.specs.Layout.{up}
 use Rattle.archive_check.specs.Told.{Told, KeyState}
-use Rattle.archive_check.specs.Tidy.{IsZeroed}
+use Rattle.archive_check.specs.CleanRegions.{IsZeroed}
 
 -- the state of each shared key
-abbrev pub States : Type 0
-States = ℕ → KeyState
+abbrev pub KeyStates : Type 0
+KeyStates = ℕ → KeyState
 
 -- a writer's bytes, and the states of the shared keys
-pub record Held : Type 0 where
+pub record WriterState : Type 0 where
   pub bytes : List ℕ
-  pub states : States
+  pub states : KeyStates
 
-abbrev pub held : Told → States → Held
-held told states = record { bytes = told.bytes; states = states }
+abbrev pub writer_state : Told → KeyStates → WriterState
+writer_state told states = record { bytes = told.bytes; states = states }
 
 -- zeros were appended up to the next multiple
-pub record Pads (align : ℕ) (old new : Held) : Type 0 where
+pub record Pads (align : ℕ) (old new : WriterState) : Type 0 where
   pub zeros : List ℕ
   pub grown : new.bytes ≡ old.bytes ++ zeros
   pub zeroed : IsZeroed zeros

@@ -1,29 +1,29 @@
--- What is kept of shared positions, as a check speaks of it.
+-- The shared positions that a validator keeps, as a check speaks of them.
 use Rattle.std.specs.Prelude.{◌≡◌, ℕ, ℤ, List, ◌++◌, length, ◌<◌, Option, Some, None, option_map, slice_get}
 use Rattle.std.specs.Option.{ForSome}
 use Rattle.archive_check.specs.declared.plan.Sort.{Sort}
-use Rattle.archive_check.specs.declared.shared.Kept.{Kept}
+use Rattle.archive_check.specs.declared.shared.SharedPosition.{SharedPosition}
 use Rattle.archive_check.specs.Expressions.{flavor_of, pointee_of}
 use Rattle.archive_check.specs.Shape.{Flavor, Pointee}
 use Rattle.archive_check.specs.Met.{Met, Positions}
 
 -- a position of this type was met
-abbrev pub met_as : Kept → Sort → Met
+abbrev pub met_as : SharedPosition → Sort → Met
 met_as kept sort = record {
   entry = record { flavor = flavor_of sort.flavor; pointee = pointee_of sort.pointee; length = kept.length };
   finished = kept.finished;
 }
 
-abbrev pub met_in : List Sort → Option Kept → Option Met
+abbrev pub met_in : List Sort → Option SharedPosition → Option Met
 met_in sorts None = None
 met_in sorts (Some kept) = option_map (met_as kept) (slice_get sorts kept.sort)
 
 -- the positions that are kept, with their types from a list
-abbrev pub positions_in : List Sort → (ℤ → Option Kept) → Positions
+abbrev pub positions_in : List Sort → (ℤ → Option SharedPosition) → Positions
 positions_in sorts kept position = met_in sorts (kept position)
 
 -- each position's type is in the list
-abbrev pub AreKnown : List Sort → (ℤ → Option Kept) → Type 0
+abbrev pub AreKnown : List Sort → (ℤ → Option SharedPosition) → Type 0
 AreKnown sorts kept = (position : ℤ) → ForSome (kept position) (λ k. k.sort < length sorts)
 
 -- the type at a place of a list

@@ -1,13 +1,13 @@
--- Expressions that wait for their nodes.
+-- The queue of expressions that are still to be compiled, each with its node.
 use Rattle.std.specs.Prelude.{◌≡◌, ◌⊎◌, ℕ, ◌+◌, ◌≤◌, List, [], ◌∷◌, ◌++◌, Some}
 use Rattle.archive_check.specs.declared.growing.Known.{Known}
 use Rattle.archive_check.specs.declared.queue.Waiting.{Waiting}
 use Rattle.archive_check.specs.declared.queue.Queue.{Queue}
 use Rattle.archive_check.specs.Shape.{Name, Shape, named}
-use Rattle.archive_check.specs.Sizes.{shape_size}
+use Rattle.archive_check.specs.Measure.{measure_of}
 use Rattle.archive_check.specs.Expressions.{shape_of}
-use Rattle.archive_check.specs.Counts.{count_of}
-use Rattle.archive_check.specs.Growing.{node_of}
+use Rattle.archive_check.specs.NodeCounts.{count_of}
+use Rattle.archive_check.specs.PlanGrowth.{node_of}
 
 -- an expression, and its node
 pub record Wait : Type 0 where
@@ -34,9 +34,9 @@ wait_shapes [] = []
 wait_shapes (x ∷ xs) = x.shape ∷ wait_shapes xs
 
 -- how much is left to compile
-abbrev pub waits_size : List Wait → ℕ
-waits_size [] = 0
-waits_size (x ∷ xs) = shape_size x.shape + 1 + waits_size xs
+abbrev pub measure_of_waits : List Wait → ℕ
+measure_of_waits [] = 0
+measure_of_waits (x ∷ xs) = measure_of x.shape + 1 + measure_of_waits xs
 
 -- each has the nodes behind those of the one before it, from `base` up to `next`, and the last is its own
 abbrev pub Reserved : ℕ → List Wait → ℕ → Type 0

@@ -1,4 +1,4 @@
--- A definition that is added to others.
+-- What is answered where a definition is added to others.
 use Rattle.std.specs.Prelude.{◌≡◌, ◌≢◌, Bool, true, false, Option, Some, None, Result, Ok, Err}
 use Rattle.std.specs.Borrow.{Bor}
 use Rattle.archive_check.specs.declared.error.Error.{Error}

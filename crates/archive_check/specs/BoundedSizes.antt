@@ -1,8 +1,8 @@
--- Sizes, where they are at most usize::MAX.
+-- Sizes in usize: None stands for all above usize::MAX.
 use Rattle.std.specs.Prelude.{ℕ, ◌+◌, max, Option, Some, None, nat_lt, if◌then◌else◌}
 use Rattle.archive_check.specs.Layout.{up}
 
--- a number, where it is
+-- a number, or None where it is above usize::MAX
 abbrev pub fits : ℕ → Option ℕ
 fits n = if nat_lt n 18446744073709551616 then Some n else None
 

@@ -1,6 +1,6 @@
 use Rattle.std.proofs.lemmas.Int.{to_z-of_z}
 use mir.Syntax.{w128}
-use Rattle.archive_core.proofs.context.HighValidatorSharedContext.start_shared.Goals as goal
+use Rattle.archive_check.proofs.validator.HighValidatorSharedContext.start_shared.Goals as goal
 
 pub returns-clause-answer : goal.returns-clause-answer
 returns-clause-answer c = rw (to_z-of_z w128 c.args.position (record { sfits = c.ranges.position.sfits })) at c.start_shared.ensures.answer

@@ -1,4 +1,4 @@
--- Plans that grow.
+-- How a plan grows: its lists go on, by a node, a sort, parts or variants.
 use Rattle.std.specs.Prelude.{◌≡◌, ◌≢◌, ◌⊎◌, ℕ, ◌<◌, max, List, [], ◌∷◌, ◌++◌, length, Bool, true, Option, Some, None, cond, bytes_eq}
 use Rattle.archive_check.specs.declared.plan.Job.{Job}
 use Rattle.archive_check.specs.declared.plan.Job.TheVariants.{Free}
@@ -15,27 +15,27 @@ use Rattle.archive_check.specs.declared.growing.Laid.{Laid}
 use Rattle.archive_check.specs.Shape.{Name, Pointee}
 use Rattle.archive_check.specs.Expressions.{pointee_of}
 use Rattle.archive_check.specs.declared.expr.FlavorInfo.{FlavorInfo}
-use Rattle.archive_check.specs.Fitting.{rounded, sum_of, greater_of}
+use Rattle.archive_check.specs.BoundedSizes.{rounded, sum_of, greater_of}
 
 -- the node of a name: of the first that is called so
 abbrev pub node_of : List Known → Name → Option ℕ
 node_of [] name = None
 node_of (k ∷ ks) name = cond (bytes_eq k.name.now name) (Some k.node) (node_of ks name)
 
-pub record Lists : Type 0 where
+pub record PlanLists : Type 0 where
   pub nodes : List Node
   pub parts : List Part
   pub variants : List Span
   pub sorts : List Sort
 
-abbrev pub lists_of : Plan → Lists
+abbrev pub lists_of : Plan → PlanLists
 lists_of p = record { nodes = p.nodes.items; parts = p.parts.items; variants = p.variants.items; sorts = p.sorts.items }
 
-abbrev pub lists_in : Checker → Lists
+abbrev pub lists_in : Checker → PlanLists
 lists_in m = record { nodes = m.nodes.now; parts = m.parts.now; variants = m.variants.now; sorts = m.sorts.now }
 
 -- a plan without anything
-abbrev pub no_lists : Lists
+abbrev pub no_lists : PlanLists
 no_lists = record { nodes = []; parts = []; variants = []; sorts = [] }
 
 -- one list goes on from another
@@ -44,14 +44,14 @@ pub record Goes {A : Type 0} (xs ys : List A) : Type 0 where
   pub is : ys ≡ xs ++ more
 
 -- so do all of a plan's
-pub record Grows (a b : Lists) : Type 0 where
+pub record Grows (a b : PlanLists) : Type 0 where
   pub nodes : Goes a.nodes b.nodes
   pub parts : Goes a.parts b.parts
   pub variants : Goes a.variants b.variants
   pub sorts : Goes a.sorts b.sorts
 
 -- one node more
-pub record IsPushed (a b : Lists) (size : Option ℕ) (align : ℕ) (job : Job) (j : ℕ) : Type 0 where
+pub record IsPushed (a b : PlanLists) (size : Option ℕ) (align : ℕ) (job : Job) (j : ℕ) : Type 0 where
   pub node : Node
   pub nodes : b.nodes ≡ a.nodes ++ node ∷ []
   pub parts : b.parts ≡ a.parts
@@ -63,7 +63,7 @@ pub record IsPushed (a b : Lists) (size : Option ℕ) (align : ℕ) (job : Job) 
   pub job_is : node.job ≡ job
 
 -- one sort more
-pub record IsSorted (a b : Lists) (sort : Sort) (k : ℕ) : Type 0 where
+pub record IsSorted (a b : PlanLists) (sort : Sort) (k : ℕ) : Type 0 where
   pub sorts : b.sorts ≡ a.sorts ++ sort ∷ []
   pub nodes : b.nodes ≡ a.nodes
   pub parts : b.parts ≡ a.parts
@@ -71,14 +71,14 @@ pub record IsSorted (a b : Lists) (sort : Sort) (k : ℕ) : Type 0 where
   pub is : k ≡ length a.sorts
 
 -- one sort more, of this flavor and this pointee
-pub record IsCopied (a b : Lists) (flavor : FlavorInfo) (P : Pointee) (k : ℕ) : Type 0 where
+pub record IsCopied (a b : PlanLists) (flavor : FlavorInfo) (P : Pointee) (k : ℕ) : Type 0 where
   pub sort : Sort
   pub sorted : IsSorted a b sort k
   pub flavor_is : sort.flavor ≡ flavor
   pub pointee_is : pointee_of sort.pointee ≡ P
 
 -- so many parts and variants more
-pub record IsExtended (a b : Lists) (parts : List Part) (variants : List Span) : Type 0 where
+pub record IsExtended (a b : PlanLists) (parts : List Part) (variants : List Span) : Type 0 where
   pub nodes_are : b.nodes ≡ a.nodes
   pub parts_are : b.parts ≡ a.parts ++ parts
   pub variants_are : b.variants ≡ a.variants ++ variants
@@ -89,7 +89,7 @@ abbrev pub Unless : Bool → Option ℕ → Job → Job → Type 0
 Unless free size job made = ((made ≡ Free) × ((free ≡ true) ⊎ ((z : ℕ) → size ≡ Some z → z ≡ 0))) ⊎ ((made ≡ job) × (size ≢ Some 0))
 
 -- the node of what is laid out
-pub record IsMade (a b : Lists) (size : Option ℕ) (align : ℕ) (free : Bool) (job : Job) (j : ℕ) : Type 0 where
+pub record IsMade (a b : PlanLists) (size : Option ℕ) (align : ℕ) (free : Bool) (job : Job) (j : ℕ) : Type 0 where
   pub made : Job
   pub which : Unless free size job made
   pub pushed : IsPushed a b size align made j
@@ -116,7 +116,7 @@ pub record IsListed (laid : Laid) (spans next : Spans) : Type 0 where
   pub align_is : next.extent.align ≡ max spans.extent.align laid.align
 
 -- a row stands in a plan
-pub record PartsLaid (a b : Lists) (row : Row) (laid : Laid) : Type 0 where
+pub record PartsLaid (a b : PlanLists) (row : Row) (laid : Laid) : Type 0 where
   pub extended : IsExtended a b row.parts.items []
   pub first_is : laid.first ≡ length a.parts
   pub last_is : laid.last ≡ length b.parts
@@ -126,7 +126,7 @@ pub record PartsLaid (a b : Lists) (row : Row) (laid : Laid) : Type 0 where
   pub free_is : laid.free ≡ row.free
 
 -- so do variants
-pub record SpansLaid (a b : Lists) (spans : Spans) (laid : Laid) : Type 0 where
+pub record SpansLaid (a b : PlanLists) (spans : Spans) (laid : Laid) : Type 0 where
   pub extended : IsExtended a b [] spans.items.items
   pub first_is : laid.first ≡ length a.variants
   pub last_is : laid.last ≡ length b.variants
