@@ -67,26 +67,6 @@ pub record Arranging (old : Table) (placed rest : List Def) : Type 0 where
   pub from : (n : Name) (Y : Shape) → Contains (entries_of rest) (n, Y) → definition old n ≡ Some Y
   pub earlier : (k : ℕ) (n : Name) (Y : Shape) → k < length (entries_of placed) → (n, Y) ≡ get_or (entries_of placed) k (n, Y) → missing false (take k (entries_of placed)) Y ≡ None
 
-pub arrange_start : (items : List Def) → Complete (entries_of items) → Arranging (entries_of items) [] items
-arrange_start items h = record {
-  left = λ n e. refl;
-  kept = λ n Y e. cc;
-  once = λ n Y c. absurd (omega (arith, c.1));
-  from = h.once;
-  earlier = λ k n Y l e. absurd (omega arith);
-}
-
-pub arrange_end : (old : Table) (placed : List Def) → Arranging old placed [] → Arranged old (entries_of placed)
-arrange_end old placed g = record {
-  same = λ n. by n (definition (entries_of placed) n) refl;
-  once = g.once;
-  earlier = g.earlier;
-}
-  where
-    by : (n : Name) (o : Option Shape) → definition (entries_of placed) n ≡ o → definition (entries_of placed) n ≡ definition old n
-    by n None is = is ∙ g.left n is
-    by n (Some Y) is = is ∙ sym (g.kept n Y is)
-
 module _ (old : Table) (placed rest : List Def) (g : Arranging old placed rest) where
   module _ (i : ℕ) (d : Def) (here : i < length rest) (is : d ≡ get_or rest i d) (ready : missing false (entries_of placed) (shape_of d.expr) ≡ None) where
     abbrev a : Name

@@ -164,10 +164,6 @@ compiled_same {names} {a = a} {b = b} {c = c} {d = d} {j = j} {k = k} X f g e = 
     g.root)
     f.root
 
--- nothing of what waits is compiled yet, and then one more, and all
-pub finishes_start : (names : List Known) (v : Waits) (a : Lists) → FinishesTo names 0 v v a a
-finishes_start names v a = record { can_to = λ c. c; grows_to = grows_refl a; chained_to = λ Xs base r. subst (λ Ys. Chained names Ys base v a) (sym (append-nil Xs)) r }
-
 pub finishes_next : {names : List Known} {u v w : Waits} {a b c : Lists} {j : ℕ} (i : ℕ) (x : Wait) → FinishesTo names i u v a b → IsAt v.items i x → Compiled names (length b.nodes) x.shape v w b c j → FinishesTo names (i + 1) u w a c
 finishes_next i x r at f = record {
   can_to = λ c. let o = r.can_to c in record {

@@ -9,6 +9,7 @@ use Rattle.archive_check.proofs.Named.{append_known, append_unknown, definition_
 use Rattle.std.proofs.lemmas.List.{get_or_default}
 use Rattle.archive_check.proofs.Descent.{contains_later}
 use Rattle.archive_check.proofs.Missing.{IsDefined, missed_mentioned, none_missed}
+use Rattle.archive_check.proofs.Placed.{reaches_next}
 
 -- the shape behind the root's, at its definition
 shape_at : (ds : List Def) (i : ℕ) (d : Def) (X : Shape) → i < length ds → d ≡ get_or ds i d → X ≡ get_or (shapes_in_defs ds) i X → shape_of d.expr ≡ X
@@ -35,23 +36,6 @@ pub record Gathering (old : Table) (X : Shape) (found rest : List Def) (at : ℕ
   pub known : AllKnown X found at
   pub within : at ≤ suc (length found)
 
-pub gather_start : (X : Shape) (items : List Def) → Gathering (entries_of items) X [] items 0
-gather_start X items = record {
-  kept = λ n Y e. cc;
-  reached = λ n Y e. cc;
-  once = λ n Y h. absurd (no_item h);
-  left = λ n e. refl;
-  known = λ k Y h e. absurd (omega arith);
-  within = omega arith;
-}
-  where
-    no_item : {n : Name × Shape} → Contains [] n → ⊥
-    no_item h = omega (arith, h.1)
-
-through : (table : Table) (m n : Name) (X Y : Shape) → Reaches table m X → definition table m ≡ Some Y → Mentions n Y → Reaches table n X
-through table m n X Y (reaches h) d k = reaches_through h d (reaches k)
-through table m n X Y (reaches_through h e r) d k = reaches_through h e (through table m n _ Y r d k)
-
 -- the shape at a place is the root's or that of a definition
 place : (X : Shape) (ds : List Def) (k : ℕ) (Y : Shape) → k ≤ length ds → Y ≡ get_or (shapes_from X ds) k Y → (Y ≡ X) ⊎ ((name : Name) × Contains (entries_of ds) (name, Y))
 place X ds zero Y h e = inl e
@@ -75,12 +59,6 @@ shape_of_name (d ∷ ds) n Y e = ⊎_elim
     (λ o. let p = shape_of_name ds n Y (sym (definition_other d.name.now n (shape_of d.expr) (entries_of ds) o) ∙ e) in (suc p.0, omega (arith, p.1), p.2))
     (names_decided d.name.now n)
 
-before_or_at : (k at : ℕ) → k < at + 1 → (k < at) ⊎ (k ≡ at)
-before_or_at zero zero h = inr refl
-before_or_at zero (suc at) h = inl (omega arith)
-before_or_at (suc k) zero h = absurd (omega arith)
-before_or_at (suc k) (suc at) h = ⊎_elim (λ l. inl (omega (arith, l))) (λ e. inr (ap suc e)) (before_or_at k at (omega arith))
-
 length-shapes_in_defs : (ds : List Def) → length (shapes_in_defs ds) ≡ length ds
 length-shapes_in_defs [] = refl
 length-shapes_in_defs (d ∷ ds) = ap suc (length-shapes_in_defs ds)
@@ -93,26 +71,10 @@ pub shape_here : (X : Shape) (ds : List Def) (at : ℕ) → at ≤ length ds →
 shape_here X ds at h = (get_or (shapes_from X ds) at X, get_or_default (shapes_from X ds) at X (get_or (shapes_from X ds) at X) (shapes_end X ds at h))
 
 module _ (old : Table) (X : Shape) (found rest : List Def) (at : ℕ) (g : Gathering old X found rest at) (Y : Shape) (is : Y ≡ get_or (shapes_from X found) at Y) (in_list : at ≤ length found) where
-  known_here : (k : ℕ) (Z : Shape) → k ≡ at → Z ≡ get_or (shapes_from X found) k Z → missing true (entries_of found) Y ≡ None → missing true (entries_of found) Z ≡ None
-  known_here k Z e f none =
-      let same : Z ≡ Y = one_at (shapes_from X found) at Z Y (shapes_end X found at in_list) (f ∙ ap (λ i. get_or (shapes_from X found) i Z) e) is in
-      ap (missing true (entries_of found)) same ∙ none
-
-  -- the shape there misses none either
-  pub gather_next : missing true (entries_of found) Y ≡ None → Gathering old X found rest (at + 1)
-  gather_next none = record {
-    kept = g.kept;
-    reached = g.reached;
-    once = g.once;
-    left = g.left;
-    known = λ k Z h e. ⊎_elim (λ below. g.known k Z below e) (λ here. known_here k Z here e none) (before_or_at k at h);
-    within = omega (arith, in_list);
-  }
-
   reached_there : (name : Name) → Mentions name Y → Reaches old name X
   reached_there name h = ⊎_elim
       (λ e. reaches (subst (λ Z. Mentions name Z) e h))
-      (λ p. let d = g.once p.0 Y p.1 in through old p.0 name X Y (g.reached p.0 Y d) (g.kept p.0 Y d) h)
+      (λ p. let d = g.once p.0 Y p.1 in reaches_next old (g.reached p.0 Y d) (g.kept p.0 Y d) h)
       (place X found at Y in_list is)
 
   module _ (name : Name) (missed : missing true (entries_of found) Y ≡ Some name) where
@@ -161,9 +123,6 @@ abbrev pub SaysAt : Shape → List Def → ℕ → Option Name → Type 0
 SaysAt X ds at o = (Y : Shape) → Y ≡ get_or (shapes_from X ds) at Y → o ≡ missing true (entries_of ds) Y
 
 module _ (old : Table) (X : Shape) (found rest : List Def) (at : ℕ) (g : Gathering old X found rest at) (in_list : at ≤ length found) (ds : List Def) (same : ds ≡ found) where
-  pub none_says : SaysAt X ds at None → Gathering old X found rest (at + 1)
-  none_says says = let here = shape_here X found at in_list in gather_next old X found rest at g here.0 here.1 in_list (sym (subst (λ es. SaysAt X es at None) same says here.0 here.1))
-
   pub lost_says : (name : Name) → SaysAt X ds at (Some name) → definition (entries_of rest) name ≡ None → Reaches old name X × (definition old name ≡ None)
   lost_says name says none = let here = shape_here X found at in_list in gather_lost old X found rest at g here.0 here.1 in_list name (sym (subst (λ es. SaysAt X es at (Some name)) same says here.0 here.1)) none
 

@@ -47,9 +47,6 @@ falls_none c rest = omega (arith, power_pos c)
 pub falls_enter : (a c rest : ℕ) → a < c → power a + (1 + rest) ≤ power c + rest
 falls_enter a c rest p = omega (arith, power_falls a c p, power_pos a)
 
-pub falls_leave : (c rest : ℕ) → 1 + rest ≤ power c + rest
-falls_leave c rest = omega (arith, power_pos c)
-
 pub falls_under : (x a c rest : ℕ) → x ≤ power a + rest → a < c → x < power c + rest
 falls_under x a c rest h p = omega (arith, power_falls a c p, power_pos a)
 

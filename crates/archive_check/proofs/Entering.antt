@@ -21,7 +21,7 @@ use Rattle.archive_check.specs.Faults.{IsFor}
 use Rattle.archive_check.specs.Turns.{and_then, Passes, Ready, stage, pending_in, regions_in, Agreeing, Listing, Entering, Leads, IsStopped, power, level, cost}
 use Rattle.archive_check.proofs.Turning.{enter_one, enter_run}
 use Rattle.archive_check.proofs.Meeting.{allows, agrees_inside}
-use Rattle.archive_check.proofs.Costs.{level_end, falls_enter, falls_leave}
+use Rattle.archive_check.proofs.Costs.{level_end, falls_enter}
 
 -- a region of this size and alignment lies at t, within the range
 pub record Lands (s : RangeState) (z : ℤ) (size align t : ℕ) : Type 0 where
@@ -157,9 +157,6 @@ module _ (m : Checker) (s s' : RangeState) (met met' : Positions) (j n : ℕ) (z
     below = omega (arith, h.end, h.lands.below, r.below);
     fits = rw h.list (omega (arith, h.end), r.below, r.fits);
   }
-
-  pub entered_ends : cost m s'.end mid ≤ power (level (length m.nodes.now) s.end 0 0) + cost m s.end old
-  entered_ends = rw h.list (falls_leave (level (length m.nodes.now) s.end 0 0) (cost m s.end old))
 
   moved : {w w' : List Work} {seen : Seen} {o : Outcome} → w ≡ w' → Listing m (stage s' met' w) seen o → ListRuns m (pending_in w') (inside s.depth) t w' s.start seen o
   moved e r = let inward : s'.depth ≡ inside s.depth = h.depth ∙ inner s.depth in rw (h.start, h.end, inward, e) at r

@@ -25,9 +25,6 @@ use Rattle.archive_check.proofs.Rows.{align_positive, variants_positive, ends_po
 pub too_large : (n : ℕ) → None ≡ fits n → 2 ^ 64 ≤ n
 too_large n e = grind (arith, nat_tests)
 
-pub size_fits : (z n : ℕ) → Some z ≡ fits n → z ≡ n
-size_fits z n e = grind (arith, nat_tests)
-
 pub pointer_fits : (P : Pointee) → fits (pointer_size P) ≡ Some (pointer_size P)
 pointer_fits (one X) = fits_some 4 (omega arith)
 pointer_fits (run X) = fits_some 8 (omega arith)
@@ -98,15 +95,7 @@ variants_next {l} {all} {vs} {ps} {e} {here} {next} r h q a = record {
 pub variants_done : {l : Layouts} {all : Variants} {e : Extent} → VariantsSoFar l all no_variant e → Ends e (variants_end l all) (variants_align l all)
 variants_done {e = e} r = record { end_is = r.ends ∙ ap fits (omega (arith, r.same_end, r.tag)); align_is = omega (arith, r.same_align, e.positive) }
 
--- what isn't missing is there
-not_missing : (b : Bool) (name : Name) → cond b None (Some name) ≡ None → b ≡ true
-not_missing true name e = refl
-not_missing false name e = cc e
-
 module _ (s : RustSchema) (name : Name) where
-  pub name_known : missing false (table_in s) (named name) ≡ None → is_some (node_of s.names.items name) ≡ true
-  name_known e = ∥∥₁_elim s.named (Bool-set _ _) (λ h. h.known name ∙ not_missing (is_some (definition (table_in s) name)) name e)
-
   module _ {j : ℕ} (is : node_of s.names.items name ≡ Some j) where
     pub name_there : j < length s.plan.nodes.items
     name_there = ∥∥₁_elim s.named le_prop (λ h. h.there name j is)

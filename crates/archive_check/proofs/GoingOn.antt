@@ -116,9 +116,6 @@ module _ {a b : Lists} {row : List Part} {spans : List Span} (p : IsExtended a b
   pub part_at : (k : ℕ) (x : Part) → IsAt row k x → IsAt b.parts (length a.parts + k) x
   part_at k x h = subst (λ xs. IsAt xs (length a.parts + k) x) (sym p.parts_are) (at_behind a.parts k h)
 
-  pub span_at : (k : ℕ) (x : Span) → IsAt spans k x → IsAt b.variants (length a.variants + k) x
-  span_at k x h = subst (λ xs. IsAt xs (length a.variants + k) x) (sym p.variants_are) (at_behind a.variants k h)
-
   pub part_of : (k : ℕ) (x : Part) → length a.parts ≤ k → IsAt b.parts k x → IsAt row (k - length a.parts) x
   part_of k x from at = at_second a.parts row k x from (subst (λ t. IsAt t k x) p.parts_are at)
 

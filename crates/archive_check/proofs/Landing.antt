@@ -13,9 +13,3 @@ lands s (negsuc n) size align t h e = cc
 lands s (pos n) size align t h e =
     let same : n ≡ t = cc in
     record { above = grind (arith, nat_tests); below = grind (arith, nat_tests) }
-
--- it has a position, which an index holds
-pub lands_somewhere : (s : RangeState) (z : ℤ) (size align : ℕ) → Ok tt ≡ subtree_answer s z size align → s.end ≤ 18446744073709551615
-    → (t : ℕ) × (z ≡ pos t) × (t ≤ 18446744073709551615)
-lands_somewhere s (negsuc n) size align h small = cc
-lands_somewhere s (pos n) size align h small = (n, refl, grind (arith, nat_tests))

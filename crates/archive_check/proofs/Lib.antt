@@ -40,7 +40,6 @@ pub mod Missing
 pub mod LittleEndian
 pub mod Descent
 pub mod Placed
-pub mod Ordered
 pub mod Arranging
 pub mod WellFormed
 pub mod PlanSizes
@@ -48,7 +47,6 @@ pub mod Represented
 pub mod Accepts
 pub mod PlanExample
 pub mod ReachedNames
-pub mod ReachedLayouts
 pub mod Costs
 pub mod Turning
 pub mod Meeting

@@ -41,10 +41,6 @@ little_number-one (x ∷ xs) (y ∷ ys) e h k same =
     let rest = little_number-one xs ys (omega arith) (bytes_later x xs h) (bytes_later y ys k) high in
     cc
 
-byte_worth-pow : (k b : ℕ) → byte_worth k b ≡ b * 256 ^ k
-byte_worth-pow zero b = omega arith
-byte_worth-pow (suc k) b = refl
-
 number-append : (bs : List ℕ) (b : ℕ) → little_number (bs ++ b ∷ []) ≡ little_number bs + b * 256 ^ length bs
 number-append [] b = omega arith
 number-append (a ∷ bs) b =

@@ -1,5 +1,6 @@
 -- Names whose definitions can be laid out in so many rounds: those that a well-formed shape reaches can, in one way.
-use Rattle.std.proofs.Common.{◌≡◌, ⊎_elim, ℕ, zero, suc, ◌≤◌, List, [], ◌∷◌, ◌++◌, map, length, Bool, true, false, cond, Some, Contains, bytes_eq, arith, refl, sym, ap, ◌∙◌}
+use Rattle.std.proofs.Common.{◌≡◌, ⊎_elim, ℕ, zero, suc, ◌≤◌, List, [], ◌∷◌, ◌++◌, map, length, Bool, true, false, cond, Some, Contains, bytes_eq, arith, refl, sym, ap, ◌∙◌, length-append}
+use Rattle.std.proofs.lemmas.List.Elements.{Contains-push_cases}
 use Rattle.std.proofs.lemmas.Slice.Eq.{bytes_eq-Decides}
 use Rattle.archive_check.specs.Shape.{Name, Shape, Table, definition}
 use Rattle.archive_check.specs.Layout.{Layouts, layout}
@@ -51,6 +52,29 @@ module _ (table : Table) where
   pub reaches_next : {name other : Name} {X Y : Shape} → Reaches table name X → definition table name ≡ Some Y → Mentions other Y → Reaches table other X
   reaches_next (reaches h) e g = reaches_through h e (reaches g)
   reaches_next (reaches_through h d r) e g = reaches_through h d (reaches_next r e g)
+
+-- nothing is in order; and so is what is, with one more name whose definition holds only names that stand there
+pub data Ordered (table : Table) : List Name → Type 0 where
+  ordered_none : Ordered table []
+  ordered_next : {names : List Name} (name : Name) {X : Shape}
+      → Ordered table names
+      → definition table name ≡ Some X
+      → ((m : Name) → Holds m X → Contains names m)
+      → Ordered table (names ++ name ∷ [])
+
+module _ (table : Table) where
+  -- a name in order can be laid out in as many rounds as there are names
+  pub ordered_placed : {names : List Name} → Ordered table names → (name : Name) → Contains names name → Placed table (length names) name
+  ordered_placed ordered_none q c = absurd (omega (arith, c.1))
+  ordered_placed (ordered_next {names = names} name {X = X} o e only) q c =
+      let more : length (names ++ name ∷ []) ≡ suc (length names) = omega (arith, length-append names (name ∷ [])) in
+      ⊎_elim (λ d. placed_later table (length (names ++ name ∷ [])) (ordered_placed o q d) (omega arith))
+      (λ same. rw (more, ← same) (placed e (λ m h. ordered_placed o m (only m h))))
+      (Contains-push_cases names name q c)
+
+  -- so it doesn't lead to itself
+  pub ordered_never : {names : List Name} → Ordered table names → (name : Name) → Contains names name → LeadsTo table name name → ⊥
+  ordered_never {names = names} o name c = placed_never table (length names) name (ordered_placed o name c)
 
 -- the names of the definitions
 pub names_of : Table → List Name

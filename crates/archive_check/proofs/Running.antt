@@ -56,7 +56,3 @@ module _ (m : Checker) (s : RangeState) (met : Positions) (root at : ℕ) where
           let a = h fresh in
           let f = stopped a.0 (rw work_is at a.1) in
           (f.0, f.1, a.2 (refused f.0) (rw work_is f.2)))
-
-pub nil_of : {A : Type 0} (xs : List A) → length xs ≡ 0 → xs ≡ []
-nil_of [] h = refl
-nil_of (x ∷ xs) h = absurd (omega arith)

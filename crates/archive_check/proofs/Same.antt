@@ -39,10 +39,6 @@ kind_same (NonZero j) (NonZero k) = integer_same j k
 kind_same (RawRel j) (RawRel k) = integer_same j k
 kind_same _ _ = refl
 
--- and so is that of flavors, which tells whether they are one
-pub flavor_eq-Decides : (f g : FlavorInfo) → Decides ((flavor_eq.ghosts).eq f g) (flavor_of f ≡ flavor_of g)
-flavor_eq-Decides f g = same_flavor-Decides (flavor_of f) (flavor_of g)
-
 and_false : (b : Bool) → (b && false) ≡ false
 and_false true = refl
 and_false false = refl

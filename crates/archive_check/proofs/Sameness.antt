@@ -83,18 +83,3 @@ mutual
   pub rename_all_stays : (f : ℕ → ℕ) (vs : Values) → ((t : ℕ) → NamesAmong t vs → f t ≡ t) → rename_all f vs ≡ vs
   rename_all_stays f no_value h = refl
   rename_all_stays f (value v vs) h = ap₂ value (rename_stays f v (λ t n. h t (names_first n))) (rename_all_stays f vs (λ t n. h t (names_later n)))
-
--- a renaming of the entries, both ways, that fits a value whose names are known
-pub same_by : (a b : Meaning) (to from : ℕ → ℕ) → b.value ≡ rename to a.value
-    → ((t : ℕ) (e : Entry) (v : Value) → get a.shared t ≡ Some (e, v) → (from (to t) ≡ t) × (get b.shared (to t) ≡ Some (e, rename to v)))
-    → ((t : ℕ) (e : Entry) (v : Value) → get b.shared t ≡ Some (e, v) → (to (from t) ≡ t) × (get a.shared (from t) ≡ Some (e, rename from v)))
-    → ((t : ℕ) → Names t a.value → (e : Entry) × (v : Value) × (get a.shared t ≡ Some (e, v)))
-    → Same a b
-same_by a b to from values there back known = record {
-  to = to;
-  from = from;
-  value = values;
-  value_back = sym (ap (rename from) values ∙ rename_again to from a.value ∙ rename_stays (λ t. from (to t)) a.value (λ t n. let (e, v, k) = known t n in (there t e v k).0));
-  there = there;
-  back = back;
-}

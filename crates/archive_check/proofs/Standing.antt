@@ -40,11 +40,5 @@ zero_nowhere B p q h = record { zero_at = λ k above below. absurd (omega arith)
 pub stands_begun : (B a b rest : List ℕ) (p : ℕ) → B ≡ (a ++ b) ++ rest → p ≡ length a → Stands B p b
 stands_begun B a b rest p e m = record { before = a; behind = rest; is = e ∙ append_assoc a b rest; at = sym m }
 
-pub zeroed_front : (a b c : List ℕ) → c ≡ a ++ b → IsZeroed c → IsZeroed a
-zeroed_front a b c e z = record { zero_at = λ i h. sym (rw e (get_or_append_left a b 0 i h)) ∙ z.zero_at i (omega (arith, ap length e, length-append a b)) }
-
-pub zeroed_back : (a b c : List ℕ) → c ≡ a ++ b → IsZeroed c → IsZeroed b
-zeroed_back a b c e z = record { zero_at = λ i h. sym (rw e (get_or-append-add a b i 0)) ∙ z.zero_at (length a + i) (omega (arith, ap length e, length-append a b)) }
-
 pub zeroed_none : IsZeroed []
 zeroed_none = record { zero_at = λ i h. absurd (omega (arith, h)) }

@@ -249,14 +249,6 @@ pub some_map : {A B : Type 0} (r : Option (Unit {0})) → (A → B) → OnSome r
 some_map (Some u) f h = f h
 some_map None f h = tt
 
-pub none_map : {A B : Type 0} (r : Option (Unit {0})) → (A → B) → IfNone r A → IfNone r B
-none_map (Some u) f h = tt
-none_map None f h = f h
-
-pub on_none : (A : Type 0) (r : Option (Unit {0})) → r ≡ None → OnSome r A
-on_none A (Some u) e = cc
-on_none A None e = tt
-
 pub if_none : (B : Error → Type 0) (r : Option (Unit {0})) (fault e : Error) → fault ≡ e → B e → IfNone r (B fault)
 if_none B (Some u) fault e is h = tt
 if_none B None fault e is h = rw is h

@@ -75,16 +75,6 @@ module _ (s : Schema) (bytes : List ℕ) where
 
 -- of views
 
-pub view_fact : {A : Type 0} (D : Definitions) (bytes : List ℕ) (q : ℕ) (P : Pointee) (n : ℕ) → Viewed D bytes q P n → IsProp A → ((s : Schema) → Knows s D → Lies s bytes q P n → A) → A
-view_fact D bytes q P n v prop f = ∥∥₁_elim v prop (λ t. f (t.0) (t.1) (t.2))
-
-pub view_to : (D : Definitions) (bytes : List ℕ) (q : ℕ) (P : Pointee) (n t : ℕ) (Q : Pointee) (m : ℕ) → Viewed D bytes q P n → ((s : Schema) → Knows s D → Lies s bytes q P n → Lies s bytes t Q m) → Viewed D bytes t Q m
-view_to D bytes q P n t Q m v f = ∥∥₁_map v (λ u. (u.0, u.1, f (u.0) (u.1) (u.2)))
-
--- a view of a size that each schema agrees on
-pub view_fits : (D : Definitions) (bytes : List ℕ) (q : ℕ) (P : Pointee) (n m : ℕ) → Viewed D bytes q P n → ((s : Schema) → Knows s D → pointee_size s P n ≡ m) → q + m ≤ length bytes
-view_fits D bytes q P n m v size = view_fact D bytes q P n v le_prop (λ s k l. omega (arith, lies_fits s bytes k.laid_out l, size s k))
-
 -- what is said of a part is what is reached there
 pub reached_says : (D : Definitions) (bytes : List ℕ) (q : ℕ) (P : Pointee) (n : ℕ) (w : Value) (s : Schema) (u : Value) {root : ℕ} {X : Shape} → Says D bytes q P n w → Knows s D → Reached s bytes root X q P n u → u ≡ w
 reached_says D bytes q P n w s u h k r = fills_one s bytes r.filled (h.fills s r.value k (reached_lies s bytes r) r.reads)

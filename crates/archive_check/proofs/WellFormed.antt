@@ -13,9 +13,7 @@ use Rattle.archive_check.specs.Names.{missing, Complete, HasAll, Collected, Arra
 use Rattle.archive_check.proofs.Named.{names_decided, definition_here, definition_other}
 use Rattle.archive_check.proofs.Missing.{IsDefined, held_defined, mentioned_defined, none_near, none_missed}
 use Rattle.archive_check.proofs.Descent.{contains_cases, contains_first, contains_later, LeadsTo}
-use Rattle.archive_check.proofs.Placed.{names_of, names_of-push, names_of-nil, defined_named}
-use Rattle.archive_check.proofs.Ordered.{Ordered, ordered_none, ordered_next, ordered_never, ordered_solves}
-use Rattle.archive_check.proofs.Positive.{rounds_pos}
+use Rattle.archive_check.proofs.Placed.{Ordered, ordered_none, ordered_next, ordered_never, names_of, names_of-push, names_of-nil, defined_named}
 
 -- a definition that is found stands in the table, and one that stands there is found, or another one
 pub found_stands : (table : Table) (n : Name) (X : Shape) → definition table n ≡ Some X → Contains table (n, X)
@@ -67,16 +65,6 @@ module _ (old new : Table) (h : Arranged old new) where
 
   pub arranged_ordered : Ordered new (names_of new)
   arranged_ordered = rw (ap names_of (take_all (length new) new (omega arith))) at (ordered_to (length new) (omega arith))
-
-  -- so it has layouts
-  pub arranged_layouts : (l : Layouts) × LaidOut (record { table = new; layouts = l })
-  arranged_layouts = (
-    rounds new (length (names_of new)),
-    record {
-      solves = ordered_solves new arranged_ordered (defined_named new);
-      aligned = rounds_pos new (length (names_of new));
-    },
-  )
 
   -- and no name in it holds itself
   pub arranged_never : (n : Name) (Y : Shape) → definition new n ≡ Some Y → HeldIn new n Y → ⊥

@@ -42,10 +42,6 @@ pub named_right : (names : NameMap) (ks ls : List Naming) → AreNamed names (ks
 named_right names [] ls h = h
 named_right names (k ∷ ks) ls h = named_right names ks ls h.1
 
-pub named_both : (names : NameMap) (ks ls : List Naming) → AreNamed names ks → AreNamed names ls → AreNamed names (ks ++ ls)
-named_both names [] ls h i = i
-named_both names (k ∷ ks) ls h i = (h.0, named_both names ks ls h.1 i)
-
 -- a world that holds what is written later holds what was written before
 pub holds_before : (w : World) (D : Definitions) (mid new added : List ℕ) (s t : States) (ks : List Naming)
     → new ≡ mid ++ added → ((k : ℕ) (x : Option ℕ) → s k ≡ Some x → t k ≡ Some x) → Holds w D new t ks → Holds w D mid s ks
