@@ -3,7 +3,8 @@ use Rattle.std.proofs.Common.{◌≡◌, ℕ, List, [], ◌∷◌, length, refl,
 use Rattle.std.specs.Int.{w8, w32}
 use Rattle.archive_check.specs.Shape.{Kind as LeafKind, unit, bool, char, number, non_zero, raw_rel}
 use Rattle.archive_check.specs.Reads.{IsLegal, kind_number, kind_value}
-use Rattle.archive_check.proofs.LittleEndian.{AreBytes, from_le_bytes-one, with_sign-one}
+use Rattle.archive_check.specs.LittleEndian.{AreBytes}
+use Rattle.archive_check.proofs.LittleEndian.{from_le_bytes-one, with_sign-one}
 
 no_bytes : (xs bs : List ℕ) → length xs ≡ 0 → length bs ≡ 0 → xs ≡ bs
 no_bytes [] [] e f = refl

@@ -14,6 +14,7 @@ use Rattle.archive_check.specs.Layout.{kind_size}
 use Rattle.archive_check.specs.Reads.{bytes_at, u32_at, kind_number, IsLegal, IsLegalNumber}
 use Rattle.archive_check.proofs.BytesAt.{bytes_one}
 use Rattle.archive_check.proofs.Edits.{bytes_long}
+use Rattle.archive_check.proofs.LittleEndian.{some_byte}
 
 pub legal_bool : (bytes : List ℕ) (p : ℕ) → p + 1 ≤ length bytes → (IsTrue (nat_lt (slice_index bytes p) 2) → IsLegal bool (bytes_at bytes p 1)) × (IsLegal bool (bytes_at bytes p 1) → IsTrue (nat_lt (slice_index bytes p) 2))
 unfolding kind_number
@@ -72,13 +73,6 @@ some_or_none f (suc n) = elim (some_or_none f n) [
         all false i lt q = let other : i ≢ n = grind (arith, nat_tests) in h i (omega arith)
     last (suc b) e h = inl (n, omega arith, λ q. omega arith)
 
-width_some : (w : Width) → 0 < byte_len w
-width_some w8 = omega arith
-width_some w16 = omega arith
-width_some w32 = omega arith
-width_some w64 = omega arith
-width_some w128 = omega arith
-
 pub legal_non_zero : (s : Sign) (w : Width) (bytes : List ℕ) (p n : ℕ) → n ≡ byte_len w → p + byte_len w ≤ length bytes
     → (((i : ℕ) × (i < n) × (slice_index bytes (p + i) ≢ 0)) → IsLegal (non_zero s w) (bytes_at bytes p (byte_len w)))
     × (IsLegal (non_zero s w) (bytes_at bytes p (byte_len w)) → (i : ℕ) × (i < n) × (slice_index bytes (p + i) ≢ 0))
@@ -91,7 +85,7 @@ legal_non_zero s w bytes p n e room =
       },
       λ l. elim (some_or_none (λ i. slice_index bytes (p + i)) n) [
         | inl h ↦ h
-        | inr none ↦ absurd (l.number (sum_zero worth (byte_len w - 1) (λ i lt. zero_worth i _ (byte_in bytes p (byte_len w) i (omega (arith, width_some w)) ∙ none i (omega (arith, width_some w))))))
+        | inr none ↦ absurd (l.number (sum_zero worth (byte_len w - 1) (λ i lt. zero_worth i _ (byte_in bytes p (byte_len w) i (omega (arith, some_byte w)) ∙ none i (omega (arith, some_byte w))))))
       ],
     )
 
