@@ -20,7 +20,8 @@ use Rattle.archive_check.specs.Sizes.{shape_size}
 use Rattle.archive_check.specs.Compilable.{Can, AllKnown}
 use Rattle.archive_check.specs.Queued.{Wait, Waits, waits_size}
 use Rattle.archive_check.proofs.Fitting.{some_is}
-use Rattle.archive_check.proofs.GoingOn.{at_more, at_behind, at_end, same_at, goes_refl, goes_trans, grows_refl, grows_trans, pushed_grows, pushed_count, pushed_at, pushed_is}
+use Rattle.archive_check.proofs.GoingOn.{at_more, goes_refl, goes_trans, grows_refl, grows_trans, pushed_grows, pushed_count, pushed_at, pushed_is}
+use Rattle.archive_check.proofs.Elements.{at_behind, at_end, same_at}
 
 -- the shapes of nodes are those of the first, and of the others
 pub given_first : {shapes : ℕ → Shape} {from : ℕ} {xs : List Shape} (ys : List Shape) → Given shapes from (xs ++ ys) → Given shapes from xs

@@ -25,7 +25,7 @@ use Rattle.archive_check.proofs.Trails.{root_no_walk}
 use Rattle.archive_check.proofs.Positive.{rounds_pos}
 use Rattle.archive_check.proofs.Placed.{names_of, rounds_solve_reached}
 use Rattle.archive_check.proofs.WellFormed.{found_stands}
-use Rattle.archive_check.proofs.Descent.{contains_cases, contains_first}
+use Rattle.archive_check.proofs.Elements.{contains_cases, contains_first}
 use Rattle.archive_check.proofs.Viewed.{root_lies, root_says}
 
 -- a schema that has the definitions has each that their list shows

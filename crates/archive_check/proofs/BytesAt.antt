@@ -25,7 +25,9 @@ before_first [] k lt h e = absurd (omega arith)
 before_first (b ∷ xs) zero lt h e = stop_byte b (before_end xs) (nat_eq b 255) refl e
 before_first (b ∷ xs) (suc k) lt h e = keep_byte b (before_end xs) (take k xs) (nat_eq b 255) refl (h 0 (omega arith)) (before_first xs k (omega arith) (λ i lt. h (suc i) (omega arith)) e)
 
-byte_in : (bytes : List ℕ) (p n i : ℕ) → i < n → slice_index (take n (drop p bytes)) i ≡ slice_index bytes (p + i)
+-- the bytes of a part are those of the whole
+pub byte_in : (bytes : List ℕ) (p n i : ℕ) → i < n → slice_index (bytes_at bytes p n) i ≡ slice_index bytes (p + i)
+unfolding bytes_at
 byte_in bytes p n i h = grind (arith, common_steps)
 
 pub inline_all : (bytes : List ℕ) (p : ℕ) → p + 8 ≤ length bytes → ((i : ℕ) → i < 8 → slice_index bytes (p + i) ≢ 255) → bytes_at bytes p 8 ≡ before_end (bytes_at bytes p 8)

@@ -11,13 +11,14 @@ use Rattle.archive_check.specs.Runs.{IsAt}
 use Rattle.archive_check.specs.Growing.{node_of, Lists, no_lists, Goes}
 use Rattle.archive_check.specs.Queued.{Wait, Waits, no_waits, waits_in, wait_shapes, waits_size}
 use Rattle.archive_check.specs.Compilable.{Can}
-use Rattle.std.proofs.lemmas.List.{take-append-drop}
+use Rattle.std.proofs.lemmas.List.{take-append-drop, length-take-le}
 use Rattle.archive_check.specs.Compiled.{Compiled}
 use Rattle.archive_check.specs.Numbered.{def_shapes, start_of, IsRootOf}
 use Rattle.archive_check.specs.Planned.{Kept, Chained, CanFinish, Finishes, FinishesTo}
-use Rattle.archive_check.proofs.GoingOn.{at_less, at_more, at_last, at_end, goes_longer, grows_refl, grows_trans}
+use Rattle.archive_check.proofs.GoingOn.{at_less, at_more, goes_longer, grows_refl, grows_trans}
+use Rattle.archive_check.proofs.Elements.{at_last, at_end}
 use Rattle.archive_check.proofs.Adding.{given_first, given_second, adds_refl, adds_trans}
-use Rattle.archive_check.proofs.Numbered.{def_count, take_count, def_shapes-append, start_next, start_prefix, node_of_first}
+use Rattle.archive_check.proofs.Numbered.{def_count, def_shapes-append, start_next, start_prefix, node_of_first}
 use Rattle.archive_check.proofs.Waiting.{wait_shapes-append, waits_size-append}
 
 -- nothing yet
@@ -181,7 +182,7 @@ finishes_can {names} {i = i} x r c at e = let o = r.can_to c in record { known =
 -- where the next definition's nodes begin
 pub defs_begin : {names : List Known} {base : ℕ} {v : Waits} {b : Lists} (defs : List Def) (i : ℕ) → i ≤ length defs → Chained names (def_shapes (take i defs)) base v b → length b.nodes ≡ start_of (def_shapes defs) i
 defs_begin {b = b} defs i le r =
-    let size : length (def_shapes (take i defs)) ≡ i = def_count (take i defs) ∙ take_count i defs le in
+    let size : length (def_shapes (take i defs)) ≡ i = def_count (take i defs) ∙ length-take-le i defs le in
     let front : start_of (def_shapes (take i defs) ++ def_shapes (drop i defs)) i ≡ start_of (def_shapes (take i defs)) i = start_prefix (def_shapes (take i defs)) (def_shapes (drop i defs)) i (omega (arith, size)) in
     let whole : def_shapes (take i defs) ++ def_shapes (drop i defs) ≡ def_shapes defs = sym (def_shapes-append (take i defs) (drop i defs)) ∙ ap def_shapes (take-append-drop i defs) in
     let count : length b.nodes ≡ start_of (def_shapes (take i defs)) (length (def_shapes (take i defs))) = omega (arith, r.adds.count, r.gives_count) in

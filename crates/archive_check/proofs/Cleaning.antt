@@ -8,19 +8,13 @@ use Rattle.archive_check.specs.Tour.{Region, pointee_size}
 use Rattle.archive_check.specs.Within.{IsPart, first_part, later_part, Within, whole, in_parts, in_choice, in_array, in_named, PartOf, whole_region, in_one, in_run, in_string, PartOfSome}
 use Rattle.archive_check.specs.Written.{after, Tight, own_size, Owned, owned_part, owned_text, Clean}
 use Rattle.archive_check.specs.Tidy.{IsFilled, Neat, neat_leaf, neat_parts, neat_choice, neat_array, neat_boxed, neat_vec, neat_inline, neat_out_of_line, neat_shared, neat_null, neat_weak, neat_named, NeatParts, neat_no_part, neat_part, NeatRun, neat_none, neat_element, NeatPointee, neat_one, neat_run, neat_text, Tidy}
+use Rattle.archive_check.proofs.Closed.{within_trans}
 
 abbrev pub AreSized : Schema → List Region → Type 0
 AreSized s [] = Unit {0}
 AreSized s (r ∷ C) = (r.size ≡ pointee_size s r.pointee r.length) × AreSized s C
 
 module _ (s : Schema) (bytes : List ℕ) where
-  within_trans : {p : ℕ} {X : Shape} {q : ℕ} {Y : Shape} {r : ℕ} {Z : Shape} → Within s bytes p X q Y → Within s bytes q Y r Z → Within s bytes p X r Z
-  within_trans w whole = w
-  within_trans w (in_parts v i) = in_parts (within_trans w v) i
-  within_trans w (in_choice v e i) = in_choice (within_trans w v) e i
-  within_trans w (in_array v k) = in_array (within_trans w v) k
-  within_trans w (in_named v d) = in_named (within_trans w v) d
-
   -- each part of what is neat is neat
 
   part_neat : {p at stop q : ℕ} {ps : Parts} {Y : Shape} → NeatParts s bytes p at ps stop → IsPart s p at ps q Y → Neat s bytes q Y
@@ -61,13 +55,13 @@ module _ (s : Schema) (bytes : List ℕ) where
     mutual
       neat_zero : {p : ℕ} {X : Shape} (i : ℕ) → Neat s bytes p X → p ≤ i → i < p + size_of s.layouts X → Free i p X → slice_index bytes i ≡ 0
       neat_zero i neat_leaf above below free = absurd (free _ _ whole above below)
-      neat_zero i (neat_parts {p = p} {ps = ps} h) above below free = parts_zero i h (omega arith) below (λ q Y j. λ r Z w. free r Z (within_trans (in_parts whole j) w))
+      neat_zero i (neat_parts {p = p} {ps = ps} h) above below free = parts_zero i h (omega arith) below (λ q Y j. λ r Z w. free r Z (within_trans s bytes (in_parts whole j) w))
       neat_zero i (neat_choice {p = p} {name = name} {variants = vs} {ps = ps} e h) above below free =
           elim (cases_lt p i) [
-            | inl later ↦ parts_zero i h (omega arith) below (λ q Y j. λ r Z w. free r Z (within_trans (in_choice whole e j) w))
+            | inl later ↦ parts_zero i h (omega arith) below (λ q Y j. λ r Z w. free r Z (within_trans s bytes (in_choice whole e j) w))
             | inr same ↦ absurd (free p (choice name vs) whole above (omega arith))
           ]
-      neat_zero i (neat_array {n = n} {X = X} h) above below free = run_zero i n 0 h above below (λ k less. λ r Z w. free r Z (within_trans (in_array whole less) w))
+      neat_zero i (neat_array {n = n} {X = X} h) above below free = run_zero i n 0 h above below (λ k less. λ r Z w. free r Z (within_trans s bytes (in_array whole less) w))
       neat_zero i neat_boxed above below free = absurd (free _ _ whole above below)
       neat_zero i neat_vec above below free = absurd (free _ _ whole above below)
       neat_zero i (neat_inline o f) above below free = absurd (free _ _ whole above below)
@@ -77,7 +71,7 @@ module _ (s : Schema) (bytes : List ℕ) where
       neat_zero i (neat_weak e) above below free = absurd (free _ _ whole above below)
       neat_zero i (neat_named {name = name} {X = X} d h) above below free =
           let same = ap (λ l. l.size) (solves name X d) in
-          neat_zero i h above (omega (arith, same)) (λ r Z w. free r Z (within_trans (in_named whole d) w))
+          neat_zero i h above (omega (arith, same)) (λ r Z w. free r Z (within_trans s bytes (in_named whole d) w))
 
       parts_zero : {p at stop : ℕ} {ps : Parts} (i : ℕ) → NeatParts s bytes p at ps stop → p + at ≤ i → i < stop
           → ((q : ℕ) (Y : Shape) → IsPart s p at ps q Y → Free i q Y) → slice_index bytes i ≡ 0

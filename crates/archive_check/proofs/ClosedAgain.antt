@@ -13,7 +13,7 @@ use Rattle.archive_check.specs.Layout.{kind_size}
 use Rattle.archive_check.specs.Expressions.{kind_of}
 use Rattle.archive_check.specs.Runs.{target_size, IsAt, Takes}
 use Rattle.archive_check.specs.Closed.{span, PartsWithin, SpanFits, ArrayFits, VariantsFit, JobFits, IsClosed}
-use Rattle.archive_check.proofs.GoingOn.{same_at, some_at}
+use Rattle.archive_check.proofs.Elements.{same_at, some_at}
 use Rattle.archive_check.proofs.PlanSizes.{take_same}
 
 -- it holds, or it does not

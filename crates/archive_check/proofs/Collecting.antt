@@ -4,15 +4,17 @@ use Rattle.archive_check.specs.declared.defs.Def.{Def}
 use Rattle.archive_check.specs.Shape.{Name, Shape, Table, definition}
 use Rattle.archive_check.specs.Expressions.{shape_of, entries_of}
 use Rattle.archive_check.specs.Defined.{Mentions, Reaches, reaches, reaches_through}
-use Rattle.archive_check.specs.Names.{missing, Taken, Collected, shapes_in_defs, shapes_from}
+use Rattle.archive_check.specs.Names.{missing, Taken, Collected, shapes_from}
+use Rattle.archive_check.specs.Numbered.{def_shapes}
 use Rattle.archive_check.proofs.Named.{append_known, append_unknown, definition_here, definition_other, names_decided, entries_of-append, one_at, push_some, push_none, push_once}
 use Rattle.std.proofs.lemmas.List.{get_or_default}
-use Rattle.archive_check.proofs.Descent.{contains_later}
+use Rattle.archive_check.proofs.Elements.{contains_later}
 use Rattle.archive_check.proofs.Missing.{IsDefined, missed_mentioned, none_missed}
 use Rattle.archive_check.proofs.Placed.{reaches_next}
+use Rattle.archive_check.proofs.Numbered.{def_count}
 
 -- the shape behind the root's, at its definition
-shape_at : (ds : List Def) (i : ℕ) (d : Def) (X : Shape) → i < length ds → d ≡ get_or ds i d → X ≡ get_or (shapes_in_defs ds) i X → shape_of d.expr ≡ X
+shape_at : (ds : List Def) (i : ℕ) (d : Def) (X : Shape) → i < length ds → d ≡ get_or ds i d → X ≡ get_or (def_shapes ds) i X → shape_of d.expr ≡ X
 shape_at [] i d X h e f = absurd (omega arith)
 shape_at (x ∷ ds) zero d X h e f = ap (λ (y : Def). shape_of y.expr) e ∙ sym f
 shape_at (x ∷ ds) (suc i) d X h e f = shape_at ds i d X (omega arith) e f
@@ -41,7 +43,7 @@ place : (X : Shape) (ds : List Def) (k : ℕ) (Y : Shape) → k ≤ length ds �
 place X ds zero Y h e = inl e
 place X ds (suc k) Y h e = inr (item ds k (omega arith) e)
   where
-    item : (ds : List Def) (k : ℕ) → k < length ds → Y ≡ get_or (shapes_in_defs ds) k Y → (name : Name) × Contains (entries_of ds) (name, Y)
+    item : (ds : List Def) (k : ℕ) → k < length ds → Y ≡ get_or (def_shapes ds) k Y → (name : Name) × Contains (entries_of ds) (name, Y)
     item [] k h e = absurd (omega arith)
     item (d ∷ ds) zero h e = (d.name.now, (0, omega arith, ap (λ Z. (d.name.now, Z)) (sym e)))
     item (d ∷ ds) (suc k) h e = let i = item ds k (omega arith) e in (i.0, contains_later (d.name.now, shape_of d.expr) (entries_of ds) (i.0, Y) i.1)
@@ -52,19 +54,15 @@ shapes_before X [] d (suc k) Z h = absurd (omega arith)
 shapes_before X (x ∷ found) d (suc k) Z h = shapes_before (shape_of x.expr) found d k Z (omega arith)
 
 -- where a defined name's definition stands
-shape_of_name : (ds : List Def) (n : Name) (Y : Shape) → definition (entries_of ds) n ≡ Some Y → (k : ℕ) × (k < length ds) × (Y ≡ get_or (shapes_in_defs ds) k Y)
+shape_of_name : (ds : List Def) (n : Name) (Y : Shape) → definition (entries_of ds) n ≡ Some Y → (k : ℕ) × (k < length ds) × (Y ≡ get_or (def_shapes ds) k Y)
 shape_of_name [] n Y e = cc
 shape_of_name (d ∷ ds) n Y e = ⊎_elim
     (λ s. (0, omega arith, cc (sym (definition_here d.name.now n (shape_of d.expr) (entries_of ds) s) ∙ e)))
     (λ o. let p = shape_of_name ds n Y (sym (definition_other d.name.now n (shape_of d.expr) (entries_of ds) o) ∙ e) in (suc p.0, omega (arith, p.1), p.2))
     (names_decided d.name.now n)
 
-length-shapes_in_defs : (ds : List Def) → length (shapes_in_defs ds) ≡ length ds
-length-shapes_in_defs [] = refl
-length-shapes_in_defs (d ∷ ds) = ap suc (length-shapes_in_defs ds)
-
 shapes_end : (X : Shape) (ds : List Def) (at : ℕ) → at ≤ length ds → at < length (shapes_from X ds)
-shapes_end X ds at h = omega (arith, length-shapes_in_defs ds)
+shapes_end X ds at h = omega (arith, def_count ds)
 
 -- there is a shape
 pub shape_here : (X : Shape) (ds : List Def) (at : ℕ) → at ≤ length ds → (Y : Shape) × (Y ≡ get_or (shapes_from X ds) at Y)

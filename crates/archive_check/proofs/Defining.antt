@@ -6,7 +6,7 @@ use Rattle.archive_check.specs.Shape.{Name, Shape, Table, definition}
 use Rattle.archive_check.specs.Added.{IsAddAnswer}
 use Rattle.archive_check.specs.Definitions.{defines, listed, Extended, Conflicts}
 use Rattle.archive_check.proofs.Named.{definition_here, append_known, append_unknown, push_some}
-use Rattle.archive_check.proofs.Descent.{contains_cases, contains_first}
+use Rattle.archive_check.proofs.Elements.{contains_cases, contains_first}
 use Rattle.archive_check.proofs.WellFormed.{found_stands}
 
 -- it is the only one of its own

@@ -3,17 +3,7 @@ use Rattle.std.proofs.Common.{◌≡◌, ◌⊎◌, inl, inr, ⊎_elim, ℕ, zer
 use Rattle.std.proofs.lemmas.List.Elements.{Contains-get_or}
 use Rattle.archive_check.specs.Shape.{Name, Shape, Table, definition}
 use Rattle.archive_check.specs.Defined.{Holds, HeldIn, held, held_through}
-
--- the first or a later one
-pub contains_cases : {X : Type 0} (y : X) (xs : List X) (x : X) → Contains (y ∷ xs) x → (y ≡ x) ⊎ Contains xs x
-contains_cases y xs x (zero, l, e) = inl e
-contains_cases y xs x (suc k, l, e) = inr (k, omega arith, e)
-
-pub contains_first : {X : Type 0} (xs : List X) (x : X) → Contains (x ∷ xs) x
-contains_first xs x = (0, omega arith, refl)
-
-pub contains_later : {X : Type 0} (y : X) (xs : List X) (x : X) → Contains xs x → Contains (y ∷ xs) x
-contains_later y xs x (k, l, e) = (suc k, omega arith, e)
+use Rattle.archive_check.proofs.Elements.{contains_cases, contains_first, contains_later}
 
 -- a list without one item
 pub record Rest {X : Type 0} (xs : List X) (x : X) : Type 0 where

@@ -22,6 +22,7 @@ use Rattle.archive_check.specs.Turns.{and_then, Passes, Ready, stage, pending_in
 use Rattle.archive_check.proofs.Turning.{enter_one, enter_run}
 use Rattle.archive_check.proofs.Meeting.{allows, agrees_inside}
 use Rattle.archive_check.proofs.Costs.{level_end, falls_enter}
+use Rattle.archive_check.proofs.Determined.{pos_one}
 
 -- a region of this size and alignment lies at t, within the range
 pub record Lands (s : RangeState) (z : ℤ) (size align t : ℕ) : Type 0 where
@@ -39,9 +40,6 @@ lands s (pos n) size align t u e h =
 negative : (n t : ℕ) → negsuc n ≡ pos t → ⊥
 negative n t e = cc
 
-pos_same : (n t : ℕ) → pos n ≡ pos t → n ≡ t
-pos_same n t e = cc
-
 -- what a refusal of the range says
 pub astray : (m : Checker) (j n : ℕ) (target : Target) (s : RangeState) (z : ℤ) (size align : ℕ) (e : Error) → RegionIs m j n (Some size) align → Err e ≡ subtree_answer s z size align
     → (f : Fault) × IsFor f e × ((pending : List ℕ) (seen : Seen) → EnterRuns m pending s.depth s.end target j n z s.start seen (refused f))
@@ -55,9 +53,9 @@ astray m j n target s (pos k) size align e reg h = astray_by m j n target s k si
     astray_by m j n target s k size align e reg true true false p q r h =
         (unaligned k align, grind (arith, nat_tests), λ pending seen. enter_unaligned reg refl (grind (arith, nat_tests)) (grind (arith, nat_tests)) (grind (arith, nat_tests)))
     astray_by m j n target s k size align e reg true false d p q r h =
-        (outside (pos k) size s.start s.end, grind (arith, nat_tests), λ pending seen. enter_outside reg (λ t is above below. let same : k ≡ t = pos_same k t is in grind (arith, nat_tests)))
+        (outside (pos k) size s.start s.end, grind (arith, nat_tests), λ pending seen. enter_outside reg (λ t is above below. let same : k ≡ t = pos_one is in grind (arith, nat_tests)))
     astray_by m j n target s k size align e reg false b d p q r h =
-        (outside (pos k) size s.start s.end, grind (arith, nat_tests), λ pending seen. enter_outside reg (λ t is above below. let same : k ≡ t = pos_same k t is in grind (arith, nat_tests)))
+        (outside (pos k) size s.start s.end, grind (arith, nat_tests), λ pending seen. enter_outside reg (λ t is above below. let same : k ≡ t = pos_one is in grind (arith, nat_tests)))
 
 -- the last level lets no region be entered
 last_level : (d : Option ℕ) → d ≡ Some 1 → Allows d 1 → ⊥

@@ -22,9 +22,6 @@ use Rattle.archive_check.proofs.Fitting.{fits_some, rounded_fits, sum_fits, grea
 use Rattle.archive_check.proofs.Rows.{align_positive, variants_positive, ends_positive}
 
 -- what ends nowhere is too large
-pub too_large : (n : ℕ) → None ≡ fits n → 2 ^ 64 ≤ n
-too_large n e = grind (arith, nat_tests)
-
 pub pointer_fits : (P : Pointee) → fits (pointer_size P) ≡ Some (pointer_size P)
 pointer_fits (one X) = fits_some 4 (omega arith)
 pointer_fits (run X) = fits_some 8 (omega arith)

@@ -12,9 +12,10 @@ use Rattle.archive_check.specs.Faults.{illegal_error}
 use Rattle.archive_check.specs.Shape.{Sign, bool, char, non_zero}
 use Rattle.archive_check.specs.Layout.{kind_size}
 use Rattle.archive_check.specs.Reads.{bytes_at, u32_at, kind_number, IsLegal, IsLegalNumber}
-use Rattle.archive_check.proofs.BytesAt.{bytes_one}
+use Rattle.archive_check.proofs.BytesAt.{bytes_one, byte_in}
 use Rattle.archive_check.proofs.Edits.{bytes_long}
 use Rattle.archive_check.proofs.LittleEndian.{some_byte}
+use Rattle.std.proofs.Math.Nat.{eq_of_mul-eq-mul_right, one-le-pow, zero-mul}
 
 pub legal_bool : (bytes : List ℕ) (p : ℕ) → p + 1 ≤ length bytes → (IsTrue (nat_lt (slice_index bytes p) 2) → IsLegal bool (bytes_at bytes p 1)) × (IsLegal bool (bytes_at bytes p 1) → IsTrue (nat_lt (slice_index bytes p) 2))
 unfolding kind_number
@@ -38,25 +39,13 @@ zero_sum f (suc k) e i lt = at (zero_sum f k (omega arith) i) (nat_eq i (suc k))
     at before true q = let last : i ≡ suc k = grind (arith, nat_tests) in ap f last ∙ omega arith
     at before false q = let other : i ≢ suc k = grind (arith, nat_tests) in before (omega arith)
 
-power_some : (k : ℕ) → 0 < 256 ^ k
-power_some zero = omega arith
-power_some (suc k) = let h = power_some k in omega arith
-
-product_zero : (b p : ℕ) → 0 < p → b * p ≡ 0 → b ≡ 0
-product_zero zero p h e = refl
-product_zero (suc b) p h e = absurd (omega arith)
-
 worth_zero : (i b : ℕ) → byte_worth i b ≡ 0 → b ≡ 0
 worth_zero zero b e = e
-worth_zero (suc i) b e = product_zero b (256 ^ suc i) (power_some (suc i)) e
+worth_zero (suc i) b e = eq_of_mul-eq-mul_right (256 ^ suc i) (one-le-pow (suc i) 256 (omega arith)) b 0 (e ∙ sym (zero-mul (256 ^ suc i)))
 
 zero_worth : (i b : ℕ) → b ≡ 0 → byte_worth i b ≡ 0
 zero_worth zero b e = e
 zero_worth (suc i) b e = rw e (omega arith)
-
-byte_in : (bytes : List ℕ) (p n i : ℕ) → i < n → slice_index (bytes_at bytes p n) i ≡ slice_index bytes (p + i)
-unfolding bytes_at
-byte_in bytes p n i h = grind (arith, common_steps)
 
 some_or_none : (f : ℕ → ℕ) (n : ℕ) → ((i : ℕ) × (i < n) × (f i ≢ 0)) ⊎ ((i : ℕ) → i < n → f i ≡ 0)
 some_or_none f zero = inr (λ i lt. absurd (omega arith))

@@ -1,5 +1,6 @@
+pub mod Elements
+pub mod Seen
 pub mod BytesAt
-pub mod Landing
 pub mod Encodings
 pub mod Revises
 pub mod RevisedTour
@@ -55,7 +56,6 @@ pub mod LegalBytes
 pub mod Following
 pub mod Steps
 pub mod Running
-pub mod SizesFall
 pub mod Same
 pub mod Copies
 pub mod Tables

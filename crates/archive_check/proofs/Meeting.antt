@@ -2,7 +2,9 @@
 use Rattle.std.proofs.Common.{◌≡◌, ◌≢◌, ◌⊎◌, inl, inr, ℕ, zero, suc, ℤ, pos, negsuc, refl, sym, ap, ◌∙◌, ◌+◌, ◌-◌, ◌<◌, ◌==◌, nat_eq, cond, Bool, true, false, arith, List, [], ◌∷◌, Option, Some, None, option_map, Ok, Contains}
 use Rattle.std.proofs.lemmas.Bool.Decides.{nat_tests, Decides-int_eq, Decides-eqb}
 use Rattle.std.proofs.lemmas.Map.{update_same, update_other}
+use Rattle.std.proofs.lemmas.Map.Made.{Contains-tail}
 use Rattle.std.proofs.lemmas.Cmp.{nat_cmp_total}
+use Rattle.std.proofs.lemmas.Bool.{cases_eq, false_from_ne_true}
 use Rattle.std.specs.Bool.{Decides}
 use Rattle.std.specs.Cmp.{unsigned_tied}
 use Rattle.std.specs.Map.{update}
@@ -14,40 +16,25 @@ use Rattle.archive_check.specs.Met.{Met, Positions, started_at, started, finishe
 use Rattle.archive_check.specs.Tour.{Seen, Entry}
 use Rattle.archive_check.specs.Fresh.{IsFresh}
 use Rattle.archive_check.specs.Turns.{Agrees, HasLevels}
+use Rattle.archive_check.proofs.Elements.{contains_first, contains_later}
+use Rattle.archive_check.proofs.Seen.{same_some, inserted_has, inserted_apart}
 
 -- lists
 
-pub contains_head : (t : ℕ) (ts : List ℕ) → Contains (t ∷ ts) t
-contains_head t ts = (0, omega arith, refl)
-
-pub contains_tail : (t q : ℕ) (ts : List ℕ) → Contains ts q → Contains (t ∷ ts) q
-contains_tail t q ts (k, lt, is) = (suc k, omega arith, is)
-
-pub contains_other : (t q : ℕ) (ts : List ℕ) → t ≢ q → Contains (t ∷ ts) q → Contains ts q
-contains_other t q ts other (zero, lt, is) = absurd (other is)
-contains_other t q ts other (suc k, lt, is) = (k, omega arith, is)
-
-same_or_not : (t q : ℕ) → (t ≡ q) ⊎ (t ≢ q)
-same_or_not t q = elim (nat_eq t q) as (λ b. nat_eq t q ≡ b → (t ≡ q) ⊎ (t ≢ q)) [ true ↦ λ e. inl (grind (arith, nat_tests)) | false ↦ λ e. inr (λ s. grind (arith, nat_tests)) ] refl
-
 contains_or_not : (ts : List ℕ) (q : ℕ) → Contains ts q ⊎ (Contains ts q → ⊥)
 contains_or_not [] q = inr (λ h. let lt = h.1 in omega arith)
-contains_or_not (t ∷ ts) q = elim (same_or_not t q) [
+contains_or_not (t ∷ ts) q = elim (cases_eq t q) [
   | inl e ↦ inl (0, omega arith, e)
-  | inr other ↦ elim (contains_or_not ts q) [ inl h ↦ inl (contains_tail t q ts h) | inr none ↦ inr (λ h. none (contains_other t q ts other h)) ]
+  | inr other ↦ elim (contains_or_not ts q) [ inl h ↦ inl (contains_later t ts q h) | inr none ↦ inr (λ h. none (Contains-tail t ts q other h)) ]
 ]
 
 -- positions
-
-false_of : (b : Bool) (P : Type 0) → Decides b P → (P → ⊥) → b ≡ false
-false_of true P h not = absurd (not (h.0 refl))
-false_of false P h not = refl
 
 update_here : (met : Positions) (k : ℤ) (w : Option Met) → update int_eq met k w k ≡ w
 update_here met k w = update_same int_eq met k w k ((Decides-int_eq k k).1 refl)
 
 update_apart : (met : Positions) (k q : ℤ) (w : Option Met) → k ≢ q → update int_eq met k w q ≡ met q
-update_apart met k q w other = update_other int_eq met k w q (false_of (int_eq k q) (k ≡ q) (Decides-int_eq k q) other)
+update_apart met k q w other = update_other int_eq met k w q (false_from_ne_true (int_eq k q) (λ e. other ((Decides-int_eq k q).0 e)))
 
 pos_apart : (t q : ℕ) → t ≢ q → pos t ≢ pos q
 pos_apart t q other e = let same : t ≡ q = cc in other same
@@ -55,17 +42,8 @@ pos_apart t q other e = let same : t ≡ q = cc in other same
 signs_apart : (t n : ℕ) → pos t ≢ negsuc n
 signs_apart t n e = cc
 
-insert_here : (seen : Seen) (t : ℕ) (e : Entry) → get (insert seen t e) t ≡ Some e
-insert_here seen t e = get-insert nat_cmp_total seen t e t ∙ ap (λ b. cond b (Some e) (get seen t)) (unsigned_tied t t ∙ (Decides-eqb t t).1 refl)
-
-insert_apart : (seen : Seen) (t q : ℕ) (e : Entry) → t ≢ q → get (insert seen t e) q ≡ get seen q
-insert_apart seen t q e other = get-insert nat_cmp_total seen t e q ∙ ap (λ b. cond b (Some e) (get seen q)) (unsigned_tied q t ∙ false_of (q == t) (q ≡ t) (Decides-eqb q t) (λ s. other (sym s)))
-
 int_or_not : (t q : ℤ) → (t ≡ q) ⊎ (t ≢ q)
 int_or_not t q = elim (int_eq t q) as (λ b. int_eq t q ≡ b → (t ≡ q) ⊎ (t ≢ q)) [ true ↦ λ e. inl ((Decides-int_eq t q).0 e) | false ↦ λ e. inr (λ s. let yes = (Decides-int_eq t q).1 s in cc) ] refl
-
-some_same : {A : Type 0} {x y : A} → ◌≡◌ {A = Option A} (Some x) (Some y) → x ≡ y
-some_same e = cc
 
 -- agreement
 
@@ -139,24 +117,24 @@ module _ {d : Option ℕ} {met : Positions} {pd : List ℕ} {r : ℕ} {seen : Se
       let there = met_none t none in
       record {
         before = λ n. update_apart met (pos t) (negsuc n) (Some (started_at (met (pos t)) e)) (signs_apart t n) ∙ h.before n;
-        new = λ q is. elim (same_or_not t q) [
-          | inl same ↦ absurd (let here = insert_here seen t e in let gone : get (insert seen t e) t ≡ None = ap (λ k. get (insert seen t e) k) same ∙ is in cc)
-          | inr other ↦ update_apart met (pos t) (pos q) (Some (started_at (met (pos t)) e)) (pos_apart t q other) ∙ h.new q (sym (insert_apart seen t q e other) ∙ is)
+        new = λ q is. elim (cases_eq t q) [
+          | inl same ↦ absurd (let here = inserted_has seen t e in let gone : get (insert seen t e) t ≡ None = ap (λ k. get (insert seen t e) k) same ∙ is in cc)
+          | inr other ↦ update_apart met (pos t) (pos q) (Some (started_at (met (pos t)) e)) (pos_apart t q other) ∙ h.new q (sym (inserted_apart seen t q e (λ s. other (sym s))) ∙ is)
         ];
-        begun = λ q old is inside. elim (same_or_not t q) [
+        begun = λ q old is inside. elim (cases_eq t q) [
           | inl same ↦
-              let here : get (insert seen t e) q ≡ Some e = rw (← same) (insert_here seen t e) in
-              let equal : ◌≡◌ {A = Entry} e old = some_same (sym here ∙ is) in
+              let here : get (insert seen t e) q ≡ Some e = rw (← same) (inserted_has seen t e) in
+              let equal : ◌≡◌ {A = Entry} e old = same_some (sym here ∙ is) in
               ap (λ k. started met (pos t) e (pos k)) (sym same) ∙ update_here met (pos t) (Some (started_at (met (pos t)) e)) ∙ ap (λ o. Some (started_at o e)) none ∙ ap (λ k. Some (record { entry = k; finished = false })) equal
-          | inr other ↦ update_apart met (pos t) (pos q) (Some (started_at (met (pos t)) e)) (pos_apart t q other) ∙ h.begun q old (sym (insert_apart seen t q e other) ∙ is) (contains_other t q pd other inside)
+          | inr other ↦ update_apart met (pos t) (pos q) (Some (started_at (met (pos t)) e)) (pos_apart t q other) ∙ h.begun q old (sym (inserted_apart seen t q e (λ s. other (sym s))) ∙ is) (Contains-tail t pd q other inside)
         ];
-        over = λ q old is outside. elim (same_or_not t q) [
+        over = λ q old is outside. elim (cases_eq t q) [
           | inl same ↦ absurd (outside (0, omega arith, same))
-          | inr other ↦ update_apart met (pos t) (pos q) (Some (started_at (met (pos t)) e)) (pos_apart t q other) ∙ h.over q old (sym (insert_apart seen t q e other) ∙ is) (λ k. outside (contains_tail t q pd k))
+          | inr other ↦ update_apart met (pos t) (pos q) (Some (started_at (met (pos t)) e)) (pos_apart t q other) ∙ h.over q old (sym (inserted_apart seen t q e (λ s. other (sym s))) ∙ is) (λ k. outside (contains_later t pd q k))
         ];
-        known = λ q inside is. elim (same_or_not t q) [
-          | inl same ↦ let here : get (insert seen t e) q ≡ Some e = rw (← same) (insert_here seen t e) in cc
-          | inr other ↦ h.known q (contains_other t q pd other inside) (sym (insert_apart seen t q e other) ∙ is)
+        known = λ q inside is. elim (cases_eq t q) [
+          | inl same ↦ let here : get (insert seen t e) q ≡ Some e = rw (← same) (inserted_has seen t e) in cc
+          | inr other ↦ h.known q (Contains-tail t pd q other inside) (sym (inserted_apart seen t q e (λ s. other (sym s))) ∙ is)
         ];
         once = (λ inside. h.known t inside there, h.once);
         levels = h.levels;
@@ -206,22 +184,22 @@ module _ {d : Option ℕ} {met : Positions} {t : ℕ} {rest : List ℕ} {r : ℕ
   pub agrees_finished : Agrees d (finished met (pos t)) rest r seen
   agrees_finished = record {
     before = λ n. update_apart met (pos t) (negsuc n) (option_map (λ old. record { entry = old.entry; finished = true }) (met (pos t))) (signs_apart t n) ∙ h.before n;
-    new = λ q is. elim (same_or_not t q) [
+    new = λ q is. elim (cases_eq t q) [
       | inl same ↦ absurd (h.known q (0, omega arith, same) is)
       | inr other ↦ update_apart met (pos t) (pos q) (option_map (λ old. record { entry = old.entry; finished = true }) (met (pos t))) (pos_apart t q other) ∙ h.new q is
     ];
-    begun = λ q e is inside. elim (same_or_not t q) [
+    begun = λ q e is inside. elim (cases_eq t q) [
       | inl same ↦ absurd (h.once.0 (rw (← same) at inside))
-      | inr other ↦ update_apart met (pos t) (pos q) (option_map (λ old. record { entry = old.entry; finished = true }) (met (pos t))) (pos_apart t q other) ∙ h.begun q e is (contains_tail t q rest inside)
+      | inr other ↦ update_apart met (pos t) (pos q) (option_map (λ old. record { entry = old.entry; finished = true }) (met (pos t))) (pos_apart t q other) ∙ h.begun q e is (contains_later t rest q inside)
     ];
-    over = λ q e is outside. elim (same_or_not t q) [
+    over = λ q e is outside. elim (cases_eq t q) [
       | inl same ↦
           ap (λ k. finished met (pos t) (pos k)) (sym same)
           ∙ update_here met (pos t) (option_map (λ old. record { entry = old.entry; finished = true }) (met (pos t)))
           ∙ ap (option_map (λ old. record { entry = old.entry; finished = true })) (ap (λ k. met (pos k)) same ∙ h.begun q e is (0, omega arith, same))
-      | inr other ↦ update_apart met (pos t) (pos q) (option_map (λ old. record { entry = old.entry; finished = true }) (met (pos t))) (pos_apart t q other) ∙ h.over q e is (λ k. outside (contains_other t q rest other k))
+      | inr other ↦ update_apart met (pos t) (pos q) (option_map (λ old. record { entry = old.entry; finished = true }) (met (pos t))) (pos_apart t q other) ∙ h.over q e is (λ k. outside (Contains-tail t rest q other k))
     ];
-    known = λ q inside. h.known q (contains_tail t q rest inside);
+    known = λ q inside. h.known q (contains_later t rest q inside);
     once = h.once.1;
     levels = h.levels;
     few = h.few;
@@ -230,8 +208,8 @@ module _ {d : Option ℕ} {met : Positions} {t : ℕ} {rest : List ℕ} {r : ℕ
   pub finish_fine : finish_answer (met (pos t)) ≡ Ok tt
   finish_fine =
       elim (get seen t) as (λ g. get seen t ≡ g → finish_answer (met (pos t)) ≡ Ok tt) [
-        | None ↦ λ none. absurd (h.known t (contains_head t rest) none)
-        | Some e ↦ λ some. ap finish_answer (h.begun t e some (contains_head t rest))
+        | None ↦ λ none. absurd (h.known t (contains_first rest t) none)
+        | Some e ↦ λ some. ap finish_answer (h.begun t e some (contains_first rest t))
       ] refl
 
 -- a level more, in a region less

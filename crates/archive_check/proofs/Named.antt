@@ -6,10 +6,11 @@ use Rattle.std.specs.Str.{bytes_eq}
 use Rattle.std.specs.Bool.{Decides}
 use Rattle.std.specs.List.{remove}
 use Rattle.std.proofs.lemmas.List.Elements.{Contains-push_cases}
+use Rattle.std.proofs.lemmas.Bool.{false_from_ne_true}
 use Rattle.archive_check.specs.declared.defs.Def.{Def}
 use Rattle.archive_check.specs.Shape.{Name, Shape, Table, definition}
 use Rattle.archive_check.specs.Expressions.{shape_of, entries_of}
-use Rattle.archive_check.proofs.Descent.{contains_cases, contains_later}
+use Rattle.archive_check.proofs.Elements.{contains_cases, contains_later}
 use Rattle.archive_check.specs.Names.{Taken}
 
 -- the definition at i, and the rest
@@ -26,12 +27,8 @@ entries_of-append [] ys = refl
 entries_of-append (x ∷ xs) ys = ap (λ es. (x.name.now, shape_of x.expr) ∷ es) (entries_of-append xs ys)
 
 -- a name is another one, or it isn't
-decided_false : {P : Type 0} (b : Bool) → Decides b P → (P → ⊥) → b ≡ false
-decided_false true d n = absurd (n (d.0 refl))
-decided_false false d n = refl
-
 pub other_name : (a b : Name) → a ≢ b → bytes_eq a b ≡ false
-other_name a b n = decided_false (bytes_eq a b) (bytes_eq-Decides a b) n
+other_name a b n = false_from_ne_true (bytes_eq a b) (λ e. n ((bytes_eq-Decides a b).0 e))
 
 pub same_name : (a b : Name) → a ≡ b → bytes_eq a b ≡ true
 same_name a b e = (bytes_eq-Decides a b).1 e

@@ -18,7 +18,8 @@ use Rattle.archive_check.specs.Tour.{Seen}
 use Rattle.archive_check.specs.Runs.{IsNode, Outcome, IsAt, Takes, ListRuns, elements_end, elements_next, list_elements, list_elements_stop}
 use Rattle.archive_check.specs.Turns.{LiesLegal, lies_free, lies_leaf, PartFits, ElementsFit, Stays, Ready, stage, Listing, Leads, level, cost}
 use Rattle.archive_check.proofs.Costs.{power_falls, level_same}
-use Rattle.archive_check.proofs.Steps.{same_at}
+use Rattle.archive_check.proofs.Elements.{same_at}
+use Rattle.archive_check.proofs.PlanSizes.{take_same}
 
 -- the size that the node has
 pub takes_size : (m : Checker) (j z : ℕ) (x : Node) {y : ℕ} → IsAt m.nodes.now j x → Takes m j y → ((y : ℕ) → x.size ≡ Some y → z ≡ y) → Takes m j z
@@ -27,16 +28,10 @@ takes_size m j z x {y = y} at t size =
     record { node = x; at = at; size_is = is ∙ ap Some (sym (size y is)) }
 
 module _ (m : Checker) (j z : ℕ) (takes : Takes m j z) where
-  same_size : (y : ℕ) → Takes m j y → y ≡ z
-  same_size y t = some_same (sym t.size_is ∙ ap (λ q. q.size) (same_at t.at takes.at) ∙ takes.size_is)
-    where
-      some_same : {a b : ℕ} → ◌≡◌ {A = Option ℕ} (Some a) (Some b) → a ≡ b
-      some_same e = cc
-
   -- k elements and one more take no more than n
   room : (n p k : ℕ) → ElementsFit m j n p → k < n → p + k * z + z ≤ length m.bytes.now
   room n p k f lt =
-      let size = same_size f.size f.takes in
+      let size = take_same f.takes takes in
       let all : (k + 1) * z ≤ n * z = mul-le-mul_right z (omega arith) in
       let more : (k + 1) * z ≡ k * z + z = omega arith in
       let whole : n * f.size ≡ n * z = ap (λ q. n * q) size in
@@ -77,7 +72,7 @@ module _ (m : Checker) (j z : ℕ) (takes : Takes m j z) where
       pub pass_ready : Ready m s (Elements j n p ∷ old) → Ready m s (Elements j (n - c) (p + c * z) ∷ old)
       pass_ready r =
           let f = r.fits.0 in
-          let size = same_size f.size f.takes in
+          let size = take_same f.takes takes in
           let whole : n * f.size ≡ n * z = ap (λ q. n * q) size in
           let split : n * z ≡ c * z + (n - c) * z = (ap (λ q. q * z) (let sum : n ≡ c + (n - c) = omega arith in sum) ∙ omega arith) in
           record { below = r.below; fits = (record { size = z; few = omega (arith, f.few); takes = takes; fits = omega (arith, f.fits) }, r.fits.1) }

@@ -6,7 +6,8 @@ use Rattle.archive_check.specs.Shape.{Name, Shape, Table, definition}
 use Rattle.archive_check.specs.Layout.{Layouts, layout}
 use Rattle.archive_check.specs.Defined.{Holds, Mentions, mentions_held, Reaches, reaches, reaches_through, HeldIn, held, held_through, WellFormed, layout_or, rounds, SolvesReached}
 use Rattle.archive_check.proofs.Layouts.{layout_same}
-use Rattle.archive_check.proofs.Descent.{contains_cases, contains_first, contains_later, DefinitionHolds, LeadsTo, by_descent}
+use Rattle.archive_check.proofs.Descent.{DefinitionHolds, LeadsTo, by_descent}
+use Rattle.archive_check.proofs.Elements.{contains_cases, contains_first, contains_later}
 
 -- all that the name's definition holds can be laid out in one round less
 pub data Placed (table : Table) : ℕ → Name → Type 0 where

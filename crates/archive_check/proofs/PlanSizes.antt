@@ -4,15 +4,7 @@ use Rattle.std.proofs.lemmas.Bool.Decides.{nat_tests}
 use Rattle.archive_check.specs.declared.plan.Checker.{Checker}
 use Rattle.archive_check.specs.Runs.{times, IsAt, Takes}
 use Rattle.archive_check.specs.Represents.{Sized}
-
-same_get : {A : Type 0} (xs : List A) (i : ℕ) (x y : A) → i < length xs → slice_index_or xs i x ≡ slice_index_or xs i y
-same_get [] i x y h = absurd (omega arith)
-same_get (z ∷ xs) zero x y h = refl
-same_get (z ∷ xs) (suc i) x y h = same_get xs i x y (omega arith)
-
--- there is one element at an index
-pub same_at : {A : Type 0} {xs : List A} {i : ℕ} {x y : A} → IsAt xs i x → IsAt xs i y → x ≡ y
-same_at {xs = xs} {i = i} {x = x} {y = y} a b = a.is ∙ same_get xs i x y a.below ∙ sym b.is
+use Rattle.archive_check.proofs.Elements.{same_at}
 
 pub take_same : {m : Checker} {j y z : ℕ} → Takes m j y → Takes m j z → y ≡ z
 take_same {y = y} {z = z} t u = let same : Some y ≡ Some z = sym t.size_is ∙ ap (λ q. q.size) (same_at t.at u.at) ∙ u.size_is in cc
@@ -66,8 +58,3 @@ sized_takes {size = size} k few = record { node = k.node; at = k.at; size_is = k
 pub element_few : (n l z size : ℕ) → n ≡ l → z ≡ l * size → z < 18446744073709551616 → 0 < z → size < 18446744073709551616
 element_few n zero z size c e few lt = absurd (omega (arith, e))
 element_few n (suc l) z size c e few lt = omega (arith, e)
-
--- some of a size that take nothing
-pub no_product : (n size : ℕ) → n * size ≡ 0 → 0 < n → size ≡ 0
-no_product zero size e h = absurd (omega arith)
-no_product (suc n) size e h = omega arith

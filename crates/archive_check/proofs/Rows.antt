@@ -20,7 +20,8 @@ use Rattle.archive_check.specs.Queued.{Waits}
 use Rattle.archive_check.specs.Growing.{Lists, IsPlaced, IsListed, PartsLaid, SpansLaid}
 use Rattle.archive_check.specs.Compiled.{Follows, Knows, Settled, Given, Compiled, PartFits, RowIs, CompiledParts, IsVariant, SpansAre, CompiledVariants}
 use Rattle.archive_check.proofs.Fitting.{fits_some, some_is, rounded_fits, rounded_some, sum_fits, sum_some, greater_fits, greater_some}
-use Rattle.archive_check.proofs.GoingOn.{at_more, at_less, at_last, at_end, same_at, goes_longer, grows_trans, extended_grows, part_at, part_of, span_of}
+use Rattle.archive_check.proofs.GoingOn.{at_more, at_less, goes_longer, grows_trans, extended_grows, part_at, part_of, span_of}
+use Rattle.archive_check.proofs.Elements.{at_last, at_end, same_at}
 use Rattle.archive_check.proofs.Adding.{given_first, given_second, settled_less, knows_settled, adds_refl, adds_trans, adds_same, stands_of}
 use Rattle.archive_check.proofs.Compilable.{can_first, can_later, can_variant, can_others}
 use Rattle.archive_check.proofs.Compiled.{fits_wider, span_within, span_wider}

@@ -6,8 +6,8 @@ use Rattle.std.specs.Ordering.{eq_by_cmp}
 use Rattle.archive_check.specs.Value.{Value, Values, number, product, case, list, text_value, box, null, shared_value, hole, no_value, value}
 use Rattle.archive_check.specs.Tour.{Entry}
 use Rattle.archive_check.specs.Reached.{Names, names_itself, names_product, names_case, names_list, names_box, NamesAmong, names_first, names_later, LeadsTo, leads_at_once, leads_through}
-use Rattle.archive_check.proofs.Exists.{same_key}
-use Rattle.archive_check.proofs.NamesReached.{Shared, same_some}
+use Rattle.archive_check.proofs.Seen.{same_key, same_some}
+use Rattle.archive_check.proofs.NamesReached.{Shared}
 
 -- a name is one of those
 abbrev Among : ℕ → List ℕ → Type 0

@@ -24,17 +24,7 @@ use Rattle.archive_check.specs.Turns.{PartsHere, PartFits, Ready, Stage, stage, 
 use Rattle.archive_check.proofs.Turning.{turn_parts, turn_elements, turn_part_last, turn_element_last, turn_elements_free, turn_pointer, turn_text, turn_shared, turn_weak}
 use Rattle.archive_check.proofs.Meeting.{levels_of, agrees_finished, finish_fine, agrees_outside, inside_more}
 use Rattle.archive_check.proofs.Costs.{level_node, level_same, falls_one, falls_two, falls_under, falls_shared}
-
-pub same_get : {A : Type 0} (xs : List A) (i : ℕ) (x y : A) → i < length xs → slice_index_or xs i x ≡ slice_index_or xs i y
-same_get [] i x y h = absurd (omega arith)
-same_get (z ∷ xs) zero x y h = refl
-same_get (z ∷ xs) (suc i) x y h = same_get xs i x y (omega arith)
-
-pub same_at : {A : Type 0} {xs : List A} {i : ℕ} {x y : A} → IsAt xs i x → IsAt xs i y → x ≡ y
-same_at {xs = xs} {i = i} {x = x} {y = y} a b = a.is ∙ same_get xs i x y a.below ∙ sym b.is
-
-pub at_default : {A : Type 0} (xs : List A) (i : ℕ) (d : A) → i < length xs → IsAt xs i (slice_index_or xs i d)
-at_default xs i d h = record { below = h; is = same_get xs i d (slice_index_or xs i d) h }
+use Rattle.archive_check.proofs.Elements.{same_at}
 
 pub span_next : (parts : List Part) (a b : ℕ) (x : Part) → a < b → b ≤ length parts → IsAt parts a x → span parts a b ≡ x ∷ span parts (a + 1) b
 span_next parts a b x lt le at =

@@ -7,6 +7,7 @@ use Rattle.archive_check.specs.declared.expr.Expr.TheVariants as expr
 use Rattle.archive_check.specs.Shape.{Shape, parts, choice, Parts, no_part, part, Variants, no_variant, variant}
 use Rattle.archive_check.specs.Expressions.{shape_of, shapes_of, variants_of, shapes_in, variants_in}
 use Rattle.archive_check.specs.Sizes.{shape_size, parts_size, variants_size}
+use Rattle.std.proofs.lemmas.List.{drop_all}
 
 pub shapes_row : (n : _) (row : Row_of-Expr n) → shapes_of row ≡ shapes_in (items-the_row-Expr n row)
 shapes_row n end_of-Expr = refl
@@ -48,14 +49,11 @@ variants_in-drop xs i x h e =
     let s : i + 1 ≡ suc i = omega arith in
     ap variants_in (drop-cons xs i x h) ∙ ap (λ y. variant (shapes_in y.items) (variants_in (drop (suc i) xs))) (sym e) ∙ ap (λ j. variant (shapes_in x.items) (variants_in (drop j xs))) (sym s)
 
-drop_all : {A : Type 0} (xs : List A) (i : ℕ) → length xs ≡ i → drop i xs ≡ []
-drop_all xs i e = ap (λ j. drop j xs) (sym e) ∙ drop-length xs
-
 pub shapes_in-end : (xs : List Expr) (i : ℕ) → length xs ≡ i → shapes_in (drop i xs) ≡ no_part
-shapes_in-end xs i e = ap shapes_in (drop_all xs i e)
+shapes_in-end xs i e = ap shapes_in (drop_all i xs (omega (arith, e)))
 
 pub variants_in-end : (xs : List (Vec Expr Global)) (i : ℕ) → length xs ≡ i → variants_in (drop i xs) ≡ no_variant
-variants_in-end xs i e = ap variants_in (drop_all xs i e)
+variants_in-end xs i e = ap variants_in (drop_all i xs (omega (arith, e)))
 
 -- an element is smaller than the list
 pub shapes_size-at : (xs : List Expr) (i : ℕ) (x : Expr) → i < length xs → x ≡ get_or xs i x → shape_size (shape_of x) < parts_size (shapes_in xs)

@@ -12,7 +12,8 @@ use Rattle.archive_check.specs.Growing.{node_of, Lists}
 use Rattle.archive_check.specs.Compilable.{CanWait}
 use Rattle.archive_check.specs.Queued.{Wait, Waits, waits_in, wait_shapes, waits_size, Reserved, IsWaiting, IsQueued}
 use Rattle.archive_check.specs.Compiled.{Targets}
-use Rattle.archive_check.proofs.GoingOn.{at_end, at_last, at_less, grows_refl}
+use Rattle.archive_check.proofs.GoingOn.{at_less, grows_refl}
+use Rattle.archive_check.proofs.Elements.{at_end, at_last}
 use Rattle.archive_check.proofs.Adding.{adds_refl}
 
 pub reserved_append : (base : ℕ) (xs : List Wait) (mid : ℕ) (x : Wait) (next : ℕ) → Reserved base xs mid → x.node + 1 ≡ mid + count_of x.shape → mid ≤ x.node → next ≡ mid + count_of x.shape → Reserved base (xs ++ x ∷ []) next

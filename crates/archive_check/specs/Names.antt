@@ -7,6 +7,7 @@ use Rattle.archive_check.specs.declared.error.Error.TheVariants.{OutOfMemory, Sh
 use Rattle.archive_check.specs.Defined.{Reaches, HeldIn, AllDefined, WellFormed}
 use Rattle.archive_check.specs.Definitions.{Definitions, listed}
 use Rattle.archive_check.specs.Shape.{Name, Shape, parts, choice, array, boxed, vec, shared, weak, named, Pointee, one, run, text, Parts, no_part, part, Variants, no_variant, variant, Table, definition}
+use Rattle.archive_check.specs.Numbered.{def_shapes}
 
 -- the first of two
 abbrev pub or_else : Option Name → Option Name → Option Name
@@ -72,13 +73,9 @@ pub record Complete (table : Table) : Type 0 where
   pub once : (name : Name) (Y : Shape) → Contains table (name, Y) → definition table name ≡ Some Y
   pub closed : (name : Name) (Y : Shape) → definition table name ≡ Some Y → missing false table Y ≡ None
 
-abbrev pub shapes_in_defs : List Def → List Shape
-shapes_in_defs [] = []
-shapes_in_defs (d ∷ ds) = shape_of d.expr ∷ shapes_in_defs ds
-
 -- the root's shape, and those of the definitions
 abbrev pub shapes_from : Shape → List Def → List Shape
-shapes_from X ds = X ∷ shapes_in_defs ds
+shapes_from X ds = X ∷ def_shapes ds
 
 -- each name that the expression or a definition mentions is defined
 pub record HasAll (table : Table) (X : Shape) : Type 0 where

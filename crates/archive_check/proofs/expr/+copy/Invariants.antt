@@ -1,6 +1,6 @@
 use Rattle.std.proofs.Common.{◌≡◌, ◌++◌, drop}
 use Rattle.archive_check.specs.Expressions.{shape_of, pointee_of, shapes_in, variants_in}
-use Rattle.archive_check.proofs.SizesFall.{shape_size, pointee_size, parts_size, variants_size}
+use Rattle.archive_check.specs.Sizes.{shape_size, pointee_size, parts_size, variants_size}
 use Rattle.archive_check.proofs.expr.+copy.Given as goal
 
 abbrev pub invariant-copy_parts-loop-i : goal.invariant-copy_parts-loop-i

@@ -1,7 +1,7 @@
 use Rattle.std.proofs.Common.{◌≡◌, drop}
 use Rattle.archive_check.specs.Expressions.{shape_of, pointee_of, shapes_in, variants_in}
 use Rattle.archive_check.specs.Same.{same_parts, same_variants}
-use Rattle.archive_check.proofs.SizesFall.{shape_size, pointee_size, parts_size, variants_size}
+use Rattle.archive_check.specs.Sizes.{shape_size, pointee_size, parts_size, variants_size}
 use Rattle.archive_check.proofs.expr.+same.Given as goal
 
 abbrev pub invariant-same_lists-loop-i : goal.invariant-same_lists-loop-i
