@@ -14,9 +14,7 @@ use Rattle.archive_write.specs.Written.{ExplainsRefusal}
 use Rattle.archive_core.specs.Writing.{Resolves, Puts, Fresh}
 use Rattle.archive_core.specs.Plans.{Explains, own_cause, HindersRegion}
 use Rattle.archive_core.proofs.Causes.{explains_write}
-
-zeroed_replicate : (n : ℕ) → IsZeroed (replicate n 0)
-zeroed_replicate n = record { zero_at = λ i h. get_or-replicate n i 0 0 (omega (arith, length-replicate {A = ℕ} n 0)) }
+use Rattle.archive_write.proofs.Padding.{zeroed_replicate}
 
 pub fresh_zeros : (size p n : ℕ) (a : List ℕ) → a ≡ replicate n 0 → n ≡ size → p + size < 2 ^ 64 → Fresh size p a
 fresh_zeros size p n a e m ends = record { sized = ap length e ∙ length-replicate {A = ℕ} n 0 ∙ m; zeroed = rw e (zeroed_replicate n); ends = ends }

@@ -167,10 +167,6 @@ pub record Archives (definitions : Definitions) (old new : List ℕ) (root : ℕ
 abbrev pub to_pointee : ℕ → Pointee → ℕ → Pointer
 to_pointee t P n = record { target = pos t; sharing = None; pointee = P; length = n }
 
--- to one value
-abbrev pub to_one : ℕ → Shape → Pointer
-to_one t X = to_pointee t (one X) 0
-
 -- What a pointee owns was appended, and then its own region, which stands at p.
 pub record Lays (definitions : Definitions) (old new : Held) (keys : List Naming) (p : ℕ) (P : Pointee) (n : ℕ) (value : Value) : Type 0 where
   pub mid : Held
