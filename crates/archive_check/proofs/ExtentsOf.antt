@@ -19,7 +19,8 @@ use Rattle.archive_check.specs.Fitting.{fits, rounded, sum_of, greater_of}
 use Rattle.archive_check.specs.Growing.{node_of}
 use Rattle.archive_check.specs.Extents.{Ends, HasExtent, PartsSoFar, VariantsSoFar}
 use Rattle.archive_check.proofs.Fitting.{fits_some, rounded_fits, sum_fits, greater_fits}
-use Rattle.archive_check.proofs.Rows.{align_positive, variants_positive, ends_positive}
+use Rattle.archive_check.proofs.Rows.{ends_positive}
+use Rattle.archive_check.proofs.Positive.{parts_align_pos, variants_align_pos}
 
 -- what ends nowhere is too large
 pub pointer_fits : (P : Pointee) → fits (pointer_size P) ≡ Some (pointer_size P)
@@ -44,7 +45,7 @@ whole_ends {e} {w} {end} {align} h q a = record {
 
 -- no part yet
 pub parts_start : (l : Layouts) (start : ℕ) (ps : Parts) (e : Extent) → start < 18446744073709551616 → e.end ≡ Some start → e.align ≡ 1 → PartsSoFar l start ps ps e
-parts_start l start ps e few q a = record { at = start; ends = q ∙ sym (fits_some start few); same_end = refl; same_align = omega (arith, a, align_positive l ps) }
+parts_start l start ps e few q a = record { at = start; ends = q ∙ sym (fits_some start few); same_end = refl; same_align = omega (arith, a, parts_align_pos l ps) }
 
 -- one part more
 pub parts_next : {l : Layouts} {start : ℕ} {all ps : Parts} {X : Shape} {e here next : Extent} → PartsSoFar l start all (part X ps) e → Ends here (size_of l X) (align_of l X)
@@ -74,7 +75,7 @@ variants_start l vs e q a = record {
   tag = omega arith;
   ends = q ∙ sym (fits_some 1 (omega arith));
   same_end = omega (arith, ends_positive l vs);
-  same_align = omega (arith, a, variants_positive l vs);
+  same_align = omega (arith, a, variants_align_pos l vs);
 }
 
 -- one variant more

@@ -1,7 +1,8 @@
--- Which bytes in a buffer are a leaf, byte by byte.
+-- Which bytes in a buffer are a leaf, byte by byte; and that a leaf has one encoding.
 use Rattle.std.proofs.Common.{◌≡◌, ◌≢◌, ◌⊎◌, inl, inr, ℕ, zero, suc, ◌+◌, ◌-◌, ◌*◌, ◌^◌, ◌<◌, ◌≤◌, arith, refl, sym, ap, ◌∙◌, List, length, slice_index, Bool, true, false, IsTrue, nat_lt, nat_eq}
 use Rattle.std.proofs.lemmas.Bool.Decides.{nat_tests}
 use Rattle.std.proofs.lemmas.Grind.{common_steps}
+use Rattle.std.proofs.lemmas.List.{nil_from_length}
 use Rattle.std.specs.Int.{Width, w8, w16, w32, w64, w128, byte_len, byte_worth, sum_through}
 use Rattle.archive_check.specs.declared.expr.Kind.{Kind as KindExpr}
 use Rattle.archive_check.specs.declared.expr.Kind.TheVariants as expr
@@ -9,12 +10,13 @@ use Rattle.archive_check.specs.declared.expr.IntegerKind.{IntegerKind}
 use Rattle.archive_check.specs.declared.error.Error.TheVariants.{ZeroNumber}
 use Rattle.archive_check.specs.Expressions.{kind_of}
 use Rattle.archive_check.specs.Faults.{illegal_error}
-use Rattle.archive_check.specs.Shape.{Sign, bool, char, non_zero}
+use Rattle.archive_check.specs.Shape.{Sign, bool, char, non_zero, Kind as LeafKind, unit, number, raw_rel}
 use Rattle.archive_check.specs.Layout.{kind_size}
-use Rattle.archive_check.specs.Reads.{bytes_at, u32_at, kind_number, IsLegal, IsLegalNumber}
+use Rattle.archive_check.specs.Reads.{bytes_at, u32_at, kind_number, IsLegal, IsLegalNumber, kind_value}
+use Rattle.archive_check.specs.LittleEndian.{AreBytes}
 use Rattle.archive_check.proofs.BytesAt.{bytes_one, byte_in}
 use Rattle.archive_check.proofs.Edits.{bytes_long}
-use Rattle.archive_check.proofs.LittleEndian.{some_byte}
+use Rattle.archive_check.proofs.LittleEndian.{some_byte, from_le_bytes-one, with_sign-one}
 use Rattle.std.proofs.Math.Nat.{eq_of_mul-eq-mul_right, one-le-pow, zero-mul}
 
 pub legal_bool : (bytes : List ℕ) (p : ℕ) → p + 1 ≤ length bytes → (IsTrue (nat_lt (slice_index bytes p) 2) → IsLegal bool (bytes_at bytes p 1)) × (IsLegal bool (bytes_at bytes p 1) → IsTrue (nat_lt (slice_index bytes p) 2))
@@ -107,3 +109,13 @@ illegal_zero (expr.RawRel x) xs long a b not = absurd (not (legal_of (expr.RawRe
 illegal_zero expr.Bool xs long a b not = absurd (a refl)
 illegal_zero expr.Char xs long a b not = absurd (b refl)
 illegal_zero (expr.NonZero x) xs long a b not = refl
+
+-- legal bytes of the same value are the same
+pub one_encoding : (kind : LeafKind) (a b : List ℕ) → IsLegal kind a → IsLegal kind b → AreBytes a → AreBytes b → kind_value kind a ≡ kind_value kind b → a ≡ b
+unfolding kind_value kind_number
+one_encoding unit a b g h i j same = nil_from_length a g.size ∙ sym (nil_from_length b h.size)
+one_encoding bool a b g h i j same = from_le_bytes-one w8 a b g.size h.size i j cc
+one_encoding char a b g h i j same = from_le_bytes-one w32 a b g.size h.size i j cc
+one_encoding (number sign width) a b g h i j same = with_sign-one sign width a b g.size h.size i j same
+one_encoding (non_zero sign width) a b g h i j same = with_sign-one sign width a b g.size h.size i j same
+one_encoding (raw_rel sign width) a b g h i j same = with_sign-one sign width a b g.size h.size i j same

@@ -1,7 +1,6 @@
 pub mod Elements
 pub mod Seen
 pub mod BytesAt
-pub mod Encodings
 pub mod Revises
 pub mod RevisedTour
 pub mod Revised
@@ -46,7 +45,6 @@ pub mod WellFormed
 pub mod PlanSizes
 pub mod Represented
 pub mod Accepts
-pub mod PlanExample
 pub mod ReachedNames
 pub mod Costs
 pub mod Turning
@@ -58,7 +56,6 @@ pub mod Steps
 pub mod Running
 pub mod Same
 pub mod Copies
-pub mod Tables
 pub mod KeptPositions
 pub mod SubtreeSteps
 pub mod Fitting

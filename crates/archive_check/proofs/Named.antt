@@ -144,3 +144,13 @@ pub not_taken : (old mid : List Def) (i : ℕ) (name : Name) → mid ≡ old →
 not_taken old mid i name same e found = (rw (← same) (sym found ∙ ap (λ t. definition t name) (entries_of-end mid i e)), same)
 
 pub ruleset named = (entries_of-drop, entries_of-end, definition_here, definition_other, length-remove)
+
+-- one definition more, and the first one of those that are left
+pub entries_of-push : (xs : List Def) (d : Def) → entries_of (xs ++ d ∷ []) ≡ entries_of xs ++ (d.name.now, shape_of d.expr) ∷ []
+entries_of-push xs d = entries_of-append xs (d ∷ [])
+
+pub definition-drop : (name : Name) (xs : List Def) (i : ℕ) (d : Def) → i < length xs → d ≡ get_or xs i d →
+    definition (entries_of (drop i xs)) name ≡ cond (bytes_eq d.name.now name) (Some (shape_of d.expr)) (definition (entries_of (drop (i + 1) xs)) name)
+definition-drop name xs i d h e = ap (λ ds. definition ds name) (entries_of-drop xs i d h e)
+
+pub ruleset tables = (entries_of-push, definition-drop)

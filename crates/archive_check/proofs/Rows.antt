@@ -25,14 +25,7 @@ use Rattle.archive_check.proofs.Elements.{at_last, at_end, same_at}
 use Rattle.archive_check.proofs.Adding.{given_first, given_second, settled_less, knows_settled, adds_refl, adds_trans, adds_same, stands_of}
 use Rattle.archive_check.proofs.Compilable.{can_first, can_later, can_variant, can_others}
 use Rattle.archive_check.proofs.Compiled.{fits_wider, span_within, span_wider}
-
-pub align_positive : (l : Layouts) (ps : Parts) → 0 < parts_align l ps
-align_positive l no_part = omega arith
-align_positive l (part X ps) = omega (arith, align_positive l ps)
-
-pub variants_positive : (l : Layouts) (vs : Variants) → 0 < variants_align l vs
-variants_positive l no_variant = omega arith
-variants_positive l (variant ps vs) = omega (arith, variants_positive l vs)
+use Rattle.archive_check.proofs.Positive.{parts_align_pos, variants_align_pos}
 
 pub ends_positive : (l : Layouts) (vs : Variants) → 0 < variants_end l vs
 ends_positive l no_variant = omega arith
@@ -51,7 +44,7 @@ row_start {names = names} start {v = v} {a = a} ps row end align free few none e
   positive = omega arith;
   row_fits = λ m g e q k x at. absurd (let at_none : IsAt [] k x = subst (λ r. IsAt r k x) none at in omega (arith, at_none.below));
   row_free = λ h m g k x at. absurd (let at_none : IsAt [] k x = subst (λ r. IsAt r k x) none at in omega (arith, at_none.below));
-  lays = λ m l g n. ((start, e ∙ sym (fits_some start few), refl), omega (arith, align_positive l ps));
+  lays = λ m l g n. ((start, e ∙ sym (fits_some start few), refl), omega (arith, parts_align_pos l ps));
   stand = λ s shapes m g t given z ez first last placed room rest.
       let same : start ≡ z = cc in
       let here : first + length row ≡ first = omega (arith, ap length none) in
@@ -190,7 +183,7 @@ spans_start {names = names} {v = v} {a = a} vs row end align none e one = record
   positive = omega arith;
   tag = λ z ez. let same : 1 ≡ z = cc in omega (arith, same);
   row_fits = λ m g e q k x at. absurd (let at_none : IsAt [] k x = subst (λ r. IsAt r k x) none at in omega (arith, at_none.below));
-  lays = λ m l g n. ((1, omega arith, e ∙ sym (fits_some 1 (omega arith)), omega (arith, ends_positive l vs)), omega (arith, variants_positive l vs));
+  lays = λ m l g n. ((1, omega arith, e ∙ sym (fits_some 1 (omega arith)), omega (arith, ends_positive l vs)), omega (arith, variants_align_pos l vs));
   stand = λ s shapes m g t given z ez k x at. absurd (let at_none : IsAt [] k x = subst (λ r. IsAt r k x) none at in omega (arith, at_none.below));
   others = λ k. let i : length row + k ≡ k = omega (arith, ap length none) in ap (variant_at vs) i;
 }
