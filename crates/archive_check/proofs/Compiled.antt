@@ -21,11 +21,11 @@ use Rattle.archive_check.specs.Queued.{Waits}
 use Rattle.archive_check.specs.Growing.{node_of, Lists, IsMade}
 use Rattle.archive_check.specs.Compiled.{Follows, Knows, Settled, Given, MadeTo, Compiled, PartFits, CompiledParts, CompiledVariants}
 use Rattle.archive_check.proofs.Compilable.{can_parts, can_choice, can_array}
-use Rattle.archive_check.proofs.Runs.{plain_walk}
+use Rattle.archive_check.proofs.PlainRuns.{plain_walk}
 use Rattle.archive_check.proofs.Fitting.{fits_some, round_up, some_is, rounded_fits, rounded_some, times_none, times_fits}
-use Rattle.archive_check.proofs.GoingOn.{at_more, goes_longer, grows_trans, pushed_grows}
+use Rattle.archive_check.proofs.GrowingPlans.{at_more, goes_longer, grows_trans, pushed_grows}
 use Rattle.archive_check.proofs.Elements.{same_at, at_dropped, at_taken}
-use Rattle.archive_check.proofs.Adding.{knows_settled, adds_refl, compiled_made, stands_of}
+use Rattle.archive_check.proofs.AddedNodes.{knows_settled, adds_refl, compiled_made, stands_of}
 use Rattle.archive_check.proofs.FreeWalks.{kind_few, empty_plain, AnyBytes, any_stands, any_parts, any_run}
 use Rattle.std.proofs.Math.Nat.{eq_of_mul-eq-mul_right, zero-mul}
 

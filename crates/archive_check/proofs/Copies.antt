@@ -1,4 +1,4 @@
--- Lists of copies.
+-- Lists of expressions of which the first are copied already.
 use Rattle.std.proofs.Common.{◌≡◌, ℕ, ◌+◌, ◌<◌, ◌≤◌, List, [], ◌∷◌, ◌++◌, length, drop, get_or, Vec, Global, sym, ap, ◌∙◌}
 use Rattle.std.proofs.lemmas.List.{drop_all, append-nil}
 use Rattle.archive_check.specs.declared.expr.Expr.{Expr}

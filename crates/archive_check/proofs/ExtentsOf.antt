@@ -19,8 +19,8 @@ use Rattle.archive_check.specs.Fitting.{fits, rounded, sum_of, greater_of}
 use Rattle.archive_check.specs.Growing.{node_of}
 use Rattle.archive_check.specs.Extents.{Ends, HasExtent, PartsSoFar, VariantsSoFar}
 use Rattle.archive_check.proofs.Fitting.{fits_some, rounded_fits, sum_fits, greater_fits}
-use Rattle.archive_check.proofs.Rows.{ends_positive}
-use Rattle.archive_check.proofs.Positive.{parts_align_pos, variants_align_pos}
+use Rattle.archive_check.proofs.CompiledParts.{ends_positive}
+use Rattle.archive_check.proofs.PositiveAlignments.{parts_align_pos, variants_align_pos}
 
 -- what ends nowhere is too large
 pub pointer_fits : (P : Pointee) → fits (pointer_size P) ≡ Some (pointer_size P)

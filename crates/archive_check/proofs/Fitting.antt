@@ -1,4 +1,4 @@
--- What fits, and what none does.
+-- Which sizes fit into 64 bits, and what is computed from them.
 use Rattle.std.proofs.Common.{◌≡◌, ⊎_elim, ℕ, zero, suc, refl, sym, ap, ap₂, ◌∙◌, ◌+◌, ◌*◌, ◌<◌, ◌≤◌, max, arith, Option, Some, None, mul_comm}
 use Rattle.std.proofs.lemmas.Bool.Decides.{nat_tests}
 use Rattle.std.proofs.lemmas.Bool.{cases_lt}

@@ -14,7 +14,7 @@ use Rattle.archive_check.specs.Walk.{Walk, walk_named, WalkParts, walk_no_part, 
 use Rattle.archive_check.specs.Runs.{IsAt, IsNode}
 use Rattle.archive_check.specs.Represents.{Stands, stands, stands_named, PartsStand, parts_over, parts_more, Made, made_free}
 use Rattle.archive_check.specs.Compiled.{MadeTo}
-use Rattle.archive_check.proofs.Inside.{parts_end_le}
+use Rattle.archive_check.proofs.PartsInside.{parts_end_le}
 use Rattle.archive_check.proofs.Elements.{same_at}
 
 few_bytes : (w : Width) → (1 ≤ byte_len w) × (byte_len w ≤ 16)

@@ -15,7 +15,7 @@ use Rattle.archive_check.specs.Layout.{kind_size}
 use Rattle.archive_check.specs.Reads.{bytes_at, u32_at, kind_number, IsLegal, IsLegalNumber, kind_value}
 use Rattle.archive_check.specs.LittleEndian.{AreBytes}
 use Rattle.archive_check.proofs.BytesAt.{bytes_one, byte_in}
-use Rattle.archive_check.proofs.Edits.{bytes_long}
+use Rattle.archive_check.proofs.EditedBytes.{bytes_long}
 use Rattle.archive_check.proofs.LittleEndian.{some_byte, from_le_bytes-one, with_sign-one}
 use Rattle.std.proofs.Math.Nat.{eq_of_mul-eq-mul_right, one-le-pow, zero-mul}
 

@@ -1,4 +1,4 @@
--- Names with their nodes, and definitions.
+-- The nodes of names, counted before the definitions are compiled.
 use Rattle.std.proofs.Common.{◌≡◌, inl, inr, ⊎_elim, ℕ, zero, suc, refl, sym, ap, ◌∙◌, subst, ◌+◌, ◌<◌, ◌≤◌, arith, List, [], ◌∷◌, ◌++◌, length, take, drop, is_some, IsSome, Bool, true, false, cond, bytes_eq, Option, Some, None, length-append}
 use Rattle.archive_check.specs.declared.defs.Def.{Def}
 use Rattle.archive_check.specs.declared.growing.Known.{Known}
@@ -11,7 +11,7 @@ use Rattle.archive_check.specs.Numbered.{def_shapes, start_of, FirstAt, IsRootOf
 use Rattle.archive_check.specs.Compilable.{Can}
 use Rattle.archive_check.specs.Planned.{DefsInOrder, InOrder, CanChain}
 use Rattle.std.proofs.lemmas.List.{take-append-drop, length-take, length-take-le}
-use Rattle.archive_check.proofs.GoingOn.{at_more, at_less}
+use Rattle.archive_check.proofs.GrowingPlans.{at_more, at_less}
 use Rattle.archive_check.proofs.Elements.{at_last, at_taken, same_at, some_at}
 
 at_tail : {A : Type 0} {x y : A} {xs : List A} {i : ℕ} → IsAt (y ∷ xs) (suc i) x → IsAt xs i x

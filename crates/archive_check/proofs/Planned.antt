@@ -21,11 +21,11 @@ use Rattle.archive_check.specs.Compilable.{Can}
 use Rattle.archive_check.specs.Compiled.{Follows, Below, Knows, Settled, Given, ClosedTo, MadeTo, Compiled}
 use Rattle.archive_check.specs.Numbered.{def_shapes, start_of, FirstAt, IsRootOf, IsNumbered}
 use Rattle.archive_check.specs.Planned.{IsOf, IsPlan, HasNames, InOrder, Kept, Chained, CanFinish, Finishes}
-use Rattle.archive_check.proofs.GoingOn.{same_goes, at_more, goes_longer, grows_trans}
+use Rattle.archive_check.proofs.GrowingPlans.{same_goes, at_more, goes_longer, grows_trans}
 use Rattle.archive_check.proofs.Elements.{same_at, some_at, at_behind, at_end}
-use Rattle.archive_check.proofs.Adding.{given_first, given_second, stands_of}
+use Rattle.archive_check.proofs.AddedNodes.{given_first, given_second, stands_of}
 use Rattle.archive_check.proofs.Numbered.{def_at, def_count, can_chain, can_root, all_before, start_next, start_later, start_prefix, start_behind, first_at, definition_is, numbered_known}
-use Rattle.archive_check.proofs.Chained.{root_same, compiled_same, chained_next}
+use Rattle.archive_check.proofs.CompiledChain.{root_same, compiled_same, chained_next}
 
 layout_sized : {m : Checker} {j : ℕ} (l : Layouts) (name : Name) (X : Shape) → l name ≡ layout l X → Sized m j (size_of l X) (align_of l X) → Sized m j (l name).size (l name).align
 layout_sized l name X e t = record { node = t.node; at = t.at; size_is = t.size_is ∙ ap (λ w. fits w.size) (sym e); align_is = t.align_is ∙ ap (λ w. w.align) (sym e) }

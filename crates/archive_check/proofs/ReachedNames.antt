@@ -10,8 +10,8 @@ use Rattle.archive_check.specs.Defined.{holds_name, Mentions, mentions_held, men
 use Rattle.archive_check.specs.Walk.{Walk, walk_leaf, walk_parts, walk_choice, walk_array, walk_boxed, walk_vec, walk_inline, walk_out_of_line, walk_shared, walk_null, walk_weak, walk_named, WalkParts, walk_no_part, walk_part, WalkRun, walk_none, walk_element, Follow, follow_unique, follow_new, follow_again, Enter, enter, WalkContents, walk_one, walk_run, walk_text, RootWalk}
 use Rattle.archive_check.specs.Trail.{Fault, too_large, outside, unaligned, too_deep, Trips, trips_leaf, trips_parts, trips_tag, trips_choice, trips_array, trips_boxed, trips_vec, trips_inline, trips_short, trips_out_of_line, trips_shared, trips_weak, trips_named, TripsParts, trips_first, trips_later, TripsRun, trips_element, trips_later_element, TripsFollow, trips_unique, trips_before, trips_new, trips_type, trips_length, trips_cycle, TripsEnter, trips_size, trips_range, trips_align, trips_depth, trips_within, TripsContents, trips_one, trips_run, trips_text, RootTrips}
 use Rattle.archive_check.proofs.AcceptedWalks.{walked, walks}
-use Rattle.archive_check.proofs.Layouts.{align_same, size_same}
-use Rattle.archive_check.proofs.Placed.{reaches_next}
+use Rattle.archive_check.proofs.SameLayouts.{align_same, size_same}
+use Rattle.archive_check.proofs.LaidOutNames.{reaches_next}
 
 -- the schemas say the same of the name
 pub record SameName (s s' : Schema) (name : Name) : Type 0 where

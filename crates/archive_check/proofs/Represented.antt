@@ -1,4 +1,4 @@
--- What a run over a plan says, its shapes walk or trip over.
+-- A run over a plan goes as a walk of the shapes that its nodes stand for, or comes to the same fault.
 use Rattle.std.proofs.Common.{◌≡◌, ◌≢◌, ◌⊎◌, inl, inr, ℕ, ℤ, pos, ◌+ℤ◌, refl, sym, ap, ◌∙◌, ◌+◌, ◌-◌, ◌*◌, ◌%◌, ◌<◌, ◌≤◌, ◌^◌, arith, List, ◌∷◌, length, length-take-le, drop, slice_index, Option, Some, None, suc, zero, false, Bor, IsUtf8, IsTrue, Contains}
 use Rattle.std.specs.FinMap.{get, insert}
 use Rattle.std.specs.Int.{Width, w8, w16, w32, w64, w128, byte_len}
@@ -24,7 +24,7 @@ use Rattle.archive_check.specs.Met.{SameType}
 use Rattle.archive_check.specs.Runs.{target_size, count_at, length_of, entry_for, IsAt, IsNode, Takes, RegionIs, Outcome, done, refused, NodeRuns, run_free, run_leaf, run_illegal, run_record, run_choice, run_tag, run_array, run_pointer, run_inline, run_no_text, run_short, run_out_of_line, run_shared, run_null, run_weak, FollowRuns, follow_before, follow_new as runs_new, follow_again as runs_again, follow_type, follow_length, follow_cycle, PartsRun, parts_end, parts_next, parts_stop, ElementsRun, elements_end, elements_next, elements_free, elements_stop, EnterRuns, enter_too_large, enter_outside, enter_unaligned, enter_too_deep, enter_within, enter_stop, ContentsRun, contents_empty, contents_one, contents_run, contents_text, contents_no_text}
 use Rattle.archive_check.specs.Closed.{JobFits, IsClosed}
 use Rattle.archive_check.specs.Represents.{Stands, stands, stands_named, PartsStand, parts_over, parts_more, Sized, Points, points_one, points_run, points_text, Made, made_free, made_leaf, made_record, made_choice, made_array, made_boxed, made_vec, made_str, made_shared, made_weak, Represents, Says}
-use Rattle.archive_check.proofs.Determined.{pos_one}
+use Rattle.archive_check.proofs.OneReading.{pos_one}
 use Rattle.archive_check.proofs.PlanSizes.{take_same, times_some, times_many, sized_takes, element_few}
 use Rattle.archive_check.proofs.Elements.{same_at}
 use Rattle.archive_check.proofs.LittleEndian.{some_byte}

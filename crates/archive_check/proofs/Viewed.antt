@@ -15,11 +15,11 @@ use Rattle.archive_check.specs.Denotes.{Meaning, Denotes}
 use Rattle.archive_check.specs.Reached.{Reached}
 use Rattle.archive_check.specs.Definitions.{Definitions, Knows}
 use Rattle.archive_check.specs.Viewed.{Lies, Viewed, Says}
-use Rattle.archive_check.proofs.Closed.{part_reached, pointer_reached, root_reached}
-use Rattle.archive_check.proofs.Determined.{contents_one_value}
-use Rattle.archive_check.proofs.Denoted.{fills_one}
-use Rattle.archive_check.proofs.Inside.{within_inside}
-use Rattle.archive_check.proofs.Apart.{before_end_le, bytes_few}
+use Rattle.archive_check.proofs.ReachedParts.{part_reached, pointer_reached, root_reached}
+use Rattle.archive_check.proofs.OneReading.{contents_one_value}
+use Rattle.archive_check.proofs.OneMeaning.{fills_one}
+use Rattle.archive_check.proofs.PartsInside.{within_inside}
+use Rattle.archive_check.proofs.RegionsApart.{before_end_le, bytes_few}
 
 module _ (s : Schema) (bytes : List ℕ) where
   -- the region's pointee lies in the buffer

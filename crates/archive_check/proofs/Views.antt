@@ -1,4 +1,4 @@
--- The equations of the views at the variants that hold a `Vec`.
+-- What expressions of records and choices stand for, item by item of their vectors.
 use Rattle.std.proofs.Common.{◌≡◌, ℕ, ◌+◌, ◌<◌, ◌≢◌, List, [], ◌∷◌, length, drop, get_or, Bool, true, false, ◌&&◌, refl, sym, ap, ◌∙◌, subst, Vec, Global, arith, suc, zero, Bor, ◌==◌}
 use Rattle.std.specs.Cmp.Lexicographic.{pointwise}
 use Rattle.std.proofs.Math.Seq.{drop-cons, drop-length}

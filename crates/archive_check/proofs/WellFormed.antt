@@ -11,10 +11,10 @@ use Rattle.archive_check.specs.Defined.{Holds, mentions_held, Reaches, reaches, 
 use Rattle.archive_check.specs.Definitions.{Definitions, listed, Extended, Conflicts}
 use Rattle.archive_check.specs.Names.{missing, Complete, HasAll, Collected, Arranged, Prepared, ExplainsNoSchema}
 use Rattle.archive_check.proofs.Named.{names_decided, definition_here, definition_other}
-use Rattle.archive_check.proofs.Missing.{IsDefined, held_defined, mentioned_defined, none_near, none_missed}
-use Rattle.archive_check.proofs.Descent.{LeadsTo}
+use Rattle.archive_check.proofs.MissingNames.{IsDefined, held_defined, mentioned_defined, none_near, none_missed}
+use Rattle.archive_check.proofs.NamesComeBack.{LeadsTo}
 use Rattle.archive_check.proofs.Elements.{contains_cases, contains_first, contains_later}
-use Rattle.archive_check.proofs.Placed.{Ordered, ordered_none, ordered_next, ordered_never, names_of, names_of-push, names_of-nil, defined_named}
+use Rattle.archive_check.proofs.LaidOutNames.{Ordered, ordered_none, ordered_next, ordered_never, names_of, names_of-push, names_of-nil, defined_named}
 
 -- a definition that is found stands in the table, and one that stands there is found, or another one
 pub found_stands : (table : Table) (n : Name) (X : Shape) → definition table n ≡ Some X → Contains table (n, X)

@@ -13,8 +13,8 @@ use Rattle.archive_check.specs.Reached.{Names, names_product, names_case, names_
 use Rattle.archive_check.specs.Written.{after}
 use Rattle.archive_check.specs.Tidy.{Stands, AreZero, NeatPointee, neat_one}
 use Rattle.archive_check.specs.Held.{States, Held, Pads}
-use Rattle.archive_check.proofs.Compose.{tour_append}
-use Rattle.archive_check.proofs.Standing.{stands_fits, stands_zero, zero_nowhere, stands_begun}
+use Rattle.archive_check.proofs.JoinedTours.{tour_append}
+use Rattle.archive_check.proofs.StandingBytes.{stands_fits, stands_zero, zero_nowhere, stands_begun}
 use Rattle.archive_check.proofs.Tightness.{tight_append, tidy_append}
 use Rattle.archive_core.specs.Writing.{NameMap, Naming, AreNamed, World, Holds, Known, Unseen, Found, Appends, Finishes, AreFinished, AllFinished, Writes, WritesAll, Puts, Lays, to_pointee}
 

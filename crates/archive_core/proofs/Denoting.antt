@@ -7,9 +7,9 @@ use Rattle.archive_check.specs.Tour.{Entry, Seen}
 use Rattle.archive_check.specs.Denotes.{Knows, Same, rename}
 use Rattle.archive_check.specs.Reached.{Names, LeadsTo, leads_at_once, leads_through}
 use Rattle.archive_check.specs.Held.{States}
-use Rattle.archive_check.proofs.Determined.{contents_one_value}
-use Rattle.archive_check.proofs.Denoted.{fills_one}
-use Rattle.archive_check.proofs.Sameness.{rename_again, rename_stays}
+use Rattle.archive_check.proofs.OneReading.{contents_one_value}
+use Rattle.archive_check.proofs.OneMeaning.{fills_one}
+use Rattle.archive_check.proofs.SameMeanings.{rename_again, rename_stays}
 use Rattle.archive_check.proofs.Seen.{same_some}
 use Rattle.archive_core.specs.Writing.{NameMap, Naming, AreNamed, HasKeys, IsKeyed, AreKeys, World, Found, AreFinished}
 

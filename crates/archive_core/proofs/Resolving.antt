@@ -8,7 +8,7 @@ use Rattle.archive_check.specs.Definitions.{Definitions}
 use Rattle.archive_check.specs.Value.{number}
 use Rattle.archive_check.specs.Reads.{bytes_at, IsLegal, kind_number, kind_value, with_sign, Reads, reads_leaf}
 use Rattle.archive_check.specs.Tidy.{neat_leaf}
-use Rattle.archive_check.proofs.Standing.{stands_bytes}
+use Rattle.archive_check.proofs.StandingBytes.{stands_bytes}
 use Rattle.archive_check.specs.LittleEndian.{little_bytes, little_number}
 use Rattle.archive_num.specs.Digits.{is_zero}
 use Rattle.archive_check.proofs.LittleEndian.{length-little_bytes}

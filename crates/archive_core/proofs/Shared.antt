@@ -13,7 +13,7 @@ use Rattle.archive_check.specs.Reached.{names_itself}
 use Rattle.archive_check.specs.Written.{after}
 use Rattle.archive_check.specs.Tidy.{Stands, AreZero, IsZeroed, NeatPointee}
 use Rattle.archive_check.specs.Held.{States, Held}
-use Rattle.archive_check.proofs.Standing.{stands_fits, stands_zero, stands_begun}
+use Rattle.archive_check.proofs.StandingBytes.{stands_fits, stands_zero, stands_begun}
 use Rattle.archive_check.proofs.Tightness.{tight_append, tidy_append}
 use Rattle.archive_check.proofs.Elements.{contains_cases, contains_later}
 use Rattle.archive_check.proofs.Seen.{same_some, inserted_has, inserted_apart}

@@ -18,7 +18,7 @@ use Rattle.archive_num.specs.Digits.{is_zero}
 use Rattle.archive_check.specs.Value.{number as number_value}
 use Rattle.archive_check.specs.Definitions.{Definitions}
 use Rattle.archive_check.specs.Viewed.{Says}
-use Rattle.archive_check.proofs.Said.{leaf_says}
+use Rattle.archive_check.proofs.ViewedValues.{leaf_says}
 use Rattle.archive_check.specs.Readable.{Readable, readable_leaf, readable_text, readable_inline, readable_out_of_line, position, target_from}
 
 -- leaves

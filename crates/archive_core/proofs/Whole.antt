@@ -16,11 +16,11 @@ use Rattle.archive_check.specs.Told.{Told}
 use Rattle.archive_check.specs.Held.{States, Held, held}
 use Rattle.archive_check.specs.declared.error.Error.{Error}
 use Rattle.archive_core.specs.Plans.{Stand, IsAt, region_place, one_plan}
-use Rattle.archive_check.proofs.Positive.{align_pos}
-use Rattle.archive_check.proofs.Exists.{has_meaning}
-use Rattle.archive_check.proofs.Denoted.{tours_one}
-use Rattle.archive_check.proofs.Standing.{stands_zero, zero_nowhere, stands_begun}
-use Rattle.archive_check.proofs.Cleaning.{tidy_clean}
+use Rattle.archive_check.proofs.PositiveAlignments.{align_pos}
+use Rattle.archive_check.proofs.SomeMeaning.{has_meaning}
+use Rattle.archive_check.proofs.OneMeaning.{tours_one}
+use Rattle.archive_check.proofs.StandingBytes.{stands_zero, zero_nowhere, stands_begun}
+use Rattle.archive_check.proofs.TidyIsClean.{tidy_clean}
 use Rattle.archive_check.proofs.Tightness.{tight_append, tidy_append, ArePositive, positive_append, sized_append, tour_positive, tour_sized, rising_lower, tight_rises}
 use Rattle.archive_check.proofs.AcceptedWalks.{reads_of}
 use Rattle.archive_core.specs.Writing.{Naming, IsKeyed, World, Holds, Known as KnownKeys, Unseen, Found, Appends, Lays, Archives}

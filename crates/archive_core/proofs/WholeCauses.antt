@@ -5,7 +5,7 @@ use Rattle.archive_check.specs.Layout.{Layout, up}
 use Rattle.archive_check.specs.Told.{Told}
 use Rattle.archive_check.specs.Held.{States, held, Pads}
 use Rattle.archive_check.specs.declared.error.Error.{Error}
-use Rattle.archive_check.proofs.Inside.{up_le}
+use Rattle.archive_check.proofs.PartsInside.{up_le}
 use Rattle.archive_write.specs.Written.{padding, ExplainsRefusal}
 use Rattle.archive_core.specs.Plans.{Stand, IsAt, GoesOn, Explains, HindersRegion, HindersWhole, region_place, one_plan, IsOfWriting, of_layout}
 use Rattle.archive_core.proofs.Causes.{explains_write, explains_sooner, explains_later}

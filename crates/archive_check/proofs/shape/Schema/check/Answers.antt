@@ -1,7 +1,7 @@
 use Rattle.std.proofs.Common.{◌≡◌, ◌⊎◌, inl, inr, ⊎_elim, length, arith, sym, ap, ◌∙◌, ◌<◌, Ok, Err, subst}
 use Rattle.archive_check.specs.declared.plan.Checker.{Checker}
 use Rattle.archive_check.specs.Planned.{IsOf}
-use Rattle.archive_check.proofs.Suiting.{plan_accepts, plan_refuses, plan_exact, plan_known, plan_closed}
+use Rattle.archive_check.proofs.SuitableSchemas.{plan_accepts, plan_refuses, plan_exact, plan_known, plan_closed}
 use Rattle.archive_check.proofs.shape.Schema.check.Goals as goal
 
 pub check-requires-clause-closed : goal.check-requires-clause-closed

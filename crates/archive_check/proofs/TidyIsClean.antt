@@ -1,0 +1,162 @@
+-- A tight and tidy list of regions is clean.
+use Rattle.std.proofs.Common.{◌≡◌, inl, inr, ℕ, zero, suc, pos, ◌+◌, ◌*◌, ◌<◌, ◌≤◌, List, [], ◌∷◌, length, slice_index, Some, refl, ap, subst, arith, Contains}
+use Rattle.std.proofs.lemmas.Bool.{cases_lt}
+use Rattle.archive_check.specs.Shape.{Name, Flavor, Shape, parts, choice, array, str, weak, named, Pointee, one, run, text, Parts, Variants, definition, variant_at}
+use Rattle.archive_check.specs.Layout.{up, size_of, align_of, Solves}
+use Rattle.archive_check.specs.Reads.{Schema, i32_at, length_at, IsOutOfLine}
+use Rattle.archive_check.specs.Tour.{Region, pointee_size}
+use Rattle.archive_check.specs.Within.{IsPart, first_part, later_part, Within, whole, in_parts, in_choice, in_array, in_named, PartOf, whole_region, in_one, in_run, in_string, PartOfSome}
+use Rattle.archive_check.specs.Written.{after, Tight, own_size, Owned, owned_part, owned_text, Clean}
+use Rattle.archive_check.specs.Tidy.{IsFilled, Neat, neat_leaf, neat_parts, neat_choice, neat_array, neat_boxed, neat_vec, neat_inline, neat_out_of_line, neat_shared, neat_null, neat_weak, neat_named, NeatParts, neat_no_part, neat_part, NeatRun, neat_none, neat_element, NeatPointee, neat_one, neat_run, neat_text, Tidy}
+use Rattle.archive_check.proofs.ReachedParts.{within_trans}
+
+abbrev pub AreSized : Schema → List Region → Type 0
+AreSized s [] = Unit {0}
+AreSized s (r ∷ C) = (r.size ≡ pointee_size s r.pointee r.length) × AreSized s C
+
+module _ (s : Schema) (bytes : List ℕ) where
+  -- each part of what is neat is neat
+
+  part_neat : {p at stop q : ℕ} {ps : Parts} {Y : Shape} → NeatParts s bytes p at ps stop → IsPart s p at ps q Y → Neat s bytes q Y
+  part_neat (neat_no_part z) i = elim i [ ]
+  part_neat (neat_part z h i) first_part = h
+  part_neat (neat_part z h i) (later_part j) = part_neat i j
+
+  run_neat : {p n k : ℕ} {X : Shape} → NeatRun s bytes p n X → k < n → Neat s bytes (p + k * size_of s.layouts X) X
+  run_neat neat_none less = absurd (omega arith)
+  run_neat {p = p} {k = zero} {X = X} (neat_element h i) less = subst (λ q. Neat s bytes q X) (omega arith) h
+  run_neat {p = p} {k = suc k} {X = X} (neat_element h i) less = subst (λ q. Neat s bytes q X) (omega arith) (run_neat {k = k} i (omega arith))
+
+  of_parts : {p : ℕ} {ps : Parts} → Neat s bytes p (parts ps) → NeatParts s bytes p 0 ps (p + size_of s.layouts (parts ps))
+  of_parts (neat_parts h) = h
+
+  of_choice : {p : ℕ} {name : Name} {variants : Variants} {ps : Parts} → Neat s bytes p (choice name variants) → variant_at variants (slice_index bytes p) ≡ Some ps → NeatParts s bytes p 1 ps (p + size_of s.layouts (choice name variants))
+  of_choice {ps = ps} (neat_choice {ps = qs} e h) d = let same : qs ≡ ps = cc in rw same at h
+
+  of_array : {p n : ℕ} {X : Shape} → Neat s bytes p (array n X) → NeatRun s bytes p n X
+  of_array (neat_array h) = h
+
+  of_named : {p : ℕ} {name : Name} {Y : Shape} → Neat s bytes p (named name) → definition s.table name ≡ Some Y → Neat s bytes p Y
+  of_named {Y = Y} (neat_named {X = X} d h) e = let same : X ≡ Y = cc in rw same at h
+
+  neat_within : {p : ℕ} {X : Shape} {q : ℕ} {Y : Shape} → Neat s bytes p X → Within s bytes p X q Y → Neat s bytes q Y
+  neat_within h whole = h
+  neat_within h (in_parts w i) = part_neat (of_parts (neat_within h w)) i
+  neat_within h (in_choice w e i) = part_neat (of_choice (neat_within h w) e) i
+  neat_within h (in_array w k) = run_neat (of_array (neat_within h w)) k
+  neat_within h (in_named w d) = of_named (neat_within h w) d
+
+  -- what belongs to nothing is 0
+
+  abbrev Free : ℕ → ℕ → Shape → Type 0
+  Free i p X = (q : ℕ) (Y : Shape) → Within s bytes p X q Y → q ≤ i → i < q + own_size Y → ⊥
+
+  module _ (solves : Solves s.table s.layouts) where
+    mutual
+      neat_zero : {p : ℕ} {X : Shape} (i : ℕ) → Neat s bytes p X → p ≤ i → i < p + size_of s.layouts X → Free i p X → slice_index bytes i ≡ 0
+      neat_zero i neat_leaf above below free = absurd (free _ _ whole above below)
+      neat_zero i (neat_parts {p = p} {ps = ps} h) above below free = parts_zero i h (omega arith) below (λ q Y j. λ r Z w. free r Z (within_trans s bytes (in_parts whole j) w))
+      neat_zero i (neat_choice {p = p} {name = name} {variants = vs} {ps = ps} e h) above below free =
+          elim (cases_lt p i) [
+            | inl later ↦ parts_zero i h (omega arith) below (λ q Y j. λ r Z w. free r Z (within_trans s bytes (in_choice whole e j) w))
+            | inr same ↦ absurd (free p (choice name vs) whole above (omega arith))
+          ]
+      neat_zero i (neat_array {n = n} {X = X} h) above below free = run_zero i n 0 h above below (λ k less. λ r Z w. free r Z (within_trans s bytes (in_array whole less) w))
+      neat_zero i neat_boxed above below free = absurd (free _ _ whole above below)
+      neat_zero i neat_vec above below free = absurd (free _ _ whole above below)
+      neat_zero i (neat_inline o f) above below free = absurd (free _ _ whole above below)
+      neat_zero i (neat_out_of_line o) above below free = absurd (free _ _ whole above below)
+      neat_zero i neat_shared above below free = absurd (free _ _ whole above below)
+      neat_zero i (neat_null e f) above below free = absurd (free _ _ whole above below)
+      neat_zero i (neat_weak e) above below free = absurd (free _ _ whole above below)
+      neat_zero i (neat_named {name = name} {X = X} d h) above below free =
+          let same = ap (λ l. l.size) (solves name X d) in
+          neat_zero i h above (omega (arith, same)) (λ r Z w. free r Z (within_trans s bytes (in_named whole d) w))
+
+      parts_zero : {p at stop : ℕ} {ps : Parts} (i : ℕ) → NeatParts s bytes p at ps stop → p + at ≤ i → i < stop
+          → ((q : ℕ) (Y : Shape) → IsPart s p at ps q Y → Free i q Y) → slice_index bytes i ≡ 0
+      parts_zero i (neat_no_part z) above below free = z.zero_at i above below
+      parts_zero i (neat_part {p = p} {at = at} {X = X} z h j) above below free =
+          elim (cases_lt i (p + up at (align_of s.layouts X))) [
+            | inl before ↦ z.zero_at i above before
+            | inr behind ↦ elim (cases_lt i (p + up at (align_of s.layouts X) + size_of s.layouts X)) [
+              | inl here ↦ neat_zero i h behind here (free _ X first_part)
+              | inr later ↦ parts_zero i j (omega arith) below (λ q Y k. free q Y (later_part k))
+            ]
+          ]
+
+      run_zero : {p : ℕ} {X : Shape} (i n m : ℕ) → NeatRun s bytes p n X → p ≤ i → i < p + n * size_of s.layouts X
+          → ((k : ℕ) → k < n → Free i (p + k * size_of s.layouts X) X) → slice_index bytes i ≡ 0
+      run_zero i zero m neat_none above below free = absurd (omega arith)
+      run_zero {p = p} {X = X} i (suc n) m (neat_element h j) above below free =
+          elim (cases_lt i (p + size_of s.layouts X)) [
+            | inl here ↦ neat_zero i h above here (subst (λ q. Free i q X) (omega arith) (free 0 (omega arith)))
+            | inr later ↦ run_zero i n m j later (omega arith) (λ k less. subst (λ q. Free i q X) (omega arith) (free (suc k) (omega arith)))
+          ]
+
+    pointee_zero : (i : ℕ) (r : Region) (P : Pointee) → r.pointee ≡ P → NeatPointee s bytes r.begin P r.length → r.begin ≤ i → i < r.begin + pointee_size s P r.length
+        → ((q : ℕ) (Y : Shape) → PartOf s bytes r q (one Y) 0 → q ≤ i → i < q + own_size Y → ⊥) → (P ≡ text → ⊥) → slice_index bytes i ≡ 0
+    pointee_zero i r (one X) is (neat_one h) above below free other = neat_zero i h above below (λ q Y w. free q Y (in_one is w))
+    pointee_zero i r (run X) is (neat_run h) above below free other = run_zero i r.length 0 h above below (λ k less. λ q Y w. free q Y (in_run is less w))
+    pointee_zero i r text is neat_text above below free other = absurd (other refl)
+
+    head_in : (r : Region) (C : List Region) → Contains (r ∷ C) r
+    head_in r C = (0, omega arith, refl)
+
+    tail_in : (r q : Region) (C : List Region) → Contains C q → Contains (r ∷ C) q
+    tail_in r q C (k, less, e) = (suc k, omega arith, e)
+
+    tidy_zero : (i start stop : ℕ) (C : List Region) → AreSized s C → Tight start C stop → Tidy s bytes start C → start ≤ i → i < stop → (Owned s bytes C i → ⊥) → slice_index bytes i ≡ 0
+    tidy_zero i start stop [] sized tight tidy above below free = absurd (omega arith)
+    tidy_zero i start stop (r ∷ C) sized tight tidy above below free =
+        elim (cases_lt i r.begin) [
+          | inl before ↦ tidy.0.zero_at i above before
+          | inr behind ↦ elim (cases_lt i (r.begin + r.size)) [
+            | inl here ↦ pointee_zero i r r.pointee refl tidy.1 behind (omega (arith, sized.0))
+                (λ q Y w a b. free (owned_part (r, head_in r C, w) a b))
+                (λ e. free (owned_text (head_in r C) e behind (let same : pointee_size s r.pointee r.length ≡ r.length = ap (λ P. pointee_size s P r.length) e in omega (arith, sized.0))))
+            | inr later ↦ elim (cases_lt i (after r)) [
+              | inl gap ↦ tidy.2.zero_at i later gap
+              | inr next ↦ tidy_zero i (after r) stop C sized.1 tight.1 tidy.3 next below (λ o. free (owned_later r C i o))
+            ]
+          ]
+        ]
+      where
+        owned_later : (r : Region) (C : List Region) (i : ℕ) → Owned s bytes C i → Owned s bytes (r ∷ C) i
+        owned_later r C i (owned_part (q, c, w) a b) = owned_part (q, tail_in r q C c, w) a b
+        owned_later r C i (owned_text {r = q} c e a b) = owned_text (tail_in r q C c) e a b
+
+    region_neat : (start : ℕ) (C : List Region) (r : Region) → Contains C r → Tidy s bytes start C → NeatPointee s bytes r.begin r.pointee r.length
+    region_neat start [] r (k, less, e) tidy = absurd (omega arith)
+    region_neat start (q ∷ C) r (zero, less, e) tidy = rw e at tidy.1
+    region_neat start (q ∷ C) r (suc k, less, e) tidy = region_neat (after q) C r (k, omega arith, e) tidy.3
+
+    neat_of_one : {t n : ℕ} {X : Shape} → NeatPointee s bytes t (one X) n → Neat s bytes t X
+    neat_of_one (neat_one h) = h
+
+    neat_of_run : {t n : ℕ} {X : Shape} → NeatPointee s bytes t (run X) n → NeatRun s bytes t n X
+    neat_of_run (neat_run h) = h
+
+    part_of_neat : {r : Region} {q n : ℕ} {P : Pointee} {Y : Shape} → NeatPointee s bytes r.begin r.pointee r.length → PartOf s bytes r q P n → P ≡ one Y → Neat s bytes q Y
+    part_of_neat h whole_region e = neat_of_one (rw e at h)
+    part_of_neat {Y = Y} h (in_one {Y = Z} e w) f = let same : Z ≡ Y = cc in rw same at (neat_within (neat_of_one (rw e at h)) w)
+    part_of_neat {Y = Y} h (in_run {Y = Z} e less w) f = let same : Z ≡ Y = cc in rw same at (neat_within (run_neat (neat_of_run (rw e at h)) less) w)
+    part_of_neat h (in_string w inline) e = cc e
+
+    reached_neat : (start : ℕ) (C : List Region) (q : ℕ) (Y : Shape) → Tidy s bytes start C → PartOfSome s bytes C q (one Y) 0 → Neat s bytes q Y
+    reached_neat start C q Y tidy (r, c, w) = part_of_neat (region_neat start C r c tidy) w refl
+
+    string_filled : {q : ℕ} → Neat s bytes q str → (IsOutOfLine bytes q → ⊥) → IsFilled bytes q
+    string_filled (neat_inline o f) inline = f
+    string_filled (neat_out_of_line o) inline = absurd (inline o)
+
+    null_empty : {q : ℕ} {P : Pointee} {flavor : Flavor} → Neat s bytes q (weak flavor P) → i32_at bytes q ≡ pos 1 → length_at bytes q P ≡ 0
+    null_empty (neat_null d h) e = h
+    null_empty (neat_weak n) e = absurd (n e)
+
+    pub tidy_clean : (start : ℕ) (C : List Region) → AreSized s C → Tight start C (length bytes) → Tidy s bytes start C → Clean s bytes start C
+    tidy_clean start C sized tight tidy = record {
+      padding = λ i above below free. tidy_zero i start (length bytes) C sized tight tidy above below free;
+      strings = λ q i above there inline few less. (string_filled (reached_neat start C q str tidy there) inline).filled i few less;
+      nulls = λ q flavor P above there e. null_empty (reached_neat start C q (weak flavor P) tidy there) e;
+    }
