@@ -22,11 +22,12 @@ use Rattle.archive_check.specs.Growing.{node_of, Lists, IsMade}
 use Rattle.archive_check.specs.Compiled.{Follows, Knows, Settled, Given, MadeTo, Compiled, PartFits, CompiledParts, CompiledVariants}
 use Rattle.archive_check.proofs.Compilable.{can_parts, can_choice, can_array}
 use Rattle.archive_check.proofs.PlainRuns.{plain_walk}
-use Rattle.archive_check.proofs.Fitting.{fits_some, round_up, some_is, rounded_fits, rounded_some, times_none, times_fits}
+use Rattle.archive_check.proofs.Fitting.{fits_some, some_is, rounded_fits, rounded_some, times_none, times_fits}
 use Rattle.archive_check.proofs.GrowingPlans.{at_more, goes_longer, grows_trans, pushed_grows}
 use Rattle.archive_check.proofs.Elements.{same_at, at_dropped, at_taken}
 use Rattle.archive_check.proofs.AddedNodes.{knows_settled, adds_refl, compiled_made, stands_of}
 use Rattle.archive_check.proofs.FreeWalks.{kind_few, empty_plain, AnyBytes, any_stands, any_parts, any_run}
+use Rattle.archive_check.proofs.PartsInside.{up_le}
 use Rattle.std.proofs.Math.Nat.{eq_of_mul-eq-mul_right, zero-mul}
 
 -- a leaf
@@ -98,7 +99,7 @@ module _ {names : List Known} {done : ℕ} {v w : Waits} {a b c : Lists} where
       let lays = f.lays m s.layouts over (knows_settled done t) in
       let whole : q.0 ≡ parts_end s.layouts 0 ps = sym (some_is (sym lays.0 ∙ q.1)) in
       made_free (λ bytes pending depth stop p start seen le. walk_parts (any_parts k t.laid_out (f.stand s shapes m over t given q.0 q.1) (parts_are_free f over k q.1 q.2 h) bytes pending depth stop p start seen
-      (omega (arith, round_up (parts_end s.layouts 0 ps) laid.align f.positive, ap (λ x. up (parts_end s.layouts 0 ps) x) lays.1, le)))))
+      (omega (arith, up_le (parts_end s.layouts 0 ps) laid.align f.positive, ap (λ x. up (parts_end s.layouts 0 ps) x) lays.1, le)))))
       (λ s shapes m g t given z e pos. let q = split z e in made_record (f.stand s shapes m (grows_trans grown g) t given q.0 q.1))
 
   -- variants

@@ -1,7 +1,7 @@
--- What is seen after one position more.
+-- What a map by position has, with one entry more.
 use Rattle.std.proofs.Common.{◌≡◌, ℕ, Option, Some, None, Bool, true, false, cond, nat_cmp, refl, ap, ◌∙◌}
 use Rattle.std.proofs.lemmas.Bool.{false_from_ne_true}
-use Rattle.std.specs.FinMap.{get, insert, get-insert, nat_cmp-IsAntisymmetric}
+use Rattle.std.specs.FinMap.{FinMap, get, insert, get-insert, nat_cmp-IsAntisymmetric}
 use Rattle.std.specs.Cmp.{nat_cmp_total, eq_by_cmp_equiv, Equal-is}
 use Rattle.std.specs.Ordering.{eq_by_cmp}
 use Rattle.archive_check.specs.Tour.{Entry, Seen}
@@ -14,11 +14,11 @@ same_some e = cc
 pub same_key : (q t : ℕ) → eq_by_cmp nat_cmp q t ≡ true → q ≡ t
 same_key q t e = nat_cmp-IsAntisymmetric q t ((Equal-is (nat_cmp q t)).0 e)
 
-pub inserted_has : (seen : Seen) (t : ℕ) (e : Entry) → get (insert seen t e) t ≡ Some e
-inserted_has seen t e = get-insert nat_cmp_total seen t e t ∙ ap (λ b. cond b (Some e) (get seen t)) ((eq_by_cmp_equiv nat_cmp_total).refl t)
+pub inserted_has : {X : Type 0} (m : FinMap nat_cmp X) (t : ℕ) (x : X) → get (insert m t x) t ≡ Some x
+inserted_has m t x = get-insert nat_cmp_total m t x t ∙ ap (λ b. cond b (Some x) (get m t)) ((eq_by_cmp_equiv nat_cmp_total).refl t)
 
-pub inserted_apart : (seen : Seen) (t q : ℕ) (e : Entry) → (q ≡ t → ⊥) → get (insert seen t e) q ≡ get seen q
-inserted_apart seen t q e other = get-insert nat_cmp_total seen t e q ∙ ap (λ b. cond b (Some e) (get seen q)) (false_from_ne_true (eq_by_cmp nat_cmp q t) (λ s. other (same_key q t s)))
+pub inserted_apart : {X : Type 0} (m : FinMap nat_cmp X) (t q : ℕ) (x : X) → (q ≡ t → ⊥) → get (insert m t x) q ≡ get m q
+inserted_apart m t q x other = get-insert nat_cmp_total m t x q ∙ ap (λ b. cond b (Some x) (get m q)) (false_from_ne_true (eq_by_cmp nat_cmp q t) (λ s. other (same_key q t s)))
 
 pub inserted_keeps : (seen : Seen) (t : ℕ) (e : Entry) (q : ℕ) (f : Entry) → get seen t ≡ None → get seen q ≡ Some f → get (insert seen t e) q ≡ Some f
 inserted_keeps seen t e q f none h = rw (get-insert nat_cmp_total seen t e q) (by_key (eq_by_cmp nat_cmp q t) refl)

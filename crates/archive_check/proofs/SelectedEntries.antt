@@ -6,8 +6,9 @@ use Rattle.std.specs.Ordering.{eq_by_cmp}
 use Rattle.archive_check.specs.Value.{Value, Values, number, product, case, list, text_value, box, null, shared_value, hole, no_value, value}
 use Rattle.archive_check.specs.Tour.{Entry}
 use Rattle.archive_check.specs.Reached.{Names, names_itself, names_product, names_case, names_list, names_box, NamesAmong, names_first, names_later, LeadsTo, leads_at_once, leads_through}
-use Rattle.archive_check.proofs.Seen.{same_key, same_some}
+use Rattle.archive_check.proofs.Seen.{same_key, same_some, inserted_has, inserted_apart}
 use Rattle.archive_check.proofs.NamesReached.{Shared}
+use Rattle.std.proofs.lemmas.Bool.{cases_eq, false_from_ne_true}
 
 -- a name is one of those
 abbrev Among : ℕ → List ℕ → Type 0
@@ -106,29 +107,11 @@ pub record Selected (all : Shared) (w : Value) : Type 0 where
   pub same : (t : ℕ) (x : Entry × Value) → get entries t ≡ Some x → LeadsTo all w t × (get all t ≡ Some x)
   pub whole : (t : ℕ) (x : Entry × Value) → LeadsTo all w t → get all t ≡ Some x → get entries t ≡ Some x
 
--- two names are one, or are apart
-data Key (t q : ℕ) : Type 0 where
-  one_key : t ≡ q → Key t q
-  apart : eq_by_cmp nat_cmp t q ≡ false → Key t q
-
-key : (t q : ℕ) → Key t q
-key t q = go (eq_by_cmp nat_cmp t q) refl
-  where
-    go : (b : Bool) → eq_by_cmp nat_cmp t q ≡ b → Key t q
-    go true is = one_key (same_key t q is)
-    go false is = apart is
-
-put_here : (m : Shared) (t : ℕ) (x : Entry × Value) → get (insert m t x) t ≡ Some x
-put_here m t x = get-insert nat_cmp_total m t x t ∙ ap (λ b. cond b (Some x) (get m t)) ((eq_by_cmp_equiv nat_cmp_total).refl t)
-
-put_apart : (m : Shared) (t u : ℕ) (x : Entry × Value) → eq_by_cmp nat_cmp u t ≡ false → get (insert m t x) u ≡ get m u
-put_apart m t u x is = get-insert nat_cmp_total m t x u ∙ ap (λ b. cond b (Some x) (get m u)) is
-
 out_here : (m : Shared) (t : ℕ) → get (remove m t) t ≡ None
 out_here m t = get-remove nat_cmp_total m t t ∙ ap (λ b. cond b None (get m t)) ((eq_by_cmp_equiv nat_cmp_total).refl t)
 
-out_apart : (m : Shared) (t u : ℕ) → eq_by_cmp nat_cmp u t ≡ false → get (remove m t) u ≡ get m u
-out_apart m t u is = get-remove nat_cmp_total m t u ∙ ap (λ b. cond b None (get m u)) is
+out_apart : (m : Shared) (t u : ℕ) → (u ≡ t → ⊥) → get (remove m t) u ≡ get m u
+out_apart m t u other = get-remove nat_cmp_total m t u ∙ ap (λ b. cond b None (get m u)) (false_from_ne_true (eq_by_cmp nat_cmp u t) (λ s. other (same_key u t s)))
 
 not_both : {A B : Type 0} {x : A} (o : Option A) → o ≡ None → o ≡ Some x → B
 not_both o e f = let never : ⊥ = cc in absurd never
@@ -200,44 +183,44 @@ module _ (all : Shared) (w : Value) where
   -- a name whose entry is taken, and whose names are followed next
   take : {rest taken : Shared} {L : List ℕ} (t : ℕ) (x : Entry × Value) → get rest t ≡ Some x → State all w rest taken (t ∷ L) → State all w (remove rest t) (insert taken t x) (names_in (x.1) ++ L)
   take {rest} {taken} {L} t x k st = record {
-    side = λ u. side_of u (key u t) (st.side u);
-    led = λ u y g. led_of u y (key u t) g;
+    side = λ u. side_of u (cases_eq u t) (st.side u);
+    led = λ u y g. led_of u y (cases_eq u t) g;
     next_led = λ u h. next_of u (among_either u (names_in (x.1)) L h);
     first = λ u n. move u (st.first u n);
-    closed = λ v u y g n. closed_of v u y (key v t) g n;
+    closed = λ v u y g n. closed_of v u y (cases_eq v t) g n;
   }
     where
       at_all : get all t ≡ Some x
       at_all = rest_all (st.side t) k
 
-      side_of : (u : ℕ) → Key u t → Side all rest taken u → Side all (remove rest t) (insert taken t x) u
-      side_of u (one_key e) s = rw e (at_taken (out_here rest t) (put_here taken t x ∙ sym at_all))
-      side_of u (apart is) (at_rest a b) = at_rest (put_apart taken t u x is ∙ a) (out_apart rest t u is ∙ b)
-      side_of u (apart is) (at_taken a b) = at_taken (out_apart rest t u is ∙ a) (put_apart taken t u x is ∙ b)
+      side_of : (u : ℕ) → (u ≡ t) ⊎ (u ≡ t → ⊥) → Side all rest taken u → Side all (remove rest t) (insert taken t x) u
+      side_of u (inl e) s = rw e (at_taken (out_here rest t) (inserted_has taken t x ∙ sym at_all))
+      side_of u (inr is) (at_rest a b) = at_rest (inserted_apart taken t u x is ∙ a) (out_apart rest t u is ∙ b)
+      side_of u (inr is) (at_taken a b) = at_taken (out_apart rest t u is ∙ a) (inserted_apart taken t u x is ∙ b)
 
-      led_of : (u : ℕ) (y : Entry × Value) → Key u t → get (insert taken t x) u ≡ Some y → LeadsTo all w u
-      led_of u y (one_key e) g = rw e (st.next_led t (inl refl))
-      led_of u y (apart is) g = st.led u y (sym (put_apart taken t u x is) ∙ g)
+      led_of : (u : ℕ) (y : Entry × Value) → (u ≡ t) ⊎ (u ≡ t → ⊥) → get (insert taken t x) u ≡ Some y → LeadsTo all w u
+      led_of u y (inl e) g = rw e (st.next_led t (inl refl))
+      led_of u y (inr is) g = st.led u y (sym (inserted_apart taken t u x is) ∙ g)
 
       next_of : (u : ℕ) → Among u (names_in (x.1)) ⊎ Among u L → LeadsTo all w u
       next_of u (inl h) = leads_through (st.next_led t (inl refl)) at_all (names_listed u (x.1) h)
       next_of u (inr h) = st.next_led u (inr h)
 
-      moved : (u : ℕ) (y : Entry × Value) → Key u t → get taken u ≡ Some y → Where all (insert taken t x) (names_in (x.1) ++ L) u
-      moved u y (one_key e) g = is_taken x (rw e (put_here taken t x))
-      moved u y (apart is) g = is_taken y (put_apart taken t u x is ∙ g)
+      moved : (u : ℕ) (y : Entry × Value) → (u ≡ t) ⊎ (u ≡ t → ⊥) → get taken u ≡ Some y → Where all (insert taken t x) (names_in (x.1) ++ L) u
+      moved u y (inl e) g = is_taken x (rw e (inserted_has taken t x))
+      moved u y (inr is) g = is_taken y (inserted_apart taken t u x is ∙ g)
 
       move : (u : ℕ) → Where all taken (t ∷ L) u → Where all (insert taken t x) (names_in (x.1) ++ L) u
-      move u (is_taken y g) = moved u y (key u t) g
-      move u (is_next (inl e)) = is_taken x (rw e (put_here taken t x))
+      move u (is_taken y g) = moved u y (cases_eq u t) g
+      move u (is_next (inl e)) = is_taken x (rw e (inserted_has taken t x))
       move u (is_next (inr h)) = is_next (among_right u (names_in (x.1)) L h)
       move u (is_unknown g) = is_unknown g
 
-      closed_of : (v u : ℕ) (y : Entry × Value) → Key v t → get (insert taken t x) v ≡ Some y → Names u (y.1) → Where all (insert taken t x) (names_in (x.1) ++ L) u
-      closed_of v u y (one_key e) g n =
-          let same : y ≡ x = same_some (sym g ∙ ap (λ z. get (insert taken t x) z) e ∙ put_here taken t x) in
+      closed_of : (v u : ℕ) (y : Entry × Value) → (v ≡ t) ⊎ (v ≡ t → ⊥) → get (insert taken t x) v ≡ Some y → Names u (y.1) → Where all (insert taken t x) (names_in (x.1) ++ L) u
+      closed_of v u y (inl e) g n =
+          let same : y ≡ x = same_some (sym g ∙ ap (λ z. get (insert taken t x) z) e ∙ inserted_has taken t x) in
           is_next (among_left u (names_in (x.1)) L (listed (rw (ap (λ z. z.1) same) at n)))
-      closed_of v u y (apart is) g n = move u (st.closed v u y (sym (put_apart taken t v x is) ∙ g) n)
+      closed_of v u y (inr is) g n = move u (st.closed v u y (sym (inserted_apart taken t v x is) ∙ g) n)
 
   scan : (bound : ℕ) → ((rest taken : Shared) (L : List ℕ) → State all w rest taken L → len rest < bound → Selected all w) → (L : List ℕ) (rest taken : Shared) → State all w rest taken L → len rest ≤ bound → Selected all w
   scan bound more [] rest taken st le = finish st

@@ -9,6 +9,7 @@ use Rattle.archive_check.specs.Within.{IsPart, first_part, later_part, Within, w
 use Rattle.archive_check.specs.Written.{after, Tight, own_size, Owned, owned_part, owned_text, Clean}
 use Rattle.archive_check.specs.Tidy.{IsFilled, Neat, neat_leaf, neat_parts, neat_choice, neat_array, neat_boxed, neat_vec, neat_inline, neat_out_of_line, neat_shared, neat_null, neat_weak, neat_named, NeatParts, neat_no_part, neat_part, NeatRun, neat_none, neat_element, NeatPointee, neat_one, neat_run, neat_text, Tidy}
 use Rattle.archive_check.proofs.ReachedParts.{within_trans}
+use Rattle.archive_check.proofs.Elements.{contains_first, contains_later}
 
 abbrev pub AreSized : Schema → List Region → Type 0
 AreSized s [] = Unit {0}
@@ -100,12 +101,6 @@ module _ (s : Schema) (bytes : List ℕ) where
     pointee_zero i r (run X) is (neat_run h) above below free other = run_zero i r.length 0 h above below (λ k less. λ q Y w. free q Y (in_run is less w))
     pointee_zero i r text is neat_text above below free other = absurd (other refl)
 
-    head_in : (r : Region) (C : List Region) → Contains (r ∷ C) r
-    head_in r C = (0, omega arith, refl)
-
-    tail_in : (r q : Region) (C : List Region) → Contains C q → Contains (r ∷ C) q
-    tail_in r q C (k, less, e) = (suc k, omega arith, e)
-
     tidy_zero : (i start stop : ℕ) (C : List Region) → AreSized s C → Tight start C stop → Tidy s bytes start C → start ≤ i → i < stop → (Owned s bytes C i → ⊥) → slice_index bytes i ≡ 0
     tidy_zero i start stop [] sized tight tidy above below free = absurd (omega arith)
     tidy_zero i start stop (r ∷ C) sized tight tidy above below free =
@@ -113,8 +108,8 @@ module _ (s : Schema) (bytes : List ℕ) where
           | inl before ↦ tidy.0.zero_at i above before
           | inr behind ↦ elim (cases_lt i (r.begin + r.size)) [
             | inl here ↦ pointee_zero i r r.pointee refl tidy.1 behind (omega (arith, sized.0))
-                (λ q Y w a b. free (owned_part (r, head_in r C, w) a b))
-                (λ e. free (owned_text (head_in r C) e behind (let same : pointee_size s r.pointee r.length ≡ r.length = ap (λ P. pointee_size s P r.length) e in omega (arith, sized.0))))
+                (λ q Y w a b. free (owned_part (r, contains_first C r, w) a b))
+                (λ e. free (owned_text (contains_first C r) e behind (let same : pointee_size s r.pointee r.length ≡ r.length = ap (λ P. pointee_size s P r.length) e in omega (arith, sized.0))))
             | inr later ↦ elim (cases_lt i (after r)) [
               | inl gap ↦ tidy.2.zero_at i later gap
               | inr next ↦ tidy_zero i (after r) stop C sized.1 tight.1 tidy.3 next below (λ o. free (owned_later r C i o))
@@ -123,8 +118,8 @@ module _ (s : Schema) (bytes : List ℕ) where
         ]
       where
         owned_later : (r : Region) (C : List Region) (i : ℕ) → Owned s bytes C i → Owned s bytes (r ∷ C) i
-        owned_later r C i (owned_part (q, c, w) a b) = owned_part (q, tail_in r q C c, w) a b
-        owned_later r C i (owned_text {r = q} c e a b) = owned_text (tail_in r q C c) e a b
+        owned_later r C i (owned_part (q, c, w) a b) = owned_part (q, contains_later r C q c, w) a b
+        owned_later r C i (owned_text {r = q} c e a b) = owned_text (contains_later r C q c) e a b
 
     region_neat : (start : ℕ) (C : List Region) (r : Region) → Contains C r → Tidy s bytes start C → NeatPointee s bytes r.begin r.pointee r.length
     region_neat start [] r (k, less, e) tidy = absurd (omega arith)
