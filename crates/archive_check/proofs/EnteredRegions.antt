@@ -11,7 +11,7 @@ use Rattle.archive_check.specs.declared.plan.Checker.{Checker}
 use Rattle.archive_check.specs.declared.work.Work.{Work}
 use Rattle.archive_check.specs.declared.work.Work.TheVariants.{Part as PartWork, Elements, Leave}
 use Rattle.archive_check.specs.Depth.{Allows, inside}
-use Rattle.archive_check.specs.Ranges.{RangeState, subtree_answer, pushed, one_less, one_more, popped}
+use Rattle.archive_check.specs.Ranges.{RangeState, subtree_answer, pushed, one_more, popped}
 use Rattle.archive_check.specs.Met.{Positions}
 use Rattle.archive_check.specs.Reads.{bytes_at}
 use Rattle.archive_check.specs.Tour.{Seen}
@@ -23,6 +23,7 @@ use Rattle.archive_check.proofs.TurnRules.{enter_one, enter_run}
 use Rattle.archive_check.proofs.MetAgrees.{allows, agrees_inside}
 use Rattle.archive_check.proofs.TurnsEnd.{level_end, falls_enter}
 use Rattle.archive_check.proofs.OneReading.{pos_one}
+use Rattle.archive_check.proofs.Depths.{levels_allow}
 
 -- a region of this size and alignment lies at t, within the range
 pub record Lands (s : RangeState) (z : ℤ) (size align t : ℕ) : Type 0 where
@@ -71,7 +72,7 @@ pub record Entered (m : Checker) (s s' : RangeState) (met met' : Positions) (j n
   pub lands : Lands s z size align t
   pub start : s'.start ≡ s.start
   pub end : s'.end ≡ t
-  pub depth : s'.depth ≡ one_less s.depth
+  pub depth : s'.depth ≡ inside s.depth
   pub deep : s.depth ≡ Some 1 → ⊥
   pub same : met' ≡ met
   pub list : mid ≡ Leave (t + size) s.end ∷ old
@@ -134,17 +135,7 @@ run_left One one text = absurd (one refl)
 run_left Run one text = refl
 run_left Text one text = absurd (text refl)
 
-inner : (d : Option ℕ) → one_less d ≡ inside d
-inner None = refl
-inner (Some n) = refl
-
-levels_allow : (d : Option ℕ) → d ≢ Some 0 → (d ≡ Some 1 → ⊥) → Allows d 1
-levels_allow None some deep = tt
-levels_allow (Some zero) some deep = absurd (some refl)
-levels_allow (Some (suc zero)) some deep = absurd (deep refl)
-levels_allow (Some (suc (suc n))) some deep = omega arith
-
-level_back : (d : Option ℕ) → d ≢ Some 0 → one_more (one_less d) ≡ d
+level_back : (d : Option ℕ) → d ≢ Some 0 → one_more (inside d) ≡ d
 level_back None some = refl
 level_back (Some zero) some = absurd (some refl)
 level_back (Some (suc n)) some = let same : suc n - 1 + 1 ≡ suc n = omega arith in ap Some same
@@ -157,7 +148,7 @@ module _ (m : Checker) (s s' : RangeState) (met met' : Positions) (j n : ℕ) (z
   }
 
   moved : {w w' : List Work} {seen : Seen} {o : Outcome} → w ≡ w' → Listing m (stage s' met' w) seen o → ListRuns m (pending_in w') (inside s.depth) t w' s.start seen o
-  moved e r = let inward : s'.depth ≡ inside s.depth = h.depth ∙ inner s.depth in rw (h.start, h.end, inward, e) at r
+  moved e r = rw (h.start, h.end, h.depth, e) at r
 
   entering : {target : Target} {seen : Seen} {o : Outcome} → Entering m target j n (pos t) (stage s met old) seen o → Entering m target j n z (stage s met old) seen o
   entering r = rw h.lands.target r

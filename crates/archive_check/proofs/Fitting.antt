@@ -16,6 +16,12 @@ fits_none n h = grind (arith, nat_tests)
 pub some_is : {x y : ℕ} → fits x ≡ Some y → x ≡ y
 some_is e = grind (arith, nat_tests)
 
+pub some_below : (x : ℕ) {y : ℕ} → fits x ≡ Some y → y < 18446744073709551616
+some_below x e = grind (arith, nat_tests)
+
+pub none_is : {x : ℕ} → fits x ≡ None → 18446744073709551616 ≤ x
+none_is e = grind (arith, nat_tests)
+
 -- rounding what fits, or not
 pub rounded_fits : (n a : ℕ) → 0 < a → rounded (fits n) a ≡ fits (up n a)
 rounded_fits n a h =

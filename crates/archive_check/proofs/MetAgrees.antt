@@ -11,13 +11,14 @@ use Rattle.std.specs.Map.{update}
 use Rattle.std.specs.Ordering.{nat_cmp, int_eq}
 use Rattle.std.specs.FinMap.{get, insert, empty, get-empty, get-insert}
 use Rattle.archive_check.specs.Depth.{Allows, inside}
-use Rattle.archive_check.specs.Ranges.{RangeState, one_less, one_more}
+use Rattle.archive_check.specs.Ranges.{RangeState, one_more}
 use Rattle.archive_check.specs.Met.{Met, Positions, started_at, started, finished, finish_answer}
 use Rattle.archive_check.specs.Tour.{Seen, Entry}
 use Rattle.archive_check.specs.Fresh.{IsFresh}
 use Rattle.archive_check.specs.Turns.{Agrees, HasLevels}
 use Rattle.archive_check.proofs.Elements.{contains_first, contains_later}
 use Rattle.archive_check.proofs.Seen.{same_some, inserted_has, inserted_apart}
+use Rattle.archive_check.proofs.Depths.{levels_allow}
 
 -- lists
 
@@ -151,15 +152,9 @@ module _ {d : Option ℕ} {met : Positions} {pd : List ℕ} {r : ℕ} {seen : Se
 
   -- a level less, in a region more
   pub allows : (d ≡ Some 1 → ⊥) → Allows d 1
-  allows not = allows_by d refl
-    where
-      allows_by : (o : Option ℕ) → o ≡ d → Allows o 1
-      allows_by None is = tt
-      allows_by (Some zero) is = absurd (h.levels (sym is))
-      allows_by (Some (suc zero)) is = absurd (not (sym is))
-      allows_by (Some (suc (suc n))) is = omega arith
+  allows not = levels_allow d h.levels not
 
-  pub agrees_inside : Allows d 1 → Agrees (one_less d) met pd (1 + r) seen
+  pub agrees_inside : Allows d 1 → Agrees (inside d) met pd (1 + r) seen
   agrees_inside deep = record {
     before = h.before;
     new = h.new;
@@ -171,11 +166,11 @@ module _ {d : Option ℕ} {met : Positions} {pd : List ℕ} {r : ℕ} {seen : Se
     few = λ n is. inside_few d n deep h.few is;
   }
     where
-      inside_levels : (o : Option ℕ) → Allows o 1 → one_less o ≢ Some 0
+      inside_levels : (o : Option ℕ) → Allows o 1 → inside o ≢ Some 0
       inside_levels None a e = cc
       inside_levels (Some n) a e = let zeroed : n - 1 ≡ 0 = cc in omega arith
 
-      inside_few : (o : Option ℕ) (n : ℕ) → Allows o 1 → ((k : ℕ) → o ≡ Some k → k + r < 18446744073709551616) → one_less o ≡ Some n → n + (1 + r) < 18446744073709551616
+      inside_few : (o : Option ℕ) (n : ℕ) → Allows o 1 → ((k : ℕ) → o ≡ Some k → k + r < 18446744073709551616) → inside o ≡ Some n → n + (1 + r) < 18446744073709551616
       inside_few None n a few e = cc
       inside_few (Some k) n a few e = let less : k - 1 ≡ n = cc in let most = few k refl in omega arith
 
