@@ -1,5 +1,5 @@
 -- Definitions are put in order one by one.
-use Rattle.std.proofs.Common.{◌≡◌, ◌≢◌, ◌⊎◌, inl, inr, ⊎_elim, ℕ, zero, suc, ◌+◌, ◌<◌, ◌≤◌, List, [], ◌∷◌, ◌++◌, length, take, get_or, refl, sym, ap, ◌∙◌, subst, arith, length-append, Bool, true, false, Option, Some, None, option_map, is_some, Bor, Contains}
+use Rattle.std.proofs.Common.{◌≡◌, ◌⊎◌, inl, inr, ⊎_elim, ℕ, zero, suc, ◌+◌, ◌<◌, ◌≤◌, List, [], ◌∷◌, ◌++◌, length, take, get_or, refl, sym, ap, ◌∙◌, subst, arith, length-append, true, false, Option, Some, None, option_map, is_some, Bor, Contains}
 use Rattle.std.specs.List.{remove}
 use Rattle.std.proofs.lemmas.List.{take-append-le}
 use Rattle.std.proofs.Math.Seq.{take-append_seam, get_or-append_seam}
@@ -9,10 +9,10 @@ use Rattle.archive_check.specs.declared.defs.Def.{Def}
 use Rattle.archive_check.specs.Shape.{Name, Shape, Table, definition}
 use Rattle.archive_check.specs.Expressions.{shape_of, entries_of}
 use Rattle.archive_check.specs.Defined.{HeldIn}
-use Rattle.archive_check.specs.Names.{missing, NextReady, Complete, Arranged}
+use Rattle.archive_check.specs.Names.{missing, NextReady, Complete}
 use Rattle.archive_check.proofs.Named.{append_known, append_unknown, definition_here, definition_other, names_decided, definition-remove, entries_of-append, push_some, push_none, contains-remove, contains-at, one_at}
 use Rattle.archive_check.proofs.MissingNames.{missed_held, held_defined}
-use Rattle.archive_check.proofs.NamesComeBack.{DefinitionHolds, LeadsTo, OneComesBack, some_comes_back}
+use Rattle.archive_check.proofs.NamesComeBack.{DefinitionHolds, some_comes_back}
 use Rattle.archive_check.proofs.LaidOutNames.{names_of, defined_named, named_defined}
 
 below_or_last : (k n : ℕ) → k < n + 1 → (k < n) ⊎ (k ≡ n)

@@ -1,15 +1,15 @@
 -- Definitions are collected one by one.
-use Rattle.std.proofs.Common.{◌≡◌, ◌≢◌, ◌⊎◌, inl, inr, ⊎_elim, ℕ, zero, suc, ◌+◌, ◌-◌, ◌<◌, ◌≤◌, List, [], ◌∷◌, ◌++◌, length, get_or, refl, sym, ap, ◌∙◌, subst, arith, length-append, Bool, true, false, Option, Some, None, Contains}
+use Rattle.std.proofs.Common.{◌≡◌, ◌⊎◌, inl, inr, ⊎_elim, ℕ, zero, suc, ◌+◌, ◌-◌, ◌<◌, ◌≤◌, List, [], ◌∷◌, ◌++◌, length, get_or, refl, sym, ap, ◌∙◌, subst, arith, length-append, true, Option, Some, None, Contains}
 use Rattle.archive_check.specs.declared.defs.Def.{Def}
 use Rattle.archive_check.specs.Shape.{Name, Shape, Table, definition}
 use Rattle.archive_check.specs.Expressions.{shape_of, entries_of}
-use Rattle.archive_check.specs.Defined.{Mentions, Reaches, reaches, reaches_through}
+use Rattle.archive_check.specs.Defined.{Mentions, Reaches, reaches}
 use Rattle.archive_check.specs.Names.{missing, Taken, Collected, shapes_from}
 use Rattle.archive_check.specs.Numbered.{def_shapes}
-use Rattle.archive_check.proofs.Named.{append_known, append_unknown, definition_here, definition_other, names_decided, entries_of-append, one_at, push_some, push_none, push_once}
+use Rattle.archive_check.proofs.Named.{append_known, definition_here, definition_other, names_decided, entries_of-append, push_some, push_none, push_once}
 use Rattle.std.proofs.lemmas.List.{get_or_default}
 use Rattle.archive_check.proofs.Elements.{contains_later}
-use Rattle.archive_check.proofs.MissingNames.{IsDefined, missed_mentioned, none_missed}
+use Rattle.archive_check.proofs.MissingNames.{missed_mentioned, none_missed}
 use Rattle.archive_check.proofs.LaidOutNames.{reaches_next}
 use Rattle.archive_check.proofs.Numbered.{def_count}
 

@@ -10,7 +10,7 @@ use Rattle.archive_check.specs.declared.growing.Row.{Row}
 use Rattle.archive_check.specs.declared.growing.Spans.{Spans}
 use Rattle.archive_check.specs.declared.growing.Laid.{Laid}
 use Rattle.archive_check.specs.Shape.{Shape, Parts, no_part, part, Variants, no_variant, variant, variant_at}
-use Rattle.archive_check.specs.Layout.{Layouts, up, size_of, align_of, parts_end, parts_align, variants_end, variants_align}
+use Rattle.archive_check.specs.Layout.{Layouts, up, size_of, align_of, parts_end, parts_align, variants_end}
 use Rattle.archive_check.specs.Reads.{Schema}
 use Rattle.archive_check.specs.Runs.{IsAt, IsNode, Takes}
 use Rattle.archive_check.specs.Closed.{SpanFits}

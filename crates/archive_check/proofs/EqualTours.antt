@@ -1,9 +1,8 @@
 -- A tour stays where the bytes of its regions do, as when more bytes are written behind them.
 use Rattle.std.proofs.Common.{◌≡◌, refl, ap₂, ℕ, List, [], ◌∷◌, ◌-◌, ◌++◌, length, ◌+◌, ◌≤◌, arith, sym, subst, IsUtf8}
-use Rattle.std.proofs.lemmas.List.{take-append-le}
 use Rattle.archive_check.specs.Shape.{Pointee}
 use Rattle.archive_check.specs.Value.{Pointer, Value, text_value}
-use Rattle.archive_check.specs.Reads.{Schema, LaidOut, bytes_at}
+use Rattle.archive_check.specs.Reads.{Schema, LaidOut}
 use Rattle.archive_check.specs.Tour.{Region, Rising, pointee_size, Contents, contents_one, contents_run, contents_text, Leads, Seen, Tour, tour_end, tour_unique, tour_new, tour_again, region_of}
 use Rattle.archive_check.specs.Leaves.{text_leaf, leaves_of_contents, leaves_of_tour}
 use Rattle.archive_check.proofs.JoinedTours.{rising_le, rising_front, rising_back}

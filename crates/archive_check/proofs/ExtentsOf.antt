@@ -1,19 +1,16 @@
 -- What expressions take under the definitions of a schema.
 use Rattle.std.proofs.Math.Logic.{∥∥₁_elim}
 use Rattle.std.proofs.Math.Nat.{ℕ_set}
-use Rattle.std.proofs.Math.Bool.{Bool-set}
 use Rattle.std.specs.Coded.{le_prop}
 use Rattle.std.proofs.Props.{props}
-use Rattle.std.proofs.lemmas.Bool.Decides.{nat_tests}
-use Rattle.std.proofs.Common.{◌≡◌, ℕ, refl, sym, ap, ap₂, ◌∙◌, subst, ◌+◌, ◌<◌, ◌≤◌, ◌^◌, max, arith, length, Bool, true, false, cond, is_some, Option, Some, None}
+use Rattle.std.proofs.Common.{◌≡◌, ℕ, refl, sym, ap, ap₂, ◌∙◌, subst, ◌+◌, ◌<◌, max, arith, length, Option, Some}
 use Rattle.archive_check.specs.declared.plan.Node.{Node}
 use Rattle.archive_check.specs.declared.extents.Extent.{Extent}
 use Rattle.archive_check.specs.declared.shape.Schema.{Schema as RustSchema}
-use Rattle.archive_check.specs.Shape.{Name, Shape, named, Pointee, one, run, text, Parts, no_part, part, Variants, no_variant, variant, definition}
+use Rattle.archive_check.specs.Shape.{Name, Shape, named, Pointee, one, run, text, Parts, no_part, part, Variants, no_variant, variant}
 use Rattle.archive_check.specs.Layout.{Layouts, up, pointer_size, size_of, align_of, parts_end, parts_align, variants_end, variants_align}
 use Rattle.archive_check.specs.Reads.{Schema, LaidOut}
 use Rattle.archive_check.specs.Runs.{IsAt}
-use Rattle.archive_check.specs.Names.{missing}
 use Rattle.archive_check.specs.Schemas.{table_in}
 use Rattle.archive_check.specs.Fitting.{fits, rounded, sum_of, greater_of}
 use Rattle.archive_check.specs.Growing.{node_of}

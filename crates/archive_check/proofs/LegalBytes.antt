@@ -1,9 +1,8 @@
 -- Which bytes in a buffer are a leaf, byte by byte; and that a leaf has one encoding.
-use Rattle.std.proofs.Common.{◌≡◌, ◌≢◌, ◌⊎◌, inl, inr, ℕ, zero, suc, ◌+◌, ◌-◌, ◌*◌, ◌^◌, ◌<◌, ◌≤◌, arith, refl, sym, ap, ◌∙◌, List, length, slice_index, Bool, true, false, IsTrue, nat_lt, nat_eq}
+use Rattle.std.proofs.Common.{◌≡◌, ◌≢◌, ◌⊎◌, inl, inr, ℕ, zero, suc, ◌+◌, ◌-◌, ◌^◌, ◌<◌, ◌≤◌, arith, refl, sym, ap, ◌∙◌, List, length, slice_index, Bool, true, false, IsTrue, nat_lt, nat_eq}
 use Rattle.std.proofs.lemmas.Bool.Decides.{nat_tests}
-use Rattle.std.proofs.lemmas.Grind.{common_steps}
 use Rattle.std.proofs.lemmas.List.{nil_from_length}
-use Rattle.std.specs.Int.{Width, w8, w16, w32, w64, w128, byte_len, byte_worth, sum_through}
+use Rattle.std.specs.Int.{Width, w8, w32, byte_len, byte_worth, sum_through}
 use Rattle.archive_check.specs.declared.expr.Kind.{Kind as KindExpr}
 use Rattle.archive_check.specs.declared.expr.Kind.TheVariants as expr
 use Rattle.archive_check.specs.declared.expr.IntegerKind.{IntegerKind}

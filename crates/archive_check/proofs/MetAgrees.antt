@@ -1,15 +1,12 @@
 -- What a context met agrees with what is seen, call by call.
-use Rattle.std.proofs.Common.{◌≡◌, ◌≢◌, ◌⊎◌, inl, inr, ℕ, zero, suc, ℤ, pos, negsuc, refl, sym, ap, ◌∙◌, ◌+◌, ◌-◌, ◌<◌, ◌==◌, nat_eq, cond, Bool, true, false, arith, List, [], ◌∷◌, Option, Some, None, option_map, Ok, Contains}
-use Rattle.std.proofs.lemmas.Bool.Decides.{nat_tests, Decides-int_eq, Decides-eqb}
+use Rattle.std.proofs.Common.{◌≡◌, ◌≢◌, ◌⊎◌, inl, inr, ℕ, ℤ, pos, negsuc, refl, sym, ap, ◌∙◌, ◌+◌, ◌-◌, ◌<◌, Bool, true, false, arith, List, [], ◌∷◌, Option, Some, None, option_map, Ok, Contains}
+use Rattle.std.proofs.lemmas.Bool.Decides.{Decides-int_eq}
 use Rattle.std.proofs.lemmas.Map.{update_same, update_other}
 use Rattle.std.proofs.lemmas.Map.Made.{Contains-tail}
-use Rattle.std.proofs.lemmas.Cmp.{nat_cmp_total}
 use Rattle.std.proofs.lemmas.Bool.{cases_eq, false_from_ne_true}
-use Rattle.std.specs.Bool.{Decides}
-use Rattle.std.specs.Cmp.{unsigned_tied}
 use Rattle.std.specs.Map.{update}
 use Rattle.std.specs.Ordering.{nat_cmp, int_eq}
-use Rattle.std.specs.FinMap.{get, insert, empty, get-empty, get-insert}
+use Rattle.std.specs.FinMap.{get, insert, empty, get-empty}
 use Rattle.archive_check.specs.Depth.{Allows, inside}
 use Rattle.archive_check.specs.Ranges.{RangeState, one_more}
 use Rattle.archive_check.specs.Met.{Met, Positions, started_at, started, finished, finish_answer}

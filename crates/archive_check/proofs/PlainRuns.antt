@@ -1,5 +1,5 @@
 -- Runs that a check passes in one step.
-use Rattle.std.proofs.Common.{◌≡◌, ℕ, zero, suc, ◌+◌, ◌*◌, ◌≤◌, List, length, Option, Bool, true, false, ◌&&◌, IsTrue, arith, refl, ap}
+use Rattle.std.proofs.Common.{◌≡◌, ℕ, zero, suc, ◌+◌, ◌*◌, ◌≤◌, List, length, Option, IsTrue, arith, refl, ap}
 use Rattle.archive_check.specs.Shape.{Kind, unit, bool, char, number, non_zero, raw_rel, Shape, leaf, parts, choice, array, boxed, vec, str, shared, weak, named, Parts, no_part, part}
 use Rattle.archive_check.specs.Layout.{up, kind_size, align_of, size_of, parts_align, parts_end, variants_align, variants_end}
 use Rattle.archive_check.specs.Reads.{Schema, LaidOut, bytes_at, IsLegalNumber, kind_number}

@@ -1,8 +1,7 @@
 -- What the nodes of a plan take, and so many of them.
-use Rattle.std.proofs.Common.{◌≡◌, ℕ, refl, sym, ap, ◌∙◌, ◌*◌, ◌<◌, ◌≤◌, nat_lt, nat_eq, cond, Bool, true, false, if◌then◌else◌, arith, List, [], ◌∷◌, length, slice_index_or, Option, Some, None, suc, zero}
-use Rattle.std.proofs.lemmas.Bool.Decides.{nat_tests}
+use Rattle.std.proofs.Common.{◌≡◌, ℕ, sym, ap, ◌∙◌, ◌*◌, ◌<◌, ◌≤◌, arith, Option, Some, None, suc, zero}
 use Rattle.archive_check.specs.declared.plan.Checker.{Checker}
-use Rattle.archive_check.specs.Runs.{times, IsAt, Takes}
+use Rattle.archive_check.specs.Runs.{times, Takes}
 use Rattle.archive_check.specs.Represents.{Sized}
 use Rattle.archive_check.specs.Fitting.{fits}
 use Rattle.archive_check.proofs.Elements.{same_at}

@@ -19,11 +19,10 @@ use Rattle.archive_check.specs.Growing.{node_of, Lists, lists_of, Grows}
 use Rattle.archive_check.specs.Queued.{Wait, Waits, wait_shapes, Reserved}
 use Rattle.archive_check.specs.Compilable.{Can}
 use Rattle.archive_check.specs.Compiled.{Follows, Below, Knows, Settled, Given, ClosedTo, MadeTo, Compiled}
-use Rattle.archive_check.specs.Numbered.{def_shapes, start_of, FirstAt, IsRootOf, IsNumbered}
+use Rattle.archive_check.specs.Numbered.{def_shapes, start_of, FirstAt, IsNumbered}
 use Rattle.archive_check.specs.Planned.{IsOf, IsPlan, HasNames, InOrder, Kept, Chained, CanFinish, Finishes}
 use Rattle.archive_check.proofs.GrowingPlans.{same_goes, at_more, goes_longer, grows_trans}
 use Rattle.archive_check.proofs.Elements.{same_at, some_at, at_behind, at_end}
-use Rattle.archive_check.proofs.AddedNodes.{given_first, given_second, stands_of}
 use Rattle.archive_check.proofs.Numbered.{def_at, def_count, can_chain, can_root, all_before, start_next, start_later, start_prefix, start_behind, first_at, definition_is, numbered_known}
 use Rattle.archive_check.proofs.CompiledChain.{root_same, compiled_same, chained_next}
 

@@ -1,12 +1,12 @@
 -- Whether a buffer is accepted is told by the definitions of the names that the expression reaches, and by no other ones.
-use Rattle.std.proofs.Common.{◌≡◌, ◌≢◌, ◌↔◌, ℕ, zero, suc, refl, sym, ap, ◌∙◌, ◌+◌, ◌*◌, ◌%◌, ◌^◌, ◌<◌, ◌≤◌, pos, List, Option, Some, None}
+use Rattle.std.proofs.Common.{◌≡◌, ◌≢◌, ◌↔◌, ℕ, zero, suc, refl, sym, ap, ◌∙◌, ◌+◌, ◌*◌, ◌%◌, ◌^◌, ◌<◌, ◌≤◌, pos, List, Option, Some}
 use Rattle.archive_check.specs.Shape.{Name, Shape, Pointee, one, run, text, Parts, part, Variants, variant, no_variant, variant_at, definition, vec}
 use Rattle.archive_check.specs.Layout.{up, size_of, align_of}
 use Rattle.archive_check.specs.Value.{Pointer}
-use Rattle.archive_check.specs.Reads.{Schema, LaidOut}
-use Rattle.archive_check.specs.Tour.{Seen, Accepted, pointee_size, pointee_align}
+use Rattle.archive_check.specs.Reads.{Schema}
+use Rattle.archive_check.specs.Tour.{Seen, pointee_size, pointee_align}
 use Rattle.archive_check.specs.Depth.{Allows, inside, AcceptedWithin}
-use Rattle.archive_check.specs.Defined.{holds_name, Mentions, mentions_held, mentions_array, mentions_parts, mentions_choice, mentions_boxed, mentions_vec, mentions_shared, mentions_weak, PointeeMentions, mentions_one, mentions_run, PartsMention, mentions_first, mentions_later, VariantsMention, mentions_variant, mentions_other, Reaches, reaches, reaches_through, WellFormed}
+use Rattle.archive_check.specs.Defined.{holds_name, Mentions, mentions_held, mentions_array, mentions_parts, mentions_choice, mentions_boxed, mentions_vec, mentions_shared, mentions_weak, PointeeMentions, mentions_one, mentions_run, PartsMention, mentions_first, mentions_later, VariantsMention, mentions_variant, mentions_other, Reaches, reaches, reaches_through}
 use Rattle.archive_check.specs.Walk.{Walk, walk_leaf, walk_parts, walk_choice, walk_array, walk_boxed, walk_vec, walk_inline, walk_out_of_line, walk_shared, walk_null, walk_weak, walk_named, WalkParts, walk_no_part, walk_part, WalkRun, walk_none, walk_element, Follow, follow_unique, follow_new, follow_again, Enter, enter, WalkContents, walk_one, walk_run, walk_text, RootWalk}
 use Rattle.archive_check.specs.Trail.{Fault, too_large, outside, unaligned, too_deep, Trips, trips_leaf, trips_parts, trips_tag, trips_choice, trips_array, trips_boxed, trips_vec, trips_inline, trips_short, trips_out_of_line, trips_shared, trips_weak, trips_named, TripsParts, trips_first, trips_later, TripsRun, trips_element, trips_later_element, TripsFollow, trips_unique, trips_before, trips_new, trips_type, trips_length, trips_cycle, TripsEnter, trips_size, trips_range, trips_align, trips_depth, trips_within, TripsContents, trips_one, trips_run, trips_text, RootTrips}
 use Rattle.archive_check.proofs.AcceptedWalks.{walked, walks}

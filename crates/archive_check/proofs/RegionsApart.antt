@@ -1,7 +1,7 @@
 -- The regions of an accepted buffer lie apart, and each leaf in one of them.
-use Rattle.std.proofs.Common.{◌≡◌, ◌⊎◌, inl, inr, ℕ, ◌+◌, ◌*◌, ◌<◌, ◌≤◌, List, [], ◌∷◌, ◌++◌, length, drop, cond, Bool, true, false, nat_eq, Contains, All, slice_index_or, suc, arith, sym, ap}
+use Rattle.std.proofs.Common.{◌≡◌, ◌⊎◌, inl, inr, ℕ, ◌+◌, ◌*◌, ◌<◌, ◌≤◌, List, [], ◌∷◌, ◌++◌, length, drop, cond, Bool, true, false, nat_eq, Contains, All, slice_index_or, suc, arith, ap}
 use Rattle.std.proofs.lemmas.List.{length-take}
-use Rattle.std.proofs.lemmas.List.Elements.{All-nil, All-cons, All-append, All-contains, Contains-append_left, Contains-append_right, Contains-append_cases, Contains-push, Contains-push_cases}
+use Rattle.std.proofs.lemmas.List.Elements.{All-nil, All-cons, All-append, All-contains, Contains-append_left, Contains-append_right, Contains-push}
 use Rattle.archive_check.specs.Shape.{Shape, Parts, part, Pointee}
 use Rattle.archive_check.specs.Layout.{up, kind_size, align_of, size_of, parts_align, parts_end, variants_align, variants_end}
 use Rattle.archive_check.specs.Value.{Pointer, Value, Values}

@@ -1,7 +1,6 @@
 -- A run over a plan goes as a walk of the shapes that its nodes stand for, or comes to the same fault.
 use Rattle.std.proofs.Common.{◌≡◌, ◌≢◌, ◌⊎◌, inl, inr, ℕ, ℤ, pos, ◌+ℤ◌, refl, sym, ap, ◌∙◌, ◌+◌, ◌-◌, ◌*◌, ◌%◌, ◌<◌, ◌≤◌, ◌^◌, arith, List, ◌∷◌, length, length-take-le, drop, slice_index, Option, Some, None, suc, zero, false, Bor, IsUtf8, IsTrue, Contains}
 use Rattle.std.specs.FinMap.{get, insert}
-use Rattle.std.specs.Int.{Width, w8, w16, w32, w64, w128, byte_len}
 use Rattle.std.proofs.lemmas.Str.{IsUtf8-nil}
 use Rattle.archive_check.specs.declared.expr.Kind.{Kind as KindExpr}
 use Rattle.archive_check.specs.declared.plan.Target.{Target}

@@ -1,8 +1,6 @@
 -- Meanings that are the same but for names.
-use Rattle.std.proofs.Common.{◌≡◌, ℕ, Some, refl, sym, ap, ap₂, ◌∙◌}
+use Rattle.std.proofs.Common.{◌≡◌, ℕ, refl, sym, ap, ap₂, ◌∙◌}
 use Rattle.archive_check.specs.Value.{Value, Values, number, product, case, list, text_value, box, null, shared_value, hole, no_value, value}
-use Rattle.archive_check.specs.Tour.{Entry}
-use Rattle.std.specs.FinMap.{get}
 use Rattle.archive_check.specs.Denotes.{Meaning, rename, rename_all, Same}
 use Rattle.archive_check.specs.Reached.{Names, names_itself, names_product, names_case, names_list, names_box, NamesAmong, names_first, names_later}
 

@@ -1,6 +1,6 @@
 -- The entries that a value leads to, as a map of their own.
-use Rattle.std.proofs.Common.{◌≡◌, ◌⊎◌, inl, inr, ℕ, zero, suc, ◌-◌, ◌<◌, ◌≤◌, List, [], ◌∷◌, ◌++◌, Option, Some, None, Bool, true, false, cond, is_some, nat_cmp, arith, refl, sym, ap, ◌∙◌}
-use Rattle.std.specs.FinMap.{empty, get, insert, remove, len, get-insert, get-remove, get-empty, len-remove, empty_of_len}
+use Rattle.std.proofs.Common.{◌≡◌, ◌⊎◌, inl, inr, ℕ, zero, suc, ◌-◌, ◌<◌, ◌≤◌, List, [], ◌∷◌, ◌++◌, Option, Some, None, cond, is_some, nat_cmp, arith, refl, sym, ap, ◌∙◌}
+use Rattle.std.specs.FinMap.{empty, get, insert, remove, len, get-remove, get-empty, len-remove, empty_of_len}
 use Rattle.std.specs.Cmp.{nat_cmp_total, eq_by_cmp_equiv}
 use Rattle.std.specs.Ordering.{eq_by_cmp}
 use Rattle.archive_check.specs.Value.{Value, Values, number, product, case, list, text_value, box, null, shared_value, hole, no_value, value}

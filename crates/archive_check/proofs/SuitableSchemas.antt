@@ -2,20 +2,14 @@
 use Rattle.std.proofs.Math.Logic.{∥∥₁_elim, ∥∥₁_map}
 use Rattle.std.specs.Coded.{le_prop}
 use mathlib.Core.Bool.{Bool-set}
-use Rattle.std.proofs.Common.{◌<◌, length, ◌≡◌, ◌⊎◌, ◌↔◌, inl, inr, ⊎_elim, ℕ, refl, sym, ap, ◌∙◌, List, Option, Some, None, Result, IsOk, IsErrOf}
+use Rattle.std.proofs.Common.{◌<◌, length, ◌↔◌, inl, inr, ℕ, refl, sym, ◌∙◌, Option, Result}
 use Rattle.archive_check.specs.declared.error.Error.{Error}
-use Rattle.archive_check.specs.declared.error.Error.TheVariants.{OutOfMemory}
-use Rattle.archive_check.specs.declared.expr.Expr.{Expr}
-use Rattle.archive_check.specs.declared.plan.Plan.{Plan}
 use Rattle.archive_check.specs.declared.plan.Checker.{Checker}
-use Rattle.archive_check.specs.declared.defs.Def.{Def}
 use Rattle.archive_check.specs.declared.shape.Schema.{Schema as RustSchema}
-use Rattle.archive_check.specs.Shape.{Name, Shape, Table, definition}
-use Rattle.archive_check.specs.Expressions.{shape_of, entries_of}
+use Rattle.archive_check.specs.Shape.{Name}
 use Rattle.archive_check.specs.Reads.{Schema, LaidOut}
 use Rattle.archive_check.specs.Depth.{AcceptedWithin}
 use Rattle.archive_check.specs.Trail.{Fault, RootTrips}
-use Rattle.archive_check.specs.Faults.{IsFor}
 use Rattle.archive_check.specs.Defined.{Reaches}
 use Rattle.archive_check.specs.Names.{HasAll}
 use Rattle.archive_check.specs.Exact as exact

@@ -1,9 +1,7 @@
 -- What lies in an accepted buffer fits it, and is read, and leads to what lies there too.
 use Rattle.std.proofs.Common.{◌≡◌, ℕ, ◌+◌, ◌*◌, ◌≤◌, pos, List, [], ◌∷◌, ◌++◌, length, Contains, All, arith, refl}
-use Rattle.std.proofs.Math.Logic.{∥∥₁_elim, ∥∥₁_map}
 use Rattle.std.proofs.Math.Nat.{mul-le-mul_right}
 use Rattle.std.proofs.lemmas.List.Elements.{All-nil, All-cons, All-append, All-contains, Contains-push}
-use Rattle.std.specs.Coded.{le_prop}
 use Rattle.archive_check.specs.Shape.{Shape, Pointee, one}
 use Rattle.archive_check.specs.Layout.{size_of}
 use Rattle.archive_check.specs.Value.{Pointer, Value, pointers}
@@ -14,7 +12,7 @@ use Rattle.archive_check.specs.Within.{PartOf, whole_region, in_one, in_run, in_
 use Rattle.archive_check.specs.Denotes.{Meaning, Denotes}
 use Rattle.archive_check.specs.Reached.{Reached}
 use Rattle.archive_check.specs.Definitions.{Definitions, Knows}
-use Rattle.archive_check.specs.Viewed.{Lies, Viewed, Says}
+use Rattle.archive_check.specs.Viewed.{Lies, Says}
 use Rattle.archive_check.proofs.ReachedParts.{part_reached, pointer_reached, root_reached}
 use Rattle.archive_check.proofs.OneReading.{contents_one_value}
 use Rattle.archive_check.proofs.OneMeaning.{fills_one}

@@ -1,10 +1,9 @@
 -- What expressions of records and choices stand for, item by item of their vectors.
-use Rattle.std.proofs.Common.{◌≡◌, ℕ, ◌+◌, ◌<◌, ◌≢◌, List, [], ◌∷◌, length, drop, get_or, Bool, true, false, ◌&&◌, refl, sym, ap, ◌∙◌, subst, Vec, Global, arith, suc, zero, Bor, ◌==◌}
-use Rattle.std.specs.Cmp.Lexicographic.{pointwise}
-use Rattle.std.proofs.Math.Seq.{drop-cons, drop-length}
+use Rattle.std.proofs.Common.{◌≡◌, ℕ, ◌+◌, ◌<◌, List, [], ◌∷◌, length, drop, get_or, refl, sym, ap, ◌∙◌, subst, Vec, Global, arith, suc, zero, Bor}
+use Rattle.std.proofs.Math.Seq.{drop-cons}
 use Rattle.archive_check.specs.declared.expr.Expr.{Expr, Row_of-Expr, end_of-Expr, more_of-Expr, Row_of-Expr-Choice-1-1, end_of-Expr-Choice-1-1, more_of-Expr-Choice-1-1, items-the_row-Expr, items-the_row-Expr-Choice-1-1, items_hidden-the_row-Expr-0, items_hidden-the_row-Expr-Choice-1-1-1, items_shown-the_row-Expr-0}
 use Rattle.archive_check.specs.declared.expr.Expr.TheVariants as expr
-use Rattle.archive_check.specs.Shape.{Shape, parts, choice, Parts, no_part, part, Variants, no_variant, variant}
+use Rattle.archive_check.specs.Shape.{parts, choice, no_part, part, no_variant, variant}
 use Rattle.archive_check.specs.Expressions.{shape_of, shapes_of, variants_of, shapes_in, variants_in}
 use Rattle.archive_check.specs.Sizes.{shape_size, parts_size, variants_size}
 use Rattle.std.proofs.lemmas.List.{drop_all}

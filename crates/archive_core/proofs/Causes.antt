@@ -1,14 +1,13 @@
 -- Why a write is refused, from why its steps are.
 use Rattle.std.proofs.Common.{◌≡◌, ◌⊎◌, inl, inr, ℕ, ◌+◌, ◌-◌, ◌^◌, ◌<◌, ◌≤◌, List, [], ◌++◌, length, refl, sym, ap, ◌∙◌, append_assoc, length-append, arith, Option, Some, None}
-use Rattle.std.specs.Prelude.{IsSomeAnd, Result, Ok, Err, IfOk, OnOk, IfErr, IsErrAnd}
+use Rattle.std.specs.Prelude.{IsSomeAnd, Result, Ok, Err, IfErr, IsErrAnd}
 use Rattle.std.proofs.lemmas.List.{append-nil}
 use Rattle.std.proofs.lemmas.Bool.{cases_lt}
 use Rattle.archive_check.specs.Told.{Told}
 use Rattle.archive_check.specs.declared.error.Error.{Error}
 use Rattle.archive_check.specs.declared.error.Error.TheVariants.{OutOfMemory, IsizeOverflow, OffsetOverflow, PositionTooLarge, LengthTooLarge, NumberTooLarge, StringTooLong, BufferOverflow, WriterFailed, ItemWrote, CyclicSerialize, CyclicValidate, CyclicDeserialize, NotStarted, AlreadyFinished, InvalidSubtreePointer, UnalignedPointer, ExceededMaximumSubtreeDepth, RangePoppedTooManyTimes, RangePoppedOutOfOrder, TypeMismatch, MetadataMismatch, LayoutTooLarge, InvalidDiscriminant, InvalidBool, InvalidChar, ZeroNumber, InvalidUtf8, InvalidStringRepr, ShapeConflict, RecursiveLayout, UnsortedKeys}
-use Rattle.archive_write.specs.Sharing.{IsNoMisuse}
 use Rattle.archive_write.specs.Written.{IsBeginning, RoomFalls, ExplainsRefusal}
-use Rattle.archive_core.specs.Plans.{GoesOn, Overflows, Explains, no_memory, no_room, device_failed, own_cause, IsOfWriting, of_memory, of_isize, of_offset, of_position, of_length, of_number, of_string, of_room, of_device, of_item, of_key, of_layout}
+use Rattle.archive_core.specs.Plans.{GoesOn, Overflows, Explains, no_memory, no_room, device_failed, own_cause, IsOfWriting, of_memory, of_room, of_device}
 
 -- how a writer goes on
 

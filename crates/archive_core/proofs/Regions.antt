@@ -1,12 +1,11 @@
 -- Regions that are resolved into a writer.
 use Rattle.std.proofs.Common.{◌≡◌, inl, inr, ℕ, ◌+◌, ◌<◌, ◌≤◌, ◌^◌, List, ◌++◌, length, replicate, take, refl, ap, arith, ◌∙◌, Option, Some, None, SomeIff, is_some, true}
-use Rattle.std.proofs.lemmas.List.{get_or-replicate, length-replicate, take-replicate}
+use Rattle.std.proofs.lemmas.List.{length-replicate, take-replicate}
 use Rattle.archive_check.specs.Shape.{Shape}
 use Rattle.archive_check.specs.Layout.{Layout}
 use Rattle.archive_check.specs.Definitions.{Definitions, HasLayout}
 use Rattle.archive_check.specs.Value.{Value}
 use Rattle.archive_check.specs.Told.{Told, KeepsKeys}
-use Rattle.archive_check.specs.Tidy.{IsZeroed}
 use Rattle.archive_check.specs.Held.{States, held}
 use Rattle.archive_check.specs.declared.error.Error.{Error}
 use Rattle.archive_check.specs.declared.error.Error.TheVariants.{LayoutTooLarge}

@@ -1,6 +1,5 @@
 -- What may be read of a part that was checked.
 use Rattle.std.proofs.Common.{◌≡◌, ◌≢◌, ℕ, ℤ, Bool, true, false, List, length, ◌+◌, ◌-◌, ◌≤◌, pos, negsuc, ◌+ℤ◌, take, drop, arith, refl, sym, ap, ◌∙◌}
-use Rattle.std.specs.Bool.{Decides}
 use Rattle.std.specs.Str.{IsUtf8}
 use Rattle.std.specs.Coded.{le_prop}
 use Rattle.std.specs.Int.{Width, byte_len, from_le_bytes}

@@ -7,8 +7,8 @@ use Rattle.archive_check.specs.Shape.{Shape, one}
 use Rattle.archive_check.specs.Layout.{Layout, size_of}
 use Rattle.archive_check.specs.Definitions.{Definitions}
 use Rattle.archive_check.specs.Value.{Value, pointers}
-use Rattle.archive_check.specs.Reads.{Schema, Reads}
-use Rattle.archive_check.specs.Tour.{Region, Entry, Contents, contents_one, Accepted, root_region}
+use Rattle.archive_check.specs.Reads.{Reads}
+use Rattle.archive_check.specs.Tour.{Region, Entry, Accepted, root_region}
 use Rattle.archive_check.specs.Denotes.{Knows, rename}
 use Rattle.archive_check.specs.Written.{Tight}
 use Rattle.archive_check.specs.Tidy.{Stands, Tidy}

@@ -1,4 +1,4 @@
-use Rattle.std.proofs.Common.{arith, sym, ap, ◌∙◌, inr, refl, length, ◌≤◌, rules}
+use Rattle.std.proofs.Common.{inr, refl, length, ◌≤◌, rules}
 use Rattle.archive_check.specs.Expressions.{entries_of}
 use Rattle.archive_check.proofs.ArrangedDefinitions.{arrange_ready, arrange_stuck}
 use Rattle.archive_check.proofs.names.in_order.Goals as goal

@@ -1,6 +1,4 @@
-use Rattle.std.proofs.Common.{◌≡◌, ◌⊎◌, inl, inr, ⊎_elim, length, arith, sym, ap, ◌∙◌, ◌<◌, Ok, Err, subst}
-use Rattle.archive_check.specs.declared.plan.Checker.{Checker}
-use Rattle.archive_check.specs.Planned.{IsOf}
+use Rattle.std.proofs.Common.{◌⊎◌, inl, inr, ⊎_elim, length, sym, ◌<◌, Ok, Err, subst}
 use Rattle.archive_check.proofs.SuitableSchemas.{plan_accepts, plan_refuses, plan_exact, plan_known, plan_closed}
 use Rattle.archive_check.proofs.shape.Schema.check.Goals as goal
 
