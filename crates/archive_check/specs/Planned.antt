@@ -1,5 +1,5 @@
 -- Plans of an expression and the definitions of its names.
-use Rattle.std.specs.Prelude.{◌≡◌, ℕ, ◌<◌, List, [], ◌++◌, length, take, Some, IsSome, is_some}
+use Rattle.std.specs.Prelude.{◌≡◌, ℕ, ◌<◌, List, ◌++◌, length, take, Some, IsSome, is_some}
 use Rattle.archive_check.specs.declared.defs.Def.{Def}
 use Rattle.archive_check.specs.declared.plan.Plan.{Plan}
 use Rattle.archive_check.specs.declared.plan.Checker.{Checker}
@@ -13,7 +13,7 @@ use Rattle.archive_check.specs.Runs.{IsAt}
 use Rattle.archive_check.specs.Closed.{IsClosed}
 use Rattle.archive_check.specs.Exact.{PlanOf}
 use Rattle.archive_check.specs.Fitting.{fits}
-use Rattle.archive_check.specs.Growing.{node_of, Lists, no_lists, Goes, Grows}
+use Rattle.archive_check.specs.Growing.{node_of, Lists, no_lists, Grows}
 use Rattle.archive_check.specs.Queued.{Waits, no_waits, wait_shapes}
 use Rattle.archive_check.specs.Compilable.{Can, AllKnown}
 use Rattle.archive_check.specs.Compiled.{Given, Adds, Compiled}

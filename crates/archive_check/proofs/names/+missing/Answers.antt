@@ -1,4 +1,4 @@
-use Rattle.std.proofs.Common.{◌≡◌, ◌<◌, ap, sym, ◌∙◌, subst, option_map}
+use Rattle.std.proofs.Common.{◌<◌, ap, sym, ◌∙◌, subst}
 use Rattle.archive_check.specs.Expressions.{shape_of, variants_in, entries_of}
 use Rattle.archive_check.specs.Sizes.{variants_size}
 use Rattle.archive_check.specs.Names.{missing as missing_in, variants_missing}

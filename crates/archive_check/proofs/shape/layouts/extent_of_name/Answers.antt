@@ -1,4 +1,4 @@
-use Rattle.std.proofs.Common.{Some, sym, ◌∙◌, refl, ap}
+use Rattle.std.proofs.Common.{sym, ◌∙◌, refl, ap}
 use Rattle.archive_check.specs.Growing.{node_of}
 use Rattle.archive_check.proofs.ExtentsOf.{name_there, name_extent}
 use Rattle.archive_check.proofs.shape.layouts.extent_of_name.Goals as goal
