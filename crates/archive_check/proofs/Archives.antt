@@ -22,11 +22,11 @@ use Rattle.archive_check.specs.Viewed.{Viewed, Says}
 use Rattle.archive_check.specs.Archives.{IsArchiveWithin, IsArchive, IsValueOf, IsFaulty, IsRefusal, IsNoArchive}
 use Rattle.archive_check.proofs.Rounds.{rounds}
 use Rattle.archive_check.proofs.AcceptedWalks.{walks}
-use Rattle.archive_check.proofs.Trails.{root_no_walk}
-use Rattle.archive_check.proofs.Positive.{rounds_pos}
-use Rattle.archive_check.proofs.Placed.{names_of, rounds_solve_reached}
+use Rattle.archive_check.proofs.FaultyNotWalked.{root_no_walk}
+use Rattle.archive_check.proofs.PositiveAlignments.{rounds_pos}
+use Rattle.archive_check.proofs.LaidOutNames.{names_of, rounds_solve_reached}
 use Rattle.archive_check.proofs.WellFormed.{found_stands}
-use Rattle.archive_check.proofs.Descent.{contains_cases, contains_first}
+use Rattle.archive_check.proofs.Elements.{contains_cases, contains_first}
 use Rattle.archive_check.proofs.Viewed.{root_lies, root_says}
 
 -- a schema that has the definitions has each that their list shows

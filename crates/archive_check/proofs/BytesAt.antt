@@ -4,18 +4,6 @@ use Rattle.std.proofs.lemmas.Bool.Decides.{nat_tests}
 use Rattle.std.proofs.lemmas.Grind.{common_steps}
 use Rattle.archive_check.specs.Reads.{bytes_at, before_end}
 
-pub bytes_next : (bytes : List ℕ) (p n : ℕ) → p < length bytes → bytes_at bytes p (suc n) ≡ slice_index bytes p ∷ bytes_at bytes (suc p) n
-unfolding bytes_at
-bytes_next bytes p n h = ap (take (suc n)) (drop-cons bytes p 0 h)
-
-pub bytes_four : (bytes : List ℕ) (p : ℕ) → p + 4 ≤ length bytes → bytes_at bytes p 4 ≡ slice_index bytes p ∷ slice_index bytes (p + 1) ∷ slice_index bytes (p + 2) ∷ slice_index bytes (p + 3) ∷ []
-unfolding bytes_at
-bytes_four bytes p h =
-    ap (take 4) (drop-cons bytes p 0 (omega arith))
-    ∙ ap (λ xs. slice_index bytes p ∷ take 3 xs) (ap (λ q. drop q bytes) (let e : suc p ≡ p + 1 = omega arith in e) ∙ drop-cons bytes (p + 1) 0 (omega arith))
-    ∙ ap (λ xs. slice_index bytes p ∷ slice_index bytes (p + 1) ∷ take 2 xs) (ap (λ q. drop q bytes) (let e : suc (p + 1) ≡ p + 2 = omega arith in e) ∙ drop-cons bytes (p + 2) 0 (omega arith))
-    ∙ ap (λ xs. slice_index bytes p ∷ slice_index bytes (p + 1) ∷ slice_index bytes (p + 2) ∷ take 1 xs) (ap (λ q. drop q bytes) (let e : suc (p + 2) ≡ p + 3 = omega arith in e) ∙ drop-cons bytes (p + 3) 0 (omega arith))
-
 pub bytes_one : (bytes : List ℕ) (p : ℕ) → p < length bytes → bytes_at bytes p 1 ≡ slice_index bytes p ∷ []
 unfolding bytes_at
 bytes_one bytes p h = ap (take 1) (drop-cons bytes p 0 h)
@@ -37,7 +25,9 @@ before_first [] k lt h e = absurd (omega arith)
 before_first (b ∷ xs) zero lt h e = stop_byte b (before_end xs) (nat_eq b 255) refl e
 before_first (b ∷ xs) (suc k) lt h e = keep_byte b (before_end xs) (take k xs) (nat_eq b 255) refl (h 0 (omega arith)) (before_first xs k (omega arith) (λ i lt. h (suc i) (omega arith)) e)
 
-byte_in : (bytes : List ℕ) (p n i : ℕ) → i < n → slice_index (take n (drop p bytes)) i ≡ slice_index bytes (p + i)
+-- the bytes of a part are those of the whole
+pub byte_in : (bytes : List ℕ) (p n i : ℕ) → i < n → slice_index (bytes_at bytes p n) i ≡ slice_index bytes (p + i)
+unfolding bytes_at
 byte_in bytes p n i h = grind (arith, common_steps)
 
 pub inline_all : (bytes : List ℕ) (p : ℕ) → p + 8 ≤ length bytes → ((i : ℕ) → i < 8 → slice_index bytes (p + i) ≢ 255) → bytes_at bytes p 8 ≡ before_end (bytes_at bytes p 8)
@@ -58,7 +48,3 @@ unfolding bytes_at
 inline_first bytes p k room lt h e =
     let l : k < length (take 8 (drop p bytes)) = grind (arith, common_steps) in
     sym (before_first (take 8 (drop p bytes)) k l (λ i below f. let q : i < 8 = omega arith in h i below (sym (byte_in bytes p 8 i q) ∙ f)) (byte_in bytes p 8 k lt ∙ e) ∙ take_within k (drop p bytes) (omega arith))
-
-pub length-bytes_at : (bytes : List ℕ) (p n : ℕ) → p + n ≤ length bytes → length (bytes_at bytes p n) ≡ n
-unfolding bytes_at
-length-bytes_at bytes p n h = grind (arith, common_steps)

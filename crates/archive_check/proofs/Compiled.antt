@@ -1,5 +1,5 @@
 -- What compiling does, by cases.
-use Rattle.std.proofs.Common.{◌≡◌, ◌⊎◌, inl, inr, ⊎_elim, ℕ, zero, suc, refl, sym, ap, ◌∙◌, subst, ◌+◌, ◌-◌, ◌*◌, ◌<◌, ◌≤◌, arith, List, [], ◌∷◌, length, drop, Bool, true, Option, Some, None, mul_comm, Bor}
+use Rattle.std.proofs.Common.{◌≡◌, ◌⊎◌, inl, inr, ⊎_elim, ℕ, zero, suc, refl, sym, ap, ◌∙◌, subst, ◌+◌, ◌-◌, ◌<◌, ◌≤◌, arith, List, [], ◌∷◌, length, drop, Bool, true, Option, Some, None, mul_comm, Bor}
 use Rattle.archive_check.specs.declared.expr.Kind.{Kind as KindExpr}
 use Rattle.archive_check.specs.declared.plan.Job.TheVariants.{Free, Leaf, Record, Choice, Array}
 use Rattle.archive_check.specs.declared.plan.Node.{Node}
@@ -21,11 +21,14 @@ use Rattle.archive_check.specs.CompileQueue.{Waits}
 use Rattle.archive_check.specs.PlanGrowth.{node_of, PlanLists, IsMade}
 use Rattle.archive_check.specs.Compiled.{Follows, NamesSized, Settled, Given, MadeTo, Compiled, IsPartWithin, CompiledParts, CompiledVariants}
 use Rattle.archive_check.proofs.Compilable.{can_parts, can_choice, can_array}
-use Rattle.archive_check.proofs.Runs.{plain_walk}
-use Rattle.archive_check.proofs.Fitting.{fits_some, round_up, some_is, rounded_fits, rounded_some, times_none, times_fits}
-use Rattle.archive_check.proofs.GoingOn.{at_more, same_at, at_dropped, at_taken, goes_longer, grows_trans, pushed_grows}
-use Rattle.archive_check.proofs.Adding.{knows_settled, adds_refl, compiled_made, stands_of}
+use Rattle.archive_check.proofs.PlainRuns.{plain_walk}
+use Rattle.archive_check.proofs.Fitting.{fits_some, some_is, rounded_fits, rounded_some, times_none, times_fits}
+use Rattle.archive_check.proofs.GrowingPlans.{at_more, goes_longer, grows_trans, pushed_grows}
+use Rattle.archive_check.proofs.Elements.{same_at, at_dropped, at_taken}
+use Rattle.archive_check.proofs.AddedNodes.{knows_settled, adds_refl, compiled_made, stands_of}
 use Rattle.archive_check.proofs.FreeWalks.{kind_few, empty_plain, AnyBytes, any_stands, any_parts, any_run}
+use Rattle.archive_check.proofs.PartsInside.{up_le}
+use Rattle.std.proofs.Math.Nat.{eq_of_mul-eq-mul_right, zero-mul}
 
 -- a leaf
 leaf_free : (k : Kind) (z : ℕ) → Some (kind_size k) ≡ Some z → (is_plain_kind k ≡ true) ⊎ (z ≡ 0) → is_plain_kind k ≡ true
@@ -96,7 +99,7 @@ module _ {names : List Known} {done : ℕ} {v w : Waits} {a b c : PlanLists} whe
       let lays = f.lays m s.layouts over (knows_settled done t) in
       let whole : q.0 ≡ parts_end s.layouts 0 ps = sym (some_is (sym lays.0 ∙ q.1)) in
       made_free (λ bytes pending depth stop p start seen le. walk_parts (any_parts k t.laid_out (f.stand s shapes m over t given q.0 q.1) (parts_are_free f over k q.1 q.2 h) bytes pending depth stop p start seen
-      (omega (arith, round_up (parts_end s.layouts 0 ps) laid.align f.positive, ap (λ x. up (parts_end s.layouts 0 ps) x) lays.1, le)))))
+      (omega (arith, up_le (parts_end s.layouts 0 ps) laid.align f.positive, ap (λ x. up (parts_end s.layouts 0 ps) x) lays.1, le)))))
       (λ s shapes m g t given z e pos. let q = split z e in made_record (f.stand s shapes m (grows_trans grown g) t given q.0 q.1))
 
   -- variants
@@ -119,10 +122,6 @@ module _ {names : List Known} {done : ℕ} {v w : Waits} {a b c : PlanLists} whe
       (λ s shapes m g t given z e pos. let q = split z e in made_choice (f.stand s shapes m (grows_trans grown g) t given q.0 q.1) f.others)
 
 -- elements
-product_zero : (n y : ℕ) → y * suc n ≡ 0 → y ≡ 0
-product_zero n zero e = refl
-product_zero n (suc y) e = absurd (omega (arith, mul_comm (suc y) (suc n)))
-
 module _ {names : List Known} {done : ℕ} {v w : Waits} {a b : PlanLists} {X : Shape} {element : ℕ} (f : Compiled names done X v w a b element) {here : Node} (at : IsAt b.nodes element here) where
   element_sized : (m : Checker) (l : Layouts) → Follows b m → NamesSized names l done m → (here.size ≡ fits (size_of l X)) × (here.align ≡ align_of l X)
   element_sized m l g k = let q = f.lays m l g k in let same = same_at (at_more g.nodes at) q.at in (ap (λ (w : Node). w.size) same ∙ q.size_is, ap (λ (w : Node). w.align) same ∙ q.align_is)
@@ -138,7 +137,7 @@ module _ {names : List Known} {done : ℕ} {v w : Waits} {a b : PlanLists} {X : 
   element_free g t given k None free (suc n) z i e job h = absurd (let q = times_none (suc n) (omega arith) in cc)
   element_free {s} {shapes} {m} g t given k (Some y) free (suc n) z i e job h =
       let at_m = at_more g.nodes at in
-      let is_free : here.job ≡ Free = ⊎_elim (λ q. job q) (λ q. k.empty element here at.below at_m (i ∙ ap Some (product_zero n y (some_is e ∙ q)))) h in
+      let is_free : here.job ≡ Free = ⊎_elim (λ q. job q) (λ q. k.empty element here at.below at_m (i ∙ ap Some (eq_of_mul-eq-mul_right (suc n) (omega arith) y 0 (some_is e ∙ q ∙ sym (zero-mul (suc n)))))) h in
       let is_size : size_of s.layouts X ≡ y = some_is (sym (element_sized m s.layouts g (knows_settled done t)).0 ∙ i) in
       let any : AnyBytes s X y = any_stands k (stands_of f t given) at.below here y at_m is_free i in
       let any_element : AnyBytes s X (size_of s.layouts X) = subst (λ w. AnyBytes s X w) (sym is_size) any in

@@ -1,33 +1,25 @@
 -- What expressions take under the definitions of a schema.
 use Rattle.std.proofs.Math.Logic.{∥∥₁_elim}
 use Rattle.std.proofs.Math.Nat.{ℕ_set}
-use Rattle.std.proofs.Math.Bool.{Bool-set}
 use Rattle.std.specs.Coded.{le_prop}
 use Rattle.std.proofs.Props.{props}
-use Rattle.std.proofs.lemmas.Bool.Decides.{nat_tests}
-use Rattle.std.proofs.Common.{◌≡◌, ℕ, refl, sym, ap, ap₂, ◌∙◌, subst, ◌+◌, ◌<◌, ◌≤◌, ◌^◌, max, arith, length, Bool, true, false, cond, is_some, Option, Some, None}
+use Rattle.std.proofs.Common.{◌≡◌, ℕ, refl, sym, ap, ap₂, ◌∙◌, subst, ◌+◌, ◌<◌, max, arith, length, Option, Some}
 use Rattle.archive_check.specs.declared.plan.Node.{Node}
 use Rattle.archive_check.specs.declared.extents.Extent.{Extent}
 use Rattle.archive_check.specs.declared.shape.Schema.{Schema as RustSchema}
-use Rattle.archive_check.specs.Shape.{Name, Shape, named, Pointee, one, run, text, Parts, no_part, part, Variants, no_variant, variant, definition}
+use Rattle.archive_check.specs.Shape.{Name, Shape, named, Pointee, one, run, text, Parts, no_part, part, Variants, no_variant, variant}
 use Rattle.archive_check.specs.Layout.{Layouts, up, pointer_size, size_of, align_of, parts_end, parts_align, variants_end, variants_align}
 use Rattle.archive_check.specs.Reads.{Schema, LaidOut}
 use Rattle.archive_check.specs.Runs.{IsAt}
-use Rattle.archive_check.specs.Names.{missing}
 use Rattle.archive_check.specs.Schemas.{table_in}
 use Rattle.archive_check.specs.BoundedSizes.{fits, rounded, sum_of, greater_of}
 use Rattle.archive_check.specs.PlanGrowth.{node_of}
 use Rattle.archive_check.specs.Extents.{Ends, HasExtent, PartsSoFar, VariantsSoFar}
 use Rattle.archive_check.proofs.Fitting.{fits_some, rounded_fits, sum_fits, greater_fits}
-use Rattle.archive_check.proofs.Rows.{align_positive, variants_positive, ends_positive}
+use Rattle.archive_check.proofs.CompiledParts.{ends_positive}
+use Rattle.archive_check.proofs.PositiveAlignments.{parts_align_pos, variants_align_pos}
 
 -- what ends nowhere is too large
-pub too_large : (n : ℕ) → None ≡ fits n → 2 ^ 64 ≤ n
-too_large n e = grind (arith, nat_tests)
-
-pub size_fits : (z n : ℕ) → Some z ≡ fits n → z ≡ n
-size_fits z n e = grind (arith, nat_tests)
-
 pub pointer_fits : (P : Pointee) → fits (pointer_size P) ≡ Some (pointer_size P)
 pointer_fits (one X) = fits_some 4 (omega arith)
 pointer_fits (run X) = fits_some 8 (omega arith)
@@ -50,7 +42,7 @@ whole_ends {e} {w} {end} {align} h q a = record {
 
 -- no part yet
 pub parts_start : (l : Layouts) (start : ℕ) (ps : Parts) (e : Extent) → start < 18446744073709551616 → e.end ≡ Some start → e.align ≡ 1 → PartsSoFar l start ps ps e
-parts_start l start ps e few q a = record { at = start; ends = q ∙ sym (fits_some start few); same_end = refl; same_align = omega (arith, a, align_positive l ps) }
+parts_start l start ps e few q a = record { at = start; ends = q ∙ sym (fits_some start few); same_end = refl; same_align = omega (arith, a, parts_align_pos l ps) }
 
 -- one part more
 pub parts_next : {l : Layouts} {start : ℕ} {all ps : Parts} {X : Shape} {e here next : Extent} → PartsSoFar l start all (part X ps) e → Ends here (size_of l X) (align_of l X)
@@ -80,7 +72,7 @@ variants_start l vs e q a = record {
   tag = omega arith;
   ends = q ∙ sym (fits_some 1 (omega arith));
   same_end = omega (arith, ends_positive l vs);
-  same_align = omega (arith, a, variants_positive l vs);
+  same_align = omega (arith, a, variants_align_pos l vs);
 }
 
 -- one variant more
@@ -98,15 +90,7 @@ variants_next {l} {all} {vs} {ps} {e} {here} {next} r h q a = record {
 pub variants_done : {l : Layouts} {all : Variants} {e : Extent} → VariantsSoFar l all no_variant e → Ends e (variants_end l all) (variants_align l all)
 variants_done {e = e} r = record { end_is = r.ends ∙ ap fits (omega (arith, r.same_end, r.tag)); align_is = omega (arith, r.same_align, e.positive) }
 
--- what isn't missing is there
-not_missing : (b : Bool) (name : Name) → cond b None (Some name) ≡ None → b ≡ true
-not_missing true name e = refl
-not_missing false name e = cc e
-
 module _ (s : RustSchema) (name : Name) where
-  pub name_known : missing false (table_in s) (named name) ≡ None → is_some (node_of s.names.items name) ≡ true
-  name_known e = ∥∥₁_elim s.named (Bool-set _ _) (λ h. h.known name ∙ not_missing (is_some (definition (table_in s) name)) name e)
-
   module _ {j : ℕ} (is : node_of s.names.items name ≡ Some j) where
     pub name_there : j < length s.plan.nodes.items
     name_there = ∥∥₁_elim s.named le_prop (λ h. h.there name j is)

@@ -14,8 +14,8 @@ use Rattle.archive_check.specs.Walk.{Walk, walk_named, WalkParts, walk_no_part, 
 use Rattle.archive_check.specs.Runs.{IsAt, IsNode}
 use Rattle.archive_check.specs.Represents.{StandsFor, stands, stands_named, PartsStand, parts_over, parts_more, Made, made_free}
 use Rattle.archive_check.specs.Compiled.{MadeTo}
-use Rattle.archive_check.proofs.Inside.{parts_end_le}
-use Rattle.archive_check.proofs.GoingOn.{same_at}
+use Rattle.archive_check.proofs.PartsInside.{parts_end_le}
+use Rattle.archive_check.proofs.Elements.{same_at}
 
 few_bytes : (w : Width) → (1 ≤ byte_len w) × (byte_len w ≤ 16)
 few_bytes w8 = (omega arith, omega arith)

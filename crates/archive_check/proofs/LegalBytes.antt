@@ -1,19 +1,22 @@
--- Which bytes in a buffer are a leaf, byte by byte.
-use Rattle.std.proofs.Common.{◌≡◌, ◌≢◌, ◌⊎◌, inl, inr, ℕ, zero, suc, ◌+◌, ◌-◌, ◌*◌, ◌^◌, ◌<◌, ◌≤◌, arith, refl, sym, ap, ◌∙◌, List, length, slice_index, Bool, true, false, IsTrue, nat_lt, nat_eq}
+-- Which bytes in a buffer are a leaf, byte by byte; and that a leaf has one encoding.
+use Rattle.std.proofs.Common.{◌≡◌, ◌≢◌, ◌⊎◌, inl, inr, ℕ, zero, suc, ◌+◌, ◌-◌, ◌^◌, ◌<◌, ◌≤◌, arith, refl, sym, ap, ◌∙◌, List, length, slice_index, Bool, true, false, IsTrue, nat_lt, nat_eq}
 use Rattle.std.proofs.lemmas.Bool.Decides.{nat_tests}
-use Rattle.std.proofs.lemmas.Grind.{common_steps}
-use Rattle.std.specs.Int.{Width, w8, w16, w32, w64, w128, byte_len, byte_worth, sum_through}
+use Rattle.std.proofs.lemmas.List.{nil_from_length}
+use Rattle.std.specs.Int.{Width, w8, w32, byte_len, byte_worth, sum_through}
 use Rattle.archive_check.specs.declared.expr.Kind.{Kind as KindExpr}
 use Rattle.archive_check.specs.declared.expr.Kind.TheVariants as expr
 use Rattle.archive_check.specs.declared.expr.IntegerKind.{IntegerKind}
 use Rattle.archive_check.specs.declared.error.Error.TheVariants.{ZeroNumber}
 use Rattle.archive_check.specs.Expressions.{kind_of}
 use Rattle.archive_check.specs.Faults.{illegal_error}
-use Rattle.archive_check.specs.Shape.{Sign, bool, char, non_zero}
+use Rattle.archive_check.specs.Shape.{Sign, bool, char, non_zero, Kind as LeafKind, unit, number, raw_rel}
 use Rattle.archive_check.specs.Layout.{kind_size}
-use Rattle.archive_check.specs.Reads.{bytes_at, u32_at, kind_number, IsLegal, IsLegalNumber}
-use Rattle.archive_check.proofs.BytesAt.{bytes_one}
-use Rattle.archive_check.proofs.Edits.{bytes_long}
+use Rattle.archive_check.specs.Reads.{bytes_at, u32_at, kind_number, IsLegal, IsLegalNumber, kind_value}
+use Rattle.archive_check.specs.LittleEndian.{AreBytes}
+use Rattle.archive_check.proofs.BytesAt.{bytes_one, byte_in}
+use Rattle.archive_check.proofs.EditedBytes.{bytes_long}
+use Rattle.archive_check.proofs.LittleEndian.{some_byte, from_le_bytes-one, with_sign-one}
+use Rattle.std.proofs.Math.Nat.{eq_of_mul-eq-mul_right, one-le-pow, zero-mul}
 
 pub legal_bool : (bytes : List ℕ) (p : ℕ) → p + 1 ≤ length bytes → (IsTrue (nat_lt (slice_index bytes p) 2) → IsLegal bool (bytes_at bytes p 1)) × (IsLegal bool (bytes_at bytes p 1) → IsTrue (nat_lt (slice_index bytes p) 2))
 unfolding kind_number
@@ -37,25 +40,13 @@ zero_sum f (suc k) e i lt = at (zero_sum f k (omega arith) i) (nat_eq i (suc k))
     at before true q = let last : i ≡ suc k = grind (arith, nat_tests) in ap f last ∙ omega arith
     at before false q = let other : i ≢ suc k = grind (arith, nat_tests) in before (omega arith)
 
-power_some : (k : ℕ) → 0 < 256 ^ k
-power_some zero = omega arith
-power_some (suc k) = let h = power_some k in omega arith
-
-product_zero : (b p : ℕ) → 0 < p → b * p ≡ 0 → b ≡ 0
-product_zero zero p h e = refl
-product_zero (suc b) p h e = absurd (omega arith)
-
 worth_zero : (i b : ℕ) → byte_worth i b ≡ 0 → b ≡ 0
 worth_zero zero b e = e
-worth_zero (suc i) b e = product_zero b (256 ^ suc i) (power_some (suc i)) e
+worth_zero (suc i) b e = eq_of_mul-eq-mul_right (256 ^ suc i) (one-le-pow (suc i) 256 (omega arith)) b 0 (e ∙ sym (zero-mul (256 ^ suc i)))
 
 zero_worth : (i b : ℕ) → b ≡ 0 → byte_worth i b ≡ 0
 zero_worth zero b e = e
 zero_worth (suc i) b e = rw e (omega arith)
-
-byte_in : (bytes : List ℕ) (p n i : ℕ) → i < n → slice_index (bytes_at bytes p n) i ≡ slice_index bytes (p + i)
-unfolding bytes_at
-byte_in bytes p n i h = grind (arith, common_steps)
 
 some_or_none : (f : ℕ → ℕ) (n : ℕ) → ((i : ℕ) × (i < n) × (f i ≢ 0)) ⊎ ((i : ℕ) → i < n → f i ≡ 0)
 some_or_none f zero = inr (λ i lt. absurd (omega arith))
@@ -72,13 +63,6 @@ some_or_none f (suc n) = elim (some_or_none f n) [
         all false i lt q = let other : i ≢ n = grind (arith, nat_tests) in h i (omega arith)
     last (suc b) e h = inl (n, omega arith, λ q. omega arith)
 
-width_some : (w : Width) → 0 < byte_len w
-width_some w8 = omega arith
-width_some w16 = omega arith
-width_some w32 = omega arith
-width_some w64 = omega arith
-width_some w128 = omega arith
-
 pub legal_non_zero : (s : Sign) (w : Width) (bytes : List ℕ) (p n : ℕ) → n ≡ byte_len w → p + byte_len w ≤ length bytes
     → (((i : ℕ) × (i < n) × (slice_index bytes (p + i) ≢ 0)) → IsLegal (non_zero s w) (bytes_at bytes p (byte_len w)))
     × (IsLegal (non_zero s w) (bytes_at bytes p (byte_len w)) → (i : ℕ) × (i < n) × (slice_index bytes (p + i) ≢ 0))
@@ -91,7 +75,7 @@ legal_non_zero s w bytes p n e room =
       },
       λ l. elim (some_or_none (λ i. slice_index bytes (p + i)) n) [
         | inl h ↦ h
-        | inr none ↦ absurd (l.number (sum_zero worth (byte_len w - 1) (λ i lt. zero_worth i _ (byte_in bytes p (byte_len w) i (omega (arith, width_some w)) ∙ none i (omega (arith, width_some w))))))
+        | inr none ↦ absurd (l.number (sum_zero worth (byte_len w - 1) (λ i lt. zero_worth i _ (byte_in bytes p (byte_len w) i (omega (arith, some_byte w)) ∙ none i (omega (arith, some_byte w))))))
       ],
     )
 
@@ -124,3 +108,13 @@ illegal_zero (expr.RawRel x) xs long a b not = absurd (not (legal_of (expr.RawRe
 illegal_zero expr.Bool xs long a b not = absurd (a refl)
 illegal_zero expr.Char xs long a b not = absurd (b refl)
 illegal_zero (expr.NonZero x) xs long a b not = refl
+
+-- legal bytes of the same value are the same
+pub one_encoding : (kind : LeafKind) (a b : List ℕ) → IsLegal kind a → IsLegal kind b → AreBytes a → AreBytes b → kind_value kind a ≡ kind_value kind b → a ≡ b
+unfolding kind_value kind_number
+one_encoding unit a b g h i j same = nil_from_length a g.size ∙ sym (nil_from_length b h.size)
+one_encoding bool a b g h i j same = from_le_bytes-one w8 a b g.size h.size i j cc
+one_encoding char a b g h i j same = from_le_bytes-one w32 a b g.size h.size i j cc
+one_encoding (number sign width) a b g h i j same = with_sign-one sign width a b g.size h.size i j same
+one_encoding (non_zero sign width) a b g h i j same = with_sign-one sign width a b g.size h.size i j same
+one_encoding (raw_rel sign width) a b g h i j same = with_sign-one sign width a b g.size h.size i j same

@@ -6,10 +6,11 @@ use Rattle.std.specs.Str.{bytes_eq}
 use Rattle.std.specs.Bool.{Decides}
 use Rattle.std.specs.List.{remove}
 use Rattle.std.proofs.lemmas.List.Elements.{Contains-push_cases}
+use Rattle.std.proofs.lemmas.Bool.{false_from_ne_true}
 use Rattle.archive_check.specs.declared.defs.Def.{Def}
 use Rattle.archive_check.specs.Shape.{Name, Shape, Table, definition}
 use Rattle.archive_check.specs.Expressions.{shape_of, entries_of}
-use Rattle.archive_check.proofs.Descent.{contains_cases, contains_later}
+use Rattle.archive_check.proofs.Elements.{contains_cases, contains_later}
 use Rattle.archive_check.specs.Names.{Taken}
 
 -- the definition at i, and the rest
@@ -26,12 +27,8 @@ entries_of-append [] ys = refl
 entries_of-append (x ∷ xs) ys = ap (λ es. (x.name.now, shape_of x.expr) ∷ es) (entries_of-append xs ys)
 
 -- a name is another one, or it isn't
-decided_false : {P : Type 0} (b : Bool) → Decides b P → (P → ⊥) → b ≡ false
-decided_false true d n = absurd (n (d.0 refl))
-decided_false false d n = refl
-
 pub other_name : (a b : Name) → a ≢ b → bytes_eq a b ≡ false
-other_name a b n = decided_false (bytes_eq a b) (bytes_eq-Decides a b) n
+other_name a b n = false_from_ne_true (bytes_eq a b) (λ e. n ((bytes_eq-Decides a b).0 e))
 
 pub same_name : (a b : Name) → a ≡ b → bytes_eq a b ≡ true
 same_name a b e = (bytes_eq-Decides a b).1 e
@@ -147,3 +144,13 @@ pub not_taken : (old mid : List Def) (i : ℕ) (name : Name) → mid ≡ old →
 not_taken old mid i name same e found = (rw (← same) (sym found ∙ ap (λ t. definition t name) (entries_of-end mid i e)), same)
 
 pub ruleset named = (entries_of-drop, entries_of-end, definition_here, definition_other, length-remove)
+
+-- one definition more, and the first one of those that are left
+pub entries_of-push : (xs : List Def) (d : Def) → entries_of (xs ++ d ∷ []) ≡ entries_of xs ++ (d.name.now, shape_of d.expr) ∷ []
+entries_of-push xs d = entries_of-append xs (d ∷ [])
+
+pub definition-drop : (name : Name) (xs : List Def) (i : ℕ) (d : Def) → i < length xs → d ≡ get_or xs i d →
+    definition (entries_of (drop i xs)) name ≡ cond (bytes_eq d.name.now name) (Some (shape_of d.expr)) (definition (entries_of (drop (i + 1) xs)) name)
+definition-drop name xs i d h e = ap (λ ds. definition ds name) (entries_of-drop xs i d h e)
+
+pub ruleset tables = (entries_of-push, definition-drop)

@@ -9,18 +9,15 @@ use Rattle.archive_check.specs.Reads.{Schema}
 use Rattle.archive_check.specs.Tour.{Region, Contents, Entry, Seen, entry, Tour, tour_end, tour_unique, tour_new, tour_again}
 use Rattle.archive_check.specs.Denotes.{Meaning, Fills, fills_number, fills_product, fills_case, fills_list, fills_text, fills_box, fills_null, fills_shared_value, fills_unique, fills_shared, FillsAll, fills_no_value, fills_value, IsSharedValue, Denotes}
 use Rattle.archive_check.specs.Reached.{Names, names_itself, names_product, names_case, names_list, names_box, NamesAmong, names_first, names_later, LeadsTo, leads_at_once, leads_through, ReachedMeaning}
-use Rattle.archive_check.proofs.Determined.{contents_one_value}
-use Rattle.archive_check.proofs.Denoted.{fill, tour_fills, fills_one}
-use Rattle.archive_check.proofs.Exists.{same_key}
-use Rattle.archive_check.proofs.Closed.{root_reached}
-use Rattle.archive_check.proofs.RevisedTour.{inserted_has, tour_grows}
+use Rattle.archive_check.proofs.OneReading.{contents_one_value}
+use Rattle.archive_check.proofs.OneMeaning.{fill, tour_fills, fills_one}
+use Rattle.archive_check.proofs.Seen.{same_key, inserted_has, same_some}
+use Rattle.archive_check.proofs.ReachedParts.{root_reached}
+use Rattle.archive_check.proofs.RevisedTour.{tour_grows}
 use Rattle.archive_check.proofs.NamesKnown.{reads_no_names, KnownAt, filled_known, tour_known, tour_entries}
 
 abbrev pub Shared : Type 0
 Shared = FinMap nat_cmp (Entry × Value)
-
-pub same_some : {A : Type 0} {a b : A} → Some a ≡ Some b → a ≡ b
-same_some e = cc
 
 nothing_met : (t : ℕ) (e : Entry) → get {R = nat_cmp} empty t ≡ Some e → ⊥
 nothing_met t e g = let none : get {R = nat_cmp} empty t ≡ None = get-empty {X = Entry} nat_cmp t in cc

@@ -1,4 +1,4 @@
--- Names with their nodes, and definitions.
+-- The nodes of names, counted before the definitions are compiled.
 use Rattle.std.proofs.Common.{◌≡◌, inl, inr, ⊎_elim, ℕ, zero, suc, refl, sym, ap, ◌∙◌, subst, ◌+◌, ◌<◌, ◌≤◌, arith, List, [], ◌∷◌, ◌++◌, length, take, drop, is_some, IsSome, Bool, true, false, cond, bytes_eq, Option, Some, None, length-append}
 use Rattle.archive_check.specs.declared.defs.Def.{Def}
 use Rattle.archive_check.specs.declared.growing.Known.{Known}
@@ -10,8 +10,9 @@ use Rattle.archive_check.specs.NodeCounts.{count_of}
 use Rattle.archive_check.specs.Numbered.{def_shapes, start_of, FirstAt, IsRootOf, RootIs, IsNumbered}
 use Rattle.archive_check.specs.Compilable.{Can}
 use Rattle.archive_check.specs.Planned.{DefsInOrder, InOrder, CanChain}
-use Rattle.std.proofs.lemmas.List.{take-append-drop}
-use Rattle.archive_check.proofs.GoingOn.{at_more, at_less, at_last, at_taken, same_at, some_at}
+use Rattle.std.proofs.lemmas.List.{take-append-drop, length-take, length-take-le}
+use Rattle.archive_check.proofs.GrowingPlans.{at_more, at_less}
+use Rattle.archive_check.proofs.Elements.{at_last, at_taken, same_at, some_at}
 
 at_tail : {A : Type 0} {x y : A} {xs : List A} {i : ℕ} → IsAt (y ∷ xs) (suc i) x → IsAt xs i x
 at_tail h = record { below = omega (arith, h.below); is = h.is }
@@ -158,20 +159,10 @@ named_found (d ∷ ds) (k ∷ ks) name same le h =
         let there : IsSome (definition (entries_of ds) name) = sym (ap is_some (ap (λ b. cond b (Some (shape_of d.expr)) (definition (entries_of ds) name)) e)) ∙ h in
         ap is_some (ap (λ b. cond b (Some k.node) (node_of ks name)) (same_test ∙ e)) ∙ rest there
 
-take_short : {A : Type 0} (n : ℕ) (xs : List A) → length (take n xs) ≤ n
-take_short zero xs = omega arith
-take_short (suc n) [] = omega arith
-take_short (suc n) (x ∷ xs) = omega (arith, take_short n xs)
-
-pub take_count : {A : Type 0} (n : ℕ) (xs : List A) → n ≤ length xs → length (take n xs) ≡ n
-take_count zero xs h = refl
-take_count (suc n) [] h = absurd (omega arith)
-take_count (suc n) (x ∷ xs) h = ap suc (take_count n xs (omega arith))
-
 -- what the first i definitions define is found as soon as there are i names
 pub prefix_found : {defs : List Def} {names : List Known} (i : ℕ) (name : Name) → IsNumbered defs names i → IsSome (definition (entries_of (take i defs)) name) → IsSome (node_of names name)
 prefix_found {defs} {names} i name num h =
-    named_found (take i defs) names name (λ p d k at kt. num.name_is p d k (at_taken i defs p d at).1 kt) (omega (arith, take_short i defs, num.count)) h
+    named_found (take i defs) names name (λ p d k at kt. num.name_is p d k (at_taken i defs p d at).1 kt) (omega (arith, length-take i defs, num.count)) h
 
 some_of : (o : Option ℕ) → IsSome o → (j : ℕ) × (o ≡ Some j)
 some_of None h = let f : false ≡ true = h in absurd (cc f)
@@ -192,9 +183,9 @@ module _ {names : List Known} {defs : List Def} (num : IsNumbered defs names (le
   -- and the node of one that is defined before i, before the nodes of i
   pub placed_before : (i : ℕ) (name : Name) (j : ℕ) → i ≤ length defs → IsSome (definition (entries_of (take i defs)) name) → node_of names name ≡ Some j → j < start_of (def_shapes defs) i
   placed_before i name j le h e =
-      let size = take_count i names (omega (arith, num.count, le)) in
+      let size = length-take-le i names (omega (arith, num.count, le)) in
       let found : IsSome (node_of (take i names) name) =
-      named_found (take i defs) (take i names) name (λ p d k at kt. num.name_is p d k (at_taken i defs p d at).1 (at_taken i names p k kt).1) (omega (arith, take_short i defs, size)) h in
+      named_found (take i defs) (take i names) name (λ p d k at kt. num.name_is p d k (at_taken i defs p d at).1 (at_taken i names p k kt).1) (omega (arith, length-take i defs, size)) h in
       let there = some_of (node_of (take i names) name) found in
       let f = first_at (take i names) name there.0 there.1 in
       let whole : FirstAt names name f.0 there.0 = subst (λ ks. FirstAt ks name f.0 there.0) (take-append-drop i names) (first_more (drop i names) f.1) in

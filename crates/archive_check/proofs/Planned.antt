@@ -1,6 +1,7 @@
 -- A plan of all definitions, the root, and all that they lead to.
 use Rattle.std.proofs.Common.{◌≡◌, inr, ⊎_elim, ℕ, zero, suc, refl, sym, ap, ◌∙◌, subst, ◌+◌, ◌<◌, ◌≤◌, arith, List, [], ◌∷◌, ◌++◌, length, slice_index_or, Some, length-append}
 use Rattle.std.proofs.lemmas.Bool.{cases_lt}
+use Rattle.std.proofs.lemmas.List.{get_or_default}
 use Rattle.archive_check.specs.declared.defs.Def.{Def}
 use Rattle.archive_check.specs.declared.plan.Plan.{Plan}
 use Rattle.archive_check.specs.declared.plan.Node.{Node}
@@ -20,9 +21,10 @@ use Rattle.archive_check.specs.Compilable.{Can}
 use Rattle.archive_check.specs.Compiled.{Follows, Below, NamesSized, Settled, Given, ClosedTo, MadeTo, Compiled}
 use Rattle.archive_check.specs.Numbered.{def_shapes, start_of, FirstAt, IsNumbered}
 use Rattle.archive_check.specs.Planned.{IsOf, IsPlan, HasNames, InOrder, CompiledFrom, Chained, CanFinish, Finishes}
-use Rattle.archive_check.proofs.GoingOn.{same_get, same_at, same_goes, some_at, at_more, at_behind, at_end, goes_longer, grows_trans}
+use Rattle.archive_check.proofs.GrowingPlans.{same_goes, at_more, goes_longer, grows_trans}
+use Rattle.archive_check.proofs.Elements.{same_at, some_at, at_behind, at_end}
 use Rattle.archive_check.proofs.Numbered.{def_at, def_count, can_chain, can_root, all_before, start_next, start_later, start_prefix, start_behind, first_at, definition_is, numbered_known}
-use Rattle.archive_check.proofs.Chained.{root_same, compiled_same, chained_next}
+use Rattle.archive_check.proofs.CompiledChain.{root_same, compiled_same, chained_next}
 
 layout_sized : {m : Checker} {j : ℕ} (l : Layouts) (name : Name) (X : Shape) → l name ≡ layout l X → Sized m j (size_of l X) (align_of l X) → Sized m j (l name).size (l name).align
 layout_sized l name X e t = record { node = t.node; at = t.at; size_is = t.size_is ∙ ap (λ w. fits w.size) (sym e); align_is = t.align_is ∙ ap (λ w. w.align) (sym e) }
@@ -107,25 +109,12 @@ module _ {names : List Known} {defs : List Def} {w : Waits} {base : ℕ} {b : Pl
   defined_at : {name : Name} {q j : ℕ} → FirstAt names name q j → (d : Def) × IsAt defs q d
   defined_at {name} {q} f = some_at defs q (omega (arith, f.at.below, num.count))
 
-  -- no name's node comes after the definitions'
-  names_below : (r : ℕ) (name : Name) (q j : ℕ) → q < r → FirstAt names name q j → j < start_of (def_shapes defs) (length defs)
-  names_below zero name q j lt f = absurd (omega (arith, lt))
-  names_below (suc r) name q j lt f =
-      let d = defined_at f in ⊎_elim
-      (λ h. let later = names_below r h.0 h.2.0 f.known.node (omega (arith, lt, h.2.1)) h.2.2 in omega (arith, later, f.node_is))
-      (λ h. let last = start_later (def_shapes defs) (q + 1) (length defs) (omega (arith, d.1.below)) in
-      omega (arith, h.0, h.1, last, start_next (def_shapes defs) q (shape_of d.0.expr) (def_at defs q d.1), f.node_is))
-      (num.root_is q d.0 f.known d.1 f.at)
-
-  name_below : (name : Name) (j : ℕ) → node_of names name ≡ Some j → j < start_of (def_shapes defs) (length defs)
-  name_below name j e = let f = first_at names name j e in names_below (suc f.0) name f.0 j (omega arith) f.1
-
   module _ (m : Checker) (g : Follows b m) where
     all_below : Below names w.items m
     all_below = record {
       names_below = λ name j e.
           let c = root_kept in
-          omega (arith, name_below name j e, c.starts, c.compiled.adds.count, goes_longer c.grows.nodes, goes_longer g.nodes);
+          omega (arith, all_before num name j e, c.starts, c.compiled.adds.count, goes_longer c.grows.nodes, goes_longer g.nodes);
       waits_below = λ k x at. let c = wait_kept k x at in omega (arith, wait_same k x at, c.compiled.below, goes_longer c.grows.nodes, goes_longer g.nodes);
     }
 
@@ -169,7 +158,7 @@ module _ {names : List Known} {defs : List Def} {w : Waits} {base : ℕ} {b : Pl
       all_known : (name : Name) (j : ℕ) → node_of names name ≡ Some j → Sized m j (s.layouts name).size (s.layouts name).align
       all_known name j e =
           let f = first_at names name j e in
-          name_sized (length defs) (all_laid (length defs) (omega arith)) (suc f.0) name f.0 j (omega arith) f.1 (names_below (suc f.0) name f.0 j (omega arith) f.1)
+          name_sized (length defs) (all_laid (length defs) (omega arith)) (suc f.0) name f.0 j (omega arith) f.1 (all_before num name j e)
 
       module _ (shapes : ℕ → Shape) (given : Given shapes 0 chain.gives) where
         name_stands : (r : ℕ) (name : Name) (q j : ℕ) → q < r → FirstAt names name q j → StandsFor s shapes (named name) j
@@ -198,7 +187,7 @@ abbrev shape_at : List Shape → ℕ → Shape
 shape_at Xs i = slice_index_or Xs i (leaf unit)
 
 all_given : (Xs : List Shape) → Given (shape_at Xs) 0 Xs
-all_given Xs = record { are = λ k X at. let e : 0 + k ≡ k = omega arith in ap (shape_at Xs) e ∙ same_get Xs k (leaf unit) X at.below ∙ sym at.is }
+all_given Xs = record { are = λ k X at. let e : 0 + k ≡ k = omega arith in ap (shape_at Xs) e ∙ get_or_default Xs k (leaf unit) X at.below ∙ sym at.is }
 
 plan_follows : (m : Checker) (plan : Plan) → IsOf m plan → Follows (lists_of plan) m
 plan_follows m plan o = record { nodes = same_goes o.nodes; parts = same_goes o.parts; variants = same_goes o.variants; sorts = same_goes o.sorts }

@@ -6,7 +6,7 @@ use Rattle.archive_check.specs.Expressions.{shape_of, entries_of}
 use Rattle.archive_check.specs.Names.{HasAll, Arranged}
 use Rattle.archive_check.specs.Runs.{IsAt}
 use Rattle.archive_check.specs.Planned.{InOrder}
-use Rattle.archive_check.proofs.Missing.{IsDefined, held_defined, mentioned_defined}
+use Rattle.archive_check.proofs.MissingNames.{IsDefined, held_defined, mentioned_defined}
 use Rattle.archive_check.proofs.Named.{contains-at}
 
 entry_at : (ds : List Def) (i : ℕ) (d : Def) → IsAt ds i d → IsAt (entries_of ds) i (d.name.now, shape_of d.expr)

@@ -1,17 +1,17 @@
 -- Whether a buffer is accepted is told by the definitions of the names that the expression reaches, and by no other ones.
-use Rattle.std.proofs.Common.{◌≡◌, ◌≢◌, ◌↔◌, ℕ, zero, suc, refl, sym, ap, ◌∙◌, ◌+◌, ◌*◌, ◌%◌, ◌^◌, ◌<◌, ◌≤◌, pos, List, Option, Some, None}
+use Rattle.std.proofs.Common.{◌≡◌, ◌≢◌, ◌↔◌, ℕ, zero, suc, refl, sym, ap, ◌∙◌, ◌+◌, ◌*◌, ◌%◌, ◌^◌, ◌<◌, ◌≤◌, pos, List, Option, Some}
 use Rattle.archive_check.specs.Shape.{Name, Shape, Pointee, one, run, text, Parts, part, Variants, variant, no_variant, variant_at, definition, vec}
 use Rattle.archive_check.specs.Layout.{up, size_of, align_of}
 use Rattle.archive_check.specs.Value.{Pointer}
-use Rattle.archive_check.specs.Reads.{Schema, LaidOut}
-use Rattle.archive_check.specs.Tour.{Seen, Accepted, pointee_size, pointee_align}
+use Rattle.archive_check.specs.Reads.{Schema}
+use Rattle.archive_check.specs.Tour.{Seen, pointee_size, pointee_align}
 use Rattle.archive_check.specs.Depth.{Allows, inside, AcceptedWithin}
-use Rattle.archive_check.specs.Defined.{holds_name, Mentions, mentions_held, mentions_array, mentions_parts, mentions_choice, mentions_boxed, mentions_vec, mentions_shared, mentions_weak, PointeeMentions, mentions_one, mentions_run, PartsMention, mentions_first, mentions_later, VariantsMention, mentions_variant, mentions_other, Reaches, reaches, reaches_through, WellFormed}
+use Rattle.archive_check.specs.Defined.{holds_name, Mentions, mentions_held, mentions_array, mentions_parts, mentions_choice, mentions_boxed, mentions_vec, mentions_shared, mentions_weak, PointeeMentions, mentions_one, mentions_run, PartsMention, mentions_first, mentions_later, VariantsMention, mentions_variant, mentions_other, Reaches, reaches, reaches_through}
 use Rattle.archive_check.specs.Walk.{Walk, walk_leaf, walk_parts, walk_choice, walk_array, walk_boxed, walk_vec, walk_inline, walk_out_of_line, walk_shared, walk_null, walk_weak, walk_named, WalkParts, walk_no_part, walk_part, WalkRun, walk_none, walk_element, Follow, follow_unique, follow_new, follow_again, Enter, enter, WalkContents, walk_one, walk_run, walk_text, RootWalk}
 use Rattle.archive_check.specs.Trail.{Fault, too_large, outside, unaligned, too_deep, Trips, trips_leaf, trips_parts, trips_tag, trips_choice, trips_array, trips_boxed, trips_vec, trips_inline, trips_short, trips_out_of_line, trips_shared, trips_weak, trips_named, TripsParts, trips_first, trips_later, TripsRun, trips_element, trips_later_element, TripsFollow, trips_unique, trips_before, trips_new, trips_type, trips_length, trips_cycle, TripsEnter, trips_size, trips_range, trips_align, trips_depth, trips_within, TripsContents, trips_one, trips_run, trips_text, RootTrips}
 use Rattle.archive_check.proofs.AcceptedWalks.{walked, walks}
-use Rattle.archive_check.proofs.Layouts.{align_same, size_same}
-use Rattle.archive_check.proofs.ReachedLayouts.{reached_more, reached_layout}
+use Rattle.archive_check.proofs.SameLayouts.{align_same, size_same}
+use Rattle.archive_check.proofs.LaidOutNames.{reaches_next}
 
 -- the schemas say the same of the name
 pub record SameName (s s' : Schema) (name : Name) : Type 0 where
@@ -44,7 +44,7 @@ module _ (s s' : Schema) (X : Shape) where
   known_run k n (mentions_run h) = k n (mentions_vec h)
 
   known_defined : (name : Name) (Y : Shape) → Reaches s.table name X → definition s.table name ≡ Some Y → Known Y
-  known_defined name Y r d n h = reached_more r d h
+  known_defined name Y r d n h = reaches_next s.table r d h
 
   module _ (same : (name : Name) → Reaches s.table name X → SameName s s' name) (bytes : List ℕ) where
     same_align : (Y : Shape) → Known Y → align_of s.layouts Y ≡ align_of s'.layouts Y
@@ -236,20 +236,3 @@ module _ (s s' : Schema) (X : Shape) (same : (name : Name) → Reaches s.table n
   -- and a check finds the same faults
   pub same_faults : (bytes : List ℕ) (limit : Option ℕ) (root : ℕ) (fault : Fault) → RootTrips s bytes limit root X fault ↔ RootTrips s' bytes limit root X fault
   same_faults bytes limit root fault = (λ t. root_trips s s' X same bytes t, λ t. root_trips s' s X same_back bytes t)
-
-  pub same_accepted : (bytes : List ℕ) (root : ℕ) → Accepted s bytes root X ↔ Accepted s' bytes root X
-  same_accepted bytes root = let h = same_accepted_within bytes None root in (λ a. (h.0 (a, tt)).0, λ a. (h.1 (a, tt)).0)
-
-module _ (s s' : Schema) (X : Shape) (laid : LaidOut s) (laid' : LaidOut s') (formed : WellFormed s.table X) (same : (name : Name) → Reaches s.table name X → definition s.table name ≡ definition s'.table name) where
-  same_names : (name : Name) → Reaches s.table name X → SameName s s' name
-  same_names name r = record { definition_is = same name r; layout_is = reached_layout s s' X laid laid' formed same name r }
-
-  -- so where the names reached have the same definitions, each with its layout
-  pub same_definitions_within : (bytes : List ℕ) (limit : Option ℕ) (root : ℕ) → AcceptedWithin s bytes limit root X ↔ AcceptedWithin s' bytes limit root X
-  same_definitions_within = same_accepted_within s s' X same_names
-
-  pub same_definitions : (bytes : List ℕ) (root : ℕ) → Accepted s bytes root X ↔ Accepted s' bytes root X
-  same_definitions = same_accepted s s' X same_names
-
-  pub same_definitions_faults : (bytes : List ℕ) (limit : Option ℕ) (root : ℕ) (fault : Fault) → RootTrips s bytes limit root X fault ↔ RootTrips s' bytes limit root X fault
-  same_definitions_faults = same_faults s s' X same_names

@@ -1,7 +1,6 @@
--- What a run over a plan says, its shapes walk or trip over.
+-- A run over a plan goes as a walk of the shapes that its nodes stand for, or comes to the same fault.
 use Rattle.std.proofs.Common.{◌≡◌, ◌≢◌, ◌⊎◌, inl, inr, ℕ, ℤ, pos, ◌+ℤ◌, refl, sym, ap, ◌∙◌, ◌+◌, ◌-◌, ◌*◌, ◌%◌, ◌<◌, ◌≤◌, ◌^◌, arith, List, ◌∷◌, length, length-take-le, drop, slice_index, Option, Some, None, suc, zero, false, Bor, IsUtf8, IsTrue, Contains}
 use Rattle.std.specs.FinMap.{get, insert}
-use Rattle.std.specs.Int.{Width, w8, w16, w32, w64, w128, byte_len}
 use Rattle.std.proofs.lemmas.Str.{IsUtf8-nil}
 use Rattle.archive_check.specs.declared.expr.Kind.{Kind as KindExpr}
 use Rattle.archive_check.specs.declared.plan.Target.{Target}
@@ -24,27 +23,22 @@ use Rattle.archive_check.specs.Met.{SameType}
 use Rattle.archive_check.specs.Runs.{target_size, count_at, length_of, entry_for, IsAt, IsNode, Takes, RegionIs, Outcome, done, refused, NodeRuns, run_free, run_leaf, run_illegal, run_record, run_choice, run_tag, run_array, run_pointer, run_inline, run_no_text, run_short, run_out_of_line, run_shared, run_null, run_weak, FollowRuns, follow_before, follow_new as runs_new, follow_again as runs_again, follow_type, follow_length, follow_cycle, PartsRun, parts_end, parts_next, parts_stop, ElementsRun, elements_end, elements_next, elements_free, elements_stop, EnterRuns, enter_too_large, enter_outside, enter_unaligned, enter_too_deep, enter_within, enter_stop, ContentsRun, contents_empty, contents_one, contents_run, contents_text, contents_no_text}
 use Rattle.archive_check.specs.Closed.{JobFits, IsClosed}
 use Rattle.archive_check.specs.Represents.{StandsFor, stands, stands_named, PartsStand, parts_over, parts_more, Sized, Points, points_one, points_run, points_text, Made, made_free, made_leaf, made_record, made_choice, made_array, made_boxed, made_vec, made_str, made_shared, made_weak, Represents, OutcomeSays}
-use Rattle.archive_check.proofs.Determined.{pos_one}
-use Rattle.archive_check.proofs.PlanSizes.{same_at, take_same, times_some, times_many, sized_takes, element_few, no_product}
+use Rattle.archive_check.proofs.OneReading.{pos_one}
+use Rattle.archive_check.proofs.PlanSizes.{take_same, times_some, times_many, sized_takes, element_few}
+use Rattle.archive_check.proofs.Elements.{same_at}
+use Rattle.archive_check.proofs.LittleEndian.{some_byte}
+use Rattle.std.proofs.Math.Nat.{eq_of_mul-eq-mul_left, mul-zero}
 
 pub says_map : {W V : ℕ → Seen → Type 0} {T F : Fault → Type 0} (o : Outcome) → ((a : ℕ) (k : Seen) → W a k → V a k) → ((e : Fault) → T e → F e) → OutcomeSays W T o → OutcomeSays V F o
 says_map (done a k) f g h = f a k h
 says_map (refused e) f g h = g e h
 
-no_width : (w : Width) → byte_len w ≡ 0 → ⊥
-no_width w8 e = omega arith
-no_width w16 e = omega arith
-no_width w32 e = omega arith
-no_width w64 e = omega arith
-no_width w128 e = omega arith
-
--- a leaf of no byte is legal
 empty_number : (kind : Kind) (n : ℕ) → kind_size kind ≡ 0 → IsLegalNumber kind n
 empty_number unit n e = tt
 empty_number bool n e = absurd (omega arith)
 empty_number char n e = absurd (omega arith)
 empty_number (number sign width) n e = tt
-empty_number (non_zero sign width) n e = absurd (no_width width e)
+empty_number (non_zero sign width) n e = absurd (omega (arith, e, some_byte width))
 empty_number (raw_rel sign width) n e = tt
 
 empty_length : (bytes : List ℕ) (p n : ℕ) → n ≡ 0 → length (bytes_at bytes p n) ≡ n
@@ -315,7 +309,7 @@ module _ (s : Schema) (shapes : ℕ → Shape) (m : Checker) where
 
     empty_some : {X : Shape} {j align : ℕ} {pending : List ℕ} {depth : Option ℕ} {stop start : ℕ} {seen : Seen} (n p : ℕ) → StandsFor s shapes X j → Sized m j (size_of s.layouts X) align → n * size_of s.layouts X ≡ 0 → p ≤ length m.bytes.now → WalkRun s m.bytes.now pending depth stop p n X start seen start seen
     empty_some zero p st k e room = walk_none
-    empty_some {X = X} (suc n) p st k e room = empty_run (suc n) p st k (no_product (suc n) (size_of s.layouts X) e (omega arith)) room
+    empty_some {X = X} (suc n) p st k e room = empty_run (suc n) p st k (eq_of_mul-eq-mul_left (suc n) (omega arith) (size_of s.layouts X) 0 (e ∙ sym (mul-zero (suc n)))) room
 
     empty_case : {target : Target} {j : ℕ} {P : Pointee} {pending : List ℕ} {depth : Option ℕ} {t start : ℕ} {seen : Seen} (l : ℕ) → Points s shapes m target j P → pointee_size s P l ≡ 0 → t ≤ length m.bytes.now → WalkContents s m.bytes.now pending depth t t P l start seen start seen
     empty_case l (points_one k st) e room = walk_one (empty_walk st k e room)

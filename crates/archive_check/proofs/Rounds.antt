@@ -1,13 +1,7 @@
--- How layouts of definitions are found: by a rank of the names, or in rounds over the definitions.
-use Rattle.std.proofs.Common.{◌≡◌, ℕ, zero, suc, ◌<◌, Option, Some, None}
-use Rattle.archive_check.specs.Shape.{Name, Shape, Table, definition}
+-- How layouts of definitions are found: in rounds over the definitions.
+use Rattle.std.proofs.Common.{ℕ, zero, suc, Option, Some, None}
+use Rattle.archive_check.specs.Shape.{Shape, Table, definition}
 use Rattle.archive_check.specs.Layout.{Layout, Layouts, layout}
-use Rattle.archive_check.specs.Defined.{Holds}
-
--- A rank falls from a name to those that its definition holds, which are defined.
-pub record Ranked (table : Table) (rank : Name → ℕ) : Type 0 where
-  pub falls : (name held : Name) (X : Shape) → definition table name ≡ Some X → Holds held X → rank held < rank name
-  pub defined : (name held : Name) (X : Shape) → definition table name ≡ Some X → Holds held X → (Y : Shape) × (definition table held ≡ Some Y)
 
 abbrev pub layout_or : Layouts → Option Shape → Layout
 layout_or names None = record { size = 0; align = 1 }

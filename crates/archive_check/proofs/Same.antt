@@ -1,19 +1,17 @@
 -- Equality of expressions, step by step.
 use Rattle.std.proofs.Common.{◌≡◌, ◌≢◌, ℕ, List, [], ◌∷◌, length, Bool, true, false, ◌&&◌, refl, sym, ap, ◌∙◌, Vec, Global, arith, Bor, ◌==◌}
-use Rattle.std.specs.Bool.{Decides}
 use Rattle.std.specs.Cmp.Lexicographic.{pointwise}
 use Rattle.archive_check.specs.contracts.expr.IntegerKindPartialEq.TheImpl as integer_eq
 use Rattle.archive_check.specs.contracts.expr.KindPartialEq.TheImpl as kind_eq
 use Rattle.archive_check.specs.contracts.expr.FlavorInfoPartialEq.TheImpl as flavor_eq
-use Rattle.archive_check.specs.declared.expr.FlavorInfo.{FlavorInfo}
 use Rattle.archive_check.specs.declared.expr.IntegerKind.{IntegerKind}
 use Rattle.archive_check.specs.declared.expr.IntegerKind.TheVariants.{U8, I8, U16, I16, U32, I32, U64, I64, U128, I128}
 use Rattle.archive_check.specs.declared.expr.Kind.{Kind as KindExpr}
 use Rattle.archive_check.specs.declared.expr.Kind.TheVariants.{Unit as UnitKind, Bool as BoolKind, Char as CharKind, Number, NonZero, RawRel}
 use Rattle.archive_check.specs.declared.expr.Expr.{Expr}
 use Rattle.archive_check.specs.declared.expr.Expr.TheVariants as expr
-use Rattle.archive_check.specs.Expressions.{sign_of, width_of, kind_of, flavor_of, shape_of, shapes_in, variants_in}
-use Rattle.archive_check.specs.Same.{same_sign, same_width, same_kind, same_shape, same_parts, same_variants, same_flavor-Decides}
+use Rattle.archive_check.specs.Expressions.{sign_of, width_of, kind_of, shape_of, shapes_in, variants_in}
+use Rattle.archive_check.specs.Same.{same_sign, same_width, same_kind, same_shape, same_parts, same_variants}
 use Rattle.archive_check.proofs.Views.{shape_of-Choice}
 
 -- the derived tests of kinds are those of their shapes
@@ -38,10 +36,6 @@ kind_same (Number j) (Number k) = integer_same j k
 kind_same (NonZero j) (NonZero k) = integer_same j k
 kind_same (RawRel j) (RawRel k) = integer_same j k
 kind_same _ _ = refl
-
--- and so is that of flavors, which tells whether they are one
-pub flavor_eq-Decides : (f g : FlavorInfo) → Decides ((flavor_eq.ghosts).eq f g) (flavor_of f ≡ flavor_of g)
-flavor_eq-Decides f g = same_flavor-Decides (flavor_of f) (flavor_of g)
 
 and_false : (b : Bool) → (b && false) ≡ false
 and_false true = refl

@@ -7,9 +7,9 @@ use Rattle.archive_check.specs.Reads.{Schema, LaidOut}
 use Rattle.archive_check.specs.Tour.{Region, Seen, Tour, tour_end, tour_unique, tour_new, tour_again, Rising, region_of, pointee_align}
 use Rattle.archive_check.specs.Written.{after, Tight}
 use Rattle.archive_check.specs.CleanRegions.{CleanRegions}
-use Rattle.archive_check.proofs.Positive.{align_pos}
-use Rattle.archive_check.proofs.Inside.{up_le}
-use Rattle.archive_check.proofs.Cleaning.{AreSized}
+use Rattle.archive_check.proofs.PositiveAlignments.{align_pos}
+use Rattle.archive_check.proofs.PartsInside.{up_le}
+use Rattle.archive_check.proofs.TidyIsClean.{AreSized}
 
 pub tight_append : (a : ℕ) (C : List Region) (b : ℕ) (D : List Region) (c : ℕ) → Tight a C b → Tight b D c → Tight a (C ++ D) c
 tight_append a [] b D c h k = rw h at k

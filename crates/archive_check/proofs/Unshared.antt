@@ -1,7 +1,8 @@
 -- Where nothing is shared, no pointer that is read is shared, and no open position is met.
-use Rattle.std.proofs.Common.{◌≡◌, ℕ, zero, suc, List, [], ◌∷◌, Option, Some, None, is_some, Bool, true, false, ◌&&◌, IsTrue, All, Contains, refl}
+use Rattle.std.proofs.Common.{◌≡◌, ℕ, zero, suc, List, [], ◌∷◌, Option, Some, None, is_some, IsTrue, All, Contains, refl}
 use Rattle.std.proofs.Math.Logic.{∥∥₁_elim}
 use Rattle.std.proofs.lemmas.List.Elements.{All-nil, All-cons, All-append, All-contains}
+use Rattle.std.proofs.lemmas.Bool.{and_parts}
 use Rattle.archive_check.specs.Shape.{Name, Shape, Pointee, one, Parts, Variants, no_variant, variant, definition, variant_at}
 use Rattle.archive_check.specs.Value.{Pointer, Value, Values, pointers, all_pointers}
 use Rattle.archive_check.specs.Reads.{Schema, Reads, reads_leaf, reads_parts, reads_choice, reads_array, reads_boxed, reads_vec, reads_inline, reads_out_of_line, reads_shared, reads_null, reads_weak, reads_named, ReadsParts, reads_no_part, reads_part, ReadsRun, reads_none, reads_element}
@@ -14,14 +15,6 @@ use Rattle.archive_check.specs.Unshared.{is_unshared, pointee_unshared, parts_un
 use Rattle.archive_check.proofs.WellFormed.{found_stands}
 use Rattle.archive_check.proofs.Archives.{has_each}
 use Rattle.archive_check.proofs.Viewed.{root_lies}
-
-first_of : (x y : Bool) → IsTrue (x && y) → IsTrue x
-first_of true y h = refl
-first_of false y h = h
-
-rest_of : (x y : Bool) → IsTrue (x && y) → IsTrue y
-rest_of true y h = h
-rest_of false y h = cc
 
 found : {A : Type 0} (o : Option A) → IsTrue (is_some o) → (x : A) × (o ≡ Some x)
 found None h = cc
@@ -43,8 +36,8 @@ module _ (D : Definitions) (each : (name : Name) (Y : Shape) → Contains (liste
 
   chosen : (vs : Variants) (tag : ℕ) (ps : Parts) → variant_at vs tag ≡ Some ps → IsTrue (variants_unshared (listed D) vs) → IsTrue (parts_unshared (listed D) ps)
   chosen no_variant tag ps e h = cc
-  chosen (variant qs vs) zero ps e h = let same : qs ≡ ps = cc in rw same at (first_of (parts_unshared (listed D) qs) (variants_unshared (listed D) vs) h)
-  chosen (variant qs vs) (suc tag) ps e h = chosen vs tag ps e (rest_of (parts_unshared (listed D) qs) (variants_unshared (listed D) vs) h)
+  chosen (variant qs vs) zero ps e h = let same : qs ≡ ps = cc in rw same at ((and_parts (parts_unshared (listed D) qs) (variants_unshared (listed D) vs) h).0)
+  chosen (variant qs vs) (suc tag) ps e h = chosen vs tag ps e ((and_parts (parts_unshared (listed D) qs) (variants_unshared (listed D) vs) h).1)
 
   mutual
     reads_unique : {p : ℕ} {X : Shape} {v : Value} → Reads s bytes p X v → IsTrue (is_unshared (listed D) X) → All Unique (pointers v)
@@ -64,7 +57,7 @@ module _ (D : Definitions) (each : (name : Name) (Y : Shape) → Contains (liste
     parts_unique : {p at : ℕ} {ps : Parts} {vs : Values} → ReadsParts s bytes p at ps vs → IsTrue (parts_unshared (listed D) ps) → All Unique (all_pointers vs)
     parts_unique reads_no_part h = All-nil Unique
     parts_unique (reads_part {X = X} {ps = ps} {v = v} {vs = vs} r rs) h =
-        All-append Unique (pointers v) (all_pointers vs) (reads_unique r (first_of (is_unshared (listed D) X) (parts_unshared (listed D) ps) h)) (parts_unique rs (rest_of (is_unshared (listed D) X) (parts_unshared (listed D) ps) h))
+        All-append Unique (pointers v) (all_pointers vs) (reads_unique r ((and_parts (is_unshared (listed D) X) (parts_unshared (listed D) ps) h).0)) (parts_unique rs ((and_parts (is_unshared (listed D) X) (parts_unshared (listed D) ps) h).1))
 
     run_unique : {p n : ℕ} {X : Shape} {vs : Values} → ReadsRun s bytes p n X vs → IsTrue (is_unshared (listed D) X) → All Unique (all_pointers vs)
     run_unique reads_none h = All-nil Unique

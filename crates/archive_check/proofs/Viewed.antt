@@ -1,9 +1,7 @@
 -- What lies in an accepted buffer fits it, and is read, and leads to what lies there too.
 use Rattle.std.proofs.Common.{◌≡◌, ℕ, ◌+◌, ◌*◌, ◌≤◌, pos, List, [], ◌∷◌, ◌++◌, length, Contains, All, arith, refl}
-use Rattle.std.proofs.Math.Logic.{∥∥₁_elim, ∥∥₁_map}
 use Rattle.std.proofs.Math.Nat.{mul-le-mul_right}
 use Rattle.std.proofs.lemmas.List.Elements.{All-nil, All-cons, All-append, All-contains, Contains-push}
-use Rattle.std.specs.Coded.{le_prop}
 use Rattle.archive_check.specs.Shape.{Shape, Pointee, one}
 use Rattle.archive_check.specs.Layout.{size_of}
 use Rattle.archive_check.specs.Value.{Pointer, Value, pointers}
@@ -14,12 +12,12 @@ use Rattle.archive_check.specs.Within.{PartOf, whole_region, in_one, in_run, in_
 use Rattle.archive_check.specs.Denotes.{Meaning, Denotes}
 use Rattle.archive_check.specs.Reached.{Reached}
 use Rattle.archive_check.specs.Definitions.{Definitions, Knows}
-use Rattle.archive_check.specs.Viewed.{Lies, Viewed, Says}
-use Rattle.archive_check.proofs.Closed.{part_reached, pointer_reached, root_reached}
-use Rattle.archive_check.proofs.Determined.{contents_one_value}
-use Rattle.archive_check.proofs.Denoted.{fills_one}
-use Rattle.archive_check.proofs.Inside.{within_inside}
-use Rattle.archive_check.proofs.Apart.{before_end_le, bytes_few}
+use Rattle.archive_check.specs.Viewed.{Lies, Says}
+use Rattle.archive_check.proofs.ReachedParts.{part_reached, pointer_reached, root_reached}
+use Rattle.archive_check.proofs.OneReading.{contents_one_value}
+use Rattle.archive_check.proofs.OneMeaning.{fills_one}
+use Rattle.archive_check.proofs.PartsInside.{within_inside}
+use Rattle.archive_check.proofs.RegionsApart.{before_end_le, bytes_few}
 
 module _ (s : Schema) (bytes : List ℕ) where
   -- the region's pointee lies in the buffer
@@ -74,16 +72,6 @@ module _ (s : Schema) (bytes : List ℕ) where
   root_lies {root = root} {X = X} a = record { root = root; shape = X; accepted = a; part = (root_region s root X, Contains-push a.regions (root_region s root X), whole_region) }
 
 -- of views
-
-pub view_fact : {A : Type 0} (D : Definitions) (bytes : List ℕ) (q : ℕ) (P : Pointee) (n : ℕ) → Viewed D bytes q P n → IsProp A → ((s : Schema) → Knows s D → Lies s bytes q P n → A) → A
-view_fact D bytes q P n v prop f = ∥∥₁_elim v prop (λ t. f (t.0) (t.1) (t.2))
-
-pub view_to : (D : Definitions) (bytes : List ℕ) (q : ℕ) (P : Pointee) (n t : ℕ) (Q : Pointee) (m : ℕ) → Viewed D bytes q P n → ((s : Schema) → Knows s D → Lies s bytes q P n → Lies s bytes t Q m) → Viewed D bytes t Q m
-view_to D bytes q P n t Q m v f = ∥∥₁_map v (λ u. (u.0, u.1, f (u.0) (u.1) (u.2)))
-
--- a view of a size that each schema agrees on
-pub view_fits : (D : Definitions) (bytes : List ℕ) (q : ℕ) (P : Pointee) (n m : ℕ) → Viewed D bytes q P n → ((s : Schema) → Knows s D → pointee_size s P n ≡ m) → q + m ≤ length bytes
-view_fits D bytes q P n m v size = view_fact D bytes q P n v le_prop (λ s k l. omega (arith, lies_fits s bytes k.laid_out l, size s k))
 
 -- what is said of a part is what is reached there
 pub reached_says : (D : Definitions) (bytes : List ℕ) (q : ℕ) (P : Pointee) (n : ℕ) (w : Value) (s : Schema) (u : Value) {root : ℕ} {X : Shape} → Says D bytes q P n w → Knows s D → Reached s bytes root X q P n u → u ≡ w

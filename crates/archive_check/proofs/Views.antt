@@ -1,11 +1,12 @@
--- The equations of the views at the variants that hold a `Vec`.
+-- What expressions of records and choices stand for, item by item of their vectors.
 use Rattle.std.proofs.Common.{◌≡◌, ℕ, ◌+◌, ◌<◌, List, [], ◌∷◌, length, drop, get_or, refl, sym, ap, ◌∙◌, subst, Vec, Global, arith, suc, zero, Bor}
-use Rattle.std.proofs.Math.Seq.{drop-cons, drop-length}
+use Rattle.std.proofs.Math.Seq.{drop-cons}
 use Rattle.archive_check.specs.declared.expr.Expr.{Expr, Row_of-Expr, end_of-Expr, more_of-Expr, Row_of-Expr-Choice-1-1, end_of-Expr-Choice-1-1, more_of-Expr-Choice-1-1, items-the_row-Expr, items-the_row-Expr-Choice-1-1, items_hidden-the_row-Expr-0, items_hidden-the_row-Expr-Choice-1-1-1, items_shown-the_row-Expr-0}
 use Rattle.archive_check.specs.declared.expr.Expr.TheVariants as expr
 use Rattle.archive_check.specs.Shape.{parts, choice, no_part, part, no_variant, variant}
 use Rattle.archive_check.specs.Expressions.{shape_of, shapes_of, variants_of, shapes_in, variants_in}
 use Rattle.archive_check.specs.Measure.{measure_of, measure_of_parts, measure_of_variants}
+use Rattle.std.proofs.lemmas.List.{drop_all}
 
 pub shapes_row : (n : _) (row : Row_of-Expr n) → shapes_of row ≡ shapes_in (items-the_row-Expr n row)
 shapes_row n end_of-Expr = refl
@@ -47,14 +48,11 @@ variants_in-drop xs i x h e =
     let s : i + 1 ≡ suc i = omega arith in
     ap variants_in (drop-cons xs i x h) ∙ ap (λ y. variant (shapes_in y.items) (variants_in (drop (suc i) xs))) (sym e) ∙ ap (λ j. variant (shapes_in x.items) (variants_in (drop j xs))) (sym s)
 
-drop_all : {A : Type 0} (xs : List A) (i : ℕ) → length xs ≡ i → drop i xs ≡ []
-drop_all xs i e = ap (λ j. drop j xs) (sym e) ∙ drop-length xs
-
 pub shapes_in-end : (xs : List Expr) (i : ℕ) → length xs ≡ i → shapes_in (drop i xs) ≡ no_part
-shapes_in-end xs i e = ap shapes_in (drop_all xs i e)
+shapes_in-end xs i e = ap shapes_in (drop_all i xs (omega (arith, e)))
 
 pub variants_in-end : (xs : List (Vec Expr Global)) (i : ℕ) → length xs ≡ i → variants_in (drop i xs) ≡ no_variant
-variants_in-end xs i e = ap variants_in (drop_all xs i e)
+variants_in-end xs i e = ap variants_in (drop_all i xs (omega (arith, e)))
 
 -- an element is smaller than the list
 pub shapes_size-at : (xs : List Expr) (i : ℕ) (x : Expr) → i < length xs → x ≡ get_or xs i x → measure_of (shape_of x) < measure_of_parts (shapes_in xs)

@@ -5,19 +5,14 @@ use Rattle.std.proofs.lemmas.List.Elements.{Contains-get_or}
 use Rattle.archive_check.specs.declared.error.Error.{Error}
 use Rattle.archive_check.specs.declared.error.Error.TheVariants.{OutOfMemory, ShapeConflict, RecursiveLayout}
 use Rattle.archive_check.specs.Shape.{Name, Shape, str, Table, definition}
-use Rattle.archive_check.specs.Layout.{Layouts}
-use Rattle.archive_check.specs.Reads.{LaidOut}
 use Rattle.archive_check.specs.Defined.{Holds, Reaches, reaches, reaches_through, HeldIn, held, held_through, AllDefined, WellFormed}
 use Rattle.archive_check.specs.Definitions.{Definitions, listed, Extended, Conflicts}
 use Rattle.archive_check.specs.Names.{missing, Complete, Collected, Arranged, Prepared}
 use Rattle.archive_check.specs.Schemas.{ExplainsNoSchema}
-use Rattle.archive_check.proofs.Rounds.{rounds}
 use Rattle.archive_check.proofs.Named.{names_decided, definition_here, definition_other}
-use Rattle.archive_check.proofs.Missing.{IsDefined, held_defined, mentioned_defined, none_near, none_missed}
-use Rattle.archive_check.proofs.Descent.{contains_cases, contains_later}
-use Rattle.archive_check.proofs.Placed.{names_of, names_of-push, names_of-nil, defined_named}
-use Rattle.archive_check.proofs.Ordered.{Ordered, ordered_none, ordered_next, ordered_never, ordered_solves}
-use Rattle.archive_check.proofs.Positive.{rounds_pos}
+use Rattle.archive_check.proofs.MissingNames.{IsDefined, held_defined, mentioned_defined, none_near, none_missed}
+use Rattle.archive_check.proofs.Elements.{contains_cases, contains_later}
+use Rattle.archive_check.proofs.LaidOutNames.{Ordered, ordered_none, ordered_next, ordered_never, names_of, names_of-push, names_of-nil, defined_named}
 
 -- a definition that is found stands in the table, and one that stands there is found, or another one
 pub found_stands : (table : Table) (n : Name) (X : Shape) → definition table n ≡ Some X → Contains table (n, X)
@@ -69,16 +64,6 @@ module _ (old new : Table) (h : Arranged old new) where
 
   pub arranged_ordered : Ordered new (names_of new)
   arranged_ordered = rw (ap names_of (take_all (length new) new (omega arith))) at (ordered_to (length new) (omega arith))
-
-  -- so it has layouts
-  pub arranged_layouts : (l : Layouts) × LaidOut (record { table = new; layouts = l })
-  arranged_layouts = (
-    rounds new (length (names_of new)),
-    record {
-      solves = ordered_solves new arranged_ordered (defined_named new);
-      aligned = rounds_pos new (length (names_of new));
-    },
-  )
 
   -- and no name in it holds itself
   pub arranged_never : (n : Name) (Y : Shape) → definition new n ≡ Some Y → HeldIn new n Y → ⊥

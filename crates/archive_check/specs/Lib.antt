@@ -24,6 +24,7 @@ pub mod Definitions
 pub mod LeafLayout
 pub mod NamedLayout
 pub mod RegionLayout
+pub mod LittleEndian
 pub mod Readable
 pub mod Ranges
 pub mod Met

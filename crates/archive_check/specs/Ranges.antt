@@ -1,7 +1,8 @@
 -- The calls of a check on its range, as functions of the range.
-use Rattle.std.specs.Prelude.{ℕ, ◌+◌, ◌-◌, ◌%◌, Bool, ◌&&◌, ◌==◌, nat_le, nat_lt, if◌then◌else◌, min, ℤ, pos, negsuc, Option, Some, None, Result, Ok, Err}
+use Rattle.std.specs.Prelude.{ℕ, ◌+◌, ◌%◌, Bool, ◌&&◌, ◌==◌, nat_le, nat_lt, if◌then◌else◌, min, ℤ, pos, negsuc, Option, Some, None, Result, Ok, Err}
 use Rattle.archive_check.specs.declared.error.Error.{Error}
 use Rattle.archive_check.specs.declared.error.Error.TheVariants.{InvalidSubtreePointer, UnalignedPointer, RangePoppedTooManyTimes, RangePoppedOutOfOrder}
+use Rattle.archive_check.specs.Depth.{inside}
 
 -- where regions may lie, how many levels are left (none: no limit), and how many regions were entered
 pub record RangeState : Type 0 where
@@ -22,10 +23,6 @@ subtree_answer s (pos n) size align =
     then (if (n % align) == 0 then Ok tt else Err (UnalignedPointer (pos n) align))
     else Err (InvalidSubtreePointer (pos n) size s.start s.end)
 
-abbrev pub one_less : Option ℕ → Option ℕ
-one_less None = None
-one_less (Some d) = Some (d - 1)
-
 abbrev pub one_more : Option ℕ → Option ℕ
 one_more None = None
 one_more (Some d) = Some (d + 1)
@@ -33,7 +30,7 @@ one_more (Some d) = Some (d + 1)
 -- the range below a region that begins at root
 abbrev pub pushed : RangeState → ℕ → RangeState
 pushed s root =
-    record { start = s.start; end = root; depth = one_less s.depth; pushes = min (s.pushes + 1) 18446744073709551615 }
+    record { start = s.start; end = root; depth = inside s.depth; pushes = min (s.pushes + 1) 18446744073709551615 }
 
 -- no more levels can be left than a number holds
 abbrev pub is_full : Option ℕ → Bool

@@ -191,9 +191,6 @@ mutual
 decides_same : {A : Type 0} (test : A → A → Bool) → ((x y : A) → test x y ≡ true → x ≡ y) → ((x : A) → test x x ≡ true) → (x y : A) → Decides (test x y) (x ≡ y)
 decides_same test same own x y = (same x y, λ e. subst (λ z. test x z ≡ true) e (own x))
 
-pub same_kind-Decides : (k l : Kind) → Decides (same_kind k l) (k ≡ l)
-same_kind-Decides = decides_same same_kind one_kind own_kind
-
 pub same_flavor-Decides : (f g : Flavor) → Decides (same_flavor f g) (f ≡ g)
 same_flavor-Decides = decides_same same_flavor one_flavor own_flavor
 

@@ -37,7 +37,7 @@ impl Defs {
     /// Defines `name`. Answers true where the name is new, and false where it has this very definition already. Refused with 30 where it has
     /// another one, and with 1 where it is new and memory is refused; a refused call changes nothing. The rule is our own: rkyv 0.8.18 has no
     /// definitions. Memory comes from the allocator that the definitions were made with.
-    #[tactic(auto, using(crate::proofs::Tables::tables))]
+    #[tactic(auto, using(crate::proofs::Named::tables))]
     pub fn add(&mut self, name: &'static str, expr: Expr) -> Result<bool, Error>
         ensures answer { IsAddAnswer (definition (table_of self.old) name.now) (shape_of expr) result }
         ensures added { IfOk result (λ new. table_of self.new ≡ (if new then table_of self.old ++ (name.now, shape_of expr) ∷ [] else table_of self.old)) }
@@ -69,7 +69,7 @@ impl Defs {
 }
 
 // The first definition of a name.
-#[tactic(auto, using(crate::proofs::Tables::tables))]
+#[tactic(auto, using(crate::proofs::Named::tables))]
 fn find<'a>(items: &'a [Def], name: &str) -> Option<&'a Expr>
     ensures { IsFound result (definition (entries_of items.now) name.now) }
 {

@@ -13,8 +13,8 @@ use Rattle.archive_check.specs.Reached.{Names, names_product, names_case, names_
 use Rattle.archive_check.specs.Written.{after}
 use Rattle.archive_check.specs.CleanRegions.{Stands, AreZero, CleanPointee, clean_one}
 use Rattle.archive_check.specs.WriterState.{KeyStates, WriterState, Pads}
-use Rattle.archive_check.proofs.Compose.{tour_append}
-use Rattle.archive_check.proofs.Standing.{stands_fits, stands_zero, zero_nowhere, stands_begun}
+use Rattle.archive_check.proofs.JoinedTours.{tour_append}
+use Rattle.archive_check.proofs.StandingBytes.{stands_fits, stands_zero, zero_nowhere, stands_begun}
 use Rattle.archive_check.proofs.Tightness.{tight_append, clean_regions_append}
 use Rattle.archive_core.specs.Writing.{NameMap, Naming, AreNamed, World, Holds, Known, Unseen, Found, Appends, Finishes, AreFinished, AllFinished, Writes, WritesAll, Puts, Lays, to_pointee}
 
@@ -41,10 +41,6 @@ named_left names (k ∷ ks) ls h = (h.0, named_left names ks ls h.1)
 pub named_right : (names : NameMap) (ks ls : List Naming) → AreNamed names (ks ++ ls) → AreNamed names ls
 named_right names [] ls h = h
 named_right names (k ∷ ks) ls h = named_right names ks ls h.1
-
-pub named_both : (names : NameMap) (ks ls : List Naming) → AreNamed names ks → AreNamed names ls → AreNamed names (ks ++ ls)
-named_both names [] ls h i = i
-named_both names (k ∷ ks) ls h i = (h.0, named_both names ks ls h.1 i)
 
 -- a world that holds what is written later holds what was written before
 pub holds_before : (w : World) (D : Definitions) (mid new added : List ℕ) (s t : KeyStates) (ks : List Naming)

@@ -1,14 +1,13 @@
 -- Why a write is refused, from why its steps are.
 use Rattle.std.proofs.Common.{◌≡◌, ◌⊎◌, inl, inr, ℕ, ◌+◌, ◌-◌, ◌^◌, ◌<◌, ◌≤◌, List, [], ◌++◌, length, refl, sym, ap, ◌∙◌, append_assoc, length-append, arith, Option, Some, None}
-use Rattle.std.specs.Prelude.{IsSomeAnd, Result, Ok, Err, IfOk, OnOk, IfErr, IsErrAnd}
+use Rattle.std.specs.Prelude.{IsSomeAnd, Result, Ok, Err, IfErr, IsErrAnd}
 use Rattle.std.proofs.lemmas.List.{append-nil}
 use Rattle.std.proofs.lemmas.Bool.{cases_lt}
 use Rattle.archive_check.specs.Told.{Told}
 use Rattle.archive_check.specs.declared.error.Error.{Error}
 use Rattle.archive_check.specs.declared.error.Error.TheVariants.{OutOfMemory, IsizeOverflow, OffsetOverflow, PositionTooLarge, LengthTooLarge, NumberTooLarge, StringTooLong, BufferOverflow, WriterFailed, ItemWrote, CyclicSerialize, CyclicValidate, CyclicDeserialize, NotStarted, AlreadyFinished, InvalidSubtreePointer, UnalignedPointer, ExceededMaximumSubtreeDepth, RangePoppedTooManyTimes, RangePoppedOutOfOrder, TypeMismatch, MetadataMismatch, LayoutTooLarge, InvalidDiscriminant, InvalidBool, InvalidChar, ZeroNumber, InvalidUtf8, InvalidStringRepr, ShapeConflict, RecursiveLayout, UnsortedKeys}
-use Rattle.archive_write.specs.Sharing.{IsNoMisuse}
 use Rattle.archive_write.specs.Written.{IsBeginning, RoomFalls, ExplainsRefusal}
-use Rattle.archive_core.specs.Plans.{GoesOn, Overflows, Explains, no_memory, no_room, device_failed, own_cause, IsOfWriting, of_memory, of_isize, of_offset, of_position, of_length, of_number, of_string, of_room, of_device, of_item, of_key, of_layout}
+use Rattle.archive_core.specs.Plans.{GoesOn, Overflows, Explains, no_memory, no_room, device_failed, own_cause, IsOfWriting, of_memory, of_room, of_device}
 
 -- how a writer goes on
 
@@ -139,10 +138,6 @@ pub err_from : {A : Type 0} {P Q : Error → Type 0} (r : Result A Error) → If
 err_from (Ok a) h f = tt
 err_from (Err e) h f = f e h
 
-pub ok_from : {A : Type 0} {P : Type 0} {Q R : A → Type 0} (r : Result A Error) → OnOk r P → IfOk r Q → ((a : A) → P → Q a → R a) → IfOk r R
-ok_from (Ok a) h k f = f a h k
-ok_from (Err e) h k f = tt
-
 -- where there is no limit, and no device
 pub explains_unlimited : (own : Error → Type 0) (stop : ℕ) (old new : Told) (e : Error) → old.room ≡ None → old.failures ≡ 0 → new.failures ≡ 0
     → Explains own stop old new e → (e ≡ OutOfMemory) ⊎ own e
@@ -162,17 +157,3 @@ explains_named own stop old new e f no_memory = of_memory
 explains_named own stop old new e f (no_room h) = of_room
 explains_named own stop old new e f (device_failed h) = of_device
 explains_named own stop old new e f (own_cause h) = f e h
-
-pub no_misuse_of : (e : Error) → IsOfWriting e → IsNoMisuse e
-no_misuse_of e of_memory = ((λ i. cc), (λ i. cc))
-no_misuse_of e of_isize = ((λ i. cc), (λ i. cc))
-no_misuse_of e of_offset = ((λ i. cc), (λ i. cc))
-no_misuse_of e of_position = ((λ i. cc), (λ i. cc))
-no_misuse_of e of_length = ((λ i. cc), (λ i. cc))
-no_misuse_of e of_number = ((λ i. cc), (λ i. cc))
-no_misuse_of e of_string = ((λ i. cc), (λ i. cc))
-no_misuse_of e of_room = ((λ i. cc), (λ i. cc))
-no_misuse_of e of_device = ((λ i. cc), (λ i. cc))
-no_misuse_of e of_item = ((λ i. cc), (λ i. cc))
-no_misuse_of e of_key = ((λ i. cc), (λ i. cc))
-no_misuse_of e of_layout = ((λ i. cc), (λ i. cc))

@@ -7,9 +7,10 @@ use Rattle.archive_check.specs.Tour.{Entry, Seen}
 use Rattle.archive_check.specs.Denotes.{IsSharedValue, Same, rename}
 use Rattle.archive_check.specs.Reached.{Names, LeadsTo, leads_at_once, leads_through}
 use Rattle.archive_check.specs.WriterState.{KeyStates}
-use Rattle.archive_check.proofs.Determined.{contents_one_value}
-use Rattle.archive_check.proofs.Denoted.{fills_one}
-use Rattle.archive_check.proofs.Sameness.{rename_again, rename_stays}
+use Rattle.archive_check.proofs.OneReading.{contents_one_value}
+use Rattle.archive_check.proofs.OneMeaning.{fills_one}
+use Rattle.archive_check.proofs.SameMeanings.{rename_again, rename_stays}
+use Rattle.archive_check.proofs.Seen.{same_some}
 use Rattle.archive_core.specs.Writing.{NameMap, Naming, AreNamed, HasKeys, IsKeyed, AreKeys, World, Found, AreFinished}
 
 -- keys
@@ -37,19 +38,11 @@ key_of_is : (o : Option Entry) (f : (e : Entry) → o ≡ Some e → ℕ) (k : �
 key_of_is None f k e is h = cc
 key_of_is (Some d) f k e is h = h d refl
 
-abbrev value_or : Value → Option (Entry × Value) → Value
-value_or d None = d
-value_or d (Some p) = p.1
+pub one_value : (m : Option (Entry × Value)) (e d : Entry) (x y : Value) → m ≡ Some (e, x) → m ≡ Some (d, y) → x ≡ y
+one_value m e d x y h i = ap (λ (p : Entry × Value). p.1) (same_some (sym h ∙ i))
 
-abbrev entry_or : Entry → Option (Entry × Value) → Entry
-entry_or d None = d
-entry_or d (Some p) = p.0
-
-one_value : (m : Option (Entry × Value)) (e d : Entry) (x y : Value) → m ≡ Some (e, x) → m ≡ Some (d, y) → x ≡ y
-one_value m e d x y h i = sym (ap (value_or x) h) ∙ ap (value_or x) i
-
-one_entry : (m : Option (Entry × Value)) (e d : Entry) (x y : Value) → m ≡ Some (e, x) → m ≡ Some (d, y) → e ≡ d
-one_entry m e d x y h i = sym (ap (entry_or e) h) ∙ ap (entry_or e) i
+pub one_entry : (m : Option (Entry × Value)) (e d : Entry) (x y : Value) → m ≡ Some (e, x) → m ≡ Some (d, y) → e ≡ d
+one_entry m e d x y h i = ap (λ (p : Entry × Value). p.0) (same_some (sym h ∙ i))
 
 -- what is known of the keys in the end
 pub record InTheEnd (w : World) (states : KeyStates) (ks : List Naming) (x : Value) (seen : Seen) (shared : FinMap nat_cmp (Entry × Value)) : Type 0 where

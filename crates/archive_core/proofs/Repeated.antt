@@ -7,7 +7,7 @@ use Rattle.archive_check.specs.Definitions.{Definitions, Knows, HasLayout}
 use Rattle.archive_check.specs.Value.{Value, list, number}
 use Rattle.archive_check.specs.Reads.{Schema, reads_array, ReadsRun, reads_none, reads_element}
 use Rattle.archive_check.specs.CleanRegions.{Stands, clean_array, CleanRun, clean_none, clean_element}
-use Rattle.archive_check.proofs.Standing.{stands_front, stands_back}
+use Rattle.archive_check.proofs.StandingBytes.{stands_front, stands_back}
 use Rattle.archive_core.specs.Writing.{Resolves}
 use Rattle.archive_core.specs.Repeated.{repeated, copies}
 use Rattle.archive_core.proofs.Appending.{size_is}

@@ -8,9 +8,10 @@ use Rattle.archive_check.specs.Definitions.{Definitions}
 use Rattle.archive_check.specs.Value.{number}
 use Rattle.archive_check.specs.Reads.{bytes_at, IsLegal, kind_number, kind_value, with_sign, Reads, reads_leaf}
 use Rattle.archive_check.specs.CleanRegions.{clean_leaf}
-use Rattle.archive_check.proofs.Standing.{stands_bytes}
-use Rattle.archive_num.specs.Digits.{little_bytes, little_number, is_zero}
-use Rattle.archive_num.specs.Numbers.{length-little_bytes}
+use Rattle.archive_check.proofs.StandingBytes.{stands_bytes}
+use Rattle.archive_check.specs.LittleEndian.{little_bytes, little_number}
+use Rattle.archive_num.specs.Digits.{is_zero}
+use Rattle.archive_check.proofs.LittleEndian.{length-little_bytes}
 use Rattle.archive_num.specs.Leaves.{unsigned-value, unsigned-number, signed-value, signed-number, number-leaf}
 use Rattle.archive_core.specs.Writing.{Resolves}
 

@@ -1,9 +1,6 @@
 -- The law of a shared value.
-use Rattle.std.proofs.Common.{◌≡◌, ◌⊎◌, inl, inr, ℕ, zero, suc, pos, ◌+◌, ◌<◌, ◌≤◌, List, [], ◌∷◌, ◌++◌, length, refl, sym, ap, ◌∙◌, append_assoc, length-append, arith, Option, Some, None, Bool, true, false, cond, ◌&&◌, nat_eq, Contains, nat_cmp, is_eq, Ordering, Less, Equal, Greater}
-use Rattle.std.proofs.lemmas.Bool.{cases_lt}
-use Rattle.std.specs.FinMap.{get, insert, get-insert, nat_cmp-IsAntisymmetric}
-use Rattle.std.specs.Cmp.{nat_cmp_total, tied_itself}
-use Rattle.std.specs.Ordering.{eq_by_cmp}
+use Rattle.std.proofs.Common.{◌≡◌, ◌⊎◌, inl, inr, ℕ, zero, suc, pos, ◌+◌, ◌<◌, ◌≤◌, List, [], ◌∷◌, ◌++◌, length, refl, sym, ap, ◌∙◌, append_assoc, length-append, arith, Option, Some, None, true, cond, ◌&&◌, nat_eq}
+use Rattle.std.specs.FinMap.{get, insert}
 use Rattle.archive_check.specs.Shape.{Flavor, Pointee}
 use Rattle.archive_check.specs.Layout.{up}
 use Rattle.archive_check.specs.Definitions.{Definitions}
@@ -14,31 +11,14 @@ use Rattle.archive_check.specs.Reached.{names_itself}
 use Rattle.archive_check.specs.Written.{after}
 use Rattle.archive_check.specs.CleanRegions.{Stands, AreZero, IsZeroed, CleanPointee}
 use Rattle.archive_check.specs.WriterState.{KeyStates, WriterState}
-use Rattle.archive_check.proofs.Standing.{stands_fits, stands_zero, stands_begun}
+use Rattle.archive_check.proofs.StandingBytes.{stands_fits, stands_zero, stands_begun}
 use Rattle.archive_check.proofs.Tightness.{tight_append, clean_regions_append}
+use Rattle.archive_check.proofs.Elements.{contains_cases, contains_later}
+use Rattle.archive_check.proofs.Seen.{same_some, inserted_has, inserted_apart}
 use Rattle.archive_core.specs.Writing.{Naming, World, Holds, Known, Unseen, Found, Appends, Finishes, AreFinished, Writes, LaysShared, Sets, to_shared}
 use Rattle.archive_core.proofs.Appending.{longer, finishes_nothing, finishes_wider}
-
-pub same_or_not : (k l : ℕ) → (k ≡ l) ⊎ (k ≡ l → ⊥)
-same_or_not k l = elim (cases_lt k l) [
-  | inl less ↦ inr (λ e. omega (arith, e))
-  | inr more ↦ elim (cases_lt l k) [ inl less ↦ inr (λ e. omega (arith, e)) | inr same ↦ inl (omega arith) ]
-]
-
-is_equal : (r : Ordering) → is_eq r ≡ true → r ≡ Equal
-is_equal Less e = cc
-is_equal Equal e = refl
-is_equal Greater e = cc
-
-get_here : (seen : Seen) (t : ℕ) (e : Entry) → get (insert seen t e) t ≡ Some e
-get_here seen t e = get-insert nat_cmp_total seen t e t ∙ ap (λ r. cond (is_eq r) (Some e) (get seen t)) (tied_itself nat_cmp_total t)
-
-apart_false : (q t : ℕ) (b : Bool) → eq_by_cmp nat_cmp q t ≡ b → (q ≡ t → ⊥) → b ≡ false
-apart_false q t true is n = absurd (n (nat_cmp-IsAntisymmetric q t (is_equal (nat_cmp q t) is)))
-apart_false q t false is n = refl
-
-get_other : (seen : Seen) (t q : ℕ) (e : Entry) → (q ≡ t → ⊥) → get (insert seen t e) q ≡ get seen q
-get_other seen t q e n = get-insert nat_cmp_total seen t e q ∙ ap (λ b. cond b (Some e) (get seen q)) (apart_false q t (eq_by_cmp nat_cmp q t) refl n)
+use Rattle.archive_core.proofs.Denoting.{one_value, one_entry}
+use Rattle.std.proofs.lemmas.Bool.{cases_eq}
 
 sets_other : (key : ℕ) (x : Option ℕ) (old new : KeyStates) (k : ℕ) (y : Option ℕ) → Sets key x old new → (k ≡ key → ⊥) → old k ≡ Some y → new k ≡ Some y
 sets_other key x old new k y h n is = h.others k n ∙ is
@@ -55,13 +35,13 @@ module _ (a b c t key : ℕ) (old begun mid put new : KeyStates) (unknown : old 
   in_the_middle k y n is = sym (ap (λ f. f k) same) ∙ sym (finish.others k n) ∙ is
 
   later_kept : (k : ℕ) (y : Option ℕ) → old k ≡ Some y → new k ≡ Some y
-  later_kept k y is = elim (same_or_not k key) [
+  later_kept k y is = elim (cases_eq k key) [
     | inl eq ↦ (let no : old k ≡ None = rw eq unknown in cc)
     | inr n ↦ sets_other key (Some t) put new k y finish n (rw same (h.kept k y (sets_other key None old begun k y start n is)))
   ]
 
   later_settled : (k : ℕ) (y : Option ℕ) → old k ≡ None → new k ≡ Some y → (q : ℕ) × (y ≡ Some q) × (a ≤ q) × (q < c)
-  later_settled k y none is = elim (same_or_not k key) [
+  later_settled k y none is = elim (cases_eq k key) [
     | inl eq ↦ (let there : new k ≡ Some (Some t) = rw eq finish.here in (t, (let e : y ≡ Some t = cc in e), omega arith, inside))
     | inr n ↦ (let i = h.settled k y (start.others k n ∙ none) (in_the_middle k (Some y) n is) in (i.0, i.1, i.2, omega (arith, i.3)))
   ]
@@ -75,12 +55,12 @@ module _ (a b c t key : ℕ) (old begun mid put new : KeyStates) (unknown : old 
   the_key_at k q eq is = (let there : new k ≡ Some (Some t) = rw eq finish.here in cc)
 
   later_apart : (k l q : ℕ) → old k ≡ None → old l ≡ None → new k ≡ Some (Some q) → new l ≡ Some (Some q) → k ≡ l
-  later_apart k l q m n is js = elim (same_or_not k key) [
-    | inl eq ↦ elim (same_or_not l key) [
+  later_apart k l q m n is js = elim (cases_eq k key) [
+    | inl eq ↦ elim (cases_eq l key) [
       | inl too ↦ eq ∙ sym too
       | inr unlike ↦ absurd (omega (arith, other_before l q unlike n js, the_key_at k q eq is))
     ]
-    | inr unlike ↦ elim (same_or_not l key) [
+    | inr unlike ↦ elim (cases_eq l key) [
       | inl too ↦ absurd (omega (arith, other_before k q unlike m is, the_key_at l q too js))
       | inr either ↦ h.apart k l q (start.others k unlike ∙ m) (start.others l either ∙ n) (in_the_middle k _ unlike is) (in_the_middle l _ either js)
     ]
@@ -90,26 +70,19 @@ module _ (a b c t key : ℕ) (old begun mid put new : KeyStates) (unknown : old 
   finishes_shared = record { kept = later_kept; settled = later_settled; apart = later_apart }
 
   pub finished_middle : (k q : ℕ) → mid k ≡ Some (Some q) → new k ≡ Some (Some q)
-  finished_middle k q is = elim (same_or_not k key) [
+  finished_middle k q is = elim (cases_eq k key) [
     | inl eq ↦ (let no : mid k ≡ Some None = rw eq (h.kept key None start.here) in cc)
     | inr n ↦ sets_other key (Some t) put new k (Some q) finish n (rw same is)
   ]
 
   pub finished_which : (k q : ℕ) → new k ≡ Some (Some q) → ((k ≡ key) × (q ≡ t)) ⊎ (mid k ≡ Some (Some q))
-  finished_which k q is = elim (same_or_not k key) [ inl eq ↦ inl (eq, the_key_at k q eq is) | inr n ↦ inr (in_the_middle k _ n is) ]
+  finished_which k q is = elim (cases_eq k key) [ inl eq ↦ inl (eq, the_key_at k q eq is) | inr n ↦ inr (in_the_middle k _ n is) ]
 
   pub begun_kept : (k q : ℕ) → old k ≡ Some (Some q) → begun k ≡ Some (Some q)
-  begun_kept k q is = elim (same_or_not k key) [ inl eq ↦ (let no : old k ≡ None = rw eq unknown in cc) | inr n ↦ start.others k n ∙ is ]
+  begun_kept k q is = elim (cases_eq k key) [ inl eq ↦ (let no : old k ≡ None = rw eq unknown in cc) | inr n ↦ start.others k n ∙ is ]
 
   pub begun_which : (k q : ℕ) → begun k ≡ Some (Some q) → old k ≡ Some (Some q)
-  begun_which k q is = elim (same_or_not k key) [ inl eq ↦ (let no : begun k ≡ Some None = rw eq start.here in cc) | inr n ↦ sym (start.others k n) ∙ is ]
-
-push_pending : (t q : ℕ) (pending : List ℕ) → Contains pending q → Contains (t ∷ pending) q
-push_pending t q pending (k, less, e) = (suc k, omega arith, e)
-
-pop_pending : (t q : ℕ) (pending : List ℕ) → Contains (t ∷ pending) q → (q ≡ t) ⊎ Contains pending q
-pop_pending t q pending (zero, less, e) = inl (sym e)
-pop_pending t q pending (suc k, less, e) = inr (k, omega arith, e)
+  begun_which k q is = elim (cases_eq k key) [ inl eq ↦ (let no : begun k ≡ Some None = rw eq start.here in cc) | inr n ↦ sym (start.others k n) ∙ is ]
 
 -- what is known where a shared position is entered
 pub known_entered : (w : World) (a c t : ℕ) (old begun : KeyStates) (seen : Seen) (pending : List ℕ) (e : Entry)
@@ -119,40 +92,23 @@ known_entered w a c t old begun seen pending e le less which kept unseen known =
   inner = λ k q d v is names. finished_by old begun v kept (known.inner k q d v (which k q is) names);
   typed = λ k q d v is names. (
       let apart : q ≡ t → ⊥ = λ eq. omega (arith, known.below k q (which k q is), eq) in
-      get_other seen t q e apart ∙ known.typed k q d v (which k q is) names);
-  closed = λ k q is among. elim (pop_pending t q pending among) [
+      inserted_apart seen t q e apart ∙ known.typed k q d v (which k q is) names);
+  closed = λ k q is among. elim (contains_cases t pending q among) [
     | inl eq ↦ omega (arith, known.below k q (which k q is), eq)
     | inr there ↦ known.closed k q (which k q is) there
   ];
   below = λ k q is. known.below k q (which k q is);
-  opened = λ q among. elim (pop_pending t q pending among) [
-    | inl eq ↦ (e, rw eq (get_here seen t e))
-    | inr there ↦ (let o = known.opened q there in (o.0, get_other seen t q e (λ eq. (let no : get seen q ≡ None = rw eq (unseen.unseen t le less) in let yes = o.1 in cc)) ∙ o.1))
+  opened = λ q among. elim (contains_cases t pending q among) [
+    | inl eq ↦ (e, rw (← eq) (inserted_has seen t e))
+    | inr there ↦ (let o = known.opened q there in (o.0, inserted_apart seen t q e (λ eq. (let no : get seen q ≡ None = rw eq (unseen.unseen t le less) in let yes = o.1 in cc)) ∙ o.1))
   ];
 }
 
 pub unseen_entered : (a b c t : ℕ) (seen : Seen) (e : Entry) → b ≤ t → b ≤ c → Unseen seen a c → Unseen (insert seen t e) a b
-unseen_entered a b c t seen e le ge h = record { unseen = λ q l m. get_other seen t q e (λ eq. omega (arith, eq)) ∙ h.unseen q l (omega arith) }
+unseen_entered a b c t seen e le ge h = record { unseen = λ q l m. inserted_apart seen t q e (λ eq. omega (arith, eq)) ∙ h.unseen q l (omega arith) }
 
 found_in : (w : World) (s u : KeyStates) (q : ℕ) (e : Entry) → ((k q : ℕ) → s k ≡ Some (Some q) → u k ≡ Some (Some q)) → Found w s q e → Found w u q e
 found_in w s u q e kept h = record { key = h.key; flat = h.flat; value = h.value; finished = kept h.key q h.finished; names = h.names; contents = h.contents; fills = h.fills }
-
-abbrev entry_or : Entry → Option (Entry × Value) → Entry
-entry_or d None = d
-entry_or d (Some p) = p.0
-
-one_name : (m : Option (Entry × Value)) (e d : Entry) (x y : Value) → m ≡ Some (e, x) → m ≡ Some (d, y) → d ≡ e
-one_name m e d x y h i = sym (ap (entry_or d) i) ∙ ap (entry_or d) h
-
-abbrev value_of_named : Value → Option (Entry × Value) → Value
-value_of_named d None = d
-value_of_named d (Some p) = p.1
-
-one_named : (m : Option (Entry × Value)) (e d : Entry) (x y : Value) → m ≡ Some (e, x) → m ≡ Some (d, y) → y ≡ x
-one_named m e d x y h i = sym (ap (value_of_named x) i) ∙ ap (value_of_named x) h
-
-one_seen : (m : Option Entry) (e d : Entry) → m ≡ Some e → m ≡ Some d → d ≡ e
-one_seen m e d h i = cc
 
 pub appends_shared : (w : World) (a b c t key : ℕ) (old mid new : KeyStates) (pending : List ℕ) (seen : Seen) (flavor : Flavor) (P : Pointee) (n : ℕ) (v x : Value)
     → a ≤ b → b ≤ t → t < c → Leads w.schema w.bytes (to_shared t flavor P n) t v
@@ -166,7 +122,7 @@ appends_shared w a b c t key old mid new pending seen flavor P n v x le ge less 
     let e : Entry = entry flavor (to_shared t flavor P n) in
     let r : Region = region_of w.schema (to_shared t flavor P n) t in
     let fresh : get seen t ≡ None = unseen.unseen t (omega arith) less in
-    let at : get h.last t ≡ Some e = h.above t ge ∙ get_here seen t e in
+    let at : get h.last t ≡ Some e = h.above t ge ∙ inserted_has seen t e in
     record {
       regions = h.regions ++ r ∷ [];
       last = h.last;
@@ -175,27 +131,27 @@ appends_shared w a b c t key old mid new pending seen flavor P n v x le ge less 
       clean = clean_regions_append w.schema w.bytes a h.regions b (r ∷ []) h.tight h.clean (zeros, clean, behind, tt);
       known = record {
         inner = λ k q d y is named. elim (which k q is) [
-          | inl eq ↦ (let there : get w.names k ≡ Some (e, x) = rw (eq.0) names in let same : y ≡ x = one_named (get w.names k) e d x y there named in rw same (finished_by mid new x kept all))
+          | inl eq ↦ (let there : get w.names k ≡ Some (e, x) = rw (eq.0) names in let same : y ≡ x = one_value (get w.names k) d e y x named there in rw same (finished_by mid new x kept all))
           | inr there ↦ finished_by mid new y kept (h.known.inner k q d y there named)
         ];
         typed = λ k q d y is named. elim (which k q is) [
-          | inl eq ↦ (let there : get w.names k ≡ Some (e, x) = rw (eq.0) names in let same : d ≡ e = one_name (get w.names k) e d x y there named in rw (eq.1, same) at)
+          | inl eq ↦ (let there : get w.names k ≡ Some (e, x) = rw (eq.0) names in let same : d ≡ e = one_entry (get w.names k) d e y x named there in rw (eq.1, same) at)
           | inr there ↦ h.known.typed k q d y there named
         ];
         closed = λ k q is among. elim (which k q is) [
           | inl eq ↦ (let o = known.opened q among in let no : get seen q ≡ None = rw (eq.1) fresh in let yes = o.1 in cc)
-          | inr there ↦ h.known.closed k q there (push_pending t q pending among)
+          | inr there ↦ h.known.closed k q there (contains_later t pending q among)
         ];
         below = λ k q is. elim (which k q is) [ inl eq ↦ omega (arith, eq.1) | inr there ↦ omega (arith, h.known.below k q there) ];
-        opened = λ q among. h.known.opened q (push_pending t q pending among);
+        opened = λ q among. h.known.opened q (contains_later t pending q among);
       };
-      below = λ q l. h.below q l ∙ get_other seen t q e (λ eq. omega (arith, eq));
-      above = λ q l. h.above q (omega arith) ∙ get_other seen t q e (λ eq. omega (arith, eq));
+      below = λ q l. h.below q l ∙ inserted_apart seen t q e (λ eq. omega (arith, eq));
+      above = λ q l. h.above q (omega arith) ∙ inserted_apart seen t q e (λ eq. omega (arith, eq));
       found = λ q d is. elim (h.found q d is) [
-        | inl early ↦ elim (same_or_not q t) [
-          | inl eq ↦ (let there : get (insert seen t e) q ≡ Some e = rw eq (get_here seen t e) in let same : d ≡ e = one_seen (get (insert seen t e) q) e d there early in
+        | inl early ↦ elim (cases_eq q t) [
+          | inl eq ↦ (let there : get (insert seen t e) q ≡ Some e = rw eq (inserted_has seen t e) in let same : d ≡ e = same_some (sym early ∙ there) in
               inr (rw (eq, same) (record { key = key; flat = v; value = x; finished = finished; names = names; contents = leads.contents; fills = fills })))
-          | inr unlike ↦ inl (sym (get_other seen t q e unlike) ∙ early)
+          | inr unlike ↦ inl (sym (inserted_apart seen t q e unlike) ∙ early)
         ]
         | inr later ↦ inr (found_in w mid new q d kept later)
       ];

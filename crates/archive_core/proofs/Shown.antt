@@ -1,6 +1,5 @@
 -- What may be read of a part that was checked.
 use Rattle.std.proofs.Common.{◌≡◌, ◌≢◌, ℕ, ℤ, Bool, true, false, List, length, ◌+◌, ◌-◌, ◌≤◌, pos, negsuc, ◌+ℤ◌, take, drop, arith, refl, sym, ap, ◌∙◌}
-use Rattle.std.specs.Bool.{Decides}
 use Rattle.std.specs.Str.{IsUtf8}
 use Rattle.std.specs.Coded.{le_prop}
 use Rattle.std.specs.Int.{Width, byte_len, from_le_bytes}
@@ -9,6 +8,7 @@ use Rattle.std.proofs.Math.Logic.{∥∥₁_elim, ∥∥₁_map}
 use Rattle.std.proofs.Math.IntN.{ℤ_set}
 use Rattle.std.proofs.lemmas.Bool.Decides.{Decides-int_eq}
 use Rattle.std.proofs.lemmas.Str.{IsUtf8-from_is_utf8, is_utf8-from_IsUtf8}
+use Rattle.std.proofs.lemmas.Bool.{false_from_ne_true}
 use mathlib.Core.Bool.{Bool-set}
 use Rattle.archive_check.specs.Shape.{Sign, unsigned, signed, Kind, number, non_zero, leaf, str, one, text}
 use Rattle.archive_check.specs.Layout.{kind_size}
@@ -17,7 +17,7 @@ use Rattle.archive_num.specs.Digits.{is_zero}
 use Rattle.archive_check.specs.Value.{number as number_value}
 use Rattle.archive_check.specs.Definitions.{Definitions}
 use Rattle.archive_check.specs.Viewed.{Says}
-use Rattle.archive_check.proofs.Said.{leaf_says}
+use Rattle.archive_check.proofs.ViewedValues.{leaf_says}
 use Rattle.archive_check.specs.Readable.{Readable, readable_leaf, readable_text, readable_inline, readable_out_of_line, position, target_from}
 
 -- leaves
@@ -68,14 +68,10 @@ signed_not_zero : (sign : Sign) (width : Width) (n : ℕ) → n ≢ 0 → with_s
 signed_not_zero unsigned width n h e = h (ap position e)
 signed_not_zero signed width n h e = select_not_zero _ n _ h e
 
-untrue : {P : Type 0} (t : Bool) → Decides t P → (P → ⊥) → t ≡ false
-untrue true d never = absurd (never (d.0 refl))
-untrue false d never = refl
-
 legal_not_zero : (sign : Sign) (width : Width) (bs : List ℕ) → IsLegal (non_zero sign width) bs → is_zero (kind_value (number sign width) bs) ≡ false
 unfolding kind_number kind_value
 legal_not_zero sign width bs h =
-    untrue _ (Decides-int_eq (with_sign sign width (from_le_bytes width bs)) (pos 0)) (signed_not_zero sign width (from_le_bytes width bs) h.number)
+    false_from_ne_true _ (λ e. signed_not_zero sign width (from_le_bytes width bs) h.number ((Decides-int_eq (with_sign sign width (from_le_bytes width bs)) (pos 0)).0 e))
 
 value_not_zero : {X : Type 0} (value_of : X → ℤ) (number_of : List ℕ → X) (bs : List ℕ) (sign : Sign) (width : Width) (kind : Kind) → kind ≡ number sign width
     → ((xs : List ℕ) → IsLegal kind xs → value_of (number_of xs) ≡ kind_value kind xs) → IsLegal (non_zero sign width) bs → is_zero (value_of (number_of bs)) ≡ false

@@ -16,7 +16,7 @@ use Rattle.archive_check.specs.Denotes.{fills_text}
 use Rattle.archive_check.specs.CleanRegions.{Stands, clean_inline, clean_out_of_line, clean_text}
 use Rattle.archive_check.specs.Told.{Told, KeepsKeys}
 use Rattle.archive_check.specs.WriterState.{KeyStates, WriterState, writer_state}
-use Rattle.archive_check.proofs.Standing.{stands_front, stands_back, stands_bytes, stands_index, zeroed_none}
+use Rattle.archive_check.proofs.StandingBytes.{stands_front, stands_back, stands_bytes, stands_index, zeroed_none}
 use Rattle.archive_check.proofs.Texts.{text_no_end, text_inline, text_before}
 use Rattle.archive_core.specs.Offsets.{distance}
 use Rattle.archive_core.specs.Strings.{coded_length, inline_bytes, out_of_line_bytes, to_text, string_flat}

@@ -7,8 +7,8 @@ use Rattle.archive_check.specs.Shape.{Shape, one}
 use Rattle.archive_check.specs.Layout.{Layout, size_of}
 use Rattle.archive_check.specs.Definitions.{Definitions}
 use Rattle.archive_check.specs.Value.{Value, pointers}
-use Rattle.archive_check.specs.Reads.{Schema, Reads}
-use Rattle.archive_check.specs.Tour.{Region, Entry, Contents, contents_one, Accepted, root_region}
+use Rattle.archive_check.specs.Reads.{Reads}
+use Rattle.archive_check.specs.Tour.{Region, Entry, Accepted, root_region}
 use Rattle.archive_check.specs.Denotes.{IsSharedValue, rename}
 use Rattle.archive_check.specs.Written.{Tight}
 use Rattle.archive_check.specs.CleanRegions.{Stands, CleanRegions}
@@ -16,12 +16,13 @@ use Rattle.archive_check.specs.Told.{Told}
 use Rattle.archive_check.specs.WriterState.{KeyStates, WriterState, writer_state}
 use Rattle.archive_check.specs.declared.error.Error.{Error}
 use Rattle.archive_core.specs.Plans.{Stand, IsAt, region_place, one_plan}
-use Rattle.archive_check.proofs.Positive.{align_pos}
-use Rattle.archive_check.proofs.Exists.{has_meaning}
-use Rattle.archive_check.proofs.Denoted.{tours_one}
-use Rattle.archive_check.proofs.Standing.{stands_zero, zero_nowhere, stands_begun}
-use Rattle.archive_check.proofs.Cleaning.{regions_clean}
+use Rattle.archive_check.proofs.PositiveAlignments.{align_pos}
+use Rattle.archive_check.proofs.SomeMeaning.{has_meaning}
+use Rattle.archive_check.proofs.OneMeaning.{tours_one}
+use Rattle.archive_check.proofs.StandingBytes.{stands_zero, zero_nowhere, stands_begun}
+use Rattle.archive_check.proofs.TidyIsClean.{regions_clean}
 use Rattle.archive_check.proofs.Tightness.{tight_append, clean_regions_append, ArePositive, positive_append, sized_append, tour_positive, tour_sized, rising_lower, tight_rises}
+use Rattle.archive_check.proofs.AcceptedWalks.{reads_of}
 use Rattle.archive_core.specs.Writing.{Naming, IsKeyed, World, Holds, Known as KnownKeys, Unseen, Found, Appends, Lays, Archives}
 use Rattle.archive_core.proofs.Denoting.{InTheEnd, same_in_the_end, rename_plain}
 
@@ -29,9 +30,6 @@ abbrev position_in : Option (Option ℕ) → ℕ
 position_in None = 0
 position_in (Some None) = 0
 position_in (Some (Some t)) = t
-
-of_one : {s : Schema} {bytes : List ℕ} {t n : ℕ} {X : Shape} {v : Value} → Contents s bytes t (one X) n v → Reads s bytes t X v
-of_one (contents_one r) = r
 
 -- where no key was known, what was laid out last is an archive
 pub archives : (D : Definitions) (old new : WriterState) (ks : List Naming) (x : Value) (X : Shape) (size root : ℕ)
@@ -55,7 +53,7 @@ archives D old new ks x X size root fresh keyed h end =
           let apart : new.bytes ≡ (mid.bytes ++ h.zeros) ++ h.region = h.grown ∙ sym (append_assoc mid.bytes h.zeros h.region) in
           let stands : Stands new.bytes root h.region = stands_begun new.bytes (mid.bytes ++ h.zeros) h.region [] root (apart ∙ sym (append-nil ((mid.bytes ++ h.zeros) ++ h.region))) (h.at ∙ sym (length-append mid.bytes h.zeros)) in
           let whole : length h.region ≡ size_of s.layouts X = h.sized s knows in
-          let reads : Reads s new.bytes root X v = of_one (h.contents s new.bytes knows stands) in
+          let reads : Reads s new.bytes root X v = reads_of (h.contents s new.bytes knows stands) in
           let C : List Region = first.regions ++ root_region s root X ∷ [] in
           let ends : length new.bytes ≡ root + size_of s.layouts X = omega (arith, ap length apart, length-append (mid.bytes ++ h.zeros) h.region, length-append mid.bytes h.zeros, h.at, whole) in
           let tight : Tight (length old.bytes) C (length new.bytes)

@@ -5,20 +5,14 @@ use Rattle.archive_check.specs.Layout.{Layout, up}
 use Rattle.archive_check.specs.Told.{Told}
 use Rattle.archive_check.specs.WriterState.{KeyStates, writer_state, Pads}
 use Rattle.archive_check.specs.declared.error.Error.{Error}
-use Rattle.archive_check.proofs.Inside.{up_le}
+use Rattle.archive_check.proofs.PartsInside.{up_le}
 use Rattle.archive_write.specs.Written.{padding, ExplainsRefusal}
 use Rattle.archive_core.specs.Plans.{Stand, IsAt, GoesOn, Explains, HindersRegion, HindersWhole, region_place, one_plan, IsOfWriting, of_layout}
 use Rattle.archive_core.proofs.Causes.{explains_write, explains_sooner, explains_later}
+use Rattle.archive_write.proofs.Padding.{padded}
 
 align_low : (a : ℕ) → IsAlign a → 1 ≤ a
 align_low a h = omega (arith, h)
-
--- zeros come up to the next multiple
-pub padding_up : (n a : ℕ) → IsAlign a → n + padding a n ≡ up n a
-padding_up n a h = elim h [
-  | inl e ↦ rw e (omega arith)
-  | inr h ↦ elim h [ inl e ↦ rw e (omega arith) | inr h ↦ elim h [ inl e ↦ rw e (omega arith) | inr h ↦ elim h [ inl e ↦ rw e (omega arith) | inr h ↦ elim h [ inl e ↦ rw e (omega arith) | inr e ↦ rw e (omega arith) ] ] ] ]
-]
 
 module _ {R : Type 0} (owned : Error → Type 0) (left : R → Type 0) (own : R → ℕ → Error → Type 0) (L : Layout) (is : IsAlign L.align) (plan : Stand) where
   abbrev Whole : Error → Type 0
@@ -36,7 +30,7 @@ module _ {R : Type 0} (owned : Error → Type 0) (left : R → Type 0) (own : R 
       → GoesOn mid new → ExplainsRefusal (padding L.align place) place mid.room mid.failures new.failures e → Explains Whole (one_plan L plan).place old new e
   whole_padded place old mid new s e g at here k h =
       let same : place ≡ plan.place = here ∙ at.place in
-      let fits : place + padding L.align place ≤ (one_plan L plan).place = omega (arith, padding_up place L.align is, ap (λ n. up n L.align) same) in
+      let fits : place + padding L.align place ≤ (one_plan L plan).place = omega (arith, padded place L.align is, ap (λ n. up n L.align) same) in
       explains_later Whole Whole (one_plan L plan).place old mid new e g k (λ x. x) (explains_write Whole (padding L.align place) place (one_plan L plan).place mid new e here fits h)
 
   -- nor its own region

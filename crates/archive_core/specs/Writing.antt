@@ -2,7 +2,7 @@
 use Rattle.std.specs.Prelude.{◌≡◌, ◌⊎◌, ℕ, ◌+◌, ◌<◌, ◌≤◌, ◌^◌, pos, List, [], ◌∷◌, ◌++◌, length, Option, Some, None, Contains}
 use Rattle.std.specs.Ordering.{nat_cmp}
 use Rattle.std.specs.FinMap.{FinMap, get}
-use Rattle.archive_check.specs.Shape.{Flavor, Shape, Pointee, one}
+use Rattle.archive_check.specs.Shape.{Flavor, Shape, Pointee}
 use Rattle.archive_check.specs.Layout.{Layout, up}
 use Rattle.archive_check.specs.Definitions.{Definitions, Knows, HasLayout}
 use Rattle.archive_check.specs.Value.{Pointer, Value, Values, pointers, all_pointers}
@@ -166,10 +166,6 @@ pub record Archives (definitions : Definitions) (old new : List ℕ) (root : ℕ
 -- the pointer to a pointee of n elements or bytes that has its region for itself
 abbrev pub to_pointee : ℕ → Pointee → ℕ → Pointer
 to_pointee t P n = record { target = pos t; sharing = None; pointee = P; length = n }
-
--- to one value
-abbrev pub to_one : ℕ → Shape → Pointer
-to_one t X = to_pointee t (one X) 0
 
 -- What a pointee owns was appended, and then its own region, which stands at p.
 pub record Lays (definitions : Definitions) (old new : WriterState) (keys : List Naming) (p : ℕ) (P : Pointee) (n : ℕ) (value : Value) : Type 0 where

@@ -97,7 +97,7 @@ fn read_leaf<N: Native>(part: Part<'_>) -> N
 
 impl<'a, N: Native> Ref<'a, LittleEndian<N>> {
     /// The number.
-    #[tactic(auto, using(archive_check::proofs::Said::leaf_readable))]
+    #[tactic(auto, using(archive_check::proofs::ViewedValues::leaf_readable))]
     pub fn get(self) -> N
         ensures number { result ≡ N.number_of (bytes_at self.entry.bytes.now self.entry.pos N.byte_count) }
         ensures says { Says no_definition self.entry.bytes.now self.entry.pos (one (leaf N.kind)) self.entry.len (number (N.value_of result)) }
@@ -119,7 +119,7 @@ impl<'a, N: Integer> Ref<'a, NonZero<N>> {
 
 impl<'a, N: Plain> Ref<'a, N> {
     /// The value: nothing, a bool, or a number of one byte.
-    #[tactic(auto, using(archive_check::proofs::Said::leaf_readable))]
+    #[tactic(auto, using(archive_check::proofs::ViewedValues::leaf_readable))]
     pub fn get(self) -> N
         ensures number { result ≡ N.number_of (bytes_at self.entry.bytes.now self.entry.pos N.byte_count) }
         ensures says { Says N.definitions self.entry.bytes.now self.entry.pos N.pointee self.entry.len (number (N.value_of result)) }

@@ -7,7 +7,8 @@ use lib.Utf8.{scalar}
 use Rattle.std.proofs.lemmas.Bool.Decides.{nat_tests}
 use Rattle.std.specs.Int.RustNames.{FitsSigned}
 use Rattle.std.proofs.lemmas.Int.{of_z-to_z, to_z-of_z}
-use Rattle.archive_num.specs.Digits.{little_bytes, little_number, AreBytes, bool_byte}
+use Rattle.archive_check.specs.LittleEndian.{little_bytes, little_number, AreBytes}
+use Rattle.archive_num.specs.Digits.{bool_byte}
 use Rattle.std.proofs.Math.Logic.{∥∥₁_elim}
 use Rattle.std.proofs.Math.Utf8.{scalar_cases}
 use Rattle.std.proofs.lemmas.List.{nil_from_length}
@@ -15,14 +16,7 @@ use Rattle.std.specs.Coded.{le_prop}
 use mathlib.Core.Bool.{Bool-set}
 use Rattle.archive_check.specs.Shape.{Sign, unsigned, signed, unit, bool, char, number}
 use Rattle.archive_check.specs.Reads.{IsLegal, kind_number, kind_value}
-use Rattle.archive_num.specs.Numbers.{bytes_cons, length-little_bytes, from_le_bytes-little, little_number-little_bytes, little_bytes-little_number, little_number-lt}
-
-pow_bits : (w : Width) → 256 ^ byte_len w ≡ 2 ^ bits w
-pow_bits w8 = refl
-pow_bits w16 = refl
-pow_bits w32 = refl
-pow_bits w64 = refl
-pow_bits w128 = refl
+use Rattle.archive_check.proofs.LittleEndian.{bytes_cons, length-little_bytes, from_le_bytes-little, little_number-little_bytes, little_bytes-little_number, little_number-lt, pow_bits}
 
 -- an unsigned number of width w comes back
 pub unsigned-number : (w : Width) (x : ℕ) → x < 2 ^ bits w → little_number (little_bytes (byte_len w) x) ≡ x
@@ -69,27 +63,17 @@ char-legal x h = rw (char-number x h) h
 
 -- leaves of the definitions
 
-positive : (w : Width) → 0 < byte_len w
-positive w8 = omega arith
-positive w16 = omega arith
-positive w32 = omega arith
-positive w64 = omega arith
-positive w128 = omega arith
-
-read-number : (w : Width) (bs : List ℕ) → length bs ≡ byte_len w → little_number bs ≡ from_le_bytes w bs
-read-number w bs e = sym (from_le_bytes-little w bs e (positive w))
-
 -- any bytes are a number
 pub number-leaf : (sign : Sign) (w : Width) (bs : List ℕ) → length bs ≡ byte_len w → IsLegal (number sign w) bs
 number-leaf sign w bs e = record { size = e; number = tt }
 
 pub unsigned-value : (w : Width) (bs : List ℕ) → IsLegal (number unsigned w) bs → pos (little_number bs) ≡ kind_value (number unsigned w) bs
 unfolding kind_value
-unsigned-value w bs h = ap pos (read-number w bs h.size)
+unsigned-value w bs h = ap pos (sym (from_le_bytes-little w bs h.size))
 
 pub signed-value : (w : Width) (bs : List ℕ) → IsLegal (number signed w) bs → cast_signed w (little_number bs) ≡ kind_value (number signed w) bs
 unfolding kind_value
-signed-value w bs h = ap (cast_signed w) (read-number w bs h.size)
+signed-value w bs h = ap (cast_signed w) (sym (from_le_bytes-little w bs h.size))
 
 -- a char's bytes are a scalar value
 
@@ -103,7 +87,7 @@ scalar_range x (inr h) = let low = h.0 in let high = h.1 in inr (low, omega arit
 
 char_from : (bs : List ℕ) → IsLegal char bs → IsScalar (little_number bs)
 unfolding kind_number
-char_from bs h = rw (read-number w32 bs h.size) (scalar_in (from_le_bytes w32 bs) h.number)
+char_from bs h = rw (sym (from_le_bytes-little w32 bs h.size)) (scalar_in (from_le_bytes w32 bs) h.number)
 
 pub char-kind : (bs : List ℕ) → ∥ IsLegal char bs ∥₁ → IsScalar (little_number bs)
 char-kind bs h = ∥∥₁_elim h (Bool-set _ _) (char_from bs)
@@ -112,7 +96,7 @@ pub char-leaf : (x : ℕ) → IsScalar x → IsLegal char (little_bytes 4 x)
 unfolding kind_number
 char-leaf x h =
     let size : length (little_bytes 4 x) ≡ 4 = length-little_bytes 4 x in
-    let same : from_le_bytes w32 (little_bytes 4 x) ≡ x = sym (read-number w32 (little_bytes 4 x) size) ∙ char-number x h in
+    let same : from_le_bytes w32 (little_bytes 4 x) ≡ x = from_le_bytes-little w32 (little_bytes 4 x) size ∙ char-number x h in
     record { size = size; number = rw same (scalar_range x (scalar_cases x h)) }
 
 pub char-reads : (bs : List ℕ) → length bs ≡ 4 → AreBytes bs → little_bytes 4 (little_number bs) ≡ bs
@@ -120,7 +104,7 @@ char-reads bs e h = unsigned-reads w32 bs e h
 
 pub char-value : (bs : List ℕ) → IsLegal char bs → pos (little_number bs) ≡ kind_value char bs
 unfolding kind_value kind_number
-char-value bs h = ap pos (read-number w32 bs h.size)
+char-value bs h = ap pos (sym (from_le_bytes-little w32 bs h.size))
 
 -- nothing
 

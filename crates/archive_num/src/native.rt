@@ -6,7 +6,8 @@ ghost use Rattle.archive_check.specs.Shape.{Kind as KindOf, Sign, number};
 ghost use Rattle.archive_check.specs.Layout.{kind_size};
 ghost use Rattle.archive_check.specs.Reads.{IsLegal, kind_value};
 ghost use Rattle.archive_check.specs.Expressions.{kind_of, sign_of, width_of};
-ghost use Rattle.archive_num.specs.Digits.{AreBytes, is_zero};
+ghost use Rattle.archive_check.specs.LittleEndian.{AreBytes};
+ghost use Rattle.archive_num.specs.Digits.{is_zero};
 
 use archive_check::expr::{IntegerKind, Kind};
 use std::hash::Hash;

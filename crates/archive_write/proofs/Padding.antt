@@ -8,7 +8,8 @@ use Rattle.archive_check.specs.CleanRegions.{IsZeroed}
 use Rattle.archive_check.specs.WriterState.{KeyStates, writer_state, Pads}
 use Rattle.archive_write.specs.Written.{padding}
 
-padded : (n a : ℕ) → IsAlign a → n + padding a n ≡ up n a
+-- zeros come up to the next multiple
+pub padded : (n a : ℕ) → IsAlign a → n + padding a n ≡ up n a
 padded n a h = elim h [
   | inl e ↦ rw e (omega arith)
   | inr h ↦ elim h [ inl e ↦ rw e (omega arith) | inr h ↦ elim h [ inl e ↦ rw e (omega arith) | inr h ↦ elim h [ inl e ↦ rw e (omega arith) | inr h ↦ elim h [ inl e ↦ rw e (omega arith) | inr e ↦ rw e (omega arith) ] ] ] ]

@@ -1,11 +1,11 @@
 -- Strings: out of line, in place, and none.
-use Rattle.std.proofs.Common.{◌≡◌, ℕ, List, [], ◌∷◌, pos, refl, arith, lit≤, IsUtf8, codes, false, true}
+use Rattle.std.proofs.Common.{◌≡◌, ℕ, List, [], ◌∷◌, pos, refl, arith, lit≤, IsUtf8, codes, false, true, length}
 use Rattle.std.specs.FinMap.{empty}
 use Rattle.std.specs.Str.{is_utf8, chars}
 use Rattle.std.proofs.lemmas.Str.{is_utf8-from_IsUtf8}
 use Rattle.archive_check.specs.Shape.{str}
 use Rattle.archive_check.specs.Value.{text_value}
-use Rattle.archive_check.specs.Reads.{bytes_at, u32_at, i32_at, decoded_length, reads_out_of_line, reads_inline}
+use Rattle.archive_check.specs.Reads.{bytes_at, u32_at, i32_at, decoded_length, reads_out_of_line, reads_inline, IsOutOfLine, before_end}
 use Rattle.archive_check.specs.Tour.{contents_text, tour_end, tour_unique}
 use Rattle.archive_check.specs.Denotes.{fills_text, fills_unique}
 use Rattle.archive_check.specs.Written.{TightFrom}
@@ -92,50 +92,32 @@ hello_tight = (refl, (refl, refl))
 pub not_aligned : NotAligned
 not_aligned = refused (lit≤ tt) (trips_align {t = 11} refl (lit≤ tt) (lit≤ tt) (λ e. cc))
 
-pub in_place : InPlace
-unfolding bytes_at lib.Utf8.encode
-in_place = record {
+-- a buffer of eight bytes that is a string in place says its text
+inline_says : (bytes : List ℕ) → length bytes ≡ 8 → (IsOutOfLine bytes 0 → ⊥) → IsUtf8 (before_end (bytes_at bytes 0 8)) → Says no_names bytes 0 str (text_value (before_end (bytes_at bytes 0 8)))
+inline_says bytes size inline u = record {
   accepted = record {
     value = _;
     regions = [];
     seen = empty;
-    flat = record { fits = lit≤ tt; reads = reads_inline (λ e. cc) (codes "hi", (refl, refl)); holes = refl };
+    flat = record { fits = omega (arith, size); reads = reads_inline inline u; holes = refl };
     tour = tour_end;
-    rising = (lit≤ tt, refl, lit≤ tt);
+    rising = (lit≤ tt, refl, omega (arith, size));
   };
   root_value = fills_text;
-  shared = shares_nothing no_names hi;
+  shared = shares_nothing no_names bytes;
 }
+
+pub in_place : InPlace
+unfolding bytes_at lib.Utf8.encode
+in_place = inline_says hi refl (λ e. cc) (codes "hi", (refl, refl))
 
 pub in_place_in_full : InPlaceInFull
 unfolding bytes_at lib.Utf8.encode
-in_place_in_full = record {
-  accepted = record {
-    value = _;
-    regions = [];
-    seen = empty;
-    flat = record { fits = lit≤ tt; reads = reads_inline (λ e. cc) (codes "12345678", (refl, refl)); holes = refl };
-    tour = tour_end;
-    rising = (lit≤ tt, refl, lit≤ tt);
-  };
-  root_value = fills_text;
-  shared = shares_nothing no_names eight;
-}
+in_place_in_full = inline_says eight refl (λ e. cc) (codes "12345678", (refl, refl))
 
 pub behind_the_end : BehindTheEnd
 unfolding bytes_at lib.Utf8.encode
-behind_the_end = record {
-  accepted = record {
-    value = _;
-    regions = [];
-    seen = empty;
-    flat = record { fits = lit≤ tt; reads = reads_inline (λ e. cc) (codes "hi", (refl, refl)); holes = refl };
-    tour = tour_end;
-    rising = (lit≤ tt, refl, lit≤ tt);
-  };
-  root_value = fills_text;
-  shared = shares_nothing no_names hi_and_more;
-}
+behind_the_end = inline_says hi_and_more refl (λ e. cc) (codes "hi", (refl, refl))
 
 pub too_short : TooShort
 unfolding bytes_at u32_at decoded_length

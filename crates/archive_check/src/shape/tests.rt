@@ -63,7 +63,7 @@ impl Portable for ArchivedId {
         Ok(Expr::Named("ArchivedId"))
     }
 
-    #[tactic(auto, using(crate::proofs::Defining::not_extended))]
+    #[tactic(auto, using(crate::proofs::AddedDefinitions::not_extended))]
     fn define(_alloc: Global, defs: &mut Defs) -> Result<(), Error> {
         let number = Expr::Leaf(Kind::Number(IntegerKind::U64));
         defs.add("ArchivedId", number)?;

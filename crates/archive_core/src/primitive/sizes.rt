@@ -11,7 +11,7 @@ ghost use Rattle.archive_check.specs.Value.{number as number_value};
 ghost use Rattle.archive_check.specs.Viewed.{Viewed, Says};
 ghost use Rattle.archive_check.specs.Told.{KeepsKeys};
 ghost use Rattle.archive_check.specs.declared.error.Error.TheVariants.{NumberTooLarge};
-ghost use Rattle.archive_num.specs.Digits.{little_bytes, little_number};
+ghost use Rattle.archive_check.specs.LittleEndian.{little_bytes, little_number};
 ghost use Rattle.archive_core.specs.Keyed.{number_keyed, stays};
 ghost use Rattle.archive_core.specs.Named.{too_large_named};
 ghost use Rattle.archive_core.specs.Plans.{stand, IsAt, GoesOn, Explains};

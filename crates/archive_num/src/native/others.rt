@@ -3,8 +3,9 @@
 ghost use Rattle.std.specs.Prelude.{◌≡◌, ◌<◌, ◌==◌, ℕ, List, [], ◌∷◌, length, ⊤, pos, slice_index, refl};
 ghost use Rattle.std.specs.Char.{IsScalar};
 ghost use Rattle.archive_check.specs.Shape.{unit, bool, char};
-ghost use Rattle.archive_num.specs.Digits.{little_bytes, little_number, bool_byte};
-ghost use Rattle.archive_num.specs.Numbers.{length-little_bytes, AreBytes-little_bytes};
+ghost use Rattle.archive_check.specs.LittleEndian.{little_bytes, little_number};
+ghost use Rattle.archive_num.specs.Digits.{bool_byte};
+ghost use Rattle.archive_check.proofs.LittleEndian.{length-little_bytes, AreBytes-little_bytes};
 ghost use Rattle.archive_num.specs.Leaves.{unit-bytes, unit-leaf, unit-reads, unit-value, bool-bytes, bool-kind, bool-legal, bool-leaf, bool-number, bool-reads, bool-value, char-kind, char-legal, char-leaf, char-number, char-reads, char-value};
 
 use crate::Native;
@@ -106,7 +107,7 @@ impl Native for bool {
     }
 }
 
-#[tactic(auto, using(crate::specs::Numbers::std_bytes))]
+#[tactic(auto, using(archive_check::proofs::LittleEndian::std_bytes))]
 impl Native for char {
     ghost kind = { char };
 

@@ -4,14 +4,14 @@ ghost use Rattle.std.specs.Prelude.{◌≡◌, ℕ, List, length, ⊤, pos, refl
 ghost use Rattle.std.specs.Int.{w8, w16, w32, w64, w128, cast_signed, cast_unsigned};
 ghost use Rattle.std.specs.Int.RustNames.{FitsSigned};
 ghost use Rattle.archive_check.specs.Shape.{number, signed};
-ghost use Rattle.archive_num.specs.Digits.{little_bytes, little_number};
-ghost use Rattle.archive_num.specs.Numbers.{length-little_bytes, AreBytes-little_bytes};
+ghost use Rattle.archive_check.specs.LittleEndian.{little_bytes, little_number};
+ghost use Rattle.archive_check.proofs.LittleEndian.{length-little_bytes, AreBytes-little_bytes};
 ghost use Rattle.archive_num.specs.Leaves.{number-leaf, signed-number, signed-reads, signed-value};
 
 use crate::{Integer, Native};
 use archive_check::expr::{IntegerKind, Kind};
 
-#[tactic(auto, using(crate::specs::Numbers::std_bytes))]
+#[tactic(auto, using(archive_check::proofs::LittleEndian::std_bytes))]
 impl Native for i8 {
     ghost kind = { number signed w8 };
 
@@ -80,7 +80,7 @@ impl Integer for i8 {
     }
 }
 
-#[tactic(auto, using(crate::specs::Numbers::std_bytes))]
+#[tactic(auto, using(archive_check::proofs::LittleEndian::std_bytes))]
 impl Native for i16 {
     ghost kind = { number signed w16 };
 
@@ -149,7 +149,7 @@ impl Integer for i16 {
     }
 }
 
-#[tactic(auto, using(crate::specs::Numbers::std_bytes))]
+#[tactic(auto, using(archive_check::proofs::LittleEndian::std_bytes))]
 impl Native for i32 {
     ghost kind = { number signed w32 };
 
@@ -218,7 +218,7 @@ impl Integer for i32 {
     }
 }
 
-#[tactic(auto, using(crate::specs::Numbers::std_bytes))]
+#[tactic(auto, using(archive_check::proofs::LittleEndian::std_bytes))]
 impl Native for i64 {
     ghost kind = { number signed w64 };
 
@@ -287,7 +287,7 @@ impl Integer for i64 {
     }
 }
 
-#[tactic(auto, using(crate::specs::Numbers::std_bytes))]
+#[tactic(auto, using(archive_check::proofs::LittleEndian::std_bytes))]
 impl Native for i128 {
     ghost kind = { number signed w128 };
 

@@ -3,14 +3,14 @@
 ghost use Rattle.std.specs.Prelude.{◌≡◌, ◌^◌, ◌<◌, ℕ, List, length, ⊤, pos, refl};
 ghost use Rattle.std.specs.Int.{w8, w16, w32, w64, w128};
 ghost use Rattle.archive_check.specs.Shape.{number, unsigned};
-ghost use Rattle.archive_num.specs.Digits.{little_bytes, little_number};
-ghost use Rattle.archive_num.specs.Numbers.{length-little_bytes, AreBytes-little_bytes};
+ghost use Rattle.archive_check.specs.LittleEndian.{little_bytes, little_number};
+ghost use Rattle.archive_check.proofs.LittleEndian.{length-little_bytes, AreBytes-little_bytes};
 ghost use Rattle.archive_num.specs.Leaves.{number-leaf, unsigned-number, unsigned-reads, unsigned-value};
 
 use crate::{Integer, Native};
 use archive_check::expr::{IntegerKind, Kind};
 
-#[tactic(auto, using(crate::specs::Numbers::std_bytes))]
+#[tactic(auto, using(archive_check::proofs::LittleEndian::std_bytes))]
 impl Native for u8 {
     ghost kind = { number unsigned w8 };
 
@@ -79,7 +79,7 @@ impl Integer for u8 {
     }
 }
 
-#[tactic(auto, using(crate::specs::Numbers::std_bytes))]
+#[tactic(auto, using(archive_check::proofs::LittleEndian::std_bytes))]
 impl Native for u16 {
     ghost kind = { number unsigned w16 };
 
@@ -148,7 +148,7 @@ impl Integer for u16 {
     }
 }
 
-#[tactic(auto, using(crate::specs::Numbers::std_bytes))]
+#[tactic(auto, using(archive_check::proofs::LittleEndian::std_bytes))]
 impl Native for u32 {
     ghost kind = { number unsigned w32 };
 
@@ -217,7 +217,7 @@ impl Integer for u32 {
     }
 }
 
-#[tactic(auto, using(crate::specs::Numbers::std_bytes))]
+#[tactic(auto, using(archive_check::proofs::LittleEndian::std_bytes))]
 impl Native for u64 {
     ghost kind = { number unsigned w64 };
 
@@ -286,7 +286,7 @@ impl Integer for u64 {
     }
 }
 
-#[tactic(auto, using(crate::specs::Numbers::std_bytes))]
+#[tactic(auto, using(archive_check::proofs::LittleEndian::std_bytes))]
 impl Native for u128 {
     ghost kind = { number unsigned w128 };
 

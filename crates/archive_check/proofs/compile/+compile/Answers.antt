@@ -4,11 +4,11 @@ use Rattle.archive_check.specs.Measure.{measure_of_variants}
 use Rattle.archive_check.specs.Shape.{parts, choice, array, boxed, vec, shared, weak, variant}
 use Rattle.archive_check.specs.CompileQueue.{waits_of}
 use Rattle.archive_check.proofs.Views.{choice_falls, shape_of-Choice, shape_of-Record, shapes_in-drop, shapes_in-end, variants_in-drop, variants_in-end}
-use Rattle.archive_check.proofs.Cases.{ok_map, as_shape, row_left, spans_left}
+use Rattle.archive_check.proofs.Restated.{ok_map, as_shape, row_left, spans_left}
 use Rattle.archive_check.proofs.Compiled.{compiled_leaf, compiled_record, compiled_choice, compiled_array, compiled_name}
-use Rattle.archive_check.proofs.Pointing.{compiled_boxed, compiled_vec, compiled_str, compiled_shared, compiled_weak}
-use Rattle.archive_check.proofs.Waiting.{targets_queued}
-use Rattle.archive_check.proofs.Rows.{row_start, row_next, row_done, spans_start, spans_next, spans_done}
+use Rattle.archive_check.proofs.CompiledPointers.{compiled_boxed, compiled_vec, compiled_str, compiled_shared, compiled_weak}
+use Rattle.archive_check.proofs.WaitingExpressions.{targets_queued}
+use Rattle.archive_check.proofs.CompiledParts.{row_start, row_next, row_done, spans_start, spans_next, spans_done}
 use Rattle.archive_check.specs.declared.error.Error.TheVariants.{OutOfMemory}
 use Rattle.archive_check.specs.Compilable.{Can, CanParts, CanVariants}
 use Rattle.archive_check.proofs.Compilable.{can_as, can_parts_as, can_variants_as, can_parts, can_choice, can_array, can_boxed, can_vec, can_shared, can_weak, can_first, can_variant, can_name, can_placed, wait_name, none_is_some}

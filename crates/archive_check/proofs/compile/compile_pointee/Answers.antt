@@ -4,9 +4,9 @@ use Rattle.archive_check.specs.Compilable.{CanPoint}
 use Rattle.archive_check.proofs.Compilable.{can_one, can_run, wait_name}
 use Rattle.archive_check.specs.Expressions.{shape_of, pointee_of}
 use Rattle.archive_check.specs.CompileQueue.{waits_of}
-use Rattle.archive_check.proofs.Cases.{as_pointee}
-use Rattle.archive_check.proofs.Waiting.{targets_queued}
-use Rattle.archive_check.proofs.Pointing.{leads_one, leads_run, leads_text}
+use Rattle.archive_check.proofs.Restated.{as_pointee}
+use Rattle.archive_check.proofs.WaitingExpressions.{targets_queued}
+use Rattle.archive_check.proofs.CompiledPointers.{leads_one, leads_run, leads_text}
 use Rattle.archive_check.proofs.compile.compile_pointee.Goals as goal
 
 pub returns-in_ok-node-in-One-clause-ok : goal.returns-in_ok-node-in-One-clause-ok

@@ -1,5 +1,5 @@
 use Rattle.std.proofs.Common.{refl}
-use Rattle.archive_check.proofs.Cases.{ok_map}
+use Rattle.archive_check.proofs.Restated.{ok_map}
 use Rattle.archive_check.proofs.compile.copy_sort.Goals as goal
 
 pub returns-clause-ok : goal.returns-clause-ok

@@ -3,7 +3,7 @@ use Rattle.archive_check.specs.Expressions.{shape_of, variants_in}
 use Rattle.archive_check.specs.Measure.{measure_of_variants}
 use Rattle.archive_check.specs.NodeCounts.{count_of, variant_counts_of}
 use Rattle.archive_check.proofs.Views.{choice_falls, shape_of-Choice}
-use Rattle.archive_check.proofs.Cases.{ok_map}
+use Rattle.archive_check.proofs.Restated.{ok_map}
 use Rattle.archive_check.proofs.counting.+count.Goals as goal
 
 pub count-count_variants-requires : goal.count-count_variants-requires

@@ -4,7 +4,7 @@ use Rattle.archive_check.specs.Expressions.{shape_of}
 use Rattle.archive_check.specs.Runs.{IsAt}
 use Rattle.archive_check.specs.NodeCounts.{count_of}
 use Rattle.archive_check.specs.Numbered.{RootIs, def_shapes}
-use Rattle.archive_check.proofs.GoingOn.{same_at}
+use Rattle.archive_check.proofs.Elements.{same_at}
 use Rattle.archive_check.proofs.Numbered.{numbered_next, start_next, def_at, prefix_found}
 use Rattle.archive_check.specs.declared.error.Error.TheVariants.{OutOfMemory}
 use Rattle.archive_check.specs.Shape.{named}

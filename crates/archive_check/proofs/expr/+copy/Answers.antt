@@ -1,8 +1,8 @@
 use Rattle.std.proofs.Common.{◌<◌, subst, sym, ap, ◌∙◌}
 use Rattle.archive_check.specs.Shape.{choice}
 use Rattle.archive_check.specs.Expressions.{shape_of, variants_in}
+use Rattle.archive_check.proofs.Views.{shape_of-Choice, choice_falls}
 use Rattle.archive_check.specs.Measure.{measure_of_variants}
-use Rattle.archive_check.proofs.Views.{choice_falls, shape_of-Choice}
 use Rattle.archive_check.proofs.expr.+copy.Goals as goal
 
 pub copy_expression-copy_variants-requires : goal.copy_expression-copy_variants-requires

@@ -1,8 +1,8 @@
 use Rattle.std.proofs.Common.{sym, subst, ◌<◌}
 use Rattle.archive_check.specs.Expressions.{variants_in}
 use Rattle.archive_check.specs.Measure.{measure_of_variants}
-use Rattle.archive_check.proofs.Views.{choice_falls}
 use Rattle.archive_check.proofs.Same.{choice_same}
+use Rattle.archive_check.proofs.Views.{choice_falls}
 use Rattle.archive_check.proofs.expr.+same.Goals as goal
 
 pub same_expressions-returns-then-eq : goal.same_expressions-returns-then-eq

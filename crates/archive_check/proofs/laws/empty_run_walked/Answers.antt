@@ -1,4 +1,4 @@
-use Rattle.archive_check.proofs.Runs.{empty_run}
+use Rattle.archive_check.proofs.PlainRuns.{empty_run}
 use Rattle.archive_check.proofs.laws.empty_run_walked.Goals as goal
 
 pub returns : goal.returns

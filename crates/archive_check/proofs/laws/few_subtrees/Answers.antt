@@ -1,4 +1,4 @@
-use Rattle.archive_check.proofs.Counted.{walk_few, trips_few}
+use Rattle.archive_check.proofs.FewSubtrees.{walk_few, trips_few}
 use Rattle.archive_check.proofs.laws.few_subtrees.Goals as goal
 
 pub returns : goal.returns

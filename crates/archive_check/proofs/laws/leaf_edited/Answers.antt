@@ -1,4 +1,4 @@
-use Rattle.archive_check.proofs.Edited.{edit_accepted}
+use Rattle.archive_check.proofs.EditedArchives.{edit_accepted}
 use Rattle.archive_check.proofs.laws.leaf_edited.Goals as goal
 
 pub returns : goal.returns

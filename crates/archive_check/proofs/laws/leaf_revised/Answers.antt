@@ -1,4 +1,4 @@
-use Rattle.archive_check.proofs.Revises.{edit_revises}
+use Rattle.archive_check.proofs.RevisedMeanings.{edit_revises}
 use Rattle.archive_check.proofs.laws.leaf_revised.Goals as goal
 
 pub returns : goal.returns

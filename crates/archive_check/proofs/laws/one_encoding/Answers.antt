@@ -1,4 +1,4 @@
-use Rattle.archive_check.proofs.Encodings.{one_encoding}
+use Rattle.archive_check.proofs.LegalBytes.{one_encoding}
 use Rattle.archive_check.proofs.laws.one_encoding.Goals as goal
 
 pub returns : goal.returns

@@ -1,4 +1,4 @@
-use Rattle.archive_check.proofs.Faults.{root_one_fault}
+use Rattle.archive_check.proofs.OneFault.{root_one_fault}
 use Rattle.archive_check.proofs.laws.one_fault.Goals as goal
 
 pub returns : goal.returns

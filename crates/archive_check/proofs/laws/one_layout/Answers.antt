@@ -1,4 +1,4 @@
-use Rattle.archive_check.proofs.Placed.{reached_one_layout, shape_one_layout}
+use Rattle.archive_check.proofs.LaidOutNames.{reached_one_layout, shape_one_layout}
 use Rattle.archive_check.proofs.laws.one_layout.Goals as goal
 
 pub returns : goal.returns

@@ -1,4 +1,4 @@
-use Rattle.archive_check.proofs.Denoted.{meaning_one}
+use Rattle.archive_check.proofs.OneMeaning.{meaning_one}
 use Rattle.archive_check.proofs.laws.one_meaning.Goals as goal
 
 pub returns : goal.returns

@@ -1,4 +1,4 @@
-use Rattle.archive_check.proofs.Closed.{reached_one}
+use Rattle.archive_check.proofs.ReachedParts.{reached_one}
 use Rattle.archive_check.proofs.laws.one_reached.Goals as goal
 
 pub returns : goal.returns

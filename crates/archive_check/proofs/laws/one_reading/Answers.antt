@@ -1,6 +1,6 @@
 use Rattle.std.proofs.Common.{◌∙◌, ap, sym}
 use Rattle.archive_check.specs.Value.{pointers}
-use Rattle.archive_check.proofs.Determined.{reads_one}
+use Rattle.archive_check.proofs.OneReading.{reads_one}
 use Rattle.archive_check.proofs.laws.one_reading.Goals as goal
 
 pub returns : goal.returns

@@ -1,5 +1,5 @@
 use Rattle.std.proofs.Common.{sym}
-use Rattle.archive_check.proofs.Determined.{tour_one}
+use Rattle.archive_check.proofs.OneReading.{tour_one}
 use Rattle.archive_check.proofs.laws.one_tour.Goals as goal
 
 pub returns : goal.returns

@@ -1,4 +1,4 @@
-use Rattle.archive_check.proofs.Runs.{plain_run}
+use Rattle.archive_check.proofs.PlainRuns.{plain_run}
 use Rattle.archive_check.proofs.laws.plain_run_walked.Goals as goal
 
 pub returns : goal.returns

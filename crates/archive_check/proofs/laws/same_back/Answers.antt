@@ -1,4 +1,4 @@
-use Rattle.archive_check.proofs.Sameness.{same_back}
+use Rattle.archive_check.proofs.SameMeanings.{same_back}
 use Rattle.archive_check.proofs.laws.same_back.Goals as goal
 
 pub returns : goal.returns

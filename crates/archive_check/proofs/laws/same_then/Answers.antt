@@ -1,4 +1,4 @@
-use Rattle.archive_check.proofs.Sameness.{same_then}
+use Rattle.archive_check.proofs.SameMeanings.{same_then}
 use Rattle.archive_check.proofs.laws.same_then.Goals as goal
 
 pub returns : goal.returns

@@ -1,4 +1,4 @@
-use Rattle.archive_check.proofs.Exists.{has_meaning}
+use Rattle.archive_check.proofs.SomeMeaning.{has_meaning}
 use Rattle.archive_check.proofs.laws.some_meaning.Goals as goal
 
 pub returns : goal.returns

@@ -1,6 +1,6 @@
 use Rattle.std.proofs.Common.{inr, refl, arith, length, ◌≤◌}
 use Rattle.archive_check.specs.Expressions.{shape_of, entries_of}
-use Rattle.archive_check.proofs.Collecting.{lost_says, found_says, gather_end}
+use Rattle.archive_check.proofs.CollectedDefinitions.{lost_says, found_says, gather_end}
 use Rattle.archive_check.proofs.names.collect.Goals as goal
 
 pub returns-in_default-clause-err : goal.returns-in_default-clause-err

@@ -1,6 +1,6 @@
 use Rattle.std.proofs.Common.{◌+◌, ◌-◌, ◌*◌, length}
 use Rattle.archive_check.specs.Expressions.{shape_of, entries_of}
-use Rattle.archive_check.proofs.Collecting.{Gathering}
+use Rattle.archive_check.proofs.CollectedDefinitions.{Gathering}
 use Rattle.archive_check.proofs.names.collect.Given as goal
 
 abbrev pub invariant-loop-at : goal.invariant-loop-at

@@ -1,6 +1,6 @@
 use Rattle.std.proofs.Common.{inr, refl, length, ◌≤◌, rules}
 use Rattle.archive_check.specs.Expressions.{entries_of}
-use Rattle.archive_check.proofs.Arranging.{arrange_ready, arrange_stuck}
+use Rattle.archive_check.proofs.ArrangedDefinitions.{arrange_ready, arrange_stuck}
 use Rattle.archive_check.proofs.names.in_order.Goals as goal
 
 pub returns-in_default-clause-err : goal.returns-in_default-clause-err

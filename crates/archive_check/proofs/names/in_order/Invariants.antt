@@ -1,6 +1,6 @@
 use Rattle.std.proofs.Common.{length}
 use Rattle.archive_check.specs.Expressions.{entries_of}
-use Rattle.archive_check.proofs.Arranging.{Arranging}
+use Rattle.archive_check.proofs.ArrangedDefinitions.{Arranging}
 use Rattle.archive_check.proofs.names.in_order.Given as goal
 
 abbrev pub invariant-loop-placed : goal.invariant-loop-placed

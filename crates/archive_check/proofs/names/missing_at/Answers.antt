@@ -2,7 +2,7 @@ use Rattle.std.proofs.Common.{◌∙◌, ap, sym, true}
 use Rattle.archive_check.specs.declared.defs.Def.{Def}
 use Rattle.archive_check.specs.Expressions.{shape_of, entries_of}
 use Rattle.archive_check.specs.Names.{missing as missing_in}
-use Rattle.archive_check.proofs.Collecting.{shape_behind}
+use Rattle.archive_check.proofs.CollectedDefinitions.{shape_behind}
 use Rattle.archive_check.proofs.names.missing_at.Goals as goal
 
 pub returns : goal.returns

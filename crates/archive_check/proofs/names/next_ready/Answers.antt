@@ -2,7 +2,7 @@ use Rattle.std.proofs.Common.{sym, ap, ◌∙◌, false}
 use Rattle.archive_check.specs.declared.defs.Def.{Def}
 use Rattle.archive_check.specs.Expressions.{shape_of, entries_of}
 use Rattle.archive_check.specs.Names.{missing}
-use Rattle.archive_check.proofs.Arranging.{not_ready}
+use Rattle.archive_check.proofs.ArrangedDefinitions.{not_ready}
 use Rattle.archive_check.proofs.names.next_ready.Goals as goal
 
 pub loop-i-preserved : goal.loop-i-preserved

@@ -3,8 +3,8 @@ use Rattle.archive_check.specs.declared.defs.Def.{Def}
 use Rattle.archive_check.specs.Expressions.{shape_of}
 use Rattle.archive_check.specs.PlanGrowth.{lists_of}
 use Rattle.archive_check.specs.CompileQueue.{waits_of}
-use Rattle.archive_check.proofs.Cases.{as_shape, as_done, handed_on}
-use Rattle.archive_check.proofs.Chained.{chained_start, defs_next, defs_begin}
+use Rattle.archive_check.proofs.Restated.{as_shape, as_done, handed_on}
+use Rattle.archive_check.proofs.CompiledChain.{chained_start, defs_next, defs_begin}
 use Rattle.archive_check.specs.declared.error.Error.TheVariants.{OutOfMemory}
 use Rattle.archive_check.specs.Runs.{IsAt}
 use Rattle.archive_check.specs.Numbered.{def_shapes, start_of}

@@ -2,8 +2,8 @@ use Rattle.std.proofs.Common.{rules, ◌≡◌, ◌<◌, ◌≤◌, length, arit
 use Rattle.archive_check.specs.Expressions.{shape_of}
 use Rattle.archive_check.specs.PlanGrowth.{lists_of}
 use Rattle.archive_check.specs.CompileQueue.{Wait, waits_of}
-use Rattle.archive_check.proofs.Cases.{as_done}
-use Rattle.archive_check.proofs.Chained.{waits_at, waits_count, waits_fall, finishes_next, finishes_end, finishes_can}
+use Rattle.archive_check.proofs.Restated.{as_done}
+use Rattle.archive_check.proofs.CompiledChain.{waits_at, waits_count, waits_fall, finishes_next, finishes_end, finishes_can}
 use Rattle.archive_check.specs.declared.error.Error.TheVariants.{OutOfMemory}
 use Rattle.archive_check.specs.Planned.{CanFinish}
 use Rattle.archive_check.proofs.planning.compile_waiting.Goals as goal

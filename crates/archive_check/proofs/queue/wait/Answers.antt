@@ -1,6 +1,6 @@
 use Rattle.std.proofs.Common.{inr, ⊎_elim, ap, ◌∙◌, [], ◌∷◌}
 use Rattle.archive_check.specs.CompileQueue.{waits_in}
-use Rattle.archive_check.proofs.Waiting.{waits_in-append, no_name}
+use Rattle.archive_check.proofs.WaitingExpressions.{waits_in-append, no_name}
 use Rattle.archive_check.proofs.queue.wait.Goals as goal
 
 pub returns-clause-ok : goal.returns-clause-ok

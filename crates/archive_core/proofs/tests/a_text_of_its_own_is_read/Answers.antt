@@ -4,7 +4,7 @@ use Rattle.archive_check.specs.Readable.{target_from}
 use Rattle.archive_check.specs.Definitions.{no_definition}
 use Rattle.archive_check.specs.Shape.{one, str, text}
 use Rattle.archive_check.specs.Viewed.{Viewed}
-use Rattle.archive_check.proofs.Said.{out_viewed}
+use Rattle.archive_check.proofs.ViewedValues.{out_viewed}
 use Rattle.archive_core.proofs.tests.a_text_of_its_own_is_read.Goals as goal
 
 abbrev hello : List ℕ

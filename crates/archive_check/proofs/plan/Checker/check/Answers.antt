@@ -1,5 +1,5 @@
 use Rattle.std.proofs.Common.{arith}
-use Rattle.archive_check.proofs.Accepts.{run_accepts, run_refuses, run_exact_ok, run_exact_err}
+use Rattle.archive_check.proofs.RootRuns.{run_accepts, run_refuses, run_exact_ok, run_exact_err}
 use Rattle.archive_check.proofs.plan.Checker.check.Goals as goal
 
 pub returns-in-Err-clause-err : goal.returns-in-Err-clause-err

@@ -1,7 +1,7 @@
 use Rattle.std.proofs.Common.{ap, ◌∙◌}
 use Rattle.archive_check.specs.declared.plan.Job.TheVariants.{Free}
 use Rattle.archive_check.specs.Runs.{IsNode}
-use Rattle.archive_check.proofs.Entering.{passes_text, passes_empty, passes_free, empty_size, some_size, is_true}
+use Rattle.archive_check.proofs.EnteredRegions.{passes_text, passes_empty, passes_free, empty_size, some_size, is_true}
 use Rattle.archive_check.proofs.plan.Checker.contents.Goals as goal
 
 pub returns-in-Text-clause-passed : goal.returns-in-Text-clause-passed

@@ -7,8 +7,8 @@ use Rattle.archive_check.specs.Runs.{times, RegionIs, enter_too_large}
 use Rattle.archive_check.specs.declared.work.Work.TheVariants.{Leave}
 use Rattle.archive_check.specs.Lists.{list_of}
 use Rattle.archive_check.specs.Turns.{IsStopped}
-use Rattle.archive_check.proofs.Steps.{some_map, if_none}
-use Rattle.archive_check.proofs.Entering.{lands, astray, stopped_deep, entered, passed_leads, run_left, entered_one, entered_run, entered_one_ready, entered_run_ready, entered_one_ends, entered_run_ends, entered_no_text, not_err}
+use Rattle.archive_check.proofs.TurnInvariants.{some_map, if_none}
+use Rattle.archive_check.proofs.EnteredRegions.{lands, astray, stopped_deep, entered, passed_leads, run_left, entered_one, entered_run, entered_one_ready, entered_run_ready, entered_one_ends, entered_run_ends, entered_no_text, not_err}
 use Rattle.archive_check.specs.declared.error.Error.TheVariants.{LayoutTooLarge, InvalidUtf8, ExceededMaximumSubtreeDepth}
 use Rattle.archive_check.proofs.plan.Checker.enter.Goals as goal
 

@@ -4,8 +4,9 @@ use mir.Syntax.{w128}
 use Rattle.archive_check.specs.declared.error.Error.TheVariants.{CyclicValidate}
 use Rattle.archive_check.specs.Lists.{list_of}
 use Rattle.archive_check.specs.Turns.{stage, Following}
-use Rattle.archive_check.proofs.Steps.{at_default, refused_keeps}
-use Rattle.archive_check.proofs.Following.{answer_of, index_of, nowhere, follow_refuses, follow_cyclic, follow_known, follow_nowhere, follow_started}
+use Rattle.archive_check.proofs.TurnInvariants.{refused_keeps}
+use Rattle.archive_check.proofs.Elements.{at_default}
+use Rattle.archive_check.proofs.FollowedPointers.{answer_of, index_of, nowhere, follow_refuses, follow_cyclic, follow_known, follow_nowhere, follow_started}
 use Rattle.archive_check.proofs.plan.Checker.follow.Goals as goal
 
 pub returns-in_default-clause-runs : goal.returns-in_default-clause-runs

@@ -11,11 +11,11 @@ use Rattle.archive_check.specs.Layout.{kind_size}
 use Rattle.archive_check.specs.Reads.{bytes_at}
 use Rattle.archive_check.specs.Lists.{list_of}
 use Rattle.archive_check.specs.Turns.{stage, Listing}
-use Rattle.archive_check.proofs.Edits.{bytes_long}
-use Rattle.archive_check.proofs.Entering.{not_true, is_true}
-use Rattle.archive_check.proofs.Turning.{turn_record, turn_choice, turn_array}
-use Rattle.archive_check.proofs.Costs.{falls_none}
-use Rattle.archive_check.proofs.Steps.{node_fits, node_leads, node_refuses, span_ready, span_ends, array_ends, pointer_ends, pointer_keeps, shared_keeps, weak_keeps, shared_ends, some_map, refused_keeps, pushed_keeps}
+use Rattle.archive_check.proofs.EditedBytes.{bytes_long}
+use Rattle.archive_check.proofs.EnteredRegions.{not_true, is_true}
+use Rattle.archive_check.proofs.TurnRules.{turn_record, turn_choice, turn_array}
+use Rattle.archive_check.proofs.TurnsEnd.{falls_none}
+use Rattle.archive_check.proofs.TurnInvariants.{node_fits, node_leads, node_refuses, span_ready, span_ends, array_ends, pointer_ends, pointer_keeps, shared_keeps, weak_keeps, shared_ends, some_map, refused_keeps, pushed_keeps}
 use Rattle.archive_check.proofs.plan.Checker.open.Goals as goal
 
 pub returns-in-Free-clause-runs : goal.returns-in-Free-clause-runs

@@ -8,9 +8,9 @@ use Rattle.archive_check.specs.declared.error.Error.TheVariants.{InvalidUtf8, In
 use Rattle.archive_check.specs.declared.work.Work.TheVariants.{Part as PartWork}
 use Rattle.archive_check.specs.Lists.{list_of}
 use Rattle.archive_check.specs.Turns.{stage, Listing}
-use Rattle.archive_check.proofs.Costs.{falls_none}
-use Rattle.archive_check.proofs.Entering.{not_true, is_true}
-use Rattle.archive_check.proofs.Steps.{node_leads, node_refuses, node_fits, text_keeps, pointer_ends, refused_keeps}
+use Rattle.archive_check.proofs.TurnsEnd.{falls_none}
+use Rattle.archive_check.proofs.EnteredRegions.{not_true, is_true}
+use Rattle.archive_check.proofs.TurnInvariants.{node_leads, node_refuses, node_fits, text_keeps, pointer_ends, refused_keeps}
 use Rattle.archive_check.proofs.plan.Checker.open_text.Goals as goal
 
 pub returns-then-length-le8-clause-runs : goal.returns-then-length-le8-clause-runs

@@ -1,5 +1,5 @@
-use Rattle.archive_check.proofs.Entering.{is_true}
-use Rattle.archive_check.proofs.Passing.{element_fits, passes_more}
+use Rattle.archive_check.proofs.EnteredRegions.{is_true}
+use Rattle.archive_check.proofs.PassedElements.{element_fits, passes_more}
 use Rattle.archive_check.proofs.plan.Checker.pass.Goals as goal
 
 pub stays-requires-clause-fits : goal.stays-requires-clause-fits

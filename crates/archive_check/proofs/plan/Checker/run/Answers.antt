@@ -3,7 +3,7 @@ use Rattle.std.proofs.lemmas.Int.{to_z_pos}
 use mir.Syntax.{w128}
 use Rattle.archive_check.specs.Lists.{list_of}
 use Rattle.archive_check.specs.Turns.{stage}
-use Rattle.archive_check.proofs.Running.{root_leads, root_refuses, root_ends, turn_leads, turn_refuses}
+use Rattle.archive_check.proofs.RootLoop.{root_leads, root_refuses, root_ends, turn_leads, turn_refuses}
 use Rattle.archive_check.proofs.plan.Checker.run.Goals as goal
 
 pub returns-in_default-clause-err : goal.returns-in_default-clause-err

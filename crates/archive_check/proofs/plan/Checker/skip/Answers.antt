@@ -1,7 +1,7 @@
 use Rattle.std.proofs.Common.{rules, ◌+◌, ◌≤◌, arith, length, slice_index_or}
-use Rattle.archive_check.proofs.Entering.{is_true, not_true}
-use Rattle.archive_check.proofs.Steps.{at_default, same_at}
-use Rattle.archive_check.proofs.Skipping.{part_fits, stays_more}
+use Rattle.archive_check.proofs.EnteredRegions.{is_true, not_true}
+use Rattle.archive_check.proofs.Elements.{at_default, same_at}
+use Rattle.archive_check.proofs.PassedParts.{part_fits, stays_more}
 use Rattle.archive_check.proofs.plan.Checker.skip.Goals as goal
 
 pub overflow_add-base : goal.overflow_add-base

@@ -1,8 +1,8 @@
 use Rattle.std.proofs.Common.{slice_index_or, ap, ◌∙◌}
 use Rattle.archive_check.specs.declared.plan.Job.TheVariants.{Free, Leaf}
 use Rattle.archive_check.specs.Runs.{IsNode, run_free, run_leaf}
-use Rattle.archive_check.proofs.Steps.{at_default}
-use Rattle.archive_check.proofs.Passing.{legal_leaf, legal_none}
+use Rattle.archive_check.proofs.Elements.{at_default}
+use Rattle.archive_check.proofs.PassedElements.{legal_leaf, legal_none}
 use Rattle.archive_check.proofs.plan.Checker.stays.Goals as goal
 
 pub returns-in-Free-clause-stays : goal.returns-in-Free-clause-stays

@@ -6,10 +6,11 @@ use Rattle.archive_check.specs.declared.plan.Job.TheVariants.{Free}
 use Rattle.archive_check.specs.Runs.{IsAt, IsNode, Takes}
 use Rattle.archive_check.specs.Lists.{list_of}
 use Rattle.archive_check.specs.Turns.{Listing, stage}
-use Rattle.archive_check.proofs.Costs.{falls_none}
-use Rattle.archive_check.proofs.Steps.{at_default, part_ready, part_room, part_leads, part_ends, element_ready, element_leads, element_ends, elements_free_leads, leave_leads, finish_leads, finish_refuses, refused_keeps, then_keeps, then_falls, under}
-use Rattle.archive_check.proofs.Skipping.{skip_all, skip_leads, skip_ready, skip_costs}
-use Rattle.archive_check.proofs.Passing.{takes_size, pass_all, pass_leads, pass_ready, pass_costs}
+use Rattle.archive_check.proofs.TurnsEnd.{falls_none}
+use Rattle.archive_check.proofs.TurnInvariants.{part_ready, part_room, part_leads, part_ends, element_ready, element_leads, element_ends, elements_free_leads, leave_leads, finish_leads, finish_refuses, refused_keeps, then_keeps, then_falls, under}
+use Rattle.archive_check.proofs.Elements.{at_default}
+use Rattle.archive_check.proofs.PassedParts.{skip_all, skip_leads, skip_ready, skip_costs}
+use Rattle.archive_check.proofs.PassedElements.{takes_size, pass_all, pass_leads, pass_ready, pass_costs}
 use Rattle.archive_check.proofs.plan.Checker.step.Goals as goal
 
 pub returns-then-next-last-clause-runs : goal.returns-then-next-last-clause-runs

@@ -6,7 +6,7 @@ use Rattle.archive_check.specs.CompileQueue.{waits_of}
 use Rattle.archive_check.specs.Compiled.{Compiled}
 use Rattle.archive_check.specs.Numbered.{def_shapes, start_of}
 use Rattle.archive_check.specs.Planned.{Chained, Finishes, InOrder, CanChain, CanFinish}
-use Rattle.archive_check.proofs.Cases.{as_done, handed_on}
+use Rattle.archive_check.proofs.Restated.{as_done, handed_on}
 use Rattle.archive_check.proofs.Planned.{all_planned, all_named, root_can, finish_can}
 use Rattle.archive_check.proofs.Numbered.{can_chain}
 use Rattle.archive_check.specs.declared.error.Error.TheVariants.{OutOfMemory}

@@ -1,5 +1,5 @@
 use Rattle.std.proofs.Common.{inl, inr, ⊎_elim, length, sym, ◌<◌, Ok, Err, subst}
-use Rattle.archive_check.proofs.Suiting.{plan_accepts, plan_refuses, plan_exact, plan_known, plan_closed}
+use Rattle.archive_check.proofs.SuitableSchemas.{plan_accepts, plan_refuses, plan_exact, plan_known, plan_closed}
 use Rattle.archive_check.proofs.shape.Schema.check.Goals as goal
 
 pub check-requires-clause-closed : goal.check-requires-clause-closed

@@ -3,8 +3,8 @@ use Rattle.archive_check.specs.declared.error.Error.TheVariants.{OutOfMemory}
 use Rattle.archive_check.specs.Expressions.{shape_of, entries_of}
 use Rattle.archive_check.specs.Schemas.{ExplainsNoSchema}
 use Rattle.archive_check.specs.Planned.{InOrder}
-use Rattle.archive_check.proofs.Cases.{handed_as}
-use Rattle.archive_check.proofs.Missing.{held_known}
+use Rattle.archive_check.proofs.Restated.{handed_as}
+use Rattle.archive_check.proofs.MissingNames.{held_known}
 use Rattle.archive_check.proofs.PlansInOrder.{in_order_of}
 use Rattle.archive_check.proofs.shape.Schema.of.Goals as goal
 

@@ -1,7 +1,7 @@
 use Rattle.std.proofs.Common.{◌≡◌, string_bytes, arith}
 use Rattle.std.proofs.lemmas.Grind.{common_steps}
 use Rattle.archive_check.specs.Reads.{bytes_at}
-use Rattle.archive_check.proofs.Said.{text_says}
+use Rattle.archive_check.proofs.ViewedValues.{text_says}
 use Rattle.archive_core.proofs.string.ArchivedStrDeserializeUnsizedString.deserialize_unsized_part.Goals as goal
 
 pub returns-clause-value : goal.returns-clause-value

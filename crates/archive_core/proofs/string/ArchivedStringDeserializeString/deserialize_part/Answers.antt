@@ -1,7 +1,7 @@
 use Rattle.std.proofs.Common.{◌≡◌, string_bytes, arith}
 use Rattle.std.proofs.lemmas.Grind.{common_steps}
 use Rattle.archive_check.specs.Readable.{string_text}
-use Rattle.archive_check.proofs.Said.{string_says}
+use Rattle.archive_check.proofs.ViewedValues.{string_says}
 use Rattle.archive_core.proofs.string.ArchivedStringDeserializeString.deserialize_part.Goals as goal
 
 pub returns-clause-value : goal.returns-clause-value

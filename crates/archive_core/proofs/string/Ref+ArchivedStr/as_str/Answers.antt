@@ -1,4 +1,4 @@
-use Rattle.archive_check.proofs.Said.{text_readable, text_says}
+use Rattle.archive_check.proofs.ViewedValues.{text_readable, text_says}
 use Rattle.archive_core.proofs.Shown.{text_shown}
 use Rattle.archive_core.proofs.string.Ref+ArchivedStr.as_str.Goals as goal
 

@@ -1,5 +1,5 @@
 use Rattle.std.proofs.Common.{arith}
-use Rattle.archive_check.proofs.Said.{string_readable, inline_says, out_says}
+use Rattle.archive_check.proofs.ViewedValues.{string_readable, inline_says, out_says}
 use Rattle.archive_core.proofs.Shown.{string_shown, inline_shown, elsewhere_shown}
 use Rattle.archive_core.proofs.string.Ref+ArchivedString.as_str.Goals as goal
 

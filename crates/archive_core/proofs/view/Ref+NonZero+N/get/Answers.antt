@@ -1,4 +1,4 @@
-use Rattle.archive_check.proofs.Said.{leaf_readable}
+use Rattle.archive_check.proofs.ViewedValues.{leaf_readable}
 use Rattle.archive_core.proofs.Shown.{number_shown, not_zero_shown, non_zero_says}
 use Rattle.archive_core.proofs.view.Ref+NonZero+N.get.Goals as goal
 

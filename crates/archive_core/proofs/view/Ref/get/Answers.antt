@@ -1,4 +1,4 @@
-use Rattle.archive_check.proofs.Said.{leaf_readable}
+use Rattle.archive_check.proofs.ViewedValues.{leaf_readable}
 use Rattle.archive_core.proofs.Shown.{number_says}
 use Rattle.archive_core.proofs.view.Ref.get.Goals as goal
 

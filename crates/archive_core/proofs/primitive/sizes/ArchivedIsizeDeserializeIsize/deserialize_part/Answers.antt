@@ -2,7 +2,7 @@ use Rattle.std.proofs.Common.{refl, arith}
 use Rattle.std.proofs.lemmas.Grind.{common_steps}
 use Rattle.std.specs.Int.{w32, cast_signed}
 use Rattle.archive_check.specs.Shape.{number, signed}
-use Rattle.archive_num.specs.Digits.{little_number}
+use Rattle.archive_check.specs.LittleEndian.{little_number}
 use Rattle.archive_num.specs.Leaves.{signed-value}
 use Rattle.archive_core.proofs.Shown.{number_says}
 use Rattle.archive_core.proofs.primitive.sizes.ArchivedIsizeDeserializeIsize.deserialize_part.Goals as goal

@@ -1,8 +1,8 @@
 use Rattle.std.proofs.Common.{◌∙◌, ap}
 use Rattle.std.proofs.lemmas.Int.{to_z-of_z}
 use Rattle.std.specs.Int.{w128, cast_unsigned}
-use Rattle.archive_num.specs.Digits.{little_bytes}
-use Rattle.archive_num.specs.Numbers.{to_le_bytes-little}
+use Rattle.archive_check.specs.LittleEndian.{little_bytes}
+use Rattle.archive_check.proofs.LittleEndian.{to_le_bytes-little}
 use Rattle.archive_num.proofs.native.signed.I128Native.write_to.Goals as goal
 
 pub returns-clause-bytes : goal.returns-clause-bytes

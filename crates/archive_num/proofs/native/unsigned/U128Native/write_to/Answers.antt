@@ -1,6 +1,6 @@
 use Rattle.std.proofs.Common.{◌∙◌}
 use Rattle.std.specs.Int.{w128}
-use Rattle.archive_num.specs.Numbers.{to_le_bytes-little}
+use Rattle.archive_check.proofs.LittleEndian.{to_le_bytes-little}
 use Rattle.archive_num.proofs.native.unsigned.U128Native.write_to.Goals as goal
 
 pub returns-clause-bytes : goal.returns-clause-bytes

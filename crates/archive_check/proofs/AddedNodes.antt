@@ -1,0 +1,181 @@
+-- Nodes that are added to a plan.
+use Rattle.std.proofs.Common.{◌≡◌, ◌≢◌, ◌⊎◌, inl, inr, ⊎_elim, ℕ, zero, suc, refl, sym, ap, ◌∙◌, subst, ◌+◌, ◌<◌, ◌≤◌, arith, List, [], ◌∷◌, ◌++◌, length, Bool, true, Option, Some, length-append}
+use Rattle.std.proofs.lemmas.Bool.{cases_lt}
+use Rattle.archive_check.specs.declared.plan.Job.{Job}
+use Rattle.archive_check.specs.declared.plan.Job.TheVariants.{Free}
+use Rattle.archive_check.specs.declared.plan.Node.{Node}
+use Rattle.archive_check.specs.declared.plan.Checker.{Checker}
+use Rattle.archive_check.specs.declared.growing.Known.{Known}
+use Rattle.archive_check.specs.Shape.{Shape}
+use Rattle.archive_check.specs.Layout.{Layouts, size_of, align_of}
+use Rattle.archive_check.specs.Reads.{Schema}
+use Rattle.archive_check.specs.Runs.{IsAt}
+use Rattle.archive_check.specs.Closed.{JobFits}
+use Rattle.archive_check.specs.Represents.{StandsFor, stands, Made}
+use Rattle.archive_check.specs.BoundedSizes.{fits}
+use Rattle.archive_check.specs.PlanGrowth.{PlanLists, Goes, Grows, IsPushed, Unless, IsMade}
+use Rattle.archive_check.specs.Compiled.{Follows, Below, NamesSized, ClosedTo, Settled, Given, MadeTo, Adds, Compiled}
+use Rattle.archive_check.specs.NodeCounts.{count_of}
+use Rattle.archive_check.specs.Measure.{measure_of}
+use Rattle.archive_check.specs.Compilable.{Can, AllKnown}
+use Rattle.archive_check.specs.CompileQueue.{Wait, Waits, measure_of_waits}
+use Rattle.archive_check.proofs.Fitting.{some_is}
+use Rattle.archive_check.proofs.GrowingPlans.{at_more, goes_refl, goes_trans, grows_refl, grows_trans, pushed_grows, pushed_count, pushed_at, pushed_is}
+use Rattle.archive_check.proofs.Elements.{at_behind, at_end, same_at}
+
+-- the shapes of nodes are those of the first, and of the others
+pub given_first : {shapes : ℕ → Shape} {from : ℕ} {xs : List Shape} (ys : List Shape) → Given shapes from (xs ++ ys) → Given shapes from xs
+given_first ys g = record { are = λ k X h. g.are k X (at_more (record { more = ys; is = refl }) h) }
+
+pub given_second : {shapes : ℕ → Shape} {from : ℕ} {ys : List Shape} (xs : List Shape) (to : ℕ) → to ≡ from + length xs → Given shapes from (xs ++ ys) → Given shapes to ys
+given_second {shapes} {from} {ys} xs to e g = record { are = λ k X h. let i : to + k ≡ from + (length xs + k) = omega (arith, e) in ap shapes i ∙ g.are (length xs + k) X (at_behind xs k h) }
+
+pub given_last : {shapes : ℕ → Shape} {from : ℕ} {X : Shape} (xs : List Shape) (j : ℕ) → j ≡ from + length xs → Given shapes from (xs ++ X ∷ []) → shapes j ≡ X
+given_last {shapes} {from} {X} xs j e g = ap shapes e ∙ g.are (length xs) X (at_end xs X)
+
+pub knows_settled : {names : List Known} {ws : List Wait} {s : Schema} {shapes : ℕ → Shape} {m : Checker} (done : ℕ) → Settled names ws s shapes m → NamesSized names s.layouts done m
+knows_settled done t name j e h = t.sized name j e
+
+-- fewer wait
+pub settled_less : {names : List Known} {us ws : List Wait} {s : Schema} {shapes : ℕ → Shape} {m : Checker} → Goes ws us → Settled names us s shapes m → Settled names ws s shapes m
+settled_less g t = record {
+  laid_out = t.laid_out;
+  waits_sized = λ k x at. t.waits_sized k x (at_more g at);
+  waits_stand = λ k x at. t.waits_stand k x (at_more g at);
+  sized = t.sized;
+  stand = t.stand;
+}
+
+below_less : {names : List Known} {us ws : List Wait} {m : Checker} → Goes ws us → Below names us m → Below names ws m
+below_less g t = record { names_below = t.names_below; waits_below = λ k x at. t.waits_below k x (at_more g at) }
+
+pub adds_refl : (names : List Known) (v : Waits) (a : PlanLists) → Adds names [] v v a a
+adds_refl names v a = record { grows = grows_refl a; waits_go = goes_refl v.items; reserved = λ base r. r; count = omega arith; closed = λ m g w c. c; made = λ s shapes m g t given h. h }
+
+pub adds_trans : {names : List Known} {g h : List Shape} {v w u : Waits} {a b c : PlanLists} → Adds names g v w a b → Adds names h w u b c → Adds names (g ++ h) v u a c
+adds_trans {g = g} {h = h} f k = record {
+  grows = grows_trans f.grows k.grows;
+  waits_go = goes_trans f.waits_go k.waits_go;
+  reserved = λ base r. k.reserved base (f.reserved base r);
+  count = omega (arith, f.count, k.count, length-append g h);
+  closed = λ m r w c. k.closed m r w (f.closed m (grows_trans k.grows r) (below_less k.waits_go w) c);
+  made = λ s shapes m r t given c. k.made s shapes m r t (given_second g _ f.count given) (f.made s shapes m (grows_trans k.grows r) (settled_less k.waits_go t) (given_first h given) c);
+}
+
+-- no node more
+pub adds_same : {names : List Known} {g : List Shape} {v w : Waits} {a b c : PlanLists} → Adds names g v w a b → Grows b c → c.nodes ≡ b.nodes → Adds names g v w a c
+adds_same f r e = record {
+  grows = grows_trans f.grows r;
+  waits_go = f.waits_go;
+  reserved = f.reserved;
+  count = ap length e ∙ f.count;
+  closed = λ m k w c. subst (λ xs. ClosedTo m (length xs)) (sym e) (f.closed m (grows_trans r k) w c);
+  made = λ s shapes m k t given c. subst (λ xs. MadeTo s shapes m (length xs)) (sym e) (f.made s shapes m (grows_trans r k) t given c);
+}
+
+-- one node more
+module _ {b c : PlanLists} {size : Option ℕ} {align j : ℕ} {job : Job} (p : IsPushed b c size align job j) (m : Checker) (g : Follows c m) where
+  new_node : (i : ℕ) (node : Node) → i < length c.nodes → length b.nodes ≤ i → IsAt m.nodes.now i node → (i ≡ length b.nodes) × (node ≡ p.node)
+  new_node i node lt le at =
+      let e : i ≡ length b.nodes = omega (arith, lt, le, pushed_count p) in
+      let here : IsAt m.nodes.now j node = subst (λ k. IsAt m.nodes.now k node) (e ∙ sym p.is) at in
+      (e, same_at here (at_more g.nodes (pushed_at p)))
+
+  push_closed : ((z : ℕ) → size ≡ Some z → JobFits m (length b.nodes) z job) → ClosedTo m (length b.nodes) → ClosedTo m (length c.nodes)
+  push_closed f k = record {
+    fits = λ i node z lt at e. ⊎_elim
+        (λ h. k.fits i node z h at e)
+        (λ h. let q = new_node i node lt h at in
+        let there = f z (sym p.size_is ∙ ap (λ (n : Node). n.size) (sym q.1) ∙ e) in
+        subst (λ w. JobFits m i z w) (sym p.job_is ∙ ap (λ (n : Node). n.job) (sym q.1)) (subst (λ w. JobFits m w z job) (sym q.0) there))
+        (cases_lt i (length b.nodes));
+  }
+
+  push_made : {s : Schema} {shapes : ℕ → Shape} (X : Shape) → shapes (length b.nodes) ≡ X → size ≡ fits (size_of s.layouts X) → ((z : ℕ) → size ≡ Some z → Made s shapes m job X)
+      → (size ≡ Some 0 → job ≡ Free) → MadeTo s shapes m (length b.nodes) → MadeTo s shapes m (length c.nodes)
+  push_made {s} {shapes} X is lay make empty k = record {
+    made = λ i node z lt at e. ⊎_elim
+        (λ h. k.made i node z h at e)
+        (λ h. let q = new_node i node lt h at in
+        let sized = sym p.size_is ∙ ap (λ (n : Node). n.size) (sym q.1) ∙ e in
+        let here : X ≡ shapes i = sym is ∙ ap shapes (sym q.0) in
+        subst (λ Y. (size_of s.layouts Y ≡ z) × Made s shapes m node.job Y) here
+        (some_is (sym lay ∙ sized), subst (λ w. Made s shapes m w X) (sym p.job_is ∙ ap (λ (n : Node). n.job) (sym q.1)) (make z sized)))
+        (cases_lt i (length b.nodes));
+    empty = λ i node lt at e. ⊎_elim
+        (λ h. k.empty i node h at e)
+        (λ h. let q = new_node i node lt h at in ap (λ (n : Node). n.job) q.1 ∙ p.job_is ∙ empty (sym p.size_is ∙ ap (λ (n : Node). n.size) (sym q.1) ∙ e))
+        (cases_lt i (length b.nodes));
+  }
+
+module _ {names : List Known} {gives : List Shape} {v w : Waits} {a b c : PlanLists} (f : Adds names gives v w a b) where
+  pub adds_push : {size : Option ℕ} {align j : ℕ} {job : Job} (X : Shape) → IsPushed b c size align job j
+      → ((m : Checker) → Follows c m → Below names w.items m → (z : ℕ) → size ≡ Some z → JobFits m (length b.nodes) z job)
+      → ((s : Schema) (shapes : ℕ → Shape) (m : Checker) → Follows c m → Settled names w.items s shapes m → size ≡ fits (size_of s.layouts X))
+      → ((s : Schema) (shapes : ℕ → Shape) (m : Checker) → Follows c m → Settled names w.items s shapes m → Given shapes (length a.nodes) gives → MadeTo s shapes m (length b.nodes) → (z : ℕ) → size ≡ Some z → Made s shapes m job X)
+      → (size ≡ Some 0 → job ≡ Free)
+      → Adds names (gives ++ X ∷ []) v w a c
+  adds_push X p closed lay make empty = record {
+    grows = grows_trans f.grows (pushed_grows p);
+    waits_go = f.waits_go;
+    reserved = f.reserved;
+    count = omega (arith, f.count, pushed_count p, length-append gives (X ∷ []));
+    closed = λ m g w k. push_closed p m g (closed m g w) (f.closed m (grows_trans (pushed_grows p) g) w k);
+    made = λ s shapes m g t given k.
+        let first = given_first (X ∷ []) given in
+        let old = f.made s shapes m (grows_trans (pushed_grows p) g) t first k in
+        push_made p m g X (given_last gives (length b.nodes) f.count given) (lay s shapes m g t) (make s shapes m g t first old) empty old;
+  }
+
+  pub compiled_push : {done : ℕ} {size : Option ℕ} {align j : ℕ} {job : Job} (X : Shape) → IsPushed b c size align job j → length gives + 1 ≡ count_of X → measure_of_waits w.items ≤ measure_of_waits v.items + measure_of X
+      → (AllKnown names v.items → Can names done X → AllKnown names w.items)
+      → ((m : Checker) (l : Layouts) → Follows c m → NamesSized names l done m → (size ≡ fits (size_of l X)) × (align ≡ align_of l X))
+      → ((m : Checker) → Follows c m → Below names w.items m → (z : ℕ) → size ≡ Some z → JobFits m (length b.nodes) z job)
+      → ((s : Schema) (shapes : ℕ → Shape) (m : Checker) → Follows c m → Settled names w.items s shapes m → Given shapes (length a.nodes) gives → MadeTo s shapes m (length b.nodes) → (z : ℕ) → size ≡ Some z → Made s shapes m job X)
+      → (size ≡ Some 0 → job ≡ Free)
+      → Compiled names done X v w a c j
+  compiled_push {done = done} {j = j} X p count few known lay closed make empty =
+      let last : j ≡ length a.nodes + length gives = omega (arith, p.is, f.count) in
+      record {
+        gives = gives ++ X ∷ [];
+        gives_count = length-append gives (X ∷ []) ∙ count;
+        adds = adds_push X p closed (λ s shapes m g t. (lay m s.layouts g (knows_settled done t)).0) make empty;
+        waits_few = few;
+        known = known;
+        below = omega (arith, pushed_is p);
+        root = inr (pushed_is p, omega (arith, last), λ shapes given. given_last gives j last given);
+        lays = λ m l g k. let q = lay m l g k in record { node = p.node; at = at_more g.nodes (pushed_at p); size_is = p.size_is ∙ q.0; align_is = p.align_is ∙ q.1 };
+      }
+
+-- a job, or none
+pub unless_job : (free : Bool) (size : Option ℕ) (job made : Job) → Unless free size job made → (P : Job → Type 0)
+    → ((free ≡ true) ⊎ ((z : ℕ) → size ≡ Some z → z ≡ 0) → P Free) → (size ≢ Some 0 → P job) → P made
+unless_job free size job made (inl h) P f g = subst P (sym h.0) (f h.1)
+unless_job free size job made (inr h) P f g = subst P (sym h.0) (g h.1)
+
+pub some_positive : {size : Option ℕ} (z : ℕ) → size ≡ Some z → size ≢ Some 0 → 0 < z
+some_positive zero e n = absurd (n e)
+some_positive (suc z) e n = omega arith
+
+module _ {names : List Known} {gives : List Shape} {v w : Waits} {a b c : PlanLists} (f : Adds names gives v w a b) where
+  pub compiled_made : {done : ℕ} {size : Option ℕ} {align j : ℕ} {free : Bool} {job : Job} (X : Shape) → IsMade b c size align free job j → length gives + 1 ≡ count_of X → measure_of_waits w.items ≤ measure_of_waits v.items + measure_of X
+      → (AllKnown names v.items → Can names done X → AllKnown names w.items)
+      → ((m : Checker) (l : Layouts) → Follows c m → NamesSized names l done m → (size ≡ fits (size_of l X)) × (align ≡ align_of l X))
+      → ((m : Checker) → Follows c m → Below names w.items m → (z : ℕ) → size ≡ Some z → 0 < z → JobFits m (length b.nodes) z job)
+      → ((s : Schema) (shapes : ℕ → Shape) (m : Checker) → Follows c m → Settled names w.items s shapes m → Given shapes (length a.nodes) gives → MadeTo s shapes m (length b.nodes) → (z : ℕ) → size ≡ Some z → (free ≡ true) ⊎ (z ≡ 0) → Made s shapes m Free X)
+      → ((s : Schema) (shapes : ℕ → Shape) (m : Checker) → Follows c m → Settled names w.items s shapes m → Given shapes (length a.nodes) gives → (z : ℕ) → size ≡ Some z → 0 < z → Made s shapes m job X)
+      → Compiled names done X v w a c j
+  compiled_made {size = size} {free = free} {job = job} X p count few known lay closed make_free make = compiled_push f X p.pushed count few known lay
+      (λ m g w z e. unless_job free size job p.made p.which (λ q. JobFits m (length b.nodes) z q) (λ h. tt) (λ n. closed m g w z e (some_positive z e n)))
+      (λ s shapes m g t given k z e. unless_job free size job p.made p.which (λ q. Made s shapes m q X)
+      (λ h. make_free s shapes m g t given k z e (⊎_elim (λ y. inl y) (λ y. inr (y z e)) h))
+      (λ n. make s shapes m g t given z e (some_positive z e n)))
+      (λ e. unless_job free size job p.made p.which (λ q. q ≡ Free) (λ h. refl) (λ n. absurd (n e)))
+
+-- an expression's node stands for it
+pub stands_of : {names : List Known} {done : ℕ} {X : Shape} {v w : Waits} {a b : PlanLists} {j : ℕ} {s : Schema} {shapes : ℕ → Shape} {m : Checker}
+    → (c : Compiled names done X v w a b j) → Settled names w.items s shapes m → Given shapes (length a.nodes) c.gives → StandsFor s shapes X j
+stands_of {j = j} {s = s} {shapes = shapes} c t given = ⊎_elim
+    (λ h. subst (λ Y. StandsFor s shapes Y j) (sym h.1) (t.stand h.0 j h.2))
+    (λ h. stands (h.2 shapes given))
+    c.root

@@ -1,0 +1,242 @@
+-- A region is entered: what the range calls say, and what is left to do.
+use Rattle.std.proofs.Common.{◌≡◌, ◌≢◌, inr, ℕ, zero, suc, ℤ, pos, negsuc, refl, sym, ap, ap₂, ◌∙◌, slice_index_or, ◌+◌, ◌-◌, ◌*◌, ◌%◌, ◌<◌, ◌≤◌, nat_le, nat_eq, Bool, true, false, arith, List, ◌∷◌, length, Option, Some, None, Result, Ok, Err, IsUtf8, IsTrue}
+use Rattle.std.proofs.lemmas.Bool.Decides.{nat_tests}
+use Rattle.archive_check.specs.declared.error.Error.{Error}
+use Rattle.archive_check.specs.declared.error.Error.TheVariants.{InvalidUtf8, ExceededMaximumSubtreeDepth}
+use Rattle.archive_check.specs.declared.plan.Target.{Target}
+use Rattle.archive_check.specs.declared.plan.Target.TheVariants.{One, Run, Text}
+use Rattle.archive_check.specs.declared.plan.Job.TheVariants.{Free}
+use Rattle.archive_check.specs.declared.plan.Node.{Node}
+use Rattle.archive_check.specs.declared.plan.Checker.{Checker}
+use Rattle.archive_check.specs.declared.work.Work.{Work}
+use Rattle.archive_check.specs.declared.work.Work.TheVariants.{Part as PartWork, Elements, Leave}
+use Rattle.archive_check.specs.Depth.{Allows, inside}
+use Rattle.archive_check.specs.Ranges.{RangeState, subtree_answer, pushed, one_more, popped}
+use Rattle.archive_check.specs.Met.{Positions}
+use Rattle.archive_check.specs.Reads.{bytes_at}
+use Rattle.archive_check.specs.Tour.{Seen}
+use Rattle.archive_check.specs.Trail.{Fault, outside, unaligned, too_deep, no_text}
+use Rattle.archive_check.specs.Runs.{times, Outcome, refused, Takes, RegionIs, EnterRuns, enter_outside, enter_unaligned, enter_too_deep, enter_stop, contents_no_text, contents_text, contents_empty, contents_one, contents_run, run_free, elements_free, IsNode, enter_within, ListRuns}
+use Rattle.archive_check.specs.Faults.{IsFor}
+use Rattle.archive_check.specs.Turns.{and_then, Passes, Ready, stage, pending_in, regions_in, Agreeing, Listing, Entering, Leads, IsStopped, power, level, cost}
+use Rattle.archive_check.proofs.TurnRules.{enter_one, enter_run}
+use Rattle.archive_check.proofs.MetAgrees.{allows, agrees_inside}
+use Rattle.archive_check.proofs.TurnsEnd.{level_end, falls_enter}
+use Rattle.archive_check.proofs.OneReading.{pos_one}
+use Rattle.archive_check.proofs.Depths.{levels_allow}
+
+-- a region of this size and alignment lies at t, within the range
+pub record Lands (s : RangeState) (z : ℤ) (size align t : ℕ) : Type 0 where
+  pub target : z ≡ pos t
+  pub above : s.start ≤ t
+  pub below : t + size ≤ s.end
+  pub aligned : t % align ≡ 0
+
+pub lands : (s : RangeState) (z : ℤ) (size align t : ℕ) (u : Unit {0}) → z ≡ pos t → Ok u ≡ subtree_answer s z size align → Lands s z size align t
+lands s (negsuc n) size align t u e h = cc
+lands s (pos n) size align t u e h =
+    let same : n ≡ t = cc in
+    record { target = e; above = grind (arith, nat_tests); below = grind (arith, nat_tests); aligned = grind (arith, nat_tests) }
+
+negative : (n t : ℕ) → negsuc n ≡ pos t → ⊥
+negative n t e = cc
+
+-- what a refusal of the range says
+pub astray : (m : Checker) (j n : ℕ) (target : Target) (s : RangeState) (z : ℤ) (size align : ℕ) (e : Error) → RegionIs m j n (Some size) align → Err e ≡ subtree_answer s z size align
+    → (f : Fault) × IsFor f e × ((pending : List ℕ) (seen : Seen) → EnterRuns m pending s.depth s.end target j n z s.start seen (refused f))
+astray m j n target s (negsuc k) size align e reg h =
+    (outside (negsuc k) size s.start s.end, cc, λ pending seen. enter_outside reg (λ t is above below. negative k t is))
+astray m j n target s (pos k) size align e reg h = astray_by m j n target s k size align e reg (nat_le s.start k) (nat_le (k + size) s.end) (nat_eq (k % align) 0) refl refl refl h
+  where
+    astray_by : (m : Checker) (j n : ℕ) (target : Target) (s : RangeState) (k : ℕ) (size align : ℕ) (e : Error) → RegionIs m j n (Some size) align → (a b d : Bool) → nat_le s.start k ≡ a → nat_le (k + size) s.end ≡ b → nat_eq (k % align) 0 ≡ d → Err e ≡ subtree_answer s (pos k) size align
+        → (f : Fault) × IsFor f e × ((pending : List ℕ) (seen : Seen) → EnterRuns m pending s.depth s.end target j n (pos k) s.start seen (refused f))
+    astray_by m j n target s k size align e reg true true true p q r h = absurd (grind (arith, nat_tests))
+    astray_by m j n target s k size align e reg true true false p q r h =
+        (unaligned k align, grind (arith, nat_tests), λ pending seen. enter_unaligned reg refl (grind (arith, nat_tests)) (grind (arith, nat_tests)) (grind (arith, nat_tests)))
+    astray_by m j n target s k size align e reg true false d p q r h =
+        (outside (pos k) size s.start s.end, grind (arith, nat_tests), λ pending seen. enter_outside reg (λ t is above below. let same : k ≡ t = pos_one is in grind (arith, nat_tests)))
+    astray_by m j n target s k size align e reg false b d p q r h =
+        (outside (pos k) size s.start s.end, grind (arith, nat_tests), λ pending seen. enter_outside reg (λ t is above below. let same : k ≡ t = pos_one is in grind (arith, nat_tests)))
+
+-- the last level lets no region be entered
+last_level : (d : Option ℕ) → d ≡ Some 1 → Allows d 1 → ⊥
+last_level None e a = cc
+last_level (Some n) e a = let one : n ≡ 1 = cc in omega arith
+
+pub stopped_deep : (m : Checker) (j n : ℕ) (target : Target) (s : RangeState) (z : ℤ) (size align t : ℕ) (e : Error) → RegionIs m j n (Some size) align → Lands s z size align t → s.depth ≡ Some 1 → e ≡ ExceededMaximumSubtreeDepth → IsStopped m target j n z s e
+stopped_deep m j n target s z size align t e reg at deep is =
+    inr (λ some. (too_deep, is, λ pending seen. enter_too_deep reg at.target at.above at.below at.aligned (last_level s.depth deep)))
+
+pub record Entered (m : Checker) (s s' : RangeState) (met met' : Positions) (j n : ℕ) (z : ℤ) (size align t : ℕ) (old mid : List Work) : Type 0 where
+  pub region : RegionIs m j n (Some size) align
+  pub lands : Lands s z size align t
+  pub start : s'.start ≡ s.start
+  pub end : s'.end ≡ t
+  pub depth : s'.depth ≡ inside s.depth
+  pub deep : s.depth ≡ Some 1 → ⊥
+  pub same : met' ≡ met
+  pub list : mid ≡ Leave (t + size) s.end ∷ old
+
+times_size : (size : Option ℕ) (n z : ℕ) → times size n ≡ Some z → 0 < z → (y : ℕ) × (size ≡ Some y) × (n * y ≡ z)
+times_size None n z e lt = absurd (grind (arith, nat_tests))
+times_size (Some y) n z e lt = (y, refl, grind (arith, nat_tests))
+
+pub entered : (m : Checker) (s s1 s2 : RangeState) (met met1 met2 : Positions) (j n : ℕ) (z z' : ℤ) (size t x y : ℕ) (old mid : List Work) (node : Node) (u : Unit {0})
+    → j < length m.nodes.now → node ≡ slice_index_or m.nodes.now j node → times (slice_index_or m.nodes.now j node).size n ≡ Some size
+    → z' ≡ z → z' ≡ pos t → Ok u ≡ subtree_answer s z' size (slice_index_or m.nodes.now j node).align
+    → s1 ≡ s → s2 ≡ pushed s1 t → met1 ≡ met → met2 ≡ met1 → (s1.depth ≡ Some 1 → ⊥) → (x ≡ t + size) × (y ≡ s1.end) → mid ≡ Leave x y ∷ old
+    → Entered m s s2 met met2 j n z size (slice_index_or m.nodes.now j node).align t old mid
+entered m s s1 s2 met met1 met2 j n z z' size t x y old mid node u known is sized zz target v same pushes met_is met_stays deep ends list =
+    let w : Ok u ≡ subtree_answer s z size (slice_index_or m.nodes.now j node).align = v ∙ ap (λ q. subtree_answer s q size (slice_index_or m.nodes.now j node).align) zz in
+    let p : s2 ≡ pushed s t = pushes ∙ ap (λ r. pushed r t) same in
+    let ey : y ≡ s.end = ends.1 ∙ ap (λ r. r.end) same in
+    record {
+      region = record { node = node; at = record { below = known; is = is }; size_is = ap (λ q. times q.size n) is ∙ sized; align_is = ap (λ q. q.align) is };
+      lands = lands s z size (slice_index_or m.nodes.now j node).align t u (sym zz ∙ target) w;
+      start = ap (λ r. r.start) p;
+      end = ap (λ r. r.end) p;
+      depth = ap (λ r. r.depth) p;
+      deep = λ e. deep (ap (λ r. r.depth) same ∙ e);
+      same = met_stays ∙ met_is;
+      list = list ∙ ap₂ (λ a b. Leave a b ∷ old) (ends.0) ey;
+    }
+
+-- what a region holds that leads nowhere
+module _ (m : Checker) (j n z t : ℕ) where
+  pub passes_text : IsUtf8 (bytes_at m.bytes.now t z) → Passes m Text j n z t
+  passes_text utf pending depth start seen = contents_text utf
+
+  pub passes_empty : (target : Target) → z ≡ 0 → Passes m target j n z t
+  passes_empty target none pending depth start seen = contents_empty none
+
+  pub passes_free : (target : Target) (align : ℕ) → (target ≡ Text → ⊥) → (target ≡ One → n ≡ 1) → RegionIs m j n (Some z) align → IsNode m j Free → t + z ≤ length m.bytes.now → Passes m target j n z t
+  passes_free target align other one region free fits = by_size (nat_eq z 0) refl
+    where
+      takes : 0 < z → (y : ℕ) × Takes m j y × (n * y ≡ z)
+      takes lt =
+          let k = times_size region.node.size n z region.size_is lt in
+          (k.0, record { node = region.node; at = region.at; size_is = k.1 }, k.2)
+
+      filled : (target : Target) → (target ≡ Text → ⊥) → (target ≡ One → n ≡ 1) → 0 < z → Passes m target j n z t
+      filled Text other one lt = absurd (other refl)
+      filled One other one lt = λ pending depth start seen.
+          let k = takes lt in
+          let same : n * k.0 ≡ k.0 = (ap (λ q. q * k.0) (one refl) ∙ omega arith) in
+          contents_one lt (run_free free k.1 (omega (arith, k.2)))
+      filled Run other one lt = λ pending depth start seen. let k = takes lt in contents_run lt (elements_free free k.1 (omega (arith, k.2)))
+
+      by_size : (b : Bool) → nat_eq z 0 ≡ b → Passes m target j n z t
+      by_size true e = passes_empty target (grind (arith, nat_tests))
+      by_size false e = filled target other one (let some : z ≢ 0 = grind (arith, nat_tests) in omega arith)
+
+-- a target of neither one value nor a text is a run
+pub run_left : (target : Target) → (target ≡ One → ⊥) → target ≢ Text → target ≡ Run
+run_left One one text = absurd (one refl)
+run_left Run one text = refl
+run_left Text one text = absurd (text refl)
+
+level_back : (d : Option ℕ) → d ≢ Some 0 → one_more (inside d) ≡ d
+level_back None some = refl
+level_back (Some zero) some = absurd (some refl)
+level_back (Some (suc n)) some = let same : suc n - 1 + 1 ≡ suc n = omega arith in ap Some same
+
+module _ (m : Checker) (s s' : RangeState) (met met' : Positions) (j n : ℕ) (z : ℤ) (size align t : ℕ) (old mid : List Work) (h : Entered m s s' met met' j n z size align t old mid) where
+  pub entered_ready : Ready m s old → Ready m s' mid
+  entered_ready r = record {
+    below = omega (arith, h.end, h.lands.below, r.below);
+    fits = rw h.list (omega (arith, h.end), r.below, r.fits);
+  }
+
+  moved : {w w' : List Work} {seen : Seen} {o : Outcome} → w ≡ w' → Listing m (stage s' met' w) seen o → ListRuns m (pending_in w') (inside s.depth) t w' s.start seen o
+  moved e r = rw (h.start, h.end, h.depth, e) at r
+
+  entering : {target : Target} {seen : Seen} {o : Outcome} → Entering m target j n (pos t) (stage s met old) seen o → Entering m target j n z (stage s met old) seen o
+  entering r = rw h.lands.target r
+
+  agreed : {seen : Seen} (new : List Work) → pending_in new ≡ pending_in old → regions_in new ≡ 1 + regions_in old → Agreeing (stage s met old) seen → Agreeing (stage s' met' new) seen
+  agreed new e f a = rw (h.depth, h.same, e, f) (agrees_inside a (allows a h.deep))
+
+  module _ (s2 : RangeState) (met2 : Positions) (x y : ℕ) (left : s2 ≡ popped s' x y) (x_is : x ≡ t + size) (y_is : y ≡ s.end) where
+    -- the region is left at once
+    pub passed_leads : (target : Target) → met2 ≡ met' → Passes m target j n size t → Leads m (Entering m target j n z) (stage s met old) (stage s2 met2 old)
+    passed_leads target unmet passes seen a =
+        let back : s2.depth ≡ s.depth = ap (λ r. r.depth) left ∙ ap one_more h.depth ∙ level_back s.depth a.levels in
+        let stop : s2.end ≡ s.end = ap (λ r. r.end) left ∙ y_is in
+        let start : s2.start ≡ t + size = ap (λ r. r.start) left ∙ x_is in (
+          seen,
+          rw (back, unmet, h.same) a,
+          λ o r. entering {target = target} (and_then (enter_within h.region refl h.lands.above h.lands.below h.lands.aligned (allows a h.deep) (passes (pending_in old) (inside s.depth) s.start seen)) (rw (back, stop, start) at r)),
+        )
+
+  pub entered_no_text : (IsUtf8 (bytes_at m.bytes.now t size) → ⊥) → IsStopped m Text j n z s InvalidUtf8
+  entered_no_text wrong = inr (λ some. (
+    no_text,
+    refl,
+    λ pending seen.
+        enter_stop h.region h.lands.target h.lands.above h.lands.below h.lands.aligned (levels_allow s.depth some.levels h.deep) (contents_no_text wrong),
+  ))
+
+  module _ (new : List Work) (lt : 0 < size) where
+    region_takes : (y : ℕ) × Takes m j y × (n * y ≡ size)
+    region_takes =
+        let k = times_size h.region.node.size n size h.region.size_is lt in
+        (k.0, record { node = h.region.node; at = h.region.at; size_is = k.1 }, k.2)
+
+    pub entered_one : new ≡ PartWork j t ∷ mid → Leads m (Entering m One j n z) (stage s met old) (stage s' met' new)
+    entered_one e seen a =
+        let list : new ≡ PartWork j t ∷ Leave (t + size) s.end ∷ old = e ∙ ap (λ w. PartWork j t ∷ w) h.list in (
+          seen,
+          agreed new (ap pending_in list) (ap regions_in list) a,
+          λ o r. entering {target = One} (enter_one m h.region h.lands.above h.lands.below h.lands.aligned (allows a h.deep) lt (moved list r)),
+        )
+
+    pub entered_run : new ≡ Elements j n t ∷ mid → Leads m (Entering m Run j n z) (stage s met old) (stage s' met' new)
+    entered_run e seen a =
+        let list : new ≡ Elements j n t ∷ Leave (t + size) s.end ∷ old = e ∙ ap (λ w. Elements j n t ∷ w) h.list in (
+          seen,
+          agreed new (ap pending_in list) (ap regions_in list) a,
+          λ o r. entering {target = Run} (enter_run m h.region h.lands.above h.lands.below h.lands.aligned (allows a h.deep) lt (moved list r)),
+        )
+
+    pub entered_one_ready : Ready m s old → n ≡ 1 → new ≡ PartWork j t ∷ mid → Ready m s' new
+    entered_one_ready r one e =
+        let k = region_takes in
+        let all = entered_ready r in
+        record {
+          below = all.below;
+          fits = rw e (record { size = k.0; takes = k.1; fits = let f : n * k.0 ≡ k.0 = (ap (λ x. x * k.0) one ∙ omega arith) in omega (arith, k.2, h.lands.below, r.below, f) }, all.fits);
+        }
+
+    pub entered_run_ready : Ready m s old → n < 18446744073709551616 → new ≡ Elements j n t ∷ mid → Ready m s' new
+    entered_run_ready r few e =
+        let k = region_takes in
+        let all = entered_ready r in
+        record {
+          below = all.below;
+          fits = rw e (record { size = k.0; few = few; takes = k.1; fits = omega (arith, k.2, h.lands.below, r.below) }, all.fits);
+        }
+
+    pub entered_one_ends : j < length m.nodes.now → new ≡ PartWork j t ∷ mid → cost m s'.end new ≤ power (level (length m.nodes.now) s.end 0 0) + cost m s.end old
+    entered_one_ends known e =
+        rw (e ∙ ap (λ w. PartWork j t ∷ w) h.list) (falls_enter (level (length m.nodes.now) s'.end j 18446744073709551616) (level (length m.nodes.now) s.end 0 0) (cost m s.end old)
+        (level_end (length m.nodes.now) s.end s'.end 0 0 j 18446744073709551616 (omega (arith, h.end, h.lands.below)) (omega arith) (omega arith)))
+
+    pub entered_run_ends : j < length m.nodes.now → n < 18446744073709551616 → new ≡ Elements j n t ∷ mid → cost m s'.end new ≤ power (level (length m.nodes.now) s.end 0 0) + cost m s.end old
+    entered_run_ends known few e =
+        rw (e ∙ ap (λ w. Elements j n t ∷ w) h.list) (falls_enter (level (length m.nodes.now) s'.end (j + 1) n) (level (length m.nodes.now) s.end 0 0) (cost m s.end old)
+        (level_end (length m.nodes.now) s.end s'.end 0 0 (j + 1) n (omega (arith, h.end, h.lands.below)) (omega arith) (omega arith)))
+
+pub not_true : (b : Bool) → b ≡ false → IsTrue b → ⊥
+not_true b e h = cc
+
+pub is_true : (b : Bool) → b ≡ true → IsTrue b
+is_true b e = e
+
+pub not_err : {A : Type 0} (x : A) (e : Error) → ◌≡◌ {A = Result A Error} (Ok x) (Err e) → ⊥
+not_err x e is = cc
+
+pub empty_size : (z : ℕ) → IsTrue (nat_eq z 0) → z ≡ 0
+empty_size z t = grind (arith, nat_tests)
+
+pub some_size : (z : ℕ) → nat_eq z 0 ≡ false → 0 < z
+some_size z t = let some : z ≢ 0 = grind (arith, nat_tests) in omega arith
