@@ -4,6 +4,7 @@ ghost use Rattle.std.specs.Prelude.{◌≡◌, ◌≤◌, ◌∷◌, [], None, O
 ghost use Rattle.archive_check.specs.Lists.{list_of, IsMore};
 
 use crate::error::Error;
+use smallvec::SmallVec;
 use std::alloc::Global;
 use std::ops::Range;
 
@@ -39,11 +40,20 @@ pub enum Work {
     },
 }
 
+impl Default for Work {
+    fn default() -> Work {
+        Work::Leave { start: 0, end: 0 }
+    }
+}
+
+// So many entries take no memory of the heap: enough for values that hold no more than a few others within one another.
+const FEW: usize = 4;
+
 /// What is left to check, the next on top, and the refusal of a check that stopped. The calls that stop a check answer `None` alone, since a
 /// refusal is wide.
 #[derive(Drop)]
 pub struct Worklist {
-    entries: Vec<Work>,
+    entries: SmallVec<Work, FEW>,
     fault: Error,
 }
 
@@ -53,7 +63,7 @@ impl Worklist {
         ensures { list_of result ≡ [] }
     {
         Worklist {
-            entries: Vec::new(alloc),
+            entries: SmallVec::new(alloc),
             fault: Error::OutOfMemory,
         }
     }
@@ -74,8 +84,7 @@ impl Worklist {
     }
 
     /// Stops the check.
-    #[cold]
-    #[inline(never)]
+    #[inline]
     pub fn refuse(&mut self, fault: Error) -> Option<()>
         ensures none { result ≡ None }
         ensures fault { self.new.fault ≡ fault }
@@ -89,9 +98,10 @@ impl Worklist {
         ensures some { OnSome result (list_of self.new ≡ entry ∷ list_of self.old) }
         ensures none { IfNone result (self.new.fault ≡ Error.OutOfMemory) }
     {
-        if self.entries.push(entry).is_err() {
+        if self.entries.reserve(1).is_err() {
             return self.refuse(Error::OutOfMemory);
         }
+        self.entries.push_reserved(entry);
         Some(())
     }
 
