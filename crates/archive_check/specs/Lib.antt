@@ -40,6 +40,7 @@ pub mod Runs
 pub mod Represents
 pub mod Lists
 pub mod Closed
+pub mod Flat
 pub mod Faults
 pub mod Fitting
 pub mod Growing

@@ -4,7 +4,6 @@ ghost use Rattle.std.specs.Prelude.{◌≡◌, ◌≤◌, ◌∷◌, [], None, O
 ghost use Rattle.archive_check.specs.Lists.{list_of, IsMore};
 
 use crate::error::Error;
-use smallvec::SmallVec;
 use std::alloc::Global;
 use std::ops::Range;
 
@@ -40,20 +39,11 @@ pub enum Work {
     },
 }
 
-impl Default for Work {
-    fn default() -> Work {
-        Work::Leave { start: 0, end: 0 }
-    }
-}
-
-// So many entries take no memory of the heap: enough for values that hold no more than a few others within one another.
-const FEW: usize = 4;
-
 /// What is left to check, the next on top, and the refusal of a check that stopped. The calls that stop a check answer `None` alone, since a
 /// refusal is wide.
 #[derive(Drop)]
 pub struct Worklist {
-    entries: SmallVec<Work, FEW>,
+    entries: Vec<Work>,
     fault: Error,
 }
 
@@ -63,7 +53,7 @@ impl Worklist {
         ensures { list_of result ≡ [] }
     {
         Worklist {
-            entries: SmallVec::new(alloc),
+            entries: Vec::new(alloc),
             fault: Error::OutOfMemory,
         }
     }
