@@ -53,6 +53,7 @@ pub mod Costs
 pub mod Turning
 pub mod Meeting
 pub mod Entering
+pub mod AtOnce
 pub mod LegalBytes
 pub mod Following
 pub mod Steps

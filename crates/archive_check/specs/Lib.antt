@@ -41,6 +41,8 @@ pub mod Represents
 pub mod Lists
 pub mod Closed
 pub mod Flat
+pub mod Through
+pub mod Entered
 pub mod Faults
 pub mod Fitting
 pub mod Growing

@@ -3,6 +3,7 @@
 
 pub mod bytes;
 mod check;
+mod check_flat;
 mod checked;
 mod compile;
 mod counting;

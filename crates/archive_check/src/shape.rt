@@ -95,6 +95,7 @@ impl Schema {
             parts: &self.plan.parts,
             variants: &self.plan.variants,
             sorts: &self.plan.sorts,
+            flat: &[],
             bytes,
         };
         let alloc = *self.plan.nodes.allocator();

@@ -71,6 +71,7 @@ fn check<C: ArchiveContext + SharedContext>(
         parts: &plan.parts,
         variants: &plan.variants,
         sorts: &plan.sorts,
+        flat: &[],
         bytes,
     };
     checker.check(alloc, node, at, context)

@@ -75,7 +75,7 @@ impl Worklist {
 
     /// Stops the check.
     #[inline]
-    pub fn refuse(&mut self, fault: Error) -> Option<()>
+    pub fn refuse<T>(&mut self, fault: Error) -> Option<T>
         ensures none { result ≡ None }
         ensures fault { self.new.fault ≡ fault }
     {
