@@ -13,14 +13,14 @@ use Rattle.archive_check.specs.Ranges.{RangeState}
 use Rattle.archive_check.specs.Met.{Positions}
 use Rattle.archive_check.specs.Tour.{Seen}
 use Rattle.archive_check.specs.Trail.{Fault}
-use Rattle.archive_check.specs.Runs.{Outcome, done, refused, IsAt, IsNode, Takes, NodeRuns, PartsRun, ElementsRun, parts_end, parts_next, parts_stop, elements_end, elements_next, elements_stop, list_part, list_part_stop}
+use Rattle.archive_check.specs.Runs.{Outcome, done, refused, IsAt, IsNode, Takes, RegionIs, NodeRuns, PartsRun, ElementsRun, parts_end, parts_next, parts_stop, elements_end, elements_next, elements_stop, list_part, list_part_stop}
 use Rattle.archive_check.specs.Closed.{span, SpanFits, ArrayFits}
 use Rattle.archive_check.specs.Flat.{marked, is_free, free_at, parts_flat, variants_flat}
-use Rattle.archive_check.specs.Turns.{Stays, PartsFit, ElementsFit, Ready, stage, pending_in, Listing, Keeps, HasLevels, cost, rank}
+use Rattle.archive_check.specs.Turns.{Stays, PartFits, PartsFit, ElementsFit, Ready, stage, pending_in, Listing, Keeps, HasLevels, cost, rank}
 use Rattle.archive_check.specs.Through.{Rule, Through, Stops, node_rule, parts_rule, elements_rule}
-use Rattle.archive_check.proofs.Steps.{at_default, some_map, span_next, here_from}
+use Rattle.archive_check.proofs.Steps.{same_get, at_default, some_map, span_next, here_from}
 use Rattle.archive_check.proofs.Costs.{falls_none}
-use Rattle.archive_check.proofs.Entering.{has_levels}
+use Rattle.archive_check.proofs.Entering.{has_levels, times_size}
 
 -- what is flat
 
@@ -97,8 +97,11 @@ part_below parts b (suc n) a k x e lt le at =
 -- what comes of rules
 
 -- what comes of one rule comes of another
+pub through_from : (R Q : Rule) (s s' : RangeState) → ((pending : List ℕ) (seen : Seen) (o : Outcome) → R pending s.depth s.end s.start seen o → Q pending s.depth s.end s.start seen o) → Through R s s' → Through Q s s'
+through_from R Q s s' to t = record { end = t.end; depth = t.depth; runs = λ some pending seen. to pending seen (done s'.start seen) (t.runs some pending seen) }
+
 pub through_by : (R Q : Rule) (s s' : RangeState) (r : Option (Unit {0})) → ((pending : List ℕ) (seen : Seen) (o : Outcome) → R pending s.depth s.end s.start seen o → Q pending s.depth s.end s.start seen o) → OnSome r (Through R s s') → OnSome r (Through Q s s')
-through_by R Q s s' r to = some_map r (λ t. record { end = t.end; depth = t.depth; runs = λ some pending seen. to pending seen (done s'.start seen) (t.runs some pending seen) })
+through_by R Q s s' r to = some_map r (through_from R Q s s' to)
 
 pub stops_by : (R Q : Rule) (s : RangeState) (e : Error) → ((pending : List ℕ) (seen : Seen) (o : Outcome) → R pending s.depth s.end s.start seen o → Q pending s.depth s.end s.start seen o) → Stops R s e → Stops Q s e
 stops_by R Q s e to stops some = let f = stops some in (f.0, f.1, λ pending seen. to pending seen (refused f.0) (f.2 pending seen))
@@ -211,3 +214,19 @@ module _ (m : Checker) (a b p k : ℕ) (x : Part) (lt : k < b) (at : IsAt m.part
 
 pub parts_over : (m : Checker) (a b p k : ℕ) (s s1 : RangeState) → b ≤ k → Towards (parts_rule m a b p) (parts_rule m k b p) s s1 → Through (parts_rule m a b p) s s1
 parts_over m a b p k s s1 ge towards = towards_end (parts_rule m a b p) (parts_rule m k b p) s s1 towards (λ pending seen. parts_end ge)
+
+-- what a region holds lies in it
+module _ (m : Checker) (j n z p align : ℕ) (region : RegionIs m j n (Some z) align) (lt : 0 < z) (room : p + z ≤ length m.bytes.now) where
+  pub region_part : n ≡ 1 → PartFits m j p
+  region_part one =
+      let k = times_size region.node.size n z region.size_is lt in
+      let same : n * k.0 ≡ k.0 = (ap (λ q. q * k.0) one ∙ omega arith) in
+      record { size = k.0; takes = record { node = region.node; at = region.at; size_is = k.1 }; fits = omega (arith, k.2, same) }
+
+  pub region_elements : n < 18446744073709551616 → ElementsFit m j n p
+  region_elements few =
+      let k = times_size region.node.size n z region.size_is lt in
+      record { size = k.0; few = few; takes = record { node = region.node; at = region.at; size_is = k.1 }; fits = omega (arith, k.2) }
+
+pub mark_is : (marks : List Bool) (i : ℕ) (d : Bool) → i < length marks → slice_index_or marks i d ≡ true → IsTrue (marked marks i)
+mark_is marks i d below e = same_get marks i false d below ∙ e

@@ -65,7 +65,7 @@ pub stopped_deep : (m : Checker) (j n : ℕ) (target : Target) (s : RangeState) 
 stopped_deep m j n target s z size align t e reg at deep is some =
     (too_deep, is, λ pending seen. enter_too_deep reg at.target at.above at.below at.aligned (last_level s.depth deep))
 
-times_size : (size : Option ℕ) (n z : ℕ) → times size n ≡ Some z → 0 < z → (y : ℕ) × (size ≡ Some y) × (n * y ≡ z)
+pub times_size : (size : Option ℕ) (n z : ℕ) → times size n ≡ Some z → 0 < z → (y : ℕ) × (size ≡ Some y) × (n * y ≡ z)
 times_size None n z e lt = absurd (grind (arith, nat_tests))
 times_size (Some y) n z e lt = (y, refl, grind (arith, nat_tests))
 
