@@ -1,5 +1,5 @@
 -- Which nodes are flat: they lead to nothing but bytes that are legal whatever they are, and texts. A flat node is checked at once.
-use Rattle.std.specs.Prelude.{ℕ, suc, zero, Bool, true, false, ◌&&◌, List, [], ◌∷◌, take, drop, ◌-◌, slice_index_or, IsTrue}
+use Rattle.std.specs.Prelude.{◌≡◌, ℕ, suc, zero, Bool, true, false, ◌&&◌, List, [], ◌∷◌, take, drop, ◌-◌, length, slice_index_or, IsTrue}
 use Rattle.archive_check.specs.declared.plan.Target.{Target}
 use Rattle.archive_check.specs.declared.plan.Target.TheVariants.{One, Run, Text}
 use Rattle.archive_check.specs.declared.plan.Job.{Job}
@@ -7,6 +7,7 @@ use Rattle.archive_check.specs.declared.plan.Job.TheVariants.{Free, Leaf, Record
 use Rattle.archive_check.specs.declared.plan.Node.{Node}
 use Rattle.archive_check.specs.declared.plan.Part.{Part}
 use Rattle.archive_check.specs.declared.plan.Span.{Span}
+use Rattle.archive_check.specs.declared.plan.Checker.{Checker}
 use Rattle.archive_check.specs.Runs.{IsAt}
 use Rattle.archive_check.specs.Closed.{span}
 
@@ -56,3 +57,7 @@ job_flat nodes parts variants marks (Weak k target j) = false
 -- each node that is marked is flat
 abbrev pub AreFlat : List Node → List Part → List Span → List Bool → Type 0
 AreFlat nodes parts variants marks = (i : ℕ) (x : Node) → IsAt nodes i x → IsTrue (marked marks i) → IsTrue (job_flat nodes parts variants marks x.job)
+
+-- each node has a mark, and each that is marked is flat
+abbrev pub IsMarked : Checker → Type 0
+IsMarked m = AreFlat m.nodes.now m.parts.now m.variants.now m.flat.now × (length m.flat.now ≡ length m.nodes.now)

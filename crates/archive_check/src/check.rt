@@ -13,6 +13,7 @@ ghost use Rattle.archive_check.specs.Trail.{Fault};
 ghost use Rattle.archive_check.specs.Runs.{times as times_of, count_at, length_of, target_size, IsAt, IsNode, Takes, RegionIs, EnterRuns, done, refused};
 ghost use Rattle.archive_check.specs.Lists.{list_of};
 ghost use Rattle.archive_check.specs.Closed.{IsClosed};
+ghost use Rattle.archive_check.specs.Flat.{IsMarked};
 ghost use Rattle.archive_check.specs.Faults.{IsFor};
 ghost use Rattle.archive_check.specs.Fresh.{IsFresh};
 ghost use Rattle.archive_check.specs.Turns.{PointeeFits, Passes, PartFits, PartsFit, ElementsFit, Stays, PartStays, LiesLegal, Ready, stage, Listing, Entering, Following, Leads, Keeps, IsStopped, power, level, cost};
@@ -143,6 +144,7 @@ impl Checker<'_> {
         begin: usize,
         size: usize,
     ) -> Option<bool>
+        requires marked { IsMarked self.now }
         requires region { (align : ℕ) × RegionIs self.now pointee count (Some size) align }
         requires pointee { PointeeFits self.now target pointee count }
         requires within { begin + size ≤ length self.now.bytes.now }
@@ -174,6 +176,7 @@ impl Checker<'_> {
         context: &mut C,
     ) -> Option<()>
         requires closed { IsClosed self.now }
+        requires marked { IsMarked self.now }
         requires ready { Ready self.now (C.state context.old) (list_of work.old) }
         requires pointee { PointeeFits self.now target pointee count }
         ensures ready { OnSome result (Ready self.now (C.state context.new) (list_of work.new)) }
@@ -224,6 +227,7 @@ impl Checker<'_> {
         context: &mut C,
     ) -> Option<()>
         requires closed { IsClosed self.now }
+        requires marked { IsMarked self.now }
         requires ready { Ready self.now (C.state context.old) (PartWork node at ∷ list_of work.old) }
         requires job { IsNode self.now node (Str pointee) }
         ensures ready { OnSome result (Ready self.now (C.state context.new) (list_of work.new)) }
@@ -256,6 +260,7 @@ impl Checker<'_> {
         context: &mut C,
     ) -> Option<()>
         requires closed { IsClosed self.now }
+        requires marked { IsMarked self.now }
         requires ready { Ready self.now (C.state context.old) (list_of work.old) }
         requires within { at + target_size target ≤ length self.now.bytes.now }
         requires sort { sort < length self.now.sorts.now }
@@ -296,6 +301,7 @@ impl Checker<'_> {
         context: &mut C,
     ) -> Option<()>
         requires closed { IsClosed self.now }
+        requires marked { IsMarked self.now }
         requires ready { Ready self.now (C.state context.old) (PartWork node at ∷ list_of work.old) }
         ensures ready { OnSome result (Ready self.now (C.state context.new) (list_of work.new)) }
         ensures runs { Keeps self.now (Listing self.now) (stage (C.state context.old) (C.positions context.old) (PartWork node at ∷ list_of work.old)) (stage (C.state context.new) (C.positions context.new) (list_of work.new)) result work.new.fault }
@@ -351,6 +357,7 @@ impl Checker<'_> {
         context: &mut C,
     ) -> Option<()>
         requires closed { IsClosed self.now }
+        requires marked { IsMarked self.now }
         requires ready { Ready self.now (C.state context.old) (entry ∷ list_of work.old) }
         ensures ready { OnSome result (Ready self.now (C.state context.new) (list_of work.new)) }
         ensures runs { Keeps self.now (Listing self.now) (stage (C.state context.old) (C.positions context.old) (entry ∷ list_of work.old)) (stage (C.state context.new) (C.positions context.new) (list_of work.new)) result work.new.fault }
@@ -406,6 +413,7 @@ impl Checker<'_> {
         context: &mut C,
     ) -> Result<(), Error>
         requires closed { IsClosed self.now }
+        requires marked { IsMarked self.now }
         requires below { (C.state context.old).end ≤ length self.now.bytes.now }
         requires known { root < length self.now.nodes.now }
         ensures ok { OnOk result (IsFresh (C.state context.old) (C.positions context.old) → (last : ℕ) × (known : Seen) × EnterRuns self.now [] (C.state context.old).depth (C.state context.old).end One root 1 (pos at) (C.state context.old).start empty (done last known)) }

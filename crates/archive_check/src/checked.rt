@@ -3,6 +3,7 @@
 ghost use Rattle.std.specs.Prelude.{◌≡◌, ◌⊎◌, ◌<◌, ◌≤◌, length, OnOk, IfErr};
 ghost use Rattle.archive_check.specs.declared.error.Error.TheVariants.{OutOfMemory};
 ghost use Rattle.archive_check.specs.Closed.{IsClosed};
+ghost use Rattle.archive_check.specs.Flat.{IsMarked};
 ghost use Rattle.archive_check.specs.Exact.{IsWhole, Accepts, Refuses, IsExact};
 
 use crate::error::Error;
@@ -22,6 +23,7 @@ impl Checker<'_> {
         context: &mut C,
     ) -> Result<(), Error>
         requires closed { IsClosed self.now }
+        requires marked { IsMarked self.now }
         requires below { (C.state context.old).end ≤ length self.now.bytes.now }
         requires known { root < length self.now.nodes.now }
         ensures ok { OnOk result (IsWhole (C.state context.old) (C.positions context.old) self.now.bytes.now → Accepts self.now root (C.state context.old).depth at) }
