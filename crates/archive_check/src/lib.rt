@@ -11,6 +11,7 @@ pub mod defs;
 pub mod error;
 pub mod expr;
 mod extents;
+mod flat;
 mod growing;
 pub mod laws;
 pub mod layout;
