@@ -72,7 +72,6 @@ variant_flat marks parts variants b n a k x e lt le h at = go n a e h
         ∙ ap (take (suc (b - (a + 1)))) (drop-cons variants a y (omega (arith, at.below)))
         ∙ ap₂ (λ (z : Span) (q : ℕ). z ∷ take (b - (a + 1)) (drop q variants)) (sym at.is) more
 
-
     go : (n a : ℕ) → k ≡ a + n → IsTrue (variants_flat marks parts (take (b - a) (drop a variants))) → IsTrue (parts_flat marks (span parts x.first x.last))
     go zero a e h =
         let same : k ≡ a = omega arith in

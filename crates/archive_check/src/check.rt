@@ -147,7 +147,8 @@ impl Checker<'_> {
         count
     }
 
-    /// Enters the region of so many of the pointee at `position`.
+    /// Enters the region of so many of the pointee at `position`. It stands in its callers, since what it answers is wide.
+    #[inline(always)]
     pub fn enter_region<C: ArchiveContext>(
         &self,
         pointee: usize,

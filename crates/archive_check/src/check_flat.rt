@@ -118,7 +118,9 @@ impl Checker<'_> {
                 };
                 self.check_flat_parts(variant.first, variant.last, at, work, context)
             }
-            Job::Array { count, element } => self.check_flat_elements(element, count, at, work, context),
+            Job::Array { count, element } => self.check_flat_elements(
+                element, count, at, work, context,
+            ),
             Job::Pointer { target, pointee } => {
                 let count = self.count(target, at);
                 let position = read_position(self.bytes, at, at);

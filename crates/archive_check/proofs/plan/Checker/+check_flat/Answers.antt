@@ -231,12 +231,12 @@ check_flat_parts-loop-index-preserved g t c =
     let at = at_default m.parts.now k (record { offset = 0; node = 0 }) (omega (arith, c.requires.fits.last)) in
     let f = part_fits m c.args.base c.args.first c.args.last k x c.requires.fits c.loop-index.auto.index c.loop-index-test.true at in
     elim c.if-not-stays.branch [
-      check_flat_parts-then-not-stays+in_ok-check_flat w ↦ (
+      | check_flat_parts-then-not-stays+in_ok-check_flat w ↦ (
         ap list_of w.work-is ∙ w.in_ok-check_flat.ensures.list ∙ c.loop-index.invariant.0,
         ap (λ q. g.C.Context.positions q) w.context-is ∙ w.in_ok-check_flat.ensures.positions ∙ c.loop-index.invariant.1,
         rw w.context-is (towards_part m c.args.first c.args.last c.args.base k x c.loop-index-test.true at s (g.C.Context.state c.loop-index.context) c.loop-index.invariant.2 (g.C.Context.state w.check_flat.new.context) w.in_ok-check_flat.ensures.through),
       )
-    | check_flat_parts-else-not-stays w ↦ (
+      | check_flat_parts-else-not-stays w ↦ (
         ap list_of w.work-is ∙ c.loop-index.invariant.0,
         ap (λ q. g.C.Context.positions q) w.context-is ∙ c.loop-index.invariant.1,
         rw w.context-is (towards_part m c.args.first c.args.last c.args.base k x c.loop-index-test.true at s (g.C.Context.state c.loop-index.context) c.loop-index.invariant.2 (g.C.Context.state c.loop-index.context) (through_stays m x.node (c.args.base + x.offset) (g.C.Context.state c.loop-index.context) (c.stays.ensures.stays (is_true c.stays.result w.if-not-stays.false)))),
@@ -291,8 +291,7 @@ check_flat_elements-loop-index-preserved g t c =
     let s = g.C.Context.state c.args.context.now in
     let at : IsAt m.nodes.now c.args.node c.index-self-node.result = record { below = c.requires.fits.takes.at.below; is = c.index-self-node.is } in
     let size = λ (y : ℕ) (q : c.index-self-node.result.size ≡ Some y). c.unwrap_or-size.ensures ∙ ap (λ v. unwrap_or v.size 0) (sym c.index-self-node.is) ∙ ap (λ v. unwrap_or v 0) q in
-    let takes : Takes m c.args.node c.unwrap_or-size.result = takes_size m c.args.node c.unwrap_or-size.result c.index-self-node.result at c.requires.fits.takes size in
-    (
+    let takes : Takes m c.args.node c.unwrap_or-size.result = takes_size m c.args.node c.unwrap_or-size.result c.index-self-node.result at c.requires.fits.takes size in (
       c.in_ok-check_flat.ensures.list ∙ c.loop-index.invariant.0,
       c.in_ok-check_flat.ensures.positions ∙ c.loop-index.invariant.1,
       towards_element m c.args.node c.unwrap_or-size.result takes s (g.C.Context.state c.loop-index.context) (g.C.Context.state c.check_flat.new.context) c.args.count c.args.at c.loop-index.index c.loop-index-test.true c.loop-index.invariant.2 c.in_ok-check_flat.ensures.through,
@@ -306,4 +305,3 @@ check_flat_elements-returns-clause-through g t c =
     let size = λ (y : ℕ) (q : c.index-self-node.result.size ≡ Some y). c.unwrap_or-size.ensures ∙ ap (λ v. unwrap_or v.size 0) (sym c.index-self-node.is) ∙ ap (λ v. unwrap_or v 0) q in
     let takes : Takes m c.args.node c.unwrap_or-size.result = takes_size m c.args.node c.unwrap_or-size.result c.index-self-node.result at c.requires.fits.takes size in
     elements_over m c.args.node c.unwrap_or-size.result takes s (g.C.Context.state c.loop-index.context) c.args.count c.args.at c.loop-index.index (omega arith) c.loop-index.invariant.2
-

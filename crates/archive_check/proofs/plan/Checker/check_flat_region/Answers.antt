@@ -36,7 +36,7 @@ returns-clause-through g c =
     let h = rw (to_z-of_z w128 c.args.position c.ranges.position) at c.in_ok-region.ensures.entered in
     let contents : Through (contents_rule m c.args.target c.args.pointee c.args.count r.size r.begin) s1 s1 =
     elim c.match-target.branch [
-      in-Text+else-not-is_text w ↦ rw w.in-Text.is (through_same (contents_rule m Text c.args.pointee c.args.count r.size r.begin) s1 (λ pending seen. passes_text m c.args.pointee c.args.count r.size r.begin (w.is_text.ensures.0 (is_true w.is_text.result w.if-not-is_text.false)) pending s1.depth s1.start seen))
-    | in_default w ↦ through_same (contents_rule m c.args.target c.args.pointee c.args.count r.size r.begin) s1 (λ pending seen. passes_free m c.args.pointee c.args.count r.size r.begin c.args.target h.align w.in_default.not-Text c.requires.pointee.one h.region (free_is m c.args.pointee (c.requires.flat w.in_default.not-Text)) (omega (arith, h.lands.below, c.requires.below)) pending s1.depth s1.start seen)
+      | in-Text+else-not-is_text w ↦ rw w.in-Text.is (through_same (contents_rule m Text c.args.pointee c.args.count r.size r.begin) s1 (λ pending seen. passes_text m c.args.pointee c.args.count r.size r.begin (w.is_text.ensures.0 (is_true w.is_text.result w.if-not-is_text.false)) pending s1.depth s1.start seen))
+      | in_default w ↦ through_same (contents_rule m c.args.target c.args.pointee c.args.count r.size r.begin) s1 (λ pending seen. passes_free m c.args.pointee c.args.count r.size r.begin c.args.target h.align w.in_default.not-Text c.requires.pointee.one h.region (free_is m c.args.pointee (c.requires.flat w.in_default.not-Text)) (omega (arith, h.lands.below, c.requires.below)) pending s1.depth s1.start seen)
     ] in
     region_through m c.args.pointee c.args.count c.args.position s s1 r h c.args.target s1 s2 contents c.in_default-pop_subtree_range.ensures.left

@@ -129,4 +129,3 @@ returns-in_ok-check_flat_elements-in_default-target g c =
       list = c.in_ok-check_flat_elements-in_default-target.ensures.list;
       positions = c.in_ok-check_flat_elements-in_default-target.ensures.positions;
     }
-

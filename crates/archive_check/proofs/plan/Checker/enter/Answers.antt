@@ -159,4 +159,3 @@ returns-in_default-target-clause-ends g c =
     let list : mid ≡ Leave r.outer.start r.outer.end ∷ old = c.in_ok-leave.ensures.some ∙ ap (λ w. Leave r.outer.start r.outer.end ∷ w) (c.in_ok-contents.ensures.list ∙ c.in_ok-region.ensures.list) in
     let run = run_left c.args.target c.in_default-target.not-One listed.1 in
     some_map c.elements.result (λ e. entered_run_ends m c.args.pointee c.args.count c.args.position s s2 met met2 old mid r within same list (list_of c.elements.new.self) listed.0 c.requires.pointee.known c.requires.pointee.few e) c.elements.ensures.some
-
