@@ -1,6 +1,5 @@
 -- Which nodes are flat: they lead to nothing but bytes that are legal whatever they are, and texts. A flat node is checked at once.
 use Rattle.std.specs.Prelude.{◌≡◌, ℕ, suc, zero, length, Bool, true, false, ◌&&◌, List, [], ◌∷◌, take, drop, ◌-◌, slice_index_or, IsTrue}
-use Rattle.archive_check.specs.declared.plan.Target.{Target}
 use Rattle.archive_check.specs.declared.plan.Target.TheVariants.{One, Run, Text}
 use Rattle.archive_check.specs.declared.plan.Job.{Job}
 use Rattle.archive_check.specs.declared.plan.Job.TheVariants.{Free, Leaf, Record, Choice, Array, Pointer as PointerJob, Str, Shared, Weak}

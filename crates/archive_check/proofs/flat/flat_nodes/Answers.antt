@@ -1,4 +1,4 @@
-use Rattle.std.proofs.Common.{arith, sym, subst, ap, ◌∙◌, length, length-append, ◌++◌, ◌∷◌, [], List, Bool, IsTrue}
+use Rattle.std.proofs.Common.{arith, sym, subst, ap, ◌∙◌, length, length-append, ◌∷◌, [], List, Bool, IsTrue}
 use Rattle.archive_check.specs.declared.plan.Node.{Node}
 use Rattle.archive_check.specs.Runs.{IsAt}
 use Rattle.archive_check.specs.Flat.{AreFlat, job_flat}
