@@ -1,4 +1,4 @@
--- What is checked at once: what a flat node holds is flat, and what comes of its parts and elements.
+-- What is checked at once: what a shallow node holds is shallow, and what comes of its parts and elements.
 use Rattle.std.proofs.Common.{inr, ◌≡◌, ◌≢◌, ℕ, zero, suc, refl, sym, ap, ap₂, ◌∙◌, ◌+◌, ◌-◌, ◌*◌, ◌<◌, ◌≤◌, ◌&&◌, max, arith, Bool, true, false, List, [], ◌∷◌, length, take, drop, drop-cons, slice_index_or, Option, Some, None, IsTrue, OnSome, IfNone, nat_eq}
 use Rattle.archive_check.specs.declared.error.Error.{Error}
 use Rattle.archive_check.specs.declared.plan.Job.{Job}
@@ -15,14 +15,14 @@ use Rattle.archive_check.specs.Tour.{Seen}
 use Rattle.archive_check.specs.Trail.{Fault}
 use Rattle.archive_check.specs.Runs.{Outcome, done, refused, IsAt, IsNode, Takes, RegionIs, NodeRuns, PartsRun, ElementsRun, parts_end, parts_next, parts_stop, elements_end, elements_next, elements_stop, list_part, list_part_stop}
 use Rattle.archive_check.specs.Closed.{span, SpanFits, ArrayFits}
-use Rattle.archive_check.specs.Flat.{marked, is_free, free_at, parts_flat, variants_flat}
+use Rattle.archive_check.specs.Shallow.{marked, is_free, free_at, parts_shallow, variants_shallow}
 use Rattle.archive_check.specs.Turns.{Stays, PartFits, PartsFit, ElementsFit, Ready, stage, pending_in, Listing, Keeps, HasLevels, cost, rank}
 use Rattle.archive_check.specs.Through.{Rule, Through, Stops, node_rule, parts_rule, elements_rule}
 use Rattle.archive_check.proofs.Steps.{same_get, at_default, some_map, span_next, here_from}
 use Rattle.archive_check.proofs.Costs.{falls_none}
 use Rattle.archive_check.proofs.Entering.{has_levels, times_size}
 
--- what is flat
+-- what is shallow
 
 job_free : (job : Job) → IsTrue (is_free job) → job ≡ Free
 job_free Free h = refl
@@ -49,20 +49,20 @@ both true true h = (refl, refl)
 both true false h = cc
 both false b h = cc
 
--- each part of flat ones is marked
-pub part_marked : (marks : List Bool) (parts : List Part) (b : ℕ) (n a k : ℕ) (x : Part) → k ≡ a + n → k < b → b ≤ length parts → IsTrue (parts_flat marks (span parts a b)) → IsAt parts k x → IsTrue (marked marks x.node)
+-- each part of shallow ones is marked
+pub part_marked : (marks : List Bool) (parts : List Part) (b : ℕ) (n a k : ℕ) (x : Part) → k ≡ a + n → k < b → b ≤ length parts → IsTrue (parts_shallow marks (span parts a b)) → IsAt parts k x → IsTrue (marked marks x.node)
 part_marked marks parts b zero a k x e lt le h at =
     let same : k ≡ a = omega arith in
     let here : IsAt parts a x = rw same at at in
-    (both (marked marks x.node) (parts_flat marks (span parts (a + 1) b)) (rw (span_next parts a b x (omega arith) le here) at h)).0
+    (both (marked marks x.node) (parts_shallow marks (span parts (a + 1) b)) (rw (span_next parts a b x (omega arith) le here) at h)).0
 part_marked marks parts b (suc n) a k x e lt le h at =
     let y = slice_index_or parts a x in
     let here : IsAt parts a y = at_default parts a x (omega arith) in
-    part_marked marks parts b n (a + 1) k x (omega arith) lt le (both (marked marks y.node) (parts_flat marks (span parts (a + 1) b)) (rw (span_next parts a b y (omega arith) le here) at h)).1 at
+    part_marked marks parts b n (a + 1) k x (omega arith) lt le (both (marked marks y.node) (parts_shallow marks (span parts (a + 1) b)) (rw (span_next parts a b y (omega arith) le here) at h)).1 at
 
--- the parts of each variant of flat ones are flat
-pub variant_flat : (marks : List Bool) (parts : List Part) (variants : List Span) (b : ℕ) (n a k : ℕ) (x : Span) → k ≡ a + n → k < b → b ≤ length variants → IsTrue (variants_flat marks parts (take (b - a) (drop a variants))) → IsAt variants k x → IsTrue (parts_flat marks (span parts x.first x.last))
-variant_flat marks parts variants b n a k x e lt le h at = go n a e h
+-- the parts of each variant of shallow ones are shallow
+pub variant_shallow : (marks : List Bool) (parts : List Part) (variants : List Span) (b : ℕ) (n a k : ℕ) (x : Span) → k ≡ a + n → k < b → b ≤ length variants → IsTrue (variants_shallow marks parts (take (b - a) (drop a variants))) → IsAt variants k x → IsTrue (parts_shallow marks (span parts x.first x.last))
+variant_shallow marks parts variants b n a k x e lt le h at = go n a e h
   where
     next : (a : ℕ) (y : Span) → a < b → IsAt variants a y → take (b - a) (drop a variants) ≡ y ∷ take (b - (a + 1)) (drop (a + 1) variants)
     next a y lt at =
@@ -72,15 +72,15 @@ variant_flat marks parts variants b n a k x e lt le h at = go n a e h
         ∙ ap (take (suc (b - (a + 1)))) (drop-cons variants a y (omega (arith, at.below)))
         ∙ ap₂ (λ (z : Span) (q : ℕ). z ∷ take (b - (a + 1)) (drop q variants)) (sym at.is) more
 
-    go : (n a : ℕ) → k ≡ a + n → IsTrue (variants_flat marks parts (take (b - a) (drop a variants))) → IsTrue (parts_flat marks (span parts x.first x.last))
+    go : (n a : ℕ) → k ≡ a + n → IsTrue (variants_shallow marks parts (take (b - a) (drop a variants))) → IsTrue (parts_shallow marks (span parts x.first x.last))
     go zero a e h =
         let same : k ≡ a = omega arith in
         let here : IsAt variants a x = rw same at at in
-        (both (parts_flat marks (span parts x.first x.last)) (variants_flat marks parts (take (b - (a + 1)) (drop (a + 1) variants))) (rw (next a x (omega arith) here) at h)).0
+        (both (parts_shallow marks (span parts x.first x.last)) (variants_shallow marks parts (take (b - (a + 1)) (drop (a + 1) variants))) (rw (next a x (omega arith) here) at h)).0
     go (suc n) a e h =
         let y = slice_index_or variants a x in
         let here : IsAt variants a y = at_default variants a x (omega arith) in
-        go n (a + 1) (omega arith) (both (parts_flat marks (span parts y.first y.last)) (variants_flat marks parts (take (b - (a + 1)) (drop (a + 1) variants))) (rw (next a y (omega arith) here) at h)).1
+        go n (a + 1) (omega arith) (both (parts_shallow marks (span parts y.first y.last)) (variants_shallow marks parts (take (b - (a + 1)) (drop (a + 1) variants))) (rw (next a y (omega arith) here) at h)).1
 
 -- each part is below the rank of all
 pub part_below : (parts : List Part) (b n a k : ℕ) (x : Part) → k ≡ a + n → k < b → b ≤ length parts → IsAt parts k x → x.node < rank (span parts a b)

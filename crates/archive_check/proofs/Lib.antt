@@ -90,6 +90,6 @@ pub mod PlansInOrder
 pub mod Unshared
 pub mod Standing
 pub mod Cleaning
-pub mod FlatMarks
+pub mod ShallowMarks
 pub mod Tightness
 pub mod Before

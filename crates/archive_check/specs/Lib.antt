@@ -40,7 +40,7 @@ pub mod Runs
 pub mod Represents
 pub mod Lists
 pub mod Closed
-pub mod Flat
+pub mod Shallow
 pub mod Through
 pub mod Entered
 pub mod Faults

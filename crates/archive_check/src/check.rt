@@ -15,7 +15,7 @@ ghost use Rattle.archive_check.specs.Lists.{list_of};
 ghost use Rattle.archive_check.specs.Closed.{IsClosed};
 ghost use Rattle.archive_check.specs.Faults.{IsFor};
 ghost use Rattle.archive_check.specs.Fresh.{IsFresh};
-ghost use Rattle.archive_check.specs.Flat.{IsMarked};
+ghost use Rattle.archive_check.specs.Shallow.{IsMarked};
 ghost use Rattle.archive_check.specs.Entered.{Entered};
 ghost use Rattle.archive_check.specs.Through.{Through, Stops, region_rule, contents_rule};
 ghost use Rattle.archive_check.specs.declared.plan.Target.{Target as TargetOf};
@@ -181,7 +181,7 @@ impl Checker<'_> {
         }
     }
 
-    /// Checks what a region of so many of the pointee holds, where that is flat. Answers whether it is.
+    /// Checks what a region of so many of the pointee holds, where that is shallow. Answers whether it is.
     fn contents<C: ArchiveContext>(
         &self,
         target: Target,
@@ -198,8 +198,8 @@ impl Checker<'_> {
         requires pointee { PointeeFits self.now target pointee count }
         requires within { begin + size ≤ length self.now.bytes.now }
         requires ends { (C.state context.old).end ≡ begin }
-        ensures through { IfSome result (λ flat. IsTrue flat → Through (contents_rule self.now target pointee count size begin) (C.state context.old) (C.state context.new)) }
-        ensures listed { IfSome result (λ flat. flat ≡ false → (0 < size) × (target ≢ Text) × (C.state context.new ≡ C.state context.old)) }
+        ensures through { IfSome result (λ shallow. IsTrue shallow → Through (contents_rule self.now target pointee count size begin) (C.state context.old) (C.state context.new)) }
+        ensures listed { IfSome result (λ shallow. shallow ≡ false → (0 < size) × (target ≢ Text) × (C.state context.new ≡ C.state context.old)) }
         ensures stops { IfNone result (Stops (contents_rule self.now target pointee count size begin) (C.state context.old) work.new.fault) }
         ensures list { OnSome result (list_of work.new ≡ list_of work.old) }
         ensures positions { OnSome result (C.positions context.new ≡ C.positions context.old) }
@@ -217,17 +217,17 @@ impl Checker<'_> {
         if size == 0 {
             return Some(true);
         }
-        if !self.flat[pointee] {
+        if !self.shallow[pointee] {
             return Some(false);
         }
         match target {
-            Target::One => self.check_flat(pointee, begin, work, context)?,
-            _ => self.check_flat_elements(pointee, count, begin, work, context)?,
+            Target::One => self.check_shallow(pointee, begin, work, context)?,
+            _ => self.check_shallow_elements(pointee, count, begin, work, context)?,
         }
         Some(true)
     }
 
-    /// Enters a region of so many of the pointee, to be left behind what it leads to, or at once where it is flat.
+    /// Enters a region of so many of the pointee, to be left behind what it leads to, or at once where it is shallow.
     fn enter<C: ArchiveContext>(
         &self,
         target: Target,
@@ -320,12 +320,12 @@ impl Checker<'_> {
         ensures runs { Keeps self.now (Listing self.now) (stage (C.state context.old) (C.positions context.old) (PartWork node at ∷ list_of work.old)) (stage (C.state context.new) (C.positions context.new) (list_of work.new)) result work.new.fault }
         ensures ends { OnSome result (cost self.now (C.state context.new).end (list_of work.new) < cost self.now (C.state context.old).end (PartWork node at ∷ list_of work.old)) }
     {
-        if self.flat[node] {
-            return self.check_flat(node, at, work, context);
+        if self.shallow[node] {
+            return self.check_shallow(node, at, work, context);
         }
         let here = self.nodes[node];
         match here.job {
-            Job::Free | Job::Leaf(_) | Job::Str { .. } => self.check_flat(node, at, work, context),
+            Job::Free | Job::Leaf(_) | Job::Str { .. } => self.check_shallow(node, at, work, context),
             Job::Record { first, last } => work.parts(first, last, at),
             Job::Choice { name, first, last } => {
                 let Some(variant) = self.variant(first, last, at) else {

@@ -3,7 +3,7 @@
 ghost use Rattle.std.specs.Prelude.{◌≡◌, ◌⊎◌, ◌<◌, ◌≤◌, length, OnOk, IfErr};
 ghost use Rattle.archive_check.specs.declared.error.Error.TheVariants.{OutOfMemory};
 ghost use Rattle.archive_check.specs.Closed.{IsClosed};
-ghost use Rattle.archive_check.specs.Flat.{IsMarked};
+ghost use Rattle.archive_check.specs.Shallow.{IsMarked};
 ghost use Rattle.archive_check.specs.Exact.{IsWhole, Accepts, Refuses, IsExact};
 
 use crate::error::Error;

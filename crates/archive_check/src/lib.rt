@@ -3,7 +3,7 @@
 
 pub mod bytes;
 mod check;
-mod check_flat;
+mod check_shallow;
 mod checked;
 mod compile;
 mod counting;
@@ -11,7 +11,7 @@ pub mod defs;
 pub mod error;
 pub mod expr;
 mod extents;
-mod flat;
+mod shallow;
 mod growing;
 pub mod laws;
 pub mod layout;

@@ -25,8 +25,8 @@ read_position-position-requires g c =
     let k = node_fits c.args.self.now (g.C.Context.state c.args.context.now) (g.C.Context.positions c.args.context.now) (list_of c.args.work.now) c.args.node c.args.at (Str c.args.pointee) c.requires.closed c.requires.job c.requires.fits in
     omega (arith, k.0, c.requires.fits.fits)
 
-pub check_flat_region-requires-clause-pointee : goal.check_flat_region-requires-clause-pointee
-check_flat_region-requires-clause-pointee g c =
+pub check_shallow_region-requires-clause-pointee : goal.check_shallow_region-requires-clause-pointee
+check_shallow_region-requires-clause-pointee g c =
     let k = node_fits c.args.self.now (g.C.Context.state c.args.context.now) (g.C.Context.positions c.args.context.now) (list_of c.args.work.now) c.args.node c.args.at (Str c.args.pointee) c.requires.closed c.requires.job c.requires.fits in
     record { known = k.1; few = omega (arith, c.read_coded_length-length.type_inv); one = λ e. cc }
 
@@ -36,8 +36,8 @@ returns-then-is_out_of_line-clause-through g c =
     let z = to_z w128 (of_z w128 c.read_position-position.result) in
     let fits : SFits w128 c.read_position-position.result = record { sfits = c.read_position-position.type_inv } in
     let z_is = to_z-of_z w128 c.read_position-position.result fits ∙ c.read_position-position.ensures in
-    through_by (region_rule m Text c.args.pointee c.read_coded_length-length.result z) (node_rule m c.args.node c.args.at) (g.C.Context.state c.args.context.now) (g.C.Context.state c.check_flat_region.new.context) c.check_flat_region.result
-    (λ pending seen o r. run_out_of_line c.requires.job (c.is_out_of_line.ensures.0 (is_true c.is_out_of_line.result c.if-is_out_of_line.true)) (rw c.read_coded_length-length.ensures at c.if-length-le8.false) (rw (c.read_coded_length-length.ensures, z_is) at r)) c.check_flat_region.ensures.through
+    through_by (region_rule m Text c.args.pointee c.read_coded_length-length.result z) (node_rule m c.args.node c.args.at) (g.C.Context.state c.args.context.now) (g.C.Context.state c.check_shallow_region.new.context) c.check_shallow_region.result
+    (λ pending seen o r. run_out_of_line c.requires.job (c.is_out_of_line.ensures.0 (is_true c.is_out_of_line.result c.if-is_out_of_line.true)) (rw c.read_coded_length-length.ensures at c.if-length-le8.false) (rw (c.read_coded_length-length.ensures, z_is) at r)) c.check_shallow_region.ensures.through
 
 pub returns-then-is_out_of_line-clause-stops : goal.returns-then-is_out_of_line-clause-stops
 returns-then-is_out_of_line-clause-stops g c =
@@ -45,9 +45,9 @@ returns-then-is_out_of_line-clause-stops g c =
     let z = to_z w128 (of_z w128 c.read_position-position.result) in
     let fits : SFits w128 c.read_position-position.result = record { sfits = c.read_position-position.type_inv } in
     let z_is = to_z-of_z w128 c.read_position-position.result fits ∙ c.read_position-position.ensures in
-    none_map c.check_flat_region.result
-    (stops_by (region_rule m Text c.args.pointee c.read_coded_length-length.result z) (node_rule m c.args.node c.args.at) (g.C.Context.state c.args.context.now) c.check_flat_region.new.work.fault
-    (λ pending seen o r. run_out_of_line c.requires.job (c.is_out_of_line.ensures.0 (is_true c.is_out_of_line.result c.if-is_out_of_line.true)) (rw c.read_coded_length-length.ensures at c.if-length-le8.false) (rw (c.read_coded_length-length.ensures, z_is) at r))) c.check_flat_region.ensures.stops
+    none_map c.check_shallow_region.result
+    (stops_by (region_rule m Text c.args.pointee c.read_coded_length-length.result z) (node_rule m c.args.node c.args.at) (g.C.Context.state c.args.context.now) c.check_shallow_region.new.work.fault
+    (λ pending seen o r. run_out_of_line c.requires.job (c.is_out_of_line.ensures.0 (is_true c.is_out_of_line.result c.if-is_out_of_line.true)) (rw c.read_coded_length-length.ensures at c.if-length-le8.false) (rw (c.read_coded_length-length.ensures, z_is) at r))) c.check_shallow_region.ensures.stops
 
 pub inline_length-length-requires : goal.inline_length-length-requires
 inline_length-length-requires g c =

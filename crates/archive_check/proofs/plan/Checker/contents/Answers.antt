@@ -48,84 +48,84 @@ returns-then-size-eq0 g c =
       positions = refl;
     }
 
-pub check_flat-requires : goal.check_flat-requires
-check_flat-requires g c =
+pub check_shallow-requires : goal.check_shallow-requires
+check_shallow-requires g c =
     let m = c.args.self.now in
     let s = g.C.Context.state c.args.context.now in
     let lt : 0 < c.args.size = omega (arith, c.if-size-eq0.false) in
-    let below : c.args.pointee < length m.flat.now = rw (← c.requires.marked.all) at c.requires.pointee.known in
-    let mark = mark_is m.flat.now c.args.pointee _ below c.if-not-self-pointee.false in
+    let below : c.args.pointee < length m.shallow.now = rw (← c.requires.marked.all) at c.requires.pointee.known in
+    let mark = mark_is m.shallow.now c.args.pointee _ below c.if-not-self-pointee.false in
     record {
       closed = c.requires.closed;
       marked = c.requires.marked;
-      flat = λ y here. c.requires.marked.flat c.args.pointee y here mark;
+      shallow = λ y here. c.requires.marked.shallow c.args.pointee y here mark;
       fits = region_part m c.args.pointee c.args.count c.args.size c.args.begin c.requires.region.0 c.requires.region.1 lt c.requires.within (c.requires.pointee.one c.in-One.is);
       below = omega (arith, c.requires.ends, c.requires.within);
     }
 
-pub check_flat_elements-requires : goal.check_flat_elements-requires
-check_flat_elements-requires g c =
+pub check_shallow_elements-requires : goal.check_shallow_elements-requires
+check_shallow_elements-requires g c =
     let m = c.args.self.now in
     let s = g.C.Context.state c.args.context.now in
     let lt : 0 < c.args.size = omega (arith, c.if-size-eq0.false) in
-    let below : c.args.pointee < length m.flat.now = rw (← c.requires.marked.all) at c.requires.pointee.known in
-    let mark = mark_is m.flat.now c.args.pointee _ below c.if-not-self-pointee.false in
+    let below : c.args.pointee < length m.shallow.now = rw (← c.requires.marked.all) at c.requires.pointee.known in
+    let mark = mark_is m.shallow.now c.args.pointee _ below c.if-not-self-pointee.false in
     record {
       closed = c.requires.closed;
       marked = c.requires.marked;
-      flat = mark;
+      shallow = mark;
       fits = region_elements m c.args.pointee c.args.count c.args.size c.args.begin c.requires.region.0 c.requires.region.1 lt c.requires.within c.requires.pointee.few;
       below = omega (arith, c.requires.ends, c.requires.within);
     }
 
-pub returns-in_err-check_flat-in-One : goal.returns-in_err-check_flat-in-One
-returns-in_err-check_flat-in-One g c =
+pub returns-in_err-check_shallow-in-One : goal.returns-in_err-check_shallow-in-One
+returns-in_err-check_shallow-in-One g c =
     let m = c.args.self.now in
     let s = g.C.Context.state c.args.context.now in
     let lt : 0 < c.args.size = omega (arith, c.if-size-eq0.false) in
     rw c.from_residual.ensures (record {
       through = tt;
       listed = tt;
-      stops = rw c.in-One.is (stops_by (node_rule m c.args.pointee c.args.begin) (contents_rule m One c.args.pointee c.args.count c.args.size c.args.begin) s c.check_flat.new.work.fault (λ pending seen o r. contents_one lt (rw c.requires.ends at r)) c.in_err-check_flat-in-One.ensures.stops);
+      stops = rw c.in-One.is (stops_by (node_rule m c.args.pointee c.args.begin) (contents_rule m One c.args.pointee c.args.count c.args.size c.args.begin) s c.check_shallow.new.work.fault (λ pending seen o r. contents_one lt (rw c.requires.ends at r)) c.in_err-check_shallow-in-One.ensures.stops);
       list = tt;
       positions = tt;
     })
 
-pub returns-in_err-check_flat_elements-in_default-target : goal.returns-in_err-check_flat_elements-in_default-target
-returns-in_err-check_flat_elements-in_default-target g c =
+pub returns-in_err-check_shallow_elements-in_default-target : goal.returns-in_err-check_shallow_elements-in_default-target
+returns-in_err-check_shallow_elements-in_default-target g c =
     let m = c.args.self.now in
     let s = g.C.Context.state c.args.context.now in
     let lt : 0 < c.args.size = omega (arith, c.if-size-eq0.false) in
-    rw (c.from_residual-in_err-check_flat_elements-in_default-target).ensures (record {
+    rw (c.from_residual-in_err-check_shallow_elements-in_default-target).ensures (record {
       through = tt;
       listed = tt;
-      stops = rw (run_left c.args.target c.in_default-target.not-One c.in_default.not-Text) (stops_by (elements_rule m c.args.pointee c.args.count c.args.begin) (contents_rule m Run c.args.pointee c.args.count c.args.size c.args.begin) s c.check_flat_elements.new.work.fault (λ pending seen o r. contents_run lt (rw c.requires.ends at r)) c.in_err-check_flat_elements-in_default-target.ensures.stops);
+      stops = rw (run_left c.args.target c.in_default-target.not-One c.in_default.not-Text) (stops_by (elements_rule m c.args.pointee c.args.count c.args.begin) (contents_rule m Run c.args.pointee c.args.count c.args.size c.args.begin) s c.check_shallow_elements.new.work.fault (λ pending seen o r. contents_run lt (rw c.requires.ends at r)) c.in_err-check_shallow_elements-in_default-target.ensures.stops);
       list = tt;
       positions = tt;
     })
 
-pub returns-in_ok-check_flat-in-One : goal.returns-in_ok-check_flat-in-One
-returns-in_ok-check_flat-in-One g c =
+pub returns-in_ok-check_shallow-in-One : goal.returns-in_ok-check_shallow-in-One
+returns-in_ok-check_shallow-in-One g c =
     let m = c.args.self.now in
     let s = g.C.Context.state c.args.context.now in
     let lt : 0 < c.args.size = omega (arith, c.if-size-eq0.false) in
     record {
-      through = λ yes. rw c.in-One.is (through_from (node_rule m c.args.pointee c.args.begin) (contents_rule m One c.args.pointee c.args.count c.args.size c.args.begin) s (g.C.Context.state c.check_flat.new.context) (λ pending seen o r. contents_one lt (rw c.requires.ends at r)) c.in_ok-check_flat-in-One.ensures.through);
+      through = λ yes. rw c.in-One.is (through_from (node_rule m c.args.pointee c.args.begin) (contents_rule m One c.args.pointee c.args.count c.args.size c.args.begin) s (g.C.Context.state c.check_shallow.new.context) (λ pending seen o r. contents_one lt (rw c.requires.ends at r)) c.in_ok-check_shallow-in-One.ensures.through);
       listed = λ no. cc;
       stops = tt;
-      list = c.in_ok-check_flat-in-One.ensures.list;
-      positions = c.in_ok-check_flat-in-One.ensures.positions;
+      list = c.in_ok-check_shallow-in-One.ensures.list;
+      positions = c.in_ok-check_shallow-in-One.ensures.positions;
     }
 
-pub returns-in_ok-check_flat_elements-in_default-target : goal.returns-in_ok-check_flat_elements-in_default-target
-returns-in_ok-check_flat_elements-in_default-target g c =
+pub returns-in_ok-check_shallow_elements-in_default-target : goal.returns-in_ok-check_shallow_elements-in_default-target
+returns-in_ok-check_shallow_elements-in_default-target g c =
     let m = c.args.self.now in
     let s = g.C.Context.state c.args.context.now in
     let lt : 0 < c.args.size = omega (arith, c.if-size-eq0.false) in
     record {
-      through = λ yes. rw (run_left c.args.target c.in_default-target.not-One c.in_default.not-Text) (through_from (elements_rule m c.args.pointee c.args.count c.args.begin) (contents_rule m Run c.args.pointee c.args.count c.args.size c.args.begin) s (g.C.Context.state c.check_flat_elements.new.context) (λ pending seen o r. contents_run lt (rw c.requires.ends at r)) c.in_ok-check_flat_elements-in_default-target.ensures.through);
+      through = λ yes. rw (run_left c.args.target c.in_default-target.not-One c.in_default.not-Text) (through_from (elements_rule m c.args.pointee c.args.count c.args.begin) (contents_rule m Run c.args.pointee c.args.count c.args.size c.args.begin) s (g.C.Context.state c.check_shallow_elements.new.context) (λ pending seen o r. contents_run lt (rw c.requires.ends at r)) c.in_ok-check_shallow_elements-in_default-target.ensures.through);
       listed = λ no. cc;
       stops = tt;
-      list = c.in_ok-check_flat_elements-in_default-target.ensures.list;
-      positions = c.in_ok-check_flat_elements-in_default-target.ensures.positions;
+      list = c.in_ok-check_shallow_elements-in_default-target.ensures.list;
+      positions = c.in_ok-check_shallow_elements-in_default-target.ensures.positions;
     }

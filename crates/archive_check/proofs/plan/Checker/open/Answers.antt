@@ -24,28 +24,28 @@ returns-then-self-node-clause-runs g c =
     let m = c.args.self.now in
     let st = g.C.Context.state in
     let met = g.C.Context.positions in
-    once_keeps m (st c.args.context.now) (st c.check_flat.new.context) (met c.args.context.now) (met c.check_flat.new.context) (list_of c.args.work.now) (list_of c.check_flat.new.work) c.args.node c.args.at c.check_flat.result c.check_flat.new.work.fault c.check_flat.ensures.through c.check_flat.ensures.list c.check_flat.ensures.positions c.check_flat.ensures.stops
+    once_keeps m (st c.args.context.now) (st c.check_shallow.new.context) (met c.args.context.now) (met c.check_shallow.new.context) (list_of c.args.work.now) (list_of c.check_shallow.new.work) c.args.node c.args.at c.check_shallow.result c.check_shallow.new.work.fault c.check_shallow.ensures.through c.check_shallow.ensures.list c.check_shallow.ensures.positions c.check_shallow.ensures.stops
 
 pub returns-then-self-node-clause-ends : goal.returns-then-self-node-clause-ends
 returns-then-self-node-clause-ends g c =
     let m = c.args.self.now in
     let st = g.C.Context.state in
     let met = g.C.Context.positions in
-    once_ends m (st c.args.context.now) (st c.check_flat.new.context) (met c.args.context.now) (met c.check_flat.new.context) (list_of c.args.work.now) (list_of c.check_flat.new.work) c.args.node c.args.at c.check_flat.result c.check_flat.ensures.through c.check_flat.ensures.list
+    once_ends m (st c.args.context.now) (st c.check_shallow.new.context) (met c.args.context.now) (met c.check_shallow.new.context) (list_of c.args.work.now) (list_of c.check_shallow.new.work) c.args.node c.args.at c.check_shallow.result c.check_shallow.ensures.through c.check_shallow.ensures.list
 
 pub returns-in-Free-clause-runs : goal.returns-in-Free-clause-runs
 returns-in-Free-clause-runs g c =
     let m = c.args.self.now in
     let st = g.C.Context.state in
     let met = g.C.Context.positions in
-    once_keeps m (st c.args.context.now) (st c.check_flat-in-Free.new.context) (met c.args.context.now) (met c.check_flat-in-Free.new.context) (list_of c.args.work.now) (list_of c.check_flat-in-Free.new.work) c.args.node c.args.at c.check_flat-in-Free.result c.check_flat-in-Free.new.work.fault c.check_flat-in-Free.ensures.through c.check_flat-in-Free.ensures.list c.check_flat-in-Free.ensures.positions c.check_flat-in-Free.ensures.stops
+    once_keeps m (st c.args.context.now) (st c.check_shallow-in-Free.new.context) (met c.args.context.now) (met c.check_shallow-in-Free.new.context) (list_of c.args.work.now) (list_of c.check_shallow-in-Free.new.work) c.args.node c.args.at c.check_shallow-in-Free.result c.check_shallow-in-Free.new.work.fault c.check_shallow-in-Free.ensures.through c.check_shallow-in-Free.ensures.list c.check_shallow-in-Free.ensures.positions c.check_shallow-in-Free.ensures.stops
 
 pub returns-in-Free-clause-ends : goal.returns-in-Free-clause-ends
 returns-in-Free-clause-ends g c =
     let m = c.args.self.now in
     let st = g.C.Context.state in
     let met = g.C.Context.positions in
-    once_ends m (st c.args.context.now) (st c.check_flat-in-Free.new.context) (met c.args.context.now) (met c.check_flat-in-Free.new.context) (list_of c.args.work.now) (list_of c.check_flat-in-Free.new.work) c.args.node c.args.at c.check_flat-in-Free.result c.check_flat-in-Free.ensures.through c.check_flat-in-Free.ensures.list
+    once_ends m (st c.args.context.now) (st c.check_shallow-in-Free.new.context) (met c.args.context.now) (met c.check_shallow-in-Free.new.context) (list_of c.args.work.now) (list_of c.check_shallow-in-Free.new.work) c.args.node c.args.at c.check_shallow-in-Free.result c.check_shallow-in-Free.ensures.through c.check_shallow-in-Free.ensures.list
 
 pub returns-in-Record-clause-ready : goal.returns-in-Record-clause-ready
 returns-in-Record-clause-ready g c =

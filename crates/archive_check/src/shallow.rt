@@ -1,8 +1,8 @@
-//! Which nodes of a plan are flat: they lead to nothing but bytes that are legal whatever they are, and texts.
+//! Which nodes of a plan are shallow: they lead to nothing but bytes that are legal whatever they are, and texts.
 
 ghost use Rattle.std.specs.Prelude.{◌≡◌, length, IfOk, IsTrue};
 ghost use Rattle.archive_check.specs.Closed.{span};
-ghost use Rattle.archive_check.specs.Flat.{marked, free_at, parts_flat, variants_flat, job_flat, AreFlat};
+ghost use Rattle.archive_check.specs.Shallow.{marked, free_at, parts_shallow, variants_shallow, job_shallow, AreShallow};
 
 use crate::growing::is_free;
 use crate::plan::{Job, Node, Part, Plan, Span, Target};
@@ -24,7 +24,7 @@ fn is_free_at(nodes: &[Node], node: usize) -> bool
 
 // Whether all these parts are marked.
 fn are_marked(marks: &[bool], parts: &[Part]) -> bool
-    ensures { result ≡ parts_flat marks.now parts.now }
+    ensures { result ≡ parts_shallow marks.now parts.now }
 {
     for part in parts {
         if !is_marked(marks, part.node) {
@@ -35,8 +35,8 @@ fn are_marked(marks: &[bool], parts: &[Part]) -> bool
 }
 
 // Whether the parts from `first` up to `last` are there, and all marked.
-fn is_span_flat(marks: &[bool], parts: &[Part], first: usize, last: usize) -> bool
-    ensures { IsTrue result → IsTrue (parts_flat marks.now (span parts.now first last)) }
+fn is_span_shallow(marks: &[bool], parts: &[Part], first: usize, last: usize) -> bool
+    ensures { IsTrue result → IsTrue (parts_shallow marks.now (span parts.now first last)) }
 {
     match parts.get(first..last) {
         Some(parts) => are_marked(marks, parts),
@@ -45,26 +45,26 @@ fn is_span_flat(marks: &[bool], parts: &[Part], first: usize, last: usize) -> bo
 }
 
 // Whether the parts of all these variants are there, and marked.
-fn are_flat(marks: &[bool], parts: &[Part], variants: &[Span]) -> bool
-    ensures { IsTrue result → IsTrue (variants_flat marks.now parts.now variants.now) }
+fn are_shallow(marks: &[bool], parts: &[Part], variants: &[Span]) -> bool
+    ensures { IsTrue result → IsTrue (variants_shallow marks.now parts.now variants.now) }
 {
     for variant in variants {
-        if !is_span_flat(marks, parts, variant.first, variant.last) {
+        if !is_span_shallow(marks, parts, variant.first, variant.last) {
             return false;
         }
     }
     true
 }
 
-// Whether a node that does this is flat, where those that it holds and that are flat are marked.
-fn is_flat(plan: &Plan, marks: &[bool], job: Job) -> bool
-    ensures { IsTrue result → IsTrue (job_flat plan.now.nodes.items plan.now.parts.items plan.now.variants.items marks.now job) }
+// Whether a node that does this is shallow, where those that it holds and that are shallow are marked.
+fn is_shallow(plan: &Plan, marks: &[bool], job: Job) -> bool
+    ensures { IsTrue result → IsTrue (job_shallow plan.now.nodes.items plan.now.parts.items plan.now.variants.items marks.now job) }
 {
     match job {
         Job::Free | Job::Leaf(_) | Job::Str { .. } => true,
-        Job::Record { first, last } => is_span_flat(marks, &plan.parts, first, last),
+        Job::Record { first, last } => is_span_shallow(marks, &plan.parts, first, last),
         Job::Choice { first, last, .. } => match plan.variants.get(first..last) {
-            Some(variants) => are_flat(marks, &plan.parts, variants),
+            Some(variants) => are_shallow(marks, &plan.parts, variants),
             None => false,
         },
         Job::Array { element, .. } => is_marked(marks, element),
@@ -76,17 +76,17 @@ fn is_flat(plan: &Plan, marks: &[bool], job: Job) -> bool
     }
 }
 
-/// For each node of a plan whether it is flat: it leads to nothing but bytes that are legal whatever they are, and texts, and shares nothing. Each
-/// flat node is marked where the nodes in a node stand before it, as in each plan of an expression. Memory comes from `alloc`. Our own choice:
+/// For each node of a plan whether it is shallow: it leads to nothing but bytes that are legal whatever they are, and texts, and shares nothing. Each
+/// shallow node is marked where the nodes in a node stand before it, as in each plan of an expression. Memory comes from `alloc`. Our own choice:
 /// rkyv 0.8.18 has no such marks.
-pub fn flat_nodes(alloc: Global, plan: &Plan) -> Result<Vec<bool>, AllocError>
-    ensures ok { IfOk result (λ marks. AreFlat plan.now.nodes.items plan.now.parts.items plan.now.variants.items marks.items) }
+pub fn shallow_nodes(alloc: Global, plan: &Plan) -> Result<Vec<bool>, AllocError>
+    ensures ok { IfOk result (λ marks. AreShallow plan.now.nodes.items plan.now.parts.items plan.now.variants.items marks.items) }
     ensures count { IfOk result (λ marks. length marks.items ≡ length plan.now.nodes.items) }
 {
     let mut marks = Vec::with_capacity(alloc, plan.nodes.len())?;
     for node in &plan.nodes {
-        let flat = is_flat(plan, &marks, node.job);
-        marks.push(flat)?;
+        let shallow = is_shallow(plan, &marks, node.job);
+        marks.push(shallow)?;
     }
     Ok(marks)
 }

@@ -9,8 +9,8 @@ use Rattle.archive_check.specs.Through.{Through, Stops, region_rule, contents_ru
 use Rattle.archive_check.proofs.Steps.{if_none}
 use Rattle.archive_check.proofs.Entering.{not_true, is_true, passes_text, passes_free, through_same, region_through, region_stops}
 use Rattle.archive_check.proofs.AtOnce.{free_is}
-use Rattle.archive_check.proofs.plan.Checker.check_flat_region.Goals as goal
-use Rattle.archive_check.proofs.plan.Checker.check_flat_region.Goals.{in-Text+else-not-is_text, in_default}
+use Rattle.archive_check.proofs.plan.Checker.check_shallow_region.Goals as goal
+use Rattle.archive_check.proofs.plan.Checker.check_shallow_region.Goals.{in-Text+else-not-is_text, in_default}
 
 pub returns-in_err-region-clause-stops : goal.returns-in_err-region-clause-stops
 returns-in_err-region-clause-stops g c =
@@ -37,6 +37,6 @@ returns-clause-through g c =
     let contents : Through (contents_rule m c.args.target c.args.pointee c.args.count r.size r.begin) s1 s1 =
     elim c.match-target.branch [
       | in-Text+else-not-is_text w ↦ rw w.in-Text.is (through_same (contents_rule m Text c.args.pointee c.args.count r.size r.begin) s1 (λ pending seen. passes_text m c.args.pointee c.args.count r.size r.begin (w.is_text.ensures.0 (is_true w.is_text.result w.if-not-is_text.false)) pending s1.depth s1.start seen))
-      | in_default w ↦ through_same (contents_rule m c.args.target c.args.pointee c.args.count r.size r.begin) s1 (λ pending seen. passes_free m c.args.pointee c.args.count r.size r.begin c.args.target h.align w.in_default.not-Text c.requires.pointee.one h.region (free_is m c.args.pointee (c.requires.flat w.in_default.not-Text)) (omega (arith, h.lands.below, c.requires.below)) pending s1.depth s1.start seen)
+      | in_default w ↦ through_same (contents_rule m c.args.target c.args.pointee c.args.count r.size r.begin) s1 (λ pending seen. passes_free m c.args.pointee c.args.count r.size r.begin c.args.target h.align w.in_default.not-Text c.requires.pointee.one h.region (free_is m c.args.pointee (c.requires.shallow w.in_default.not-Text)) (omega (arith, h.lands.below, c.requires.below)) pending s1.depth s1.start seen)
     ] in
     region_through m c.args.pointee c.args.count c.args.position s s1 r h c.args.target s1 s2 contents c.in_default-pop_subtree_range.ensures.left

@@ -1,4 +1,4 @@
-//! The check of flat nodes. They lead to nothing that has to be listed, so the calls nest as deep as the shape does, and no deeper.
+//! The check of shallow nodes. They lead to nothing that has to be listed, so the calls nest as deep as the shape does, and no deeper.
 
 ghost use Rattle.std.specs.Prelude.{◌≡◌, ◌≢◌, ◌<◌, ◌≤◌, ℕ, length, OnSome, IfNone, IsTrue};
 ghost use Rattle.archive_check.specs.declared.plan.Job.TheVariants.{Str};
@@ -7,7 +7,7 @@ ghost use Rattle.archive_check.specs.declared.plan.Node.{Node};
 ghost use Rattle.archive_check.specs.Runs.{IsAt, IsNode};
 ghost use Rattle.archive_check.specs.Lists.{list_of};
 ghost use Rattle.archive_check.specs.Closed.{IsClosed, span};
-ghost use Rattle.archive_check.specs.Flat.{IsMarked, marked, free_at, parts_flat, job_flat};
+ghost use Rattle.archive_check.specs.Shallow.{IsMarked, marked, free_at, parts_shallow, job_shallow};
 ghost use Rattle.archive_check.specs.Turns.{PointeeFits, PartFits, PartsFit, ElementsFit};
 ghost use Rattle.archive_check.specs.Through.{Through, Stops, node_rule, parts_rule, elements_rule, region_rule};
 
@@ -20,7 +20,7 @@ use crate::work::Worklist;
 
 impl Checker<'_> {
     /// Checks a region of so many of the pointee: a text, or bytes that are legal whatever they are.
-    fn check_flat_region<C: ArchiveContext>(
+    fn check_shallow_region<C: ArchiveContext>(
         &self,
         target: Target,
         pointee: usize,
@@ -30,7 +30,7 @@ impl Checker<'_> {
         context: &mut C,
     ) -> Option<()>
         requires pointee { PointeeFits self.now target pointee count }
-        requires flat { target ≢ Text → IsTrue (free_at self.now.nodes.now pointee) }
+        requires shallow { target ≢ Text → IsTrue (free_at self.now.nodes.now pointee) }
         requires below { (C.state context.old).end ≤ length self.now.bytes.now }
         ensures through { OnSome result (Through (region_rule self.now target pointee count position) (C.state context.old) (C.state context.new)) }
         ensures stops { IfNone result (Stops (region_rule self.now target pointee count position) (C.state context.old) work.new.fault) }
@@ -73,7 +73,7 @@ impl Checker<'_> {
                 return work.refuse(Error::InvalidStringRepr);
             }
             let position = read_position(self.bytes, at, at + 4);
-            return self.check_flat_region(Target::Text, pointee, length, position, work, context);
+            return self.check_shallow_region(Target::Text, pointee, length, position, work, context);
         }
         let length = inline_length(self.bytes, at);
         if !is_text(self.bytes, at, length) {
@@ -82,9 +82,9 @@ impl Checker<'_> {
         Some(())
     }
 
-    /// Checks a flat node at `at`.
-    #[cycle(check_flat)]
-    pub fn check_flat<C: ArchiveContext>(
+    /// Checks a shallow node at `at`.
+    #[cycle(check_shallow)]
+    pub fn check_shallow<C: ArchiveContext>(
         &self,
         node: usize,
         at: usize,
@@ -93,7 +93,7 @@ impl Checker<'_> {
     ) -> Option<()>
         requires closed { IsClosed self.now }
         requires marked { IsMarked self.now }
-        requires flat { (x : Node) → IsAt self.now.nodes.now node x → IsTrue (job_flat self.now.nodes.now self.now.parts.now self.now.variants.now self.now.flat.now x.job) }
+        requires shallow { (x : Node) → IsAt self.now.nodes.now node x → IsTrue (job_shallow self.now.nodes.now self.now.parts.now self.now.variants.now self.now.shallow.now x.job) }
         requires fits { PartFits self.now node at }
         requires below { (C.state context.old).end ≤ length self.now.bytes.now }
         ensures through { OnSome result (Through (node_rule self.now node at) (C.state context.old) (C.state context.new)) }
@@ -110,30 +110,30 @@ impl Checker<'_> {
                 }
                 Some(())
             }
-            Job::Record { first, last } => self.check_flat_parts(first, last, at, work, context),
+            Job::Record { first, last } => self.check_shallow_parts(first, last, at, work, context),
             Job::Choice { name, first, last } => {
                 let Some(variant) = self.variant(first, last, at) else {
                     let value = self.bytes[at];
                     return work.refuse(Error::InvalidDiscriminant { name, value });
                 };
-                self.check_flat_parts(variant.first, variant.last, at, work, context)
+                self.check_shallow_parts(variant.first, variant.last, at, work, context)
             }
-            Job::Array { count, element } => self.check_flat_elements(
+            Job::Array { count, element } => self.check_shallow_elements(
                 element, count, at, work, context,
             ),
             Job::Pointer { target, pointee } => {
                 let count = self.count(target, at);
                 let position = read_position(self.bytes, at, at);
-                self.check_flat_region(target, pointee, count, position, work, context)
+                self.check_shallow_region(target, pointee, count, position, work, context)
             }
             Job::Str { pointee } => self.check_text(node, at, pointee, work, context),
             Job::Shared { .. } | Job::Weak { .. } => unreachable!(),
         }
     }
 
-    /// Checks the parts from `first` up to `last`, of what begins at `base`. Each is flat.
-    #[cycle(check_flat)]
-    fn check_flat_parts<C: ArchiveContext>(
+    /// Checks the parts from `first` up to `last`, of what begins at `base`. Each is shallow.
+    #[cycle(check_shallow)]
+    fn check_shallow_parts<C: ArchiveContext>(
         &self,
         first: usize,
         last: usize,
@@ -143,7 +143,7 @@ impl Checker<'_> {
     ) -> Option<()>
         requires closed { IsClosed self.now }
         requires marked { IsMarked self.now }
-        requires flat { IsTrue (parts_flat self.now.flat.now (span self.now.parts.now first last)) }
+        requires shallow { IsTrue (parts_shallow self.now.shallow.now (span self.now.parts.now first last)) }
         requires fits { PartsFit self.now first last base }
         requires below { (C.state context.old).end ≤ length self.now.bytes.now }
         ensures through { OnSome result (Through (parts_rule self.now first last base) (C.state context.old) (C.state context.new)) }
@@ -155,15 +155,15 @@ impl Checker<'_> {
             let part = self.parts[index];
             let at = base + part.offset;
             if !self.stays(part.node, at) {
-                self.check_flat(part.node, at, work, context)?;
+                self.check_shallow(part.node, at, work, context)?;
             }
         }
         Some(())
     }
 
-    /// Checks so many elements, the first of them at `at`. They are flat.
-    #[cycle(check_flat)]
-    pub fn check_flat_elements<C: ArchiveContext>(
+    /// Checks so many elements, the first of them at `at`. They are shallow.
+    #[cycle(check_shallow)]
+    pub fn check_shallow_elements<C: ArchiveContext>(
         &self,
         node: usize,
         count: usize,
@@ -173,7 +173,7 @@ impl Checker<'_> {
     ) -> Option<()>
         requires closed { IsClosed self.now }
         requires marked { IsMarked self.now }
-        requires flat { IsTrue (marked self.now.flat.now node) }
+        requires shallow { IsTrue (marked self.now.shallow.now node) }
         requires fits { ElementsFit self.now node count at }
         requires below { (C.state context.old).end ≤ length self.now.bytes.now }
         ensures through { OnSome result (Through (elements_rule self.now node count at) (C.state context.old) (C.state context.new)) }
@@ -184,7 +184,7 @@ impl Checker<'_> {
         let size = self.nodes[node].size.unwrap_or(0);
         let passed = self.pass(node, count, at, size);
         for index in passed..count {
-            self.check_flat(node, at + index * size, work, context)?;
+            self.check_shallow(node, at + index * size, work, context)?;
         }
         Some(())
     }

@@ -1,6 +1,0 @@
-use Rattle.std.proofs.Common.{◌≡◌, length}
-use Rattle.archive_check.specs.Flat.{AreFlat}
-use Rattle.archive_check.proofs.flat.flat_nodes.Given as goal
-
-abbrev pub invariant-loop-node : goal.invariant-loop-node
-invariant-loop-node l = (length l.marks.items ≡ l.node-index) × AreFlat l.plan.nodes.items l.plan.parts.items l.plan.variants.items l.marks.items
