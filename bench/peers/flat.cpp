@@ -29,16 +29,10 @@ static Offset<flat::Node> put(FlatBufferBuilder& b, Node const& v) {
   return last;
 }
 
-template <class Value> struct RootOf;
-template <> struct RootOf<Number> { using Root = flat::Number; };
-template <> struct RootOf<Words> { using Root = flat::Words; };
-template <> struct RootOf<Record> { using Root = flat::Record; };
-template <> struct RootOf<Numbers> { using Root = flat::Numbers; };
-template <> struct RootOf<Rows> { using Root = flat::Rows; };
-template <> struct RootOf<Node> { using Root = flat::Node; };
+ROOTS(flat)
 
 template <class Value> struct Flat : Case {
-  using Root = typename RootOf<Value>::Root;
+  using Root = typename flat::RootOf<Value>::Root;
   Value value;
   bool limited;
   FlatBufferBuilder kept;

@@ -84,16 +84,10 @@ static Node load(proto::Node::Reader from) {
   return front;
 }
 
-template <class Value> struct RootOf;
-template <> struct RootOf<Number> { using Root = proto::Number; };
-template <> struct RootOf<Words> { using Root = proto::Words; };
-template <> struct RootOf<Record> { using Root = proto::Record; };
-template <> struct RootOf<Numbers> { using Root = proto::Numbers; };
-template <> struct RootOf<Rows> { using Root = proto::Rows; };
-template <> struct RootOf<Node> { using Root = proto::Node; };
+ROOTS(proto)
 
 template <class Value> struct Proto : Case {
-  using Root = typename RootOf<Value>::Root;
+  using Root = typename proto::RootOf<Value>::Root;
   Value value;
   capnp::ReaderOptions options;
   kj::Array<capnp::word> written;

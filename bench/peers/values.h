@@ -72,6 +72,14 @@ inline Node make_list(size_t n) {
   return Node(std::move(front));
 }
 
+// Each value's root in a schema, whose namespace has it under the value's own name.
+#define ROOT_OF(Value) template <> struct RootOf<::Value> { using Root = Value; };
+#define ROOTS(schema)                                                                                                 \
+  namespace schema {                                                                                                  \
+  template <class Value> struct RootOf;                                                                               \
+  ROOT_OF(Number) ROOT_OF(Words) ROOT_OF(Record) ROOT_OF(Numbers) ROOT_OF(Rows) ROOT_OF(Node)                         \
+  }
+
 // Hides from the compiler that a value is the same in each round.
 template <class T> inline void hide(T const& value) { asm volatile("" : : "r"(&value) : "memory"); }
 

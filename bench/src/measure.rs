@@ -155,15 +155,16 @@ fn heap_call<F>(name: &[u8]) -> F {
     unsafe { std::mem::transmute_copy(&found) }
 }
 
-// The most of the heap that a run held beyond what it found, in bytes.
-fn peak(ready: &mut Ready, count: usize) -> usize {
-    let restart: extern "C" fn() = heap_call(b"heap_restart\0");
+// The most of the heap that an operation held beyond what it found, in bytes. What a run prepares is made first, and isn't counted.
+fn peak(ready: &mut Ready) -> usize {
+    let restart: extern "C" fn(usize) = heap_call(b"heap_restart\0");
     let most: extern "C" fn() -> usize = heap_call(b"heap_most\0");
-    let held: extern "C" fn() -> usize = heap_call(b"heap_held\0");
-    let before = held();
-    restart();
-    let _ = (ready.run)(count);
-    most() - before
+    let made: extern "C" fn() -> usize = heap_call(b"heap_made\0");
+    let before = made();
+    let _ = (ready.run)(0);
+    restart(made() - before);
+    let _ = (ready.run)(1);
+    most()
 }
 
 /// Prints the heap's peak of each operation whose growth is shown, one line for each set: in bytes, or a dash.
@@ -171,14 +172,7 @@ pub fn heap() {
     for set in growing() {
         for operation in GROWTH {
             let peaks = GROWING.map(|format| match format.task(set, operation, false) {
-                Task::Ready(mut ready) => {
-                    let prepared = if ready.prepares {
-                        peak(&mut ready, 0)
-                    } else {
-                        0
-                    };
-                    peak(&mut ready, 1).saturating_sub(prepared).to_string()
-                }
+                Task::Ready(mut ready) => peak(&mut ready).to_string(),
                 Task::NotYet => "-".into(),
             });
             println!("{}", peaks.join(" "));

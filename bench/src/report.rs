@@ -299,8 +299,8 @@ pub fn write(
     tables(&mut out, rows);
     out.push_str("\n## How time and heap grow\n\n");
     out.push_str("By the number of elements: nanoseconds · bytes of heap, each **divided by that number**. Where they stay the same from one size to the\n");
-    out.push_str("next, time or heap is linear. The heap is the most that an operation held beyond the value or the bytes it is given, what it makes\n");
-    out.push_str("included, as a counter in place of `malloc` tells (`bench/heap`).\n\n");
+    out.push_str("next, time or heap is linear. The heap is the most that an operation held beyond the value, the bytes or the schema it is given, what\n");
+    out.push_str("it makes included, as a counter in place of `malloc` tells (`bench/heap`).\n\n");
     growth_table(&mut out, growth, heap);
     fs::write("RESULTS.md", out).expect("RESULTS.md is written");
     readme(&short_table(rows));

@@ -3,6 +3,7 @@
 ghost use Rattle.std.specs.Prelude.{◌≤◌, IfOk};
 
 use crate::rounds::{LEVELS, next_end};
+use crate::sets::{ArchivedNode, ArchivedNumbers, ArchivedRecord, ArchivedRows};
 use archive_core::api::{HighValidator, access, root_position};
 use archive_core::error::Error;
 use archive_core::primitive::ArchivedU32;
@@ -79,6 +80,58 @@ pub extern "C" fn archive_bench_check_string(
     checked::<ArchivedString>(alloc, bytes, step, count).unwrap_or(0)
 }
 
+/// How many of `count` archived records a kept schema accepts. They have `step` bytes each and stand one after another in `bytes`.
+#[unsafe(no_mangle)]
+pub extern "C" fn archive_bench_check_record(
+    alloc: Global,
+    bytes: &[u8],
+    step: usize,
+    count: usize,
+) -> usize
+    ensures { result ≤ count }
+{
+    checked::<ArchivedRecord>(alloc, bytes, step, count).unwrap_or(0)
+}
+
+/// How many of `count` archived lists of numbers a kept schema accepts. They have `step` bytes each and stand one after another in `bytes`.
+#[unsafe(no_mangle)]
+pub extern "C" fn archive_bench_check_numbers(
+    alloc: Global,
+    bytes: &[u8],
+    step: usize,
+    count: usize,
+) -> usize
+    ensures { result ≤ count }
+{
+    checked::<ArchivedNumbers>(alloc, bytes, step, count).unwrap_or(0)
+}
+
+/// How many of `count` archived lists of rows a kept schema accepts. They have `step` bytes each and stand one after another in `bytes`.
+#[unsafe(no_mangle)]
+pub extern "C" fn archive_bench_check_rows(
+    alloc: Global,
+    bytes: &[u8],
+    step: usize,
+    count: usize,
+) -> usize
+    ensures { result ≤ count }
+{
+    checked::<ArchivedRows>(alloc, bytes, step, count).unwrap_or(0)
+}
+
+/// How many of `count` archived chains of boxes a kept schema accepts. They have `step` bytes each and stand one after another in `bytes`.
+#[unsafe(no_mangle)]
+pub extern "C" fn archive_bench_check_list(
+    alloc: Global,
+    bytes: &[u8],
+    step: usize,
+    count: usize,
+) -> usize
+    ensures { result ≤ count }
+{
+    checked::<ArchivedNode>(alloc, bytes, step, count).unwrap_or(0)
+}
+
 /// How many of `count` archived numbers `access` accepts. They stand one after another in `bytes`.
 #[unsafe(no_mangle)]
 pub extern "C" fn archive_bench_access_u32(
@@ -105,7 +158,54 @@ pub extern "C" fn archive_bench_access_string(
     accessed::<ArchivedString>(alloc, bytes, step, count)
 }
 
-// ==== THE PLACE FOR THE OTHER SETS ====
-// Once `Schema::check` knows their shapes: `archive_bench_check_record`, `archive_bench_check_numbers`, `archive_bench_check_rows` and
-// `archive_bench_check_list`, and `archive_bench_access_..` of the same four, each one line over `checked` or `accessed` at a type whose shape is
-// that of the set. bench/src/sets.rs writes the bytes. The driver finds an export by its name, and its row then shows figures in place of 'not yet'.
+/// How many of `count` archived records `access` accepts. They have `step` bytes each and stand one after another in `bytes`.
+#[unsafe(no_mangle)]
+pub extern "C" fn archive_bench_access_record(
+    alloc: Global,
+    bytes: &[u8],
+    step: usize,
+    count: usize,
+) -> usize
+    ensures { result ≤ count }
+{
+    accessed::<ArchivedRecord>(alloc, bytes, step, count)
+}
+
+/// How many of `count` archived lists of numbers `access` accepts. They have `step` bytes each and stand one after another in `bytes`.
+#[unsafe(no_mangle)]
+pub extern "C" fn archive_bench_access_numbers(
+    alloc: Global,
+    bytes: &[u8],
+    step: usize,
+    count: usize,
+) -> usize
+    ensures { result ≤ count }
+{
+    accessed::<ArchivedNumbers>(alloc, bytes, step, count)
+}
+
+/// How many of `count` archived lists of rows `access` accepts. They have `step` bytes each and stand one after another in `bytes`.
+#[unsafe(no_mangle)]
+pub extern "C" fn archive_bench_access_rows(
+    alloc: Global,
+    bytes: &[u8],
+    step: usize,
+    count: usize,
+) -> usize
+    ensures { result ≤ count }
+{
+    accessed::<ArchivedRows>(alloc, bytes, step, count)
+}
+
+/// How many of `count` archived chains of boxes `access` accepts. They have `step` bytes each and stand one after another in `bytes`.
+#[unsafe(no_mangle)]
+pub extern "C" fn archive_bench_access_list(
+    alloc: Global,
+    bytes: &[u8],
+    step: usize,
+    count: usize,
+) -> usize
+    ensures { result ≤ count }
+{
+    accessed::<ArchivedNode>(alloc, bytes, step, count)
+}

@@ -9,6 +9,7 @@
 pub mod checks;
 pub mod reads;
 mod rounds;
+mod sets;
 #[cfg(test)]
 mod tests;
 pub mod writes;

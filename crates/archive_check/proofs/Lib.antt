@@ -50,6 +50,7 @@ pub mod TurnsEnd
 pub mod TurnRules
 pub mod MetAgrees
 pub mod EnteredRegions
+pub mod AtOnce
 pub mod LegalBytes
 pub mod FollowedPointers
 pub mod TurnInvariants
@@ -85,5 +86,6 @@ pub mod PlansInOrder
 pub mod Unshared
 pub mod StandingBytes
 pub mod TidyIsClean
+pub mod ShallowMarks
 pub mod Tightness
 pub mod UniqueBefore

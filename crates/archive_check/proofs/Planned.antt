@@ -228,6 +228,7 @@ checker_of plan = record {
   parts = record { ref_ptr = (0, 0); now = plan.parts.items };
   variants = record { ref_ptr = (0, 0); now = plan.variants.items };
   sorts = record { ref_ptr = (0, 0); now = plan.sorts.items };
+  shallow = record { ref_ptr = (0, 0); now = [] };
   bytes = record { ref_ptr = (0, 0); now = [] };
 }
 

@@ -192,11 +192,11 @@ module _ (m : Checker) (s : RangeState) (met : Positions) where
     pub finish_refuses : (k t : ℕ) (z : ℤ) (e : Error) → z ≡ pos t → Err e ≡ finish_answer (met z) → Refuses (Listing m) (stage s met (Finish k t ∷ old)) e
     finish_refuses k t z e at is = inr (λ seen a. absurd (let fine = is ∙ ap (λ q. finish_answer (met q)) at ∙ finish_fine a in cc))
 
-here_from : (m : Checker) (i p z : ℕ) (xs : List Part) → PartsWithin m i z xs → p + z ≤ length m.bytes.now → PartsHere m p xs
+pub here_from : (m : Checker) (i p z : ℕ) (xs : List Part) → PartsWithin m i z xs → p + z ≤ length m.bytes.now → PartsHere m p xs
 here_from m i p z [] h room = tt
 here_from m i p z (x ∷ xs) h room = ((h.0.0, h.0.2, omega (arith, h.0.3)), here_from m i p z xs h.1 room)
 
-rank_from : (m : Checker) (i z : ℕ) (xs : List Part) → PartsWithin m i z xs → rank xs ≤ i
+pub rank_from : (m : Checker) (i z : ℕ) (xs : List Part) → PartsWithin m i z xs → rank xs ≤ i
 rank_from m i z [] h = omega arith
 rank_from m i z (x ∷ xs) h = omega (arith, h.0.1, rank_from m i z xs h.1)
 
@@ -239,7 +239,11 @@ pub some_map : {A B : Type 0} (r : Option (Unit {0})) → (A → B) → OnSome r
 some_map (Some u) f h = f h
 some_map None f h = tt
 
-pub if_none : (B : Error → Type 0) (r : Option (Unit {0})) (fault e : Error) → fault ≡ e → B e → IfNone r (B fault)
+pub none_map : {A B : Type 0} (r : Option (Unit {0})) → (A → B) → IfNone r A → IfNone r B
+none_map (Some u) f h = tt
+none_map None f h = f h
+
+pub if_none : {A : Type 0} (B : Error → Type 0) (r : Option A) (fault e : Error) → fault ≡ e → B e → IfNone r (B fault)
 if_none B (Some u) fault e is h = tt
 if_none B None fault e is h = rw is h
 

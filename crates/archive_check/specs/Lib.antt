@@ -41,6 +41,9 @@ pub mod Runs
 pub mod Represents
 pub mod Lists
 pub mod Closed
+pub mod Shallow
+pub mod Through
+pub mod Entered
 pub mod Faults
 pub mod BoundedSizes
 pub mod PlanGrowth

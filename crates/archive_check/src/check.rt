@@ -15,14 +15,16 @@ ghost use Rattle.archive_check.specs.Lists.{list_of};
 ghost use Rattle.archive_check.specs.Closed.{IsClosed};
 ghost use Rattle.archive_check.specs.Faults.{IsFor};
 ghost use Rattle.archive_check.specs.Fresh.{IsFresh};
+ghost use Rattle.archive_check.specs.Shallow.{IsMarked};
+ghost use Rattle.archive_check.specs.Entered.{Entered};
+ghost use Rattle.archive_check.specs.Through.{Through, Stops, region_rule, contents_rule};
+ghost use Rattle.archive_check.specs.declared.plan.Target.{Target as TargetOf};
 ghost use Rattle.archive_check.specs.Turns.{PointeeFits, Passes, PartFits, PartsFit, ElementsFit, Stays, PartStays, LiesLegal, Ready, stage, Listing, Entering, Following, Leads, Keeps, IsStopped, power, level, cost};
 
-use crate::bytes::{
-    inline_length, is_out_of_line, is_text, read_coded_length, read_i32, read_position, read_u32,
-};
+use crate::bytes::{is_text, read_i32, read_position, read_u32};
 use crate::error::Error;
 use crate::layout::Layout;
-use crate::leaf::{illegal, is_legal};
+use crate::leaf::is_legal;
 use crate::plan::{Checker, Job, Span, Target};
 use crate::validation::{ArchiveContext, SharedContext, ValidationState};
 use crate::work::{Work, Worklist};
@@ -47,9 +49,20 @@ fn place(position: i128) -> usize
     position as usize
 }
 
+/// A region that is entered.
+#[derive(Drop)]
+pub struct Region {
+    /// Where it begins.
+    pub begin: usize,
+    /// How many bytes it has.
+    pub size: usize,
+    /// The range that is given back where it is left.
+    pub outer: Range<usize>,
+}
+
 impl Checker<'_> {
     /// How many there are behind the pointer at `at`.
-    fn count(&self, target: Target, at: usize) -> usize
+    pub fn count(&self, target: Target, at: usize) -> usize
         requires { at + target_size target ≤ length self.now.bytes.now }
         ensures { result ≡ count_at self.now.bytes.now at target }
     {
@@ -71,7 +84,7 @@ impl Checker<'_> {
     }
 
     /// The variant that the tag at `at` names, of those from `first` up to `last`.
-    fn variant(&self, first: usize, last: usize, at: usize) -> Option<Span>
+    pub fn variant(&self, first: usize, last: usize, at: usize) -> Option<Span>
         requires within { at < length self.now.bytes.now }
         requires last { last ≤ length self.now.variants.now }
         ensures some { IfSome result (λ x. (first + slice_index self.now.bytes.now at < last) × IsAt self.now.variants.now (first + slice_index self.now.bytes.now at) x) }
@@ -85,7 +98,7 @@ impl Checker<'_> {
     }
 
     /// Whether the node at `at` is a leaf that is legal, or any bytes.
-    fn stays(&self, node: usize, at: usize) -> bool
+    pub fn stays(&self, node: usize, at: usize) -> bool
         requires closed { IsClosed self.now }
         requires fits { PartFits self.now node at }
         ensures stays { IsTrue result → Stays self.now node at }
@@ -118,7 +131,7 @@ impl Checker<'_> {
     }
 
     /// How many of the elements at `at`, each of `size` bytes, come before the first that is to be opened; `count` where none is.
-    fn pass(&self, node: usize, count: usize, at: usize, size: usize) -> usize
+    pub fn pass(&self, node: usize, count: usize, at: usize, size: usize) -> usize
         requires closed { IsClosed self.now }
         requires fits { ElementsFit self.now node count at }
         requires size { Takes self.now node size }
@@ -134,53 +147,21 @@ impl Checker<'_> {
         count
     }
 
-    /// Whether the region of so many of the pointee at `begin` is legal as it lies and leads nowhere. `None` where it is a text, and isn't UTF-8.
-    fn contents(
+    /// Enters the region of so many of the pointee at `position`. It stands in its callers, since what it answers is wide.
+    #[inline(always)]
+    pub fn enter_region<C: ArchiveContext>(
         &self,
-        target: Target,
-        pointee: usize,
-        count: usize,
-        begin: usize,
-        size: usize,
-    ) -> Option<bool>
-        requires region { (align : ℕ) × RegionIs self.now pointee count (Some size) align }
-        requires pointee { PointeeFits self.now target pointee count }
-        requires within { begin + size ≤ length self.now.bytes.now }
-        ensures passed { IfSome result (λ passed. IsTrue passed → Passes self.now target pointee count size begin) }
-        ensures walked { IfSome result (λ passed. passed ≡ false → (0 < size) × (target ≢ Text)) }
-        ensures none { IfNone result ((target ≡ Text) × (IsUtf8 (bytes_at self.now.bytes.now begin size) → ⊥)) }
-    {
-        if let Target::Text = target {
-            if !is_text(self.bytes, begin, size) {
-                return None;
-            }
-            return Some(true);
-        }
-        let here = self.nodes[pointee];
-        if let Job::Free = here.job {
-            return Some(true);
-        }
-        Some(size == 0)
-    }
-
-    /// Enters a region of so many of the pointee, to be left behind what it leads to, or at once.
-    fn enter<C: ArchiveContext>(
-        &self,
-        target: Target,
         pointee: usize,
         count: usize,
         position: i128,
         work: &mut Worklist,
         context: &mut C,
-    ) -> Option<()>
-        requires closed { IsClosed self.now }
-        requires ready { Ready self.now (C.state context.old) (list_of work.old) }
-        requires pointee { PointeeFits self.now target pointee count }
-        ensures ready { OnSome result (Ready self.now (C.state context.new) (list_of work.new)) }
-        ensures runs { OnSome result (Leads self.now (Entering self.now target pointee count position) (stage (C.state context.old) (C.positions context.old) (list_of work.old)) (stage (C.state context.new) (C.positions context.new) (list_of work.new))) }
-        ensures inside { OnSome result ((t : ℕ) × (position ≡ pos t) × (t < 18446744073709551616)) }
-        ensures stopped { IfNone result (IsStopped self.now target pointee count position (C.state context.old) work.new.fault) }
-        ensures ends { OnSome result (cost self.now (C.state context.new).end (list_of work.new) ≤ power (level (length self.now.nodes.now) (C.state context.old).end 0 0) + cost self.now (C.state context.old).end (list_of work.old)) }
+    ) -> Option<Region>
+        requires known { pointee < length self.now.nodes.now }
+        ensures entered { IfSome result (λ r. Entered self.now pointee count position (C.state context.old) (C.state context.new) r) }
+        ensures stops { IfNone result ((target : TargetOf) → Stops (region_rule self.now target pointee count position) (C.state context.old) work.new.fault) }
+        ensures list { OnSome result (list_of work.new ≡ list_of work.old) }
+        ensures positions { OnSome result (C.positions context.new ≡ C.positions context.old) }
     {
         let node = self.nodes[pointee];
         let Some(size) = times(node.size, count) else {
@@ -194,55 +175,91 @@ impl Checker<'_> {
             return work.refuse(error);
         }
         let begin = place(position);
-        let range = match context.push_subtree_range(begin, begin + size) {
-            Err(error) => return work.refuse(error),
-            Ok(range) => range,
-        };
-        let Some(passed) = self.contents(target, pointee, count, begin, size) else {
-            return work.refuse(Error::InvalidUtf8);
-        };
-        if passed {
-            if let Err(error) = context.pop_subtree_range(range) {
-                return work.refuse(error);
-            }
-            return Some(());
-        }
-        work.leave(range)?;
-        match target {
-            Target::One => work.part(pointee, begin),
-            _ => work.elements(pointee, count, begin),
+        match context.push_subtree_range(begin, begin + size) {
+            Err(error) => work.refuse(error),
+            Ok(outer) => Some(Region { begin, size, outer }),
         }
     }
 
-    /// Opens the string at `at`.
-    fn open_text<C: ArchiveContext>(
+    /// Checks what a region of so many of the pointee holds, where that is shallow. Answers whether it is.
+    fn contents<C: ArchiveContext>(
         &self,
-        node: usize,
-        at: usize,
+        target: Target,
         pointee: usize,
+        count: usize,
+        begin: usize,
+        size: usize,
+        work: &mut Worklist,
+        context: &mut C,
+    ) -> Option<bool>
+        requires closed { IsClosed self.now }
+        requires marked { IsMarked self.now }
+        requires region { (align : ℕ) × RegionIs self.now pointee count (Some size) align }
+        requires pointee { PointeeFits self.now target pointee count }
+        requires within { begin + size ≤ length self.now.bytes.now }
+        requires ends { (C.state context.old).end ≡ begin }
+        ensures through { IfSome result (λ shallow. IsTrue shallow → Through (contents_rule self.now target pointee count size begin) (C.state context.old) (C.state context.new)) }
+        ensures listed { IfSome result (λ shallow. shallow ≡ false → (0 < size) × (target ≢ Text) × (C.state context.new ≡ C.state context.old)) }
+        ensures stops { IfNone result (Stops (contents_rule self.now target pointee count size begin) (C.state context.old) work.new.fault) }
+        ensures list { OnSome result (list_of work.new ≡ list_of work.old) }
+        ensures positions { OnSome result (C.positions context.new ≡ C.positions context.old) }
+    {
+        if let Target::Text = target {
+            if !is_text(self.bytes, begin, size) {
+                return work.refuse(Error::InvalidUtf8);
+            }
+            return Some(true);
+        }
+        let here = self.nodes[pointee];
+        if let Job::Free = here.job {
+            return Some(true);
+        }
+        if size == 0 {
+            return Some(true);
+        }
+        if !self.shallow[pointee] {
+            return Some(false);
+        }
+        match target {
+            Target::One => self.check_shallow(pointee, begin, work, context)?,
+            _ => self.check_shallow_elements(pointee, count, begin, work, context)?,
+        }
+        Some(true)
+    }
+
+    /// Enters a region of so many of the pointee, to be left behind what it leads to, or at once where it is shallow.
+    fn enter<C: ArchiveContext>(
+        &self,
+        target: Target,
+        pointee: usize,
+        count: usize,
+        position: i128,
         work: &mut Worklist,
         context: &mut C,
     ) -> Option<()>
         requires closed { IsClosed self.now }
-        requires ready { Ready self.now (C.state context.old) (PartWork node at ∷ list_of work.old) }
-        requires job { IsNode self.now node (Str pointee) }
+        requires marked { IsMarked self.now }
+        requires ready { Ready self.now (C.state context.old) (list_of work.old) }
+        requires pointee { PointeeFits self.now target pointee count }
         ensures ready { OnSome result (Ready self.now (C.state context.new) (list_of work.new)) }
-        ensures runs { Keeps self.now (Listing self.now) (stage (C.state context.old) (C.positions context.old) (PartWork node at ∷ list_of work.old)) (stage (C.state context.new) (C.positions context.new) (list_of work.new)) result work.new.fault }
-        ensures ends { OnSome result (cost self.now (C.state context.new).end (list_of work.new) < cost self.now (C.state context.old).end (PartWork node at ∷ list_of work.old)) }
+        ensures runs { OnSome result (Leads self.now (Entering self.now target pointee count position) (stage (C.state context.old) (C.positions context.old) (list_of work.old)) (stage (C.state context.new) (C.positions context.new) (list_of work.new))) }
+        ensures inside { OnSome result ((t : ℕ) × (position ≡ pos t) × (t < 18446744073709551616)) }
+        ensures stopped { IfNone result (IsStopped self.now target pointee count position (C.state context.old) work.new.fault) }
+        ensures ends { OnSome result (cost self.now (C.state context.new).end (list_of work.new) ≤ power (level (length self.now.nodes.now) (C.state context.old).end 0 0) + cost self.now (C.state context.old).end (list_of work.old)) }
     {
-        if is_out_of_line(self.bytes, at) {
-            let length = read_coded_length(self.bytes, at);
-            if length <= 8 {
-                return work.refuse(Error::InvalidStringRepr);
+        let region = self.enter_region(pointee, count, position, work, context)?;
+        let Region { begin, size, outer } = region;
+        if self.contents(target, pointee, count, begin, size, work, context)? {
+            if let Err(error) = context.pop_subtree_range(outer) {
+                return work.refuse(error);
             }
-            let position = read_position(self.bytes, at, at + 4);
-            return self.enter(Target::Text, pointee, length, position, work, context);
+            return Some(());
         }
-        let length = inline_length(self.bytes, at);
-        if !is_text(self.bytes, at, length) {
-            return work.refuse(Error::InvalidUtf8);
+        work.leave(outer)?;
+        match target {
+            Target::One => work.part(pointee, begin),
+            _ => work.elements(pointee, count, begin),
         }
-        Some(())
     }
 
     /// Follows the shared pointer at `at`. What lies at a position that was met before isn't checked again.
@@ -256,6 +273,7 @@ impl Checker<'_> {
         context: &mut C,
     ) -> Option<()>
         requires closed { IsClosed self.now }
+        requires marked { IsMarked self.now }
         requires ready { Ready self.now (C.state context.old) (list_of work.old) }
         requires within { at + target_size target ≤ length self.now.bytes.now }
         requires sort { sort < length self.now.sorts.now }
@@ -296,20 +314,18 @@ impl Checker<'_> {
         context: &mut C,
     ) -> Option<()>
         requires closed { IsClosed self.now }
+        requires marked { IsMarked self.now }
         requires ready { Ready self.now (C.state context.old) (PartWork node at ∷ list_of work.old) }
         ensures ready { OnSome result (Ready self.now (C.state context.new) (list_of work.new)) }
         ensures runs { Keeps self.now (Listing self.now) (stage (C.state context.old) (C.positions context.old) (PartWork node at ∷ list_of work.old)) (stage (C.state context.new) (C.positions context.new) (list_of work.new)) result work.new.fault }
         ensures ends { OnSome result (cost self.now (C.state context.new).end (list_of work.new) < cost self.now (C.state context.old).end (PartWork node at ∷ list_of work.old)) }
     {
+        if self.shallow[node] {
+            return self.check_shallow(node, at, work, context);
+        }
         let here = self.nodes[node];
         match here.job {
-            Job::Free => Some(()),
-            Job::Leaf(kind) => {
-                if !is_legal(kind, self.bytes, at) {
-                    return work.refuse(illegal(kind));
-                }
-                Some(())
-            }
+            Job::Free | Job::Leaf(_) | Job::Str { .. } => self.check_shallow(node, at, work, context),
             Job::Record { first, last } => work.parts(first, last, at),
             Job::Choice { name, first, last } => {
                 let Some(variant) = self.variant(first, last, at) else {
@@ -324,7 +340,6 @@ impl Checker<'_> {
                 let position = read_position(self.bytes, at, at);
                 self.enter(target, pointee, count, position, work, context)
             }
-            Job::Str { pointee } => self.open_text(node, at, pointee, work, context),
             Job::Shared {
                 sort,
                 target,
@@ -351,6 +366,7 @@ impl Checker<'_> {
         context: &mut C,
     ) -> Option<()>
         requires closed { IsClosed self.now }
+        requires marked { IsMarked self.now }
         requires ready { Ready self.now (C.state context.old) (entry ∷ list_of work.old) }
         ensures ready { OnSome result (Ready self.now (C.state context.new) (list_of work.new)) }
         ensures runs { Keeps self.now (Listing self.now) (stage (C.state context.old) (C.positions context.old) (entry ∷ list_of work.old)) (stage (C.state context.new) (C.positions context.new) (list_of work.new)) result work.new.fault }
@@ -406,6 +422,7 @@ impl Checker<'_> {
         context: &mut C,
     ) -> Result<(), Error>
         requires closed { IsClosed self.now }
+        requires marked { IsMarked self.now }
         requires below { (C.state context.old).end ≤ length self.now.bytes.now }
         requires known { root < length self.now.nodes.now }
         ensures ok { OnOk result (IsFresh (C.state context.old) (C.positions context.old) → (last : ℕ) × (known : Seen) × EnterRuns self.now [] (C.state context.old).depth (C.state context.old).end One root 1 (pos at) (C.state context.old).start empty (done last known)) }

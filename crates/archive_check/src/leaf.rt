@@ -40,8 +40,7 @@ pub fn is_legal(kind: Kind, bytes: &[u8], at: usize) -> bool
 }
 
 /// The refusal of bytes that are no leaf of the kind: 25 of a bool, 26 of a char and 27 of a number that is 0. There are such bytes.
-#[cold]
-#[inline(never)]
+#[inline]
 pub fn illegal(kind: Kind) -> Error
     requires { (bytes : List ℕ) × (length bytes ≡ kind_size (kind_of kind)) × (IsLegal (kind_of kind) bytes → ⊥) }
     ensures { result ≡ illegal_error (kind_of kind) }

@@ -3,6 +3,7 @@
 
 pub mod bytes;
 mod check;
+mod check_shallow;
 mod checked;
 mod compile;
 mod counting;
@@ -10,6 +11,7 @@ pub mod defs;
 pub mod error;
 pub mod expr;
 mod extents;
+mod shallow;
 mod growing;
 pub mod laws;
 pub mod layout;

@@ -124,6 +124,8 @@ pub struct Checker<'p> {
     pub variants: &'p [Span],
     /// Its sorts.
     pub sorts: &'p [Sort],
+    /// Which nodes are shallow: they lead to nothing but bytes that are legal whatever they are, and texts.
+    pub shallow: &'p [bool],
     /// The bytes.
     pub bytes: &'p [u8],
 }

@@ -1,11 +1,14 @@
 //! Schemas: an expression with the definitions of its names, compiled to a plan once, and the check of bytes against it.
 
+ghost use Rattle.std.specs.Prelude.{◌≡◌, length};
 ghost use Rattle.archive_check.specs.Expressions.{shape_of, entries_of};
+ghost use Rattle.archive_check.specs.Shallow.{AreShallow};
 ghost use Rattle.archive_check.specs.Names.{HasAll};
 ghost use Rattle.archive_check.specs.Planned.{IsPlan, HasNames};
 
 pub use crate::error::Error;
 pub use crate::expr::{Def, Defs, Expr, FlavorInfo, IntegerKind, Kind, Pointee};
+use crate::shallow::shallow_nodes;
 use crate::growing::Known;
 pub use crate::layout::Layout;
 use crate::names::definitions_of;
@@ -26,9 +29,12 @@ pub struct Schema {
     plan: Plan,
     node: usize,
     names: Vec<Known>,
+    shallow: Vec<bool>,
     ghost complete: { HasAll (entries_of definitions.items) (shape_of root) },
     ghost planned: { ∥ IsPlan definitions.items (shape_of root) plan node ∥₁ },
     ghost named: { ∥ HasNames definitions.items names.items plan ∥₁ },
+    ghost sound: { AreShallow plan.nodes.items plan.parts.items plan.variants.items shallow.items },
+    ghost marks: { length shallow.items ≡ length plan.nodes.items },
 }
 
 impl Schema {
@@ -49,12 +55,14 @@ impl Schema {
         let root = T::expr(alloc)?;
         let definitions = definitions_of::<T>(alloc, &root)?;
         let (plan, node, names) = Plan::of(alloc, &definitions, &root)?;
+        let shallow = shallow_nodes(alloc, &plan)?;
         Ok(Schema {
             root,
             definitions,
             plan,
             node,
             names,
+            shallow,
         })
     }
 
@@ -95,6 +103,7 @@ impl Schema {
             parts: &self.plan.parts,
             variants: &self.plan.variants,
             sorts: &self.plan.sorts,
+            shallow: &self.shallow,
             bytes,
         };
         let alloc = *self.plan.nodes.allocator();

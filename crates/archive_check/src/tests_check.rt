@@ -8,6 +8,7 @@ ghost use Rattle.archive_check.specs.declared.plan.Checker.{Checker};
 use crate::defs::Def;
 use crate::error::Error;
 use crate::expr::{Expr, FlavorInfo, IntegerKind, Kind, Pointee};
+use crate::shallow::shallow_nodes;
 use crate::plan::{Checker, Plan};
 use crate::validation::{ArchiveContext, SharedContext};
 use crate::validator::HighValidator;
@@ -62,11 +63,13 @@ fn check<C: ArchiveContext + SharedContext>(
     requires known { node < length plan.now.nodes.items }
     requires below { (C.state context.old).end ≤ length bytes.now }
 {
+    let shallow = shallow_nodes(alloc, plan)?;
     let checker = Checker {
         nodes: &plan.nodes,
         parts: &plan.parts,
         variants: &plan.variants,
         sorts: &plan.sorts,
+        shallow: &shallow,
         bytes,
     };
     checker.check(alloc, node, at, context)

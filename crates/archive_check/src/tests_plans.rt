@@ -3,6 +3,7 @@
 use crate::defs::Def;
 use crate::error::Error;
 use crate::expr::{Expr, FlavorInfo, IntegerKind, Kind, Pointee};
+use crate::shallow::shallow_nodes;
 use crate::growing::is_free;
 use crate::plan::Plan;
 use std::alloc::{AllocError, Global};
@@ -141,5 +142,91 @@ fn names_are_looked_for(rt: HostRuntime) -> Result<(), Fail> {
         Plan::of(rt.alloc(), &defs, &root).err(),
         Some(Error::RecursiveLayout)
     );
+    Ok(())
+}
+
+fn pointer(alloc: Global, pointee: Expr) -> Result<Expr, AllocError> {
+    Ok(Expr::Box(Box::new(alloc, Pointee::One(pointee))?))
+}
+
+fn vector(alloc: Global, element: Expr) -> Result<Expr, AllocError> {
+    Ok(Expr::Vec(Box::new(alloc, element)?))
+}
+
+// Nothing, or a value.
+fn option(alloc: Global, value: Expr) -> Result<Expr, AllocError> {
+    let variants = vec![in alloc; vec![in alloc]?, vec![in alloc; value]?]?;
+    Ok(Expr::Choice("ArchivedOption", variants))
+}
+
+// Whether the node of an expression is shallow, under definitions.
+fn is_shallow_under(alloc: Global, defs: &[Def], root: &Expr) -> Result<bool, Error> {
+    let (plan, node, _) = Plan::of(alloc, defs, root)?;
+    let shallow = shallow_nodes(alloc, &plan)?;
+    Ok(shallow.get(node).copied().unwrap_or(false))
+}
+
+fn is_shallow(alloc: Global, root: Expr) -> Result<bool, Error> {
+    is_shallow_under(alloc, &[], &root)
+}
+
+#[test]
+fn leaves_and_texts_are_shallow(rt: HostRuntime) -> Result<(), Fail> {
+    let alloc = rt.alloc();
+    assert_eq!(rt; is_shallow(alloc, number()), Ok(true));
+    assert_eq!(rt; is_shallow(alloc, Expr::Leaf(Kind::Bool)), Ok(true));
+    assert_eq!(rt; is_shallow(alloc, Expr::Str), Ok(true));
+    let text = Expr::Box(Box::new(alloc, Pointee::Text)?);
+    assert_eq!(rt; is_shallow(alloc, text), Ok(true));
+    Ok(())
+}
+
+#[test]
+fn pointers_to_any_bytes_are_shallow(rt: HostRuntime) -> Result<(), Fail> {
+    let alloc = rt.alloc();
+    assert_eq!(rt; is_shallow(alloc, pointer(alloc, number())?), Ok(true));
+    assert_eq!(rt; is_shallow(alloc, vector(alloc, number())?), Ok(true));
+    let pair = Expr::Record(vec![in alloc; number(), number()]?);
+    assert_eq!(rt; is_shallow(alloc, vector(alloc, pair)?), Ok(true));
+    let bools = vector(alloc, Expr::Leaf(Kind::Bool))?;
+    assert_eq!(rt; is_shallow(alloc, bools), Ok(false));
+    assert_eq!(rt; is_shallow(alloc, vector(alloc, Expr::Str)?), Ok(false));
+    let vectors = vector(alloc, vector(alloc, number())?)?;
+    assert_eq!(rt; is_shallow(alloc, vectors), Ok(false));
+    Ok(())
+}
+
+#[test]
+fn what_holds_shallow_nodes_alone_is_shallow(rt: HostRuntime) -> Result<(), Fail> {
+    let alloc = rt.alloc();
+    let numbers = vector(alloc, number())?;
+    let record = Expr::Record(vec![in alloc; Expr::Leaf(Kind::Bool), Expr::Str, numbers]?);
+    assert_eq!(rt; is_shallow(alloc, record), Ok(true));
+    let numbers = vector(alloc, number())?;
+    assert_eq!(rt; is_shallow(alloc, option(alloc, numbers)?), Ok(true));
+    let texts = Expr::Array(3, Box::new(alloc, Expr::Str)?);
+    assert_eq!(rt; is_shallow(alloc, texts), Ok(true));
+    let texts = vector(alloc, Expr::Str)?;
+    let record = Expr::Record(vec![in alloc; Expr::Str, texts]?);
+    assert_eq!(rt; is_shallow(alloc, record), Ok(false));
+    let texts = vector(alloc, Expr::Str)?;
+    assert_eq!(rt; is_shallow(alloc, option(alloc, texts)?), Ok(false));
+    let texts = Expr::Array(2, Box::new(alloc, vector(alloc, Expr::Str)?)?);
+    assert_eq!(rt; is_shallow(alloc, texts), Ok(false));
+    Ok(())
+}
+
+#[test]
+fn what_leads_to_itself_or_is_shared_is_not_shallow(rt: HostRuntime) -> Result<(), Fail> {
+    let alloc = rt.alloc();
+    let defs = list(alloc)?;
+    let named = Expr::Named("List");
+    assert_eq!(rt; is_shallow_under(alloc, &defs, &named), Ok(false));
+    let named = pointer(alloc, named)?;
+    assert_eq!(rt; is_shallow_under(alloc, &defs, &named), Ok(false));
+    let shared = Expr::Shared(RC, Box::new(alloc, Pointee::One(number()))?);
+    assert_eq!(rt; is_shallow(alloc, shared), Ok(false));
+    let weak = Expr::Weak(RC, Box::new(alloc, Pointee::Text)?);
+    assert_eq!(rt; is_shallow(alloc, weak), Ok(false));
     Ok(())
 }

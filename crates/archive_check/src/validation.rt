@@ -1,6 +1,6 @@
 //! What a check keeps: the range that regions may lie in, and the shared positions that it came to.
 
-ghost use Rattle.std.specs.Prelude.{◌≡◌, ◌≢◌, ◌<◌, ◌≤◌, ◌↔◌, OnOk, OnErr, IfOk, IfErr, IsErrOf, Some, None, length};
+ghost use Rattle.std.specs.Prelude.{◌≡◌, ◌≢◌, ◌<◌, ◌≤◌, ◌%◌, ◌↔◌, IsTrue, OnOk, OnErr, IfOk, IfErr, IsErrOf, Some, None, length};
 ghost use Rattle.archive_check.specs.Expressions.{flavor_of, pointee_of};
 ghost use Rattle.archive_check.specs.Met.{Positions, nothing_met, IsStartAnswer, started, finish_answer, finished};
 ghost use Rattle.archive_check.specs.Ranges.{RangeState, whole, subtree_answer, pushed, pop_answer, popped};
@@ -96,6 +96,21 @@ pub trait SharedContext: Context {
         ensures range { Self.state self.new ≡ Self.state self.old };
 }
 
+// Whether a position is a multiple of an alignment. The remainder by a number that stands here is a mask; another one would be a division.
+fn is_multiple(position: usize, align: usize) -> bool
+    requires { 0 < align }
+    ensures { IsTrue result ↔ position % align ≡ 0 }
+{
+    match align {
+        1 => true,
+        2 => position % 2 == 0,
+        4 => position % 4 == 0,
+        8 => position % 8 == 0,
+        16 => position % 16 == 0,
+        _ => position % align == 0,
+    }
+}
+
 /// The range of one buffer.
 #[derive(Drop)]
 pub struct ArchiveValidator<'a> {
@@ -140,6 +155,18 @@ impl<'a> ArchiveValidator<'a> {
     {
         self.pushes
     }
+
+    // The refusal of a region that doesn't lie within the range.
+    fn outside(&self, position: i128, size: usize) -> Error
+        ensures { result ≡ Error.InvalidSubtreePointer position size self.now.start self.now.end }
+    {
+        Error::InvalidSubtreePointer {
+            position,
+            size,
+            start: self.start,
+            end: self.end,
+        }
+    }
 }
 
 impl Context for ArchiveValidator<'_> {
@@ -150,19 +177,13 @@ impl Context for ArchiveValidator<'_> {
 
 impl ArchiveContext for ArchiveValidator<'_> {
     fn check_subtree_ptr(&mut self, position: i128, layout: &Layout) -> Result<(), Error> {
-        let outside = Error::InvalidSubtreePointer {
-            position,
-            size: layout.size,
-            start: self.start,
-            end: self.end,
-        };
         let Ok(root) = usize::try_from(position) else {
-            return Err(outside);
+            return Err(self.outside(position, layout.size));
         };
         if root < self.start || root > self.end || layout.size > self.end - root {
-            return Err(outside);
+            return Err(self.outside(position, layout.size));
         }
-        if root % layout.align != 0 {
+        if !is_multiple(root, layout.align) {
             return Err(Error::UnalignedPointer {
                 position,
                 align: layout.align,

@@ -74,9 +74,8 @@ impl Worklist {
     }
 
     /// Stops the check.
-    #[cold]
-    #[inline(never)]
-    pub fn refuse(&mut self, fault: Error) -> Option<()>
+    #[inline]
+    pub fn refuse<T>(&mut self, fault: Error) -> Option<T>
         ensures none { result ≡ None }
         ensures fault { self.new.fault ≡ fault }
     {
@@ -85,17 +84,20 @@ impl Worklist {
     }
 
     /// One entry more. Refused with 1 where memory is refused.
+    #[inline]
     fn push(&mut self, entry: Work) -> Option<()>
         ensures some { OnSome result (list_of self.new ≡ entry ∷ list_of self.old) }
         ensures none { IfNone result (self.new.fault ≡ Error.OutOfMemory) }
     {
-        if self.entries.push(entry).is_err() {
+        if self.entries.reserve(1).is_err() {
             return self.refuse(Error::OutOfMemory);
         }
+        self.entries.push_reserved(entry);
         Some(())
     }
 
     /// The node at `at` is left. Refused with 1 where memory is refused, as are the next ones.
+    #[inline]
     pub fn part(&mut self, node: usize, at: usize) -> Option<()>
         ensures some { OnSome result (list_of self.new ≡ Work.Part node at ∷ list_of self.old) }
         ensures none { IfNone result (self.new.fault ≡ Error.OutOfMemory) }
@@ -112,6 +114,7 @@ impl Worklist {
     }
 
     /// So many elements are left, the next of them at `at`.
+    #[inline]
     pub fn elements(&mut self, node: usize, left: usize, at: usize) -> Option<()>
         ensures some { OnSome result (list_of self.new ≡ Work.Elements node left at ∷ list_of self.old) }
         ensures none { IfNone result (self.new.fault ≡ Error.OutOfMemory) }
@@ -142,6 +145,7 @@ impl Worklist {
     }
 
     /// A region is to be left, and the range will be this one.
+    #[inline]
     pub fn leave(&mut self, range: Range<usize>) -> Option<()>
         ensures some { OnSome result (list_of self.new ≡ Work.Leave range.start range.end ∷ list_of self.old) }
         ensures none { IfNone result (self.new.fault ≡ Error.OutOfMemory) }

@@ -16,64 +16,36 @@ use Rattle.archive_check.proofs.EnteredRegions.{not_true, is_true}
 use Rattle.archive_check.proofs.TurnRules.{turn_record, turn_choice, turn_array}
 use Rattle.archive_check.proofs.TurnsEnd.{falls_none}
 use Rattle.archive_check.proofs.TurnInvariants.{node_fits, node_leads, node_refuses, span_ready, span_ends, array_ends, pointer_ends, pointer_keeps, shared_keeps, weak_keeps, shared_ends, some_map, refused_keeps, pushed_keeps}
+use Rattle.archive_check.proofs.AtOnce.{once_keeps, once_ends}
 use Rattle.archive_check.proofs.plan.Checker.open.Goals as goal
+
+pub returns-then-self-node-clause-runs : goal.returns-then-self-node-clause-runs
+returns-then-self-node-clause-runs g c =
+    let m = c.args.self.now in
+    let st = g.C.Context.state in
+    let met = g.C.Context.positions in
+    once_keeps m (st c.args.context.now) (st c.check_shallow.new.context) (met c.args.context.now) (met c.check_shallow.new.context) (list_of c.args.work.now) (list_of c.check_shallow.new.work) c.args.node c.args.at c.check_shallow.result c.check_shallow.new.work.fault c.check_shallow.ensures.through c.check_shallow.ensures.list c.check_shallow.ensures.positions c.check_shallow.ensures.stops
+
+pub returns-then-self-node-clause-ends : goal.returns-then-self-node-clause-ends
+returns-then-self-node-clause-ends g c =
+    let m = c.args.self.now in
+    let st = g.C.Context.state in
+    let met = g.C.Context.positions in
+    once_ends m (st c.args.context.now) (st c.check_shallow.new.context) (met c.args.context.now) (met c.check_shallow.new.context) (list_of c.args.work.now) (list_of c.check_shallow.new.work) c.args.node c.args.at c.check_shallow.result c.check_shallow.ensures.through c.check_shallow.ensures.list
 
 pub returns-in-Free-clause-runs : goal.returns-in-Free-clause-runs
 returns-in-Free-clause-runs g c =
     let m = c.args.self.now in
     let st = g.C.Context.state in
     let met = g.C.Context.positions in
-    let s = st c.args.context.now in
-    let seen = met c.args.context.now in
-    let old = list_of c.args.work.now in
-    let f = c.requires.ready.fits.0 in
-    let is : IsNode m c.args.node (Free) = record { node = c.index-self-node.result; at = record { below = f.takes.at.below; is = c.index-self-node.is }; job_is = ap (λ q. q.job) c.index-self-node.is ∙ c.in-Free.is } in
-    (node_leads m s seen old c.args.node c.args.at (λ known. run_free is f.takes f.fits), tt)
+    once_keeps m (st c.args.context.now) (st c.check_shallow-in-Free.new.context) (met c.args.context.now) (met c.check_shallow-in-Free.new.context) (list_of c.args.work.now) (list_of c.check_shallow-in-Free.new.work) c.args.node c.args.at c.check_shallow-in-Free.result c.check_shallow-in-Free.new.work.fault c.check_shallow-in-Free.ensures.through c.check_shallow-in-Free.ensures.list c.check_shallow-in-Free.ensures.positions c.check_shallow-in-Free.ensures.stops
 
 pub returns-in-Free-clause-ends : goal.returns-in-Free-clause-ends
 returns-in-Free-clause-ends g c =
-    falls_none _ _
-
-pub illegal-requires : goal.illegal-requires
-illegal-requires g c =
     let m = c.args.self.now in
     let st = g.C.Context.state in
     let met = g.C.Context.positions in
-    let s = st c.args.context.now in
-    let seen = met c.args.context.now in
-    let old = list_of c.args.work.now in
-    let f = c.requires.ready.fits.0 in
-    let is : IsNode m c.args.node (Leaf c.in-Leaf.kind) = record { node = c.index-self-node.result; at = record { below = f.takes.at.below; is = c.index-self-node.is }; job_is = ap (λ q. q.job) c.index-self-node.is ∙ c.in-Leaf.is } in
-    let k = node_fits m s seen old c.args.node c.args.at (Leaf c.in-Leaf.kind) c.requires.closed is f in
-    (bytes_at m.bytes.now c.args.at (kind_size (kind_of c.in-Leaf.kind)), bytes_long m.bytes.now c.args.at (kind_size (kind_of c.in-Leaf.kind)) (omega (arith, k, f.fits)), (λ u. not_true c.is_legal.result c.if-not-is_legal.true (c.is_legal.ensures.1 u)))
-
-pub returns-then-not-is_legal-clause-runs : goal.returns-then-not-is_legal-clause-runs
-returns-then-not-is_legal-clause-runs g c =
-    let m = c.args.self.now in
-    let st = g.C.Context.state in
-    let met = g.C.Context.positions in
-    let s = st c.args.context.now in
-    let seen = met c.args.context.now in
-    let old = list_of c.args.work.now in
-    let f = c.requires.ready.fits.0 in
-    let is : IsNode m c.args.node (Leaf c.in-Leaf.kind) = record { node = c.index-self-node.result; at = record { below = f.takes.at.below; is = c.index-self-node.is }; job_is = ap (λ q. q.job) c.index-self-node.is ∙ c.in-Leaf.is } in
-    refused_keeps m (Listing m) (stage s seen (PartWork c.args.node c.args.at ∷ old)) (stage s seen (list_of c.refuse.new.self)) c.refuse.result c.refuse.new.self.fault c.illegal.result c.refuse.ensures.none c.refuse.ensures.fault (node_refuses m s seen old c.args.node c.args.at (illegal (kind_of c.in-Leaf.kind)) c.illegal.result c.illegal.ensures (λ known. run_illegal is (λ u. not_true c.is_legal.result c.if-not-is_legal.true (c.is_legal.ensures.1 u))))
-
-pub returns-else-not-is_legal-clause-runs : goal.returns-else-not-is_legal-clause-runs
-returns-else-not-is_legal-clause-runs g c =
-    let m = c.args.self.now in
-    let st = g.C.Context.state in
-    let met = g.C.Context.positions in
-    let s = st c.args.context.now in
-    let seen = met c.args.context.now in
-    let old = list_of c.args.work.now in
-    let f = c.requires.ready.fits.0 in
-    let is : IsNode m c.args.node (Leaf c.in-Leaf.kind) = record { node = c.index-self-node.result; at = record { below = f.takes.at.below; is = c.index-self-node.is }; job_is = ap (λ q. q.job) c.index-self-node.is ∙ c.in-Leaf.is } in
-    (node_leads m s seen old c.args.node c.args.at (λ known. run_leaf is (c.is_legal.ensures.0 (is_true c.is_legal.result c.if-not-is_legal.false))), tt)
-
-pub returns-else-not-is_legal-clause-ends : goal.returns-else-not-is_legal-clause-ends
-returns-else-not-is_legal-clause-ends g c =
-    falls_none _ _
+    once_ends m (st c.args.context.now) (st c.check_shallow-in-Free.new.context) (met c.args.context.now) (met c.check_shallow-in-Free.new.context) (list_of c.args.work.now) (list_of c.check_shallow-in-Free.new.work) c.args.node c.args.at c.check_shallow-in-Free.result c.check_shallow-in-Free.ensures.through c.check_shallow-in-Free.ensures.list
 
 pub returns-in-Record-clause-ready : goal.returns-in-Record-clause-ready
 returns-in-Record-clause-ready g c =
@@ -123,7 +95,7 @@ returns-in_default-clause-runs g c =
     let old = list_of c.args.work.now in
     let f = c.requires.ready.fits.0 in
     let is : IsNode m c.args.node (Choice c.in-Choice.name c.in-Choice.first c.in-Choice.last) = record { node = c.index-self-node.result; at = record { below = f.takes.at.below; is = c.index-self-node.is }; job_is = ap (λ q. q.job) c.index-self-node.is ∙ c.in-Choice.is } in
-    refused_keeps m (Listing m) (stage s seen (PartWork c.args.node c.args.at ∷ old)) (stage s seen (list_of c.refuse-in_default.new.self)) c.refuse-in_default.result c.refuse-in_default.new.self.fault (InvalidDiscriminant c.in-Choice.name (slice_index m.bytes.now c.args.at)) c.refuse-in_default.ensures.none c.refuse-in_default.ensures.fault (node_refuses m s seen old c.args.node c.args.at (no_such_variant c.in-Choice.name.now (slice_index m.bytes.now c.args.at)) _ (c.in-Choice.name, refl, refl) (λ known. run_tag is c.in_default.ensures.none))
+    refused_keeps m (Listing m) (stage s seen (PartWork c.args.node c.args.at ∷ old)) (stage s seen (list_of c.refuse.new.self)) c.refuse.result c.refuse.new.self.fault (InvalidDiscriminant c.in-Choice.name (slice_index m.bytes.now c.args.at)) c.refuse.ensures.none c.refuse.ensures.fault (node_refuses m s seen old c.args.node c.args.at (no_such_variant c.in-Choice.name.now (slice_index m.bytes.now c.args.at)) _ (c.in-Choice.name, refl, refl) (λ known. run_tag is c.in_default.ensures.none))
 
 pub returns-in-Some-clause-ready : goal.returns-in-Some-clause-ready
 returns-in-Some-clause-ready g c =
@@ -222,18 +194,6 @@ returns-in-Pointer-clause-ends g c =
     let f = c.requires.ready.fits.0 in
     let is : IsNode m c.args.node (PointerJob c.in-Pointer.target c.in-Pointer.pointee) = record { node = c.index-self-node.result; at = record { below = f.takes.at.below; is = c.index-self-node.is }; job_is = ap (λ q. q.job) c.index-self-node.is ∙ c.in-Pointer.is } in
     pointer_ends m s (st c.enter.new.context) old (list_of c.enter.new.work) c.args.node c.args.at c.enter.result c.enter.ensures.ends
-
-pub open_text-requires-clause-job : goal.open_text-requires-clause-job
-open_text-requires-clause-job g c =
-    let m = c.args.self.now in
-    let st = g.C.Context.state in
-    let met = g.C.Context.positions in
-    let s = st c.args.context.now in
-    let seen = met c.args.context.now in
-    let old = list_of c.args.work.now in
-    let f = c.requires.ready.fits.0 in
-    let is : IsNode m c.args.node (Str c.in-Str.pointee) = record { node = c.index-self-node.result; at = record { below = f.takes.at.below; is = c.index-self-node.is }; job_is = ap (λ q. q.job) c.index-self-node.is ∙ c.in-Str.is } in
-    is
 
 pub returns-in-Shared-clause-runs : goal.returns-in-Shared-clause-runs
 returns-in-Shared-clause-runs g c =

@@ -1,0 +1,19 @@
+use Rattle.std.proofs.Common.{arith, sym, subst, ap, ◌∙◌, length, length-append, ◌∷◌, [], List, Bool, IsTrue}
+use Rattle.archive_check.specs.declared.plan.Node.{Node}
+use Rattle.archive_check.specs.Runs.{IsAt}
+use Rattle.archive_check.specs.Shallow.{AreShallow, job_shallow}
+use Rattle.archive_check.proofs.ShallowMarks.{shallow_more}
+use Rattle.archive_check.proofs.shallow.shallow_nodes.Goals as goal
+
+pub loop-node-preserved : goal.loop-node-preserved
+loop-node-preserved c =
+    let plan = c.args.plan.now in
+    let marks = c.loop-node.marks.items in
+    let x = c.node-item.result in
+    let pushed = c.in_ok-push.ensures.items in
+    let here = subst (λ (xs : List Node). IsAt xs c.loop-node.node-index x) c.deref-node-items.ensures.value (record { below = c.loop-node-test.true; is = c.node-item.is }) in
+    let shallow = subst (λ (bs : List Bool). IsTrue c.is_shallow-shallow.result → IsTrue (job_shallow plan.nodes.items plan.parts.items plan.variants.items bs x.job)) c.deref.ensures.value c.is_shallow-shallow.ensures in
+    let all = shallow_more plan.nodes.items plan.parts.items plan.variants.items marks c.loop-node.node-index x c.is_shallow-shallow.result c.loop-node.invariant.1 c.loop-node.invariant.0 here shallow in (
+      ap length pushed ∙ length-append marks (c.is_shallow-shallow.result ∷ []) ∙ omega arith,
+      subst (λ (bs : List Bool). AreShallow plan.nodes.items plan.parts.items plan.variants.items bs) (sym pushed) all,
+    )

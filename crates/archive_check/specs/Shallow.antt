@@ -1,0 +1,63 @@
+-- Which nodes are shallow: they lead to nothing but bytes that are legal whatever they are, and texts. A shallow node is checked at once.
+use Rattle.std.specs.Prelude.{◌≡◌, ℕ, suc, zero, length, Bool, true, false, ◌&&◌, List, [], ◌∷◌, take, drop, ◌-◌, slice_index_or, IsTrue}
+use Rattle.archive_check.specs.declared.plan.Target.TheVariants.{One, Run, Text}
+use Rattle.archive_check.specs.declared.plan.Job.{Job}
+use Rattle.archive_check.specs.declared.plan.Job.TheVariants.{Free, Leaf, Record, Choice, Array, Pointer as PointerJob, Str, Shared, Weak}
+use Rattle.archive_check.specs.declared.plan.Node.{Node}
+use Rattle.archive_check.specs.declared.plan.Part.{Part}
+use Rattle.archive_check.specs.declared.plan.Span.{Span}
+use Rattle.archive_check.specs.declared.plan.Checker.{Checker}
+use Rattle.archive_check.specs.Runs.{IsAt}
+use Rattle.archive_check.specs.Closed.{span}
+
+-- whether a node is marked as shallow
+abbrev pub marked : List Bool → ℕ → Bool
+marked marks i = slice_index_or marks i false
+
+abbrev pub is_free : Job → Bool
+is_free Free = true
+is_free (Leaf kind) = false
+is_free (Record a b) = false
+is_free (Choice name a b) = false
+is_free (Array n j) = false
+is_free (PointerJob target j) = false
+is_free (Str j) = false
+is_free (Shared k target j) = false
+is_free (Weak k target j) = false
+
+-- whether the node at i may be any bytes
+abbrev pub free_at : List Node → ℕ → Bool
+free_at [] i = false
+free_at (x ∷ xs) zero = is_free x.job
+free_at (x ∷ xs) (suc i) = free_at xs i
+
+abbrev pub parts_shallow : List Bool → List Part → Bool
+parts_shallow marks [] = true
+parts_shallow marks (x ∷ xs) = marked marks x.node && parts_shallow marks xs
+
+abbrev pub variants_shallow : List Bool → List Part → List Span → Bool
+variants_shallow marks parts [] = true
+variants_shallow marks parts (x ∷ xs) = parts_shallow marks (span parts x.first x.last) && variants_shallow marks parts xs
+
+-- whether so much is known to be shallow: what the job leads to is a text or may be any bytes, and what it holds is marked
+abbrev pub job_shallow : List Node → List Part → List Span → List Bool → Job → Bool
+job_shallow nodes parts variants marks Free = true
+job_shallow nodes parts variants marks (Leaf kind) = true
+job_shallow nodes parts variants marks (Record a b) = parts_shallow marks (span parts a b)
+job_shallow nodes parts variants marks (Choice name a b) = variants_shallow marks parts (take (b - a) (drop a variants))
+job_shallow nodes parts variants marks (Array n j) = marked marks j
+job_shallow nodes parts variants marks (PointerJob One j) = free_at nodes j
+job_shallow nodes parts variants marks (PointerJob Run j) = free_at nodes j
+job_shallow nodes parts variants marks (PointerJob Text j) = true
+job_shallow nodes parts variants marks (Str j) = true
+job_shallow nodes parts variants marks (Shared k target j) = false
+job_shallow nodes parts variants marks (Weak k target j) = false
+
+-- each node that is marked is shallow
+abbrev pub AreShallow : List Node → List Part → List Span → List Bool → Type 0
+AreShallow nodes parts variants marks = (i : ℕ) (x : Node) → IsAt nodes i x → IsTrue (marked marks i) → IsTrue (job_shallow nodes parts variants marks x.job)
+
+-- a checker's marks, one for each node, are sound
+pub record IsMarked (m : Checker) : Type 0 where
+  pub shallow : AreShallow m.nodes.now m.parts.now m.variants.now m.shallow.now
+  pub all : length m.shallow.now ≡ length m.nodes.now

@@ -1,0 +1,92 @@
+//! Which nodes of a plan are shallow: they lead to nothing but bytes that are legal whatever they are, and texts.
+
+ghost use Rattle.std.specs.Prelude.{◌≡◌, length, IfOk, IsTrue};
+ghost use Rattle.archive_check.specs.Closed.{span};
+ghost use Rattle.archive_check.specs.Shallow.{marked, free_at, parts_shallow, variants_shallow, job_shallow, AreShallow};
+
+use crate::growing::is_free;
+use crate::plan::{Job, Node, Part, Plan, Span, Target};
+use std::alloc::{AllocError, Global};
+
+// Whether a node is marked. One that isn't there is not.
+fn is_marked(marks: &[bool], node: usize) -> bool
+    ensures { result ≡ marked marks.now node }
+{
+    node < marks.len() && marks[node]
+}
+
+// Whether a node may be any bytes. One that isn't there may not.
+fn is_free_at(nodes: &[Node], node: usize) -> bool
+    ensures { IsTrue result → IsTrue (free_at nodes.now node) }
+{
+    node < nodes.len() && is_free(nodes[node].job)
+}
+
+// Whether all these parts are marked.
+fn are_marked(marks: &[bool], parts: &[Part]) -> bool
+    ensures { result ≡ parts_shallow marks.now parts.now }
+{
+    for part in parts {
+        if !is_marked(marks, part.node) {
+            return false;
+        }
+    }
+    true
+}
+
+// Whether the parts from `first` up to `last` are there, and all marked.
+fn is_span_shallow(marks: &[bool], parts: &[Part], first: usize, last: usize) -> bool
+    ensures { IsTrue result → IsTrue (parts_shallow marks.now (span parts.now first last)) }
+{
+    match parts.get(first..last) {
+        Some(parts) => are_marked(marks, parts),
+        None => false,
+    }
+}
+
+// Whether the parts of all these variants are there, and marked.
+fn are_shallow(marks: &[bool], parts: &[Part], variants: &[Span]) -> bool
+    ensures { IsTrue result → IsTrue (variants_shallow marks.now parts.now variants.now) }
+{
+    for variant in variants {
+        if !is_span_shallow(marks, parts, variant.first, variant.last) {
+            return false;
+        }
+    }
+    true
+}
+
+// Whether a node that does this is shallow, where those that it holds and that are shallow are marked.
+fn is_shallow(plan: &Plan, marks: &[bool], job: Job) -> bool
+    ensures { IsTrue result → IsTrue (job_shallow plan.now.nodes.items plan.now.parts.items plan.now.variants.items marks.now job) }
+{
+    match job {
+        Job::Free | Job::Leaf(_) | Job::Str { .. } => true,
+        Job::Record { first, last } => is_span_shallow(marks, &plan.parts, first, last),
+        Job::Choice { first, last, .. } => match plan.variants.get(first..last) {
+            Some(variants) => are_shallow(marks, &plan.parts, variants),
+            None => false,
+        },
+        Job::Array { element, .. } => is_marked(marks, element),
+        Job::Pointer { target, pointee } => match target {
+            Target::One | Target::Run => is_free_at(&plan.nodes, pointee),
+            Target::Text => true,
+        },
+        Job::Shared { .. } | Job::Weak { .. } => false,
+    }
+}
+
+/// For each node of a plan whether it is shallow: it leads to nothing but bytes that are legal whatever they are, and texts, and shares nothing. Each
+/// shallow node is marked where the nodes in a node stand before it, as in each plan of an expression. Memory comes from `alloc`. Our own choice:
+/// rkyv 0.8.18 has no such marks.
+pub fn shallow_nodes(alloc: Global, plan: &Plan) -> Result<Vec<bool>, AllocError>
+    ensures ok { IfOk result (λ marks. AreShallow plan.now.nodes.items plan.now.parts.items plan.now.variants.items marks.items) }
+    ensures count { IfOk result (λ marks. length marks.items ≡ length plan.now.nodes.items) }
+{
+    let mut marks = Vec::with_capacity(alloc, plan.nodes.len())?;
+    for node in &plan.nodes {
+        let shallow = is_shallow(plan, &marks, node.job);
+        marks.push(shallow)?;
+    }
+    Ok(marks)
+}
