@@ -18,7 +18,8 @@ use Rattle.archive_check.specs.Closed.{span, SpanFits, ArrayFits}
 use Rattle.archive_check.specs.Shallow.{marked, is_free, free_at, parts_shallow, variants_shallow}
 use Rattle.archive_check.specs.Turns.{Stays, PartFits, PartsFit, ElementsFit, Ready, stage, pending_in, Listing, Keeps, HasLevels, cost, rank}
 use Rattle.archive_check.specs.Through.{Rule, Through, Stops, node_rule, parts_rule, elements_rule}
-use Rattle.archive_check.proofs.TurnInvariants.{same_get, at_default, some_map, span_next, here_from}
+use Rattle.archive_check.proofs.Elements.{same_at, at_default}
+use Rattle.archive_check.proofs.TurnInvariants.{some_map, span_next, here_from}
 use Rattle.archive_check.proofs.TurnsEnd.{falls_none}
 use Rattle.archive_check.proofs.EnteredRegions.{has_levels, times_size}
 
@@ -228,4 +229,4 @@ module _ (m : Checker) (j n z p align : ℕ) (region : RegionIs m j n (Some z) a
       record { size = k.0; few = few; takes = record { node = region.node; at = region.at; size_is = k.1 }; fits = omega (arith, k.2) }
 
 pub mark_is : (marks : List Bool) (i : ℕ) (d : Bool) → i < length marks → slice_index_or marks i d ≡ true → IsTrue (marked marks i)
-mark_is marks i d below e = same_get marks i false d below ∙ e
+mark_is marks i d below e = same_at (at_default marks i false below) (at_default marks i d below) ∙ e

@@ -11,7 +11,7 @@ use Rattle.archive_check.specs.declared.plan.Checker.{Checker}
 use Rattle.archive_check.specs.declared.work.Work.{Work}
 use Rattle.archive_check.specs.declared.work.Work.TheVariants.{Part as PartWork, Elements, Leave}
 use Rattle.archive_check.specs.Depth.{Allows, inside}
-use Rattle.archive_check.specs.Ranges.{RangeState, subtree_answer, pushed, one_less, one_more, popped}
+use Rattle.archive_check.specs.Ranges.{RangeState, subtree_answer, pushed, one_more, popped}
 use Rattle.archive_check.specs.Met.{Positions}
 use Rattle.archive_check.specs.Reads.{bytes_at}
 use Rattle.archive_check.specs.Tour.{Seen}
@@ -24,7 +24,7 @@ use Rattle.archive_check.specs.Through.{Rule, Through, Stops, region_rule, conte
 use Rattle.archive_check.specs.Turns.{and_then, Passes, Ready, stage, pending_in, regions_in, Agreeing, Listing, Entering, Leads, HasLevels, power, level, cost}
 use Rattle.archive_check.proofs.TurnRules.{enter_one, enter_run}
 use Rattle.archive_check.proofs.MetAgrees.{allows, agrees_inside}
-use Rattle.archive_check.proofs.TurnsEnd.{level_end, falls_enter, falls_leave}
+use Rattle.archive_check.proofs.TurnsEnd.{level_end, falls_enter}
 
 pub lands : (s : RangeState) (z : ℤ) (size align t : ℕ) (u : Unit {0}) → z ≡ pos t → Ok u ≡ subtree_answer s z size align → Lands s z size align t
 lands s (negsuc n) size align t u e h = cc
@@ -124,17 +124,13 @@ run_left One one text = absurd (one refl)
 run_left Run one text = refl
 run_left Text one text = absurd (text refl)
 
-inner : (d : Option ℕ) → one_less d ≡ inside d
-inner None = refl
-inner (Some n) = refl
-
 levels_allow : (d : Option ℕ) → d ≢ Some 0 → (d ≡ Some 1 → ⊥) → Allows d 1
 levels_allow None some deep = tt
 levels_allow (Some zero) some deep = absurd (some refl)
 levels_allow (Some (suc zero)) some deep = absurd (deep refl)
 levels_allow (Some (suc (suc n))) some deep = omega arith
 
-levels_inside : (d : Option ℕ) → HasLevels d → (d ≡ Some 1 → ⊥) → HasLevels (one_less d)
+levels_inside : (d : Option ℕ) → HasLevels d → (d ≡ Some 1 → ⊥) → HasLevels (inside d)
 levels_inside None h deep = record { levels = λ e. cc; few = λ d e. cc }
 levels_inside (Some zero) h deep = absurd (h.levels refl)
 levels_inside (Some (suc zero)) h deep = absurd (deep refl)
@@ -143,7 +139,7 @@ levels_inside (Some (suc (suc n))) h deep = record {
   few = λ d e. let same : suc (suc n) - 1 ≡ d = cc in omega (arith, h.few (suc (suc n)) refl);
 }
 
-level_back : (d : Option ℕ) → d ≢ Some 0 → one_more (one_less d) ≡ d
+level_back : (d : Option ℕ) → d ≢ Some 0 → one_more (inside d) ≡ d
 level_back None some = refl
 level_back (Some zero) some = absurd (some refl)
 level_back (Some (suc n)) some = let same : suc n - 1 + 1 ≡ suc n = omega arith in ap Some same
@@ -163,7 +159,7 @@ module _ (m : Checker) (j n : ℕ) (z : ℤ) (s s' : RangeState) (r : Region) (h
         end = stop;
         depth = λ some. ap (λ q. q.depth) left ∙ ap one_more (through.depth (within some) ∙ h.depth) ∙ level_back s.depth some.levels;
         runs = λ some pending seen.
-            let inward : s'.depth ≡ inside s.depth = h.depth ∙ inner s.depth in
+            let inward : s'.depth ≡ inside s.depth = h.depth in
             let c = rw (inward, h.start) at (through.runs (within some) pending seen) in
             rw start (enter_within h.region h.lands.target h.lands.above h.lands.below h.lands.aligned (levels_allow s.depth some.levels h.deep) c);
       }
@@ -173,7 +169,7 @@ module _ (m : Checker) (j n : ℕ) (z : ℤ) (s s' : RangeState) (r : Region) (h
   region_stops e stops some =
       let within : HasLevels s'.depth = rw h.depth (levels_inside s.depth some h.deep) in
       let f = stops within in
-      let inward : s'.depth ≡ inside s.depth = h.depth ∙ inner s.depth in
+      let inward : s'.depth ≡ inside s.depth = h.depth in
       (f.0, f.1, λ pending seen. enter_stop h.region h.lands.target h.lands.above h.lands.below h.lands.aligned (levels_allow s.depth some.levels h.deep) (rw (inward, h.start) at (f.2 pending seen)))
 
 -- levels are left where the context agrees
@@ -201,7 +197,7 @@ module _ (m : Checker) (j n : ℕ) (z : ℤ) (s s' : RangeState) (met met' : Pos
   }
 
   moved : {w w' : List Work} {seen : Seen} {o : Outcome} → w ≡ w' → Listing m (stage s' met' w) seen o → ListRuns m (pending_in w') (inside s.depth) r.begin w' s.start seen o
-  moved e r = let inward : s'.depth ≡ inside s.depth = h.depth ∙ inner s.depth in rw (h.start, h.end, inward, e) at r
+  moved e r = let inward : s'.depth ≡ inside s.depth = h.depth in rw (h.start, h.end, inward, e) at r
 
   entering : {target : Target} {seen : Seen} {o : Outcome} → Entering m target j n (pos r.begin) (stage s met old) seen o → Entering m target j n z (stage s met old) seen o
   entering q = rw h.lands.target q

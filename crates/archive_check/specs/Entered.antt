@@ -2,7 +2,8 @@
 use Rattle.std.specs.Prelude.{◌≡◌, ℕ, ◌+◌, ◌%◌, ◌≤◌, ℤ, pos, Some}
 use Rattle.archive_check.specs.declared.plan.Checker.{Checker}
 use Rattle.archive_check.specs.declared.check.Region.{Region}
-use Rattle.archive_check.specs.Ranges.{RangeState, one_less}
+use Rattle.archive_check.specs.Depth.{inside}
+use Rattle.archive_check.specs.Ranges.{RangeState}
 use Rattle.archive_check.specs.Runs.{RegionIs}
 
 -- a region of this size and alignment lies at t, within the range
@@ -19,7 +20,7 @@ pub record Entered (m : Checker) (j n : ℕ) (z : ℤ) (s s' : RangeState) (r : 
   pub lands : Lands s z r.size align r.begin
   pub start : s'.start ≡ s.start
   pub end : s'.end ≡ r.begin
-  pub depth : s'.depth ≡ one_less s.depth
+  pub depth : s'.depth ≡ inside s.depth
   pub deep : s.depth ≡ Some 1 → ⊥
   pub outer_start : r.outer.start ≡ r.begin + r.size
   pub outer_end : r.outer.end ≡ s.end

@@ -14,7 +14,8 @@ use Rattle.archive_check.specs.Turns.{rank}
 use Rattle.archive_check.specs.Through.{Stops, node_rule, parts_rule, elements_rule, region_rule}
 use Rattle.archive_check.proofs.EditedBytes.{bytes_long}
 use Rattle.archive_check.proofs.EnteredRegions.{not_true, is_true, through_same}
-use Rattle.archive_check.proofs.TurnInvariants.{at_default, node_fits, none_map, if_none, rank_from}
+use Rattle.archive_check.proofs.Elements.{at_default}
+use Rattle.archive_check.proofs.TurnInvariants.{node_fits, none_map, if_none, rank_from}
 use Rattle.archive_check.proofs.PassedElements.{takes_size, element_fits}
 use Rattle.archive_check.proofs.PassedParts.{part_fits}
 use Rattle.archive_check.proofs.AtOnce.{free_is, part_marked, variant_shallow, part_below, parts_here, elements_here, through_by, stops_by, through_stays, towards_same, towards_passed, towards_element, element_stops, elements_over, towards_part, part_stops, parts_over}
