@@ -45,10 +45,10 @@ abbrev entry_or : Entry → Option (Entry × Value) → Entry
 entry_or d None = d
 entry_or d (Some p) = p.0
 
-one_value : (m : Option (Entry × Value)) (e d : Entry) (x y : Value) → m ≡ Some (e, x) → m ≡ Some (d, y) → x ≡ y
+pub one_value : (m : Option (Entry × Value)) (e d : Entry) (x y : Value) → m ≡ Some (e, x) → m ≡ Some (d, y) → x ≡ y
 one_value m e d x y h i = sym (ap (value_or x) h) ∙ ap (value_or x) i
 
-one_entry : (m : Option (Entry × Value)) (e d : Entry) (x y : Value) → m ≡ Some (e, x) → m ≡ Some (d, y) → e ≡ d
+pub one_entry : (m : Option (Entry × Value)) (e d : Entry) (x y : Value) → m ≡ Some (e, x) → m ≡ Some (d, y) → e ≡ d
 one_entry m e d x y h i = sym (ap (entry_or e) h) ∙ ap (entry_or e) i
 
 -- what is known of the keys in the end

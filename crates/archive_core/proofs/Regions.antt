@@ -1,22 +1,19 @@
 -- Regions that are resolved into a writer.
 use Rattle.std.proofs.Common.{◌≡◌, inl, inr, ℕ, ◌+◌, ◌<◌, ◌≤◌, ◌^◌, List, ◌++◌, length, replicate, take, refl, ap, arith, ◌∙◌, Option, Some, None, SomeIff, is_some, true}
-use Rattle.std.proofs.lemmas.List.{get_or-replicate, length-replicate, take-replicate}
+use Rattle.std.proofs.lemmas.List.{length-replicate, take-replicate}
 use Rattle.archive_check.specs.Shape.{Shape}
 use Rattle.archive_check.specs.Layout.{Layout}
 use Rattle.archive_check.specs.Definitions.{Definitions, HasLayout}
 use Rattle.archive_check.specs.Value.{Value}
 use Rattle.archive_check.specs.Told.{Told, KeepsKeys}
-use Rattle.archive_check.specs.Tidy.{IsZeroed}
 use Rattle.archive_check.specs.Held.{States, held}
 use Rattle.archive_check.specs.declared.error.Error.{Error}
 use Rattle.archive_check.specs.declared.error.Error.TheVariants.{LayoutTooLarge}
 use Rattle.archive_write.specs.Written.{ExplainsRefusal}
+use Rattle.archive_write.proofs.Padding.{zeroed_replicate}
 use Rattle.archive_core.specs.Writing.{Resolves, Puts, Fresh}
 use Rattle.archive_core.specs.Plans.{Explains, own_cause, HindersRegion}
 use Rattle.archive_core.proofs.Causes.{explains_write}
-
-zeroed_replicate : (n : ℕ) → IsZeroed (replicate n 0)
-zeroed_replicate n = record { zero_at = λ i h. get_or-replicate n i 0 0 (omega (arith, length-replicate {A = ℕ} n 0)) }
 
 pub fresh_zeros : (size p n : ℕ) (a : List ℕ) → a ≡ replicate n 0 → n ≡ size → p + size < 2 ^ 64 → Fresh size p a
 fresh_zeros size p n a e m ends = record { sized = ap length e ∙ length-replicate {A = ℕ} n 0 ∙ m; zeroed = rw e (zeroed_replicate n); ends = ends }

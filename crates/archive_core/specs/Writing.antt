@@ -2,7 +2,7 @@
 use Rattle.std.specs.Prelude.{◌≡◌, ◌⊎◌, ℕ, ◌+◌, ◌<◌, ◌≤◌, ◌^◌, pos, List, [], ◌∷◌, ◌++◌, length, Option, Some, None, Contains}
 use Rattle.std.specs.Ordering.{nat_cmp}
 use Rattle.std.specs.FinMap.{FinMap, get}
-use Rattle.archive_check.specs.Shape.{Flavor, Shape, Pointee, one}
+use Rattle.archive_check.specs.Shape.{Flavor, Shape, Pointee}
 use Rattle.archive_check.specs.Layout.{Layout, up}
 use Rattle.archive_check.specs.Definitions.{Definitions, Knows, HasLayout}
 use Rattle.archive_check.specs.Value.{Pointer, Value, Values, pointers, all_pointers}
@@ -13,6 +13,7 @@ use Rattle.archive_check.specs.Reached.{Names, NamesAmong, LeadsTo}
 use Rattle.archive_check.specs.Written.{Tight, Clean}
 use Rattle.archive_check.specs.Tidy.{Stands, IsZeroed, Neat, NeatPointee, Tidy}
 use Rattle.archive_check.specs.Held.{States, Held}
+use Rattle.archive_write.specs.Sharing.{IsSet}
 
 -- what each key names: flavor, pointee and length, and the value
 abbrev pub NameMap : Type 0
@@ -167,10 +168,6 @@ pub record Archives (definitions : Definitions) (old new : List ℕ) (root : ℕ
 abbrev pub to_pointee : ℕ → Pointee → ℕ → Pointer
 to_pointee t P n = record { target = pos t; sharing = None; pointee = P; length = n }
 
--- to one value
-abbrev pub to_one : ℕ → Shape → Pointer
-to_one t X = to_pointee t (one X) 0
-
 -- What a pointee owns was appended, and then its own region, which stands at p.
 pub record Lays (definitions : Definitions) (old new : Held) (keys : List Naming) (p : ℕ) (P : Pointee) (n : ℕ) (value : Value) : Type 0 where
   pub mid : Held
@@ -191,16 +188,11 @@ pub record Lays (definitions : Definitions) (old new : Held) (keys : List Naming
 abbrev pub to_shared : ℕ → Flavor → Pointee → ℕ → Pointer
 to_shared t flavor P n = record { target = pos t; sharing = Some flavor; pointee = P; length = n }
 
--- the key's state is this one now, and the others are as before
-pub record Sets (key : ℕ) (state : Option ℕ) (old new : States) : Type 0 where
-  pub here : new key ≡ Some state
-  pub others : (k : ℕ) → (k ≡ key → ⊥) → new k ≡ old k
-
 -- What an unknown key names was laid out at p, the key pending meanwhile and finished there in the end.
 pub record LaysShared (definitions : Definitions) (old new : Held) (key : ℕ) (keys : List Naming) (p : ℕ) (P : Pointee) (n : ℕ) (value : Value) : Type 0 where
   pub unknown : old.states key ≡ None
   pub begun : States
-  pub begins : Sets key None old.states begun
+  pub begins : IsSet old.states key (Some None) begun
   pub laid : States
   pub lays : Lays definitions (record { bytes = old.bytes; states = begun }) (record { bytes = new.bytes; states = laid }) keys p P n value
-  pub ends : Sets key (Some p) laid new.states
+  pub ends : IsSet laid key (Some (Some p)) new.states

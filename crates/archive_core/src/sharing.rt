@@ -3,7 +3,7 @@
 ghost use Rattle.std.specs.Prelude.{◌≡◌, ◌⊎◌, ◌≤◌, None, Option, Some, ℕ, length, IfOk, IfErr, OnErr};
 ghost use Rattle.archive_check.specs.Held.{held};
 ghost use Rattle.archive_check.specs.Told.{KeepsKeys};
-ghost use Rattle.archive_core.specs.Plans.{stand, begun, ended, IsAt, GoesOn, Explains, HindersShared};
+ghost use Rattle.archive_core.specs.Plans.{stand, begun, ended, IsAt, GoesOn, Explains, HindersShared, IsOfWriting};
 ghost use Rattle.archive_core.specs.Writing.{LaysShared};
 ghost use Rattle.archive_write.specs.Sharing.{KeepsKnown, IsNoMisuse, known_answer};
 ghost use Rattle.archive_write.specs.Written.{IsBeginning};
@@ -40,6 +40,7 @@ pub trait SharingExt: Sharing + Writer {
         ensures unfinished { OnErr result ((Self.state_of self.new key ≡ None) ⊎ (Self.state_of self.new key ≡ Some None)) }
         ensures kept { IsBeginning (Self.told self.old).bytes (Self.told self.new).bytes }
         ensures keys { KeepsKnown (Self.state_of self.old) (Self.state_of self.new) }
+        ensures named { IfErr result IsOfWriting }
         ensures no_misuse { IfErr result IsNoMisuse }
     {
         match self.start_sharing(key)? {

@@ -18,9 +18,8 @@ ghost use Rattle.archive_core.specs.Keyed.{text_keyed, text_forward, string_forw
 ghost use Rattle.archive_core.specs.Named.{text_named, string_named, string_at_named};
 ghost use Rattle.archive_core.specs.Offsets.{distance, IsTooFar};
 ghost use Rattle.archive_core.specs.Plans.{stand, IsAt, GoesOn, Explains};
-ghost use Rattle.archive_core.specs.Refusals.{ExplainsTextRefusal, ExplainsStringRefusal};
 ghost use Rattle.archive_core.specs.Strings.{string_form, string_flat};
-ghost use Rattle.archive_core.specs.TextPlans.{text_plan, string_plan, StringAnswers, HindersText, HindersString, HindersStringAt};
+ghost use Rattle.archive_core.specs.TextPlans.{text_plan, string_plan, StringAnswers, HindersText, HindersString, HindersStringAt, ExplainsTextRefusal, ExplainsStringRefusal};
 ghost use Rattle.archive_core.specs.Writing.{Fresh, Resolves, Writes, Lays};
 
 pub mod repr;
@@ -175,7 +174,7 @@ impl<'a, S: Writer + Keys> SerializeUnsized<S> for Text<'a> {
         ensures no_misuse { IfErr result IsNoMisuse }
         ensures refused { IfErr result (Explains (HindersText self.now.text.now) (text_plan self.now.text.now (stand (S.told serializer.old) (S.state_of serializer.old))).place (S.told serializer.old) (S.told serializer.new)) }
         ensures keys { KeepsKeys (S.state_of serializer.old) (S.state_of serializer.new) }
-        ensures cause { IfErr result (ExplainsTextRefusal (length self.now.text.now) (S.place serializer.old) (S.told serializer.old) (S.told serializer.new)) }
+        ensures cause { IfErr result (ExplainsTextRefusal self.now.text.now (S.place serializer.old) (S.told serializer.old) (S.told serializer.new)) }
     {
         if let Err(error) = self.archived_metadata() {
             return Err(error);
@@ -222,8 +221,8 @@ impl ArchivedString {
         ensures goes_on { GoesOn (S.told serializer.old) (S.told serializer.new) }
         ensures kept { IsBeginning (S.told serializer.old).bytes (S.told serializer.new).bytes }
         ensures keys { KeepsKeys (S.state_of serializer.old) (S.state_of serializer.new) }
-        ensures hindered { IfErr result (Explains (HindersString value.now (stand (S.told serializer.old) (S.state_of serializer.old))) (string_plan value.now (stand (S.told serializer.old) (S.state_of serializer.old))).place (S.told serializer.old) (S.told serializer.new)) }
-        ensures refused { IfErr result (ExplainsStringRefusal (length value.now) (S.place serializer.old) (S.told serializer.old) (S.told serializer.new)) }
+        ensures hindered { IfErr result (Explains (HindersString value.now (length (S.told serializer.old).bytes)) (string_plan value.now (stand (S.told serializer.old) (S.state_of serializer.old))).place (S.told serializer.old) (S.told serializer.new)) }
+        ensures refused { IfErr result (ExplainsStringRefusal value.now (S.place serializer.old) (S.told serializer.old) (S.told serializer.new)) }
     {
         if value.len() <= repr::INLINE_CAPACITY {
             return Ok(StringResolver { pos: 0 });
@@ -279,7 +278,7 @@ impl Archive for String {
 
     ghost answers = { λ s at r. StringAnswers (string_bytes s) at r };
 
-    ghost hinders = { λ s at e. HindersString (string_bytes s) at e };
+    ghost hinders = { λ s at e. HindersString (string_bytes s) at.place e };
 
     ghost hinders_at = { λ s r p e. HindersStringAt (string_bytes s) r p e };
 
@@ -287,7 +286,7 @@ impl Archive for String {
 
     ghost forward = { λ s at. string_forward (string_bytes s) at };
 
-    ghost named = { λ s at e h. string_named (string_bytes s) at e h };
+    ghost named = { λ s at e h. string_named (string_bytes s) at.place e h };
 
     ghost named_at = { λ s r p e h. string_at_named (string_bytes s) r p e h };
 
@@ -319,12 +318,12 @@ impl<S: Writer + Keys> Serialize<S> for String {
         ensures kept { IsBeginning (S.told serializer.old).bytes (S.told serializer.new).bytes }
         ensures known { KeepsKnown (S.state_of serializer.old) (S.state_of serializer.new) }
         ensures no_misuse { IfErr result IsNoMisuse }
-        ensures refused { IfErr result (Explains (HindersString (string_bytes self.now) (stand (S.told serializer.old) (S.state_of serializer.old))) (string_plan (string_bytes self.now) (stand (S.told serializer.old) (S.state_of serializer.old))).place (S.told serializer.old) (S.told serializer.new)) }
+        ensures refused { IfErr result (Explains (HindersString (string_bytes self.now) (length (S.told serializer.old).bytes)) (string_plan (string_bytes self.now) (stand (S.told serializer.old) (S.state_of serializer.old))).place (S.told serializer.old) (S.told serializer.new)) }
         ensures keys { KeepsKeys (S.state_of serializer.old) (S.state_of serializer.new) }
         ensures inline { length (string_bytes self.now) ≤ 8 → IsOk result × (S.told serializer.new ≡ S.told serializer.old) }
         ensures elsewhere { 8 < length (string_bytes self.now) → IfOk result (λ r. (r ≡ length (S.told serializer.old).bytes)
             × ((S.told serializer.new).bytes ≡ (S.told serializer.old).bytes ++ string_bytes self.now)) }
-        ensures cause { IfErr result (ExplainsStringRefusal (length (string_bytes self.now)) (S.place serializer.old) (S.told serializer.old) (S.told serializer.new)) }
+        ensures cause { IfErr result (ExplainsStringRefusal (string_bytes self.now) (S.place serializer.old) (S.told serializer.old) (S.told serializer.new)) }
     {
         ArchivedString::serialize_from_str(self.as_str(), serializer)
     }

@@ -28,7 +28,7 @@ by_rest n a q (suc r) h e less =
 pub padding_by_rest : (n a : ℕ) → 1 ≤ a → (a - n % a) % a ≡ padding a n
 padding_by_rest n a h = by_rest n a (n / a) (n % a) h (sym (div-add-mod' n a)) (mod-lt n (omega arith))
 
-align_low : (a : ℕ) → IsAlign a → 1 ≤ a
+pub align_low : (a : ℕ) → IsAlign a → 1 ≤ a
 align_low a h = omega (arith, h)
 
 pub padded : (n a : ℕ) → IsAlign a → n + padding a n ≡ up n a
