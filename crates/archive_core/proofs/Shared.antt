@@ -18,7 +18,7 @@ use Rattle.archive_check.specs.Held.{States, Held}
 use Rattle.archive_write.specs.Sharing.{IsSet}
 use Rattle.archive_check.proofs.Standing.{stands_fits, stands_zero, stands_begun}
 use Rattle.archive_check.proofs.Tightness.{tight_append, tidy_append}
-use Rattle.archive_core.specs.Writing.{Naming, World, Holds, Known, Unseen, Found, Appends, Finishes, AreFinished, Writes, LaysShared, to_shared}
+use Rattle.archive_core.specs.Writing.{Naming, World, Holds, Known, Unseen, Found, Appends, Finishes, AreFinished, Writes, LaysOutShared, to_shared}
 use Rattle.archive_core.proofs.Denoting.{one_value, one_entry}
 use Rattle.archive_core.proofs.KeyStates.{set_here, set_other}
 use Rattle.archive_core.proofs.Appending.{longer, finishes_nothing, finishes_wider}
@@ -196,7 +196,7 @@ after_shared n t = grind arith
 
 -- A shared value under a new key: a byte of 0 follows a region of no size.
 pub writes_shared_new : (D : Definitions) (old mid new : Held) (ks : List Naming) (x : Value) (P : Pointee) (n : ℕ) (flavor : Flavor) (t key : ℕ) (tail : List ℕ)
-    → LaysShared D old mid key ks t P n x → new.bytes ≡ mid.bytes ++ tail → IsZeroed tail → length tail ≡ cond (nat_eq (length mid.bytes) t) 1 0 → new.states ≡ mid.states
+    → LaysOutShared D old mid key ks t P n x → new.bytes ≡ mid.bytes ++ tail → IsZeroed tail → length tail ≡ cond (nat_eq (length mid.bytes) t) 1 0 → new.states ≡ mid.states
     → Writes D old new ((key, (entry flavor (to_shared t flavor P n), x)) ∷ ks) (hole (to_shared t flavor P n)) (shared_value key)
 writes_shared_new D old mid new ks x P n flavor t key tail s more tailz taill same_states =
     let h = s.lays in

@@ -20,7 +20,7 @@ use Rattle.archive_check.proofs.Standing.{stands_front, stands_back, stands_byte
 use Rattle.archive_check.proofs.Texts.{text_no_end, text_inline, text_before}
 use Rattle.archive_core.specs.Offsets.{distance}
 use Rattle.archive_core.specs.Strings.{coded_length, inline_bytes, out_of_line_bytes, to_text, string_flat}
-use Rattle.archive_core.specs.Writing.{Resolves, Writes, Lays}
+use Rattle.archive_core.specs.Writing.{Resolves, Writes, LaysOut}
 use Rattle.archive_core.proofs.ShortTexts.{if_short, if_long}
 use Rattle.archive_core.proofs.Appending.{writes_nothing, writes_laid}
 
@@ -125,7 +125,7 @@ pub writes_inline : (D : Definitions) (told : Held) (bs : List ℕ) (t : ℕ) �
 writes_inline D told bs t h = rw (flat_inline bs t h) (writes_nothing D told (text_value bs) refl (λ k n. elim n [ ]) (λ w. fills_text))
 
 pub lays_text : (D : Definitions) (old new : Told) (f g : States) (bs : List ℕ) (t : ℕ) → IsUtf8 bs → new.bytes ≡ old.bytes ++ bs → t ≡ length old.bytes → KeepsKeys f g
-    → Lays D (held old f) (held new g) [] t text (length bs) (text_value bs)
+    → LaysOut D (held old f) (held new g) [] t text (length bs) (text_value bs)
 lays_text D old new f g bs t u grown here keys = record {
   mid = held old f;
   flat = text_value bs;
@@ -145,7 +145,7 @@ lays_text D old new f g bs t u grown here keys = record {
 }
 
 pub writes_out_of_line : (D : Definitions) (old new : Held) (bs : List ℕ) (t : ℕ) → 8 < length bs
-    → Lays D old new [] t text (length bs) (text_value bs) → Writes D old new [] (string_flat bs t) (text_value bs)
+    → LaysOut D old new [] t text (length bs) (text_value bs) → Writes D old new [] (string_flat bs t) (text_value bs)
 writes_out_of_line D old new bs t long h = rw (flat_out_of_line bs t long) (writes_laid D old new [] t text (length bs) (text_value bs) h)
 
 -- as the resolving functions have it

@@ -169,7 +169,7 @@ abbrev pub to_pointee : ℕ → Pointee → ℕ → Pointer
 to_pointee t P n = record { target = pos t; sharing = None; pointee = P; length = n }
 
 -- What a pointee owns was appended, and then its own region, which stands at p.
-pub record Lays (definitions : Definitions) (old new : Held) (keys : List Naming) (p : ℕ) (P : Pointee) (n : ℕ) (value : Value) : Type 0 where
+pub record LaysOut (definitions : Definitions) (old new : Held) (keys : List Naming) (p : ℕ) (P : Pointee) (n : ℕ) (value : Value) : Type 0 where
   pub mid : Held
   pub flat : Value
   pub owned : Writes definitions old mid keys flat value
@@ -189,10 +189,10 @@ abbrev pub to_shared : ℕ → Flavor → Pointee → ℕ → Pointer
 to_shared t flavor P n = record { target = pos t; sharing = Some flavor; pointee = P; length = n }
 
 -- What an unknown key names was laid out at p, the key pending meanwhile and finished there in the end.
-pub record LaysShared (definitions : Definitions) (old new : Held) (key : ℕ) (keys : List Naming) (p : ℕ) (P : Pointee) (n : ℕ) (value : Value) : Type 0 where
+pub record LaysOutShared (definitions : Definitions) (old new : Held) (key : ℕ) (keys : List Naming) (p : ℕ) (P : Pointee) (n : ℕ) (value : Value) : Type 0 where
   pub unknown : old.states key ≡ None
   pub begun : States
   pub begins : IsSet old.states key (Some None) begun
   pub laid : States
-  pub lays : Lays definitions (record { bytes = old.bytes; states = begun }) (record { bytes = new.bytes; states = laid }) keys p P n value
+  pub lays : LaysOut definitions (record { bytes = old.bytes; states = begun }) (record { bytes = new.bytes; states = laid }) keys p P n value
   pub ends : IsSet laid key (Some (Some p)) new.states

@@ -5,7 +5,7 @@ ghost use Rattle.archive_check.specs.Held.{held};
 ghost use Rattle.archive_check.specs.Shape.{one};
 ghost use Rattle.archive_check.specs.Told.{KeepsKeys};
 ghost use Rattle.archive_core.specs.Plans.{stand, IsAt, GoesOn, Explains, HindersRegion, ExplainsWhole, region_place, one_plan, IsOfWriting};
-ghost use Rattle.archive_core.specs.Writing.{Fresh, Resolves, Puts, Lays};
+ghost use Rattle.archive_core.specs.Writing.{Fresh, Resolves, Puts, LaysOut};
 ghost use Rattle.archive_write.specs.Sharing.{KeepsKnown};
 ghost use Rattle.archive_write.specs.Written.{IsBeginning};
 
@@ -107,7 +107,7 @@ pub fn serialize_one<S: Writer + Keys + ResolverAlloc, T: Serialize<S>>(
     value: &T,
     serializer: &mut S,
 ) -> Result<usize, Error>
-    ensures written { IfOk result (λ p. Lays T.Archived.definitions (held (S.told serializer.old) (S.state_of serializer.old)) (held (S.told serializer.new) (S.state_of serializer.new))
+    ensures written { IfOk result (λ p. LaysOut T.Archived.definitions (held (S.told serializer.old) (S.state_of serializer.old)) (held (S.told serializer.new) (S.state_of serializer.new))
         (T.keys value.now) p (one T.Archived.shape) 0 (T.meaning value.now)) }
     ensures there { IfOk result (λ p. p ≡ region_place T.Archived.layout (T.plan value.now (stand (S.told serializer.old) (S.state_of serializer.old)))) }
     ensures planned { OnOk result (IsAt (one_plan T.Archived.layout (T.plan value.now (stand (S.told serializer.old) (S.state_of serializer.old)))) (S.told serializer.new) (S.state_of serializer.new)) }

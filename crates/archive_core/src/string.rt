@@ -21,7 +21,7 @@ ghost use Rattle.archive_core.specs.Offsets.{distance, IsTooFar};
 ghost use Rattle.archive_core.specs.Plans.{stand, IsAt, GoesOn, Explains};
 ghost use Rattle.archive_core.specs.Strings.{string_form, string_flat};
 ghost use Rattle.archive_core.specs.TextPlans.{text_plan, string_plan, StringAnswers, HindersText, HindersString, HindersStringAt, ExplainsTextRefusal, ExplainsStringRefusal};
-ghost use Rattle.archive_core.specs.Writing.{Fresh, Resolves, Writes, Lays};
+ghost use Rattle.archive_core.specs.Writing.{Fresh, Resolves, Writes, LaysOut};
 
 pub mod repr;
 
@@ -164,7 +164,7 @@ impl<'a> ArchiveUnsized for Text<'a> {
 impl<'a, S: Writer + Keys> SerializeUnsized<S> for Text<'a> {
     #[tactic(auto, using(crate::proofs::StringsWritten::lays_text, crate::proofs::TextCauses::text_written, crate::proofs::TextCauses::text_refused, crate::proofs::TextCauses::text_too_long, crate::proofs::Causes::goes_nowhere, crate::proofs::Causes::goes_written, crate::proofs::Causes::goes_refused))]
     fn serialize_unsized(&self, serializer: &mut S) -> Result<usize, Error>
-        ensures written { IfOk result (λ p. Lays no_definition (held (S.told serializer.old) (S.state_of serializer.old)) (held (S.told serializer.new) (S.state_of serializer.new)) [] p text (length self.now.text.now) (text_value self.now.text.now)) }
+        ensures written { IfOk result (λ p. LaysOut no_definition (held (S.told serializer.old) (S.state_of serializer.old)) (held (S.told serializer.new) (S.state_of serializer.new)) [] p text (length self.now.text.now) (text_value self.now.text.now)) }
         ensures position { IfOk result (λ p. (length (S.told serializer.old).bytes ≤ p) × (p ≤ length (S.told serializer.new).bytes)) }
         ensures there { IfOk result (λ p. p ≡ length (S.told serializer.old).bytes) }
         ensures planned { OnOk result (IsAt (text_plan self.now.text.now (stand (S.told serializer.old) (S.state_of serializer.old))) (S.told serializer.new) (S.state_of serializer.new)) }

@@ -8,7 +8,7 @@ ghost use Rattle.archive_check.specs.Held.{held};
 ghost use Rattle.archive_check.specs.declared.error.Error.TheVariants.{OutOfMemory, CyclicDeserialize, LengthTooLarge};
 ghost use Rattle.archive_check.specs.declared.error.Error.{Error as ErrorOf};
 ghost use Rattle.archive_core.specs.Plans.{Stand, stand, IsAt, GoesOn, Explains, IsOwnCause};
-ghost use Rattle.archive_core.specs.Writing.{Naming, IsKeyed, Fresh, Resolves, Writes, Lays};
+ghost use Rattle.archive_core.specs.Writing.{Naming, IsKeyed, Fresh, Resolves, Writes, LaysOut};
 ghost use Rattle.archive_write.specs.Sharing.{KeepsKnown, IsNoMisuse};
 ghost use Rattle.archive_write.specs.Written.{IsBeginning};
 
@@ -173,7 +173,7 @@ pub trait SerializeUnsized<S: Writer + Keys>: ArchiveUnsized {
     /// refuses, or with 1 where memory is refused; never with 14 or 15. After a refusal, too, the bytes from before are a beginning of those that
     /// `serializer` holds, and each key that was known keeps its state.
     fn serialize_unsized(&self, serializer: &mut S) -> Result<usize, Error>
-        ensures written { IfOk result (λ p. Lays Self.Archived.definitions (held (S.told serializer.old) (S.state_of serializer.old)) (held (S.told serializer.new) (S.state_of serializer.new))
+        ensures written { IfOk result (λ p. LaysOut Self.Archived.definitions (held (S.told serializer.old) (S.state_of serializer.old)) (held (S.told serializer.new) (S.state_of serializer.new))
             (Self.keys self.now) p Self.Archived.pointee (Self.source_length self.now) (Self.meaning self.now)) }
         ensures position { IfOk result (λ p. (length (S.told serializer.old).bytes ≤ p) × (p ≤ length (S.told serializer.new).bytes)) }
         ensures there { IfOk result (λ p. p ≡ Self.planned_at self.now (stand (S.told serializer.old) (S.state_of serializer.old))) }
