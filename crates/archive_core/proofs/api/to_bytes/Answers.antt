@@ -1,4 +1,4 @@
-use Rattle.std.proofs.Common.{◌≡◌, refl, inl, inr, ⊎_elim, [], None}
+use Rattle.std.proofs.Common.{refl, inl, inr, ⊎_elim, [], None}
 use Rattle.std.proofs.lemmas.Result.{IfErr-weaker}
 use Rattle.archive_core.specs.Plans.{at_start, HindersWhole, one_plan}
 use Rattle.archive_core.proofs.Causes.{err_by, err_at, explains_unlimited}
