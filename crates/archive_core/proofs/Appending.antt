@@ -16,7 +16,7 @@ use Rattle.archive_check.specs.WriterState.{KeyStates, WriterState, Pads}
 use Rattle.archive_check.proofs.JoinedTours.{tour_append}
 use Rattle.archive_check.proofs.StandingBytes.{stands_fits, stands_zero, zero_nowhere, stands_begun}
 use Rattle.archive_check.proofs.Tightness.{tight_append, clean_regions_append}
-use Rattle.archive_core.specs.Writing.{NameMap, Naming, AreNamed, World, Holds, Known, Unseen, Found, Appends, Finishes, AreFinished, AllFinished, Writes, WritesAll, Puts, Lays, to_pointee}
+use Rattle.archive_core.specs.Writing.{NameMap, Naming, AreNamed, World, Holds, Known, Unseen, Found, Appends, Finishes, AreFinished, AllFinished, Writes, WritesAll, Puts, LaysOut, to_pointee}
 
 -- the layout, in a schema that knows the definitions
 
@@ -228,7 +228,7 @@ pub writes_product : (D : Definitions) (old new : WriterState) (ks : List Naming
 writes_product D old new ks vs xs h = record { added = h.added; grown = h.grown; states = h.states; finished = finished_product new.states xs h.finished; appends = h.appends; fills = λ w n. fills_product (h.fills w n) }
 
 -- the region of a pointee, and what it owns before it
-pub writes_laid : (D : Definitions) (old new : WriterState) (ks : List Naming) (p : ℕ) (P : Pointee) (n : ℕ) (x : Value) → Lays D old new ks p P n x → Writes D old new ks (hole (to_pointee p P n)) x
+pub writes_laid : (D : Definitions) (old new : WriterState) (ks : List Naming) (p : ℕ) (P : Pointee) (n : ℕ) (x : Value) → LaysOut D old new ks p P n x → Writes D old new ks (hole (to_pointee p P n)) x
 writes_laid D old new ks p P n x h =
     let m = h.owned in
     let le : length old.bytes ≤ length h.mid.bytes = longer _ _ _ m.grown in
@@ -262,7 +262,7 @@ writes_laid D old new ks p P n x h =
 -- one value
 pub lays_one : (D : Definitions) (old mid low new : WriterState) (ks : List Naming) (v x : Value) (X : Shape) (L : Layout) (t : ℕ)
     → Writes D old mid ks v x → Pads L.align mid low → Puts D low new X L v → t ≡ length low.bytes
-    → Lays D old new ks t (one X) 0 x
+    → LaysOut D old new ks t (one X) 0 x
 lays_one D old mid low new ks v x X L t h pads puts here = record {
   mid = mid;
   flat = v;

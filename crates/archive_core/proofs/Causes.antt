@@ -7,7 +7,7 @@ use Rattle.archive_check.specs.Told.{Told}
 use Rattle.archive_check.specs.declared.error.Error.{Error}
 use Rattle.archive_check.specs.declared.error.Error.TheVariants.{OutOfMemory, IsizeOverflow, OffsetOverflow, PositionTooLarge, LengthTooLarge, NumberTooLarge, StringTooLong, BufferOverflow, WriterFailed, ItemWrote, CyclicSerialize, CyclicValidate, CyclicDeserialize, NotStarted, AlreadyFinished, InvalidSubtreePointer, UnalignedPointer, ExceededMaximumSubtreeDepth, RangePoppedTooManyTimes, RangePoppedOutOfOrder, TypeMismatch, MetadataMismatch, LayoutTooLarge, InvalidDiscriminant, InvalidBool, InvalidChar, ZeroNumber, InvalidUtf8, InvalidStringRepr, ShapeConflict, RecursiveLayout, UnsortedKeys}
 use Rattle.archive_write.specs.Written.{IsBeginning, RoomFalls, ExplainsRefusal}
-use Rattle.archive_core.specs.Plans.{GoesOn, Overflows, Explains, no_memory, no_room, device_failed, own_cause, IsOfWriting, of_memory, of_room, of_device}
+use Rattle.archive_core.specs.Plans.{GoesOn, Overflows, Explains, no_memory, no_room, device_failed, own_cause, IsOwnCause, IsOfWriting, of_memory, of_room, of_device, of_value}
 
 -- how a writer goes on
 
@@ -152,8 +152,8 @@ pub err_at : {A : Type 0} (P : Error → Type 0) (r : Result A Error) (e : Error
 err_at P r e is h = rw is at h
 
 -- a refusal that is explained is one of writing, where the value's own causes are
-pub explains_named : (own : Error → Type 0) (stop : ℕ) (old new : Told) (e : Error) → ((d : Error) → own d → IsOfWriting d) → Explains own stop old new e → IsOfWriting e
+pub explains_named : (own : Error → Type 0) (stop : ℕ) (old new : Told) (e : Error) → ((d : Error) → own d → IsOwnCause d) → Explains own stop old new e → IsOfWriting e
 explains_named own stop old new e f no_memory = of_memory
 explains_named own stop old new e f (no_room h) = of_room
 explains_named own stop old new e f (device_failed h) = of_device
-explains_named own stop old new e f (own_cause h) = f e h
+explains_named own stop old new e f (own_cause h) = of_value (f e h)

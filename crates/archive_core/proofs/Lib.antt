@@ -12,3 +12,5 @@ pub mod WholeCauses
 pub mod Repeated
 pub mod Shared
 pub mod SharedCauses
+pub mod KeyStates
+pub mod ShortTexts

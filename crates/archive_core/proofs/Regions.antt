@@ -10,10 +10,10 @@ use Rattle.archive_check.specs.WriterState.{KeyStates, writer_state}
 use Rattle.archive_check.specs.declared.error.Error.{Error}
 use Rattle.archive_check.specs.declared.error.Error.TheVariants.{LayoutTooLarge}
 use Rattle.archive_write.specs.Written.{ExplainsRefusal}
+use Rattle.archive_write.proofs.Padding.{zeroed_replicate}
 use Rattle.archive_core.specs.Writing.{Resolves, Puts, Fresh}
 use Rattle.archive_core.specs.Plans.{Explains, own_cause, HindersRegion}
 use Rattle.archive_core.proofs.Causes.{explains_write}
-use Rattle.archive_write.proofs.Padding.{zeroed_replicate}
 
 pub fresh_zeros : (size p n : ℕ) (a : List ℕ) → a ≡ replicate n 0 → n ≡ size → p + size < 2 ^ 64 → Fresh size p a
 fresh_zeros size p n a e m ends = record { sized = ap length e ∙ length-replicate {A = ℕ} n 0 ∙ m; zeroed = rw e (zeroed_replicate n); ends = ends }

@@ -10,18 +10,21 @@ use Rattle.archive_check.specs.Denotes.{Fills, fills_shared, rename}
 use Rattle.archive_check.specs.Reached.{names_itself}
 use Rattle.archive_check.specs.Written.{after}
 use Rattle.archive_check.specs.CleanRegions.{Stands, AreZero, IsZeroed, CleanPointee}
+use Rattle.archive_check.specs.Told.{KeyState}
 use Rattle.archive_check.specs.WriterState.{KeyStates, WriterState}
+use Rattle.archive_write.specs.Sharing.{IsSet}
 use Rattle.archive_check.proofs.StandingBytes.{stands_fits, stands_zero, stands_begun}
 use Rattle.archive_check.proofs.Tightness.{tight_append, clean_regions_append}
 use Rattle.archive_check.proofs.Elements.{contains_cases, contains_later}
 use Rattle.archive_check.proofs.Seen.{same_some, inserted_has, inserted_apart}
-use Rattle.archive_core.specs.Writing.{Naming, World, Holds, Known, Unseen, Found, Appends, Finishes, AreFinished, Writes, LaysShared, Sets, to_shared}
+use Rattle.archive_core.specs.Writing.{Naming, World, Holds, Known, Unseen, Found, Appends, Finishes, AreFinished, Writes, LaysOutShared, to_shared}
+use Rattle.archive_core.proofs.KeyStates.{set_here, set_other}
 use Rattle.archive_core.proofs.Appending.{longer, finishes_nothing, finishes_wider}
 use Rattle.archive_core.proofs.Denoting.{one_value, one_entry}
 use Rattle.std.proofs.lemmas.Bool.{cases_eq}
 
-sets_other : (key : ℕ) (x : Option ℕ) (old new : KeyStates) (k : ℕ) (y : Option ℕ) → Sets key x old new → (k ≡ key → ⊥) → old k ≡ Some y → new k ≡ Some y
-sets_other key x old new k y h n is = h.others k n ∙ is
+sets_other : (key : ℕ) (x : KeyState) (old new : KeyStates) (k : ℕ) (y : Option ℕ) → IsSet old key x new → (k ≡ key → ⊥) → old k ≡ Some y → new k ≡ Some y
+sets_other key x old new k y h n is = set_other old new key x h k n ∙ is
 
 finished_by : (s t : KeyStates) (v : Value) → ((k q : ℕ) → s k ≡ Some (Some q) → t k ≡ Some (Some q)) → AreFinished s v → AreFinished t v
 finished_by s t v kept h k n = (let (q, is) = h k n in (q, kept k q is))
@@ -29,30 +32,30 @@ finished_by s t v kept h k n = (let (q, is) = h k n in (q, kept k q is))
 finished_key : (s : KeyStates) (key t : ℕ) → s key ≡ Some (Some t) → AreFinished s (shared_value key)
 finished_key s key t h k names_itself = (t, h)
 
-module _ (a b c t key : ℕ) (old begun mid put new : KeyStates) (unknown : old key ≡ None) (start : Sets key None old begun) (h : Finishes a b begun mid) (same : put ≡ mid) (finish : Sets key (Some t) put new) (le : a ≤ b) (lower : b ≤ t) (inside : t < c) where
+module _ (a b c t key : ℕ) (old begun mid put new : KeyStates) (unknown : old key ≡ None) (start : IsSet old key (Some None) begun) (h : Finishes a b begun mid) (same : put ≡ mid) (finish : IsSet put key (Some (Some t)) new) (le : a ≤ b) (lower : b ≤ t) (inside : t < c) where
   -- a key's state in the end, where it is another one
   in_the_middle : (k : ℕ) (y : Option (Option ℕ)) → (k ≡ key → ⊥) → new k ≡ y → mid k ≡ y
-  in_the_middle k y n is = sym (ap (λ f. f k) same) ∙ sym (finish.others k n) ∙ is
+  in_the_middle k y n is = sym (ap (λ f. f k) same) ∙ sym (set_other put new key (Some (Some t)) finish k n) ∙ is
 
   later_kept : (k : ℕ) (y : Option ℕ) → old k ≡ Some y → new k ≡ Some y
   later_kept k y is = elim (cases_eq k key) [
     | inl eq ↦ (let no : old k ≡ None = rw eq unknown in cc)
-    | inr n ↦ sets_other key (Some t) put new k y finish n (rw same (h.kept k y (sets_other key None old begun k y start n is)))
+    | inr n ↦ sets_other key (Some (Some t)) put new k y finish n (rw same (h.kept k y (sets_other key (Some None) old begun k y start n is)))
   ]
 
   later_settled : (k : ℕ) (y : Option ℕ) → old k ≡ None → new k ≡ Some y → (q : ℕ) × (y ≡ Some q) × (a ≤ q) × (q < c)
   later_settled k y none is = elim (cases_eq k key) [
-    | inl eq ↦ (let there : new k ≡ Some (Some t) = rw eq finish.here in (t, (let e : y ≡ Some t = cc in e), omega arith, inside))
-    | inr n ↦ (let i = h.settled k y (start.others k n ∙ none) (in_the_middle k (Some y) n is) in (i.0, i.1, i.2, omega (arith, i.3)))
+    | inl eq ↦ (let there : new k ≡ Some (Some t) = rw eq (set_here put new key (Some (Some t)) finish) in (t, (let e : y ≡ Some t = cc in e), omega arith, inside))
+    | inr n ↦ (let i = h.settled k y (set_other old begun key (Some None) start k n ∙ none) (in_the_middle k (Some y) n is) in (i.0, i.1, i.2, omega (arith, i.3)))
   ]
 
   other_before : (k q : ℕ) → (k ≡ key → ⊥) → old k ≡ None → new k ≡ Some (Some q) → q < b
   other_before k q n none is =
-      let i = h.settled k (Some q) (start.others k n ∙ none) (in_the_middle k (Some (Some q)) n is) in
+      let i = h.settled k (Some q) (set_other old begun key (Some None) start k n ∙ none) (in_the_middle k (Some (Some q)) n is) in
       let e : i.0 ≡ q = (let f = i.1 in cc) in omega (arith, i.3, e)
 
   the_key_at : (k q : ℕ) → k ≡ key → new k ≡ Some (Some q) → q ≡ t
-  the_key_at k q eq is = (let there : new k ≡ Some (Some t) = rw eq finish.here in cc)
+  the_key_at k q eq is = (let there : new k ≡ Some (Some t) = rw eq (set_here put new key (Some (Some t)) finish) in cc)
 
   later_apart : (k l q : ℕ) → old k ≡ None → old l ≡ None → new k ≡ Some (Some q) → new l ≡ Some (Some q) → k ≡ l
   later_apart k l q m n is js = elim (cases_eq k key) [
@@ -62,7 +65,7 @@ module _ (a b c t key : ℕ) (old begun mid put new : KeyStates) (unknown : old 
     ]
     | inr unlike ↦ elim (cases_eq l key) [
       | inl too ↦ absurd (omega (arith, other_before k q unlike m is, the_key_at l q too js))
-      | inr either ↦ h.apart k l q (start.others k unlike ∙ m) (start.others l either ∙ n) (in_the_middle k _ unlike is) (in_the_middle l _ either js)
+      | inr either ↦ h.apart k l q (set_other old begun key (Some None) start k unlike ∙ m) (set_other old begun key (Some None) start l either ∙ n) (in_the_middle k _ unlike is) (in_the_middle l _ either js)
     ]
   ]
 
@@ -71,18 +74,18 @@ module _ (a b c t key : ℕ) (old begun mid put new : KeyStates) (unknown : old 
 
   pub finished_middle : (k q : ℕ) → mid k ≡ Some (Some q) → new k ≡ Some (Some q)
   finished_middle k q is = elim (cases_eq k key) [
-    | inl eq ↦ (let no : mid k ≡ Some None = rw eq (h.kept key None start.here) in cc)
-    | inr n ↦ sets_other key (Some t) put new k (Some q) finish n (rw same is)
+    | inl eq ↦ (let no : mid k ≡ Some None = rw eq (h.kept key None (set_here old begun key (Some None) start)) in cc)
+    | inr n ↦ sets_other key (Some (Some t)) put new k (Some q) finish n (rw same is)
   ]
 
   pub finished_which : (k q : ℕ) → new k ≡ Some (Some q) → ((k ≡ key) × (q ≡ t)) ⊎ (mid k ≡ Some (Some q))
   finished_which k q is = elim (cases_eq k key) [ inl eq ↦ inl (eq, the_key_at k q eq is) | inr n ↦ inr (in_the_middle k _ n is) ]
 
   pub begun_kept : (k q : ℕ) → old k ≡ Some (Some q) → begun k ≡ Some (Some q)
-  begun_kept k q is = elim (cases_eq k key) [ inl eq ↦ (let no : old k ≡ None = rw eq unknown in cc) | inr n ↦ start.others k n ∙ is ]
+  begun_kept k q is = elim (cases_eq k key) [ inl eq ↦ (let no : old k ≡ None = rw eq unknown in cc) | inr n ↦ set_other old begun key (Some None) start k n ∙ is ]
 
   pub begun_which : (k q : ℕ) → begun k ≡ Some (Some q) → old k ≡ Some (Some q)
-  begun_which k q is = elim (cases_eq k key) [ inl eq ↦ (let no : begun k ≡ Some None = rw eq start.here in cc) | inr n ↦ sym (start.others k n) ∙ is ]
+  begun_which k q is = elim (cases_eq k key) [ inl eq ↦ (let no : begun k ≡ Some None = rw eq (set_here old begun key (Some None) start) in cc) | inr n ↦ sym (set_other old begun key (Some None) start k n) ∙ is ]
 
 -- what is known where a shared position is entered
 pub known_entered : (w : World) (a c t : ℕ) (old begun : KeyStates) (seen : Seen) (pending : List ℕ) (e : Entry)
@@ -162,7 +165,7 @@ after_shared n t = grind arith
 
 -- A shared value under a new key: a byte of 0 follows a region of no size.
 pub writes_shared_new : (D : Definitions) (old mid new : WriterState) (ks : List Naming) (x : Value) (P : Pointee) (n : ℕ) (flavor : Flavor) (t key : ℕ) (tail : List ℕ)
-    → LaysShared D old mid key ks t P n x → new.bytes ≡ mid.bytes ++ tail → IsZeroed tail → length tail ≡ cond (nat_eq (length mid.bytes) t) 1 0 → new.states ≡ mid.states
+    → LaysOutShared D old mid key ks t P n x → new.bytes ≡ mid.bytes ++ tail → IsZeroed tail → length tail ≡ cond (nat_eq (length mid.bytes) t) 1 0 → new.states ≡ mid.states
     → Writes D old new ((key, (entry flavor (to_shared t flavor P n), x)) ∷ ks) (hole (to_shared t flavor P n)) (shared_value key)
 writes_shared_new D old mid new ks x P n flavor t key tail s more tailz taill same_states =
     let h = s.lays in
@@ -177,8 +180,8 @@ writes_shared_new D old mid new ks x P n flavor t key tail s more tailz taill sa
     let new_len : length new.bytes ≡ t + length h.region + length tail = omega (arith, ap length more, length-append mid.bytes tail, mid_len) in
     let tail_len : length tail ≡ cond (nat_eq (length h.region) 0) 1 0 = taill ∙ by_size t (length h.region) (length mid.bytes) mid_len in
     let inside : t < length new.bytes = behind (length h.region) (length tail) t tail_len new_len in
-    let finish : Sets key (Some t) m.states new.states = rw (← h.states, same_states) s.ends in
-    let pending_mid : m.states key ≡ Some None = o.states.kept key None s.begins.here in
+    let finish : IsSet m.states key (Some (Some t)) new.states = rw (← h.states, same_states) s.ends in
+    let pending_mid : m.states key ≡ Some None = o.states.kept key None (set_here old.states s.begun key (Some None) s.begins) in
     let kept_finished : (k q : ℕ) → m.states k ≡ Some (Some q) → new.states k ≡ Some (Some q)
     = finished_middle (length old.bytes) (length m.bytes) (length new.bytes) t key old.states s.begun m.states m.states new.states s.unknown s.begins o.states refl finish le lower inside in
     let early : (w : World) → Holds w D new.bytes new.states ((key, (e, x)) ∷ ks) → Holds w D m.bytes m.states ks
@@ -200,7 +203,7 @@ writes_shared_new D old mid new ks x P n flavor t key tail s more tailz taill sa
       added = o.added ++ ((h.zeros ++ h.region) ++ tail);
       grown = whole ∙ ap (λ z. z ++ ((h.zeros ++ h.region) ++ tail)) o.grown ∙ append_assoc old.bytes o.added ((h.zeros ++ h.region) ++ tail);
       states = finishes_shared (length old.bytes) (length m.bytes) (length new.bytes) t key old.states s.begun m.states m.states new.states s.unknown s.begins o.states refl finish le lower inside;
-      finished = finished_key new.states key t finish.here;
+      finished = finished_key new.states key t (set_here m.states new.states key (Some (Some t)) finish);
       appends = λ w pending seen k known unseen. (
           let size : length h.region ≡ pointee_size w.schema P n = h.sized w.schema k.knows in
           let which = begun_which (length old.bytes) (length m.bytes) (length new.bytes) t key old.states s.begun m.states m.states new.states s.unknown s.begins o.states refl finish le lower inside in
@@ -225,8 +228,8 @@ writes_shared_new D old mid new ks x P n flavor t key tail s more tailz taill sa
           })))
           known unseen first
           (finished_which (length old.bytes) (length m.bytes) (length new.bytes) t key old.states s.begun m.states m.states new.states s.unknown s.begins o.states refl finish le lower inside)
-          kept_finished finish.here k.named.0 (o.fills w (early w k)) o.finished);
-      fills = λ w k. fills_shared refl (ap pos (sym (k.placed key t finish.here)));
+          kept_finished (set_here m.states new.states key (Some (Some t)) finish) k.named.0 (o.fills w (early w k)) o.finished);
+      fills = λ w k. fills_shared refl (ap pos (sym (k.placed key t (set_here m.states new.states key (Some (Some t)) finish))));
     }
   where
     behind : (size n t : ℕ) → n ≡ cond (nat_eq size 0) 1 0 → {l : ℕ} → l ≡ t + size + n → t < l

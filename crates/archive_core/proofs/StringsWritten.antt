@@ -1,6 +1,6 @@
 -- How a string reads back, and what its text leaves behind.
-use Rattle.std.proofs.Common.{◌≡◌, ℕ, ℤ, pos, negsuc, ◌+ℤ◌, ◌+◌, ◌-◌, ◌/◌, ◌<◌, ◌≤◌, ◌^◌, List, [], ◌∷◌, ◌++◌, zero, suc, length, replicate, slice_index, refl, sym, ap, subst, ◌∙◌, arith, None, length-append, IsUtf8, Bool, true, false, nat_lt}
-use Rattle.std.specs.Prelude.{if◌then◌else◌, FitsSigned}
+use Rattle.std.proofs.Common.{◌≡◌, ℕ, ℤ, pos, negsuc, ◌+ℤ◌, ◌+◌, ◌-◌, ◌/◌, ◌<◌, ◌≤◌, ◌^◌, List, [], ◌∷◌, ◌++◌, zero, suc, length, replicate, slice_index, refl, sym, ap, subst, ◌∙◌, arith, None, length-append, IsUtf8}
+use Rattle.std.specs.Prelude.{FitsSigned}
 use Rattle.std.specs.Int.{w32, from_le_bytes, to_le_bytes, cast_signed, cast_unsigned}
 use Rattle.std.proofs.lemmas.Nat.{from_le_bytes-to_le_bytes_4}
 use Rattle.std.proofs.lemmas.Int.{to_z-of_z}
@@ -20,7 +20,8 @@ use Rattle.archive_check.proofs.StandingBytes.{stands_front, stands_back, stands
 use Rattle.archive_check.proofs.Texts.{text_no_end, text_inline, text_before}
 use Rattle.archive_core.specs.Offsets.{distance}
 use Rattle.archive_core.specs.Strings.{coded_length, inline_bytes, out_of_line_bytes, to_text, string_flat}
-use Rattle.archive_core.specs.Writing.{Resolves, Writes, Lays}
+use Rattle.archive_core.specs.Writing.{Resolves, Writes, LaysOut}
+use Rattle.archive_core.proofs.ShortTexts.{if_short, if_long}
 use Rattle.archive_core.proofs.Appending.{writes_nothing, writes_laid}
 
 -- the coded length
@@ -115,24 +116,16 @@ up_one : (n : ℕ) → up n 1 ≡ n
 up_one n = omega arith
 
 pub flat_inline : (bs : List ℕ) (t : ℕ) → length bs ≤ 8 → string_flat bs t ≡ text_value bs
-flat_inline bs t h = by_test (nat_lt 8 (length bs)) refl
-  where
-    by_test : (x : Bool) → nat_lt 8 (length bs) ≡ x → (if x then hole (to_text t (length bs)) else text_value bs) ≡ text_value bs
-    by_test true e = absurd (grind (arith, e))
-    by_test false e = refl
+flat_inline bs t h = if_short (length bs) (hole (to_text t (length bs))) (text_value bs) h
 
 pub flat_out_of_line : (bs : List ℕ) (t : ℕ) → 8 < length bs → string_flat bs t ≡ hole (to_text t (length bs))
-flat_out_of_line bs t h = by_test (nat_lt 8 (length bs)) refl
-  where
-    by_test : (x : Bool) → nat_lt 8 (length bs) ≡ x → (if x then hole (to_text t (length bs)) else text_value bs) ≡ hole (to_text t (length bs))
-    by_test true e = refl
-    by_test false e = absurd (grind (arith, e))
+flat_out_of_line bs t h = if_long (length bs) (hole (to_text t (length bs))) (text_value bs) h
 
 pub writes_inline : (D : Definitions) (told : WriterState) (bs : List ℕ) (t : ℕ) → length bs ≤ 8 → Writes D told told [] (string_flat bs t) (text_value bs)
 writes_inline D told bs t h = rw (flat_inline bs t h) (writes_nothing D told (text_value bs) refl (λ k n. elim n [ ]) (λ w. fills_text))
 
 pub lays_text : (D : Definitions) (old new : Told) (f g : KeyStates) (bs : List ℕ) (t : ℕ) → IsUtf8 bs → new.bytes ≡ old.bytes ++ bs → t ≡ length old.bytes → KeepsKeys f g
-    → Lays D (writer_state old f) (writer_state new g) [] t text (length bs) (text_value bs)
+    → LaysOut D (writer_state old f) (writer_state new g) [] t text (length bs) (text_value bs)
 lays_text D old new f g bs t u grown here keys = record {
   mid = writer_state old f;
   flat = text_value bs;
@@ -152,7 +145,7 @@ lays_text D old new f g bs t u grown here keys = record {
 }
 
 pub writes_out_of_line : (D : Definitions) (old new : WriterState) (bs : List ℕ) (t : ℕ) → 8 < length bs
-    → Lays D old new [] t text (length bs) (text_value bs) → Writes D old new [] (string_flat bs t) (text_value bs)
+    → LaysOut D old new [] t text (length bs) (text_value bs) → Writes D old new [] (string_flat bs t) (text_value bs)
 writes_out_of_line D old new bs t long h = rw (flat_out_of_line bs t long) (writes_laid D old new [] t text (length bs) (text_value bs) h)
 
 -- as the resolving functions have it

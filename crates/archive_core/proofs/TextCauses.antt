@@ -1,6 +1,5 @@
 -- How the writing of a text or a string goes on, and why it is refused.
-use Rattle.std.proofs.Common.{◌≡◌, inl, inr, ℕ, ◌<◌, ◌≤◌, List, ◌++◌, length, refl, ap, length-append, arith, Bool, true, false, nat_lt}
-use Rattle.std.specs.Prelude.{if◌then◌else◌}
+use Rattle.std.proofs.Common.{◌≡◌, inl, inr, ℕ, ◌<◌, ◌≤◌, List, ◌++◌, length, refl, ap, length-append, arith}
 use Rattle.archive_check.specs.Told.{Told, KeepsKeys}
 use Rattle.archive_check.specs.WriterState.{KeyStates}
 use Rattle.archive_check.specs.declared.error.Error.{Error}
@@ -8,21 +7,14 @@ use Rattle.archive_check.specs.declared.error.Error.TheVariants.{PositionTooLarg
 use Rattle.archive_write.specs.Written.{ExplainsRefusal}
 use Rattle.archive_core.specs.Plans.{Stand, stand, IsAt, Explains, own_cause}
 use Rattle.archive_core.specs.TextPlans.{text_plan, string_plan, HindersText, HindersString}
+use Rattle.archive_core.proofs.ShortTexts.{if_short, if_long}
 use Rattle.archive_core.proofs.Causes.{explains_write, explains_sooner}
 
 plan_inline : (bs : List ℕ) (s : Stand) → length bs ≤ 8 → string_plan bs s ≡ s
-plan_inline bs s h = by_test (nat_lt 8 (length bs)) refl
-  where
-    by_test : (b : Bool) → nat_lt 8 (length bs) ≡ b → (if b then text_plan bs s else s) ≡ s
-    by_test true e = absurd (grind (arith, e))
-    by_test false e = refl
+plan_inline bs s h = if_short (length bs) (text_plan bs s) s h
 
 plan_out_of_line : (bs : List ℕ) (s : Stand) → 8 < length bs → string_plan bs s ≡ text_plan bs s
-plan_out_of_line bs s h = by_test (nat_lt 8 (length bs)) refl
-  where
-    by_test : (b : Bool) → nat_lt 8 (length bs) ≡ b → (if b then text_plan bs s else s) ≡ text_plan bs s
-    by_test true e = refl
-    by_test false e = absurd (grind (arith, e))
+plan_out_of_line bs s h = if_long (length bs) (text_plan bs s) s h
 
 pub text_written : (bs : List ℕ) (old new : Told) (s t : KeyStates) → new.bytes ≡ old.bytes ++ bs → KeepsKeys s t → IsAt (text_plan bs (stand old s)) new t
 text_written bs old new s t grown keys = record { place = omega (arith, ap length grown, length-append old.bytes bs); keys = keys }
@@ -37,17 +29,17 @@ string_stays bs told s h = rw (plan_inline bs (stand told s) h) (record { place 
 pub string_grows : (bs : List ℕ) (old new : Told) (s t : KeyStates) → 8 < length bs → IsAt (text_plan bs (stand old s)) new t → IsAt (string_plan bs (stand old s)) new t
 string_grows bs old new s t h at = rw (plan_out_of_line bs (stand old s) h) at
 
-no_long_text : (bs : List ℕ) (s : Stand) (e : Error) → length bs ≤ 1073741823 → HindersText bs e → HindersString bs s e
-no_long_text bs s e h k = absurd (omega (arith, k.1))
+no_long_text : (bs : List ℕ) (t : ℕ) (e : Error) → length bs ≤ 1073741823 → HindersText bs e → HindersString bs t e
+no_long_text bs t e h k = absurd (omega (arith, k.1))
 
 pub string_refused : (bs : List ℕ) (old new : Told) (s : KeyStates) (e : Error) → 8 < length bs → length bs ≤ 1073741823
-    → Explains (HindersText bs) (text_plan bs (stand old s)).place old new e → Explains (HindersString bs (stand old s)) (string_plan bs (stand old s)).place old new e
-string_refused bs old new s e long few h = rw (plan_out_of_line bs (stand old s) long) (explains_sooner _ _ _ _ old new e (omega arith) (no_long_text bs (stand old s) e few) h)
+    → Explains (HindersText bs) (text_plan bs (stand old s)).place old new e → Explains (HindersString bs (length old.bytes)) (string_plan bs (stand old s)).place old new e
+string_refused bs old new s e long few h = rw (plan_out_of_line bs (stand old s) long) (explains_sooner _ _ _ _ old new e (omega arith) (no_long_text bs (length old.bytes) e few) h)
 
-pub string_too_far : (bs : List ℕ) (stop : ℕ) (old new : Told) (s : KeyStates) → 8 < length bs → 4294967295 < length old.bytes → Explains (HindersString bs (stand old s)) stop old new PositionTooLarge
+pub string_too_far : (bs : List ℕ) (stop : ℕ) (old new : Told) (s : KeyStates) → 8 < length bs → 4294967295 < length old.bytes → Explains (HindersString bs (length old.bytes)) stop old new PositionTooLarge
 string_too_far bs stop old new s long far = own_cause (inr (refl, long, far))
 
-pub string_too_long : (bs : List ℕ) (stop : ℕ) (old new : Told) (s : KeyStates) → 1073741823 < length bs → Explains (HindersString bs (stand old s)) stop old new StringTooLong
+pub string_too_long : (bs : List ℕ) (stop : ℕ) (old new : Told) (s : KeyStates) → 1073741823 < length bs → Explains (HindersString bs (length old.bytes)) stop old new StringTooLong
 string_too_long bs stop old new s long = own_cause (inl (refl, long))
 
 pub text_too_long : (bs : List ℕ) (stop : ℕ) (old new : Told) → 4294967295 < length bs → Explains (HindersText bs) stop old new LengthTooLarge

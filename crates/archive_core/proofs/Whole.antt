@@ -23,7 +23,7 @@ use Rattle.archive_check.proofs.StandingBytes.{stands_zero, zero_nowhere, stands
 use Rattle.archive_check.proofs.TidyIsClean.{regions_clean}
 use Rattle.archive_check.proofs.Tightness.{tight_append, clean_regions_append, ArePositive, positive_append, sized_append, tour_positive, tour_sized, rising_lower, tight_rises}
 use Rattle.archive_check.proofs.AcceptedWalks.{reads_of}
-use Rattle.archive_core.specs.Writing.{Naming, IsKeyed, World, Holds, Known as KnownKeys, Unseen, Found, Appends, Lays, Archives}
+use Rattle.archive_core.specs.Writing.{Naming, IsKeyed, World, Holds, Known as KnownKeys, Unseen, Found, Appends, LaysOut, Archives}
 use Rattle.archive_core.proofs.Denoting.{InTheEnd, same_in_the_end, rename_plain}
 
 abbrev position_in : Option (Option ℕ) → ℕ
@@ -33,7 +33,7 @@ position_in (Some (Some t)) = t
 
 -- where no key was known, what was laid out last is an archive
 pub archives : (D : Definitions) (old new : WriterState) (ks : List Naming) (x : Value) (X : Shape) (size root : ℕ)
-    → ((k : ℕ) → old.states k ≡ None) → IsKeyed ks x → Lays D old new ks root (one X) 0 x → root + size ≡ length new.bytes
+    → ((k : ℕ) → old.states k ≡ None) → IsKeyed ks x → LaysOut D old new ks root (one X) 0 x → root + size ≡ length new.bytes
     → Archives D old.bytes new.bytes root X size ks x
 archives D old new ks x X size root fresh keyed h end =
     let o = h.owned in
@@ -97,7 +97,7 @@ archives D old new ks x X size root fresh keyed h end =
     }
 
 pub archives_of : (r : Result ℕ Error) (D : Definitions) (old new : Told) (f g : KeyStates) (ks : List Naming) (x : Value) (X : Shape) (L : Layout) (plan : Stand)
-    → ((k : ℕ) → f k ≡ None) → IsKeyed ks x → IfOk r (λ p. Lays D (writer_state old f) (writer_state new g) ks p (one X) 0 x) → IfOk r (λ p. p ≡ region_place L plan) → OnOk r (IsAt (one_plan L plan) new g)
+    → ((k : ℕ) → f k ≡ None) → IsKeyed ks x → IfOk r (λ p. LaysOut D (writer_state old f) (writer_state new g) ks p (one X) 0 x) → IfOk r (λ p. p ≡ region_place L plan) → OnOk r (IsAt (one_plan L plan) new g)
     → IfOk r (λ root. Archives D old.bytes new.bytes root X L.size ks x)
 archives_of (Ok p) D old new f g ks x X L plan fresh keyed h there at = archives D (writer_state old f) (writer_state new g) ks x X L.size p fresh keyed h (ap (λ n. n + L.size) there ∙ sym at.place)
 archives_of (Err e) D old new f g ks x X L plan fresh keyed h there at = tt

@@ -16,9 +16,13 @@ pub record Stand : Type 0 where
 abbrev pub stand : Told → KeyStates → Stand
 stand told states = record { place = length told.bytes; states = states }
 
+-- no key is known
+abbrev pub no_keys : KeyStates
+no_keys k = None
+
 -- of what holds nothing and knows no key
 abbrev pub at_start : Stand
-at_start = record { place = 0; states = λ _. None }
+at_start = record { place = 0; states = no_keys }
 
 -- the writer stands there
 pub record IsAt (s : Stand) (told : Told) (states : KeyStates) : Type 0 where
@@ -45,21 +49,25 @@ pub data Explains (own : Error → Type 0) (stop : ℕ) (old new : Told) : Error
   device_failed : (old.failures < new.failures) ⊎ (old.failures ≡ 2 ^ 64 - 1) → Explains own stop old new WriterFailed
   own_cause : {e : Error} → own e → Explains own stop old new e
 
--- The refusals that a write may meet: of memory; of an owner's offset; of a position, a length, a number, a string's text; of the writer; of an item
--- that wrote; of a key that is pending; of a region's end.
+-- The refusals that a value may cause: of an owner's offset; of a position, a length, a number, a string's text; of an item that wrote; of a key that
+-- is pending; of a region's end.
+pub data IsOwnCause : Error → Type 0 where
+  of_isize : IsOwnCause IsizeOverflow
+  of_offset : IsOwnCause OffsetOverflow
+  of_position : IsOwnCause PositionTooLarge
+  of_length : IsOwnCause LengthTooLarge
+  of_number : IsOwnCause NumberTooLarge
+  of_string : IsOwnCause StringTooLong
+  of_item : IsOwnCause ItemWrote
+  of_key : IsOwnCause CyclicSerialize
+  of_layout : IsOwnCause LayoutTooLarge
+
+-- The refusals that a write may meet: of memory, of the writer's room and device, and those that the value causes.
 pub data IsOfWriting : Error → Type 0 where
   of_memory : IsOfWriting OutOfMemory
-  of_isize : IsOfWriting IsizeOverflow
-  of_offset : IsOfWriting OffsetOverflow
-  of_position : IsOfWriting PositionTooLarge
-  of_length : IsOfWriting LengthTooLarge
-  of_number : IsOfWriting NumberTooLarge
-  of_string : IsOfWriting StringTooLong
   of_room : {count cap position : ℕ} → IsOfWriting (BufferOverflow count cap position)
   of_device : IsOfWriting WriterFailed
-  of_item : IsOfWriting ItemWrote
-  of_key : IsOfWriting CyclicSerialize
-  of_layout : IsOfWriting LayoutTooLarge
+  of_value : {e : Error} → IsOwnCause e → IsOfWriting e
 
 -- Why a value of this layout, as a region at p, isn't resolved: its end is above `usize::MAX`, or the value's own cause at p.
 abbrev pub HindersRegion : (ℕ → Error → Type 0) → Layout → ℕ → Error → Type 0
@@ -69,13 +77,20 @@ HindersRegion own L p e = ((e ≡ LayoutTooLarge) × (2 ^ 64 ≤ p + L.size)) �
 abbrev pub region_place : Layout → Stand → ℕ
 region_place L s = up s.place L.align
 
--- Why a value isn't written with what it owns: what hinders its serialization, or the resolving with a resolver that a serialization leaves.
-abbrev pub HindersWhole : {R : Type 0} → (Error → Type 0) → (R → Type 0) → (R → ℕ → Error → Type 0) → Layout → ℕ → Error → Type 0
-HindersWhole owned left own L p e = owned e ⊎ ((r : _) × left r × HindersRegion (own r) L p e)
+-- Why a value isn't written with what it owns, by its members: what hinders its serialization, or the resolving with a resolver that a serialization
+-- answers, in the region that comes behind.
+abbrev pub HindersWhole : {R : Type 0} → (Stand → Error → Type 0) → (Stand → R → Type 0) → (R → ℕ → Error → Type 0) → (Stand → Stand) → Layout → Stand → Error → Type 0
+HindersWhole hinders answers hinders_at plan L s e =
+    hinders s e ⊎ ((r : _) × answers s r × HindersRegion (hinders_at r) L (region_place L (plan s)) e)
 
 -- where a writer stands behind the region of a value, which was to come behind what it owns
 abbrev pub one_plan : Layout → Stand → Stand
 one_plan L s = record { place = region_place L s + L.size; states = s.states }
+
+-- why it was refused there, where the keys had these states: as what is planned is, with such causes of its own
+abbrev pub ExplainsWhole : {R : Type 0} → (Stand → Error → Type 0) → (Stand → R → Type 0) → (R → ℕ → Error → Type 0) → (Stand → Stand) → Layout → KeyStates → Told → Told → Error → Type 0
+ExplainsWhole hinders answers hinders_at plan L states old new =
+    Explains (HindersWhole hinders answers hinders_at plan L (stand old states)) (one_plan L (plan (stand old states))).place old new
 
 -- a key is pending from here on
 abbrev pub begun : Stand → ℕ → Stand

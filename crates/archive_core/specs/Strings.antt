@@ -1,9 +1,10 @@
 -- The eight bytes of a string.
-use Rattle.std.specs.Prelude.{ℕ, ◌+◌, ◌-◌, ◌*◌, ◌/◌, ◌%◌, ℤ, pos, List, ◌++◌, length, replicate, None, nat_lt, if◌then◌else◌}
+use Rattle.std.specs.Prelude.{ℕ, ◌+◌, ◌-◌, ◌*◌, ◌/◌, ◌%◌, ℤ, List, ◌++◌, length, replicate, nat_lt, if◌then◌else◌}
 use Rattle.std.specs.Int.{w32, to_le_bytes, cast_unsigned}
 use Rattle.archive_check.specs.Shape.{text}
 use Rattle.archive_check.specs.Value.{Pointer, Value, text_value, hole}
 use Rattle.archive_core.specs.Offsets.{distance}
+use Rattle.archive_core.specs.Writing.{to_pointee}
 
 -- the number that codes the length of a text that stands elsewhere
 abbrev pub coded_length : ℕ → ℕ
@@ -23,7 +24,7 @@ string_form bytes p t = if nat_lt 8 (length bytes) then out_of_line_bytes (lengt
 
 -- the pointer to a text of n bytes
 abbrev pub to_text : ℕ → ℕ → Pointer
-to_text t n = record { target = pos t; sharing = None; pointee = text; length = n }
+to_text t n = to_pointee t text n
 
 -- what is read in a string's place: its text, or a hole for one that stands at t
 abbrev pub string_flat : List ℕ → ℕ → Value

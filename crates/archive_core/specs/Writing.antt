@@ -13,6 +13,7 @@ use Rattle.archive_check.specs.Reached.{Names, NamesAmong, LeadsTo}
 use Rattle.archive_check.specs.Written.{Tight, TightFrom, CleanFrom}
 use Rattle.archive_check.specs.CleanRegions.{Stands, IsZeroed, CleanValue, CleanPointee, CleanRegions}
 use Rattle.archive_check.specs.WriterState.{KeyStates, WriterState}
+use Rattle.archive_write.specs.Sharing.{IsSet}
 
 -- what each key names: flavor, pointee and length, and the value
 abbrev pub NameMap : Type 0
@@ -168,7 +169,7 @@ abbrev pub to_pointee : ℕ → Pointee → ℕ → Pointer
 to_pointee t P n = record { target = pos t; sharing = None; pointee = P; length = n }
 
 -- What a pointee owns was appended, and then its own region, which stands at p.
-pub record Lays (definitions : Definitions) (old new : WriterState) (keys : List Naming) (p : ℕ) (P : Pointee) (n : ℕ) (value : Value) : Type 0 where
+pub record LaysOut (definitions : Definitions) (old new : WriterState) (keys : List Naming) (p : ℕ) (P : Pointee) (n : ℕ) (value : Value) : Type 0 where
   pub mid : WriterState
   pub flat : Value
   pub owned : Writes definitions old mid keys flat value
@@ -187,16 +188,11 @@ pub record Lays (definitions : Definitions) (old new : WriterState) (keys : List
 abbrev pub to_shared : ℕ → Flavor → Pointee → ℕ → Pointer
 to_shared t flavor P n = record { target = pos t; sharing = Some flavor; pointee = P; length = n }
 
--- the key's state is this one now, and the others are as before
-pub record Sets (key : ℕ) (state : Option ℕ) (old new : KeyStates) : Type 0 where
-  pub here : new key ≡ Some state
-  pub others : (k : ℕ) → (k ≡ key → ⊥) → new k ≡ old k
-
 -- What an unknown key names was laid out at p, the key pending meanwhile and finished there in the end.
-pub record LaysShared (definitions : Definitions) (old new : WriterState) (key : ℕ) (keys : List Naming) (p : ℕ) (P : Pointee) (n : ℕ) (value : Value) : Type 0 where
+pub record LaysOutShared (definitions : Definitions) (old new : WriterState) (key : ℕ) (keys : List Naming) (p : ℕ) (P : Pointee) (n : ℕ) (value : Value) : Type 0 where
   pub unknown : old.states key ≡ None
   pub begun : KeyStates
-  pub begins : Sets key None old.states begun
+  pub begins : IsSet old.states key (Some None) begun
   pub laid : KeyStates
-  pub lays : Lays definitions (record { bytes = old.bytes; states = begun }) (record { bytes = new.bytes; states = laid }) keys p P n value
-  pub ends : Sets key (Some p) laid new.states
+  pub lays : LaysOut definitions (record { bytes = old.bytes; states = begun }) (record { bytes = new.bytes; states = laid }) keys p P n value
+  pub ends : IsSet laid key (Some (Some p)) new.states

@@ -11,7 +11,7 @@ ghost use Rattle.archive_check.specs.Unshared.{IsUnshared};
 ghost use Rattle.archive_check.specs.Viewed.{Says};
 ghost use Rattle.archive_check.specs.declared.error.Error.TheVariants.{CyclicDeserialize, OutOfMemory};
 ghost use Rattle.archive_check.specs.Told.{Told};
-ghost use Rattle.archive_core.specs.Plans.{stand, at_start, GoesOn, Explains, HindersWhole, region_place, one_plan, IsOfWriting};
+ghost use Rattle.archive_core.specs.Plans.{no_keys, at_start, GoesOn, HindersWhole, ExplainsWhole, IsOwnCause, IsOfWriting};
 ghost use Rattle.archive_core.specs.Writing.{Archives};
 ghost use Rattle.archive_write.specs.Sharing.{KnowsNone};
 ghost use Rattle.archive_write.specs.Written.{IsBeginning};
@@ -41,9 +41,8 @@ fn serialize_whole<W: Writer + Drop, T: Serialize<Serializer<W, Global, ()>>>(
     ensures archived { IfOk result.1 (λ root. Archives T.Archived.definitions (W.told writer).bytes (W.told result.0).bytes root T.Archived.shape T.Archived.layout.size
         (T.keys value.now) (T.meaning value.now)) }
     ensures goes_on { GoesOn (W.told writer) (W.told result.0) }
-    ensures refused { IfErr result.1 (Explains (HindersWhole (T.hinders value.now (stand (W.told writer) (λ _. None))) (T.answers value.now (stand (W.told writer) (λ _. None))) (T.hinders_at value.now)
-        T.Archived.layout (region_place T.Archived.layout (T.plan value.now (stand (W.told writer) (λ _. None)))))
-        (one_plan T.Archived.layout (T.plan value.now (stand (W.told writer) (λ _. None)))).place (W.told writer) (W.told result.0)) }
+    ensures refused { IfErr result.1 (ExplainsWhole (T.hinders value.now) (T.answers value.now) (T.hinders_at value.now) (T.plan value.now) T.Archived.layout
+        no_keys (W.told writer) (W.told result.0)) }
     ensures named { IfErr result.1 IsOfWriting }
 {
     let mut serializer = Serializer::new(writer, alloc, ());
@@ -62,9 +61,8 @@ pub fn to_bytes_in<W: Writer + Drop, T: Serialize<Serializer<W, Global, ()>>>(
         (T.keys value.now) (T.meaning value.now)) }
     ensures kept { IfOk result (λ w. IsBeginning (W.told writer).bytes (W.told w).bytes) }
     ensures goes_on { IfOk result (λ w. GoesOn (W.told writer) (W.told w)) }
-    ensures refused { IfErr result (λ e. (end : W) × GoesOn (W.told writer) (W.told end) × Explains (HindersWhole (T.hinders value.now (stand (W.told writer) (λ _. None))) (T.answers value.now (stand (W.told writer) (λ _. None))) (T.hinders_at value.now)
-        T.Archived.layout (region_place T.Archived.layout (T.plan value.now (stand (W.told writer) (λ _. None)))))
-        (one_plan T.Archived.layout (T.plan value.now (stand (W.told writer) (λ _. None)))).place (W.told writer) (W.told end) e) }
+    ensures refused { IfErr result (λ e. (end : W) × GoesOn (W.told writer) (W.told end)
+        × ExplainsWhole (T.hinders value.now) (T.answers value.now) (T.hinders_at value.now) (T.plan value.now) T.Archived.layout no_keys (W.told writer) (W.told end) e) }
     ensures named { IfErr result IsOfWriting }
 {
     let (writer, root) = serialize_whole(alloc, value, writer);
@@ -80,9 +78,9 @@ pub fn to_bytes<T: Serialize<Serializer<Vec<u8>, Global, ()>>>(
 ) -> Result<Vec<u8>, Error>
     ensures archived { IfOk result (λ bytes. (root : ℕ) × Archives T.Archived.definitions [] bytes.items root T.Archived.shape T.Archived.layout.size
         (T.keys value.now) (T.meaning value.now)) }
-    ensures refused { IfErr result (λ e. (e ≡ OutOfMemory) ⊎ HindersWhole (T.hinders value.now at_start) (T.answers value.now at_start) (T.hinders_at value.now)
-        T.Archived.layout (region_place T.Archived.layout (T.plan value.now at_start)) e) }
-    ensures named { IfErr result IsOfWriting }
+    ensures refused { IfErr result (λ e. (e ≡ OutOfMemory)
+        ⊎ HindersWhole (T.hinders value.now) (T.answers value.now) (T.hinders_at value.now) (T.plan value.now) T.Archived.layout at_start e) }
+    ensures named { IfErr result (λ e. (e ≡ OutOfMemory) ⊎ IsOwnCause e) }
 {
     let (bytes, root) = serialize_whole(alloc, value, Vec::new(alloc));
     root?;
@@ -196,7 +194,9 @@ pub fn from_bytes<T: Archive, D: Entries>(
 ) -> Result<T, Error>
 where
     T::Archived: Deserialize<T, D>,
+    ensures accepted { OnOk result (IsArchive T.Archived.definitions bytes.now (length bytes.now - T.Archived.layout.size) T.Archived.shape) }
     ensures value { IfOk result (λ t. NoEntries (D.entry_of deserializer.old) → IsValueOf T.Archived.definitions bytes.now (length bytes.now - T.Archived.layout.size) T.Archived.shape (T.meaning t)) }
+    ensures entries { OnOk result (KeepsEntries (D.entry_of deserializer.old) (D.entry_of deserializer.new)) }
     ensures refused { IfErr result (λ e. IsRefusal T.Archived.definitions bytes.now None (length bytes.now - T.Archived.layout.size) T.Archived.shape e
         ⊎ ((e ≡ CyclicDeserialize) × IsCyclic T.Archived.definitions bytes.now (D.entry_of deserializer.old) (length bytes.now - T.Archived.layout.size) T.Archived.pointee 0)) }
     ensures unshared { IsUnshared T.Archived.definitions T.Archived.shape → IfErr result (IsRefusal T.Archived.definitions bytes.now None (length bytes.now - T.Archived.layout.size) T.Archived.shape) }

@@ -41,13 +41,16 @@ pub trait Source: Native {
     /// Its archived type.
     type Format: Portable;
 
+    // The format has the size of the bytes.
     ghost same_size: { Self.Format.layout.size ≡ Self.byte_count };
 
+    // And it is their leaf.
     ghost same_shape: { Self.Format.shape ≡ leaf Self.kind };
 }
 
 /// A source that lies in an archive as it is, so that its format is itself: `()`, `bool`, `u8`, `i8`.
 pub trait Plain: Source + Portable {
+    // As a pointee it is its leaf.
     ghost same_pointee: { Self.pointee ≡ one (leaf Self.kind) };
 }
 

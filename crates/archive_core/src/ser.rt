@@ -4,8 +4,8 @@ ghost use Rattle.std.specs.Prelude.{◌≡◌, ◌+◌, ◌%◌, length, IfOk, O
 ghost use Rattle.archive_check.specs.WriterState.{writer_state};
 ghost use Rattle.archive_check.specs.Shape.{one};
 ghost use Rattle.archive_check.specs.Told.{KeepsKeys};
-ghost use Rattle.archive_core.specs.Plans.{stand, IsAt, GoesOn, Explains, HindersRegion, HindersWhole, region_place, one_plan, IsOfWriting};
-ghost use Rattle.archive_core.specs.Writing.{Fresh, Resolves, Puts, Lays};
+ghost use Rattle.archive_core.specs.Plans.{stand, IsAt, GoesOn, Explains, HindersRegion, ExplainsWhole, region_place, one_plan, IsOfWriting};
+ghost use Rattle.archive_core.specs.Writing.{Fresh, Resolves, Puts, LaysOut};
 ghost use Rattle.archive_write.specs.Sharing.{KeepsKnown};
 ghost use Rattle.archive_write.specs.Written.{IsBeginning};
 
@@ -107,15 +107,14 @@ pub fn serialize_one<S: Writer + Keys + ResolverAlloc, T: Serialize<S>>(
     value: &T,
     serializer: &mut S,
 ) -> Result<usize, Error>
-    ensures written { IfOk result (λ p. Lays T.Archived.definitions (writer_state (S.told serializer.old) (S.state_of serializer.old)) (writer_state (S.told serializer.new) (S.state_of serializer.new))
+    ensures written { IfOk result (λ p. LaysOut T.Archived.definitions (writer_state (S.told serializer.old) (S.state_of serializer.old)) (writer_state (S.told serializer.new) (S.state_of serializer.new))
         (T.keys value.now) p (one T.Archived.shape) 0 (T.meaning value.now)) }
     ensures there { IfOk result (λ p. p ≡ region_place T.Archived.layout (T.plan value.now (stand (S.told serializer.old) (S.state_of serializer.old)))) }
     ensures planned { OnOk result (IsAt (one_plan T.Archived.layout (T.plan value.now (stand (S.told serializer.old) (S.state_of serializer.old)))) (S.told serializer.new) (S.state_of serializer.new)) }
     ensures goes_on { GoesOn (S.told serializer.old) (S.told serializer.new) }
     ensures known { KeepsKnown (S.state_of serializer.old) (S.state_of serializer.new) }
-    ensures refused { IfErr result (Explains (HindersWhole (T.hinders value.now (stand (S.told serializer.old) (S.state_of serializer.old))) (T.answers value.now (stand (S.told serializer.old) (S.state_of serializer.old))) (T.hinders_at value.now)
-        T.Archived.layout (region_place T.Archived.layout (T.plan value.now (stand (S.told serializer.old) (S.state_of serializer.old)))))
-        (one_plan T.Archived.layout (T.plan value.now (stand (S.told serializer.old) (S.state_of serializer.old)))).place (S.told serializer.old) (S.told serializer.new)) }
+    ensures refused { IfErr result (ExplainsWhole (T.hinders value.now) (T.answers value.now) (T.hinders_at value.now) (T.plan value.now) T.Archived.layout
+        (S.state_of serializer.old) (S.told serializer.old) (S.told serializer.new)) }
     ensures named { IfErr result IsOfWriting }
 {
     let resolver = value.serialize(serializer)?;

@@ -3,8 +3,8 @@
 ghost use Rattle.std.specs.Prelude.{◌≡◌, ◌⊎◌, ◌≤◌, None, Option, Some, ℕ, length, IfOk, IfErr, OnErr};
 ghost use Rattle.archive_check.specs.WriterState.{writer_state};
 ghost use Rattle.archive_check.specs.Told.{KeepsKeys};
-ghost use Rattle.archive_core.specs.Plans.{stand, begun, ended, IsAt, GoesOn, Explains, HindersShared};
-ghost use Rattle.archive_core.specs.Writing.{LaysShared};
+ghost use Rattle.archive_core.specs.Plans.{stand, begun, ended, IsAt, GoesOn, Explains, HindersShared, IsOfWriting};
+ghost use Rattle.archive_core.specs.Writing.{LaysOutShared};
 ghost use Rattle.archive_write.specs.Sharing.{KeepsKnown, IsNoMisuse, known_answer};
 ghost use Rattle.archive_write.specs.Written.{IsBeginning};
 
@@ -29,7 +29,7 @@ pub trait SharingExt: Sharing + Writer {
         ensures known { (s : Option ℕ) → Self.state_of self.old key ≡ Some s → result ≡ known_answer s }
         ensures unchanged { (s : Option ℕ) → Self.state_of self.old key ≡ Some s → (Self.told self.new ≡ Self.told self.old) × KeepsKeys (Self.state_of self.old) (Self.state_of self.new) }
         ensures written { Self.state_of self.old key ≡ None → IfOk result (λ p. (length (Self.told self.old).bytes ≤ p) × (p ≤ length (Self.told self.new).bytes)) }
-        ensures laid { Self.state_of self.old key ≡ None → IfOk result (λ p. LaysShared T.Archived.definitions (writer_state (Self.told self.old) (Self.state_of self.old)) (writer_state (Self.told self.new) (Self.state_of self.new))
+        ensures laid { Self.state_of self.old key ≡ None → IfOk result (λ p. LaysOutShared T.Archived.definitions (writer_state (Self.told self.old) (Self.state_of self.old)) (writer_state (Self.told self.new) (Self.state_of self.new))
             key (T.keys value.now) p T.Archived.pointee (T.source_length value.now) (T.meaning value.now)) }
         ensures there { Self.state_of self.old key ≡ None → IfOk result (λ p. p ≡ T.planned_at value.now (begun (stand (Self.told self.old) (Self.state_of self.old)) key)) }
         ensures planned { Self.state_of self.old key ≡ None → IfOk result (λ p. IsAt (ended (T.plan value.now (begun (stand (Self.told self.old) (Self.state_of self.old)) key)) key p) (Self.told self.new) (Self.state_of self.new)) }
@@ -40,6 +40,7 @@ pub trait SharingExt: Sharing + Writer {
         ensures unfinished { OnErr result ((Self.state_of self.new key ≡ None) ⊎ (Self.state_of self.new key ≡ Some None)) }
         ensures kept { IsBeginning (Self.told self.old).bytes (Self.told self.new).bytes }
         ensures keys { KeepsKnown (Self.state_of self.old) (Self.state_of self.new) }
+        ensures named { IfErr result IsOfWriting }
         ensures no_misuse { IfErr result IsNoMisuse }
     {
         match self.start_sharing(key)? {

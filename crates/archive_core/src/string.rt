@@ -1,6 +1,7 @@
 //! Strings and texts.
 
-ghost use Rattle.std.specs.Prelude.{◌≡◌, ◌⊎◌, ◌++◌, ◌<◌, ◌≤◌, ℕ, [], OnOk, IfOk, IfErr, IsOk, IsErrOf, length, refl, string_bytes};
+ghost use Rattle.std.specs.Prelude.{◌≡◌, ◌⊎◌, ◌++◌, ◌<◌, ◌≤◌, ℕ, [], OnOk, IfOk, IfErr, IsOk, IsErrOf, FitsSigned, length, refl, string_bytes};
+ghost use Rattle.std.specs.Int.{w32};
 ghost use Rattle.std.proofs.Common.{inl, inr};
 ghost use Rattle.archive_check.specs.Shape.{str as str_shape, one, text};
 ghost use Rattle.archive_check.specs.Definitions.{no_definition};
@@ -10,7 +11,7 @@ ghost use Rattle.archive_check.specs.Readable.{string_text};
 ghost use Rattle.archive_check.specs.Value.{text_value};
 ghost use Rattle.archive_check.specs.Viewed.{Viewed, Says};
 ghost use Rattle.archive_check.specs.WriterState.{writer_state};
-ghost use Rattle.archive_check.specs.declared.error.Error.TheVariants.{OutOfMemory, StringTooLong};
+ghost use Rattle.archive_check.specs.declared.error.Error.TheVariants.{OutOfMemory, LengthTooLarge, StringTooLong};
 ghost use Rattle.archive_check.specs.Told.{KeepsKeys};
 ghost use Rattle.archive_write.specs.Sharing.{KeepsKnown, IsNoMisuse};
 ghost use Rattle.archive_write.specs.Written.{IsBeginning};
@@ -18,10 +19,9 @@ ghost use Rattle.archive_core.specs.Keyed.{text_keyed, text_forward, string_forw
 ghost use Rattle.archive_core.specs.Named.{text_named, string_named, string_at_named};
 ghost use Rattle.archive_core.specs.Offsets.{distance, IsTooFar};
 ghost use Rattle.archive_core.specs.Plans.{stand, IsAt, GoesOn, Explains};
-ghost use Rattle.archive_core.specs.Refusals.{ExplainsTextRefusal, ExplainsStringRefusal};
 ghost use Rattle.archive_core.specs.Strings.{string_form, string_flat};
-ghost use Rattle.archive_core.specs.TextPlans.{text_plan, string_plan, StringAnswers, HindersText, HindersString, HindersStringAt};
-ghost use Rattle.archive_core.specs.Writing.{Fresh, Resolves, Writes, Lays};
+ghost use Rattle.archive_core.specs.TextPlans.{text_plan, string_plan, StringAnswers, HindersText, HindersString, HindersStringAt, ExplainsTextRefusal, ExplainsStringRefusal};
+ghost use Rattle.archive_core.specs.Writing.{Fresh, Resolves, Writes, LaysOut};
 
 pub mod repr;
 
@@ -164,7 +164,7 @@ impl<'a> ArchiveUnsized for Text<'a> {
 impl<'a, S: Writer + Keys> SerializeUnsized<S> for Text<'a> {
     #[tactic(auto, using(crate::proofs::StringsWritten::lays_text, crate::proofs::TextCauses::text_written, crate::proofs::TextCauses::text_refused, crate::proofs::TextCauses::text_too_long, crate::proofs::Causes::goes_nowhere, crate::proofs::Causes::goes_written, crate::proofs::Causes::goes_refused))]
     fn serialize_unsized(&self, serializer: &mut S) -> Result<usize, Error>
-        ensures written { IfOk result (λ p. Lays no_definition (writer_state (S.told serializer.old) (S.state_of serializer.old)) (writer_state (S.told serializer.new) (S.state_of serializer.new)) [] p text (length self.now.text.now) (text_value self.now.text.now)) }
+        ensures written { IfOk result (λ p. LaysOut no_definition (writer_state (S.told serializer.old) (S.state_of serializer.old)) (writer_state (S.told serializer.new) (S.state_of serializer.new)) [] p text (length self.now.text.now) (text_value self.now.text.now)) }
         ensures position { IfOk result (λ p. (length (S.told serializer.old).bytes ≤ p) × (p ≤ length (S.told serializer.new).bytes)) }
         ensures there { IfOk result (λ p. p ≡ length (S.told serializer.old).bytes) }
         ensures planned { OnOk result (IsAt (text_plan self.now.text.now (stand (S.told serializer.old) (S.state_of serializer.old))) (S.told serializer.new) (S.state_of serializer.new)) }
@@ -175,7 +175,8 @@ impl<'a, S: Writer + Keys> SerializeUnsized<S> for Text<'a> {
         ensures no_misuse { IfErr result IsNoMisuse }
         ensures refused { IfErr result (Explains (HindersText self.now.text.now) (text_plan self.now.text.now (stand (S.told serializer.old) (S.state_of serializer.old))).place (S.told serializer.old) (S.told serializer.new)) }
         ensures keys { KeepsKeys (S.state_of serializer.old) (S.state_of serializer.new) }
-        ensures cause { IfErr result (ExplainsTextRefusal (length self.now.text.now) (S.place serializer.old) (S.told serializer.old) (S.told serializer.new)) }
+        ensures too_long { 4294967295 < length self.now.text.now → IsErrOf result LengthTooLarge × (S.told serializer.new ≡ S.told serializer.old) }
+        ensures cause { IfErr result (ExplainsTextRefusal self.now.text.now (S.place serializer.old) (S.told serializer.old) (S.told serializer.new)) }
     {
         if let Err(error) = self.archived_metadata() {
             return Err(error);
@@ -205,7 +206,7 @@ impl<D: Entries> DeserializeUnsized<String, D> for ArchivedStr {
 
 impl ArchivedString {
     /// Writes the text, if it is longer than eight bytes, and answers where. Refused with 7 exactly where it is longer than 1,073,741,823 bytes,
-    /// before anything is written, with 4 where it stands above 4,294,967,295, or as the writer refuses.
+    /// before anything is written, with 4 where it was written above 4,294,967,295, or as the writer refuses.
     #[tactic(auto, using(crate::proofs::StringsWritten::writes_inline, crate::proofs::StringsWritten::writes_out_of_line, crate::proofs::TextCauses::string_stays, crate::proofs::TextCauses::string_grows, crate::proofs::TextCauses::string_refused, crate::proofs::TextCauses::string_too_far, crate::proofs::TextCauses::string_too_long, crate::proofs::Causes::goes_nowhere, crate::proofs::Causes::goes_written, crate::proofs::Causes::goes_refused))]
     pub fn serialize_from_str<S: Writer + Keys>(
         value: &str,
@@ -215,6 +216,7 @@ impl ArchivedString {
         ensures held { OnOk result (length value.now ≤ 1073741823) }
         ensures inline { length value.now ≤ 8 → IsOk result × (S.told serializer.new ≡ S.told serializer.old) }
         ensures too_long { 1073741823 < length value.now → IsErrOf result StringTooLong × (S.told serializer.new ≡ S.told serializer.old) }
+        ensures near { 8 < length value.now → OnOk result (length (S.told serializer.old).bytes ≤ 4294967295) }
         ensures elsewhere { 8 < length value.now → IfOk result (λ r. (r ≡ length (S.told serializer.old).bytes)
             × ((S.told serializer.new).bytes ≡ (S.told serializer.old).bytes ++ value.now)) }
         ensures answered { IfOk result (λ r. StringAnswers value.now (stand (S.told serializer.old) (S.state_of serializer.old)) r) }
@@ -222,8 +224,8 @@ impl ArchivedString {
         ensures goes_on { GoesOn (S.told serializer.old) (S.told serializer.new) }
         ensures kept { IsBeginning (S.told serializer.old).bytes (S.told serializer.new).bytes }
         ensures keys { KeepsKeys (S.state_of serializer.old) (S.state_of serializer.new) }
-        ensures hindered { IfErr result (Explains (HindersString value.now (stand (S.told serializer.old) (S.state_of serializer.old))) (string_plan value.now (stand (S.told serializer.old) (S.state_of serializer.old))).place (S.told serializer.old) (S.told serializer.new)) }
-        ensures refused { IfErr result (ExplainsStringRefusal (length value.now) (S.place serializer.old) (S.told serializer.old) (S.told serializer.new)) }
+        ensures hindered { IfErr result (Explains (HindersString value.now (length (S.told serializer.old).bytes)) (string_plan value.now (stand (S.told serializer.old) (S.state_of serializer.old))).place (S.told serializer.old) (S.told serializer.new)) }
+        ensures refused { IfErr result (ExplainsStringRefusal value.now (S.place serializer.old) (S.told serializer.old) (S.told serializer.new)) }
     {
         if value.len() <= repr::INLINE_CAPACITY {
             return Ok(StringResolver { pos: 0 });
@@ -238,7 +240,7 @@ impl ArchivedString {
         Ok(StringResolver { pos })
     }
 
-    /// Writes the string's bytes over those of `place`. Refused with 2 or 3 where the offset to a long text doesn't fit; they are then unchanged.
+    /// Writes the string's bytes over those of `place`. Refused with 2 or 3 exactly where the offset to a long text doesn't fit; they are then unchanged.
     #[tactic(auto, using(crate::proofs::StringsWritten::resolves_inline_flat, crate::proofs::StringsWritten::resolves_out_of_line_flat))]
     pub fn resolve_from_str(
         value: &str,
@@ -250,6 +252,7 @@ impl ArchivedString {
         ensures resolved { OnOk result (Resolves no_definition place.entry.pos place.exit.0.now str_shape (string_flat value.now resolver)) }
         ensures written { OnOk result (place.exit.0.now ≡ string_form value.now place.entry.pos resolver) }
         ensures inline { length value.now ≤ 8 → IsOk result }
+        ensures fits { 8 < length value.now → OnOk result (FitsSigned w32 (distance place.entry.pos resolver)) }
         ensures refused { IfErr result (λ e. (place.exit.0.now ≡ place.entry.bytes.now) × IsTooFar e (distance place.entry.pos resolver)) }
         ensures same_length { length place.exit.0.now ≡ length place.entry.bytes.now }
     {
@@ -279,7 +282,7 @@ impl Archive for String {
 
     ghost answers = { λ s at r. StringAnswers (string_bytes s) at r };
 
-    ghost hinders = { λ s at e. HindersString (string_bytes s) at e };
+    ghost hinders = { λ s at e. HindersString (string_bytes s) at.place e };
 
     ghost hinders_at = { λ s r p e. HindersStringAt (string_bytes s) r p e };
 
@@ -287,7 +290,7 @@ impl Archive for String {
 
     ghost forward = { λ s at. string_forward (string_bytes s) at };
 
-    ghost named = { λ s at e h. string_named (string_bytes s) at e h };
+    ghost named = { λ s at e h. string_named (string_bytes s) at.place e h };
 
     ghost named_at = { λ s r p e h. string_at_named (string_bytes s) r p e h };
 
@@ -319,12 +322,12 @@ impl<S: Writer + Keys> Serialize<S> for String {
         ensures kept { IsBeginning (S.told serializer.old).bytes (S.told serializer.new).bytes }
         ensures known { KeepsKnown (S.state_of serializer.old) (S.state_of serializer.new) }
         ensures no_misuse { IfErr result IsNoMisuse }
-        ensures refused { IfErr result (Explains (HindersString (string_bytes self.now) (stand (S.told serializer.old) (S.state_of serializer.old))) (string_plan (string_bytes self.now) (stand (S.told serializer.old) (S.state_of serializer.old))).place (S.told serializer.old) (S.told serializer.new)) }
+        ensures refused { IfErr result (Explains (HindersString (string_bytes self.now) (length (S.told serializer.old).bytes)) (string_plan (string_bytes self.now) (stand (S.told serializer.old) (S.state_of serializer.old))).place (S.told serializer.old) (S.told serializer.new)) }
         ensures keys { KeepsKeys (S.state_of serializer.old) (S.state_of serializer.new) }
         ensures inline { length (string_bytes self.now) ≤ 8 → IsOk result × (S.told serializer.new ≡ S.told serializer.old) }
         ensures elsewhere { 8 < length (string_bytes self.now) → IfOk result (λ r. (r ≡ length (S.told serializer.old).bytes)
             × ((S.told serializer.new).bytes ≡ (S.told serializer.old).bytes ++ string_bytes self.now)) }
-        ensures cause { IfErr result (ExplainsStringRefusal (length (string_bytes self.now)) (S.place serializer.old) (S.told serializer.old) (S.told serializer.new)) }
+        ensures cause { IfErr result (ExplainsStringRefusal (string_bytes self.now) (S.place serializer.old) (S.told serializer.old) (S.told serializer.new)) }
     {
         ArchivedString::serialize_from_str(self.as_str(), serializer)
     }

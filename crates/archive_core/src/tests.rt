@@ -252,40 +252,27 @@ fn strings_that_are_refused(rt: HostRuntime) {
 #[test]
 fn a_root_lies_where_it_is_said_to(rt: HostRuntime) -> Result<(), Fail> {
     let bytes = b"\x00\x01\x02\x03\x04".as_slice();
-    let rows = [
-        (
-            8,
-            Error::InvalidSubtreePointer {
-                position: 8,
-                size: 4,
-                start: 0,
-                end: 5,
-            },
-        ),
-        (
-            4,
-            Error::InvalidSubtreePointer {
-                position: 4,
-                size: 4,
-                start: 0,
-                end: 5,
-            },
-        ),
-        (
-            1,
-            Error::UnalignedPointer {
-                position: 1,
-                align: 4,
-            },
-        ),
-    ];
-    for (pos, refusal) in rows {
+    for pos in [8, 4] {
+        let refusal = Error::InvalidSubtreePointer {
+            position: pos as i128,
+            size: 4,
+            start: 0,
+            end: 5,
+        };
         assert_eq!(rt;
             access_pos::<ArchivedU32>(rt.alloc(), bytes, pos).err(),
             Some(refusal),
             "at {pos}"
         );
     }
+    let refusal = Error::UnalignedPointer {
+        position: 1,
+        align: 4,
+    };
+    assert_eq!(rt;
+        access_pos::<ArchivedU32>(rt.alloc(), bytes, 1).err(),
+        Some(refusal)
+    );
     assert_eq!(rt;
         access_pos::<ArchivedU32>(rt.alloc(), bytes, 0)?.get(),
         0x03020100
@@ -587,9 +574,8 @@ impl Portable for ArchivedSevens {
         4
     }
 
-    // No expression says so much yet.
-    fn expr(_alloc: Global) -> Result<Expr, Error> {
-        Err(Error::OutOfMemory)
+    fn expr(alloc: Global) -> Result<Expr, Error> {
+        Ok(Expr::Array(25, Box::new(alloc, ArchivedU32::expr(alloc)?)?))
     }
 
     fn define(_alloc: Global, _defs: &mut Defs) -> Result<(), Error> {
@@ -647,5 +633,9 @@ fn a_large_region_is_resolved_on_the_heap(rt: HostRuntime) -> Result<(), Fail> {
     assert_eq!(rt; writer.resolve_aligned(rt.alloc(), &Sevens, ())?, 4);
     assert_eq!(rt; writer.len(), 104);
     assert!(rt; writer.iter().skip(4).all(|byte| *byte == 7));
+    assert_eq!(rt;
+        access::<ArchivedSevens>(rt.alloc(), writer.as_slice())?.pos(),
+        4
+    );
     Ok(())
 }

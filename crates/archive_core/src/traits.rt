@@ -7,8 +7,8 @@ ghost use Rattle.archive_check.specs.Viewed.{Viewed, Says};
 ghost use Rattle.archive_check.specs.WriterState.{writer_state};
 ghost use Rattle.archive_check.specs.declared.error.Error.TheVariants.{OutOfMemory, CyclicDeserialize, LengthTooLarge};
 ghost use Rattle.archive_check.specs.declared.error.Error.{Error as ErrorOf};
-ghost use Rattle.archive_core.specs.Plans.{Stand, stand, IsAt, GoesOn, Explains, IsOfWriting};
-ghost use Rattle.archive_core.specs.Writing.{Naming, IsKeyed, Fresh, Resolves, Writes, Lays};
+ghost use Rattle.archive_core.specs.Plans.{Stand, stand, IsAt, GoesOn, Explains, IsOwnCause};
+ghost use Rattle.archive_core.specs.Writing.{Naming, IsKeyed, Fresh, Resolves, Writes, LaysOut};
 ghost use Rattle.archive_write.specs.Sharing.{KeepsKnown, IsNoMisuse};
 ghost use Rattle.archive_write.specs.Written.{IsBeginning};
 
@@ -71,13 +71,17 @@ pub trait Archive {
         ensures same_length { length place.exit.0.now ≡ length place.entry.bytes.now }
         ensures refused { IfErr result (hinders_at self.now resolver place.entry.pos) };
 
+    // The names in what it means are among its keys.
     ghost keyed: { (v : Self) → IsKeyed (keys v) (meaning v) };
 
+    // A writer doesn't go back.
     ghost forward: { (v : Self) (s : Stand) → s.place ≤ (plan v s).place };
 
-    ghost named: { (v : Self) (s : Stand) (e : ErrorOf) → hinders v s e → IsOfWriting e };
+    // What hinders it is a cause of the value's own, and no want of memory or room, nor a failing device.
+    ghost named: { (v : Self) (s : Stand) (e : ErrorOf) → hinders v s e → IsOwnCause e };
 
-    ghost named_at: { (v : Self) (r : Self.Resolver) (p : ℕ) (e : ErrorOf) → hinders_at v r p e → IsOfWriting e };
+    // And so is what hinders its resolving.
+    ghost named_at: { (v : Self) (r : Self.Resolver) (p : ℕ) (e : ErrorOf) → hinders_at v r p e → IsOwnCause e };
 }
 
 /// A source that can be serialized to an `S`.
@@ -153,11 +157,14 @@ pub trait ArchiveUnsized {
         ensures refused { IfErr result (λ e. (e ≡ LengthTooLarge) × (4294967295 < source_length self.now)) }
         ensures too_long { 4294967295 < source_length self.now → IsErr result };
 
+    // The names in what it means are among its keys.
     ghost keyed: { (v : Self) → IsKeyed (keys v) (meaning v) };
 
+    // A writer doesn't go back.
     ghost forward: { (v : Self) (s : Stand) → s.place ≤ (plan v s).place };
 
-    ghost named: { (v : Self) (s : Stand) (e : ErrorOf) → hinders v s e → IsOfWriting e };
+    // What hinders it is a cause of the value's own, and no want of memory or room, nor a failing device.
+    ghost named: { (v : Self) (s : Stand) (e : ErrorOf) → hinders v s e → IsOwnCause e };
 }
 
 /// A source that can be serialized to an `S` as a region of its own.
@@ -166,7 +173,7 @@ pub trait SerializeUnsized<S: Writer + Keys>: ArchiveUnsized {
     /// refuses, or with 1 where memory is refused; never with 14 or 15. After a refusal, too, the bytes from before are a beginning of those that
     /// `serializer` holds, and each key that was known keeps its state.
     fn serialize_unsized(&self, serializer: &mut S) -> Result<usize, Error>
-        ensures written { IfOk result (λ p. Lays Self.Archived.definitions (writer_state (S.told serializer.old) (S.state_of serializer.old)) (writer_state (S.told serializer.new) (S.state_of serializer.new))
+        ensures written { IfOk result (λ p. LaysOut Self.Archived.definitions (writer_state (S.told serializer.old) (S.state_of serializer.old)) (writer_state (S.told serializer.new) (S.state_of serializer.new))
             (Self.keys self.now) p Self.Archived.pointee (Self.source_length self.now) (Self.meaning self.now)) }
         ensures position { IfOk result (λ p. (length (S.told serializer.old).bytes ≤ p) × (p ≤ length (S.told serializer.new).bytes)) }
         ensures there { IfOk result (λ p. p ≡ Self.planned_at self.now (stand (S.told serializer.old) (S.state_of serializer.old))) }

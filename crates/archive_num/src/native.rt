@@ -59,22 +59,31 @@ pub trait Native: Copy + Ord + Hash {
         requires legal { are_legal bytes.now }
         ensures { result ≡ number_of bytes.now };
 
+    // So many bytes as the leaf has.
     ghost size_law: { kind_size kind ≡ byte_count };
 
+    // Each value has so many.
     ghost length_law: { (x : Self) → length (bytes_of x) ≡ byte_count };
 
+    // They are bytes.
     ghost bytes_law: { (x : Self) → AreBytes (bytes_of x) };
 
+    // Bytes that are legal for the leaf stand for a value.
     ghost kind_law: { (bs : List ℕ) → ∥ IsLegal kind bs ∥₁ → are_legal bs };
 
+    // A value's bytes stand for one.
     ghost legal_law: { (x : Self) → fits x → are_legal (bytes_of x) };
 
+    // They are legal for the leaf.
     ghost leaf_law: { (x : Self) → fits x → IsLegal kind (bytes_of x) };
 
+    // The bytes of a value stand for that value.
     ghost number_law: { (x : Self) → fits x → number_of (bytes_of x) ≡ x };
 
+    // And the value that bytes stand for has those bytes.
     ghost reads_law: { (bs : List ℕ) → length bs ≡ byte_count → AreBytes bs → are_legal bs → bytes_of (number_of bs) ≡ bs };
 
+    // What the definitions read in a leaf's bytes is the value that they stand for.
     ghost value_law: { (bs : List ℕ) → IsLegal kind bs → value_of (number_of bs) ≡ kind_value kind bs };
 }
 
@@ -95,5 +104,6 @@ pub trait Integer: Native {
     fn is_zero(self) -> bool
         ensures { result ≡ is_zero (Self.value_of self) };
 
+    // Its leaf is the number of that sign and width.
     ghost integer_law: { Self.kind ≡ number sign width };
 }

@@ -51,54 +51,45 @@ fn values_and_their_bytes(rt: HostRuntime) -> Result<(), Fail> {
 }
 
 #[test]
-fn the_least_and_the_greatest_come_back(rt: HostRuntime) -> Result<(), Fail> {
-    let mut one = [7];
-    let mut two = [7; 2];
-    let mut four = [7; 4];
-    let mut eight = [7; 8];
-    let mut sixteen = [7; 16];
+fn the_least_and_the_greatest_with_a_sign_come_back(rt: HostRuntime) -> Result<(), Fail> {
     for number in [i8::MIN, -1, i8::MAX] {
-        assert_eq!(rt; again(number, &mut one), number);
+        assert_eq!(rt; again(number, &mut [7]), number);
     }
     for number in [i16::MIN, -1, i16::MAX] {
-        assert_eq!(rt; again(number, &mut two), number);
+        assert_eq!(rt; again(number, &mut [7; 2]), number);
     }
     for number in [i32::MIN, -1, i32::MAX] {
-        assert_eq!(rt; again(number, &mut four), number);
+        assert_eq!(rt; again(number, &mut [7; 4]), number);
     }
     for number in [i64::MIN, -1, i64::MAX] {
-        assert_eq!(rt; again(number, &mut eight), number);
+        assert_eq!(rt; again(number, &mut [7; 8]), number);
     }
     for number in [i128::MIN, -1, i128::MAX] {
-        assert_eq!(rt; again(number, &mut sixteen), number);
+        assert_eq!(rt; again(number, &mut [7; 16]), number);
     }
-    assert_eq!(rt;
-        (again(u8::MIN, &mut one), again(u8::MAX, &mut one)),
-        (u8::MIN, u8::MAX)
-    );
-    assert_eq!(rt;
-        (again(u16::MIN, &mut two), again(u16::MAX, &mut two)),
-        (u16::MIN, u16::MAX)
-    );
-    assert_eq!(rt;
-        (again(u32::MIN, &mut four), again(u32::MAX, &mut four)),
-        (u32::MIN, u32::MAX)
-    );
-    assert_eq!(rt;
-        (again(u64::MIN, &mut eight), again(u64::MAX, &mut eight)),
-        (u64::MIN, u64::MAX)
-    );
-    assert_eq!(rt;
-        (
-            again(u128::MIN, &mut sixteen),
-            again(u128::MAX, &mut sixteen)
-        ),
-        (u128::MIN, u128::MAX)
-    );
-    assert_eq!(rt;
-        (again('\0', &mut four), again(char::MAX, &mut four)),
-        ('\0', char::MAX)
-    );
+    Ok(())
+}
+
+#[test]
+fn the_least_and_the_greatest_without_a_sign_come_back(rt: HostRuntime) -> Result<(), Fail> {
+    for number in [u8::MIN, u8::MAX] {
+        assert_eq!(rt; again(number, &mut [7]), number);
+    }
+    for number in [u16::MIN, u16::MAX] {
+        assert_eq!(rt; again(number, &mut [7; 2]), number);
+    }
+    for number in [u32::MIN, u32::MAX] {
+        assert_eq!(rt; again(number, &mut [7; 4]), number);
+    }
+    for number in [u64::MIN, u64::MAX] {
+        assert_eq!(rt; again(number, &mut [7; 8]), number);
+    }
+    for number in [u128::MIN, u128::MAX] {
+        assert_eq!(rt; again(number, &mut [7; 16]), number);
+    }
+    for number in ['\0', char::MAX] {
+        assert_eq!(rt; again(number, &mut [7; 4]), number);
+    }
     Ok(())
 }
 

@@ -1,5 +1,6 @@
 -- What a write does to a writer.
-use Rattle.std.specs.Prelude.{◌≡◌, ℕ, ◌+◌, ◌-◌, ◌^◌, ◌<◌, ◌≤◌, ◌⊎◌, ◌%◌, List, ◌++◌, length, Option, Some, None, IsSomeAnd, ⊤}
+use Rattle.std.specs.Prelude.{◌≡◌, ℕ, ◌+◌, ◌-◌, ◌^◌, ◌<◌, ◌≤◌, ◌⊎◌, List, ◌++◌, length, Option, Some, None, IsSomeAnd, ⊤}
+use Rattle.archive_check.specs.Layout.{up}
 use Rattle.archive_check.specs.declared.error.Error.{Error}
 use Rattle.archive_check.specs.declared.error.Error.TheVariants.{OutOfMemory, BufferOverflow, WriterFailed}
 
@@ -21,6 +22,6 @@ ExplainsRefusal n place room before after (BufferOverflow write_len cap len) =
 ExplainsRefusal n place room before after WriterFailed = (before < after) ⊎ (before ≡ 2 ^ 64 - 1)
 ExplainsRefusal n place room before after _ = ⊥
 
--- how many bytes stand between n and the next multiple of a
+-- how many bytes stand between n and the next multiple of a, none where n is one
 abbrev pub padding : ℕ → ℕ → ℕ
-padding a n = (a - n % a) % a
+padding a n = up n a - n

@@ -154,6 +154,7 @@ impl Native for char {
     }
 
     fn read_from(bytes: &[u8]) -> char {
+        // SAFETY: the contract asks for the bytes of a scalar value.
         unsafe { char::from_u32_unchecked(u32::read_from(bytes)) }
     }
 }

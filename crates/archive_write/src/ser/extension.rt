@@ -9,6 +9,16 @@ use crate::ser::Writer;
 use archive_check::error::Error;
 use archive_check::traits::Portable;
 
+// How many zeros stand between a position and the next multiple of an alignment.
+fn zeros_due(pos: usize, align: usize) -> usize
+    requires { 0 < align }
+    ensures due { result ≡ padding align pos }
+    ensures few { result < align }
+{
+    let past = pos % align;
+    (align - past) % align
+}
+
 /// What every writer can do besides. Refusals are those of the writer.
 pub trait WriterExt: Writer {
     /// Writes `n` zeros.
@@ -43,8 +53,7 @@ pub trait WriterExt: Writer {
         ensures keys { KeepsKeys (Self.state_of self.old) (Self.state_of self.new) }
         ensures memory { IsErrOf result Error.OutOfMemory → IsTrue Self.takes_memory }
     {
-        let past = self.pos() % align;
-        self.pad((align - past) % align)?;
+        self.pad(zeros_due(self.pos(), align))?;
         Ok(self.pos())
     }
 

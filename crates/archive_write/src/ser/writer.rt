@@ -24,8 +24,8 @@ pub trait Writer: Positional + Keys {
     ghost takes_memory: { Bool };
 
     /// Appends `bytes`. Refused with 1 where memory is refused, never where a write takes none; with 8 only where its room is less; and with 9 only
-    /// where its device fails in this call or has failed `u64::MAX` times. After a refusal it holds a beginning of what it was to hold, and the
-    /// shared keys are as before.
+    /// where its device fails in this call or has failed `u64::MAX` times. After a refusal the bytes from before are a beginning of those that it
+    /// holds. The shared keys are as before.
     fn write(&mut self, bytes: &[u8]) -> Result<(), Error>
         ensures written { OnOk result ((Self.told self.new).bytes ≡ (Self.told self.old).bytes ++ bytes.now) }
         ensures kept { OnErr result (IsBeginning (Self.told self.old).bytes (Self.told self.new).bytes) }
@@ -35,6 +35,7 @@ pub trait Writer: Positional + Keys {
         ensures keys { KeepsKeys (Self.state_of self.old) (Self.state_of self.new) }
         ensures memory { IsErrOf result Error.OutOfMemory → IsTrue takes_memory };
 
+    // It stands behind the bytes that it tells.
     ghost place_law: { (w : Self) → Self.place w ≡ length (Self.told w).bytes };
 }
 
