@@ -6,7 +6,7 @@ ghost use Rattle.std.specs.FinMap.{empty};
 ghost use Rattle.archive_check.specs.declared.error.Error.TheVariants.{OutOfMemory};
 ghost use Rattle.archive_check.specs.declared.plan.Job.TheVariants.{Str};
 ghost use Rattle.archive_check.specs.declared.plan.Target.TheVariants.{One, Text};
-ghost use Rattle.archive_check.specs.declared.work.Work.TheVariants.{Part as PartWork};
+ghost use Rattle.archive_check.specs.declared.work.Work.TheVariants.{Part as PartWork, Parts as PartsWork};
 ghost use Rattle.archive_check.specs.declared.plan.Part.{Part};
 ghost use Rattle.archive_check.specs.Tour.{Seen};
 ghost use Rattle.archive_check.specs.Trail.{Fault};
@@ -305,7 +305,34 @@ impl Checker<'_> {
         }
     }
 
+    /// Opens the first of the parts from `first` up to `last` that is to be opened, of what begins at `base`, and leaves the others.
+    #[cycle(open)]
+    fn open_parts<C: ArchiveContext + SharedContext>(
+        &self,
+        first: usize,
+        last: usize,
+        base: usize,
+        work: &mut Worklist,
+        context: &mut C,
+    ) -> Option<()>
+        requires closed { IsClosed self.now }
+        requires marked { IsMarked self.now }
+        requires ready { Ready self.now (C.state context.old) (PartsWork first last base ∷ list_of work.old) }
+        ensures ready { OnSome result (Ready self.now (C.state context.new) (list_of work.new)) }
+        ensures runs { Keeps self.now (Listing self.now) (stage (C.state context.old) (C.positions context.old) (PartsWork first last base ∷ list_of work.old)) (stage (C.state context.new) (C.positions context.new) (list_of work.new)) result work.new.fault }
+        ensures ends { OnSome result (cost self.now (C.state context.new).end (list_of work.new) < cost self.now (C.state context.old).end (PartsWork first last base ∷ list_of work.old)) }
+    {
+        let next = self.skip(first, last, base);
+        if next >= last {
+            return Some(());
+        }
+        let part = self.parts[next];
+        work.more_parts(next + 1, last, base)?;
+        self.open(part.node, base + part.offset, work, context)
+    }
+
     /// Opens the node at `at`.
+    #[cycle(open)]
     fn open<C: ArchiveContext + SharedContext>(
         &self,
         node: usize,
@@ -325,14 +352,16 @@ impl Checker<'_> {
         }
         let here = self.nodes[node];
         match here.job {
-            Job::Free | Job::Leaf(_) | Job::Str { .. } => self.check_shallow(node, at, work, context),
-            Job::Record { first, last } => work.parts(first, last, at),
+            Job::Free | Job::Leaf(_) | Job::Str { .. } => self.check_shallow(
+                node, at, work, context,
+            ),
+            Job::Record { first, last } => self.open_parts(first, last, at, work, context),
             Job::Choice { name, first, last } => {
                 let Some(variant) = self.variant(first, last, at) else {
                     let value = self.bytes[at];
                     return work.refuse(Error::InvalidDiscriminant { name, value });
                 };
-                work.parts(variant.first, variant.last, at)
+                self.open_parts(variant.first, variant.last, at, work, context)
             }
             Job::Array { count, element } => work.elements(element, count, at),
             Job::Pointer { target, pointee } => {
@@ -374,15 +403,7 @@ impl Checker<'_> {
     {
         match entry {
             Work::Part { node, at } => self.open(node, at, work, context),
-            Work::Parts { first, last, base } => {
-                let next = self.skip(first, last, base);
-                if next >= last {
-                    return Some(());
-                }
-                let part = self.parts[next];
-                work.more_parts(next + 1, last, base)?;
-                self.open(part.node, base + part.offset, work, context)
-            }
+            Work::Parts { first, last, base } => self.open_parts(first, last, base, work, context),
             Work::Elements { node, left, at } => {
                 let element = self.nodes[node];
                 if let Job::Free = element.job {

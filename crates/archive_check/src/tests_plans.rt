@@ -3,9 +3,9 @@
 use crate::defs::Def;
 use crate::error::Error;
 use crate::expr::{Expr, FlavorInfo, IntegerKind, Kind, Pointee};
-use crate::shallow::shallow_nodes;
 use crate::growing::is_free;
 use crate::plan::Plan;
+use crate::shallow::shallow_nodes;
 use std::alloc::{AllocError, Global};
 use std::test::Fail;
 

@@ -13,93 +13,6 @@ use Rattle.archive_check.proofs.PassedParts.{skip_all, skip_leads, skip_ready, s
 use Rattle.archive_check.proofs.PassedElements.{takes_size, pass_all, pass_leads, pass_ready, pass_costs}
 use Rattle.archive_check.proofs.plan.Checker.step.Goals as goal
 
-pub returns-then-next-last-clause-runs : goal.returns-then-next-last-clause-runs
-returns-then-next-last-clause-runs g c =
-    let m = c.args.self.now in
-    let st = g.C.Context.state in
-    let met = g.C.Context.positions in
-    let s = st c.args.context.now in
-    let seen = met c.args.context.now in
-    let old = list_of c.args.work.now in
-    rw c.in-Parts.is (skip_all m c.in-Parts.base old s seen c.in-Parts.first c.in-Parts.last c.skip-next.result c.skip-next.ensures.skipped c.skip-next.ensures.below c.if-next-last.true, tt)
-
-pub returns-then-next-last-clause-ends : goal.returns-then-next-last-clause-ends
-returns-then-next-last-clause-ends g c =
-    rw c.in-Parts.is (falls_none _ _)
-
-pub overflow_add-base : goal.overflow_add-base
-overflow_add-base g c =
-    let m = c.args.self.now in
-    let st = g.C.Context.state in
-    let met = g.C.Context.positions in
-    let s = st c.args.context.now in
-    let seen = met c.args.context.now in
-    let old = list_of c.args.work.now in
-    let r0 = rw c.in-Parts.is at c.requires.ready in
-    let from = c.skip-next.ensures.above c.if-next-last.false in
-    let r = skip_ready m c.in-Parts.base old s seen c.in-Parts.first c.in-Parts.last c.skip-next.result c.skip-next.ensures.skipped r0 from c.skip-next.ensures.below in
-    let x = slice_index_or m.parts.now c.skip-next.result (record { offset = 0; node = 0 }) in
-    let at = at_default m.parts.now c.skip-next.result (record { offset = 0; node = 0 }) (omega (arith, r.fits.0.last, c.if-next-last.false)) in
-    let h = part_room m s seen old old c.skip-next.result c.in-Parts.last c.in-Parts.base x r c.if-next-last.false at in search rules
-
-pub open-requires-in-Parts-clause-ready : goal.open-requires-in-Parts-clause-ready
-open-requires-in-Parts-clause-ready g c =
-    let m = c.args.self.now in
-    let st = g.C.Context.state in
-    let met = g.C.Context.positions in
-    let s = st c.args.context.now in
-    let seen = met c.args.context.now in
-    let old = list_of c.args.work.now in
-    let r0 = rw c.in-Parts.is at c.requires.ready in
-    let from = c.skip-next.ensures.above c.if-next-last.false in
-    let r = skip_ready m c.in-Parts.base old s seen c.in-Parts.first c.in-Parts.last c.skip-next.result c.skip-next.ensures.skipped r0 from c.skip-next.ensures.below in
-    let x = slice_index_or m.parts.now c.skip-next.result (record { offset = 0; node = 0 }) in
-    let at = at_default m.parts.now c.skip-next.result (record { offset = 0; node = 0 }) (omega (arith, r.fits.0.last, c.if-next-last.false)) in
-    let rest = list_of c.more_parts.new.self in
-    let new = PartWork x.node (c.in-Parts.base + x.offset) ∷ rest in
-    let e = c.in_ok-more_parts-in-Parts.ensures.some in
-    part_ready m s seen old rest c.skip-next.result c.in-Parts.last c.in-Parts.base x r c.if-next-last.false at e
-
-pub returns-in_ok-more_parts-in-Parts-clause-runs : goal.returns-in_ok-more_parts-in-Parts-clause-runs
-returns-in_ok-more_parts-in-Parts-clause-runs g c =
-    let m = c.args.self.now in
-    let st = g.C.Context.state in
-    let met = g.C.Context.positions in
-    let s = st c.args.context.now in
-    let seen = met c.args.context.now in
-    let old = list_of c.args.work.now in
-    let r0 = rw c.in-Parts.is at c.requires.ready in
-    let from = c.skip-next.ensures.above c.if-next-last.false in
-    let r = skip_ready m c.in-Parts.base old s seen c.in-Parts.first c.in-Parts.last c.skip-next.result c.skip-next.ensures.skipped r0 from c.skip-next.ensures.below in
-    let x = slice_index_or m.parts.now c.skip-next.result (record { offset = 0; node = 0 }) in
-    let at = at_default m.parts.now c.skip-next.result (record { offset = 0; node = 0 }) (omega (arith, r.fits.0.last, c.if-next-last.false)) in
-    let rest = list_of c.more_parts.new.self in
-    let new = PartWork x.node (c.in-Parts.base + x.offset) ∷ rest in
-    let e = c.in_ok-more_parts-in-Parts.ensures.some in
-    rw c.in-Parts.is (then_keeps m (stage s seen (Parts c.in-Parts.first c.in-Parts.last c.in-Parts.base ∷ old)) (stage s seen (Parts c.skip-next.result c.in-Parts.last c.in-Parts.base ∷ old)) (stage (st c.open-in-Parts.new.context) (met c.open-in-Parts.new.context) (list_of c.open-in-Parts.new.work)) c.open-in-Parts.result c.open-in-Parts.new.work.fault
-    (skip_leads m c.in-Parts.base old s seen c.in-Parts.first c.in-Parts.last c.skip-next.result c.skip-next.ensures.skipped from c.skip-next.ensures.below)
-    (then_keeps m (stage s seen (Parts c.skip-next.result c.in-Parts.last c.in-Parts.base ∷ old)) (stage s seen new) (stage (st c.open-in-Parts.new.context) (met c.open-in-Parts.new.context) (list_of c.open-in-Parts.new.work)) c.open-in-Parts.result c.open-in-Parts.new.work.fault (part_leads m s seen old rest c.skip-next.result c.in-Parts.last c.in-Parts.base x c.if-next-last.false at e) c.open-in-Parts.ensures.runs))
-
-pub returns-in_ok-more_parts-in-Parts-clause-ends : goal.returns-in_ok-more_parts-in-Parts-clause-ends
-returns-in_ok-more_parts-in-Parts-clause-ends g c =
-    let m = c.args.self.now in
-    let st = g.C.Context.state in
-    let met = g.C.Context.positions in
-    let s = st c.args.context.now in
-    let seen = met c.args.context.now in
-    let old = list_of c.args.work.now in
-    let r0 = rw c.in-Parts.is at c.requires.ready in
-    let from = c.skip-next.ensures.above c.if-next-last.false in
-    let r = skip_ready m c.in-Parts.base old s seen c.in-Parts.first c.in-Parts.last c.skip-next.result c.skip-next.ensures.skipped r0 from c.skip-next.ensures.below in
-    let x = slice_index_or m.parts.now c.skip-next.result (record { offset = 0; node = 0 }) in
-    let at = at_default m.parts.now c.skip-next.result (record { offset = 0; node = 0 }) (omega (arith, r.fits.0.last, c.if-next-last.false)) in
-    let rest = list_of c.more_parts.new.self in
-    let new = PartWork x.node (c.in-Parts.base + x.offset) ∷ rest in
-    let e = c.in_ok-more_parts-in-Parts.ensures.some in
-    let less = skip_costs m c.in-Parts.base old (c.skip-next.result - c.in-Parts.first) c.in-Parts.first c.in-Parts.last c.skip-next.result s.end (omega arith) c.skip-next.ensures.below r.fits.0.last in
-    let falls = part_ends m s seen old rest c.skip-next.result c.in-Parts.last c.in-Parts.base x c.if-next-last.false r.fits.0.last r.fits.0.few at e in
-    rw c.in-Parts.is (then_falls c.open-in-Parts.result _ _ _ (under _ _ _ falls less) c.open-in-Parts.ensures.ends)
-
 pub returns-in-Free-clause-runs : goal.returns-in-Free-clause-runs
 returns-in-Free-clause-runs g c =
     let m = c.args.self.now in
@@ -263,3 +176,7 @@ returns-in_default-finish_shared-clause-runs g c =
     let old = list_of c.args.work.now in
     let at : to_z w128 c.in-Finish.at ≡ pos c.in-Finish.at = to_z_pos w128 c.in-Finish.at (omega arith) in
     rw c.in-Finish.is (finish_leads m s seen old (st c.finish_shared.new.self) (met c.finish_shared.new.self) c.in-Finish.sort c.in-Finish.at (to_z w128 c.in-Finish.at) at c.in_default-finish_shared.ensures.range c.in_default-finish_shared.ensures.finished, tt)
+
+pub returns-in-Parts-clause-runs : goal.returns-in-Parts-clause-runs
+returns-in-Parts-clause-runs g c =
+    rw c.in-Parts.is c.open_parts.ensures.runs
