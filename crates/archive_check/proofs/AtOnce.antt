@@ -1,5 +1,5 @@
 -- What is checked at once: what a shallow node holds is shallow, and what comes of its parts and elements.
-use Rattle.std.proofs.Common.{inr, ◌≡◌, ◌≢◌, ℕ, zero, suc, refl, sym, ap, ap₂, ◌∙◌, ◌+◌, ◌-◌, ◌*◌, ◌<◌, ◌≤◌, ◌&&◌, max, arith, Bool, true, false, List, [], ◌∷◌, length, take, drop, drop-cons, slice_index_or, Option, Some, None, IsTrue, OnSome, IfNone, nat_eq}
+use Rattle.std.proofs.Common.{inr, ◌≡◌, ℕ, zero, suc, refl, sym, ap, ap₂, ◌∙◌, ◌+◌, ◌-◌, ◌*◌, ◌<◌, ◌≤◌, ◌&&◌, arith, Bool, true, false, List, [], ◌∷◌, length, take, drop, drop-cons, slice_index_or, Option, Some, None, IsTrue, OnSome, IfNone}
 use Rattle.archive_check.specs.declared.error.Error.{Error}
 use Rattle.archive_check.specs.declared.plan.Job.{Job}
 use Rattle.archive_check.specs.declared.plan.Job.TheVariants.{Free, Leaf, Record, Choice, Array, Pointer as PointerJob, Str, Shared, Weak}
@@ -13,10 +13,10 @@ use Rattle.archive_check.specs.Ranges.{RangeState}
 use Rattle.archive_check.specs.Met.{Positions}
 use Rattle.archive_check.specs.Tour.{Seen}
 use Rattle.archive_check.specs.Trail.{Fault}
-use Rattle.archive_check.specs.Runs.{Outcome, done, refused, IsAt, IsNode, Takes, RegionIs, NodeRuns, PartsRun, ElementsRun, parts_end, parts_next, parts_stop, elements_end, elements_next, elements_stop, list_part, list_part_stop}
+use Rattle.archive_check.specs.Runs.{Outcome, done, refused, IsAt, IsNode, Takes, RegionIs, ElementsRun, parts_end, parts_next, parts_stop, elements_end, elements_next, elements_stop, list_part, list_part_stop}
 use Rattle.archive_check.specs.Closed.{span, SpanFits, ArrayFits}
 use Rattle.archive_check.specs.Shallow.{marked, is_free, free_at, parts_shallow, variants_shallow}
-use Rattle.archive_check.specs.Turns.{Stays, PartFits, PartsFit, ElementsFit, Ready, stage, pending_in, Listing, Keeps, HasLevels, cost, rank}
+use Rattle.archive_check.specs.Turns.{Stays, PartFits, PartsFit, ElementsFit, stage, pending_in, Listing, Keeps, HasLevels, cost, rank}
 use Rattle.archive_check.specs.Through.{Rule, Through, Stops, node_rule, parts_rule, elements_rule}
 use Rattle.archive_check.proofs.Elements.{same_at, at_default}
 use Rattle.archive_check.proofs.TurnInvariants.{some_map, span_next, here_from}
@@ -112,9 +112,6 @@ pub record Towards (R Q : Rule) (s s' : RangeState) : Type 0 where
   pub depth : HasLevels s.depth → s'.depth ≡ s.depth
   pub leads : HasLevels s.depth → (pending : List ℕ) (seen : Seen) (o : Outcome) → Q pending s.depth s.end s'.start seen o → R pending s.depth s.end s.start seen o
 
-pub towards_same : (R : Rule) (s : RangeState) → Towards R R s s
-towards_same R s = record { end = refl; depth = λ some. refl; leads = λ some pending seen o q. q }
-
 module _ (R Q N : Rule) (s s1 : RangeState) (towards : Towards R Q s s1) where
   pub towards_then : (Q2 : Rule) (s2 : RangeState) → ((pending : List ℕ) (seen : Seen) (o : Outcome) → N pending s.depth s.end s1.start seen (done s2.start seen) → Q2 pending s.depth s.end s2.start seen o → Q pending s.depth s.end s1.start seen o) → Through N s1 s2 → Towards R Q2 s s2
   towards_then Q2 s2 to through =
@@ -160,10 +157,6 @@ module _ (m : Checker) (s s' : RangeState) (met met' : Positions) (old new : Lis
     tt,
     inr (λ seen a. let f = stops (has_levels s met (PartWork i p ∷ old) seen a) in (f.0, f.1, list_part_stop (f.2 (pending_in old) seen))),
   )
-
-  pub once_ready : (r : Option (Unit {0})) → OnSome r (Through (node_rule m i p) s s') → OnSome r (new ≡ old) → Ready m s (PartWork i p ∷ old) → OnSome r (Ready m s' new)
-  once_ready (Some u) through list q = record { below = rw through.end q.below; fits = rw (through.end, list) q.fits.1 }
-  once_ready None through list q = tt
 
   pub once_ends : (r : Option (Unit {0})) → OnSome r (Through (node_rule m i p) s s') → OnSome r (new ≡ old) → OnSome r (cost m s'.end new < cost m s.end (PartWork i p ∷ old))
   once_ends (Some u) through list = rw (through.end, list) (falls_none _ _)

@@ -1,5 +1,5 @@
 -- Definitions are collected one by one.
-use Rattle.std.proofs.Common.{◌≡◌, ◌⊎◌, inl, inr, ⊎_elim, ℕ, zero, suc, ◌+◌, ◌-◌, ◌<◌, ◌≤◌, List, [], ◌∷◌, ◌++◌, length, get_or, refl, sym, ap, ◌∙◌, subst, arith, length-append, true, Option, Some, None, Contains}
+use Rattle.std.proofs.Common.{◌≡◌, ◌⊎◌, inl, inr, ⊎_elim, ℕ, zero, suc, ◌-◌, ◌<◌, ◌≤◌, List, [], ◌∷◌, ◌++◌, length, get_or, refl, sym, ap, ◌∙◌, subst, arith, length-append, true, Option, Some, None, Contains}
 use Rattle.archive_check.specs.declared.defs.Def.{Def}
 use Rattle.archive_check.specs.Shape.{Name, Shape, Table, definition}
 use Rattle.archive_check.specs.Expressions.{shape_of, entries_of}

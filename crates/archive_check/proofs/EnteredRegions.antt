@@ -1,8 +1,8 @@
 -- A region is entered: what the range calls say, and what is left to do.
-use Rattle.std.proofs.Common.{◌≡◌, ◌≢◌, inr, ℕ, zero, suc, ℤ, pos, negsuc, refl, sym, ap, ap₂, ◌∙◌, slice_index_or, ◌+◌, ◌-◌, ◌*◌, ◌%◌, ◌<◌, ◌≤◌, nat_le, nat_eq, Bool, true, false, arith, List, ◌∷◌, length, Option, Some, None, Result, Ok, Err, IsUtf8, IsTrue}
+use Rattle.std.proofs.Common.{◌≡◌, ◌≢◌, ℕ, zero, suc, ℤ, pos, negsuc, refl, sym, ap, ap₂, ◌∙◌, slice_index_or, ◌+◌, ◌-◌, ◌*◌, ◌%◌, ◌<◌, ◌≤◌, nat_le, nat_eq, Bool, true, false, arith, List, ◌∷◌, length, Option, Some, None, Result, Ok, Err, IsUtf8, IsTrue}
 use Rattle.std.proofs.lemmas.Bool.Decides.{nat_tests}
 use Rattle.archive_check.specs.declared.error.Error.{Error}
-use Rattle.archive_check.specs.declared.error.Error.TheVariants.{InvalidUtf8, ExceededMaximumSubtreeDepth}
+use Rattle.archive_check.specs.declared.error.Error.TheVariants.{ExceededMaximumSubtreeDepth}
 use Rattle.archive_check.specs.declared.plan.Target.{Target}
 use Rattle.archive_check.specs.declared.plan.Target.TheVariants.{One, Run, Text}
 use Rattle.archive_check.specs.declared.plan.Job.TheVariants.{Free}
@@ -15,8 +15,8 @@ use Rattle.archive_check.specs.Ranges.{RangeState, subtree_answer, pushed, one_m
 use Rattle.archive_check.specs.Met.{Positions}
 use Rattle.archive_check.specs.Reads.{bytes_at}
 use Rattle.archive_check.specs.Tour.{Seen}
-use Rattle.archive_check.specs.Trail.{Fault, outside, unaligned, too_deep, no_text}
-use Rattle.archive_check.specs.Runs.{times, Outcome, done, refused, Takes, RegionIs, EnterRuns, enter_outside, enter_unaligned, enter_too_deep, enter_stop, contents_no_text, contents_text, contents_empty, contents_one, contents_run, run_free, elements_free, IsNode, enter_within, ListRuns}
+use Rattle.archive_check.specs.Trail.{Fault, outside, unaligned, too_deep}
+use Rattle.archive_check.specs.Runs.{times, Outcome, done, refused, Takes, RegionIs, EnterRuns, enter_outside, enter_unaligned, enter_too_deep, enter_stop, contents_text, contents_empty, contents_one, contents_run, run_free, elements_free, IsNode, enter_within, ListRuns}
 use Rattle.archive_check.specs.Faults.{IsFor}
 use Rattle.archive_check.specs.declared.check.Region.{Region}
 use Rattle.archive_check.specs.Entered.{Lands, Entered}
@@ -263,9 +263,3 @@ is_true b e = e
 
 pub not_err : {A : Type 0} (x : A) (e : Error) → ◌≡◌ {A = Result A Error} (Ok x) (Err e) → ⊥
 not_err x e is = cc
-
-pub empty_size : (z : ℕ) → IsTrue (nat_eq z 0) → z ≡ 0
-empty_size z t = grind (arith, nat_tests)
-
-pub some_size : (z : ℕ) → nat_eq z 0 ≡ false → 0 < z
-some_size z t = let some : z ≢ 0 = grind (arith, nat_tests) in omega arith

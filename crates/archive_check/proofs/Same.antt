@@ -3,7 +3,6 @@ use Rattle.std.proofs.Common.{◌≡◌, ◌≢◌, ℕ, List, [], ◌∷◌, le
 use Rattle.std.specs.Cmp.Lexicographic.{pointwise}
 use Rattle.archive_check.specs.contracts.expr.IntegerKindPartialEq.TheImpl as integer_eq
 use Rattle.archive_check.specs.contracts.expr.KindPartialEq.TheImpl as kind_eq
-use Rattle.archive_check.specs.contracts.expr.FlavorInfoPartialEq.TheImpl as flavor_eq
 use Rattle.archive_check.specs.declared.expr.IntegerKind.{IntegerKind}
 use Rattle.archive_check.specs.declared.expr.IntegerKind.TheVariants.{U8, I8, U16, I16, U32, I32, U64, I64, U128, I128}
 use Rattle.archive_check.specs.declared.expr.Kind.{Kind as KindExpr}

@@ -1,6 +1,5 @@
 -- How a check goes over a plan: one rule for each thing that it finds.
-use Rattle.std.specs.Prelude.{◌≡◌, ◌≢◌, ◌⊎◌, ℕ, suc, ◌+◌, ◌-◌, ◌*◌, ◌%◌, ◌<◌, ◌≤◌, ◌^◌, max, ℤ, pos, ◌+ℤ◌, List, [], ◌∷◌, length, take, drop, reverse, slice_index, slice_index_or, Option, Some, None, Result, Ok, Err, IsUtf8, Contains, IsTrue, false, cond, nat_eq, nat_lt, if◌then◌else◌, IfErr, OnOk}
-use Rattle.std.specs.declared.ops.Range.{Range}
+use Rattle.std.specs.Prelude.{◌≡◌, ◌≢◌, ◌⊎◌, ℕ, ◌+◌, ◌-◌, ◌*◌, ◌%◌, ◌<◌, ◌≤◌, ℤ, pos, ◌+ℤ◌, List, [], ◌∷◌, length, slice_index, slice_index_or, Option, Some, None, IsUtf8, Contains, IsTrue, false, cond, nat_eq, nat_lt, if◌then◌else◌}
 use Rattle.std.specs.FinMap.{get, insert}
 use Rattle.archive_check.specs.declared.expr.Kind.{Kind as KindExpr}
 use Rattle.archive_check.specs.declared.plan.Target.{Target}
@@ -16,7 +15,6 @@ use Rattle.archive_check.specs.declared.plan.Checker.{Checker}
 use Rattle.archive_check.specs.declared.work.Work.{Work}
 use Rattle.archive_check.specs.declared.work.Work.TheVariants.{Part as PartWork, Parts, Elements, Leave, Finish}
 use Rattle.archive_check.specs.Met.{SameType}
-use Rattle.archive_check.specs.Shape.{Flavor}
 use Rattle.archive_check.specs.Layout.{kind_size}
 use Rattle.archive_check.specs.Reads.{bytes_at, u32_at, i32_at, IsLegal, IsOutOfLine, before_end, decoded_length}
 use Rattle.archive_check.specs.Expressions.{kind_of, flavor_of, pointee_of}

@@ -1,8 +1,8 @@
-use Rattle.std.proofs.Common.{rules, ◌≡◌, ◌+◌, ◌*◌, ◌<◌, ◌≤◌, ◌-◌, ℕ, arith, refl, sym, ap, ◌∙◌, subst, Some, slice_index, slice_index_or, unwrap_or, to_z, of_z, SFits, pos, length}
+use Rattle.std.proofs.Common.{rules, ◌≡◌, ◌+◌, ◌*◌, ◌<◌, ◌≤◌, ◌-◌, ℕ, arith, refl, sym, ap, ◌∙◌, subst, Some, slice_index, slice_index_or, unwrap_or, to_z, of_z, SFits, length}
 use Rattle.std.proofs.lemmas.Int.{to_z-of_z}
 use mir.Syntax.{w128}
 use Rattle.archive_check.specs.declared.error.Error.TheVariants.{InvalidDiscriminant}
-use Rattle.archive_check.specs.declared.plan.Job.TheVariants.{Free, Leaf, Record, Choice, Array, Pointer as PointerJob, Str, Shared, Weak}
+use Rattle.archive_check.specs.declared.plan.Job.TheVariants.{Free, Leaf, Record, Choice, Array, Pointer as PointerJob, Str}
 use Rattle.archive_check.specs.Expressions.{kind_of}
 use Rattle.archive_check.specs.Layout.{kind_size}
 use Rattle.archive_check.specs.Reads.{bytes_at}
@@ -18,7 +18,7 @@ use Rattle.archive_check.proofs.Elements.{at_default}
 use Rattle.archive_check.proofs.TurnInvariants.{node_fits, none_map, if_none, rank_from}
 use Rattle.archive_check.proofs.PassedElements.{takes_size, element_fits}
 use Rattle.archive_check.proofs.PassedParts.{part_fits}
-use Rattle.archive_check.proofs.AtOnce.{free_is, part_marked, variant_shallow, part_below, parts_here, elements_here, through_by, stops_by, through_stays, towards_same, towards_passed, towards_element, element_stops, elements_over, towards_part, part_stops, parts_over}
+use Rattle.archive_check.proofs.AtOnce.{part_marked, variant_shallow, part_below, parts_here, elements_here, through_by, stops_by, through_stays, towards_passed, towards_element, element_stops, elements_over, towards_part, part_stops, parts_over}
 use Rattle.archive_check.proofs.plan.Checker.+check_shallow.Goals as goal
 use Rattle.archive_check.proofs.plan.Checker.+check_shallow.Goals.{check_shallow_parts-then-not-stays+in_ok-check_shallow, check_shallow_parts-else-not-stays}
 

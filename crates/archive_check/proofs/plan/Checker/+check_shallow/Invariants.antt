@@ -1,4 +1,4 @@
-use Rattle.std.proofs.Common.{◌≡◌, ◌+◌, ◌-◌, ◌*◌, ◌≤◌, ℕ}
+use Rattle.std.proofs.Common.{◌≡◌, ◌+◌, ◌-◌, ◌*◌}
 use Rattle.archive_check.specs.Lists.{list_of}
 use Rattle.archive_check.specs.Closed.{span}
 use Rattle.archive_check.specs.Turns.{rank}

@@ -1,18 +1,13 @@
-use Rattle.std.proofs.Common.{◌+◌, SFits, arith, refl, sym, ap, ◌∙◌, slice_index, ◌∷◌, to_z, of_z, rules, ◌<◌, ◌≤◌, ◌-◌, ◌*◌, ℕ, slice_index_or, length, subst}
+use Rattle.std.proofs.Common.{◌+◌, SFits, arith, refl, sym, ap, ◌∙◌, slice_index, ◌∷◌, to_z, of_z, rules, ◌<◌, ◌-◌, ◌*◌, slice_index_or, subst}
 use Rattle.std.proofs.lemmas.Int.{to_z-of_z}
 use mir.Syntax.{w32, w128}
-use Rattle.archive_check.specs.declared.plan.Job.TheVariants.{Free, Leaf, Record, Choice, Array, Pointer as PointerJob, Str, Shared, Weak}
-use Rattle.archive_check.specs.Expressions.{kind_of}
-use Rattle.archive_check.specs.Trail.{illegal, no_such_variant}
-use Rattle.archive_check.specs.Runs.{IsNode, run_free, run_leaf, run_illegal, run_tag, run_null}
+use Rattle.archive_check.specs.declared.plan.Job.TheVariants.{Record, Choice, Array, Pointer as PointerJob, Shared, Weak}
+use Rattle.archive_check.specs.Trail.{no_such_variant}
+use Rattle.archive_check.specs.Runs.{IsNode, run_tag, run_null}
 use Rattle.archive_check.specs.declared.error.Error.TheVariants.{InvalidDiscriminant}
 use Rattle.archive_check.specs.declared.work.Work.TheVariants.{Part as PartWork, Parts}
-use Rattle.archive_check.specs.Layout.{kind_size}
-use Rattle.archive_check.specs.Reads.{bytes_at}
 use Rattle.archive_check.specs.Lists.{list_of}
 use Rattle.archive_check.specs.Turns.{stage, Listing}
-use Rattle.archive_check.proofs.EditedBytes.{bytes_long}
-use Rattle.archive_check.proofs.EnteredRegions.{not_true, is_true}
 use Rattle.archive_check.proofs.TurnRules.{turn_record, turn_choice, turn_array}
 use Rattle.archive_check.proofs.TurnsEnd.{falls_none}
 use Rattle.archive_check.proofs.TurnInvariants.{node_fits, node_leads, node_refuses, span_ready, span_ends, array_ends, pointer_ends, pointer_keeps, shared_keeps, weak_keeps, shared_ends, some_map, refused_keeps, pushed_keeps, part_ready, part_room, part_leads, part_ends, then_keeps, then_falls, under, rank_from}

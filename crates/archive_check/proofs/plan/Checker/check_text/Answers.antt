@@ -1,4 +1,4 @@
-use Rattle.std.proofs.Common.{SFits, arith, refl, sym, ap₂, ◌∙◌, to_z, of_z, pos, ◌+ℤ◌}
+use Rattle.std.proofs.Common.{SFits, arith, refl, ◌∙◌, to_z, of_z}
 use Rattle.std.proofs.lemmas.Int.{to_z-of_z}
 use mir.Syntax.{w128}
 use Rattle.archive_check.specs.declared.error.Error.TheVariants.{InvalidUtf8, InvalidStringRepr}

@@ -1,4 +1,4 @@
-use Rattle.std.proofs.Common.{arith, refl, ap, sym, ◌∙◌, ◌≡◌, ◌<◌, length, true}
+use Rattle.std.proofs.Common.{arith, refl, ap, ◌∙◌, ◌<◌, length}
 use Rattle.archive_check.specs.declared.error.Error.TheVariants.{InvalidUtf8}
 use Rattle.archive_check.specs.declared.plan.Job.TheVariants.{Free}
 use Rattle.archive_check.specs.declared.plan.Target.TheVariants.{One, Run, Text}
@@ -6,7 +6,7 @@ use Rattle.archive_check.specs.Trail.{no_text}
 use Rattle.archive_check.specs.Runs.{IsNode, contents_one, contents_run, contents_no_text}
 use Rattle.archive_check.specs.Through.{Stops, node_rule, elements_rule, contents_rule}
 use Rattle.archive_check.proofs.TurnInvariants.{if_none}
-use Rattle.archive_check.proofs.EnteredRegions.{not_true, is_true, run_left, some_size, empty_size, passes_text, passes_empty, passes_free, through_same}
+use Rattle.archive_check.proofs.EnteredRegions.{not_true, is_true, run_left, passes_text, passes_empty, passes_free, through_same}
 use Rattle.archive_check.proofs.AtOnce.{region_part, region_elements, mark_is, stops_by, through_from}
 use Rattle.archive_check.proofs.plan.Checker.contents.Goals as goal
 

@@ -1,15 +1,13 @@
-use Rattle.std.proofs.Common.{rules, ◌≡◌, ◌<◌, ◌+◌, ◌-◌, ◌*◌, ℕ, pos, arith, sym, ap, ◌∙◌, Some, slice_index_or, ◌∷◌, unwrap_or, to_z}
+use Rattle.std.proofs.Common.{◌≡◌, ◌<◌, ◌+◌, ◌-◌, ◌*◌, ℕ, pos, arith, sym, ap, ◌∙◌, Some, ◌∷◌, unwrap_or, to_z}
 use Rattle.std.proofs.lemmas.Int.{to_z_pos}
 use mir.Syntax.{w128}
-use Rattle.archive_check.specs.declared.work.Work.TheVariants.{Part as PartWork, Parts, Elements, Finish}
+use Rattle.archive_check.specs.declared.work.Work.TheVariants.{Part as PartWork, Elements, Finish}
 use Rattle.archive_check.specs.declared.plan.Job.TheVariants.{Free}
 use Rattle.archive_check.specs.Runs.{IsAt, IsNode, Takes}
 use Rattle.archive_check.specs.Lists.{list_of}
 use Rattle.archive_check.specs.Turns.{Listing, stage}
 use Rattle.archive_check.proofs.TurnsEnd.{falls_none}
-use Rattle.archive_check.proofs.TurnInvariants.{part_ready, part_room, part_leads, part_ends, element_ready, element_leads, element_ends, elements_free_leads, leave_leads, finish_leads, finish_refuses, refused_keeps, then_keeps, then_falls, under}
-use Rattle.archive_check.proofs.Elements.{at_default}
-use Rattle.archive_check.proofs.PassedParts.{skip_all, skip_leads, skip_ready, skip_costs}
+use Rattle.archive_check.proofs.TurnInvariants.{element_ready, element_leads, element_ends, elements_free_leads, leave_leads, finish_leads, finish_refuses, refused_keeps, then_keeps, then_falls, under}
 use Rattle.archive_check.proofs.PassedElements.{takes_size, pass_all, pass_leads, pass_ready, pass_costs}
 use Rattle.archive_check.proofs.plan.Checker.step.Goals as goal
 
