@@ -325,7 +325,9 @@ impl Checker<'_> {
         }
         let here = self.nodes[node];
         match here.job {
-            Job::Free | Job::Leaf(_) | Job::Str { .. } => self.check_shallow(node, at, work, context),
+            Job::Free | Job::Leaf(_) | Job::Str { .. } => self.check_shallow(
+                node, at, work, context,
+            ),
             Job::Record { first, last } => work.parts(first, last, at),
             Job::Choice { name, first, last } => {
                 let Some(variant) = self.variant(first, last, at) else {

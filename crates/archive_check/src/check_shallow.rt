@@ -73,7 +73,14 @@ impl Checker<'_> {
                 return work.refuse(Error::InvalidStringRepr);
             }
             let position = read_position(self.bytes, at, at + 4);
-            return self.check_shallow_region(Target::Text, pointee, length, position, work, context);
+            return self.check_shallow_region(
+                Target::Text,
+                pointee,
+                length,
+                position,
+                work,
+                context,
+            );
         }
         let length = inline_length(self.bytes, at);
         if !is_text(self.bytes, at, length) {

@@ -8,11 +8,11 @@ ghost use Rattle.archive_check.specs.Planned.{IsPlan, HasNames};
 
 pub use crate::error::Error;
 pub use crate::expr::{Def, Defs, Expr, FlavorInfo, IntegerKind, Kind, Pointee};
-use crate::shallow::shallow_nodes;
 use crate::growing::Known;
 pub use crate::layout::Layout;
 use crate::names::definitions_of;
 use crate::plan::{Checker, Plan};
+use crate::shallow::shallow_nodes;
 use crate::traits::Portable;
 use crate::validation::{ArchiveContext, SharedContext};
 use std::alloc::Global;
