@@ -1,5 +1,5 @@
 -- What holds an expression that can be compiled, and what it holds.
-use Rattle.std.proofs.Common.{◌≡◌, ℕ, ◌<◌, sym, ap, ◌∙◌, subst, true, false, is_some, List, Option, Some, None, IsSome}
+use Rattle.std.proofs.Common.{◌≡◌, ℕ, ◌<◌, sym, subst, List, Some, IsSome}
 use Rattle.archive_check.specs.declared.growing.Known.{Known}
 use Rattle.archive_check.specs.Shape.{Name, Shape, parts, choice, array, boxed, vec, shared, weak, named, Flavor, Pointee, one, run, Parts, part, Variants, variant}
 use Rattle.archive_check.specs.Defined.{holds_name, holds_parts, holds_choice, holds_array, holds_first, holds_later, holds_variant, holds_other, Mentions, mentions_held, mentions_array, mentions_parts, mentions_choice, mentions_boxed, mentions_vec, mentions_shared, mentions_weak, mentions_one, mentions_run, mentions_first, mentions_later, mentions_variant, mentions_other}
@@ -66,7 +66,3 @@ can_parts_as {names} {done} e c = subst (λ Z. CanParts names done Z) e c
 
 pub can_variants_as : {names : List Known} {done : ℕ} {vs us : Variants} → vs ≡ us → CanVariants names done vs → CanVariants names done us
 can_variants_as {names} {done} e c = subst (λ Z. CanVariants names done Z) e c
-
--- what is found is not nothing
-pub none_is_some : {o : Option ℕ} → IsSome o → o ≡ None → ⊥
-none_is_some h e = let f : false ≡ true = sym (ap is_some e) ∙ h in cc f

@@ -1,5 +1,5 @@
 -- What was compiled, restated: of an equal expression, of parts written another way, of a refusal that is handed on.
-use Rattle.std.proofs.Common.{◌≡◌, ℕ, sym, ◌∙◌, subst, List, Bool, Option, Result, Ok, Err, IfOk, IfErr, IsErrAnd}
+use Rattle.std.proofs.Common.{◌≡◌, ℕ, sym, subst, List, Bool, Option, Result, Ok, Err, IfOk, IfErr, IsErrAnd}
 use Rattle.archive_check.specs.declared.plan.Target.{Target}
 use Rattle.archive_check.specs.declared.plan.Part.{Part}
 use Rattle.archive_check.specs.declared.plan.Span.{Span}
@@ -14,10 +14,6 @@ ok_map (Ok x) p f = f x p
 ok_map (Err e) p f = tt
 
 -- a refusal that is handed on
-pub handed_on : {T E A : Type 0} {o : E} (r : Result T E) (x : E) → IsErrAnd r (λ e. e ≡ x) → (A → x ≡ o) → IfErr r (λ e. A → e ≡ o)
-handed_on (Ok v) x h p = absurd h
-handed_on (Err e) x h p = λ a. h ∙ p a
-
 pub handed_as : {T E : Type 0} (r : Result T E) (x : E) (P : E → Type 0) → IsErrAnd r (λ e. e ≡ x) → P x → IfErr r P
 handed_as (Ok v) x P h p = absurd h
 handed_as (Err e) x P h p = subst P (sym h) p

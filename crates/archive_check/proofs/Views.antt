@@ -71,6 +71,10 @@ record_size x = omega (arith, ap measure_of (shape_of-Record x))
 pub choice_size : (m : Bor (List ℕ)) (x : Vec (Vec Expr Global) Global) → measure_of_variants (variants_in x.items) < measure_of (shape_of (expr.Choice m x))
 choice_size m x = omega (arith, ap measure_of (shape_of-Choice m x))
 
+pub record_falls : (a : Expr) (x : Vec Expr Global) (ys : List Expr) → a ≡ expr.Record x → ys ≡ x.items → measure_of_parts (shapes_in ys) < measure_of (shape_of a)
+record_falls a x ys e f =
+    subst (λ b. measure_of_parts (shapes_in ys) < measure_of (shape_of b)) (sym e) (subst (λ zs. measure_of_parts (shapes_in zs) < measure_of (shape_of (expr.Record x))) (sym f) (record_size x))
+
 pub choice_falls : (a : Expr) (m : Bor (List ℕ)) (x : Vec (Vec Expr Global) Global) (ys : List (Vec Expr Global)) → a ≡ expr.Choice m x → ys ≡ x.items → measure_of_variants (variants_in ys) < measure_of (shape_of a)
 choice_falls a m x ys e f =
     subst (λ b. measure_of_variants (variants_in ys) < measure_of (shape_of b)) (sym e) (subst (λ zs. measure_of_variants (variants_in zs) < measure_of (shape_of (expr.Choice m x))) (sym f) (choice_size m x))

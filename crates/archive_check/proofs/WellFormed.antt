@@ -7,7 +7,7 @@ use Rattle.archive_check.specs.declared.error.Error.TheVariants.{OutOfMemory, Sh
 use Rattle.archive_check.specs.Shape.{Name, Shape, str, Table, definition}
 use Rattle.archive_check.specs.Defined.{Holds, Reaches, reaches, reaches_through, HeldIn, held, held_through, AllDefined, WellFormed}
 use Rattle.archive_check.specs.Definitions.{Definitions, listed, Extended, Conflicts}
-use Rattle.archive_check.specs.Names.{missing, Complete, Collected, Arranged, Prepared}
+use Rattle.archive_check.specs.Names.{missing, Complete, Collected, Arranged, Prepared, HasAll}
 use Rattle.archive_check.specs.Schemas.{ExplainsNoSchema}
 use Rattle.archive_check.proofs.Named.{names_decided, definition_here, definition_other}
 use Rattle.archive_check.proofs.MissingNames.{IsDefined, held_defined, mentioned_defined, none_near, none_missed}
@@ -149,15 +149,19 @@ module _ (D : Definitions) (X : Shape) (table : Table) (added : Extended [] D ta
 pub collected_complete : (old : Table) (X : Shape) (new : Table) → Collected old X new → Complete new
 collected_complete old X new c = record { once = c.once; closed = λ n Y e. none_near new Y (c.closed n Y e) }
 
+-- so is what is put in order
+pub arranged_complete : (old : Table) (X : Shape) (found placed : Table) → Collected old X found → Arranged found placed → HasAll placed X
+arranged_complete old X found placed collected arranged = record {
+  root = none_missed found placed (λ n Y e. (Y, arranged.same n ∙ e)) true X collected.root;
+  closed = λ n Y e. none_missed found placed (λ m Z f. (Z, arranged.same m ∙ f)) true Y (collected.closed n Y (sym (arranged.same n) ∙ e));
+}
+
 -- so the definitions of a type are prepared
 pub prepared : (D : Definitions) (X : Shape) (table : Table) → Extended [] D table → (found : Table) → Collected table X found → (placed : Table) → Arranged found placed → Prepared D X placed
 prepared D X table added found collected placed arranged = record {
   known = placed_listed D X table added found collected placed arranged;
   has = placed_reached D X table added found collected placed arranged;
-  complete = record {
-    root = none_missed found placed (λ n Y e. (Y, arranged.same n ∙ e)) true X collected.root;
-    closed = λ n Y e. none_missed found placed (λ m Z f. (Z, arranged.same m ∙ f)) true Y (collected.closed n Y (sym (arranged.same n) ∙ e));
-  };
+  complete = arranged_complete table X found placed collected arranged;
   ordered = record { same = λ n. refl; once = arranged.once; earlier = arranged.earlier };
   well_formed = well_formed D X table added found collected placed arranged;
 }

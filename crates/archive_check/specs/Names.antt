@@ -1,5 +1,6 @@
 -- The names in expressions, and the definitions that they need.
-use Rattle.std.specs.Prelude.{◌≡◌, ◌≢◌, ℕ, suc, ◌<◌, Bool, true, false, Option, Some, None, cond, is_some, List, ◌∷◌, length, take, get_or, Contains}
+use Rattle.std.specs.Prelude.{◌≡◌, ◌≢◌, ℕ, suc, ◌<◌, Bool, true, false, Option, Some, None, cond, is_some, List, [], ◌∷◌, length, take, get_or, Contains, ◌++◌}
+use Rattle.std.specs.List.{remove}
 use Rattle.archive_check.specs.declared.defs.Def.{Def}
 use Rattle.archive_check.specs.Expressions.{shape_of, entries_of}
 use Rattle.archive_check.specs.Defined.{Reaches, WellFormed}
@@ -47,6 +48,12 @@ Taken old name (Some d) new =
     × (suc (length new) ≡ length old)
     × ((n : Name) → n ≢ name → definition (entries_of new) n ≡ definition (entries_of old) n)
 
+-- the definition of a name is taken out of a list, and added to those that were found
+pub record IsGathered (name : Name) (old found new next : List Def) : Type 0 where
+  pub def : Def
+  pub taken : Taken old name (Some def) new
+  pub added : next ≡ found ++ def ∷ []
+
 -- Of the definitions `old` those that X reaches, each once, and all that they mention with them.
 pub record Collected (old : Table) (X : Shape) (new : Table) : Type 0 where
   pub kept : (name : Name) (Y : Shape) → definition new name ≡ Some Y → definition old name ≡ Some Y
@@ -65,6 +72,15 @@ pub record Arranged (old new : Table) : Type 0 where
 abbrev pub NextReady : Table → List Def → Option ℕ → Type 0
 NextReady placed rest (Some i) = (i < length rest) × ((d : Def) → d ≡ get_or rest i d → missing false placed (shape_of d.expr) ≡ None)
 NextReady placed rest None = (k : ℕ) (d : Def) → k < length rest → d ≡ get_or rest k d → (name : Name) × (missing false placed (shape_of d.expr) ≡ Some name)
+
+-- that one is taken out of a list, and placed behind the others
+pub record IsPlacedNext (placed old next new : List Def) : Type 0 where
+  pub at : ℕ
+  pub def : Def
+  pub ready : NextReady (entries_of placed) old (Some at)
+  pub is : def ≡ get_or old at def
+  pub added : next ≡ placed ++ def ∷ []
+  pub left : new ≡ remove old at
 
 -- each definition is the one of its name, and what it holds is defined
 pub record Complete (table : Table) : Type 0 where

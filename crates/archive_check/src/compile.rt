@@ -1,28 +1,31 @@
 //! From expressions to plans: an expression's node stands behind those of what it holds. What its pointers lead to waits, and comes later.
+//!
+//! Each case has a function of its own, which is never inlined: a call's frame is cleared when it is entered, so that one large function would
+//! clear at each node what all of the cases need.
 
-ghost use Rattle.std.specs.Prelude.{◌≡◌, ◌≤◌, IfOk, IfErr, length};
-ghost use Rattle.archive_check.specs.Expressions.{shape_of, pointee_of, shapes_in, variants_in};
+ghost use Rattle.std.specs.Prelude.{◌≤◌, ℕ, List, IfOk, length};
+ghost use Rattle.archive_check.specs.Expressions.{shape_of, flavor_of, pointee_of, shapes_in, variants_in};
+ghost use Rattle.archive_check.specs.Shape.{parts as record_of, choice, array, boxed, vec, str, shared, weak};
 ghost use Rattle.archive_check.specs.PlanGrowth.{lists_of, IsCopied};
-ghost use Rattle.archive_check.specs.CompileQueue.{waits_of};
-ghost use Rattle.archive_check.specs.Compilable.{Can, CanParts, CanVariants, CanPoint};
-ghost use Rattle.archive_check.specs.declared.error.Error.TheVariants.{OutOfMemory};
+ghost use Rattle.archive_check.specs.CompileQueue.{Waits, waits_of};
+ghost use Rattle.archive_check.specs.declared.growing.Known.{Known};
+ghost use Rattle.archive_check.specs.Compilable.{Can, CanParts, CanVariants, CanPoint, CanWait};
 ghost use Rattle.archive_check.specs.Compiled.{Compiled, CompiledPointee, CompiledParts, CompiledVariants};
 
-use crate::error::Error;
 use crate::expr::{Expr, FlavorInfo, Pointee};
 use crate::extents::{offset_of, pointer_size, times};
 use crate::growing::{
-    Known, Laid, Row, Spans, extend_parts, extend_variants, find, is_free, push, push_laid,
+    Known, Laid, Row, Spans, extend_parts, extend_variants, is_free, known_node, push, push_laid,
     push_leaf, push_sort,
 };
 use crate::plan::{Job, Plan, Target};
 use crate::queue::{Queue, wait};
-use std::alloc::Global;
+use std::alloc::{AllocError, Global};
 
 // A sort more, with a copy of its pointee.
-fn copy_sort(plan: &mut Plan, flavor: FlavorInfo, pointee: &Pointee) -> Result<usize, Error>
-    ensures ok { IfOk result (λ k. IsCopied (lists_of plan.old) (lists_of plan.new) flavor (pointee_of pointee.now) k) }
-    ensures err { IfErr result (λ e. e ≡ OutOfMemory) }
+#[inline(never)]
+fn copy_sort(plan: &mut Plan, flavor: FlavorInfo, pointee: &Pointee) -> Result<usize, AllocError>
+    ensures { IfOk result (λ k. IsCopied (lists_of plan.old) (lists_of plan.new) flavor (pointee_of pointee.now) k) }
 {
     let copy = pointee.clone()?;
     push_sort(plan, flavor, copy)
@@ -34,9 +37,9 @@ fn compile_pointee<'e>(
     pointee: &'e Pointee,
     plan: &mut Plan,
     queue: &mut Queue<'e>,
-) -> Result<(Target, usize), Error>
-    ensures ok { IfOk result (λ r. CompiledPointee names.now (pointee_of pointee.now) (waits_of queue.old) (waits_of queue.new) (lists_of plan.old) (lists_of plan.new) r.0 r.1) }
-    ensures err { IfErr result (λ e. CanPoint names.now (pointee_of pointee.now) → e ≡ OutOfMemory) }
+) -> Result<(Target, usize), AllocError>
+    requires { CanPoint names.now (pointee_of pointee.now) }
+    ensures { IfOk result (λ r. CompiledPointee names.now (pointee_of pointee.now) (waits_of queue.old) (waits_of queue.new) (lists_of plan.old) (lists_of plan.new) r.0 r.1) }
 {
     match pointee {
         Pointee::One(x) => {
@@ -54,9 +57,113 @@ fn compile_pointee<'e>(
     }
 }
 
+// A pointer to what is its own.
+#[inline(never)]
+fn compile_box<'e>(
+    names: &[Known],
+    pointee: &'e Pointee,
+    plan: &mut Plan,
+    queue: &mut Queue<'e>,
+) -> Result<usize, AllocError>
+    requires { CanPoint names.now (pointee_of pointee.now) }
+    ensures { IfOk result (λ j. (done : ℕ) → Compiled names.now done (boxed (pointee_of pointee.now)) (waits_of queue.old) (waits_of queue.new) (lists_of plan.old) (lists_of plan.new) j) }
+{
+    let (target, pointee) = compile_pointee(names, pointee, plan, queue)?;
+    push(
+        plan,
+        Some(pointer_size(target)),
+        4,
+        Job::Pointer { target, pointee },
+    )
+}
+
+// A pointer to a run of elements, with its length.
+#[inline(never)]
+fn compile_vec<'e>(
+    names: &[Known],
+    element: &'e Expr,
+    plan: &mut Plan,
+    queue: &mut Queue<'e>,
+) -> Result<usize, AllocError>
+    requires { CanWait names.now (shape_of element.now) }
+    ensures { IfOk result (λ j. (done : ℕ) → Compiled names.now done (vec (shape_of element.now)) (waits_of queue.old) (waits_of queue.new) (lists_of plan.old) (lists_of plan.new) j) }
+{
+    let pointee = wait(names, element, queue)?;
+    push(
+        plan,
+        Some(8),
+        4,
+        Job::Pointer {
+            target: Target::Run,
+            pointee,
+        },
+    )
+}
+
+// A string, behind the node of its text's bytes.
+#[inline(never)]
+fn compile_str(plan: &mut Plan) -> Result<usize, AllocError>
+    ensures { IfOk result (λ j. (names : List Known) (done : ℕ) (w : Waits) → Compiled names done str w w (lists_of plan.old) (lists_of plan.new) j) }
+{
+    let pointee = push(plan, Some(1), 1, Job::Free)?;
+    push(plan, Some(8), 4, Job::Str { pointee })
+}
+
+// A pointer to what others may point to as well.
+#[inline(never)]
+fn compile_shared<'e>(
+    names: &[Known],
+    flavor: FlavorInfo,
+    pointee: &'e Pointee,
+    plan: &mut Plan,
+    queue: &mut Queue<'e>,
+) -> Result<usize, AllocError>
+    requires { CanPoint names.now (pointee_of pointee.now) }
+    ensures { IfOk result (λ j. (done : ℕ) → Compiled names.now done (shared (flavor_of flavor) (pointee_of pointee.now)) (waits_of queue.old) (waits_of queue.new) (lists_of plan.old) (lists_of plan.new) j) }
+{
+    let (target, node) = compile_pointee(names, pointee, plan, queue)?;
+    let sort = copy_sort(plan, flavor, pointee)?;
+    push(
+        plan,
+        Some(pointer_size(target)),
+        4,
+        Job::Shared {
+            sort,
+            target,
+            pointee: node,
+        },
+    )
+}
+
+// Such a pointer, or a null.
+#[inline(never)]
+fn compile_weak<'e>(
+    names: &[Known],
+    flavor: FlavorInfo,
+    pointee: &'e Pointee,
+    plan: &mut Plan,
+    queue: &mut Queue<'e>,
+) -> Result<usize, AllocError>
+    requires { CanPoint names.now (pointee_of pointee.now) }
+    ensures { IfOk result (λ j. (done : ℕ) → Compiled names.now done (weak (flavor_of flavor) (pointee_of pointee.now)) (waits_of queue.old) (waits_of queue.new) (lists_of plan.old) (lists_of plan.new) j) }
+{
+    let (target, node) = compile_pointee(names, pointee, plan, queue)?;
+    let sort = copy_sort(plan, flavor, pointee)?;
+    push(
+        plan,
+        Some(pointer_size(target)),
+        4,
+        Job::Weak {
+            sort,
+            target,
+            pointee: node,
+        },
+    )
+}
+
 /// Compiles an expression, and says which node is its own. `names` has the nodes of all names, known by counting; of those, the ones before
-/// `done` are there. What its pointers lead to waits in `queue`, unless it is a name. Memory comes from `alloc`. Refused with 1 where memory
-/// is refused, with 30 where a name isn't known, and with 31 where one that is held, and stands behind no pointer, isn't there yet.
+/// `done` are there. Each name in the expression is known, and each that it holds other than behind a pointer is there. What its pointers lead
+/// to waits in `queue`, unless it is a name. Memory comes from `alloc`.
 #[cycle(compile)]
 #[tactic(auto, using(crate::proofs::Views::views))]
 pub fn compile<'e>(
@@ -66,125 +173,121 @@ pub fn compile<'e>(
     expr: &'e Expr,
     plan: &mut Plan,
     queue: &mut Queue<'e>,
-) -> Result<usize, Error>
-    requires { done ≤ length plan.old.nodes.items }
-    ensures ok { IfOk result (λ j. Compiled names.now done (shape_of expr.now) (waits_of queue.old) (waits_of queue.new) (lists_of plan.old) (lists_of plan.new) j) }
-    ensures err { IfErr result (λ e. Can names.now done (shape_of expr.now) → e ≡ OutOfMemory) }
+) -> Result<usize, AllocError>
+    requires done { done ≤ length plan.old.nodes.items }
+    requires can { Can names.now done (shape_of expr.now) }
+    ensures { IfOk result (λ j. Compiled names.now done (shape_of expr.now) (waits_of queue.old) (waits_of queue.new) (lists_of plan.old) (lists_of plan.new) j) }
 {
     match expr {
         Expr::Leaf(kind) => push_leaf(plan, *kind),
-        Expr::Record(parts) => {
-            let laid = compile_parts(alloc, names, done, parts, 0, plan, queue)?;
-            let size = offset_of(laid.end, laid.align);
-            push_laid(
-                plan,
-                size,
-                laid.align,
-                laid.free,
-                Job::Record {
-                    first: laid.first,
-                    last: laid.last,
-                },
-            )
-        }
+        Expr::Record(parts) => compile_record(alloc, names, done, parts, plan, queue),
         Expr::Choice(name, variants) => {
-            let laid = compile_variants(alloc, names, done, variants, plan, queue)?;
-            let size = offset_of(laid.end, laid.align);
-            push_laid(
-                plan,
-                size,
-                laid.align,
-                false,
-                Job::Choice {
-                    name: *name,
-                    first: laid.first,
-                    last: laid.last,
-                },
-            )
+            compile_choice(alloc, names, done, name, variants, plan, queue)
         }
-        Expr::Array(count, x) => {
-            let element = compile(alloc, names, done, x, plan, queue)?;
-            let here = plan.nodes[element];
-            push_laid(
-                plan,
-                times(here.size, *count),
-                here.align,
-                is_free(here.job),
-                Job::Array {
-                    count: *count,
-                    element,
-                },
-            )
-        }
-        Expr::Box(x) => {
-            let (target, pointee) = compile_pointee(names, x, plan, queue)?;
-            push(
-                plan,
-                Some(pointer_size(target)),
-                4,
-                Job::Pointer { target, pointee },
-            )
-        }
-        Expr::Vec(x) => {
-            let pointee = wait(names, x, queue)?;
-            push(
-                plan,
-                Some(8),
-                4,
-                Job::Pointer {
-                    target: Target::Run,
-                    pointee,
-                },
-            )
-        }
-        Expr::Str => {
-            let pointee = push(plan, Some(1), 1, Job::Free)?;
-            push(plan, Some(8), 4, Job::Str { pointee })
-        }
-        Expr::Shared(flavor, x) => {
-            let (target, pointee) = compile_pointee(names, x, plan, queue)?;
-            let sort = copy_sort(plan, *flavor, x)?;
-            push(
-                plan,
-                Some(pointer_size(target)),
-                4,
-                Job::Shared {
-                    sort,
-                    target,
-                    pointee,
-                },
-            )
-        }
-        Expr::Weak(flavor, x) => {
-            let (target, pointee) = compile_pointee(names, x, plan, queue)?;
-            let sort = copy_sort(plan, *flavor, x)?;
-            push(
-                plan,
-                Some(pointer_size(target)),
-                4,
-                Job::Weak {
-                    sort,
-                    target,
-                    pointee,
-                },
-            )
-        }
-        Expr::Named(name) => match find(names, name) {
-            None => Err(Error::ShapeConflict),
-            Some(node) => {
-                if node < done {
-                    Ok(node)
-                } else {
-                    Err(Error::RecursiveLayout)
-                }
-            }
-        },
+        Expr::Array(count, x) => compile_array(alloc, names, done, *count, x, plan, queue),
+        Expr::Box(x) => compile_box(names, x, plan, queue),
+        Expr::Vec(x) => compile_vec(names, x, plan, queue),
+        Expr::Str => compile_str(plan),
+        Expr::Shared(flavor, x) => compile_shared(names, *flavor, x, plan, queue),
+        Expr::Weak(flavor, x) => compile_weak(names, *flavor, x, plan, queue),
+        Expr::Named(name) => Ok(known_node(names, name)),
     }
+}
+
+// A record, behind its parts.
+#[cycle(compile)]
+#[tactic(auto, using(crate::proofs::Views::views))]
+#[inline(never)]
+fn compile_record<'e>(
+    alloc: Global,
+    names: &[Known],
+    done: usize,
+    parts: &'e [Expr],
+    plan: &mut Plan,
+    queue: &mut Queue<'e>,
+) -> Result<usize, AllocError>
+    requires done { done ≤ length plan.old.nodes.items }
+    requires can { CanParts names.now done (shapes_in parts.now) }
+    ensures { IfOk result (λ j. Compiled names.now done (record_of (shapes_in parts.now)) (waits_of queue.old) (waits_of queue.new) (lists_of plan.old) (lists_of plan.new) j) }
+{
+    let laid = compile_parts(alloc, names, done, parts, 0, plan, queue)?;
+    let size = offset_of(laid.end, laid.align);
+    push_laid(
+        plan,
+        size,
+        laid.align,
+        laid.free,
+        Job::Record {
+            first: laid.first,
+            last: laid.last,
+        },
+    )
+}
+
+// A choice, behind its variants.
+#[cycle(compile)]
+#[tactic(auto, using(crate::proofs::Views::views))]
+#[inline(never)]
+fn compile_choice<'e>(
+    alloc: Global,
+    names: &[Known],
+    done: usize,
+    name: &'static str,
+    variants: &'e [Vec<Expr>],
+    plan: &mut Plan,
+    queue: &mut Queue<'e>,
+) -> Result<usize, AllocError>
+    requires done { done ≤ length plan.old.nodes.items }
+    requires can { CanVariants names.now done (variants_in variants.now) }
+    ensures { IfOk result (λ j. Compiled names.now done (choice name.now (variants_in variants.now)) (waits_of queue.old) (waits_of queue.new) (lists_of plan.old) (lists_of plan.new) j) }
+{
+    let laid = compile_variants(alloc, names, done, variants, plan, queue)?;
+    let size = offset_of(laid.end, laid.align);
+    push_laid(
+        plan,
+        size,
+        laid.align,
+        false,
+        Job::Choice {
+            name,
+            first: laid.first,
+            last: laid.last,
+        },
+    )
+}
+
+// An array, behind its element.
+#[cycle(compile)]
+#[tactic(auto, using(crate::proofs::Views::views))]
+#[inline(never)]
+fn compile_array<'e>(
+    alloc: Global,
+    names: &[Known],
+    done: usize,
+    count: usize,
+    x: &'e Expr,
+    plan: &mut Plan,
+    queue: &mut Queue<'e>,
+) -> Result<usize, AllocError>
+    requires done { done ≤ length plan.old.nodes.items }
+    requires can { Can names.now done (shape_of x.now) }
+    ensures { IfOk result (λ j. Compiled names.now done (array count (shape_of x.now)) (waits_of queue.old) (waits_of queue.new) (lists_of plan.old) (lists_of plan.new) j) }
+{
+    let element = compile(alloc, names, done, x, plan, queue)?;
+    let here = plan.nodes[element];
+    push_laid(
+        plan,
+        times(here.size, count),
+        here.align,
+        is_free(here.job),
+        Job::Array { count, element },
+    )
 }
 
 // Parts, laid out from an offset on.
 #[cycle(compile)]
 #[tactic(auto, using(crate::proofs::Views::views))]
+#[inline(never)]
 fn compile_parts<'e>(
     alloc: Global,
     names: &[Known],
@@ -193,10 +296,10 @@ fn compile_parts<'e>(
     start: usize,
     plan: &mut Plan,
     queue: &mut Queue<'e>,
-) -> Result<Laid, Error>
-    requires { done ≤ length plan.old.nodes.items }
-    ensures ok { IfOk result (λ laid. CompiledParts names.now done start (shapes_in parts.now) (waits_of queue.old) (waits_of queue.new) (lists_of plan.old) (lists_of plan.new) laid) }
-    ensures err { IfErr result (λ e. CanParts names.now done (shapes_in parts.now) → e ≡ OutOfMemory) }
+) -> Result<Laid, AllocError>
+    requires done { done ≤ length plan.old.nodes.items }
+    requires can { CanParts names.now done (shapes_in parts.now) }
+    ensures { IfOk result (λ laid. CompiledParts names.now done start (shapes_in parts.now) (waits_of queue.old) (waits_of queue.new) (lists_of plan.old) (lists_of plan.new) laid) }
 {
     let mut row = Row::new(alloc, start);
     for i in 0..parts.len() {
@@ -209,6 +312,7 @@ fn compile_parts<'e>(
 // Variants, each laid out behind the tag.
 #[cycle(compile)]
 #[tactic(auto, using(crate::proofs::Views::views))]
+#[inline(never)]
 fn compile_variants<'e>(
     alloc: Global,
     names: &[Known],
@@ -216,10 +320,10 @@ fn compile_variants<'e>(
     variants: &'e [Vec<Expr>],
     plan: &mut Plan,
     queue: &mut Queue<'e>,
-) -> Result<Laid, Error>
-    requires { done ≤ length plan.old.nodes.items }
-    ensures ok { IfOk result (λ laid. CompiledVariants names.now done (variants_in variants.now) (waits_of queue.old) (waits_of queue.new) (lists_of plan.old) (lists_of plan.new) laid) }
-    ensures err { IfErr result (λ e. CanVariants names.now done (variants_in variants.now) → e ≡ OutOfMemory) }
+) -> Result<Laid, AllocError>
+    requires done { done ≤ length plan.old.nodes.items }
+    requires can { CanVariants names.now done (variants_in variants.now) }
+    ensures { IfOk result (λ laid. CompiledVariants names.now done (variants_in variants.now) (waits_of queue.old) (waits_of queue.new) (lists_of plan.old) (lists_of plan.new) laid) }
 {
     let mut spans = Spans::new(alloc);
     for i in 0..variants.len() {

@@ -1,26 +1,23 @@
 //! How many nodes expressions are compiled to, and which is whose.
 
-ghost use Rattle.std.specs.Prelude.{◌≡◌, ◌+◌, IfOk, IfErr, IsSome, length};
+ghost use Rattle.std.specs.Prelude.{◌≡◌, ◌+◌, IfOk, IsSome, length};
 ghost use Rattle.archive_check.specs.Expressions.{shape_of, pointee_of, shapes_in, variants_in};
 ghost use Rattle.archive_check.specs.NodeCounts.{count_of, count_pointee as pointee_count, counts_of, variant_counts_of};
 ghost use Rattle.archive_check.specs.Shape.{Name, named};
 ghost use Rattle.archive_check.specs.PlanGrowth.{node_of};
-ghost use Rattle.archive_check.specs.declared.error.Error.TheVariants.{OutOfMemory};
 ghost use Rattle.archive_check.specs.Planned.{DefsInOrder};
 ghost use Rattle.archive_check.specs.Numbered.{RootIs, IsNumbered, def_shapes, start_of};
 
 use crate::defs::Def;
-use crate::error::Error;
 use crate::expr::{Expr, Pointee};
-use crate::growing::{Known, find};
-use std::alloc::Global;
+use crate::growing::{Known, known_node};
+use std::alloc::{AllocError, Global};
 
 /// So many and so many. Refused with 1 where that is above `usize::MAX`: there is no memory for it.
-pub fn add(a: usize, b: usize) -> Result<usize, Error>
-    ensures ok { IfOk result (λ n. n ≡ a + b) }
-    ensures err { IfErr result (λ e. e ≡ OutOfMemory) }
+pub fn add(a: usize, b: usize) -> Result<usize, AllocError>
+    ensures { IfOk result (λ n. n ≡ a + b) }
 {
-    a.checked_add(b).ok_or(Error::OutOfMemory)
+    a.checked_add(b).ok_or(AllocError)
 }
 
 // How many nodes a pointee has beside its pointer.
@@ -36,9 +33,8 @@ fn count_pointee(pointee: &Pointee) -> usize
 /// How many nodes an expression is compiled to, but for what its pointers lead to. Refused with 1 where that is above `usize::MAX`.
 #[cycle(count)]
 #[tactic(auto, using(crate::proofs::Views::views))]
-pub fn count(expr: &Expr) -> Result<usize, Error>
-    ensures ok { IfOk result (λ n. n ≡ count_of (shape_of expr.now)) }
-    ensures err { IfErr result (λ e. e ≡ OutOfMemory) }
+pub fn count(expr: &Expr) -> Result<usize, AllocError>
+    ensures { IfOk result (λ n. n ≡ count_of (shape_of expr.now)) }
 {
     match expr {
         Expr::Leaf(_) | Expr::Vec(_) => Ok(1),
@@ -63,9 +59,8 @@ pub fn count(expr: &Expr) -> Result<usize, Error>
 // How many nodes parts are compiled to.
 #[cycle(count)]
 #[tactic(auto, using(crate::proofs::Views::views))]
-fn count_parts(parts: &[Expr]) -> Result<usize, Error>
-    ensures ok { IfOk result (λ n. n ≡ counts_of (shapes_in parts.now)) }
-    ensures err { IfErr result (λ e. e ≡ OutOfMemory) }
+fn count_parts(parts: &[Expr]) -> Result<usize, AllocError>
+    ensures { IfOk result (λ n. n ≡ counts_of (shapes_in parts.now)) }
 {
     let mut total = 0;
     for i in 0..parts.len() {
@@ -78,9 +73,8 @@ fn count_parts(parts: &[Expr]) -> Result<usize, Error>
 // How many nodes variants are compiled to.
 #[cycle(count)]
 #[tactic(auto, using(crate::proofs::Views::views))]
-fn count_variants(variants: &[Vec<Expr>]) -> Result<usize, Error>
-    ensures ok { IfOk result (λ n. n ≡ variant_counts_of (variants_in variants.now)) }
-    ensures err { IfErr result (λ e. e ≡ OutOfMemory) }
+fn count_variants(variants: &[Vec<Expr>]) -> Result<usize, AllocError>
+    ensures { IfOk result (λ n. n ≡ variant_counts_of (variants_in variants.now)) }
 {
     let mut total = 0;
     for i in 0..variants.len() {
@@ -90,28 +84,25 @@ fn count_variants(variants: &[Vec<Expr>]) -> Result<usize, Error>
     Ok(total)
 }
 
-/// The node of an expression whose nodes begin at `start`, and where they end: a name has its own, which is elsewhere. Refused with 31 where it
-/// is a name that isn't known yet.
-pub fn root(names: &[Known], expr: &Expr, start: usize) -> Result<(usize, usize), Error>
-    ensures ok { IfOk result (λ r. RootIs names.now start (shape_of expr.now) r.0 × (r.1 ≡ start + count_of (shape_of expr.now))) }
-    ensures err { IfErr result (λ e. ((name : Name) → shape_of expr.now ≡ named name → IsSome (node_of names.now name)) → e ≡ OutOfMemory) }
+/// The node of an expression whose nodes begin at `start`, and where they end: a name has its own, which is elsewhere and known. Refused with
+/// 1 where the end is above `usize::MAX`.
+pub fn root(names: &[Known], expr: &Expr, start: usize) -> Result<(usize, usize), AllocError>
+    requires { (name : Name) → shape_of expr.now ≡ named name → IsSome (node_of names.now name) }
+    ensures { IfOk result (λ r. RootIs names.now start (shape_of expr.now) r.0 × (r.1 ≡ start + count_of (shape_of expr.now))) }
 {
     let more = count(expr)?;
     let end = add(start, more)?;
     if let Expr::Named(name) = expr {
-        return match find(names, name) {
-            None => Err(Error::RecursiveLayout),
-            Some(node) => Ok((node, end)),
-        };
+        return Ok((known_node(names, name), end));
     }
     Ok((end - 1, end))
 }
 
-/// The nodes that definitions are compiled to, one after another, and how many there are. Memory comes from `alloc`. Refused with 1 where
-/// memory is refused, and with 31 where one is a name that isn't defined before it.
-pub fn number(alloc: Global, defs: &[Def]) -> Result<(Vec<Known>, usize), Error>
-    ensures ok { IfOk result (λ r. IsNumbered defs.now r.0.items (length defs.now) × (r.1 ≡ start_of (def_shapes defs.now) (length defs.now))) }
-    ensures err { IfErr result (λ e. DefsInOrder defs.now → e ≡ OutOfMemory) }
+/// The nodes that definitions are compiled to, one after another, and how many there are. Each is a name only where that is defined before it.
+/// Memory comes from `alloc`.
+pub fn number(alloc: Global, defs: &[Def]) -> Result<(Vec<Known>, usize), AllocError>
+    requires { DefsInOrder defs.now }
+    ensures { IfOk result (λ r. IsNumbered defs.now r.0.items (length defs.now) × (r.1 ≡ start_of (def_shapes defs.now) (length defs.now))) }
 {
     let mut names: Vec<Known> = Vec::new(alloc);
     let mut start = 0;

@@ -1,18 +1,16 @@
 //! Plans that grow: everything is added behind what there is, and nothing is changed.
 
-ghost use Rattle.std.specs.Prelude.{◌≡◌, ◌<◌, true, IfOk, IfErr, OnOk, [], Some};
+ghost use Rattle.std.specs.Prelude.{◌≡◌, ◌≢◌, ◌⊎◌, ◌<◌, ℕ, true, false, IfOk, OnOk, IsSome, [], Some};
 ghost use Rattle.archive_check.specs.Layout.{kind_size, kind_align};
 ghost use Rattle.archive_check.specs.Expressions.{kind_of};
 ghost use Rattle.archive_check.specs.PlainData.{is_plain_kind};
-ghost use Rattle.archive_check.specs.PlanGrowth.{node_of, lists_of, no_lists, IsPushed, IsSorted, Unless, IsMade, IsPlaced, IsListed, PartsLaid, SpansLaid};
+ghost use Rattle.archive_check.specs.PlanGrowth.{node_of, lists_of, no_lists, IsPushed, IsSorted, IsMade, IsPlaced, IsListed, PartsLaid, SpansLaid};
 ghost use Rattle.archive_check.specs.declared.plan.Job.TheVariants.{Free};
-ghost use Rattle.archive_check.specs.declared.error.Error.TheVariants.{OutOfMemory};
 
-use crate::error::Error;
 use crate::expr::{FlavorInfo, Kind, Pointee};
 use crate::extents::{Extent, is_plain};
 use crate::plan::{Job, Node, Part, Plan, Sort, Span};
-use std::alloc::Global;
+use std::alloc::{AllocError, Global};
 
 /// A name, and the node that its definition is or will be.
 #[derive(Debug, Clone, Copy)]
@@ -87,11 +85,23 @@ pub fn find(names: &[Known], name: &str) -> Option<usize>
     }
 }
 
+/// The node of a name that is known.
+pub fn known_node(names: &[Known], name: &str) -> usize
+    requires { IsSome (node_of names.now name.now) }
+    ensures { node_of names.now name.now ≡ Some result }
+{
+    find(names, name).unwrap()
+}
+
 /// One node more.
-pub fn push(plan: &mut Plan, size: Option<usize>, align: usize, job: Job) -> Result<usize, Error>
+pub fn push(
+    plan: &mut Plan,
+    size: Option<usize>,
+    align: usize,
+    job: Job,
+) -> Result<usize, AllocError>
     requires { 0 < align }
-    ensures ok { IfOk result (λ j. IsPushed (lists_of plan.old) (lists_of plan.new) size align job j) }
-    ensures err { IfErr result (λ e. e ≡ OutOfMemory) }
+    ensures { IfOk result (λ j. IsPushed (lists_of plan.old) (lists_of plan.new) size align job j) }
 {
     let node = plan.nodes.len();
     plan.nodes.push(Node { size, align, job })?;
@@ -99,22 +109,22 @@ pub fn push(plan: &mut Plan, size: Option<usize>, align: usize, job: Job) -> Res
 }
 
 /// One sort more.
-pub fn push_sort(plan: &mut Plan, flavor: FlavorInfo, pointee: Pointee) -> Result<usize, Error>
-    ensures ok { IfOk result (λ k. IsSorted (lists_of plan.old) (lists_of plan.new) (record { flavor = flavor; pointee = pointee }) k) }
-    ensures err { IfErr result (λ e. e ≡ OutOfMemory) }
+pub fn push_sort(plan: &mut Plan, flavor: FlavorInfo, pointee: Pointee) -> Result<usize, AllocError>
+    ensures { IfOk result (λ k. IsSorted (lists_of plan.old) (lists_of plan.new) (record { flavor = flavor; pointee = pointee }) k) }
 {
     let sort = plan.sorts.len();
     plan.sorts.push(Sort { flavor, pointee })?;
     Ok(sort)
 }
 
-// A job, or none where there is nothing to check: any bytes are legal, or there are none.
-fn unless_free(free: bool, size: Option<usize>, job: Job) -> Job
-    ensures { Unless free size job result }
+// Whether there is nothing to check: any bytes are legal, or there are none.
+fn is_nothing(free: bool, size: Option<usize>) -> bool
+    ensures nothing { result ≡ true → (free ≡ true) ⊎ ((z : ℕ) → size ≡ Some z → z ≡ 0) }
+    ensures bytes { result ≡ false → size ≢ Some 0 }
 {
     match size {
-        Some(0) | None => Job::Free,
-        Some(_) => { if free { Job::Free } else { job } }
+        Some(0) | None => true,
+        Some(_) => free,
     }
 }
 
@@ -125,19 +135,19 @@ pub fn push_laid(
     align: usize,
     free: bool,
     job: Job,
-) -> Result<usize, Error>
+) -> Result<usize, AllocError>
     requires { 0 < align }
-    ensures ok { IfOk result (λ j. IsMade (lists_of plan.old) (lists_of plan.new) size align free job j) }
-    ensures err { IfErr result (λ e. e ≡ OutOfMemory) }
+    ensures { IfOk result (λ j. IsMade (lists_of plan.old) (lists_of plan.new) size align free job j) }
 {
-    let made = unless_free(free, size, job);
-    push(plan, size, align, made)
+    if is_nothing(free, size) {
+        return push(plan, size, align, Job::Free);
+    }
+    push(plan, size, align, job)
 }
 
 /// A leaf's node.
-pub fn push_leaf(plan: &mut Plan, kind: Kind) -> Result<usize, Error>
-    ensures ok { IfOk result (λ j. IsMade (lists_of plan.old) (lists_of plan.new) (Some (kind_size (kind_of kind))) (kind_align (kind_of kind)) (is_plain_kind (kind_of kind)) (Job.Leaf kind) j) }
-    ensures err { IfErr result (λ e. e ≡ OutOfMemory) }
+pub fn push_leaf(plan: &mut Plan, kind: Kind) -> Result<usize, AllocError>
+    ensures { IfOk result (λ j. IsMade (lists_of plan.old) (lists_of plan.new) (Some (kind_size (kind_of kind))) (kind_align (kind_of kind)) (is_plain_kind (kind_of kind)) (Job.Leaf kind) j) }
 {
     push_laid(
         plan,
@@ -170,9 +180,8 @@ impl Row {
     }
 
     /// One part more, which is a node.
-    pub fn place(&mut self, node: usize, here: Node) -> Result<(), Error>
-        ensures ok { OnOk result (IsPlaced node here self.old self.new) }
-        ensures err { IfErr result (λ e. e ≡ OutOfMemory) }
+    pub fn place(&mut self, node: usize, here: Node) -> Result<(), AllocError>
+        ensures { OnOk result (IsPlaced node here self.old self.new) }
     {
         let offset = self.extent.add(here.size, here.align);
         self.parts.push(Part {
@@ -198,9 +207,8 @@ impl Spans {
     }
 
     /// One variant more.
-    pub fn list(&mut self, laid: Laid) -> Result<(), Error>
-        ensures ok { OnOk result (IsListed laid self.old self.new) }
-        ensures err { IfErr result (λ e. e ≡ OutOfMemory) }
+    pub fn list(&mut self, laid: Laid) -> Result<(), AllocError>
+        ensures { OnOk result (IsListed laid self.old self.new) }
     {
         self.items.push(Span {
             first: laid.first,
@@ -212,9 +220,8 @@ impl Spans {
 }
 
 /// The parts of a row, behind those of a plan.
-pub fn extend_parts(plan: &mut Plan, row: &Row) -> Result<Laid, Error>
-    ensures ok { IfOk result (λ laid. PartsLaid (lists_of plan.old) (lists_of plan.new) row.now laid) }
-    ensures err { IfErr result (λ e. e ≡ OutOfMemory) }
+pub fn extend_parts(plan: &mut Plan, row: &Row) -> Result<Laid, AllocError>
+    ensures { IfOk result (λ laid. PartsLaid (lists_of plan.old) (lists_of plan.new) row.now laid) }
 {
     let first = plan.parts.len();
     plan.parts.extend_from_slice(&row.parts)?;
@@ -228,9 +235,8 @@ pub fn extend_parts(plan: &mut Plan, row: &Row) -> Result<Laid, Error>
 }
 
 /// Variants, behind those of a plan.
-pub fn extend_variants(plan: &mut Plan, spans: &Spans) -> Result<Laid, Error>
-    ensures ok { IfOk result (λ laid. SpansLaid (lists_of plan.old) (lists_of plan.new) spans.now laid) }
-    ensures err { IfErr result (λ e. e ≡ OutOfMemory) }
+pub fn extend_variants(plan: &mut Plan, spans: &Spans) -> Result<Laid, AllocError>
+    ensures { IfOk result (λ laid. SpansLaid (lists_of plan.old) (lists_of plan.new) spans.now laid) }
 {
     let first = plan.variants.len();
     plan.variants.extend_from_slice(&spans.items)?;

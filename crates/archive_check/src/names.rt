@@ -3,7 +3,7 @@
 ghost use Rattle.std.specs.Prelude.{◌≡◌, ◌≢◌, ◌⊎◌, ◌+◌, ◌≤◌, ℕ, Bool, Some, None, OnOk, IfOk, IfErr, IfSome, IfNone, true, get_or, option_map, is_some, length};
 ghost use Rattle.archive_check.specs.Shape.{definition};
 ghost use Rattle.archive_check.specs.Expressions.{shape_of, pointee_of, shapes_in, variants_in, entries_of};
-ghost use Rattle.archive_check.specs.Names.{missing as missing_in, pointee_missing, parts_missing, variants_missing, Taken, Collected, Arranged, NextReady, Complete, Prepared, shapes_from};
+ghost use Rattle.archive_check.specs.Names.{missing as missing_in, pointee_missing, parts_missing, variants_missing, Taken, IsGathered, Collected, Arranged, NextReady, IsPlacedNext, Complete, Prepared, shapes_from};
 ghost use Rattle.archive_check.specs.Schemas.{ExplainsNoSchema};
 ghost use Rattle.archive_check.specs.Shape.{Name, Shape};
 ghost use Rattle.archive_check.specs.Defined.{Reaches, HeldIn};
@@ -119,23 +119,32 @@ fn missing_at(root: &Expr, defs: &[Def], at: usize) -> Option<&'static str>
     missing(&defs[at - 1].expr, defs, true)
 }
 
-/// The definitions that the root reaches, each once, out of those given. Refused with 30 where one of them is missing, and with 1 where memory
+// Takes the definition of a name out of a list, and adds it to another. Never inlined: `collect` has no room for a definition in its frame, to
+// be cleared at each call, where most shapes have no name.
+#[inline(never)]
+fn gather(name: &str, rest: &mut Vec<Def>, found: &mut Vec<Def>) -> Result<(), Error>
+    ensures ok { OnOk result (IsGathered name.now rest.old.items found.old.items rest.new.items found.new.items) }
+    ensures err { IfErr result (λ e. (e ≡ OutOfMemory) ⊎ ((e ≡ ShapeConflict) × (definition (entries_of rest.old.items) name.now ≡ None))) }
+{
+    let Some(def) = take(rest, name) else {
+        return Err(Error::ShapeConflict);
+    };
+    found.push(def)?;
+    Ok(())
+}
+
+/// The definitions that the root reaches, each once, taken out of those given. Refused with 30 where one of them is missing, and with 1 where memory
 /// is refused.
-pub fn collect(alloc: Global, root: &Expr, mut rest: Vec<Def>) -> Result<Vec<Def>, Error>
-    ensures ok { IfOk result (λ found. Collected (entries_of rest.items) (shape_of root.now) (entries_of found.items)) }
-    ensures err { IfErr result (λ e. (e ≡ OutOfMemory) ⊎ ((e ≡ ShapeConflict) × (name : Name) × Reaches (entries_of rest.items) name (shape_of root.now) × (definition (entries_of rest.items) name ≡ None))) }
+pub fn collect(alloc: Global, root: &Expr, rest: &mut Vec<Def>) -> Result<Vec<Def>, Error>
+    ensures ok { IfOk result (λ found. Collected (entries_of rest.old.items) (shape_of root.now) (entries_of found.items)) }
+    ensures err { IfErr result (λ e. (e ≡ OutOfMemory) ⊎ ((e ≡ ShapeConflict) × (name : Name) × Reaches (entries_of rest.old.items) name (shape_of root.now) × (definition (entries_of rest.old.items) name ≡ None))) }
 {
     let mut found = Vec::new(alloc);
     let mut at = 0;
     while at <= found.len() {
         match missing_at(root, &found, at) {
             None => at += 1,
-            Some(name) => {
-                let Some(def) = take(&mut rest, name) else {
-                    return Err(Error::ShapeConflict);
-                };
-                found.push(def)?;
-            }
+            Some(name) => gather(name, rest, &mut found)?,
         }
     }
     Ok(found)
@@ -153,19 +162,29 @@ fn next_ready(placed: &[Def], rest: &[Def]) -> Option<usize>
     None
 }
 
+// Takes the first definition that holds only placed names out of a list, and places it. Never inlined, as `gather`.
+#[inline(never)]
+fn place_next(placed: &mut Vec<Def>, rest: &mut Vec<Def>) -> Result<(), Error>
+    ensures ok { OnOk result (IsPlacedNext placed.old.items rest.old.items placed.new.items rest.new.items) }
+    ensures err { IfErr result (λ e. (e ≡ OutOfMemory) ⊎ ((e ≡ RecursiveLayout) × NextReady (entries_of placed.old.items) rest.old.items None)) }
+{
+    let Some(i) = next_ready(placed, rest) else {
+        return Err(Error::RecursiveLayout);
+    };
+    placed.push(rest.remove(i))?;
+    Ok(())
+}
+
 /// The definitions in an order in which each holds, other than behind a pointer, only names before it. Refused with 31 where a name holds
 /// itself, and with 1 where memory is refused.
-pub fn in_order(alloc: Global, mut rest: Vec<Def>) -> Result<Vec<Def>, Error>
-    requires { Complete (entries_of rest.items) }
-    ensures ok { IfOk result (λ placed. Arranged (entries_of rest.items) (entries_of placed.items)) }
-    ensures err { IfErr result (λ e. (e ≡ OutOfMemory) ⊎ ((e ≡ RecursiveLayout) × (name : Name) × (Y : Shape) × (definition (entries_of rest.items) name ≡ Some Y) × HeldIn (entries_of rest.items) name Y)) }
+pub fn in_order(alloc: Global, rest: &mut Vec<Def>) -> Result<Vec<Def>, Error>
+    requires { Complete (entries_of rest.old.items) }
+    ensures ok { IfOk result (λ placed. Arranged (entries_of rest.old.items) (entries_of placed.items)) }
+    ensures err { IfErr result (λ e. (e ≡ OutOfMemory) ⊎ ((e ≡ RecursiveLayout) × (name : Name) × (Y : Shape) × (definition (entries_of rest.old.items) name ≡ Some Y) × HeldIn (entries_of rest.old.items) name Y)) }
 {
     let mut placed = Vec::new(alloc);
     while !rest.is_empty() {
-        let Some(i) = next_ready(&placed, &rest) else {
-            return Err(Error::RecursiveLayout);
-        };
-        placed.push(rest.remove(i))?;
+        place_next(&mut placed, rest)?;
     }
     Ok(placed)
 }
@@ -181,11 +200,12 @@ pub fn definitions_of<T: Portable>(alloc: Global, root: &Expr) -> Result<Vec<Def
     if let Err(error) = T::define(alloc, &mut defs) {
         return Err(error);
     }
-    let found = match collect(alloc, root, defs.into_items()) {
+    let mut given = defs.into_items();
+    let mut found = match collect(alloc, root, &mut given) {
         Ok(found) => found,
         Err(error) => return Err(error),
     };
-    match in_order(alloc, found) {
+    match in_order(alloc, &mut found) {
         Ok(placed) => Ok(placed),
         Err(error) => Err(error),
     }

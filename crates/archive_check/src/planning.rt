@@ -1,41 +1,40 @@
 //! Plans of an expression and the definitions of its names. First come the nodes of the definitions, then those of the expression, then those of
 //! what pointers lead to: so each held name is there when it is looked for.
 
-ghost use Rattle.std.specs.Prelude.{◌≡◌, IfOk, IfErr, OnOk};
+ghost use Rattle.std.specs.Prelude.{◌≡◌, IfOk, OnOk};
 ghost use Rattle.archive_check.specs.Expressions.{shape_of};
-ghost use Rattle.archive_check.specs.PlanGrowth.{lists_of};
-ghost use Rattle.archive_check.specs.CompileQueue.{waits_of};
+ghost use Rattle.archive_check.specs.PlanGrowth.{lists_of, no_lists};
+ghost use Rattle.archive_check.specs.CompileQueue.{waits_of, no_waits};
 ghost use Rattle.archive_check.specs.Numbered.{def_shapes};
 ghost use Rattle.archive_check.specs.Planned.{IsPlan, HasNames, InOrder, Chained, CanChain, CanFinish, Finishes};
-ghost use Rattle.archive_check.specs.declared.error.Error.TheVariants.{OutOfMemory};
 
 use crate::compile::compile;
 use crate::counting::{add, count, number};
 use crate::defs::Def;
-use crate::error::Error;
 use crate::expr::Expr;
 use crate::growing::Known;
 use crate::plan::Plan;
 use crate::queue::Queue;
-use std::alloc::Global;
+use std::alloc::{AllocError, Global};
 
-// The definitions, compiled one after another. What they lead to waits for the nodes from `base` on.
+// The definitions, compiled one after another to a plan without a node. What they lead to waits in a queue where nothing waits yet.
 fn compile_defs<'e>(
     alloc: Global,
     names: &[Known],
     defs: &'e [Def],
-    base: usize,
-) -> Result<(Plan, Queue<'e>), Error>
-    ensures ok { IfOk result (λ r. Chained names.now (def_shapes defs.now) base (waits_of r.1) (lists_of r.0)) }
-    ensures err { IfErr result (λ e. CanChain names.now (def_shapes defs.now) → e ≡ OutOfMemory) }
+    plan: &mut Plan,
+    queue: &mut Queue<'e>,
+) -> Result<(), AllocError>
+    requires new_plan { lists_of plan.old ≡ no_lists }
+    requires new_queue { waits_of queue.old ≡ no_waits queue.old.next }
+    requires can { CanChain names.now (def_shapes defs.now) }
+    ensures { OnOk result (Chained names.now (def_shapes defs.now) queue.old.next (waits_of queue.new) (lists_of plan.new)) }
 {
-    let mut plan = Plan::new(alloc);
-    let mut queue = Queue::new(alloc, base);
     for i in 0..defs.len() {
         let done = plan.nodes.len();
-        compile(alloc, names, done, &defs[i].expr, &mut plan, &mut queue)?;
+        compile(alloc, names, done, &defs[i].expr, plan, queue)?;
     }
-    Ok((plan, queue))
+    Ok(())
 }
 
 // All that waits, and all that it leads to, compiled one after another.
@@ -44,9 +43,9 @@ fn compile_waiting<'e>(
     names: &[Known],
     plan: &mut Plan,
     queue: &mut Queue<'e>,
-) -> Result<(), Error>
-    ensures ok { OnOk result (Finishes names.now (waits_of queue.old) (waits_of queue.new) (lists_of plan.old) (lists_of plan.new)) }
-    ensures err { IfErr result (λ e. CanFinish names.now (waits_of queue.old) (lists_of plan.old) → e ≡ OutOfMemory) }
+) -> Result<(), AllocError>
+    requires { CanFinish names.now (waits_of queue.old) (lists_of plan.old) }
+    ensures { OnOk result (Finishes names.now (waits_of queue.old) (waits_of queue.new) (lists_of plan.old) (lists_of plan.new)) }
 {
     let mut i = 0;
     while i < queue.items.len() {
@@ -60,21 +59,22 @@ fn compile_waiting<'e>(
 
 impl Plan {
     /// The plan of an expression and the definitions of all names that it reaches, the expression's node, and those of the names. Each definition holds only names
-    /// that are defined before it, but for those behind pointers. Memory comes from `alloc`. Refused with 1 where memory is refused, with 30
-    /// where a name has no definition, and with 31 where one is held that isn't defined before: so with 1 alone where all is as it should be.
-    pub fn of<'e>(
+    /// that are defined before it, but for those behind pointers. Memory comes from `alloc`.
+    pub(crate) fn of<'e>(
         alloc: Global,
         defs: &'e [Def],
         root: &'e Expr,
-    ) -> Result<(Plan, usize, Vec<Known>), Error>
-        ensures ok { IfOk result (λ r. IsPlan defs.now (shape_of root.now) r.0 r.1) }
+    ) -> Result<(Plan, usize, Vec<Known>), AllocError>
+        requires { InOrder defs.now (shape_of root.now) }
+        ensures made { IfOk result (λ r. IsPlan defs.now (shape_of root.now) r.0 r.1) }
         ensures names { IfOk result (λ r. HasNames defs.now r.2.items r.0) }
-        ensures err { IfErr result (λ e. InOrder defs.now (shape_of root.now) → e ≡ OutOfMemory) }
     {
         let (names, start) = number(alloc, defs)?;
         let more = count(root)?;
         let base = add(start, more)?;
-        let (mut plan, mut queue) = compile_defs(alloc, &names, defs, base)?;
+        let mut plan = Plan::new(alloc);
+        let mut queue: Queue<'e> = Queue::new(alloc, base);
+        compile_defs(alloc, &names, defs, &mut plan, &mut queue)?;
         let done = plan.nodes.len();
         let node = compile(alloc, &names, done, root, &mut plan, &mut queue)?;
         compile_waiting(alloc, &names, &mut plan, &mut queue)?;

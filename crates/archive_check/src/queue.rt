@@ -1,17 +1,14 @@
 //! Expressions that wait: what a pointer leads to is compiled behind all that holds it.
 
-ghost use Rattle.std.specs.Prelude.{◌≡◌, IfOk, IfErr, IsSome};
+ghost use Rattle.std.specs.Prelude.{◌≡◌, IfOk};
 ghost use Rattle.archive_check.specs.Expressions.{shape_of};
-ghost use Rattle.archive_check.specs.Shape.{Name, named};
-ghost use Rattle.archive_check.specs.PlanGrowth.{node_of};
-ghost use Rattle.archive_check.specs.declared.error.Error.TheVariants.{OutOfMemory};
+ghost use Rattle.archive_check.specs.Compilable.{CanWait};
 ghost use Rattle.archive_check.specs.CompileQueue.{waits_of, no_waits, IsQueued};
 
 use crate::counting::root;
-use crate::error::Error;
 use crate::expr::Expr;
-use crate::growing::{Known, find};
-use std::alloc::Global;
+use crate::growing::{Known, known_node};
+use std::alloc::{AllocError, Global};
 
 /// An expression, and the node that it is to be compiled to.
 #[derive(Clone, Copy)]
@@ -43,16 +40,13 @@ impl<'e> Queue<'e> {
     }
 }
 
-/// The node of what a pointer leads to: a name's, or that of an expression that waits from now on.
-pub fn wait<'e>(names: &[Known], expr: &'e Expr, queue: &mut Queue<'e>) -> Result<usize, Error>
-    ensures ok { IfOk result (λ j. IsQueued names.now (shape_of expr.now) (waits_of queue.old) (waits_of queue.new) j) }
-    ensures err { IfErr result (λ e. ((name : Name) → shape_of expr.now ≡ named name → IsSome (node_of names.now name)) → e ≡ OutOfMemory) }
+/// The node of what a pointer leads to: a name's, or that of an expression that waits from now on. Each name in it is known.
+pub fn wait<'e>(names: &[Known], expr: &'e Expr, queue: &mut Queue<'e>) -> Result<usize, AllocError>
+    requires { CanWait names.now (shape_of expr.now) }
+    ensures { IfOk result (λ j. IsQueued names.now (shape_of expr.now) (waits_of queue.old) (waits_of queue.new) j) }
 {
     if let Expr::Named(name) = expr {
-        return match find(names, name) {
-            None => Err(Error::ShapeConflict),
-            Some(node) => Ok(node),
-        };
+        return Ok(known_node(names, name));
     }
     let (node, end) = root(names, expr, queue.next)?;
     queue.items.push(Waiting { expr, node })?;

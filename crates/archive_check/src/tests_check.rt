@@ -10,6 +10,7 @@ use crate::error::Error;
 use crate::expr::{Expr, FlavorInfo, IntegerKind, Kind, Pointee};
 use crate::plan::{Checker, Plan};
 use crate::shallow::shallow_nodes;
+use crate::tests_plans::planned;
 use crate::validation::{ArchiveContext, SharedContext};
 use crate::validator::HighValidator;
 use std::alloc::{AllocError, Global};
@@ -78,7 +79,7 @@ fn check<C: ArchiveContext + SharedContext>(
 // How many regions a check enters, under definitions and a limit of depth.
 fn entered(
     alloc: Global,
-    defs: &[Def],
+    defs: Vec<Def>,
     root: &Expr,
     bytes: &[u8],
     at: usize,
@@ -86,14 +87,14 @@ fn entered(
 ) -> Result<usize, Error>
     requires { levels ≢ Some 0 }
 {
-    let (plan, node, _) = Plan::of(alloc, defs, root)?;
+    let (plan, node) = planned(alloc, defs, root)?;
     let mut context = HighValidator::with_max_depth(alloc, bytes, levels);
     check(alloc, &plan, node, bytes, at, &mut context)?;
     Ok(context.subtrees())
 }
 
 fn checked(alloc: Global, root: &Expr, bytes: &[u8], at: usize) -> Result<usize, Error> {
-    entered(alloc, &[], root, bytes, at, None)
+    entered(alloc, Vec::new(alloc), root, bytes, at, None)
 }
 
 fn outside(position: i128, size: usize, start: usize, end: usize) -> Result<usize, Error> {
@@ -137,10 +138,19 @@ fn a_limit_of_depth_counts_the_root(rt: HostRuntime) -> Result<(), Fail> {
     let root = option(alloc, boxed(alloc, Pointee::Run(number(IntegerKind::U8)))?)?;
     let bytes = b"Hello world\0\x01\0\0\0\xf0\xff\xff\xff\x0b\0\0\0";
     let deep = Err(Error::ExceededMaximumSubtreeDepth);
-    assert_eq!(rt; entered(alloc, &[], &root, bytes, 12, Some(1)), deep);
+    assert_eq!(rt;
+        entered(alloc, Vec::new(alloc), &root, bytes, 12, Some(1)),
+        deep
+    );
     let deep = Err(Error::ExceededMaximumSubtreeDepth);
-    assert_eq!(rt; entered(alloc, &[], &root, bytes, 12, Some(2)), deep);
-    assert_eq!(rt; entered(alloc, &[], &root, bytes, 12, Some(3)), Ok(2));
+    assert_eq!(rt;
+        entered(alloc, Vec::new(alloc), &root, bytes, 12, Some(2)),
+        deep
+    );
+    assert_eq!(rt;
+        entered(alloc, Vec::new(alloc), &root, bytes, 12, Some(3)),
+        Ok(2)
+    );
     assert_eq!(rt; checked(alloc, &root, bytes, 12), Ok(2));
     let other = b"Hello world\0\x02\0\0\0\xf0\xff\xff\xff\x0b\0\0\0";
     assert_eq!(rt;
@@ -221,25 +231,29 @@ fn shared_positions_have_one_type_and_length(rt: HostRuntime) -> Result<(), Fail
     Ok(())
 }
 
-#[test]
-fn a_cycle_is_refused_and_a_null_is_not_followed(rt: HostRuntime) -> Result<(), Fail> {
-    let alloc = rt.alloc();
+// What points to itself, weakly.
+fn inner(alloc: Global) -> Result<Vec<Def>, AllocError> {
     let inner = weak(alloc, Pointee::One(Expr::Named("Inner")))?;
     let expr = Expr::Record(vec![in alloc; inner]?);
-    let defs = vec![in alloc;
+    Ok(vec![in alloc;
         Def {
             name: "Inner",
             expr
         },
-    ]?;
+    ]?)
+}
+
+#[test]
+fn a_cycle_is_refused_and_a_null_is_not_followed(rt: HostRuntime) -> Result<(), Fail> {
+    let alloc = rt.alloc();
     let root = Expr::Record(vec![in alloc; shared(alloc, Pointee::One(Expr::Named("Inner")))?]?);
     let cycle = b"\0\0\0\0\xfc\xff\xff\xff";
     assert_eq!(rt;
-        entered(alloc, &defs, &root, cycle, 4, None),
+        entered(alloc, inner(alloc)?, &root, cycle, 4, None),
         Err(Error::CyclicValidate)
     );
     let null = b"\x01\0\0\0\xfc\xff\xff\xff";
-    assert_eq!(rt; entered(alloc, &defs, &root, null, 4, None), Ok(2));
+    assert_eq!(rt; entered(alloc, inner(alloc)?, &root, null, 4, None), Ok(2));
     Ok(())
 }
 
@@ -261,11 +275,10 @@ fn node(alloc: Global) -> Result<Vec<Def>, AllocError> {
 #[test]
 fn deep_lists_take_no_stack(rt: HostRuntime) -> Result<(), Fail> {
     let alloc = rt.alloc();
-    let defs = node(alloc)?;
     let root = Expr::Named("ArchivedNode");
     let itself = b"\x01\0\0\0\x04\0\0\0\x01\0\0\0\xf4\xff\xff\xff";
     assert_eq!(rt;
-        entered(alloc, &defs, &root, itself, 8, None),
+        entered(alloc, node(alloc)?, &root, itself, 8, None),
         outside(8, 8, 0, 0)
     );
     let mut bytes = vec![in alloc; 0u8; 8]?;
@@ -273,7 +286,7 @@ fn deep_lists_take_no_stack(rt: HostRuntime) -> Result<(), Fail> {
         bytes.extend_from_slice(b"\x01\0\0\0\xf4\xff\xff\xff")?;
     }
     assert_eq!(rt;
-        entered(alloc, &defs, &root, &bytes, 1_600_000, None),
+        entered(alloc, node(alloc)?, &root, &bytes, 1_600_000, None),
         Ok(200_001)
     );
     Ok(())

@@ -1,9 +1,15 @@
 // Expressions and their definitions are compiled to plans.
 
+ghost use Rattle.std.specs.Prelude.{List, IfOk};
+ghost use Rattle.archive_check.specs.Expressions.{shape_of};
+ghost use Rattle.archive_check.specs.Planned.{IsPlan};
+ghost use Rattle.archive_check.specs.declared.defs.Def.{Def};
+
 use crate::defs::Def;
 use crate::error::Error;
 use crate::expr::{Expr, FlavorInfo, IntegerKind, Kind, Pointee};
 use crate::growing::is_free;
+use crate::names::{collect, in_order};
 use crate::plan::Plan;
 use crate::shallow::shallow_nodes;
 use std::alloc::{AllocError, Global};
@@ -13,6 +19,20 @@ const RC: FlavorInfo = FlavorInfo {
     name: "RcFlavor",
     cycles: false,
 };
+
+// The plan of an expression whose names have these definitions, and its node.
+pub(crate) fn planned(
+    alloc: Global,
+    mut defs: Vec<Def>,
+    root: &Expr,
+) -> Result<(Plan, usize), Error>
+    ensures { IfOk result (λ r. (ds : List Def) × IsPlan ds (shape_of root.now) r.0 r.1) }
+{
+    let mut found = collect(alloc, root, &mut defs)?;
+    let placed = in_order(alloc, &mut found)?;
+    let (plan, node, _) = Plan::of(alloc, &placed, root)?;
+    Ok((plan, node))
+}
 
 fn number() -> Expr {
     Expr::Leaf(Kind::Number(IntegerKind::U32))
@@ -65,7 +85,7 @@ fn offset_of(plan: &Plan, i: usize) -> Option<usize> {
 fn a_list_holds_itself_behind_a_pointer(rt: HostRuntime) -> Result<(), Fail> {
     let defs = list(rt.alloc())?;
     let root = Expr::Named("List");
-    let (plan, node, _) = Plan::of(rt.alloc(), &defs, &root)?;
+    let (plan, node) = planned(rt.alloc(), defs, &root)?;
     assert_eq!(rt; plan.nodes.len(), 3);
     assert_eq!(rt; node, 2);
     assert_eq!(rt; size_of(&plan, node), Some(Some(8)));
@@ -79,7 +99,7 @@ fn a_list_holds_itself_behind_a_pointer(rt: HostRuntime) -> Result<(), Fail> {
 fn what_pointers_lead_to_comes_last(rt: HostRuntime) -> Result<(), Fail> {
     let defs = pairs(rt.alloc())?;
     let root = Expr::Named("Node");
-    let (plan, node, _) = Plan::of(rt.alloc(), &defs, &root)?;
+    let (plan, node) = planned(rt.alloc(), defs, &root)?;
     assert_eq!(rt; plan.nodes.len(), 4);
     assert_eq!(rt; node, 1);
     assert_eq!(rt; size_of(&plan, node), Some(Some(8)));
@@ -91,7 +111,7 @@ fn what_pointers_lead_to_comes_last(rt: HostRuntime) -> Result<(), Fail> {
 fn what_has_no_byte_to_look_at_is_free(rt: HostRuntime) -> Result<(), Fail> {
     let pair = Expr::Record(vec![in rt.alloc(); number(), Expr::Leaf(Kind::Unit)]?);
     let many = Expr::Array(3, Box::new(rt.alloc(), pair)?);
-    let (plan, node, _) = Plan::of(rt.alloc(), &[], &many)?;
+    let (plan, node) = planned(rt.alloc(), Vec::new(rt.alloc()), &many)?;
     assert_eq!(rt; plan.nodes.len(), 4);
     assert_eq!(rt; size_of(&plan, node), Some(Some(12)));
     assert_eq!(rt; is_free_at(&plan, node), Some(true));
@@ -102,7 +122,7 @@ fn what_has_no_byte_to_look_at_is_free(rt: HostRuntime) -> Result<(), Fail> {
 fn sizes_above_the_greatest_are_none(rt: HostRuntime) -> Result<(), Fail> {
     let huge = Expr::Array(usize::MAX, Box::new(rt.alloc(), number())?);
     let root = Expr::Record(vec![in rt.alloc(); Expr::Leaf(Kind::Bool), huge]?);
-    let (plan, node, _) = Plan::of(rt.alloc(), &[], &root)?;
+    let (plan, node) = planned(rt.alloc(), Vec::new(rt.alloc()), &root)?;
     assert_eq!(rt; size_of(&plan, node), Some(None));
     assert_eq!(rt; align_of(&plan, node), Some(4));
     Ok(())
@@ -111,7 +131,7 @@ fn sizes_above_the_greatest_are_none(rt: HostRuntime) -> Result<(), Fail> {
 #[test]
 fn a_shared_pointee_is_kept_as_written(rt: HostRuntime) -> Result<(), Fail> {
     let root = Expr::Weak(RC, Box::new(rt.alloc(), Pointee::Run(number()))?);
-    let (plan, node, _) = Plan::of(rt.alloc(), &[], &root)?;
+    let (plan, node) = planned(rt.alloc(), Vec::new(rt.alloc()), &root)?;
     assert_eq!(rt; plan.nodes.len(), 2);
     assert_eq!(rt; node, 0);
     match plan.sorts.get(0) {
@@ -128,7 +148,7 @@ fn a_shared_pointee_is_kept_as_written(rt: HostRuntime) -> Result<(), Fail> {
 fn names_are_looked_for(rt: HostRuntime) -> Result<(), Fail> {
     let root = Expr::Named("List");
     assert_eq!(rt;
-        Plan::of(rt.alloc(), &[], &root).err(),
+        planned(rt.alloc(), Vec::new(rt.alloc()), &root).err(),
         Some(Error::ShapeConflict)
     );
     let itself = Expr::Array(2, Box::new(rt.alloc(), Expr::Named("Itself"))?);
@@ -138,8 +158,9 @@ fn names_are_looked_for(rt: HostRuntime) -> Result<(), Fail> {
             expr: itself
         },
     ]?;
+    let root = Expr::Named("Itself");
     assert_eq!(rt;
-        Plan::of(rt.alloc(), &defs, &root).err(),
+        planned(rt.alloc(), defs, &root).err(),
         Some(Error::RecursiveLayout)
     );
     Ok(())
@@ -160,14 +181,14 @@ fn option(alloc: Global, value: Expr) -> Result<Expr, AllocError> {
 }
 
 // Whether the node of an expression is shallow, under definitions.
-fn is_shallow_under(alloc: Global, defs: &[Def], root: &Expr) -> Result<bool, Error> {
-    let (plan, node, _) = Plan::of(alloc, defs, root)?;
+fn is_shallow_under(alloc: Global, defs: Vec<Def>, root: &Expr) -> Result<bool, Error> {
+    let (plan, node) = planned(alloc, defs, root)?;
     let shallow = shallow_nodes(alloc, &plan)?;
     Ok(shallow.get(node).copied().unwrap_or(false))
 }
 
 fn is_shallow(alloc: Global, root: Expr) -> Result<bool, Error> {
-    is_shallow_under(alloc, &[], &root)
+    is_shallow_under(alloc, Vec::new(alloc), &root)
 }
 
 #[test]
@@ -219,11 +240,10 @@ fn what_holds_shallow_nodes_alone_is_shallow(rt: HostRuntime) -> Result<(), Fail
 #[test]
 fn what_leads_to_itself_or_is_shared_is_not_shallow(rt: HostRuntime) -> Result<(), Fail> {
     let alloc = rt.alloc();
-    let defs = list(alloc)?;
     let named = Expr::Named("List");
-    assert_eq!(rt; is_shallow_under(alloc, &defs, &named), Ok(false));
+    assert_eq!(rt; is_shallow_under(alloc, list(alloc)?, &named), Ok(false));
     let named = pointer(alloc, named)?;
-    assert_eq!(rt; is_shallow_under(alloc, &defs, &named), Ok(false));
+    assert_eq!(rt; is_shallow_under(alloc, list(alloc)?, &named), Ok(false));
     let shared = Expr::Shared(RC, Box::new(alloc, Pointee::One(number()))?);
     assert_eq!(rt; is_shallow(alloc, shared), Ok(false));
     let weak = Expr::Weak(RC, Box::new(alloc, Pointee::Text)?);

@@ -1,5 +1,5 @@
 use Rattle.std.proofs.Common.{refl, rules}
 use Rattle.archive_check.proofs.growing.push.Goals as goal
 
-pub returns-clause-ok : goal.returns-clause-ok
-returns-clause-ok c = record { node = _; nodes = c.in_ok-push.ensures.items; parts = refl; variants = refl; sorts = refl; is = search rules; size_is = refl; align_is = refl; job_is = refl }
+pub returns : goal.returns
+returns c = record { node = _; nodes = c.in_ok-push.ensures.items; parts = refl; variants = refl; sorts = refl; is = search rules; size_is = refl; align_is = refl; job_is = refl }

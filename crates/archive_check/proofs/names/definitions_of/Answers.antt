@@ -7,18 +7,18 @@ returns-in-Err-clause-refused g c = explains_conflict g.T.ArchivePointee.definit
 
 pub returns-in-Err-collect-clause-refused : goal.returns-in-Err-collect-clause-refused
 returns-in-Err-collect-clause-refused g c =
-    explains_lost g.T.ArchivePointee.definitions g.T.Portable.shape (table_of c.new-defs.result) (table_of c.define.new.defs) (entries_of c.into_items.result.items) (shape_of c.args.root.now)
-    c.new-defs.ensures c.in_default.ensures.added c.into_items.ensures c.requires c.in-Err-collect.error c.in-Err-collect.ensures.err
+    explains_lost g.T.ArchivePointee.definitions g.T.Portable.shape (table_of c.new-defs.result) (table_of c.define.new.defs) (entries_of c.into_items-given.result.items) (shape_of c.args.root.now)
+    c.new-defs.ensures c.in_default.ensures.added c.into_items-given.ensures c.requires c.in-Err-collect.error c.in-Err-collect.ensures.err
 
 pub in_order-requires : goal.in_order-requires
-in_order-requires g c = collected_complete (entries_of c.into_items.result.items) (shape_of c.args.root.now) (entries_of c.in-Ok.found.items) c.in-Ok.ensures.ok
+in_order-requires g c = collected_complete (entries_of c.into_items-given.result.items) (shape_of c.args.root.now) (entries_of c.in-Ok.found.items) c.in-Ok.ensures.ok
 
 pub returns-in-Ok-in_order-clause-made : goal.returns-in-Ok-in_order-clause-made
 returns-in-Ok-in_order-clause-made g c =
-    prepares g.T.ArchivePointee.definitions g.T.Portable.shape (table_of c.new-defs.result) (table_of c.define.new.defs) (entries_of c.into_items.result.items) (shape_of c.args.root.now)
-    c.new-defs.ensures c.in_default.ensures.added c.into_items.ensures c.requires (entries_of c.in-Ok.found.items) c.in-Ok.ensures.ok (entries_of c.in-Ok-in_order.placed.items) c.in-Ok-in_order.ensures.ok
+    prepares g.T.ArchivePointee.definitions g.T.Portable.shape (table_of c.new-defs.result) (table_of c.define.new.defs) (entries_of c.into_items-given.result.items) (shape_of c.args.root.now)
+    c.new-defs.ensures c.in_default.ensures.added c.into_items-given.ensures c.requires (entries_of c.in-Ok.found.items) c.in-Ok.ensures.ok (entries_of c.in-Ok-in_order.placed.items) c.in-Ok-in_order.ensures.ok
 
-pub returns-in-Err-in_order-clause-refused : goal.returns-in-Err-in_order-clause-refused
-returns-in-Err-in_order-clause-refused g c =
-    explains_held g.T.ArchivePointee.definitions g.T.Portable.shape (table_of c.new-defs.result) (table_of c.define.new.defs) (entries_of c.into_items.result.items) (shape_of c.args.root.now)
-    c.new-defs.ensures c.in_default.ensures.added c.into_items.ensures c.requires (entries_of c.in-Ok.found.items) c.in-Ok.ensures.ok c.in-Err-in_order.error c.in-Err-in_order.ensures.err
+pub returns-clause-refused : goal.returns-clause-refused
+returns-clause-refused g c =
+    explains_held g.T.ArchivePointee.definitions g.T.Portable.shape (table_of c.new-defs.result) (table_of c.define.new.defs) (entries_of c.into_items-given.result.items) (shape_of c.args.root.now)
+    c.new-defs.ensures c.in_default.ensures.added c.into_items-given.ensures c.requires (entries_of c.in-Ok.found.items) c.in-Ok.ensures.ok c.in-Err-in_order.error c.in-Err-in_order.ensures.err

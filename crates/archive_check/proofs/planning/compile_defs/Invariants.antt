@@ -6,4 +6,4 @@ use Rattle.archive_check.specs.Planned.{Chained}
 use Rattle.archive_check.proofs.planning.compile_defs.Given as goal
 
 abbrev pub invariant-loop-i : goal.invariant-loop-i
-invariant-loop-i l = Chained l.names (def_shapes (take l.i l.defs)) l.base (waits_of l.queue) (lists_of l.plan)
+invariant-loop-i l = Chained l.names (def_shapes (take l.i l.defs)) l.fn.queue.next (waits_of l.queue) (lists_of l.plan)

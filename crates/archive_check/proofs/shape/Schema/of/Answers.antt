@@ -1,20 +1,16 @@
-use Rattle.std.proofs.Common.{◌≡◌, inl, sym, subst, true}
-use Rattle.archive_check.specs.declared.error.Error.TheVariants.{OutOfMemory}
+use Rattle.std.proofs.Common.{sym, subst, true}
 use Rattle.archive_check.specs.Expressions.{shape_of, entries_of}
-use Rattle.archive_check.specs.Schemas.{ExplainsNoSchema}
 use Rattle.archive_check.specs.Planned.{InOrder}
-use Rattle.archive_check.proofs.Restated.{handed_as}
 use Rattle.archive_check.proofs.MissingNames.{held_known}
 use Rattle.archive_check.proofs.PlansInOrder.{in_order_of}
 use Rattle.archive_check.proofs.shape.Schema.of.Goals as goal
 
-pub returns-in_err-plan-clause-refused : goal.returns-in_err-plan-clause-refused
-returns-in_err-plan-clause-refused g c =
+pub of-requires : goal.of-requires
+of-requires g c =
     let made = c.in_ok-definitions.ensures.made in
     let order : InOrder c.in_ok-definitions.definitions.items g.T.Portable.shape = in_order_of c.in_ok-definitions.definitions.items g.T.Portable.shape made.complete made.ordered in
     let here : InOrder c.in_ok-definitions.definitions.items (shape_of c.in_ok-root.root) = subst (λ X. InOrder c.in_ok-definitions.definitions.items X) (sym c.in_ok-root.ensures.shape) order in
-    let memory : c.in_err-plan.field-0.0 ≡ OutOfMemory = c.in_err-plan.ensures.err (subst (λ ds. InOrder ds (shape_of c.in_ok-root.root)) (sym c.deref.ensures.value) here) in
-    handed_as c.from_residual-in_err-plan.result c.in_err-plan.field-0.0 (λ e. ExplainsNoSchema g.T.Portable.shape g.T.ArchivePointee.definitions e) c.from_residual-in_err-plan.ensures.1 (inl memory)
+    subst (λ ds. InOrder ds (shape_of c.in_ok-root.root)) (sym c.deref.ensures.value) here
 
 pub returns-clause-held : goal.returns-clause-held
 returns-clause-held g c = held_known (entries_of c.in_ok-definitions.definitions.items) g.T.Portable.shape true c.in_ok-definitions.ensures.made.complete.root
