@@ -1,16 +1,14 @@
-//! The check of bytes against a plan: a list of what is left to check, and no recursion.
+//! The check of bytes against a plan, by a list of what is left to check. Calls nest as deep as the shape does, and never by the data.
 
-ghost use Rattle.std.specs.Prelude.{◌≡◌, ◌⊎◌, ◌+◌, ◌*◌, ◌<◌, ◌≤◌, ◌∷◌, ℕ, [], pos, None, length, slice_index, OnOk, IfErr, OnSome, IfSome, IfNone, IsTrue, IsUtf8, Some, ◌≢◌, false};
-ghost use Rattle.archive_check.specs.Reads.{bytes_at};
+ghost use Rattle.std.specs.Prelude.{◌≡◌, ◌⊎◌, ◌+◌, ◌*◌, ◌<◌, ◌≤◌, ◌∷◌, ℕ, [], pos, None, length, slice_index, OnOk, IfErr, OnSome, IfSome, IfNone, IsTrue, Some, ◌≢◌, false};
 ghost use Rattle.std.specs.FinMap.{empty};
 ghost use Rattle.archive_check.specs.declared.error.Error.TheVariants.{OutOfMemory};
-ghost use Rattle.archive_check.specs.declared.plan.Job.TheVariants.{Str};
 ghost use Rattle.archive_check.specs.declared.plan.Target.TheVariants.{One, Text};
 ghost use Rattle.archive_check.specs.declared.work.Work.TheVariants.{Part as PartWork, Parts as PartsWork};
 ghost use Rattle.archive_check.specs.declared.plan.Part.{Part};
 ghost use Rattle.archive_check.specs.Tour.{Seen};
 ghost use Rattle.archive_check.specs.Trail.{Fault};
-ghost use Rattle.archive_check.specs.Runs.{times as times_of, count_at, length_of, target_size, IsAt, IsNode, Takes, RegionIs, EnterRuns, done, refused};
+ghost use Rattle.archive_check.specs.Runs.{times as times_of, count_at, length_of, target_size, IsAt, Takes, RegionIs, EnterRuns, done, refused};
 ghost use Rattle.archive_check.specs.Lists.{list_of};
 ghost use Rattle.archive_check.specs.Closed.{IsClosed};
 ghost use Rattle.archive_check.specs.Faults.{IsFor};
@@ -19,7 +17,7 @@ ghost use Rattle.archive_check.specs.Shallow.{IsMarked};
 ghost use Rattle.archive_check.specs.Entered.{Entered};
 ghost use Rattle.archive_check.specs.Through.{Through, Stops, region_rule, contents_rule};
 ghost use Rattle.archive_check.specs.declared.plan.Target.{Target as TargetOf};
-ghost use Rattle.archive_check.specs.Turns.{PointeeFits, Passes, PartFits, PartsFit, ElementsFit, Stays, PartStays, LiesLegal, Ready, stage, Listing, Entering, Following, Leads, Keeps, IsStopped, power, level, cost};
+ghost use Rattle.archive_check.specs.Turns.{PointeeFits, PartFits, PartsFit, ElementsFit, Stays, PartStays, LiesLegal, Ready, stage, Listing, Entering, Following, Leads, Keeps, IsStopped, power, level, cost};
 
 use crate::bytes::{is_text, read_i32, read_position, read_u32};
 use crate::error::Error;

@@ -1,6 +1,6 @@
 //! The check of shallow nodes. They lead to nothing that has to be listed, so the calls nest as deep as the shape does, and no deeper.
 
-ghost use Rattle.std.specs.Prelude.{◌≡◌, ◌≢◌, ◌<◌, ◌≤◌, ℕ, length, OnSome, IfNone, IsTrue};
+ghost use Rattle.std.specs.Prelude.{◌≡◌, ◌≢◌, ◌<◌, ◌≤◌, length, OnSome, IfNone, IsTrue};
 ghost use Rattle.archive_check.specs.declared.plan.Job.TheVariants.{Str};
 ghost use Rattle.archive_check.specs.declared.plan.Target.TheVariants.{Text};
 ghost use Rattle.archive_check.specs.declared.plan.Node.{Node};
