@@ -1,15 +1,20 @@
 -- What the validators hold.
-use Rattle.std.specs.Prelude.{ℕ}
+use Rattle.std.specs.Prelude.{ℕ, Option, None, Some}
 use Rattle.std.specs.HashMap.{get, spare}
 use Rattle.std.specs.Ordering.{int_eq}
 use Rattle.archive_check.specs.declared.shared.SharedValidator.{SharedValidator}
 use Rattle.archive_check.specs.declared.validator.Validator.{Validator}
-use Rattle.archive_check.specs.Met.{Positions}
+use Rattle.archive_check.specs.Met.{Positions, nothing_met}
 use Rattle.archive_check.specs.SharedPositions.{positions_in}
 
 -- the positions that a validator of shared ones met
 abbrev pub positions_of : {A : Type 0} → SharedValidator A → Positions
 positions_of v = positions_in v.sorts.items (get int_eq v.positions)
+
+-- those that were met, where the validator of shared ones is made at the first
+abbrev pub positions_met : {A : Type 0} → Option (SharedValidator A) → Positions
+positions_met None = nothing_met
+positions_met (Some v) = positions_of v
 
 -- how many more it can keep without taking memory for them
 abbrev pub room_of : {A : Type 0} → SharedValidator A → ℕ

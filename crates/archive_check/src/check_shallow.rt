@@ -20,6 +20,7 @@ use crate::work::Worklist;
 
 impl Checker<'_> {
     /// Checks a region of so many of the pointee: a text, or bytes that are legal whatever they are.
+    #[inline(always)]
     fn check_shallow_region<C: ArchiveContext>(
         &self,
         target: Target,
@@ -50,6 +51,7 @@ impl Checker<'_> {
     }
 
     /// Checks the string at `at`, whose node this is.
+    #[inline(always)]
     fn check_text<C: ArchiveContext>(
         &self,
         node: usize,
@@ -91,6 +93,7 @@ impl Checker<'_> {
 
     /// Checks a shallow node at `at`.
     #[cycle(check_shallow)]
+    #[inline(always)]
     pub fn check_shallow<C: ArchiveContext>(
         &self,
         node: usize,

@@ -86,7 +86,9 @@ impl<A: Context, S: SharedContext> SharedContext for Validator<A, S> {
 #[derive(Drop)]
 pub struct HighValidator<'a> {
     range: ArchiveValidator<'a>,
-    positions: SharedValidator,
+    alloc: Global,
+    // Made at the first shared position, since many archives have none.
+    positions: Option<SharedValidator>,
 }
 
 impl<'a> HighValidator<'a> {
@@ -110,7 +112,8 @@ impl<'a> HighValidator<'a> {
         prove!(depth.unwrap_or(0) <= usize::MAX);
         HighValidator {
             range: ArchiveValidator::with_max_depth(bytes, depth),
-            positions: SharedValidator::new(alloc),
+            alloc,
+            positions: None,
         }
     }
 
@@ -123,9 +126,11 @@ impl<'a> HighValidator<'a> {
 }
 
 impl Context for HighValidator<'_> {
+    ghost use Rattle.archive_check.specs.Validators.{positions_met};
+
     ghost state = { λ v. v.range };
 
-    ghost positions = { λ v. ⟦<SharedValidator as Context>⟧.positions v.positions };
+    ghost positions = { λ v. positions_met v.positions };
 }
 
 impl ArchiveContext for HighValidator<'_> {
@@ -150,8 +155,15 @@ impl SharedContext for HighValidator<'_> {
         position: i128,
         length: usize,
     ) -> Result<ValidationState, Error> {
-        self.positions
-            .start_shared(flavor, pointee, position, length)
+        match &mut self.positions {
+            Some(positions) => positions.start_shared(flavor, pointee, position, length),
+            None => {
+                let mut positions = SharedValidator::new(self.alloc);
+                let answer = positions.start_shared(flavor, pointee, position, length);
+                self.positions = Some(positions);
+                answer
+            }
+        }
     }
 
     fn finish_shared(
@@ -160,6 +172,9 @@ impl SharedContext for HighValidator<'_> {
         pointee: &Pointee,
         position: i128,
     ) -> Result<(), Error> {
-        self.positions.finish_shared(flavor, pointee, position)
+        match &mut self.positions {
+            Some(positions) => positions.finish_shared(flavor, pointee, position),
+            None => Err(Error::NotStarted),
+        }
     }
 }
