@@ -1,8 +1,10 @@
 -- Bytes read one by one.
-use Rattle.std.proofs.Common.{◌≡◌, ℕ, zero, suc, refl, ◌+◌, ◌<◌, ◌≤◌, arith, ap, sym, ◌∙◌, List, [], ◌∷◌, length, take, drop, slice_index, drop-cons, cond, nat_eq, Bool, true, false, ◌≢◌}
+use Rattle.std.proofs.Common.{◌≡◌, ℕ, zero, suc, refl, ◌+◌, ◌<◌, ◌≤◌, arith, ap, sym, ◌∙◌, List, [], ◌∷◌, length, take, drop, slice_index, drop-cons, cond, nat_eq, nat_lt, Bool, true, false, ◌≢◌, ◌-◌, IsAscii}
 use Rattle.std.proofs.lemmas.Bool.Decides.{nat_tests}
 use Rattle.std.proofs.lemmas.Grind.{common_steps}
+use Rattle.std.proofs.lemmas.List.{get_or_past}
 use Rattle.archive_check.specs.Reads.{bytes_at, before_end}
+use Rattle.archive_check.proofs.EditedBytes.{bytes_long}
 
 pub bytes_one : (bytes : List ℕ) (p : ℕ) → p < length bytes → bytes_at bytes p 1 ≡ slice_index bytes p ∷ []
 unfolding bytes_at
@@ -48,3 +50,22 @@ unfolding bytes_at
 inline_first bytes p k room lt h e =
     let l : k < length (take 8 (drop p bytes)) = grind (arith, common_steps) in
     sym (before_first (take 8 (drop p bytes)) k l (λ i below f. let q : i < 8 = omega arith in h i below (sym (byte_in bytes p 8 i q) ∙ f)) (byte_in bytes p 8 k lt ∙ e) ∙ take_within k (drop p bytes) (omega arith))
+
+-- bytes are ASCII where the first and the last w of them are, and none lie between
+ascii_at : (bytes : List ℕ) (p n w : ℕ) → w ≤ n → n ≤ w + w → p + n ≤ length bytes → IsAscii (bytes_at bytes p w) → IsAscii (bytes_at bytes (p + n - w) w) → (i : ℕ) (a b : Bool) → nat_lt i w ≡ a → nat_lt i n ≡ b → slice_index (bytes_at bytes p n) i < 128
+ascii_at bytes p n w ge le fits first last i true b e f =
+    let lt : i < w = grind (arith, nat_tests) in
+    omega (arith, byte_in bytes p n i (omega arith), byte_in bytes p w i lt, first i)
+ascii_at bytes p n w ge le fits first last i false true e f =
+    let out : w ≤ i = grind (arith, nat_tests) in
+    let lt : i < n = grind (arith, nat_tests) in
+    let k = i + w - n in
+    let there : p + n - w + k ≡ p + i = omega arith in
+    let same = byte_in bytes (p + n - w) w k (omega arith) ∙ ap (λ q. slice_index bytes q) there in
+    omega (arith, byte_in bytes p n i lt, same, last k)
+ascii_at bytes p n w ge le fits first last i false false e f =
+    let out : n ≤ i = grind (arith, nat_tests) in
+    omega (arith, get_or_past (bytes_at bytes p n) i 0 (omega (arith, bytes_long bytes p n fits)))
+
+pub ascii_ends : (bytes : List ℕ) (p n w : ℕ) → w ≤ n → n ≤ w + w → p + n ≤ length bytes → IsAscii (bytes_at bytes p w) → IsAscii (bytes_at bytes (p + n - w) w) → IsAscii (bytes_at bytes p n)
+ascii_ends bytes p n w ge le fits first last i = ascii_at bytes p n w ge le fits first last i (nat_lt i w) (nat_lt i n) refl refl

@@ -73,7 +73,7 @@ times_size (Some y) n z e lt = (y, refl, grind (arith, nat_tests))
 pub entered : (m : Checker) (s s1 s2 : RangeState) (j n : ℕ) (z z' : ℤ) (node : Node) (r : Region) (u : Unit {0})
     → j < length m.nodes.now → node ≡ slice_index_or m.nodes.now j node → times (slice_index_or m.nodes.now j node).size n ≡ Some r.size
     → z' ≡ z → z' ≡ pos r.begin → Ok u ≡ subtree_answer s z' r.size (slice_index_or m.nodes.now j node).align
-    → s1 ≡ s → s2 ≡ pushed s1 r.begin → (s1.depth ≡ Some 1 → ⊥) → (r.outer.start ≡ r.begin + r.size) × (r.outer.end ≡ s1.end)
+    → s1 ≡ s → s2 ≡ pushed s1 r.begin → (s1.depth ≡ Some 1 → ⊥) → (r.outer_start ≡ r.begin + r.size) × (r.outer_end ≡ s1.end)
     → Entered m j n z s s2 r
 entered m s s1 s2 j n z z' node r u known is sized zz target v same pushes deep ends =
     let w : Ok u ≡ subtree_answer s z r.size (slice_index_or m.nodes.now j node).align = v ∙ ap (λ q. subtree_answer s q r.size (slice_index_or m.nodes.now j node).align) zz in
@@ -150,7 +150,7 @@ through_same R s runs = record { end = refl; depth = λ some. refl; runs = λ so
 
 module _ (m : Checker) (j n : ℕ) (z : ℤ) (s s' : RangeState) (r : Region) (h : Entered m j n z s s' r) (target : Target) where
   -- what the region holds is gone through, and it is left
-  pub region_through : (s1 s2 : RangeState) → Through (contents_rule m target j n r.size r.begin) s' s1 → s2 ≡ popped s1 r.outer.start r.outer.end → Through (region_rule m target j n z) s s2
+  pub region_through : (s1 s2 : RangeState) → Through (contents_rule m target j n r.size r.begin) s' s1 → s2 ≡ popped s1 r.outer_start r.outer_end → Through (region_rule m target j n z) s s2
   region_through s1 s2 through left =
       let stop : s2.end ≡ s.end = ap (λ q. q.end) left ∙ h.outer_end in
       let start : s2.start ≡ r.begin + r.size = ap (λ q. q.start) left ∙ h.outer_start in
@@ -186,7 +186,7 @@ region_leads m target j n z s s' met met' old through same seen a =
       λ o r. and_then (through.runs some (pending_in old) seen) (rw (back, through.end) at r),
     )
 
-module _ (m : Checker) (j n : ℕ) (z : ℤ) (s s' : RangeState) (met met' : Positions) (old mid : List Work) (r : Region) (h : Entered m j n z s s' r) (same : met' ≡ met) (list : mid ≡ Leave r.outer.start r.outer.end ∷ old) where
+module _ (m : Checker) (j n : ℕ) (z : ℤ) (s s' : RangeState) (met met' : Positions) (old mid : List Work) (r : Region) (h : Entered m j n z s s' r) (same : met' ≡ met) (list : mid ≡ Leave r.outer_start r.outer_end ∷ old) where
   listed : mid ≡ Leave (r.begin + r.size) s.end ∷ old
   listed = list ∙ ap₂ (λ a b. Leave a b ∷ old) h.outer_start h.outer_end
 

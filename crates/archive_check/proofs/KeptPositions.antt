@@ -19,7 +19,7 @@ use Rattle.archive_check.specs.Shape.{Flavor, Pointee}
 use Rattle.archive_check.specs.Expressions.{flavor_of, pointee_of}
 use Rattle.archive_check.specs.Same.{same_flavor-Decides}
 use Rattle.archive_check.specs.Tour.{Entry}
-use Rattle.archive_check.specs.Met.{Met, Positions, nothing_met, started, started_at, finish_answer, IsStartAnswer}
+use Rattle.archive_check.specs.Met.{Met, Positions, started, started_at, finish_answer, IsStartAnswer}
 use Rattle.archive_check.specs.SharedPositions.{met_as, met_in, positions_in, AreKnown, HasType, IsGrown}
 
 slice_get-append : {A : Type 0} (xs ys : List A) (k : ℕ) → k < length xs → slice_get (xs ++ ys) k ≡ slice_get xs k
@@ -154,9 +154,9 @@ pub ruleset kept = (positions_in-grown, positions_in-update, started-again, AreK
 
 pub ruleset same_type = (same_flavors, other_flavors)
 
--- the first shared position that is met
-pub first_answer : (met : Positions) (p : ℤ) (e : Entry) (r : Result ValidationState Error) → met ≡ nothing_met → IsStartAnswer (met p) e r → IsStartAnswer None e r
-first_answer met p e r none h = subst (λ f. IsStartAnswer (f p) e r) none h
+-- what is said of the positions that were met is said of the same ones under another name
+pub answer_same : (met before : Positions) (p : ℤ) (e : Entry) (r : Result ValidationState Error) → met ≡ before → IsStartAnswer (met p) e r → IsStartAnswer (before p) e r
+answer_same met before p e r same h = subst (λ f. IsStartAnswer (f p) e r) same h
 
-pub first_started : (met after : Positions) (p : ℤ) (e : Entry) (r : Result ValidationState Error) → met ≡ nothing_met → OnOk r (after ≡ started met p e) → OnOk r (after ≡ started nothing_met p e)
-first_started met after p e r none h = subst (λ f. OnOk r (after ≡ started f p e)) none h
+pub started_same : (met before after : Positions) (p : ℤ) (e : Entry) (r : Result ValidationState Error) → met ≡ before → OnOk r (after ≡ started met p e) → OnOk r (after ≡ started before p e)
+started_same met before after p e r same h = subst (λ f. OnOk r (after ≡ started f p e)) same h

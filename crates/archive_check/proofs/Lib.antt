@@ -33,6 +33,7 @@ pub mod SameMeanings
 pub mod OneFault
 pub mod SomeMeaning
 pub mod PositiveAlignments
+pub mod PowersOfTwo
 pub mod Views
 pub mod Named
 pub mod CollectedDefinitions

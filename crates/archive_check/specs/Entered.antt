@@ -22,5 +22,5 @@ pub record Entered (m : Checker) (j n : ℕ) (z : ℤ) (s s' : RangeState) (r : 
   pub end : s'.end ≡ r.begin
   pub depth : s'.depth ≡ inside s.depth
   pub deep : s.depth ≡ Some 1 → ⊥
-  pub outer_start : r.outer.start ≡ r.begin + r.size
-  pub outer_end : r.outer.end ≡ s.end
+  pub outer_start : r.outer_start ≡ r.begin + r.size
+  pub outer_end : r.outer_end ≡ s.end

@@ -1,5 +1,5 @@
 -- What the validators hold.
-use Rattle.std.specs.Prelude.{ℕ, Option, None, Some}
+use Rattle.std.specs.Prelude.{ℕ, Option, None, Some, Box}
 use Rattle.std.specs.HashMap.{get, spare}
 use Rattle.std.specs.Ordering.{int_eq}
 use Rattle.archive_check.specs.declared.shared.SharedValidator.{SharedValidator}
@@ -12,9 +12,9 @@ abbrev pub positions_of : {A : Type 0} → SharedValidator A → Positions
 positions_of v = positions_in v.sorts.items (get int_eq v.positions)
 
 -- those that were met, where the validator of shared ones is made at the first
-abbrev pub positions_met : {A : Type 0} → Option (SharedValidator A) → Positions
+abbrev pub positions_met : {A B : Type 0} → Option (Box (SharedValidator A) B) → Positions
 positions_met None = nothing_met
-positions_met (Some v) = positions_of v
+positions_met (Some v) = positions_of v.value
 
 -- how many more it can keep without taking memory for them
 abbrev pub room_of : {A : Type 0} → SharedValidator A → ℕ

@@ -1,9 +1,11 @@
 //! Numbers and texts in bytes. Positions are in bytes from the buffer's first one.
 #![tactic(auto, unfolding(crate::specs::Reads::bytes_at, crate::specs::Reads::u32_at, crate::specs::Reads::i32_at, crate::specs::Reads::decoded_length))]
 
-ghost use Rattle.std.specs.Prelude.{◌≡◌, ◌↔◌, ◌+◌, ◌<◌, ◌≤◌, length, pos, ◌+ℤ◌, IsTrue, IsUtf8};
+ghost use Rattle.std.specs.Prelude.{◌≡◌, ◌↔◌, ◌+◌, ◌<◌, ◌≤◌, length, pos, ◌+ℤ◌, IsTrue, IsUtf8, IsAscii};
 ghost use Rattle.archive_check.specs.Reads.{bytes_at, u32_at, i32_at, before_end, decoded_length, IsOutOfLine};
 ghost use Rattle.archive_check.specs.Readable.{target_from};
+
+use std::simd::prelude::*;
 
 /// The number in the four bytes at `p`, the lowest first.
 pub fn read_u32(bytes: &[u8], p: usize) -> u32
@@ -75,12 +77,38 @@ pub fn inline_length(bytes: &[u8], p: usize) -> usize
     8
 }
 
+// Whether the eight bytes at `p` are ASCII.
+#[inline(always)]
+fn are_ascii(bytes: &[u8], p: usize) -> bool
+    requires { p + 8 ≤ length bytes.now }
+    ensures { IsTrue result → IsAscii (bytes_at bytes.now p 8) }
+{
+    u8x8::from_slice(&bytes[p..])
+        .simd_lt(u8x8::splat(0x80))
+        .all()
+}
+
+// Whether the `n` bytes at `p` are known to be ASCII at once, as most short texts are: the first eight and the last eight of them.
+#[inline(always)]
+fn is_short_ascii(bytes: &[u8], p: usize, n: usize) -> bool
+    requires { p + n ≤ length bytes.now }
+    ensures { IsTrue result → IsAscii (bytes_at bytes.now p n) }
+{
+    if n < 8 || n > 16 {
+        return false;
+    }
+    if !are_ascii(bytes, p) {
+        return false;
+    }
+    are_ascii(bytes, p + n - 8)
+}
+
 /// Whether the `n` bytes at `p` are UTF-8.
 pub fn is_text(bytes: &[u8], p: usize, n: usize) -> bool
     requires { p + n ≤ length bytes.now }
     ensures { IsTrue result ↔ IsUtf8 (bytes_at bytes.now p n) }
 {
-    simdutf8::basic::from_utf8(&bytes[p..p + n]).is_ok()
+    is_short_ascii(bytes, p, n) || simdutf8::basic::from_utf8(&bytes[p..p + n]).is_ok()
 }
 
 /// The `n` bytes at `p`, which are UTF-8.

@@ -8,7 +8,7 @@ ghost use Rattle.archive_check.specs.declared.work.Work.TheVariants.{Part as Par
 ghost use Rattle.archive_check.specs.declared.plan.Part.{Part};
 ghost use Rattle.archive_check.specs.Tour.{Seen};
 ghost use Rattle.archive_check.specs.Trail.{Fault};
-ghost use Rattle.archive_check.specs.Runs.{times as times_of, count_at, length_of, target_size, IsAt, Takes, RegionIs, EnterRuns, done, refused};
+ghost use Rattle.archive_check.specs.Runs.{count_at, length_of, target_size, IsAt, Takes, RegionIs, EnterRuns, done, refused};
 ghost use Rattle.archive_check.specs.Lists.{list_of};
 ghost use Rattle.archive_check.specs.Closed.{IsClosed};
 ghost use Rattle.archive_check.specs.Faults.{IsFor};
@@ -21,6 +21,7 @@ ghost use Rattle.archive_check.specs.Turns.{PointeeFits, PartFits, PartsFit, Ele
 
 use crate::bytes::{is_text, read_i32, read_position, read_u32};
 use crate::error::Error;
+use crate::extents::times;
 use crate::layout::Layout;
 use crate::leaf::is_legal;
 use crate::plan::{Checker, Job, Span, Target};
@@ -28,16 +29,6 @@ use crate::validation::{ArchiveContext, SharedContext, ValidationState};
 use crate::work::{Work, Worklist};
 use std::alloc::Global;
 use std::ops::Range;
-
-/// What so many of a size take.
-fn times(size: Option<usize>, count: usize) -> Option<usize>
-    ensures { result ≡ times_of size count }
-{
-    match size {
-        Some(size) => size.checked_mul(count),
-        None => if count == 0 { Some(0) } else { None },
-    }
-}
 
 /// The position as an index.
 fn place(position: i128) -> usize
@@ -47,15 +38,17 @@ fn place(position: i128) -> usize
     position as usize
 }
 
-/// A region that is entered.
-#[derive(Drop)]
+/// A region that is entered, and the range that is given back where it is left. Positions are in bytes from the buffer's first one.
+#[derive(Clone, Copy)]
 pub struct Region {
     /// Where it begins.
     pub begin: usize,
     /// How many bytes it has.
     pub size: usize,
-    /// The range that is given back where it is left.
-    pub outer: Range<usize>,
+    /// Where the range begins.
+    pub outer_start: usize,
+    /// Where the range ends.
+    pub outer_end: usize,
 }
 
 impl Checker<'_> {
@@ -175,7 +168,12 @@ impl Checker<'_> {
         let begin = place(position);
         match context.push_subtree_range(begin, begin + size) {
             Err(error) => work.refuse(error),
-            Ok(outer) => Some(Region { begin, size, outer }),
+            Ok(outer) => Some(Region {
+                begin,
+                size,
+                outer_start: outer.start,
+                outer_end: outer.end,
+            }),
         }
     }
 
@@ -246,14 +244,19 @@ impl Checker<'_> {
         ensures ends { OnSome result (cost self.now (C.state context.new).end (list_of work.new) ≤ power (level (length self.now.nodes.now) (C.state context.old).end 0 0) + cost self.now (C.state context.old).end (list_of work.old)) }
     {
         let region = self.enter_region(pointee, count, position, work, context)?;
-        let Region { begin, size, outer } = region;
+        let Region {
+            begin,
+            size,
+            outer_start: start,
+            outer_end: end,
+        } = region;
         if self.contents(target, pointee, count, begin, size, work, context)? {
-            if let Err(error) = context.pop_subtree_range(outer) {
+            if let Err(error) = context.pop_subtree_range(Range { start, end }) {
                 return work.refuse(error);
             }
             return Some(());
         }
-        work.leave(outer)?;
+        work.leave(start, end)?;
         match target {
             Target::One => work.part(pointee, begin),
             _ => work.elements(pointee, count, begin),

@@ -17,6 +17,7 @@ use crate::leaf::{illegal, is_legal};
 use crate::plan::{Checker, Job, Target};
 use crate::validation::ArchiveContext;
 use crate::work::Worklist;
+use std::ops::Range;
 
 impl Checker<'_> {
     /// Checks a region of so many of the pointee: a text, or bytes that are legal whatever they are.
@@ -44,7 +45,8 @@ impl Checker<'_> {
                 return work.refuse(Error::InvalidUtf8);
             }
         }
-        if let Err(error) = context.pop_subtree_range(region.outer) {
+        let (start, end) = (region.outer_start, region.outer_end);
+        if let Err(error) = context.pop_subtree_range(Range { start, end }) {
             return work.refuse(error);
         }
         Some(())
@@ -164,9 +166,7 @@ impl Checker<'_> {
         for index in first..last {
             let part = self.parts[index];
             let at = base + part.offset;
-            if !self.stays(part.node, at) {
-                self.check_shallow(part.node, at, work, context)?;
-            }
+            self.check_shallow(part.node, at, work, context)?;
         }
         Some(())
     }

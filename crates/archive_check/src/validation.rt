@@ -96,19 +96,15 @@ pub trait SharedContext: Context {
         ensures range { Self.state self.new ≡ Self.state self.old };
 }
 
-// Whether a position is a multiple of an alignment. The remainder by a number that stands here is a mask; another one would be a division.
+// Whether a position is a multiple of an alignment: by a mask where that is a power of two, since a division is slow.
 fn is_multiple(position: usize, align: usize) -> bool
     requires { 0 < align }
     ensures { IsTrue result ↔ position % align ≡ 0 }
 {
-    match align {
-        1 => true,
-        2 => position % 2 == 0,
-        4 => position % 4 == 0,
-        8 => position % 8 == 0,
-        16 => position % 16 == 0,
-        _ => position % align == 0,
+    if align.is_power_of_two() {
+        return position & (align - 1) == 0;
     }
+    position % align == 0
 }
 
 /// The range of one buffer.
@@ -193,10 +189,11 @@ impl ArchiveContext for ArchiveValidator<'_> {
     }
 
     fn push_subtree_range(&mut self, root: usize, end: usize) -> Result<Range<usize>, Error> {
-        match self.depth {
-            Some(1) => return Err(Error::ExceededMaximumSubtreeDepth),
-            Some(depth) => self.depth = Some(depth.saturating_sub(1)),
-            None => {}
+        if let Some(depth) = &mut self.depth {
+            if *depth == 1 {
+                return Err(Error::ExceededMaximumSubtreeDepth);
+            }
+            *depth = depth.saturating_sub(1);
         }
         let outer = Range {
             start: end,
@@ -211,11 +208,11 @@ impl ArchiveContext for ArchiveValidator<'_> {
         if range.start < self.end {
             return Err(Error::RangePoppedOutOfOrder);
         }
-        if let Some(depth) = self.depth {
-            if depth == usize::MAX {
+        if let Some(depth) = &mut self.depth {
+            if *depth == usize::MAX {
                 return Err(Error::RangePoppedTooManyTimes);
             }
-            self.depth = Some(depth + 1);
+            *depth += 1;
         }
         self.start = range.start;
         self.end = range.end;

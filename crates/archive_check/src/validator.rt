@@ -88,7 +88,7 @@ pub struct HighValidator<'a> {
     range: ArchiveValidator<'a>,
     alloc: Global,
     // Made at the first shared position, since many archives have none.
-    positions: Option<SharedValidator>,
+    positions: Option<Box<SharedValidator>>,
 }
 
 impl<'a> HighValidator<'a> {
@@ -158,7 +158,7 @@ impl SharedContext for HighValidator<'_> {
         match &mut self.positions {
             Some(positions) => positions.start_shared(flavor, pointee, position, length),
             None => {
-                let mut positions = SharedValidator::new(self.alloc);
+                let mut positions = Box::new(self.alloc, SharedValidator::new(self.alloc))?;
                 let answer = positions.start_shared(flavor, pointee, position, length);
                 self.positions = Some(positions);
                 answer

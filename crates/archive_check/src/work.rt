@@ -5,7 +5,6 @@ ghost use Rattle.archive_check.specs.Lists.{list_of, IsMore};
 
 use crate::error::Error;
 use std::alloc::Global;
-use std::ops::Range;
 
 /// One thing that is left to check. Places are in bytes from the buffer's first one.
 #[derive(Debug, Clone, Copy)]
@@ -146,14 +145,11 @@ impl Worklist {
 
     /// A region is to be left, and the range will be this one.
     #[inline]
-    pub fn leave(&mut self, range: Range<usize>) -> Option<()>
-        ensures some { OnSome result (list_of self.new ≡ Work.Leave range.start range.end ∷ list_of self.old) }
+    pub fn leave(&mut self, start: usize, end: usize) -> Option<()>
+        ensures some { OnSome result (list_of self.new ≡ Work.Leave start end ∷ list_of self.old) }
         ensures none { IfNone result (self.new.fault ≡ Error.OutOfMemory) }
     {
-        self.push(Work::Leave {
-            start: range.start,
-            end: range.end,
-        })
+        self.push(Work::Leave { start, end })
     }
 
     /// The shared position `at` is to be finished.

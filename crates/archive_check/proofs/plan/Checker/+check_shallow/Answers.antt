@@ -20,7 +20,6 @@ use Rattle.archive_check.proofs.PassedElements.{takes_size, element_fits}
 use Rattle.archive_check.proofs.PassedParts.{part_fits}
 use Rattle.archive_check.proofs.AtOnce.{part_marked, variant_shallow, part_below, parts_here, elements_here, through_by, stops_by, through_stays, towards_passed, towards_element, element_stops, elements_over, towards_part, part_stops, parts_over}
 use Rattle.archive_check.proofs.plan.Checker.+check_shallow.Goals as goal
-use Rattle.archive_check.proofs.plan.Checker.+check_shallow.Goals.{check_shallow_parts-then-not-stays+in_ok-check_shallow, check_shallow_parts-else-not-stays}
 
 pub check_shallow-illegal-requires : goal.check_shallow-illegal-requires
 check_shallow-illegal-requires g t c =
@@ -190,16 +189,6 @@ check_shallow_parts-overflow_add-at g t c =
     let f = part_fits m c.args.base c.args.first c.args.last k x c.requires.fits c.loop-index.auto.index c.loop-index-test.true at in
     let h : c.args.base + x.offset ≤ length m.bytes.now = omega (arith, f.fits) in search rules
 
-pub check_shallow_parts-stays-requires-clause-fits : goal.check_shallow_parts-stays-requires-clause-fits
-check_shallow_parts-stays-requires-clause-fits g t c =
-    let m = c.args.self.now in
-    let s = g.C.Context.state c.args.context.now in
-    let k = c.loop-index.index in
-    let x = slice_index_or m.parts.now k (record { offset = 0; node = 0 }) in
-    let at = at_default m.parts.now k (record { offset = 0; node = 0 }) (omega (arith, c.requires.fits.last)) in
-    let f = part_fits m c.args.base c.args.first c.args.last k x c.requires.fits c.loop-index.auto.index c.loop-index-test.true at in
-    f
-
 pub check_shallow_parts-check_shallow-requires : goal.check_shallow_parts-check_shallow-requires
 check_shallow_parts-check_shallow-requires g t c =
     let m = c.args.self.now in
@@ -226,23 +215,13 @@ check_shallow_parts-returns-in_err-check_shallow-clause-stops g t c =
 pub check_shallow_parts-loop-index-preserved : goal.check_shallow_parts-loop-index-preserved
 check_shallow_parts-loop-index-preserved g t c =
     let m = c.args.self.now in
-    let s = g.C.Context.state c.args.context.now in
     let k = c.loop-index.index in
     let x = slice_index_or m.parts.now k (record { offset = 0; node = 0 }) in
-    let at = at_default m.parts.now k (record { offset = 0; node = 0 }) (omega (arith, c.requires.fits.last)) in
-    let f = part_fits m c.args.base c.args.first c.args.last k x c.requires.fits c.loop-index.auto.index c.loop-index-test.true at in
-    elim c.if-not-stays.branch [
-      | check_shallow_parts-then-not-stays+in_ok-check_shallow w ↦ (
-        ap list_of w.work-is ∙ w.in_ok-check_shallow.ensures.list ∙ c.loop-index.invariant.0,
-        ap (λ q. g.C.Context.positions q) w.context-is ∙ w.in_ok-check_shallow.ensures.positions ∙ c.loop-index.invariant.1,
-        rw w.context-is (towards_part m c.args.first c.args.last c.args.base k x c.loop-index-test.true at s (g.C.Context.state c.loop-index.context) c.loop-index.invariant.2 (g.C.Context.state w.check_shallow.new.context) w.in_ok-check_shallow.ensures.through),
-      )
-      | check_shallow_parts-else-not-stays w ↦ (
-        ap list_of w.work-is ∙ c.loop-index.invariant.0,
-        ap (λ q. g.C.Context.positions q) w.context-is ∙ c.loop-index.invariant.1,
-        rw w.context-is (towards_part m c.args.first c.args.last c.args.base k x c.loop-index-test.true at s (g.C.Context.state c.loop-index.context) c.loop-index.invariant.2 (g.C.Context.state c.loop-index.context) (through_stays m x.node (c.args.base + x.offset) (g.C.Context.state c.loop-index.context) (c.stays.ensures.stays (is_true c.stays.result w.if-not-stays.false)))),
-      )
-    ]
+    let at = at_default m.parts.now k (record { offset = 0; node = 0 }) (omega (arith, c.requires.fits.last)) in (
+      c.in_ok-check_shallow.ensures.list ∙ c.loop-index.invariant.0,
+      c.in_ok-check_shallow.ensures.positions ∙ c.loop-index.invariant.1,
+      towards_part m c.args.first c.args.last c.args.base k x c.loop-index-test.true at (g.C.Context.state c.args.context.now) (g.C.Context.state c.loop-index.context) c.loop-index.invariant.2 (g.C.Context.state c.check_shallow.new.context) c.in_ok-check_shallow.ensures.through,
+    )
 
 pub check_shallow_parts-returns-clause-through : goal.check_shallow_parts-returns-clause-through
 check_shallow_parts-returns-clause-through g t c =

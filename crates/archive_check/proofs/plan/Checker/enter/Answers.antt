@@ -59,7 +59,7 @@ returns-in-One-clause-ready g c =
     let within : Entered m c.args.pointee c.args.count c.args.position s s2 r = subst (λ q. Entered m c.args.pointee c.args.count c.args.position s q r) (sym listed.2) h in
     let same : met2 ≡ met = c.in_ok-contents.ensures.positions ∙ c.in_ok-region.ensures.positions in
     let mid = list_of c.leave.new.self in
-    let list : mid ≡ Leave r.outer.start r.outer.end ∷ old = c.in_ok-leave.ensures.some ∙ ap (λ w. Leave r.outer.start r.outer.end ∷ w) (c.in_ok-contents.ensures.list ∙ c.in_ok-region.ensures.list) in
+    let list : mid ≡ Leave r.outer_start r.outer_end ∷ old = c.in_ok-leave.ensures.some ∙ ap (λ w. Leave r.outer_start r.outer_end ∷ w) (c.in_ok-contents.ensures.list ∙ c.in_ok-region.ensures.list) in
     some_map c.part.result (λ e. entered_one_ready m c.args.pointee c.args.count c.args.position s s2 met met2 old mid r within same list (list_of c.part.new.self) listed.0 c.requires.ready (c.requires.pointee.one c.in-One.is) e) c.part.ensures.some
 
 pub returns-in-One-clause-runs : goal.returns-in-One-clause-runs
@@ -78,7 +78,7 @@ returns-in-One-clause-runs g c =
     let within : Entered m c.args.pointee c.args.count c.args.position s s2 r = subst (λ q. Entered m c.args.pointee c.args.count c.args.position s q r) (sym listed.2) h in
     let same : met2 ≡ met = c.in_ok-contents.ensures.positions ∙ c.in_ok-region.ensures.positions in
     let mid = list_of c.leave.new.self in
-    let list : mid ≡ Leave r.outer.start r.outer.end ∷ old = c.in_ok-leave.ensures.some ∙ ap (λ w. Leave r.outer.start r.outer.end ∷ w) (c.in_ok-contents.ensures.list ∙ c.in_ok-region.ensures.list) in
+    let list : mid ≡ Leave r.outer_start r.outer_end ∷ old = c.in_ok-leave.ensures.some ∙ ap (λ w. Leave r.outer_start r.outer_end ∷ w) (c.in_ok-contents.ensures.list ∙ c.in_ok-region.ensures.list) in
     some_map c.part.result (λ e. rw c.in-One.is (entered_one m c.args.pointee c.args.count c.args.position s s2 met met2 old mid r within same list (list_of c.part.new.self) listed.0 e)) c.part.ensures.some
 
 pub returns-in-One-clause-ends : goal.returns-in-One-clause-ends
@@ -97,7 +97,7 @@ returns-in-One-clause-ends g c =
     let within : Entered m c.args.pointee c.args.count c.args.position s s2 r = subst (λ q. Entered m c.args.pointee c.args.count c.args.position s q r) (sym listed.2) h in
     let same : met2 ≡ met = c.in_ok-contents.ensures.positions ∙ c.in_ok-region.ensures.positions in
     let mid = list_of c.leave.new.self in
-    let list : mid ≡ Leave r.outer.start r.outer.end ∷ old = c.in_ok-leave.ensures.some ∙ ap (λ w. Leave r.outer.start r.outer.end ∷ w) (c.in_ok-contents.ensures.list ∙ c.in_ok-region.ensures.list) in
+    let list : mid ≡ Leave r.outer_start r.outer_end ∷ old = c.in_ok-leave.ensures.some ∙ ap (λ w. Leave r.outer_start r.outer_end ∷ w) (c.in_ok-contents.ensures.list ∙ c.in_ok-region.ensures.list) in
     some_map c.part.result (λ e. entered_one_ends m c.args.pointee c.args.count c.args.position s s2 met met2 old mid r within same list (list_of c.part.new.self) listed.0 c.requires.pointee.known e) c.part.ensures.some
 
 pub returns-in_default-target-clause-ready : goal.returns-in_default-target-clause-ready
@@ -116,7 +116,7 @@ returns-in_default-target-clause-ready g c =
     let within : Entered m c.args.pointee c.args.count c.args.position s s2 r = subst (λ q. Entered m c.args.pointee c.args.count c.args.position s q r) (sym listed.2) h in
     let same : met2 ≡ met = c.in_ok-contents.ensures.positions ∙ c.in_ok-region.ensures.positions in
     let mid = list_of c.leave.new.self in
-    let list : mid ≡ Leave r.outer.start r.outer.end ∷ old = c.in_ok-leave.ensures.some ∙ ap (λ w. Leave r.outer.start r.outer.end ∷ w) (c.in_ok-contents.ensures.list ∙ c.in_ok-region.ensures.list) in
+    let list : mid ≡ Leave r.outer_start r.outer_end ∷ old = c.in_ok-leave.ensures.some ∙ ap (λ w. Leave r.outer_start r.outer_end ∷ w) (c.in_ok-contents.ensures.list ∙ c.in_ok-region.ensures.list) in
     let run = run_left c.args.target c.in_default-target.not-One listed.1 in
     some_map c.elements.result (λ e. entered_run_ready m c.args.pointee c.args.count c.args.position s s2 met met2 old mid r within same list (list_of c.elements.new.self) listed.0 c.requires.ready c.requires.pointee.few e) c.elements.ensures.some
 
@@ -136,7 +136,7 @@ returns-in_default-target-clause-runs g c =
     let within : Entered m c.args.pointee c.args.count c.args.position s s2 r = subst (λ q. Entered m c.args.pointee c.args.count c.args.position s q r) (sym listed.2) h in
     let same : met2 ≡ met = c.in_ok-contents.ensures.positions ∙ c.in_ok-region.ensures.positions in
     let mid = list_of c.leave.new.self in
-    let list : mid ≡ Leave r.outer.start r.outer.end ∷ old = c.in_ok-leave.ensures.some ∙ ap (λ w. Leave r.outer.start r.outer.end ∷ w) (c.in_ok-contents.ensures.list ∙ c.in_ok-region.ensures.list) in
+    let list : mid ≡ Leave r.outer_start r.outer_end ∷ old = c.in_ok-leave.ensures.some ∙ ap (λ w. Leave r.outer_start r.outer_end ∷ w) (c.in_ok-contents.ensures.list ∙ c.in_ok-region.ensures.list) in
     let run = run_left c.args.target c.in_default-target.not-One listed.1 in
     some_map c.elements.result (λ e. rw run (entered_run m c.args.pointee c.args.count c.args.position s s2 met met2 old mid r within same list (list_of c.elements.new.self) listed.0 e)) c.elements.ensures.some
 
@@ -156,6 +156,6 @@ returns-in_default-target-clause-ends g c =
     let within : Entered m c.args.pointee c.args.count c.args.position s s2 r = subst (λ q. Entered m c.args.pointee c.args.count c.args.position s q r) (sym listed.2) h in
     let same : met2 ≡ met = c.in_ok-contents.ensures.positions ∙ c.in_ok-region.ensures.positions in
     let mid = list_of c.leave.new.self in
-    let list : mid ≡ Leave r.outer.start r.outer.end ∷ old = c.in_ok-leave.ensures.some ∙ ap (λ w. Leave r.outer.start r.outer.end ∷ w) (c.in_ok-contents.ensures.list ∙ c.in_ok-region.ensures.list) in
+    let list : mid ≡ Leave r.outer_start r.outer_end ∷ old = c.in_ok-leave.ensures.some ∙ ap (λ w. Leave r.outer_start r.outer_end ∷ w) (c.in_ok-contents.ensures.list ∙ c.in_ok-region.ensures.list) in
     let run = run_left c.args.target c.in_default-target.not-One listed.1 in
     some_map c.elements.result (λ e. entered_run_ends m c.args.pointee c.args.count c.args.position s s2 met met2 old mid r within same list (list_of c.elements.new.self) listed.0 c.requires.pointee.known c.requires.pointee.few e) c.elements.ensures.some

@@ -16,7 +16,7 @@ returns-in_default-clause-stops g c =
     let m = c.args.self.now in
     let al = (slice_index_or m.nodes.now c.args.pointee c.index-self-pointee.result).align in
     let reg : RegionIs m c.args.pointee c.args.count None al =
-    record { node = c.index-self-pointee.result; at = record { below = c.requires.known; is = c.index-self-pointee.is }; size_is = ap (λ q. times q.size c.args.count) c.index-self-pointee.is ∙ sym c.times.ensures ∙ c.in_default.is; align_is = ap (λ q. q.align) c.index-self-pointee.is } in
+    record { node = c.index-self-pointee.result; at = record { below = c.requires.known; is = c.index-self-pointee.is }; size_is = ap (λ q. times q.size c.args.count) c.index-self-pointee.is ∙ sym c.times.ensures.total ∙ c.in_default.is; align_is = ap (λ q. q.align) c.index-self-pointee.is } in
     if_none (λ e. (target : Target) → Stops (region_rule m target c.args.pointee c.args.count c.args.position) (g.C.Context.state c.args.context.now) e) c.refuse.result c.refuse.new.self.fault LayoutTooLarge c.refuse.ensures.fault (λ target some. (too_large, refl, λ pending seen. enter_too_large reg))
 
 pub returns-in-Err-clause-stops : goal.returns-in-Err-clause-stops
@@ -25,7 +25,7 @@ returns-in-Err-clause-stops g c =
     let s = g.C.Context.state c.args.context.now in
     let al = (slice_index_or m.nodes.now c.args.pointee c.index-self-pointee.result).align in
     let reg : RegionIs m c.args.pointee c.args.count (Some c.in-Some.size) al =
-    record { node = c.index-self-pointee.result; at = record { below = c.requires.known; is = c.index-self-pointee.is }; size_is = ap (λ q. times q.size c.args.count) c.index-self-pointee.is ∙ sym c.times.ensures ∙ c.in-Some.is; align_is = ap (λ q. q.align) c.index-self-pointee.is } in
+    record { node = c.index-self-pointee.result; at = record { below = c.requires.known; is = c.index-self-pointee.is }; size_is = ap (λ q. times q.size c.args.count) c.index-self-pointee.is ∙ sym c.times.ensures.total ∙ c.in-Some.is; align_is = ap (λ q. q.align) c.index-self-pointee.is } in
     let v : Err c.in-Err.error ≡ subtree_answer s c.args.position c.in-Some.size al = c.in-Err.ensures.answer ∙ ap (λ q. subtree_answer s q c.in-Some.size al) (to_z-of_z w128 c.args.position c.ranges.position) in
     if_none (λ e. (target : Target) → Stops (region_rule m target c.args.pointee c.args.count c.args.position) s e) c.refuse-in-Err.result c.refuse-in-Err.new.self.fault c.in-Err.error c.refuse-in-Err.ensures.fault (λ target some. astray m c.args.pointee c.args.count target s c.args.position c.in-Some.size al c.in-Err.error reg v)
 
@@ -35,7 +35,7 @@ returns-in-Err-push_subtree_range-clause-stops g c =
     let s = g.C.Context.state c.args.context.now in
     let al = (slice_index_or m.nodes.now c.args.pointee c.index-self-pointee.result).align in
     let reg : RegionIs m c.args.pointee c.args.count (Some c.in-Some.size) al =
-    record { node = c.index-self-pointee.result; at = record { below = c.requires.known; is = c.index-self-pointee.is }; size_is = ap (λ q. times q.size c.args.count) c.index-self-pointee.is ∙ sym c.times.ensures ∙ c.in-Some.is; align_is = ap (λ q. q.align) c.index-self-pointee.is } in
+    record { node = c.index-self-pointee.result; at = record { below = c.requires.known; is = c.index-self-pointee.is }; size_is = ap (λ q. times q.size c.args.count) c.index-self-pointee.is ∙ sym c.times.ensures.total ∙ c.in-Some.is; align_is = ap (λ q. q.align) c.index-self-pointee.is } in
     let z = to_z-of_z w128 c.args.position c.ranges.position in
     let at = lands s c.args.position c.in-Some.size al c.place-begin.result _ (sym z ∙ c.place-begin.ensures) (c.in_default-check_subtree_ptr.ensures.answer ∙ ap (λ q. subtree_answer s q c.in-Some.size al) z) in
     let deep : s.depth ≡ Some 1 = ap (λ r. r.depth) (sym c.check_subtree_ptr.ensures.unchanged) ∙ c.in-Err-push_subtree_range.ensures.refused.0 (ap Err c.in-Err-push_subtree_range.ensures.too_deep) in
@@ -45,4 +45,4 @@ pub returns-in-Ok-clause-entered : goal.returns-in-Ok-clause-entered
 returns-in-Ok-clause-entered g c =
     let m = c.args.self.now in
     let st = g.C.Context.state in
-    entered m (st c.args.context.now) (st c.check_subtree_ptr.new.self) (st c.push_subtree_range.new.self) c.args.pointee c.args.count c.args.position _ c.index-self-pointee.result _ _ c.requires.known c.index-self-pointee.is (sym c.times.ensures ∙ c.in-Some.is) (to_z-of_z w128 c.args.position c.ranges.position) c.place-begin.ensures c.in_default-check_subtree_ptr.ensures.answer c.check_subtree_ptr.ensures.unchanged c.in-Ok.ensures.entered (λ e. not_err c.in-Ok.outer ExceededMaximumSubtreeDepth (c.in-Ok.ensures.refused.1 e)) c.in-Ok.ensures.outer
+    entered m (st c.args.context.now) (st c.check_subtree_ptr.new.self) (st c.push_subtree_range.new.self) c.args.pointee c.args.count c.args.position _ c.index-self-pointee.result _ _ c.requires.known c.index-self-pointee.is (sym c.times.ensures.total ∙ c.in-Some.is) (to_z-of_z w128 c.args.position c.ranges.position) c.place-begin.ensures c.in_default-check_subtree_ptr.ensures.answer c.check_subtree_ptr.ensures.unchanged c.in-Ok.ensures.entered (λ e. not_err c.in-Ok.outer ExceededMaximumSubtreeDepth (c.in-Ok.ensures.refused.1 e)) c.in-Ok.ensures.outer
