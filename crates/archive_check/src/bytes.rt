@@ -103,12 +103,21 @@ fn is_short_ascii(bytes: &[u8], p: usize, n: usize) -> bool
     are_ascii(bytes, p + n - 8)
 }
 
+// Whether the `n` bytes at `p` are UTF-8, as a call.
+fn is_any_text(bytes: &[u8], p: usize, n: usize) -> bool
+    requires { p + n ≤ length bytes.now }
+    ensures { IsTrue result ↔ IsUtf8 (bytes_at bytes.now p n) }
+{
+    simdutf8::basic::from_utf8(&bytes[p..p + n]).is_ok()
+}
+
 /// Whether the `n` bytes at `p` are UTF-8.
+#[inline(always)]
 pub fn is_text(bytes: &[u8], p: usize, n: usize) -> bool
     requires { p + n ≤ length bytes.now }
     ensures { IsTrue result ↔ IsUtf8 (bytes_at bytes.now p n) }
 {
-    is_short_ascii(bytes, p, n) || simdutf8::basic::from_utf8(&bytes[p..p + n]).is_ok()
+    is_short_ascii(bytes, p, n) || is_any_text(bytes, p, n)
 }
 
 /// The `n` bytes at `p`, which are UTF-8.

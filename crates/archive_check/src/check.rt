@@ -168,11 +168,11 @@ impl Checker<'_> {
         let begin = place(position);
         match context.push_subtree_range(begin, begin + size) {
             Err(error) => work.refuse(error),
-            Ok(outer) => Some(Region {
+            Ok(Range { start, end }) => Some(Region {
                 begin,
                 size,
-                outer_start: outer.start,
-                outer_end: outer.end,
+                outer_start: start,
+                outer_end: end,
             }),
         }
     }
@@ -224,6 +224,7 @@ impl Checker<'_> {
     }
 
     /// Enters a region of so many of the pointee, to be left behind what it leads to, or at once where it is shallow.
+    #[inline(always)]
     fn enter<C: ArchiveContext>(
         &self,
         target: Target,

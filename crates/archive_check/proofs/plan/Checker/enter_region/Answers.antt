@@ -45,4 +45,4 @@ pub returns-in-Ok-clause-entered : goal.returns-in-Ok-clause-entered
 returns-in-Ok-clause-entered g c =
     let m = c.args.self.now in
     let st = g.C.Context.state in
-    entered m (st c.args.context.now) (st c.check_subtree_ptr.new.self) (st c.push_subtree_range.new.self) c.args.pointee c.args.count c.args.position _ c.index-self-pointee.result _ _ c.requires.known c.index-self-pointee.is (sym c.times.ensures.total ∙ c.in-Some.is) (to_z-of_z w128 c.args.position c.ranges.position) c.place-begin.ensures c.in_default-check_subtree_ptr.ensures.answer c.check_subtree_ptr.ensures.unchanged c.in-Ok.ensures.entered (λ e. not_err c.in-Ok.outer ExceededMaximumSubtreeDepth (c.in-Ok.ensures.refused.1 e)) c.in-Ok.ensures.outer
+    entered m (st c.args.context.now) (st c.check_subtree_ptr.new.self) (st c.push_subtree_range.new.self) c.args.pointee c.args.count c.args.position _ c.index-self-pointee.result _ _ c.requires.known c.index-self-pointee.is (sym c.times.ensures.total ∙ c.in-Some.is) (to_z-of_z w128 c.args.position c.ranges.position) c.place-begin.ensures c.in_default-check_subtree_ptr.ensures.answer c.check_subtree_ptr.ensures.unchanged c.in-Ok.ensures.entered (λ e. not_err c.in-Ok.field-0 ExceededMaximumSubtreeDepth (c.in-Ok.ensures.refused.1 e)) c.in-Ok.ensures.outer
