@@ -1,5 +1,5 @@
 -- A region is entered: what the range calls say, and what is left to do.
-use Rattle.std.proofs.Common.{◌≡◌, ◌≢◌, ℕ, zero, suc, ℤ, pos, negsuc, refl, sym, ap, ap₂, ◌∙◌, slice_index_or, ◌+◌, ◌-◌, ◌*◌, ◌%◌, ◌<◌, ◌≤◌, nat_le, nat_eq, Bool, true, false, arith, List, ◌∷◌, length, Option, Some, None, Result, Ok, Err, IsUtf8, IsTrue}
+use Rattle.std.proofs.Common.{◌≡◌, ◌≢◌, ℕ, zero, suc, ℤ, pos, negsuc, refl, sym, ap, ap₂, ◌∙◌, slice_index_or, ◌+◌, ◌-◌, ◌*◌, ◌%◌, ◌<◌, ◌≤◌, nat_le, nat_eq, Bool, true, false, arith, List, ◌∷◌, length, Option, Some, None, Result, Ok, Err, is_err, IsUtf8, IsTrue}
 use Rattle.std.proofs.lemmas.Bool.Decides.{nat_tests}
 use Rattle.archive_check.specs.declared.error.Error.{Error}
 use Rattle.archive_check.specs.declared.error.Error.TheVariants.{ExceededMaximumSubtreeDepth}
@@ -260,6 +260,11 @@ not_true b e h = cc
 
 pub is_true : (b : Bool) → b ≡ true → IsTrue b
 is_true b e = e
+
+-- an answer that is no refusal
+pub not_refused : (r : Result (Unit {0}) Error) → is_err r ≡ false → Ok tt ≡ r
+not_refused (Ok tt) e = refl
+not_refused (Err x) e = cc
 
 pub not_err : {A : Type 0} (x : A) (e : Error) → ◌≡◌ {A = Result A Error} (Ok x) (Err e) → ⊥
 not_err x e is = cc

@@ -1,11 +1,12 @@
 //! The check of bytes against a plan, by a list of what is left to check. Calls nest as deep as the shape does, and never by the data.
 
-ghost use Rattle.std.specs.Prelude.{◌≡◌, ◌⊎◌, ◌+◌, ◌*◌, ◌<◌, ◌≤◌, ◌∷◌, ℕ, [], pos, None, length, slice_index, OnOk, IfErr, OnSome, IfSome, IfNone, IsTrue, Some, ◌≢◌, false};
+ghost use Rattle.std.specs.Prelude.{◌≡◌, ◌⊎◌, ◌+◌, ◌*◌, ◌<◌, ◌≤◌, ◌∷◌, ℕ, [], pos, length, slice_index, OnOk, IfErr, OnSome, IfSome, IfNone, IsTrue, Some, None, Err, is_err, ◌≢◌, true, false};
 ghost use Rattle.std.specs.FinMap.{empty};
 ghost use Rattle.archive_check.specs.declared.error.Error.TheVariants.{OutOfMemory};
 ghost use Rattle.archive_check.specs.declared.plan.Target.TheVariants.{One, Text};
 ghost use Rattle.archive_check.specs.declared.work.Work.TheVariants.{Part as PartWork, Parts as PartsWork};
 ghost use Rattle.archive_check.specs.declared.plan.Part.{Part};
+ghost use Rattle.archive_check.specs.Ranges.{subtree_answer};
 ghost use Rattle.archive_check.specs.Tour.{Seen};
 ghost use Rattle.archive_check.specs.Trail.{Fault};
 ghost use Rattle.archive_check.specs.Runs.{count_at, length_of, target_size, IsAt, Takes, RegionIs, EnterRuns, done, refused};
@@ -36,6 +37,25 @@ fn place(position: i128) -> usize
     ensures { position ≡ pos result }
 {
     position as usize
+}
+
+/// Stops the check at a region that is refused. The context is asked once more for the reason, so that no wide answer is kept where regions are
+/// entered.
+#[cold]
+fn refuse_region<T, C: ArchiveContext>(
+    position: i128,
+    layout: &Layout,
+    work: &mut Worklist,
+    context: &mut C,
+) -> Option<T>
+    requires refused { is_err (subtree_answer (C.state context.old) position layout.now.size layout.now.align) ≡ true }
+    ensures none { result ≡ None }
+    ensures fault { subtree_answer (C.state context.old) position layout.now.size layout.now.align ≡ Err work.new.fault }
+{
+    match context.check_subtree_ptr(position, layout) {
+        Err(error) => work.refuse(error),
+        Ok(()) => unreachable!(),
+    }
 }
 
 /// A region that is entered, and the range that is given back where it is left. Positions are in bytes from the buffer's first one.
@@ -162,22 +182,23 @@ impl Checker<'_> {
             size,
             align: node.align,
         };
-        if let Err(error) = context.check_subtree_ptr(position, &layout) {
-            return work.refuse(error);
+        if context.check_subtree_ptr(position, &layout).is_err() {
+            return refuse_region(position, &layout, work, context);
         }
         let begin = place(position);
-        match context.push_subtree_range(begin, begin + size) {
-            Err(error) => work.refuse(error),
-            Ok(Range { start, end }) => Some(Region {
-                begin,
-                size,
-                outer_start: start,
-                outer_end: end,
-            }),
-        }
+        let Ok(Range { start, end }) = context.push_subtree_range(begin, begin + size) else {
+            return work.refuse(Error::ExceededMaximumSubtreeDepth);
+        };
+        Some(Region {
+            begin,
+            size,
+            outer_start: start,
+            outer_end: end,
+        })
     }
 
     /// Checks what a region of so many of the pointee holds, where that is shallow. Answers whether it is.
+    #[inline(always)]
     fn contents<C: ArchiveContext>(
         &self,
         target: Target,
@@ -225,7 +246,7 @@ impl Checker<'_> {
 
     /// Enters a region of so many of the pointee, to be left behind what it leads to, or at once where it is shallow.
     #[inline(always)]
-    fn enter<C: ArchiveContext>(
+    fn enter_here<C: ArchiveContext>(
         &self,
         target: Target,
         pointee: usize,
@@ -262,6 +283,29 @@ impl Checker<'_> {
             Target::One => work.part(pointee, begin),
             _ => work.elements(pointee, count, begin),
         }
+    }
+
+    /// Enters a region so by a call.
+    fn enter<C: ArchiveContext>(
+        &self,
+        target: Target,
+        pointee: usize,
+        count: usize,
+        position: i128,
+        work: &mut Worklist,
+        context: &mut C,
+    ) -> Option<()>
+        requires closed { IsClosed self.now }
+        requires marked { IsMarked self.now }
+        requires ready { Ready self.now (C.state context.old) (list_of work.old) }
+        requires pointee { PointeeFits self.now target pointee count }
+        ensures ready { OnSome result (Ready self.now (C.state context.new) (list_of work.new)) }
+        ensures runs { OnSome result (Leads self.now (Entering self.now target pointee count position) (stage (C.state context.old) (C.positions context.old) (list_of work.old)) (stage (C.state context.new) (C.positions context.new) (list_of work.new))) }
+        ensures inside { OnSome result ((t : ℕ) × (position ≡ pos t) × (t < 18446744073709551616)) }
+        ensures stopped { IfNone result (IsStopped self.now target pointee count position (C.state context.old) work.new.fault) }
+        ensures ends { OnSome result (cost self.now (C.state context.new).end (list_of work.new) ≤ power (level (length self.now.nodes.now) (C.state context.old).end 0 0) + cost self.now (C.state context.old).end (list_of work.old)) }
+    {
+        self.enter_here(target, pointee, count, position, work, context)
     }
 
     /// Follows the shared pointer at `at`. What lies at a position that was met before isn't checked again.
@@ -452,7 +496,7 @@ impl Checker<'_> {
         ensures err { IfErr result (λ e. (e ≡ OutOfMemory) ⊎ (IsFresh (C.state context.old) (C.positions context.old) → (f : Fault) × IsFor f e × EnterRuns self.now [] (C.state context.old).depth (C.state context.old).end One root 1 (pos at) (C.state context.old).start empty (refused f))) }
     {
         let mut work = Worklist::new(alloc);
-        let Some(()) = self.enter(Target::One, root, 1, at as i128, &mut work, context) else {
+        let Some(()) = self.enter_here(Target::One, root, 1, at as i128, &mut work, context) else {
             return Err(work.fault());
         };
         while let Some(entry) = work.pop() {

@@ -200,7 +200,9 @@ impl ArchiveContext for ArchiveValidator<'_> {
             end: self.end,
         };
         self.end = root;
-        self.pushes = self.pushes.saturating_add(1);
+        if self.pushes < usize::MAX {
+            self.pushes += 1;
+        }
         Ok(outer)
     }
 

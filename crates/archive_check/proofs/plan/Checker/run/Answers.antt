@@ -12,7 +12,7 @@ returns-in_default-clause-err g c =
     let st = g.C.Context.state in
     let met = g.C.Context.positions in
     let at : to_z w128 c.args.at ≡ pos c.args.at = to_z_pos w128 c.args.at (omega (arith, c.ranges.at.fits)) in
-    rw c.fault.ensures (root_refuses m (st c.args.context.now) (met c.args.context.now) c.args.root c.args.at (to_z w128 c.args.at) at c.enter.new.work.fault c.in_default.ensures.stopped)
+    rw c.fault.ensures (root_refuses m (st c.args.context.now) (met c.args.context.now) c.args.root c.args.at (to_z w128 c.args.at) at c.enter_here.new.work.fault c.in_default.ensures.stopped)
 
 pub loop-entry-init : goal.loop-entry-init
 loop-entry-init g c =
@@ -21,7 +21,7 @@ loop-entry-init g c =
     let met = g.C.Context.positions in
     let at : to_z w128 c.args.at ≡ pos c.args.at = to_z_pos w128 c.args.at (omega (arith, c.ranges.at.fits)) in (
       c.in-Some.ensures.ready,
-      root_leads m (st c.args.context.now) (met c.args.context.now) c.args.root c.args.at (to_z w128 c.args.at) at (list_of c.new-work.result) (stage (st c.enter.new.context) (met c.enter.new.context) (list_of c.enter.new.work)) c.new-work.ensures c.in-Some.ensures.runs,
+      root_leads m (st c.args.context.now) (met c.args.context.now) c.args.root c.args.at (to_z w128 c.args.at) at (list_of c.new-work.result) (stage (st c.enter_here.new.context) (met c.enter_here.new.context) (list_of c.enter_here.new.work)) c.new-work.ensures c.in-Some.ensures.runs,
     )
 
 pub loop-entry-preserved : goal.loop-entry-preserved
