@@ -11,7 +11,7 @@ use Rattle.archive_check.specs.declared.plan.Checker.{Checker}
 use Rattle.archive_check.specs.declared.work.Work.{Work}
 use Rattle.archive_check.specs.declared.work.Work.TheVariants.{Part as PartWork, Elements, Leave}
 use Rattle.archive_check.specs.Depth.{Allows, inside}
-use Rattle.archive_check.specs.Ranges.{RangeState, subtree_answer, pushed, one_more, popped}
+use Rattle.archive_check.specs.Ranges.{RangeState, subtree_answer, pushed, one_more, pop_answer, popped}
 use Rattle.archive_check.specs.Met.{Positions}
 use Rattle.archive_check.specs.Reads.{bytes_at}
 use Rattle.archive_check.specs.Tour.{Seen}
@@ -23,7 +23,7 @@ use Rattle.archive_check.specs.Entered.{Lands, Entered}
 use Rattle.archive_check.specs.Through.{Rule, Through, Stops, region_rule, contents_rule}
 use Rattle.archive_check.specs.Turns.{and_then, Passes, Ready, stage, pending_in, regions_in, Agreeing, Listing, Entering, Leads, HasLevels, power, level, cost}
 use Rattle.archive_check.proofs.TurnRules.{enter_one, enter_run}
-use Rattle.archive_check.proofs.MetAgrees.{allows, agrees_inside}
+use Rattle.archive_check.proofs.MetAgrees.{allows, agrees_inside, taken_back, not_taken}
 use Rattle.archive_check.proofs.TurnsEnd.{level_end, falls_enter}
 
 pub lands : (s : RangeState) (z : ℤ) (size align t : ℕ) (u : Unit {0}) → z ≡ pos t → Ok u ≡ subtree_answer s z size align → Lands s z size align t
@@ -139,6 +139,10 @@ levels_inside (Some (suc (suc n))) h deep = record {
   few = λ d e. let same : suc (suc n) - 1 ≡ d = cc in omega (arith, h.few (suc (suc n)) refl);
 }
 
+inside_few : (depth : Option ℕ) → HasLevels depth → (d : ℕ) → inside depth ≡ Some d → d + 1 < 18446744073709551616
+inside_few None h d e = cc
+inside_few (Some n) h d e = let same : n - 1 ≡ d = cc in let some : n ≢ 0 = (λ z. h.levels (ap Some z)) in omega (arith, h.few n refl)
+
 level_back : (d : Option ℕ) → d ≢ Some 0 → one_more (inside d) ≡ d
 level_back None some = refl
 level_back (Some zero) some = absurd (some refl)
@@ -163,6 +167,14 @@ module _ (m : Checker) (j n : ℕ) (z : ℤ) (s s' : RangeState) (r : Region) (h
             let c = rw (inward, h.start) at (through.runs (within some) pending seen) in
             rw start (enter_within h.region h.lands.target h.lands.above h.lands.below h.lands.aligned (levels_allow s.depth some.levels h.deep) c);
       }
+
+  -- a region whose contents are gone through can be left
+  pub region_left : (s1 : RangeState) (e : Error) → Through (contents_rule m target j n r.size r.begin) s' s1 → pop_answer s1 r.outer_start ≡ Err e → Stops (region_rule m target j n z) s e
+  region_left s1 e through is some =
+      let within : HasLevels s'.depth = rw h.depth (levels_inside s.depth some h.deep) in
+      let end : s1.end ≡ r.begin = through.end ∙ h.end in
+      let fine = taken_back s1 r.outer_start (omega (arith, end, h.outer_start)) (λ d f. inside_few s.depth some d (sym (through.depth within ∙ h.depth) ∙ f)) in
+      absurd (not_taken s1 r.outer_start e is fine)
 
   -- what the region holds is refused
   pub region_stops : (e : Error) → Stops (contents_rule m target j n r.size r.begin) s' e → Stops (region_rule m target j n z) s e

@@ -1,14 +1,15 @@
 -- What a context met agrees with what is seen, call by call.
-use Rattle.std.proofs.Common.{◌≡◌, ◌≢◌, ◌⊎◌, inl, inr, ℕ, ℤ, pos, negsuc, refl, sym, ap, ◌∙◌, ◌+◌, ◌-◌, ◌<◌, Bool, true, false, arith, List, [], ◌∷◌, Option, Some, None, option_map, Ok, Contains}
-use Rattle.std.proofs.lemmas.Bool.Decides.{Decides-int_eq}
+use Rattle.std.proofs.Common.{◌≡◌, ◌≢◌, ◌⊎◌, inl, inr, ℕ, ℤ, pos, negsuc, refl, sym, ap, ◌∙◌, ◌+◌, ◌-◌, ◌<◌, ◌≤◌, nat_lt, Bool, true, false, arith, Ok, Err, List, [], ◌∷◌, Option, Some, None, option_map, Ok, Contains}
+use Rattle.std.proofs.lemmas.Bool.Decides.{Decides-int_eq, nat_tests}
 use Rattle.std.proofs.lemmas.Map.{update_same, update_other}
 use Rattle.std.proofs.lemmas.Map.Made.{Contains-tail}
 use Rattle.std.proofs.lemmas.Bool.{cases_eq, false_from_ne_true}
 use Rattle.std.specs.Map.{update}
 use Rattle.std.specs.Ordering.{nat_cmp, int_eq}
 use Rattle.std.specs.FinMap.{get, insert, empty, get-empty}
+use Rattle.archive_check.specs.declared.error.Error.{Error}
 use Rattle.archive_check.specs.Depth.{Allows, inside}
-use Rattle.archive_check.specs.Ranges.{RangeState, one_more}
+use Rattle.archive_check.specs.Ranges.{RangeState, one_more, is_full, pop_answer}
 use Rattle.archive_check.specs.Met.{Met, Positions, started_at, started, finished, finish_answer}
 use Rattle.archive_check.specs.Tour.{Seen, Entry}
 use Rattle.archive_check.specs.Fresh.{IsFresh}
@@ -228,3 +229,19 @@ agrees_outside r {d = d} h = record {
 pub inside_more : (d : Option ℕ) → d ≡ inside (one_more d)
 inside_more None = refl
 inside_more (Some n) = let same : n ≡ n + 1 - 1 = omega arith in ap Some same
+
+-- a range that begins no lower than the current one ends is taken back
+pub taken_back : (s : RangeState) (x : ℕ) → s.end ≤ x → ((d : ℕ) → s.depth ≡ Some d → d + 1 < 18446744073709551616) → pop_answer s x ≡ Ok tt
+taken_back s x le few = by_tests (nat_lt x s.end) (is_full s.depth) refl refl
+  where
+    full : (depth : Option ℕ) → is_full depth ≡ true → ((d : ℕ) → depth ≡ Some d → d + 1 < 18446744073709551616) → ⊥
+    full None e few = cc
+    full (Some d) e few = let most : d ≡ 18446744073709551615 = grind (arith, nat_tests) in omega (arith, few d refl)
+
+    by_tests : (a b : Bool) → nat_lt x s.end ≡ a → is_full s.depth ≡ b → pop_answer s x ≡ Ok tt
+    by_tests true b e f = absurd (grind (arith, nat_tests))
+    by_tests false true e f = absurd (full s.depth f few)
+    by_tests false false e f = cc
+
+pub not_taken : (s : RangeState) (x : ℕ) (e : Error) → pop_answer s x ≡ Err e → pop_answer s x ≡ Ok tt → ⊥
+not_taken s x e p q = let clash = sym p ∙ q in cc

@@ -11,7 +11,7 @@ use Rattle.archive_check.specs.declared.plan.Part.{Part}
 use Rattle.archive_check.specs.declared.plan.Checker.{Checker}
 use Rattle.archive_check.specs.declared.work.Work.{Work}
 use Rattle.archive_check.specs.declared.work.Work.TheVariants.{Part as PartWork, Parts, Elements, Leave, Finish}
-use Rattle.archive_check.specs.Ranges.{RangeState, popped}
+use Rattle.archive_check.specs.Ranges.{RangeState, pop_answer, popped}
 use Rattle.archive_check.specs.Met.{Positions, finished, finish_answer}
 use Rattle.archive_check.specs.Tour.{Seen}
 use Rattle.archive_check.specs.Trail.{Fault}
@@ -22,7 +22,7 @@ use Rattle.archive_check.specs.Closed.{span, PartsWithin, SpanFits, ArrayFits, J
 use Rattle.archive_check.specs.Faults.{IsFor}
 use Rattle.archive_check.specs.Turns.{PartsHere, PartFits, Ready, Stage, stage, pending_in, regions_in, Listing, Entering, Following, Leads, Refuses, Keeps, IsStopped, stops, power, level, rank, cost}
 use Rattle.archive_check.proofs.TurnRules.{turn_parts, turn_elements, turn_part_last, turn_element_last, turn_elements_free, turn_pointer, turn_text, turn_shared, turn_weak}
-use Rattle.archive_check.proofs.MetAgrees.{levels_of, agrees_finished, finish_fine, agrees_outside, inside_more}
+use Rattle.archive_check.proofs.MetAgrees.{levels_of, agrees_finished, finish_fine, agrees_outside, inside_more, taken_back}
 use Rattle.archive_check.proofs.TurnsEnd.{level_node, level_same, falls_one, falls_two, falls_under, falls_shared}
 use Rattle.archive_check.proofs.Elements.{same_at}
 
@@ -185,6 +185,9 @@ module _ (m : Checker) (s : RangeState) (met : Positions) where
     leave_leads s' met' x y e same seen a =
         (seen, rw (e, same) (agrees_outside (regions_in old) a), λ o r. list_leave (inside_more s.depth) (rw e at r))
 
+    pub leave_refuses : (x y : ℕ) (e : Error) → s.end ≤ x → pop_answer s x ≡ Err e → Refuses (Listing m) (stage s met (Leave x y ∷ old)) e
+    leave_refuses x y e le is = inr (λ seen a. absurd (let fine = taken_back s x le (λ d same. omega (arith, a.few d same)) in let clash = sym is ∙ fine in cc))
+
     pub finish_leads : (s' : RangeState) (met' : Positions) (k t : ℕ) (z : ℤ) → z ≡ pos t → s' ≡ s → met' ≡ finished met z → Leads m (Listing m) (stage s met (Finish k t ∷ old)) (stage s' met' old)
     finish_leads s' met' k t z at same e seen a =
         (seen, rw (same, e, at) (agrees_finished a), λ o r. list_finish (rw same at r))
@@ -238,6 +241,10 @@ module _ (m : Checker) (s s' : RangeState) (old new : List Work) (i p : ℕ) whe
 pub some_map : {A B : Type 0} (r : Option (Unit {0})) → (A → B) → OnSome r A → OnSome r B
 some_map (Some u) f h = f h
 some_map None f h = tt
+
+pub some_three : {A B C D : Type 0} (r : Option (Unit {0})) → (A → B → C → D) → OnSome r A → OnSome r B → OnSome r C → OnSome r D
+some_three (Some u) f a b c = f a b c
+some_three None f a b c = tt
 
 pub none_map : {A B : Type 0} (r : Option (Unit {0})) → (A → B) → IfNone r A → IfNone r B
 none_map (Some u) f h = tt

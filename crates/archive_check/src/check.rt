@@ -1,12 +1,12 @@
 //! The check of bytes against a plan, by a list of what is left to check. Calls nest as deep as the shape does, and never by the data.
 
-ghost use Rattle.std.specs.Prelude.{◌≡◌, ◌⊎◌, ◌+◌, ◌*◌, ◌<◌, ◌≤◌, ◌∷◌, ℕ, [], pos, length, slice_index, OnOk, IfErr, OnSome, IfSome, IfNone, IsTrue, Some, None, Err, is_err, ◌≢◌, true, false};
+ghost use Rattle.std.specs.Prelude.{◌≡◌, ◌⊎◌, ◌+◌, ◌*◌, ◌<◌, ◌≤◌, ◌∷◌, ℕ, [], pos, length, slice_index, OnOk, IfErr, OnSome, IfSome, IfNone, IsTrue, Some, None, Ok, Err, is_err, ◌≢◌, true, false};
 ghost use Rattle.std.specs.FinMap.{empty};
 ghost use Rattle.archive_check.specs.declared.error.Error.TheVariants.{OutOfMemory};
 ghost use Rattle.archive_check.specs.declared.plan.Target.TheVariants.{One, Text};
 ghost use Rattle.archive_check.specs.declared.work.Work.TheVariants.{Part as PartWork, Parts as PartsWork};
 ghost use Rattle.archive_check.specs.declared.plan.Part.{Part};
-ghost use Rattle.archive_check.specs.Ranges.{subtree_answer};
+ghost use Rattle.archive_check.specs.Ranges.{subtree_answer, pop_answer, popped};
 ghost use Rattle.archive_check.specs.Tour.{Seen};
 ghost use Rattle.archive_check.specs.Trail.{Fault};
 ghost use Rattle.archive_check.specs.Runs.{count_at, length_of, target_size, IsAt, Takes, RegionIs, EnterRuns, done, refused};
@@ -42,6 +42,7 @@ fn place(position: i128) -> usize
 /// Stops the check at a region that is refused. The context is asked once more for the reason, so that no wide answer is kept where regions are
 /// entered.
 #[cold]
+#[inline(never)]
 fn refuse_region<T, C: ArchiveContext>(
     position: i128,
     layout: &Layout,
@@ -56,6 +57,48 @@ fn refuse_region<T, C: ArchiveContext>(
         Err(error) => work.refuse(error),
         Ok(()) => unreachable!(),
     }
+}
+
+/// Stops the check at a range that isn't taken back, likewise.
+#[cold]
+#[inline(never)]
+fn refuse_range<C: ArchiveContext>(
+    start: usize,
+    end: usize,
+    work: &mut Worklist,
+    context: &mut C,
+) -> Option<()>
+    requires refused { is_err (pop_answer (C.state context.old) start) ≡ true }
+    ensures none { result ≡ None }
+    ensures fault { pop_answer (C.state context.old) start ≡ Err work.new.fault }
+{
+    match context.pop_subtree_range(Range { start, end }) {
+        Err(error) => work.refuse(error),
+        Ok(()) => unreachable!(),
+    }
+}
+
+/// Leaves a region: the range is the one from `start` to `end` again.
+#[inline(always)]
+pub fn leave_region<C: ArchiveContext>(
+    start: usize,
+    end: usize,
+    work: &mut Worklist,
+    context: &mut C,
+) -> Option<()>
+    ensures left { OnSome result (C.state context.new ≡ popped (C.state context.old) start end) }
+    ensures taken { OnSome result (pop_answer (C.state context.old) start ≡ Ok tt) }
+    ensures refused { IfNone result (pop_answer (C.state context.old) start ≡ Err work.new.fault) }
+    ensures list { OnSome result (list_of work.new ≡ list_of work.old) }
+    ensures positions { OnSome result (C.positions context.new ≡ C.positions context.old) }
+{
+    if context
+        .pop_subtree_range(Range { start, end })
+        .is_err()
+    {
+        return refuse_range(start, end, work, context);
+    }
+    Some(())
 }
 
 /// A region that is entered, and the range that is given back where it is left. Positions are in bytes from the buffer's first one.
@@ -273,10 +316,7 @@ impl Checker<'_> {
             outer_end: end,
         } = region;
         if self.contents(target, pointee, count, begin, size, work, context)? {
-            if let Err(error) = context.pop_subtree_range(Range { start, end }) {
-                return work.refuse(error);
-            }
-            return Some(());
+            return leave_region(start, end, work, context);
         }
         work.leave(start, end)?;
         match target {
@@ -464,12 +504,7 @@ impl Checker<'_> {
                 work.more_elements(node, left - passed - 1, next + size)?;
                 self.open(node, next, work, context)
             }
-            Work::Leave { start, end } => {
-                if let Err(error) = context.pop_subtree_range(Range { start, end }) {
-                    return work.refuse(error);
-                }
-                Some(())
-            }
+            Work::Leave { start, end } => leave_region(start, end, work, context),
             Work::Finish { sort, at } => {
                 let kind = &self.sorts[sort];
                 if let Err(error) = context.finish_shared(&kind.flavor, &kind.pointee, at as i128) {

@@ -12,12 +12,12 @@ ghost use Rattle.archive_check.specs.Turns.{PointeeFits, PartFits, PartsFit, Ele
 ghost use Rattle.archive_check.specs.Through.{Through, Stops, node_rule, parts_rule, elements_rule, region_rule};
 
 use crate::bytes::{inline_length, is_out_of_line, is_text, read_coded_length, read_position};
+use crate::check::leave_region;
 use crate::error::Error;
 use crate::leaf::{illegal, is_legal};
 use crate::plan::{Checker, Job, Target};
 use crate::validation::ArchiveContext;
 use crate::work::Worklist;
-use std::ops::Range;
 
 impl Checker<'_> {
     /// Checks a region of so many of the pointee: a text, or bytes that are legal whatever they are.
@@ -45,11 +45,7 @@ impl Checker<'_> {
                 return work.refuse(Error::InvalidUtf8);
             }
         }
-        let (start, end) = (region.outer_start, region.outer_end);
-        if let Err(error) = context.pop_subtree_range(Range { start, end }) {
-            return work.refuse(error);
-        }
-        Some(())
+        leave_region(region.outer_start, region.outer_end, work, context)
     }
 
     /// Checks the string at `at`, whose node this is.

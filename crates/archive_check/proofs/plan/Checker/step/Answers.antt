@@ -7,7 +7,7 @@ use Rattle.archive_check.specs.Runs.{IsAt, IsNode, Takes}
 use Rattle.archive_check.specs.Lists.{list_of}
 use Rattle.archive_check.specs.Turns.{Listing, stage}
 use Rattle.archive_check.proofs.TurnsEnd.{falls_none}
-use Rattle.archive_check.proofs.TurnInvariants.{element_ready, element_leads, element_ends, elements_free_leads, leave_leads, finish_leads, finish_refuses, refused_keeps, then_keeps, then_falls, under}
+use Rattle.archive_check.proofs.TurnInvariants.{element_ready, element_leads, element_ends, elements_free_leads, leave_leads, leave_refuses, some_three, none_map, finish_leads, finish_refuses, refused_keeps, then_keeps, then_falls, under}
 use Rattle.archive_check.proofs.PassedElements.{takes_size, pass_all, pass_leads, pass_ready, pass_costs}
 use Rattle.archive_check.proofs.plan.Checker.step.Goals as goal
 
@@ -142,18 +142,22 @@ pub returns-in-Part-clause-runs : goal.returns-in-Part-clause-runs
 returns-in-Part-clause-runs g c =
     rw c.in-Part.is c.open.ensures.runs
 
-pub returns-in_default-pop_subtree_range-clause-runs : goal.returns-in_default-pop_subtree_range-clause-runs
-returns-in_default-pop_subtree_range-clause-runs g c =
+pub returns-in-Leave-clause-runs : goal.returns-in-Leave-clause-runs
+returns-in-Leave-clause-runs g c =
     let m = c.args.self.now in
     let st = g.C.Context.state in
     let met = g.C.Context.positions in
     let s = st c.args.context.now in
     let seen = met c.args.context.now in
     let old = list_of c.args.work.now in
-    rw c.in-Leave.is (leave_leads m s seen old (st c.pop_subtree_range.new.self) (met c.pop_subtree_range.new.self) c.in-Leave.start c.in-Leave.end c.in_default-pop_subtree_range.ensures.left c.in_default-pop_subtree_range.ensures.positions, tt)
+    let left = c.leave_region in
+    rw c.in-Leave.is (
+      some_three left.result (λ e (list : list_of left.new.work ≡ old) same. rw list (leave_leads m s seen old (st left.new.context) (met left.new.context) c.in-Leave.start c.in-Leave.end e same)) left.ensures.left left.ensures.list left.ensures.positions,
+      none_map left.result (leave_refuses m s seen old c.in-Leave.start c.in-Leave.end left.new.work.fault (rw c.in-Leave.is at c.requires.ready.fits).0) left.ensures.refused,
+    )
 
-pub returns-in-Err-finish_shared-clause-runs : goal.returns-in-Err-finish_shared-clause-runs
-returns-in-Err-finish_shared-clause-runs g c =
+pub returns-in-Err-clause-runs : goal.returns-in-Err-clause-runs
+returns-in-Err-clause-runs g c =
     let m = c.args.self.now in
     let st = g.C.Context.state in
     let met = g.C.Context.positions in
@@ -161,8 +165,8 @@ returns-in-Err-finish_shared-clause-runs g c =
     let seen = met c.args.context.now in
     let old = list_of c.args.work.now in
     let at : to_z w128 c.in-Finish.at ≡ pos c.in-Finish.at = to_z_pos w128 c.in-Finish.at (omega arith) in
-    rw c.in-Finish.is (refused_keeps m (Listing m) (stage s seen (Finish c.in-Finish.sort c.in-Finish.at ∷ old)) (stage (st c.finish_shared.new.self) (met c.finish_shared.new.self) (list_of c.refuse-in-Err-finish_shared.new.self)) c.refuse-in-Err-finish_shared.result c.refuse-in-Err-finish_shared.new.self.fault c.in-Err-finish_shared.error c.refuse-in-Err-finish_shared.ensures.none c.refuse-in-Err-finish_shared.ensures.fault
-    (finish_refuses m s seen old c.in-Finish.sort c.in-Finish.at (to_z w128 c.in-Finish.at) c.in-Err-finish_shared.error at c.in-Err-finish_shared.ensures.answer))
+    rw c.in-Finish.is (refused_keeps m (Listing m) (stage s seen (Finish c.in-Finish.sort c.in-Finish.at ∷ old)) (stage (st c.finish_shared.new.self) (met c.finish_shared.new.self) (list_of c.refuse.new.self)) c.refuse.result c.refuse.new.self.fault c.in-Err.error c.refuse.ensures.none c.refuse.ensures.fault
+    (finish_refuses m s seen old c.in-Finish.sort c.in-Finish.at (to_z w128 c.in-Finish.at) c.in-Err.error at c.in-Err.ensures.answer))
 
 pub returns-in_default-finish_shared-clause-runs : goal.returns-in_default-finish_shared-clause-runs
 returns-in_default-finish_shared-clause-runs g c =
