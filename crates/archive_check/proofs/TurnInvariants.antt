@@ -1,5 +1,5 @@
 -- What each turn of a check's loop keeps.
-use Rattle.std.proofs.Common.{◌≡◌, ◌≢◌, inl, inr, ℕ, zero, suc, ℤ, pos, ◌+ℤ◌, sym, ap, ap₂, ◌∙◌, ◌+◌, ◌-◌, ◌*◌, ◌<◌, ◌≤◌, max, arith, List, [], ◌∷◌, length, take, drop, drop-cons, Option, Some, None, Err, OnSome, IfNone}
+use Rattle.std.proofs.Common.{◌≡◌, ◌≢◌, inl, inr, ℕ, zero, suc, ℤ, pos, ◌+ℤ◌, sym, ap, ap₂, ◌∙◌, ◌+◌, ◌-◌, ◌*◌, ◌<◌, ◌≤◌, max, arith, List, [], ◌∷◌, length, take, drop, drop-cons, Option, Some, None, Result, Ok, Err, OnSome, IfNone, OnOk, IfErr}
 use Rattle.archive_check.specs.declared.error.Error.{Error}
 use Rattle.archive_check.specs.declared.error.Error.TheVariants.{OutOfMemory}
 use Rattle.archive_check.specs.declared.plan.Target.{Target}
@@ -245,6 +245,14 @@ some_map None f h = tt
 pub some_three : {A B C D : Type 0} (r : Option (Unit {0})) → (A → B → C → D) → OnSome r A → OnSome r B → OnSome r C → OnSome r D
 some_three (Some u) f a b c = f a b c
 some_three None f a b c = tt
+
+pub ok_map : {A B : Type 0} (r : Result (Unit {0}) Error) → (A → B) → OnOk r A → OnOk r B
+ok_map (Ok u) f h = f h
+ok_map (Err e) f h = tt
+
+pub err_map : {A B : Error → Type 0} (r : Result (Unit {0}) Error) → ((e : Error) → A e → B e) → IfErr r A → IfErr r B
+err_map (Ok u) f h = tt
+err_map (Err e) f h = f e h
 
 pub none_map : {A B : Type 0} (r : Option (Unit {0})) → (A → B) → IfNone r A → IfNone r B
 none_map (Some u) f h = tt

@@ -28,7 +28,6 @@ use crate::leaf::is_legal;
 use crate::plan::{Checker, Job, Span, Target};
 use crate::validation::{ArchiveContext, SharedContext, ValidationState};
 use crate::work::{Work, Worklist};
-use std::alloc::Global;
 use std::ops::Range;
 
 /// The position as an index.
@@ -43,18 +42,17 @@ fn place(position: i128) -> usize
 /// entered.
 #[cold]
 #[inline(never)]
-fn refuse_region<T, C: ArchiveContext>(
+fn refuse_region<C: ArchiveContext>(
     position: i128,
     layout: &Layout,
     work: &mut Worklist,
     context: &mut C,
-) -> Option<T>
-    requires refused { is_err (subtree_answer (C.state context.old) position layout.now.size layout.now.align) ≡ true }
-    ensures none { result ≡ None }
-    ensures fault { subtree_answer (C.state context.old) position layout.now.size layout.now.align ≡ Err work.new.fault }
+)
+    requires { is_err (subtree_answer (C.state context.old) position layout.now.size layout.now.align) ≡ true }
+    ensures { subtree_answer (C.state context.old) position layout.now.size layout.now.align ≡ Err work.new.fault }
 {
     match context.check_subtree_ptr(position, layout) {
-        Err(error) => work.refuse(error),
+        Err(error) => work.keep(error),
         Ok(()) => unreachable!(),
     }
 }
@@ -67,13 +65,12 @@ fn refuse_range<C: ArchiveContext>(
     end: usize,
     work: &mut Worklist,
     context: &mut C,
-) -> Option<()>
-    requires refused { is_err (pop_answer (C.state context.old) start) ≡ true }
-    ensures none { result ≡ None }
-    ensures fault { pop_answer (C.state context.old) start ≡ Err work.new.fault }
+)
+    requires { is_err (pop_answer (C.state context.old) start) ≡ true }
+    ensures { pop_answer (C.state context.old) start ≡ Err work.new.fault }
 {
     match context.pop_subtree_range(Range { start, end }) {
-        Err(error) => work.refuse(error),
+        Err(error) => work.keep(error),
         Ok(()) => unreachable!(),
     }
 }
@@ -96,7 +93,8 @@ pub fn leave_region<C: ArchiveContext>(
         .pop_subtree_range(Range { start, end })
         .is_err()
     {
-        return refuse_range(start, end, work, context);
+        refuse_range(start, end, work, context);
+        return None;
     }
     Some(())
 }
@@ -226,7 +224,8 @@ impl Checker<'_> {
             align: node.align,
         };
         if context.check_subtree_ptr(position, &layout).is_err() {
-            return refuse_region(position, &layout, work, context);
+            refuse_region(position, &layout, work, context);
+            return None;
         }
         let begin = place(position);
         let Ok(Range { start, end }) = context.push_subtree_range(begin, begin + size) else {
@@ -515,30 +514,26 @@ impl Checker<'_> {
         }
     }
 
-    /// Checks the root node at `at`, and all that it leads to. Memory comes from `alloc`, and is refused with 1.
+    /// Checks the root node at `at`, and all that it leads to, by a list on which nothing is left yet.
     pub(crate) fn run<C: ArchiveContext + SharedContext>(
         &self,
-        alloc: Global,
         root: usize,
         at: usize,
+        work: &mut Worklist,
         context: &mut C,
-    ) -> Result<(), Error>
+    ) -> Option<()>
         requires closed { IsClosed self.now }
         requires marked { IsMarked self.now }
         requires below { (C.state context.old).end ≤ length self.now.bytes.now }
         requires known { root < length self.now.nodes.now }
-        ensures ok { OnOk result (IsFresh (C.state context.old) (C.positions context.old) → (last : ℕ) × (known : Seen) × EnterRuns self.now [] (C.state context.old).depth (C.state context.old).end One root 1 (pos at) (C.state context.old).start empty (done last known)) }
-        ensures err { IfErr result (λ e. (e ≡ OutOfMemory) ⊎ (IsFresh (C.state context.old) (C.positions context.old) → (f : Fault) × IsFor f e × EnterRuns self.now [] (C.state context.old).depth (C.state context.old).end One root 1 (pos at) (C.state context.old).start empty (refused f))) }
+        requires none_left { list_of work.old ≡ [] }
+        ensures ok { OnSome result (IsFresh (C.state context.old) (C.positions context.old) → (last : ℕ) × (known : Seen) × EnterRuns self.now [] (C.state context.old).depth (C.state context.old).end One root 1 (pos at) (C.state context.old).start empty (done last known)) }
+        ensures err { IfNone result ((work.new.fault ≡ OutOfMemory) ⊎ (IsFresh (C.state context.old) (C.positions context.old) → (f : Fault) × IsFor f work.new.fault × EnterRuns self.now [] (C.state context.old).depth (C.state context.old).end One root 1 (pos at) (C.state context.old).start empty (refused f))) }
     {
-        let mut work = Worklist::new(alloc);
-        let Some(()) = self.enter_here(Target::One, root, 1, at as i128, &mut work, context) else {
-            return Err(work.fault());
-        };
+        self.enter_here(Target::One, root, 1, at as i128, work, context)?;
         while let Some(entry) = work.pop() {
-            let Some(()) = self.step(entry, &mut work, context) else {
-                return Err(work.fault());
-            };
+            self.step(entry, work, context)?;
         }
-        Ok(())
+        Some(())
     }
 }

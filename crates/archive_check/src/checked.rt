@@ -10,6 +10,7 @@ ghost use Rattle.archive_check.specs.PlanChecks.{PlanAccepts, PlanRefuses, PlanI
 use crate::error::Error;
 use crate::plan::Checker;
 use crate::validation::{ArchiveContext, SharedContext};
+use crate::work::Worklist;
 use std::alloc::Global;
 
 impl Checker<'_> {
@@ -32,9 +33,10 @@ impl Checker<'_> {
         ensures exact { IsWhole (C.state context.old) (C.positions context.old) self.now.bytes.now → PlanIsExact self.now root (C.state context.old).depth at result }
     {
         prove!(self.bytes.len() <= usize::MAX);
-        if let Err(error) = self.run(alloc, root, at, context) {
-            return Err(error);
+        let mut work = Worklist::new(alloc);
+        match self.run(root, at, &mut work, context) {
+            Some(()) => Ok(()),
+            None => Err(work.fault()),
         }
-        Ok(())
     }
 }

@@ -107,9 +107,6 @@ impl Schema {
             bytes,
         };
         let alloc = *self.plan.nodes.allocator();
-        if let Err(error) = checker.check(alloc, self.node, pos, context) {
-            return Err(error);
-        }
-        Ok(())
+        checker.check(alloc, self.node, pos, context)
     }
 }

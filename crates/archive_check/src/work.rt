@@ -72,13 +72,21 @@ impl Worklist {
         self.fault
     }
 
+    /// Keeps why the check stops.
+    #[inline]
+    pub fn keep(&mut self, fault: Error)
+        ensures { self.new.fault ≡ fault }
+    {
+        self.fault = fault;
+    }
+
     /// Stops the check.
     #[inline]
     pub fn refuse<T>(&mut self, fault: Error) -> Option<T>
         ensures none { result ≡ None }
         ensures fault { self.new.fault ≡ fault }
     {
-        self.fault = fault;
+        self.keep(fault);
         None
     }
 

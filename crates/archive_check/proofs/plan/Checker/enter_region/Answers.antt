@@ -28,8 +28,8 @@ returns-then-is_err-clause-stops g c =
     record { node = c.index-self-pointee.result; at = record { below = c.requires.known; is = c.index-self-pointee.is }; size_is = ap (λ q. times q.size c.args.count) c.index-self-pointee.is ∙ sym c.times.ensures.total ∙ c.in-Some.is; align_is = ap (λ q. q.align) c.index-self-pointee.is } in
     let fault = c.refuse_region.new.work.fault in
     let v : Err fault ≡ subtree_answer s c.args.position c.in-Some.size al =
-    sym c.refuse_region.ensures.fault ∙ ap (λ q. subtree_answer q (to_z w128 (of_z w128 c.args.position)) c.in-Some.size al) c.check_subtree_ptr.ensures.unchanged ∙ ap (λ q. subtree_answer s q c.in-Some.size al) (to_z-of_z w128 c.args.position c.ranges.position) in
-    if_none (λ e. (target : Target) → Stops (region_rule m target c.args.pointee c.args.count c.args.position) s e) c.refuse_region.result fault fault refl (λ target some. astray m c.args.pointee c.args.count target s c.args.position c.in-Some.size al fault reg v)
+    sym c.refuse_region.ensures ∙ ap (λ q. subtree_answer q (to_z w128 (of_z w128 c.args.position)) c.in-Some.size al) c.check_subtree_ptr.ensures.unchanged ∙ ap (λ q. subtree_answer s q c.in-Some.size al) (to_z-of_z w128 c.args.position c.ranges.position) in
+    λ target some. astray m c.args.pointee c.args.count target s c.args.position c.in-Some.size al fault reg v
 
 pub returns-in_default-push_subtree_range-clause-stops : goal.returns-in_default-push_subtree_range-clause-stops
 returns-in_default-push_subtree_range-clause-stops g c =
