@@ -173,9 +173,10 @@ impl Context for ArchiveValidator<'_> {
 
 impl ArchiveContext for ArchiveValidator<'_> {
     fn check_subtree_ptr(&mut self, position: i128, layout: &Layout) -> Result<(), Error> {
-        let Ok(root) = usize::try_from(position) else {
+        if position < 0 || position > usize::MAX as i128 {
             return Err(self.outside(position, layout.size));
-        };
+        }
+        let root = position as usize;
         if root < self.start || root > self.end || layout.size > self.end - root {
             return Err(self.outside(position, layout.size));
         }

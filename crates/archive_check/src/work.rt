@@ -73,7 +73,8 @@ impl Worklist {
     }
 
     /// Keeps why the check stops.
-    #[inline]
+    #[cold]
+    #[inline(never)]
     pub fn keep(&mut self, fault: Error)
         ensures { self.new.fault ≡ fault }
     {
