@@ -155,7 +155,7 @@ made_job free None job made h P f g = subst P (sym h) (f (inr (λ z e. cc)))
 made_job free (Some zero) job made h P f g = subst P (sym h) (f (inr (λ z e. cc)))
 made_job free (Some (suc n)) job made h P f g =
     is_made free refl
-    where
+  where
     unless_free : made ≡ cond free Free job
     unless_free = h ∙ ap (λ b. cond (cond b true free) Free job) (eqb-suc-zero n)
 

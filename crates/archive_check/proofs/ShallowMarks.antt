@@ -139,7 +139,7 @@ all_more nodes parts variants marks n x b before count here shallow k y below at
     let is : x ≡ y = same_at here (rw same at at) in
     let by : take k (marks ++ b ∷ []) ≡ marks = ap (λ j. take j (marks ++ b ∷ [])) last ∙ take-append_seam marks (b ∷ []) in
     let true_now : IsTrue b = shallow
-        (subst (λ (z : Node). HasIndexes parts variants z.job) (sym is) there)
-        (subst (λ (z : Node). IsTrue (job_shallow nodes parts variants marks z.job)) (sym is) (subst (λ (bs : List Bool). IsTrue (job_shallow nodes parts variants bs y.job)) by h)) in
+    (subst (λ (z : Node). HasIndexes parts variants z.job) (sym is) there)
+    (subst (λ (z : Node). IsTrue (job_shallow nodes parts variants marks z.job)) (sym is) (subst (λ (bs : List Bool). IsTrue (job_shallow nodes parts variants bs y.job)) by h)) in
     subst (λ j. IsTrue (marked (marks ++ b ∷ []) j)) (sym last) (marked_last b marks true_now))
     (below_or_last k (length marks) (omega (arith, below, length-append marks (b ∷ []))))
