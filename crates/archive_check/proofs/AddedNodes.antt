@@ -1,6 +1,7 @@
 -- Nodes that are added to a plan.
-use Rattle.std.proofs.Common.{◌≡◌, ◌≢◌, ◌⊎◌, inl, inr, ⊎_elim, ℕ, zero, suc, refl, sym, ap, ◌∙◌, subst, ◌+◌, ◌<◌, ◌≤◌, arith, List, [], ◌∷◌, ◌++◌, length, Bool, true, Option, Some, length-append}
+use Rattle.std.proofs.Common.{◌≡◌, ◌≢◌, ◌⊎◌, inl, inr, ⊎_elim, ℕ, zero, suc, refl, sym, ap, ◌∙◌, subst, ◌+◌, ◌<◌, ◌≤◌, arith, List, [], ◌∷◌, ◌++◌, length, Bool, true, false, cond, Option, Some, None, length-append}
 use Rattle.std.proofs.lemmas.Bool.{cases_lt}
+use Rattle.std.proofs.Math.Dec.{eqb-suc-zero}
 use Rattle.archive_check.specs.declared.plan.Job.{Job}
 use Rattle.archive_check.specs.declared.plan.Job.TheVariants.{Free}
 use Rattle.archive_check.specs.declared.plan.Node.{Node}
@@ -13,7 +14,7 @@ use Rattle.archive_check.specs.Runs.{IsAt}
 use Rattle.archive_check.specs.Closed.{JobFits}
 use Rattle.archive_check.specs.Represents.{StandsFor, stands, Made}
 use Rattle.archive_check.specs.BoundedSizes.{fits}
-use Rattle.archive_check.specs.PlanGrowth.{PlanLists, Goes, Grows, IsPushed, Unless, IsMade}
+use Rattle.archive_check.specs.PlanGrowth.{PlanLists, Goes, Grows, IsPushed, nothing_to_check, IsMade}
 use Rattle.archive_check.specs.Compiled.{Follows, Below, NamesSized, ClosedTo, Settled, Given, MadeTo, Adds, Compiled}
 use Rattle.archive_check.specs.NodeCounts.{count_of}
 use Rattle.archive_check.specs.Measure.{measure_of}
@@ -148,10 +149,19 @@ module _ {names : List Known} {gives : List Shape} {v w : Waits} {a b c : PlanLi
       }
 
 -- a job, or none
-pub unless_job : (free : Bool) (size : Option ℕ) (job made : Job) → Unless free size job made → (P : Job → Type 0)
+pub made_job : (free : Bool) (size : Option ℕ) (job made : Job) → made ≡ cond (nothing_to_check free size) Free job → (P : Job → Type 0)
     → ((free ≡ true) ⊎ ((z : ℕ) → size ≡ Some z → z ≡ 0) → P Free) → (size ≢ Some 0 → P job) → P made
-unless_job free size job made (inl h) P f g = subst P (sym h.0) (f h.1)
-unless_job free size job made (inr h) P f g = subst P (sym h.0) (g h.1)
+made_job free None job made h P f g = subst P (sym h) (f (inr (λ z e. cc)))
+made_job free (Some zero) job made h P f g = subst P (sym h) (f (inr (λ z e. cc)))
+made_job free (Some (suc n)) job made h P f g =
+    is_made free refl
+  where
+    unless_free : made ≡ cond free Free job
+    unless_free = h ∙ ap (λ b. cond (cond b true free) Free job) (eqb-suc-zero n)
+
+    is_made : (b : Bool) → free ≡ b → P made
+    is_made true e = subst P (sym (unless_free ∙ ap (λ b. cond b Free job) e)) (f (inl e))
+    is_made false e = subst P (sym (unless_free ∙ ap (λ b. cond b Free job) e)) (g (λ z. cc))
 
 pub some_positive : {size : Option ℕ} (z : ℕ) → size ≡ Some z → size ≢ Some 0 → 0 < z
 some_positive zero e n = absurd (n e)
@@ -166,11 +176,11 @@ module _ {names : List Known} {gives : List Shape} {v w : Waits} {a b c : PlanLi
       → ((s : Schema) (shapes : ℕ → Shape) (m : Checker) → Follows c m → Settled names w.items s shapes m → Given shapes (length a.nodes) gives → (z : ℕ) → size ≡ Some z → 0 < z → Made s shapes m job X)
       → Compiled names done X v w a c j
   compiled_made {size = size} {free = free} {job = job} X p count few known lay closed make_free make = compiled_push f X p.pushed count few known lay
-      (λ m g w z e. unless_job free size job p.made p.which (λ q. JobFits m (length b.nodes) z q) (λ h. tt) (λ n. closed m g w z e (some_positive z e n)))
-      (λ s shapes m g t given k z e. unless_job free size job p.made p.which (λ q. Made s shapes m q X)
+      (λ m g w z e. made_job free size job p.made p.made_is (λ q. JobFits m (length b.nodes) z q) (λ h. tt) (λ n. closed m g w z e (some_positive z e n)))
+      (λ s shapes m g t given k z e. made_job free size job p.made p.made_is (λ q. Made s shapes m q X)
       (λ h. make_free s shapes m g t given k z e (⊎_elim (λ y. inl y) (λ y. inr (y z e)) h))
       (λ n. make s shapes m g t given z e (some_positive z e n)))
-      (λ e. unless_job free size job p.made p.which (λ q. q ≡ Free) (λ h. refl) (λ n. absurd (n e)))
+      (λ e. made_job free size job p.made p.made_is (λ q. q ≡ Free) (λ h. refl) (λ n. absurd (n e)))
 
 -- an expression's node stands for it
 pub stands_of : {names : List Known} {done : ℕ} {X : Shape} {v w : Waits} {a b : PlanLists} {j : ℕ} {s : Schema} {shapes : ℕ → Shape} {m : Checker}

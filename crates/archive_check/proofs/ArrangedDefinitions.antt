@@ -9,7 +9,7 @@ use Rattle.archive_check.specs.declared.defs.Def.{Def}
 use Rattle.archive_check.specs.Shape.{Name, Shape, Table, definition}
 use Rattle.archive_check.specs.Expressions.{shape_of, entries_of}
 use Rattle.archive_check.specs.Defined.{HeldIn}
-use Rattle.archive_check.specs.Names.{missing, NextReady, Complete}
+use Rattle.archive_check.specs.Names.{missing, NotReady, NextReady, Complete}
 use Rattle.archive_check.proofs.Named.{append_known, append_unknown, definition_here, definition_other, names_decided, definition-remove, entries_of-append, push_some, push_none, contains-remove, contains-at, one_at}
 use Rattle.archive_check.proofs.MissingNames.{missed_held, held_defined}
 use Rattle.archive_check.proofs.NamesComeBack.{DefinitionHolds, some_comes_back}
@@ -49,8 +49,8 @@ missed_there (Some b) o e h = (b.now, sym e)
 
 -- one more that isn't ready
 pub not_ready : (table : Table) (rest : List Def) (i : ℕ) (x : Def) (r : Option (Bor Name)) → i < length rest → x ≡ get_or rest i x → option_map (λ name. name.now) r ≡ missing false table (shape_of x.expr) → is_some r ≡ true
-    → ((k : ℕ) (d : Def) → k < i → d ≡ get_or rest k d → (name : Name) × (missing false table (shape_of d.expr) ≡ Some name))
-    → (k : ℕ) (d : Def) → k < i + 1 → d ≡ get_or rest k d → (name : Name) × (missing false table (shape_of d.expr) ≡ Some name)
+    → NotReady table rest i
+    → NotReady table rest (i + 1)
 not_ready table rest i x r within is missed some before k d h e = ⊎_elim
     (λ below. before k d below e)
     (λ here.

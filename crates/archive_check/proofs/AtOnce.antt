@@ -1,8 +1,7 @@
 -- What is checked at once: what a shallow node holds is shallow, and what comes of its parts and elements.
 use Rattle.std.proofs.Common.{inr, ◌≡◌, ℕ, zero, suc, refl, sym, ap, ap₂, ◌∙◌, ◌+◌, ◌-◌, ◌*◌, ◌<◌, ◌≤◌, ◌&&◌, arith, Bool, true, false, List, [], ◌∷◌, length, take, drop, drop-cons, slice_index_or, Option, Some, None, IsTrue, OnSome, IfNone}
 use Rattle.archive_check.specs.declared.error.Error.{Error}
-use Rattle.archive_check.specs.declared.plan.Job.{Job}
-use Rattle.archive_check.specs.declared.plan.Job.TheVariants.{Free, Leaf, Record, Choice, Array, Pointer as PointerJob, Str, Shared, Weak}
+use Rattle.archive_check.specs.declared.plan.Job.TheVariants.{Free}
 use Rattle.archive_check.specs.declared.plan.Node.{Node}
 use Rattle.archive_check.specs.declared.plan.Part.{Part}
 use Rattle.archive_check.specs.declared.plan.Span.{Span}
@@ -15,26 +14,16 @@ use Rattle.archive_check.specs.Tour.{Seen}
 use Rattle.archive_check.specs.Trail.{Fault}
 use Rattle.archive_check.specs.Runs.{Outcome, done, refused, IsAt, IsNode, Takes, RegionIs, ElementsRun, parts_end, parts_next, parts_stop, elements_end, elements_next, elements_stop, list_part, list_part_stop}
 use Rattle.archive_check.specs.Closed.{span, SpanFits, ArrayFits}
-use Rattle.archive_check.specs.Shallow.{marked, is_free, free_at, parts_shallow, variants_shallow}
+use Rattle.archive_check.specs.Shallow.{marked, free_at, parts_shallow, variants_shallow}
 use Rattle.archive_check.specs.Turns.{Stays, PartFits, PartsFit, ElementsFit, stage, pending_in, Listing, Keeps, HasLevels, cost, rank}
 use Rattle.archive_check.specs.Through.{Rule, Through, Stops, node_rule, parts_rule, elements_rule}
 use Rattle.archive_check.proofs.Elements.{same_at, at_default}
+use Rattle.archive_check.proofs.ShallowMarks.{job_free}
 use Rattle.archive_check.proofs.TurnInvariants.{some_map, span_next, here_from}
 use Rattle.archive_check.proofs.TurnsEnd.{falls_none}
 use Rattle.archive_check.proofs.EnteredRegions.{has_levels, times_size}
 
 -- what is shallow
-
-job_free : (job : Job) → IsTrue (is_free job) → job ≡ Free
-job_free Free h = refl
-job_free (Leaf kind) h = cc
-job_free (Record a b) h = cc
-job_free (Choice name a b) h = cc
-job_free (Array n j) h = cc
-job_free (PointerJob target j) h = cc
-job_free (Str j) h = cc
-job_free (Shared k target j) h = cc
-job_free (Weak k target j) h = cc
 
 free_node : (nodes : List Node) (i : ℕ) → IsTrue (free_at nodes i) → (x : Node) × IsAt nodes i x × (x.job ≡ Free)
 free_node [] i h = absurd (let none : IsTrue false = h in cc)

@@ -1,5 +1,6 @@
 -- Parts and variants, laid out one after another.
-use Rattle.std.proofs.Common.{◌≡◌, ◌⊎◌, inl, inr, ⊎_elim, ℕ, suc, refl, sym, ap, ap₂, ◌∙◌, subst, ◌+◌, ◌-◌, ◌<◌, ◌≤◌, max, arith, List, [], ◌∷◌, ◌++◌, length, Bool, true, Option, Some, length-append}
+use Rattle.std.proofs.Common.{◌≡◌, ◌⊎◌, inl, inr, ⊎_elim, ℕ, suc, refl, sym, ap, ap₂, ◌∙◌, subst, ◌+◌, ◌-◌, ◌<◌, ◌≤◌, max, arith, List, [], ◌∷◌, ◌++◌, length, Bool, true, false, ◌&&◌, Option, Some, length-append}
+use Rattle.archive_check.specs.declared.plan.Job.{Job}
 use Rattle.archive_check.specs.declared.plan.Job.TheVariants.{Free}
 use Rattle.archive_check.specs.declared.plan.Node.{Node}
 use Rattle.archive_check.specs.declared.plan.Part.{Part as PlanPart}
@@ -18,6 +19,7 @@ use Rattle.archive_check.specs.Represents.{StandsFor, PartsStand, parts_over, pa
 use Rattle.archive_check.specs.BoundedSizes.{fits, rounded, sum_of, greater_of}
 use Rattle.archive_check.specs.CompileQueue.{Waits}
 use Rattle.archive_check.specs.PlanGrowth.{PlanLists, IsPlaced, IsListed, PartsLaid, SpansLaid}
+use Rattle.archive_check.specs.Shallow.{is_free}
 use Rattle.archive_check.specs.Compiled.{Follows, NamesSized, Settled, Given, Compiled, IsPartWithin, RowIs, CompiledParts, IsVariant, SpansAre, CompiledVariants}
 use Rattle.archive_check.proofs.Fitting.{fits_some, some_is, rounded_fits, rounded_some, sum_fits, sum_some, greater_fits, greater_some}
 use Rattle.archive_check.proofs.GrowingPlans.{at_more, at_less, goes_longer, grows_trans, extended_grows, part_at, part_of, span_of}
@@ -25,11 +27,16 @@ use Rattle.archive_check.proofs.Elements.{at_last, at_end, same_at}
 use Rattle.archive_check.proofs.AddedNodes.{given_first, given_second, settled_less, knows_settled, adds_refl, adds_trans, adds_same, stands_of}
 use Rattle.archive_check.proofs.Compilable.{can_first, can_later, can_variant, can_others}
 use Rattle.archive_check.proofs.Compiled.{fits_wider, span_within, span_wider}
+use Rattle.archive_check.proofs.ShallowMarks.{job_free}
 use Rattle.archive_check.proofs.PositiveAlignments.{parts_align_pos, variants_align_pos}
 
 pub ends_positive : (l : Layouts) (vs : Variants) → 0 < variants_end l vs
 ends_positive l no_variant = omega arith
 ends_positive l (variant ps vs) = omega (arith, ends_positive l vs)
+
+both_free : (free : Bool) (job : Job) → (free && is_free job) ≡ true → (free ≡ true) × (job ≡ Free)
+both_free true job h = (refl, job_free job h)
+both_free false job h = cc
 
 -- no part yet
 pub row_start : {names : List Known} {done : ℕ} (start : ℕ) {v : Waits} {a : PlanLists} (ps : Parts) (row : List PlanPart) (end : Option ℕ) (align : ℕ) (free : Bool) → start < 18446744073709551616 → row ≡ [] → end ≡ Some start → align ≡ 1
@@ -83,7 +90,7 @@ module _ {names : List Known} {done start : ℕ} {all rest : Parts} {v w u : Wai
 
   next_free : next.free ≡ true → (m : Checker) → Follows c m → (k : ℕ) (x : PlanPart) → IsAt next.parts.items k x → IsNode m x.node Free
   next_free h m g k x i =
-      let w = p.still_free h in
+      let w = both_free row.free here.job (sym p.free_is ∙ h) in
       ⊎_elim
       (λ j. r.row_free w.0 m (grows_trans f.adds.grows g) k x j)
       (λ j. subst (λ (t : PlanPart). IsNode m t.node Free) (sym j) (record { node = here; at = subst (λ i. IsAt m.nodes.now i here) (sym p.node_is) (at_more g.nodes at); job_is = w.1 }))

@@ -1,6 +1,7 @@
 -- Steps of what is kept of shared positions.
-use Rattle.std.proofs.Common.{◌≡◌, ℕ, ◌<◌, ℤ, List, [], ◌∷◌, ◌++◌, length, Bool, true, false, cond, refl, sym, ap, ◌∙◌, subst, Option, Some, None, option_map, arith, zero, suc, slice_get, Result, Ok, Err, OnOk, OnErr, ◌&&◌, bytes_eq, get_or, ◌+◌, length-append}
+use Rattle.std.proofs.Common.{◌≡◌, ⊎_elim, ℕ, ◌<◌, ◌≤◌, ℤ, List, [], ◌∷◌, ◌++◌, length, Bool, true, false, cond, refl, sym, ap, ◌∙◌, subst, Option, Some, None, option_map, arith, zero, suc, slice_get, Result, Ok, Err, OnOk, OnErr, ◌&&◌, bytes_eq, get_or, ◌+◌, length-append}
 use Rattle.std.specs.Bool.{beq}
+use Rattle.std.proofs.lemmas.Bool.{cases_lt}
 use Rattle.std.proofs.lemmas.Option.{slice_get_read, slice_get_within}
 use mathlib.Core.Bool.{true≢false}
 use Rattle.std.specs.Cmp.{signed_Decides}
@@ -20,7 +21,7 @@ use Rattle.archive_check.specs.Expressions.{flavor_of, pointee_of}
 use Rattle.archive_check.specs.Same.{same_flavor-Decides}
 use Rattle.archive_check.specs.Tour.{Entry}
 use Rattle.archive_check.specs.Met.{Met, Positions, started, started_at, finish_answer, IsStartAnswer}
-use Rattle.archive_check.specs.SharedPositions.{met_as, met_in, positions_in, AreKnown, HasType, IsGrown}
+use Rattle.archive_check.specs.SharedPositions.{met_as, met_in, positions_in, AreKnown, HasType, IsAbsent, IsGrown}
 
 slice_get-append : {A : Type 0} (xs ys : List A) (k : ℕ) → k < length xs → slice_get (xs ++ ys) k ≡ slice_get xs k
 slice_get-append [] ys k h = absurd (omega arith)
@@ -89,6 +90,23 @@ has_pushed sorts new k f p P grown h s =
     let sort : Sort = record { flavor = f; pointee = p } in
     let here : slice_get (sorts ++ sort ∷ []) k ≡ Some sort = ap (slice_get (sorts ++ sort ∷ [])) h ∙ slice_get-last sorts sort in
     record { sort = sort; at = ap (λ xs. slice_get xs k) grown ∙ here; flavor_is = refl; pointee_is = s }
+
+-- no place before n has the type
+abbrev pub NoneBefore : List Sort → Flavor → Pointee → ℕ → Type 0
+NoneBefore sorts flavor pointee n = (place : ℕ) → place < n → HasType sorts place flavor pointee → ⊥
+
+pub none_next : (sorts : List Sort) (flavor : Flavor) (pointee : Pointee) (n : ℕ) (x : Sort) → NoneBefore sorts flavor pointee n → n < length sorts → x ≡ get_or sorts n x
+    → (flavor_of x.flavor ≡ flavor → pointee_of x.pointee ≡ pointee → ⊥) → NoneBefore sorts flavor pointee (n + 1)
+none_next sorts flavor pointee n x before below is other place lt has = ⊎_elim
+    (λ less. before place less has)
+    (λ last.
+    let here : slice_get sorts place ≡ Some x = ap (slice_get sorts) (omega (arith, last, lt)) ∙ slice_get_read sorts (length sorts) n x refl below is in
+    let same : has.sort ≡ x = cc (sym has.at ∙ here) in
+    other (ap (λ (s : Sort). flavor_of s.flavor) (sym same) ∙ has.flavor_is) (ap (λ (s : Sort). pointee_of s.pointee) (sym same) ∙ has.pointee_is))
+    (cases_lt place n)
+
+pub none_absent : (sorts : List Sort) (flavor : Flavor) (pointee : Pointee) (n : ℕ) → NoneBefore sorts flavor pointee n → length sorts ≤ n → IsAbsent sorts flavor pointee
+none_absent sorts flavor pointee n before end place has = before place (omega (arith, end, slice_get_within sorts place has.sort has.at)) has
 
 -- the types' list grows, and a position is entered
 pub AreKnown-grown : (old new : List Sort) (f : ℤ → Option SharedPosition) → AreKnown old f → IsGrown old new → AreKnown new f

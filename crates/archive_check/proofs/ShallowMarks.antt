@@ -1,6 +1,8 @@
 -- The marks of the shallow nodes, one after another.
-use Rattle.std.proofs.Common.{◌≡◌, ◌⊎◌, inl, inr, ⊎_elim, ℕ, zero, suc, refl, sym, ap, ◌∙◌, subst, ◌+◌, ◌-◌, ◌<◌, arith, List, [], ◌∷◌, ◌++◌, length, get_or, take, drop, Bool, true, false, ◌&&◌, IsTrue}
-use Rattle.std.proofs.Math.Seq.{drop-cons}
+use Rattle.std.proofs.Common.{◌≡◌, ◌⊎◌, inl, inr, ⊎_elim, ℕ, zero, suc, refl, sym, ap, ◌∙◌, subst, ◌+◌, ◌-◌, ◌<◌, ◌≤◌, arith, List, [], ◌∷◌, ◌++◌, length, length-append, get_or, take, drop, Bool, true, false, ◌&&◌, IsTrue}
+use Rattle.std.proofs.lemmas.Bool.{cases_lt}
+use Rattle.std.proofs.lemmas.List.{take-append-le}
+use Rattle.std.proofs.Math.Seq.{drop-cons, take-append_seam}
 use Rattle.archive_check.specs.declared.plan.Target.TheVariants.{One, Run, Text}
 use Rattle.archive_check.specs.declared.plan.Job.{Job}
 use Rattle.archive_check.specs.declared.plan.Job.TheVariants.{Free, Leaf, Record, Choice, Array, Pointer as PointerJob, Str, Shared, Weak}
@@ -10,7 +12,18 @@ use Rattle.archive_check.specs.declared.plan.Span.{Span}
 use Rattle.archive_check.specs.Runs.{IsAt}
 use Rattle.archive_check.specs.Closed.{span}
 use Rattle.archive_check.proofs.Elements.{same_at}
-use Rattle.archive_check.specs.Shallow.{marked, is_free, free_at, parts_shallow, variants_shallow, job_shallow, AreShallow}
+use Rattle.archive_check.specs.Shallow.{marked, is_free, free_at, parts_shallow, variants_shallow, job_shallow, AreShallow, HasRange, HasSpans, HasIndexes, AreAllMarked}
+
+pub job_free : (job : Job) → IsTrue (is_free job) → job ≡ Free
+job_free Free h = refl
+job_free (Leaf kind) h = cc
+job_free (Record a b) h = cc
+job_free (Choice name a b) h = cc
+job_free (Array n j) h = cc
+job_free (PointerJob target j) h = cc
+job_free (Str j) h = cc
+job_free (Shared k target j) h = cc
+job_free (Weak k target j) h = cc
 
 both : (a b : Bool) → IsTrue a → IsTrue b → IsTrue (a && b)
 both true b x y = y
@@ -36,10 +49,18 @@ parts_next marks xs i x h e = ap (parts_shallow marks) (drop_next xs i x h e)
 pub variants_next : (marks : List Bool) (parts : List Part) (xs : List Span) (i : ℕ) (x : Span) → i < length xs → x ≡ get_or xs i x → variants_shallow marks parts (drop i xs) ≡ (parts_shallow marks (span parts x.first x.last) && variants_shallow marks parts (drop (i + 1) xs))
 variants_next marks parts xs i x h e = ap (variants_shallow marks parts) (drop_next xs i x h e)
 
-pub free_here : (nodes : List Node) (i : ℕ) (x : Node) → i < length nodes → (get_or nodes i x).job ≡ Free → IsTrue (free_at nodes i)
-free_here [] i x h free = absurd (omega arith)
-free_here (y ∷ ys) zero x h free = ap is_free free
-free_here (y ∷ ys) (suc i) x h free = free_here ys i x (omega arith) free
+pub free_here : (nodes : List Node) (i : ℕ) (x : Node) → i < length nodes → free_at nodes i ≡ is_free (get_or nodes i x).job
+free_here [] i x h = absurd (omega arith)
+free_here (y ∷ ys) zero x h = refl
+free_here (y ∷ ys) (suc i) x h = free_here ys i x (omega arith)
+
+pub free_nowhere : (nodes : List Node) (i : ℕ) → length nodes ≤ i → free_at nodes i ≡ false
+free_nowhere [] i h = refl
+free_nowhere (y ∷ ys) zero h = absurd (omega arith)
+free_nowhere (y ∷ ys) (suc i) h = free_nowhere ys i (omega arith)
+
+pub spans_next : (parts : List Part) (xs : List Span) (i : ℕ) (x : Span) → i < length xs → x ≡ get_or xs i x → HasSpans parts (drop i xs) → HasRange parts x.first x.last × HasSpans parts (drop (i + 1) xs)
+spans_next parts xs i x h e spans = rw (drop_next xs i x h e) at spans
 
 -- one more mark
 
@@ -82,6 +103,13 @@ module _ (b : Bool) where
   marked_before (x ∷ xs) zero h = inl h
   marked_before (x ∷ xs) (suc i) h = ⊎_elim inl (λ w. inr (omega (arith, w.0), w.1)) (marked_before xs i h)
 
+  marked_last : (marks : List Bool) → IsTrue b → IsTrue (marked (marks ++ b ∷ []) (length marks))
+  marked_last [] h = h
+  marked_last (x ∷ xs) h = marked_last xs h
+
+below_or_last : (k n : ℕ) → k < n + 1 → (k < n) ⊎ (k ≡ n)
+below_or_last k n h = ⊎_elim (λ l. inl l) (λ l. inr (omega (arith, l, h))) (cases_lt k n)
+
 -- the mark of the next node keeps the marks sound
 pub shallow_more : (nodes : List Node) (parts : List Part) (variants : List Span) (marks : List Bool) (n : ℕ) (x : Node) (b : Bool)
     → AreShallow nodes parts variants marks
@@ -96,3 +124,22 @@ shallow_more nodes parts variants marks n x b before count here shallow k y at t
     let is : x ≡ y = same_at here (rw same at at) in
     job_more b nodes parts variants marks y.job (subst (λ (z : Node). IsTrue (job_shallow nodes parts variants marks z.job)) is (shallow now.1)))
     (marked_before b marks k t)
+
+-- so does what is marked: the next node is where it is shallow
+pub all_more : (nodes : List Node) (parts : List Part) (variants : List Span) (marks : List Bool) (n : ℕ) (x : Node) (b : Bool)
+    → AreAllMarked nodes parts variants marks
+    → length marks ≡ n
+    → IsAt nodes n x
+    → (HasIndexes parts variants x.job → IsTrue (job_shallow nodes parts variants marks x.job) → IsTrue b)
+    → AreAllMarked nodes parts variants (marks ++ b ∷ [])
+all_more nodes parts variants marks n x b before count here shallow k y below at there h =
+    ⊎_elim (λ lt. marked_more b marks k (before k y lt at there (subst (λ (bs : List Bool). IsTrue (job_shallow nodes parts variants bs y.job)) (take-append-le k marks (b ∷ []) (omega (arith, lt))) h)))
+    (λ last.
+    let same : k ≡ n = last ∙ count in
+    let is : x ≡ y = same_at here (rw same at at) in
+    let by : take k (marks ++ b ∷ []) ≡ marks = ap (λ j. take j (marks ++ b ∷ [])) last ∙ take-append_seam marks (b ∷ []) in
+    let true_now : IsTrue b = shallow
+    (subst (λ (z : Node). HasIndexes parts variants z.job) (sym is) there)
+    (subst (λ (z : Node). IsTrue (job_shallow nodes parts variants marks z.job)) (sym is) (subst (λ (bs : List Bool). IsTrue (job_shallow nodes parts variants bs y.job)) by h)) in
+    subst (λ j. IsTrue (marked (marks ++ b ∷ []) j)) (sym last) (marked_last b marks true_now))
+    (below_or_last k (length marks) (omega (arith, below, length-append marks (b ∷ []))))

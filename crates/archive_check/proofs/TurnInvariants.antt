@@ -138,17 +138,17 @@ module _ (m : Checker) (s : RangeState) (met : Positions) where
   -- the same, where nothing may be behind the part or the element
   module _ (old rest : List Work) where
     pub part_ready : (a b p : ℕ) (x : Part) → Ready m s (Parts a b p ∷ old) → a < b → IsAt m.parts.now a x → IsMore (Parts (a + 1) b p) (b ≤ a + 1) rest old → Ready m s (PartWork x.node (p + x.offset) ∷ rest)
-    part_ready a b p x r lt at (inl e) = parts_ready old (PartWork x.node (p + x.offset) ∷ rest) a b p x r lt at (ap (λ w. PartWork x.node (p + x.offset) ∷ w) e)
+    part_ready a b p x r lt at (inl (some, e)) = parts_ready old (PartWork x.node (p + x.offset) ∷ rest) a b p x r lt at (ap (λ w. PartWork x.node (p + x.offset) ∷ w) e)
     part_ready a b p x r lt at (inr (ge, e)) =
         let here = rw (span_next m.parts.now a b x lt r.fits.0.last at) at r.fits.0.here in
         record { below = r.below; fits = rw e (record { size = here.0.0; takes = here.0.1; fits = here.0.2 }, r.fits.1) }
 
     pub part_leads : (a b p : ℕ) (x : Part) → a < b → IsAt m.parts.now a x → IsMore (Parts (a + 1) b p) (b ≤ a + 1) rest old → Leads m (Listing m) (stage s met (Parts a b p ∷ old)) (stage s met (PartWork x.node (p + x.offset) ∷ rest))
-    part_leads a b p x lt at (inl e) = parts_leads old (PartWork x.node (p + x.offset) ∷ rest) a b p x lt at (ap (λ w. PartWork x.node (p + x.offset) ∷ w) e)
+    part_leads a b p x lt at (inl (some, e)) = parts_leads old (PartWork x.node (p + x.offset) ∷ rest) a b p x lt at (ap (λ w. PartWork x.node (p + x.offset) ∷ w) e)
     part_leads a b p x lt at (inr (ge, e)) = same_leads (Parts a b p ∷ old) (PartWork x.node (p + x.offset) ∷ rest) (ap pending_in e) (ap regions_in e) (λ seen o r. turn_part_last m lt ge at (rw e at r))
 
     pub part_ends : (a b p : ℕ) (x : Part) → a < b → b ≤ length m.parts.now → b < 18446744073709551616 → IsAt m.parts.now a x → IsMore (Parts (a + 1) b p) (b ≤ a + 1) rest old → cost m s.end (PartWork x.node (p + x.offset) ∷ rest) < cost m s.end (Parts a b p ∷ old)
-    part_ends a b p x lt le few at (inl e) = parts_ends old (PartWork x.node (p + x.offset) ∷ rest) a b p x lt le few at (ap (λ w. PartWork x.node (p + x.offset) ∷ w) e)
+    part_ends a b p x lt le few at (inl (some, e)) = parts_ends old (PartWork x.node (p + x.offset) ∷ rest) a b p x lt le few at (ap (λ w. PartWork x.node (p + x.offset) ∷ w) e)
     part_ends a b p x lt le few at (inr (ge, e)) =
         let n = length m.nodes.now in
         let xs = span m.parts.now (a + 1) b in
@@ -157,18 +157,18 @@ module _ (m : Checker) (s : RangeState) (met : Positions) where
         (level_node n s.end (max (x.node + 1) (rank xs)) (b - a) x.node 18446744073709551616 (omega arith) (omega arith)))
 
     pub element_ready : (j n p z : ℕ) (x : Node) → Ready m s (Elements j n p ∷ old) → 0 < n → IsAt m.nodes.now j x → ((y : ℕ) → x.size ≡ Some y → z ≡ y) → IsMore (Elements j (n - 1) (p + z)) (n - 1 ≡ 0) rest old → Ready m s (PartWork j p ∷ rest)
-    element_ready j n p z x r lt at size (inl e) = elements_ready old (PartWork j p ∷ rest) j n p z x r lt at size (ap (λ w. PartWork j p ∷ w) e)
+    element_ready j n p z x r lt at size (inl (some, e)) = elements_ready old (PartWork j p ∷ rest) j n p z x r lt at size (ap (λ w. PartWork j p ∷ w) e)
     element_ready j n p z x r lt at size (inr (none, e)) =
         let f = r.fits.0 in
         let all = split_count n f.size lt in
         record { below = r.below; fits = rw e (record { size = f.size; takes = f.takes; fits = omega (arith, f.fits, all) }, r.fits.1) }
 
     pub element_leads : (j n p z : ℕ) (x : Node) → Ready m s (Elements j n p ∷ old) → 0 < n → IsAt m.nodes.now j x → ((y : ℕ) → x.size ≡ Some y → z ≡ y) → IsMore (Elements j (n - 1) (p + z)) (n - 1 ≡ 0) rest old → Leads m (Listing m) (stage s met (Elements j n p ∷ old)) (stage s met (PartWork j p ∷ rest))
-    element_leads j n p z x r lt at size (inl e) = elements_leads old (PartWork j p ∷ rest) j n p z x r lt at size (ap (λ w. PartWork j p ∷ w) e)
+    element_leads j n p z x r lt at size (inl (some, e)) = elements_leads old (PartWork j p ∷ rest) j n p z x r lt at size (ap (λ w. PartWork j p ∷ w) e)
     element_leads j n p z x r lt at size (inr (none, e)) = same_leads (Elements j n p ∷ old) (PartWork j p ∷ rest) (ap pending_in e) (ap regions_in e) (λ seen o v. turn_element_last m lt none r.fits.0.takes (rw e at v))
 
     pub element_ends : (j n p q : ℕ) → n < 18446744073709551616 → 0 < n → IsMore (Elements j (n - 1) q) (n - 1 ≡ 0) rest old → cost m s.end (PartWork j p ∷ rest) < cost m s.end (Elements j n p ∷ old)
-    element_ends j n p q few lt (inl e) = elements_ends old (PartWork j p ∷ rest) j n p q few lt (ap (λ w. PartWork j p ∷ w) e)
+    element_ends j n p q few lt (inl (some, e)) = elements_ends old (PartWork j p ∷ rest) j n p q few lt (ap (λ w. PartWork j p ∷ w) e)
     element_ends j n p q few lt (inr (none, e)) =
         let k = length m.nodes.now in
         rw e (falls_one (level k s.end j 18446744073709551616) (level k s.end (j + 1) n) (cost m s.end old) (level_node k s.end (j + 1) n j 18446744073709551616 (omega arith) (omega arith)))

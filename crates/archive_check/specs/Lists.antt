@@ -7,6 +7,6 @@ use Rattle.archive_check.specs.declared.work.Worklist.{Worklist}
 abbrev pub list_of : Worklist → List Work
 list_of work = reverse work.entries.items
 
--- the entry was put on the old list, or there is nothing to it and the list is the old one
+-- where there is nothing to an entry the list is the old one, and else the entry was put on it
 abbrev pub IsMore : Work → Type 0 → List Work → List Work → Type 0
-IsMore entry Nothing new old = (new ≡ entry ∷ old) ⊎ (Nothing × (new ≡ old))
+IsMore entry Nothing new old = ((Nothing → ⊥) × (new ≡ entry ∷ old)) ⊎ (Nothing × (new ≡ old))

@@ -68,10 +68,14 @@ pub record Arranged (old new : Table) : Type 0 where
   pub once : (name : Name) (Y : Shape) → Contains new (name, Y) → definition new name ≡ Some Y
   pub earlier : (k : ℕ) (name : Name) (Y : Shape) → k < length new → (name, Y) ≡ get_or new k (name, Y) → missing false (take k new) Y ≡ None
 
+-- each of the first i holds a name that isn't defined
+abbrev pub NotReady : Table → List Def → ℕ → Type 0
+NotReady placed rest i = (k : ℕ) (d : Def) → k < i → d ≡ get_or rest k d → (name : Name) × (missing false placed (shape_of d.expr) ≡ Some name)
+
 -- the first of these that holds only defined names, if there is one
 abbrev pub NextReady : Table → List Def → Option ℕ → Type 0
-NextReady placed rest (Some i) = (i < length rest) × ((d : Def) → d ≡ get_or rest i d → missing false placed (shape_of d.expr) ≡ None)
-NextReady placed rest None = (k : ℕ) (d : Def) → k < length rest → d ≡ get_or rest k d → (name : Name) × (missing false placed (shape_of d.expr) ≡ Some name)
+NextReady placed rest (Some i) = (i < length rest) × ((d : Def) → d ≡ get_or rest i d → missing false placed (shape_of d.expr) ≡ None) × NotReady placed rest i
+NextReady placed rest None = NotReady placed rest (length rest)
 
 -- that one is taken out of a list, and placed behind the others
 pub record IsPlacedNext (placed old next new : List Def) : Type 0 where

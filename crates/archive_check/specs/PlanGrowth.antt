@@ -1,5 +1,5 @@
 -- How a plan grows: its lists go on, by a node, a sort, parts or variants.
-use Rattle.std.specs.Prelude.{◌≡◌, ◌≢◌, ◌⊎◌, ℕ, ◌<◌, max, List, [], ◌∷◌, ◌++◌, length, Bool, true, Option, Some, None, cond, bytes_eq}
+use Rattle.std.specs.Prelude.{◌≡◌, ℕ, ◌<◌, max, List, [], ◌∷◌, ◌++◌, length, Bool, true, false, ◌&&◌, nat_eq, Option, Some, None, cond, bytes_eq}
 use Rattle.archive_check.specs.declared.plan.Job.{Job}
 use Rattle.archive_check.specs.declared.plan.Job.TheVariants.{Free}
 use Rattle.archive_check.specs.declared.plan.Node.{Node}
@@ -16,6 +16,7 @@ use Rattle.archive_check.specs.Shape.{Name, Pointee}
 use Rattle.archive_check.specs.Expressions.{pointee_of}
 use Rattle.archive_check.specs.declared.expr.FlavorInfo.{FlavorInfo}
 use Rattle.archive_check.specs.BoundedSizes.{rounded, sum_of, greater_of}
+use Rattle.archive_check.specs.Shallow.{is_free}
 
 -- the node of a name: of the first that is called so
 abbrev pub node_of : List Known → Name → Option ℕ
@@ -84,14 +85,15 @@ pub record IsExtended (a b : PlanLists) (parts : List Part) (variants : List Spa
   pub variants_are : b.variants ≡ a.variants ++ variants
   pub sorts_are : b.sorts ≡ a.sorts
 
--- a job, or none where there is nothing to check
-abbrev pub Unless : Bool → Option ℕ → Job → Job → Type 0
-Unless free size job made = ((made ≡ Free) × ((free ≡ true) ⊎ ((z : ℕ) → size ≡ Some z → z ≡ 0))) ⊎ ((made ≡ job) × (size ≢ Some 0))
+-- whether there is nothing to check of what has this size, where `free` says whether any bytes are legal: there are none, or they are free
+abbrev pub nothing_to_check : Bool → Option ℕ → Bool
+nothing_to_check free None = true
+nothing_to_check free (Some n) = cond (nat_eq n 0) true free
 
--- the node of what is laid out
+-- the node of what is laid out: its job is free exactly where there is nothing to check
 pub record IsMade (a b : PlanLists) (size : Option ℕ) (align : ℕ) (free : Bool) (job : Job) (j : ℕ) : Type 0 where
   pub made : Job
-  pub which : Unless free size job made
+  pub made_is : made ≡ cond (nothing_to_check free size) Free job
   pub pushed : IsPushed a b size align made j
 
 -- a part more, behind those of a row
@@ -104,7 +106,7 @@ pub record IsPlaced (node : ℕ) (here : Node) (row next : Row) : Type 0 where
   pub parts_are : next.parts.items ≡ row.parts.items ++ last ∷ []
   pub end_is : next.extent.end ≡ sum_of offset here.size
   pub align_is : next.extent.align ≡ max row.extent.align here.align
-  pub still_free : next.free ≡ true → (row.free ≡ true) × (here.job ≡ Free)
+  pub free_is : next.free ≡ (row.free && is_free here.job)
 
 -- a variant more
 pub record IsListed (laid : Laid) (spans next : Spans) : Type 0 where
@@ -133,3 +135,4 @@ pub record SpansLaid (a b : PlanLists) (spans : Spans) (laid : Laid) : Type 0 wh
   pub few : laid.last < 18446744073709551616
   pub end_is : laid.end ≡ spans.extent.end
   pub align_is : laid.align ≡ spans.extent.align
+  pub not_free : laid.free ≡ false

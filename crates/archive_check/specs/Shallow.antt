@@ -1,5 +1,5 @@
 -- Which nodes are shallow: they lead to nothing but bytes that are legal whatever they are, and texts. A shallow node is checked at once.
-use Rattle.std.specs.Prelude.{◌≡◌, ℕ, suc, zero, length, Bool, true, false, ◌&&◌, List, [], ◌∷◌, take, drop, ◌-◌, slice_index_or, IsTrue}
+use Rattle.std.specs.Prelude.{◌≡◌, ℕ, suc, zero, length, Bool, true, false, ◌&&◌, List, [], ◌∷◌, take, drop, ◌-◌, ◌<◌, ◌≤◌, slice_index_or, IsTrue}
 use Rattle.archive_check.specs.declared.plan.Target.TheVariants.{One, Run, Text}
 use Rattle.archive_check.specs.declared.plan.Job.{Job}
 use Rattle.archive_check.specs.declared.plan.Job.TheVariants.{Free, Leaf, Record, Choice, Array, Pointer as PointerJob, Str, Shared, Weak}
@@ -56,6 +56,31 @@ job_shallow nodes parts variants marks (Weak k target j) = false
 -- each node that is marked is shallow
 abbrev pub AreShallow : List Node → List Part → List Span → List Bool → Type 0
 AreShallow nodes parts variants marks = (i : ℕ) (x : Node) → IsAt nodes i x → IsTrue (marked marks i) → IsTrue (job_shallow nodes parts variants marks x.job)
+
+-- the elements from a up to b are in a list
+abbrev pub HasRange : {A : Type 0} → List A → ℕ → ℕ → Type 0
+HasRange xs a b = (a ≤ b) × (b ≤ length xs)
+
+-- the parts of all these variants are there
+abbrev pub HasSpans : List Part → List Span → Type 0
+HasSpans parts [] = Unit {0}
+HasSpans parts (x ∷ xs) = HasRange parts x.first x.last × HasSpans parts xs
+
+-- the parts and variants of a job are there
+abbrev pub HasIndexes : List Part → List Span → Job → Type 0
+HasIndexes parts variants (Record a b) = HasRange parts a b
+HasIndexes parts variants (Choice name a b) = HasRange variants a b × HasSpans parts (take (b - a) (drop a variants))
+HasIndexes parts variants Free = Unit {0}
+HasIndexes parts variants (Leaf kind) = Unit {0}
+HasIndexes parts variants (Array n j) = Unit {0}
+HasIndexes parts variants (PointerJob target j) = Unit {0}
+HasIndexes parts variants (Str j) = Unit {0}
+HasIndexes parts variants (Shared k target j) = Unit {0}
+HasIndexes parts variants (Weak k target j) = Unit {0}
+
+-- each node is marked that is shallow by the marks of those before it
+abbrev pub AreAllMarked : List Node → List Part → List Span → List Bool → Type 0
+AreAllMarked nodes parts variants marks = (i : ℕ) (x : Node) → i < length marks → IsAt nodes i x → HasIndexes parts variants x.job → IsTrue (job_shallow nodes parts variants (take i marks) x.job) → IsTrue (marked marks i)
 
 -- a checker's marks, one for each node, are sound
 pub record IsMarked (m : Checker) : Type 0 where

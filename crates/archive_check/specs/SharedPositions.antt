@@ -33,6 +33,10 @@ pub record HasType (sorts : List Sort) (place : ℕ) (flavor : Flavor) (pointee 
   pub flavor_is : flavor_of sort.flavor ≡ flavor
   pub pointee_is : pointee_of sort.pointee ≡ pointee
 
+-- no place of a list has the type
+abbrev pub IsAbsent : List Sort → Flavor → Pointee → Type 0
+IsAbsent sorts flavor pointee = (place : ℕ) → HasType sorts place flavor pointee → ⊥
+
 -- a list with more types at its end
 pub record IsGrown (old new : List Sort) : Type 0 where
   pub more : List Sort

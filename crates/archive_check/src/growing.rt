@@ -1,11 +1,11 @@
 //! Plans that grow: everything is added behind what there is, and nothing is changed.
 
-ghost use Rattle.std.specs.Prelude.{◌≡◌, ◌≢◌, ◌⊎◌, ◌<◌, ℕ, true, false, IfOk, OnOk, IsSome, [], Some};
+ghost use Rattle.std.specs.Prelude.{◌≡◌, ◌<◌, true, IfOk, OnOk, IsSome, [], Some};
 ghost use Rattle.archive_check.specs.Layout.{kind_size, kind_align};
 ghost use Rattle.archive_check.specs.Expressions.{kind_of};
 ghost use Rattle.archive_check.specs.PlainData.{is_plain_kind};
-ghost use Rattle.archive_check.specs.PlanGrowth.{node_of, lists_of, no_lists, IsPushed, IsSorted, IsMade, IsPlaced, IsListed, PartsLaid, SpansLaid};
-ghost use Rattle.archive_check.specs.declared.plan.Job.TheVariants.{Free};
+ghost use Rattle.archive_check.specs.PlanGrowth.{node_of, lists_of, no_lists, nothing_to_check, IsPushed, IsSorted, IsMade, IsPlaced, IsListed, PartsLaid, SpansLaid};
+ghost use Rattle.archive_check.specs.Shallow.{is_free as is_free_job};
 
 use crate::expr::{FlavorInfo, Kind, Pointee};
 use crate::extents::{Extent, is_plain};
@@ -119,8 +119,7 @@ pub fn push_sort(plan: &mut Plan, flavor: FlavorInfo, pointee: Pointee) -> Resul
 
 // Whether there is nothing to check: any bytes are legal, or there are none.
 fn is_nothing(free: bool, size: Option<usize>) -> bool
-    ensures nothing { result ≡ true → (free ≡ true) ⊎ ((z : ℕ) → size ≡ Some z → z ≡ 0) }
-    ensures bytes { result ≡ false → size ≢ Some 0 }
+    ensures { result ≡ nothing_to_check free size }
 {
     match size {
         Some(0) | None => true,
@@ -160,7 +159,7 @@ pub fn push_leaf(plan: &mut Plan, kind: Kind) -> Result<usize, AllocError>
 
 /// Whether there is nothing to check.
 pub fn is_free(job: Job) -> bool
-    ensures { result ≡ true → job ≡ Free }
+    ensures { result ≡ is_free_job job }
 {
     matches!(job, Job::Free)
 }
@@ -171,6 +170,7 @@ impl Row {
         ensures parts { result.parts.items ≡ [] }
         ensures end { result.extent.end ≡ Some start }
         ensures align { result.extent.align ≡ 1 }
+        ensures free { result.free ≡ true }
     {
         Row {
             parts: Vec::new(alloc),

@@ -2,7 +2,7 @@
 
 ghost use Rattle.std.specs.Prelude.{◌≡◌, length, IfOk, IsTrue};
 ghost use Rattle.archive_check.specs.Closed.{span};
-ghost use Rattle.archive_check.specs.Shallow.{marked, free_at, parts_shallow, variants_shallow, job_shallow, AreShallow};
+ghost use Rattle.archive_check.specs.Shallow.{marked, free_at, parts_shallow, variants_shallow, job_shallow, AreShallow, HasRange, HasSpans, HasIndexes, AreAllMarked};
 
 use crate::growing::is_free;
 use crate::plan::{Job, Node, Part, Plan, Span, Target};
@@ -17,7 +17,7 @@ fn is_marked(marks: &[bool], node: usize) -> bool
 
 // Whether a node may be any bytes. One that isn't there may not.
 fn is_free_at(nodes: &[Node], node: usize) -> bool
-    ensures { IsTrue result → IsTrue (free_at nodes.now node) }
+    ensures { result ≡ free_at nodes.now node }
 {
     node < nodes.len() && is_free(nodes[node].job)
 }
@@ -36,7 +36,8 @@ fn are_marked(marks: &[bool], parts: &[Part]) -> bool
 
 // Whether the parts from `first` up to `last` are there, and all marked.
 fn is_span_shallow(marks: &[bool], parts: &[Part], first: usize, last: usize) -> bool
-    ensures { IsTrue result → IsTrue (parts_shallow marks.now (span parts.now first last)) }
+    ensures sound { IsTrue result → IsTrue (parts_shallow marks.now (span parts.now first last)) }
+    ensures found { HasRange parts.now first last → IsTrue (parts_shallow marks.now (span parts.now first last)) → IsTrue result }
 {
     match parts.get(first..last) {
         Some(parts) => are_marked(marks, parts),
@@ -46,7 +47,8 @@ fn is_span_shallow(marks: &[bool], parts: &[Part], first: usize, last: usize) ->
 
 // Whether the parts of all these variants are there, and marked.
 fn are_shallow(marks: &[bool], parts: &[Part], variants: &[Span]) -> bool
-    ensures { IsTrue result → IsTrue (variants_shallow marks.now parts.now variants.now) }
+    ensures sound { IsTrue result → IsTrue (variants_shallow marks.now parts.now variants.now) }
+    ensures found { HasSpans parts.now variants.now → IsTrue (variants_shallow marks.now parts.now variants.now) → IsTrue result }
 {
     for variant in variants {
         if !is_span_shallow(marks, parts, variant.first, variant.last) {
@@ -58,7 +60,8 @@ fn are_shallow(marks: &[bool], parts: &[Part], variants: &[Span]) -> bool
 
 // Whether a node that does this is shallow, where those that it holds and that are shallow are marked.
 fn is_shallow(plan: &Plan, marks: &[bool], job: Job) -> bool
-    ensures { IsTrue result → IsTrue (job_shallow plan.now.nodes.items plan.now.parts.items plan.now.variants.items marks.now job) }
+    ensures sound { IsTrue result → IsTrue (job_shallow plan.now.nodes.items plan.now.parts.items plan.now.variants.items marks.now job) }
+    ensures found { HasIndexes plan.now.parts.items plan.now.variants.items job → IsTrue (job_shallow plan.now.nodes.items plan.now.parts.items plan.now.variants.items marks.now job) → IsTrue result }
 {
     match job {
         Job::Free | Job::Leaf(_) | Job::Str { .. } => true,
@@ -76,11 +79,12 @@ fn is_shallow(plan: &Plan, marks: &[bool], job: Job) -> bool
     }
 }
 
-/// For each node of a plan whether it is shallow: it leads to nothing but bytes that are legal whatever they are, and texts, and shares nothing. Each
-/// shallow node is marked where the nodes in a node stand before it, as in each plan of an expression. Memory comes from `alloc`. Our own choice:
-/// rkyv 0.8.18 has no such marks.
+/// For each node of a plan whether it is shallow: it leads to nothing but bytes that are legal whatever they are, and texts, and shares nothing. A
+/// node is marked that is shallow by the marks of those before it: so each shallow one is where the nodes in a node stand before it, as in each plan
+/// of an expression. Memory comes from `alloc`. Our own choice: rkyv 0.8.18 has no such marks.
 pub fn shallow_nodes(alloc: Global, plan: &Plan) -> Result<Vec<bool>, AllocError>
     ensures ok { IfOk result (λ marks. AreShallow plan.now.nodes.items plan.now.parts.items plan.now.variants.items marks.items) }
+    ensures all { IfOk result (λ marks. AreAllMarked plan.now.nodes.items plan.now.parts.items plan.now.variants.items marks.items) }
     ensures count { IfOk result (λ marks. length marks.items ≡ length plan.now.nodes.items) }
 {
     let mut marks = Vec::with_capacity(alloc, plan.nodes.len())?;

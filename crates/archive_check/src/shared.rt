@@ -1,9 +1,9 @@
 //! The shared positions of a check, kept in a map.
 
-ghost use Rattle.std.specs.Prelude.{◌≡◌, ◌↔◌, ◌≤◌, IsTrue, Some, None, IfOk, IfErr};
+ghost use Rattle.std.specs.Prelude.{◌≡◌, ◌⊎◌, ◌↔◌, ◌≤◌, IsTrue, Some, None, IfOk, IfErr};
 ghost use Rattle.std.specs.HashMap.{get};
 ghost use Rattle.std.specs.Ordering.{int_eq};
-ghost use Rattle.archive_check.specs.SharedPositions.{met_as, AreKnown, HasType, IsGrown};
+ghost use Rattle.archive_check.specs.SharedPositions.{met_as, AreKnown, HasType, IsAbsent, IsGrown};
 ghost use Rattle.archive_check.specs.Expressions.{flavor_of, pointee_of};
 ghost use Rattle.archive_check.specs.Ranges.{whole};
 ghost use Rattle.archive_check.specs.Met.{nothing_met, IsStartAnswer};
@@ -153,6 +153,7 @@ fn place_of<A: Allocator>(
 ) -> Result<usize, AllocError>
     ensures found { IfOk result (λ k. HasType sorts.new.items k (flavor_of flavor.now) (pointee_of pointee.now)) }
     ensures kept { IsGrown sorts.old.items sorts.new.items }
+    ensures once { (sorts.new.items ≡ sorts.old.items) ⊎ IsAbsent sorts.old.items (flavor_of flavor.now) (pointee_of pointee.now) }
 {
     for (place, sort) in sorts.iter().enumerate() {
         if is_of(sort, flavor, pointee) {

@@ -7,6 +7,7 @@ use Rattle.archive_check.proofs.Restated.{ok_map, as_shape, row_left, spans_left
 use Rattle.archive_check.proofs.Compiled.{compiled_leaf, compiled_record, compiled_choice, compiled_array, compiled_name}
 use Rattle.archive_check.proofs.CompiledParts.{row_start, row_next, row_done, spans_start, spans_next, spans_done}
 use Rattle.archive_check.proofs.Compilable.{can_as, can_parts_as, can_variants_as, can_parts, can_choice, can_array, can_boxed, can_vec, can_shared, can_weak, can_first, can_variant, can_name, can_placed}
+use Rattle.archive_check.proofs.ShallowMarks.{job_free}
 use Rattle.archive_check.proofs.compile.+compile.Goals as goal
 
 pub compile-compile_record-requires : goal.compile-compile_record-requires
@@ -67,7 +68,7 @@ compile_choice-returns t c = ok_map c.push_laid.result c.push_laid.ensures (λ j
 pub compile_array-returns : goal.compile_array-returns
 compile_array-returns t c =
     ok_map c.push_laid.result c.push_laid.ensures
-    (λ j p. compiled_array {here = c.index-here.result.now} c.in_ok-element.ensures (record { below = c.in_ok-element.ensures.below; is = c.index-here.ensures }) c.times.ensures.few c.times.ensures.total c.is_free.ensures p)
+    (λ j p. compiled_array {here = c.index-here.result.now} c.in_ok-element.ensures (record { below = c.in_ok-element.ensures.below; is = c.index-here.ensures }) c.times.ensures.few c.times.ensures.total (λ free. job_free c.index-here.result.now.job (sym c.is_free.ensures ∙ free)) p)
 
 pub compile_parts-loop-i-init : goal.compile_parts-loop-i-init
 compile_parts-loop-i-init t c =

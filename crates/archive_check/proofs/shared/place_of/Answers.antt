@@ -1,5 +1,7 @@
-use Rattle.std.proofs.Common.{◌<◌, ◌≡◌, length, get_or, subst, rules}
-use Rattle.archive_check.proofs.KeptPositions.{has_type, has_pushed}
+use Rattle.std.proofs.Common.{inr, ◌<◌, ◌≡◌, ◌∙◌, sym, arith, length, get_or, subst, rules, true, false}
+use Rattle.archive_check.specs.Expressions.{flavor_of, pointee_of}
+use Rattle.archive_check.specs.SharedPositions.{IsAbsent}
+use Rattle.archive_check.proofs.KeptPositions.{has_type, has_pushed, none_next, none_absent}
 use Rattle.archive_check.proofs.shared.place_of.Goals as goal
 
 pub returns-then-is_of-clause-found : goal.returns-then-is_of-clause-found
@@ -13,3 +15,12 @@ returns-then-is_of-clause-found g c =
 
 pub returns-clause-found : goal.returns-clause-found
 returns-clause-found g c = has_pushed _ _ _ _ _ _ c.in_ok-push.ensures.items (search rules) c.in_ok-clone.ensures.cases
+
+pub loop-place-preserved : goal.loop-place-preserved
+loop-place-preserved g c = none_next _ _ _ c.loop-place.place c.sort-item.result c.loop-place.invariant c.loop-place-test.true c.sort-item.is
+    (λ s t. let w : false ≡ true = sym c.if-is_of.false ∙ c.is_of.ensures.1 (s, t) in cc)
+
+pub returns-clause-once : goal.returns-clause-once
+returns-clause-once g c =
+    inr (subst (λ xs. IsAbsent xs (flavor_of c.args.flavor.now) (pointee_of c.args.pointee.now)) c.deref-sort-items.ensures.value
+    (none_absent _ _ _ c.loop-place.place c.loop-place.invariant (omega (arith, c.loop-place-test.false))))
