@@ -1,6 +1,7 @@
 -- The marks of the shallow nodes, one after another.
-use Rattle.std.proofs.Common.{◌≡◌, ◌⊎◌, inl, inr, ⊎_elim, ℕ, zero, suc, refl, sym, ap, ◌∙◌, subst, ◌+◌, ◌-◌, ◌<◌, arith, List, [], ◌∷◌, ◌++◌, length, get_or, take, drop, Bool, true, false, ◌&&◌, IsTrue}
-use Rattle.std.proofs.Math.Seq.{drop-cons}
+use Rattle.std.proofs.Common.{◌≡◌, ◌⊎◌, inl, inr, ⊎_elim, ℕ, zero, suc, refl, ap, ◌∙◌, subst, ◌<◌, arith, List, [], ◌∷◌, ◌++◌, length, get_or, Bool, IsTrue}
+use Rattle.std.specs.Cmp.Derive.{both_true}
+use Rattle.std.proofs.lemmas.Bool.{and_parts}
 use Rattle.archive_check.specs.declared.plan.Target.TheVariants.{One, Run, Text}
 use Rattle.archive_check.specs.declared.plan.Job.{Job}
 use Rattle.archive_check.specs.declared.plan.Job.TheVariants.{Free, Leaf, Record, Choice, Array, Pointer as PointerJob, Str, Shared, Weak}
@@ -11,30 +12,6 @@ use Rattle.archive_check.specs.Runs.{IsAt}
 use Rattle.archive_check.specs.Closed.{span}
 use Rattle.archive_check.proofs.Elements.{same_at}
 use Rattle.archive_check.specs.Shallow.{marked, is_free, free_at, parts_shallow, variants_shallow, job_shallow, AreShallow}
-
-both : (a b : Bool) → IsTrue a → IsTrue b → IsTrue (a && b)
-both true b x y = y
-both false b x y = x
-
-first_of : (a b : Bool) → IsTrue (a && b) → IsTrue a
-first_of true b h = refl
-first_of false b h = h
-
-second_of : (a b : Bool) → IsTrue (a && b) → IsTrue b
-second_of true b h = h
-second_of false b h = cc
-
--- the element at i, and the rest
-drop_next : {A : Type 0} (xs : List A) (i : ℕ) (x : A) → i < length xs → x ≡ get_or xs i x → drop i xs ≡ x ∷ drop (i + 1) xs
-drop_next xs i x h e =
-    let s : i + 1 ≡ suc i = omega arith in
-    drop-cons xs i x h ∙ ap (λ y. y ∷ drop (suc i) xs) (sym e) ∙ ap (λ j. x ∷ drop j xs) (sym s)
-
-pub parts_next : (marks : List Bool) (xs : List Part) (i : ℕ) (x : Part) → i < length xs → x ≡ get_or xs i x → parts_shallow marks (drop i xs) ≡ (marked marks x.node && parts_shallow marks (drop (i + 1) xs))
-parts_next marks xs i x h e = ap (parts_shallow marks) (drop_next xs i x h e)
-
-pub variants_next : (marks : List Bool) (parts : List Part) (xs : List Span) (i : ℕ) (x : Span) → i < length xs → x ≡ get_or xs i x → variants_shallow marks parts (drop i xs) ≡ (parts_shallow marks (span parts x.first x.last) && variants_shallow marks parts (drop (i + 1) xs))
-variants_next marks parts xs i x h e = ap (variants_shallow marks parts) (drop_next xs i x h e)
 
 pub free_here : (nodes : List Node) (i : ℕ) (x : Node) → i < length nodes → (get_or nodes i x).job ≡ Free → IsTrue (free_at nodes i)
 free_here [] i x h free = absurd (omega arith)
@@ -52,21 +29,19 @@ module _ (b : Bool) where
   parts_more : (marks : List Bool) (ps : List Part) → IsTrue (parts_shallow marks ps) → IsTrue (parts_shallow (marks ++ b ∷ []) ps)
   parts_more marks [] h = refl
   parts_more marks (x ∷ xs) h =
-      both _ _ (marked_more marks x.node (first_of (marked marks x.node) (parts_shallow marks xs) h))
-      (parts_more marks xs (second_of (marked marks x.node) (parts_shallow marks xs) h))
+      both_true (marked_more marks x.node (and_parts _ _ h).0)
+      (parts_more marks xs (and_parts _ _ h).1)
 
   variants_more : (marks : List Bool) (parts : List Part) (vs : List Span) → IsTrue (variants_shallow marks parts vs) → IsTrue (variants_shallow (marks ++ b ∷ []) parts vs)
   variants_more marks parts [] h = refl
   variants_more marks parts (x ∷ xs) h =
-      let here = parts_shallow marks (span parts x.first x.last) in
-      let rest = variants_shallow marks parts xs in
-      both _ _ (parts_more marks (span parts x.first x.last) (first_of here rest h)) (variants_more marks parts xs (second_of here rest h))
+      both_true (parts_more marks (span parts x.first x.last) (and_parts _ _ h).0) (variants_more marks parts xs (and_parts _ _ h).1)
 
   job_more : (nodes : List Node) (parts : List Part) (variants : List Span) (marks : List Bool) (job : Job) → IsTrue (job_shallow nodes parts variants marks job) → IsTrue (job_shallow nodes parts variants (marks ++ b ∷ []) job)
   job_more nodes parts variants marks Free h = refl
   job_more nodes parts variants marks (Leaf kind) h = refl
   job_more nodes parts variants marks (Record x y) h = parts_more marks (span parts x y) h
-  job_more nodes parts variants marks (Choice name x y) h = variants_more marks parts (take (y - x) (drop x variants)) h
+  job_more nodes parts variants marks (Choice name x y) h = variants_more marks parts (span variants x y) h
   job_more nodes parts variants marks (Array n j) h = marked_more marks j h
   job_more nodes parts variants marks (PointerJob One j) h = h
   job_more nodes parts variants marks (PointerJob Run j) h = h

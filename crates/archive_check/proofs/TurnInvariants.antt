@@ -1,5 +1,5 @@
 -- What each turn of a check's loop keeps.
-use Rattle.std.proofs.Common.{◌≡◌, ◌≢◌, inl, inr, ℕ, zero, suc, ℤ, pos, ◌+ℤ◌, sym, ap, ap₂, ◌∙◌, ◌+◌, ◌-◌, ◌*◌, ◌<◌, ◌≤◌, max, arith, List, [], ◌∷◌, length, take, drop, drop-cons, Option, Some, None, Err, OnSome, IfNone}
+use Rattle.std.proofs.Common.{◌≡◌, ◌≢◌, inl, inr, ℕ, zero, suc, ℤ, pos, ◌+ℤ◌, ap, ◌∙◌, ◌+◌, ◌-◌, ◌*◌, ◌<◌, ◌≤◌, max, arith, List, [], ◌∷◌, length, Option, Some, None, Err, OnSome, IfNone}
 use Rattle.archive_check.specs.declared.error.Error.{Error}
 use Rattle.archive_check.specs.declared.error.Error.TheVariants.{OutOfMemory}
 use Rattle.archive_check.specs.declared.plan.Target.{Target}
@@ -24,15 +24,7 @@ use Rattle.archive_check.specs.Turns.{PartsHere, PartFits, Ready, Stage, stage, 
 use Rattle.archive_check.proofs.TurnRules.{turn_parts, turn_elements, turn_part_last, turn_element_last, turn_elements_free, turn_pointer, turn_text, turn_shared, turn_weak}
 use Rattle.archive_check.proofs.MetAgrees.{levels_of, agrees_finished, finish_fine, agrees_outside, inside_more}
 use Rattle.archive_check.proofs.TurnsEnd.{level_node, level_same, falls_one, falls_two, falls_under, falls_shared}
-use Rattle.archive_check.proofs.Elements.{same_at}
-
-pub span_next : (parts : List Part) (a b : ℕ) (x : Part) → a < b → b ≤ length parts → IsAt parts a x → span parts a b ≡ x ∷ span parts (a + 1) b
-span_next parts a b x lt le at =
-    let few : b - a ≡ suc (b - (a + 1)) = omega arith in
-    let next : suc a ≡ a + 1 = omega arith in
-    ap (λ n. take n (drop a parts)) few
-    ∙ ap (take (suc (b - (a + 1)))) (drop-cons parts a x (omega (arith, at.below)))
-    ∙ ap₂ (λ (y : Part) (q : ℕ). y ∷ take (b - (a + 1)) (drop q parts)) (sym at.is) next
+use Rattle.archive_check.proofs.Elements.{same_at, span_next}
 
 split_count : (n y : ℕ) → 0 < n → n * y ≡ y + (n - 1) * y
 split_count zero y h = absurd (omega arith)
