@@ -10,10 +10,8 @@ ghost use Rattle.archive_check.specs.Entries.{NoEntries, AreNamedByPosition, Kee
 ghost use Rattle.archive_check.specs.Unshared.{IsUnshared};
 ghost use Rattle.archive_check.specs.Viewed.{Says};
 ghost use Rattle.archive_check.specs.declared.error.Error.TheVariants.{CyclicDeserialize, OutOfMemory};
-ghost use Rattle.archive_check.specs.Told.{Told};
 ghost use Rattle.archive_core.specs.Plans.{no_keys, at_start, GoesOn, HindersWhole, ExplainsWhole, IsOwnCause, IsOfWriting};
 ghost use Rattle.archive_core.specs.Writing.{Archives};
-ghost use Rattle.archive_write.specs.Sharing.{KnowsNone};
 ghost use Rattle.archive_write.specs.Written.{IsBeginning};
 
 pub use crate::context::HighValidator;

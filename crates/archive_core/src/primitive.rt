@@ -1,6 +1,6 @@
 //! Numbers, bools, chars and `()`: their formats, and how they are archived and read back.
 
-ghost use Rattle.std.specs.Prelude.{◌≡◌, ⊤, refl, ℕ, [], length, IfOk, OnOk, IfErr, IsOk};
+ghost use Rattle.std.specs.Prelude.{◌≡◌, ⊤, ℕ, [], length, IfOk, OnOk, IfErr, IsOk};
 ghost use Rattle.archive_check.specs.Shape.{leaf, one};
 ghost use Rattle.archive_check.specs.Reads.{bytes_at, IsLegal};
 ghost use Rattle.archive_check.specs.Definitions.{no_definition, Definitions};
