@@ -3,14 +3,14 @@
 //! Each case has a function of its own, which is never inlined: a call's frame is cleared when it is entered, so that one large function would
 //! clear at each node what all of the cases need.
 
-ghost use Rattle.std.specs.Prelude.{◌≤◌, ℕ, List, IfOk, length};
+ghost use Rattle.std.specs.Prelude.{◌≡◌, ◌≤◌, ℕ, List, IfOk, true, false, length};
 ghost use Rattle.archive_check.specs.Expressions.{shape_of, flavor_of, pointee_of, shapes_in, variants_in};
-ghost use Rattle.archive_check.specs.Shape.{parts as record_of, choice, array, boxed, vec, str, shared, weak};
+ghost use Rattle.archive_check.specs.Shape.{parts as record_of, choice, array, boxed, vec, str};
 ghost use Rattle.archive_check.specs.PlanGrowth.{lists_of, IsCopied};
 ghost use Rattle.archive_check.specs.CompileQueue.{Waits, waits_of};
 ghost use Rattle.archive_check.specs.declared.growing.Known.{Known};
 ghost use Rattle.archive_check.specs.Compilable.{Can, CanParts, CanVariants, CanPoint, CanWait};
-ghost use Rattle.archive_check.specs.Compiled.{Compiled, CompiledPointee, CompiledParts, CompiledVariants};
+ghost use Rattle.archive_check.specs.Compiled.{counted, Compiled, CompiledPointee, CompiledParts, CompiledVariants};
 
 use crate::expr::{Expr, FlavorInfo, Pointee};
 use crate::extents::{offset_of, pointer_size, times};
@@ -21,6 +21,25 @@ use crate::growing::{
 use crate::plan::{Job, Plan, Target};
 use crate::queue::{Queue, wait};
 use std::alloc::{AllocError, Global};
+
+// What the node of a pointer does that others may share.
+fn counted_job(weak: bool, sort: usize, target: Target, pointee: usize) -> Job
+    ensures weak { weak ≡ true → result ≡ Job.Weak sort target pointee }
+    ensures shared { weak ≡ false → result ≡ Job.Shared sort target pointee }
+{
+    if weak {
+        return Job::Weak {
+            sort,
+            target,
+            pointee,
+        };
+    }
+    Job::Shared {
+        sort,
+        target,
+        pointee,
+    }
+}
 
 // A sort more, with a copy of its pointee.
 #[inline(never)]
@@ -109,17 +128,18 @@ fn compile_str(plan: &mut Plan) -> Result<usize, AllocError>
     push(plan, Some(8), 4, Job::Str { pointee })
 }
 
-// A pointer to what others may point to as well.
+// A pointer to what others may point to as well, behind a copy of its sort. A weak one may be null.
 #[inline(never)]
-fn compile_shared<'e>(
+fn compile_counted<'e>(
     names: &[Known],
+    weak: bool,
     flavor: FlavorInfo,
     pointee: &'e Pointee,
     plan: &mut Plan,
     queue: &mut Queue<'e>,
 ) -> Result<usize, AllocError>
     requires { CanPoint names.now (pointee_of pointee.now) }
-    ensures { IfOk result (λ j. (done : ℕ) → Compiled names.now done (shared (flavor_of flavor) (pointee_of pointee.now)) (waits_of queue.old) (waits_of queue.new) (lists_of plan.old) (lists_of plan.new) j) }
+    ensures { IfOk result (λ j. (done : ℕ) → Compiled names.now done (counted weak (flavor_of flavor) (pointee_of pointee.now)) (waits_of queue.old) (waits_of queue.new) (lists_of plan.old) (lists_of plan.new) j) }
 {
     let (target, node) = compile_pointee(names, pointee, plan, queue)?;
     let sort = copy_sort(plan, flavor, pointee)?;
@@ -127,37 +147,7 @@ fn compile_shared<'e>(
         plan,
         Some(pointer_size(target)),
         4,
-        Job::Shared {
-            sort,
-            target,
-            pointee: node,
-        },
-    )
-}
-
-// Such a pointer, or a null.
-#[inline(never)]
-fn compile_weak<'e>(
-    names: &[Known],
-    flavor: FlavorInfo,
-    pointee: &'e Pointee,
-    plan: &mut Plan,
-    queue: &mut Queue<'e>,
-) -> Result<usize, AllocError>
-    requires { CanPoint names.now (pointee_of pointee.now) }
-    ensures { IfOk result (λ j. (done : ℕ) → Compiled names.now done (weak (flavor_of flavor) (pointee_of pointee.now)) (waits_of queue.old) (waits_of queue.new) (lists_of plan.old) (lists_of plan.new) j) }
-{
-    let (target, node) = compile_pointee(names, pointee, plan, queue)?;
-    let sort = copy_sort(plan, flavor, pointee)?;
-    push(
-        plan,
-        Some(pointer_size(target)),
-        4,
-        Job::Weak {
-            sort,
-            target,
-            pointee: node,
-        },
+        counted_job(weak, sort, target, node),
     )
 }
 
@@ -188,8 +178,8 @@ pub fn compile<'e>(
         Expr::Box(x) => compile_box(names, x, plan, queue),
         Expr::Vec(x) => compile_vec(names, x, plan, queue),
         Expr::Str => compile_str(plan),
-        Expr::Shared(flavor, x) => compile_shared(names, *flavor, x, plan, queue),
-        Expr::Weak(flavor, x) => compile_weak(names, *flavor, x, plan, queue),
+        Expr::Shared(flavor, x) => compile_counted(names, false, *flavor, x, plan, queue),
+        Expr::Weak(flavor, x) => compile_counted(names, true, *flavor, x, plan, queue),
         Expr::Named(name) => Ok(known_node(names, name)),
     }
 }
