@@ -1,5 +1,5 @@
 -- What is checked at once: what a shallow node holds is shallow, and what comes of its parts and elements.
-use Rattle.std.proofs.Common.{inr, ◌≡◌, ℕ, zero, suc, refl, sym, ap, ap₂, ◌∙◌, ◌+◌, ◌-◌, ◌*◌, ◌<◌, ◌≤◌, ◌&&◌, arith, Bool, true, false, List, [], ◌∷◌, length, take, drop, drop-cons, slice_index_or, Option, Some, None, IsTrue, OnSome, IfNone}
+use Rattle.std.proofs.Common.{inr, ◌≡◌, ℕ, zero, suc, refl, ap, ◌∙◌, ◌+◌, ◌-◌, ◌*◌, ◌<◌, ◌≤◌, arith, Bool, true, false, List, [], ◌∷◌, length, slice_index_or, Option, Some, None, IsTrue, OnSome, IfNone}
 use Rattle.archive_check.specs.declared.error.Error.{Error}
 use Rattle.archive_check.specs.declared.plan.Job.TheVariants.{Free}
 use Rattle.archive_check.specs.declared.plan.Node.{Node}
@@ -17,9 +17,10 @@ use Rattle.archive_check.specs.Closed.{span, SpanFits, ArrayFits}
 use Rattle.archive_check.specs.Shallow.{marked, free_at, parts_shallow, variants_shallow}
 use Rattle.archive_check.specs.Turns.{Stays, PartFits, PartsFit, ElementsFit, stage, pending_in, Listing, Keeps, HasLevels, cost, rank}
 use Rattle.archive_check.specs.Through.{Rule, Through, Stops, node_rule, parts_rule, elements_rule}
-use Rattle.archive_check.proofs.Elements.{same_at, at_default}
+use Rattle.std.proofs.lemmas.Bool.{and_parts}
+use Rattle.archive_check.proofs.Elements.{same_at, at_default, at_span}
 use Rattle.archive_check.proofs.ShallowMarks.{job_free}
-use Rattle.archive_check.proofs.TurnInvariants.{some_map, span_next, here_from}
+use Rattle.archive_check.proofs.TurnInvariants.{some_map, here_from}
 use Rattle.archive_check.proofs.TurnsEnd.{falls_none}
 use Rattle.archive_check.proofs.EnteredRegions.{has_levels, times_size}
 
@@ -34,54 +35,33 @@ free_node (x ∷ xs) (suc i) h = let f = free_node xs i h in (f.0, record { belo
 pub free_is : (m : Checker) (j : ℕ) → IsTrue (free_at m.nodes.now j) → IsNode m j Free
 free_is m j h = let f = free_node m.nodes.now j h in record { node = f.0; at = f.1; job_is = f.2 }
 
-both : (a b : Bool) → IsTrue (a && b) → IsTrue a × IsTrue b
-both true true h = (refl, refl)
-both true false h = cc
-both false b h = cc
-
 -- each part of shallow ones is marked
-pub part_marked : (marks : List Bool) (parts : List Part) (b : ℕ) (n a k : ℕ) (x : Part) → k ≡ a + n → k < b → b ≤ length parts → IsTrue (parts_shallow marks (span parts a b)) → IsAt parts k x → IsTrue (marked marks x.node)
-part_marked marks parts b zero a k x e lt le h at =
-    let same : k ≡ a = omega arith in
-    let here : IsAt parts a x = rw same at at in
-    (both (marked marks x.node) (parts_shallow marks (span parts (a + 1) b)) (rw (span_next parts a b x (omega arith) le here) at h)).0
-part_marked marks parts b (suc n) a k x e lt le h at =
-    let y = slice_index_or parts a x in
-    let here : IsAt parts a y = at_default parts a x (omega arith) in
-    part_marked marks parts b n (a + 1) k x (omega arith) lt le (both (marked marks y.node) (parts_shallow marks (span parts (a + 1) b)) (rw (span_next parts a b y (omega arith) le here) at h)).1 at
+each_marked : (marks : List Bool) (parts : List Part) (k : ℕ) (x : Part) → IsTrue (parts_shallow marks parts) → IsAt parts k x → IsTrue (marked marks x.node)
+each_marked marks [] k x h at = absurd (omega (arith, at.below))
+each_marked marks (y ∷ ys) zero x h at = rw at.is (and_parts _ _ h).0
+each_marked marks (y ∷ ys) (suc k) x h at = each_marked marks ys k x (and_parts _ _ h).1 (record { below = omega (arith, at.below); is = at.is })
 
 -- the parts of each variant of shallow ones are shallow
-pub variant_shallow : (marks : List Bool) (parts : List Part) (variants : List Span) (b : ℕ) (n a k : ℕ) (x : Span) → k ≡ a + n → k < b → b ≤ length variants → IsTrue (variants_shallow marks parts (take (b - a) (drop a variants))) → IsAt variants k x → IsTrue (parts_shallow marks (span parts x.first x.last))
-variant_shallow marks parts variants b n a k x e lt le h at = go n a e h
-  where
-    next : (a : ℕ) (y : Span) → a < b → IsAt variants a y → take (b - a) (drop a variants) ≡ y ∷ take (b - (a + 1)) (drop (a + 1) variants)
-    next a y lt at =
-        let few : b - a ≡ suc (b - (a + 1)) = omega arith in
-        let more : suc a ≡ a + 1 = omega arith in
-        ap (λ n. take n (drop a variants)) few
-        ∙ ap (take (suc (b - (a + 1)))) (drop-cons variants a y (omega (arith, at.below)))
-        ∙ ap₂ (λ (z : Span) (q : ℕ). z ∷ take (b - (a + 1)) (drop q variants)) (sym at.is) more
-
-    go : (n a : ℕ) → k ≡ a + n → IsTrue (variants_shallow marks parts (take (b - a) (drop a variants))) → IsTrue (parts_shallow marks (span parts x.first x.last))
-    go zero a e h =
-        let same : k ≡ a = omega arith in
-        let here : IsAt variants a x = rw same at at in
-        (both (parts_shallow marks (span parts x.first x.last)) (variants_shallow marks parts (take (b - (a + 1)) (drop (a + 1) variants))) (rw (next a x (omega arith) here) at h)).0
-    go (suc n) a e h =
-        let y = slice_index_or variants a x in
-        let here : IsAt variants a y = at_default variants a x (omega arith) in
-        go n (a + 1) (omega arith) (both (parts_shallow marks (span parts y.first y.last)) (variants_shallow marks parts (take (b - (a + 1)) (drop (a + 1) variants))) (rw (next a y (omega arith) here) at h)).1
+each_shallow : (marks : List Bool) (parts : List Part) (variants : List Span) (k : ℕ) (x : Span) → IsTrue (variants_shallow marks parts variants) → IsAt variants k x → IsTrue (parts_shallow marks (span parts x.first x.last))
+each_shallow marks parts [] k x h at = absurd (omega (arith, at.below))
+each_shallow marks parts (y ∷ ys) zero x h at = rw at.is (and_parts _ _ h).0
+each_shallow marks parts (y ∷ ys) (suc k) x h at = each_shallow marks parts ys k x (and_parts _ _ h).1 (record { below = omega (arith, at.below); is = at.is })
 
 -- each part is below the rank of all
+each_below : (parts : List Part) (k : ℕ) (x : Part) → IsAt parts k x → x.node < rank parts
+each_below [] k x at = absurd (omega (arith, at.below))
+each_below (y ∷ ys) zero x at = rw at.is (omega arith)
+each_below (y ∷ ys) (suc k) x at = omega (arith, each_below ys k x (record { below = omega (arith, at.below); is = at.is }))
+
+-- the same of a span
+pub part_marked : (marks : List Bool) (parts : List Part) (b : ℕ) (n a k : ℕ) (x : Part) → k ≡ a + n → k < b → b ≤ length parts → IsTrue (parts_shallow marks (span parts a b)) → IsAt parts k x → IsTrue (marked marks x.node)
+part_marked marks parts b n a k x e lt le h at = each_marked marks (span parts a b) n x h (at_span parts a b n x (omega arith) (rw e at at))
+
+pub variant_shallow : (marks : List Bool) (parts : List Part) (variants : List Span) (b : ℕ) (n a k : ℕ) (x : Span) → k ≡ a + n → k < b → b ≤ length variants → IsTrue (variants_shallow marks parts (span variants a b)) → IsAt variants k x → IsTrue (parts_shallow marks (span parts x.first x.last))
+variant_shallow marks parts variants b n a k x e lt le h at = each_shallow marks parts (span variants a b) n x h (at_span variants a b n x (omega arith) (rw e at at))
+
 pub part_below : (parts : List Part) (b n a k : ℕ) (x : Part) → k ≡ a + n → k < b → b ≤ length parts → IsAt parts k x → x.node < rank (span parts a b)
-part_below parts b zero a k x e lt le at =
-    let same : k ≡ a = omega arith in
-    let here : IsAt parts a x = rw same at at in
-    rw (span_next parts a b x (omega arith) le here) (omega arith)
-part_below parts b (suc n) a k x e lt le at =
-    let y = slice_index_or parts a x in
-    let here : IsAt parts a y = at_default parts a x (omega arith) in
-    rw (span_next parts a b y (omega arith) le here) (omega (arith, part_below parts b n (a + 1) k x (omega arith) lt le at))
+part_below parts b n a k x e lt le at = each_below (span parts a b) n x (at_span parts a b n x (omega arith) (rw e at at))
 
 -- what comes of rules
 

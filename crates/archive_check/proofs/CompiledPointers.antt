@@ -1,5 +1,5 @@
 -- What compiling pointers does, by cases.
-use Rattle.std.proofs.Common.{◌≡◌, ℕ, refl, sym, ap, ◌∙◌, subst, ◌+◌, ◌<◌, ◌≤◌, arith, List, [], ◌∷◌, length, Some}
+use Rattle.std.proofs.Common.{◌≡◌, ℕ, refl, sym, ap, ◌∙◌, subst, ◌+◌, ◌<◌, ◌≤◌, arith, List, [], ◌∷◌, length, Some, Bool, true, false}
 use Rattle.std.specs.Int.{w8}
 use Rattle.archive_check.specs.declared.expr.FlavorInfo.{FlavorInfo}
 use Rattle.archive_check.specs.declared.plan.Target.{Target}
@@ -21,7 +21,7 @@ use Rattle.archive_check.specs.Measure.{measure_of}
 use Rattle.archive_check.specs.Compilable.{Can, AllKnown}
 use Rattle.archive_check.specs.CompileQueue.{Waits, measure_of_waits}
 use Rattle.archive_check.specs.PlanGrowth.{PlanLists, IsPushed, IsSorted}
-use Rattle.archive_check.specs.Compiled.{Follows, Below, Settled, Given, Adds, Compiled, CompiledTarget, CompiledPointee}
+use Rattle.archive_check.specs.Compiled.{counted, Follows, Below, Settled, Given, Adds, Compiled, CompiledTarget, CompiledPointee}
 use Rattle.archive_check.specs.NodeCounts.{count_of}
 use Rattle.archive_check.proofs.Compilable.{can_one, can_run, can_boxed, can_vec, can_shared, can_weak}
 use Rattle.archive_check.proofs.PlainRuns.{plain_walk}
@@ -139,3 +139,8 @@ module _ {names : List Known} {v w : Waits} {a b c : PlanLists} {i k : ℕ} {P :
         (λ s shapes m g u given. let h = grows_trans (pushed_grows p) g in
         let made : Made s shapes m (Weak k target i) (weak (flavor_of sort.flavor) (pointee_of sort.pointee)) = made_weak (sort_at m h) (sort_points m h u given) in
         subst (λ F. Made s shapes m (Weak k target i) (weak (flavor_of F) P)) ef (subst (λ Q. Made s shapes m (Weak k target i) (weak (flavor_of sort.flavor) Q)) ep made))
+
+    pub compiled_counted : (is_weak : Bool) {size : ℕ} {job : Job} → size ≡ target_size target → (is_weak ≡ true → job ≡ Weak k target i) → (is_weak ≡ false → job ≡ Shared k target i) → IsPushed c d (Some size) 4 job j
+        → Compiled names done (counted is_weak (flavor_of flavor) P) v w a d j
+    compiled_counted true {size} es as_weak as_shared p = compiled_weak es (subst (λ x. IsPushed c d (Some size) 4 x j) (as_weak refl) p)
+    compiled_counted false {size} es as_weak as_shared p = compiled_shared es (subst (λ x. IsPushed c d (Some size) 4 x j) (as_shared refl) p)

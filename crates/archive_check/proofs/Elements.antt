@@ -1,7 +1,8 @@
 -- Elements of lists: what a list contains, and what stands at an index.
-use Rattle.std.proofs.Common.{◌≡◌, ◌⊎◌, inl, inr, ⊎_elim, ℕ, zero, suc, refl, sym, ◌∙◌, subst, ◌+◌, ◌-◌, ◌<◌, ◌≤◌, arith, List, [], ◌∷◌, ◌++◌, length, slice_index_or, take, drop, Contains}
+use Rattle.std.proofs.Common.{◌≡◌, ◌⊎◌, inl, inr, ⊎_elim, ℕ, zero, suc, refl, sym, ap, ap₂, ◌∙◌, subst, ◌+◌, ◌-◌, ◌<◌, ◌≤◌, arith, List, [], ◌∷◌, ◌++◌, length, slice_index_or, take, drop, drop-cons, length-take, length-drop, get_or-take, get_or-drop, Contains}
 use Rattle.std.proofs.lemmas.List.{get_or_default}
 use Rattle.archive_check.specs.Runs.{IsAt}
+use Rattle.archive_check.specs.Closed.{span}
 
 -- the first or a later one
 pub contains_cases : {X : Type 0} (y : X) (xs : List X) (x : X) → Contains (y ∷ xs) x → (y ≡ x) ⊎ Contains xs x
@@ -63,3 +64,19 @@ at_taken (suc n) [] k x h = absurd (omega (arith, h.below))
 at_taken (suc n) (z ∷ xs) zero x h = (omega arith, record { below = omega arith; is = h.is })
 at_taken (suc n) (z ∷ xs) (suc k) x h = let b = at_taken n xs k x (record { below = omega (arith, h.below); is = h.is }) in
     (omega (arith, b.0), record { below = omega (arith, b.1.below); is = b.1.is })
+
+-- an element of a span
+pub at_span : {A : Type 0} (xs : List A) (a b n : ℕ) (x : A) → a + n < b → IsAt xs (a + n) x → IsAt (span xs a b) n x
+at_span xs a b n x lt at = record {
+  below = simp (length-take, length-drop) (omega (arith, at.below));
+  is = at.is ∙ sym (get_or-drop a xs n x) ∙ sym (get_or-take (b - a) (drop a xs) n x (omega arith));
+}
+
+-- a span that is not empty: its first element, and the rest
+pub span_next : {A : Type 0} (xs : List A) (a b : ℕ) (x : A) → a < b → b ≤ length xs → IsAt xs a x → span xs a b ≡ x ∷ span xs (a + 1) b
+span_next xs a b x lt le at =
+    let few : b - a ≡ suc (b - (a + 1)) = omega arith in
+    let next : suc a ≡ a + 1 = omega arith in
+    ap (λ n. take n (drop a xs)) few
+    ∙ ap (take (suc (b - (a + 1)))) (drop-cons xs a x (omega (arith, at.below)))
+    ∙ ap₂ (λ y (q : ℕ). y ∷ take (b - (a + 1)) (drop q xs)) (sym at.is) next

@@ -12,8 +12,7 @@ use Rattle.archive_check.specs.Runs.{Outcome, IsAt, ListRuns, parts_end, parts_n
 use Rattle.archive_check.specs.Closed.{span}
 use Rattle.archive_check.specs.Turns.{PartFits, PartsFit, PartStays, Ready, stage, pending_in, Listing, Leads, level, rank, cost}
 use Rattle.archive_check.proofs.TurnsEnd.{power_falls, level_same}
-use Rattle.archive_check.proofs.TurnInvariants.{span_next}
-use Rattle.archive_check.proofs.Elements.{at_default}
+use Rattle.archive_check.proofs.Elements.{at_default, span_next}
 
 module _ (m : Checker) (p : ℕ) where
   rest_fits : (a b : ℕ) → PartsFit m a b p → a < b → PartsFit m (a + 1) b p

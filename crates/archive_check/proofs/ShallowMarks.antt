@@ -1,8 +1,10 @@
 -- The marks of the shallow nodes, one after another.
-use Rattle.std.proofs.Common.{◌≡◌, ◌⊎◌, inl, inr, ⊎_elim, ℕ, zero, suc, refl, sym, ap, ◌∙◌, subst, ◌+◌, ◌-◌, ◌<◌, ◌≤◌, arith, List, [], ◌∷◌, ◌++◌, length, length-append, get_or, take, drop, Bool, true, false, ◌&&◌, IsTrue}
+use Rattle.std.proofs.Common.{◌≡◌, ◌⊎◌, inl, inr, ⊎_elim, ℕ, zero, suc, refl, sym, ap, ◌∙◌, subst, ◌+◌, ◌<◌, ◌≤◌, arith, List, [], ◌∷◌, ◌++◌, length, length-append, get_or, take, drop, Bool, false, ◌&&◌, IsTrue}
 use Rattle.std.proofs.lemmas.Bool.{cases_lt}
 use Rattle.std.proofs.lemmas.List.{take-append-le}
 use Rattle.std.proofs.Math.Seq.{drop-cons, take-append_seam}
+use Rattle.std.specs.Cmp.Derive.{both_true}
+use Rattle.std.proofs.lemmas.Bool.{and_parts}
 use Rattle.archive_check.specs.declared.plan.Target.TheVariants.{One, Run, Text}
 use Rattle.archive_check.specs.declared.plan.Job.{Job}
 use Rattle.archive_check.specs.declared.plan.Job.TheVariants.{Free, Leaf, Record, Choice, Array, Pointer as PointerJob, Str, Shared, Weak}
@@ -24,18 +26,6 @@ job_free (PointerJob target j) h = cc
 job_free (Str j) h = cc
 job_free (Shared k target j) h = cc
 job_free (Weak k target j) h = cc
-
-both : (a b : Bool) → IsTrue a → IsTrue b → IsTrue (a && b)
-both true b x y = y
-both false b x y = x
-
-first_of : (a b : Bool) → IsTrue (a && b) → IsTrue a
-first_of true b h = refl
-first_of false b h = h
-
-second_of : (a b : Bool) → IsTrue (a && b) → IsTrue b
-second_of true b h = h
-second_of false b h = cc
 
 -- the element at i, and the rest
 drop_next : {A : Type 0} (xs : List A) (i : ℕ) (x : A) → i < length xs → x ≡ get_or xs i x → drop i xs ≡ x ∷ drop (i + 1) xs
@@ -73,21 +63,19 @@ module _ (b : Bool) where
   parts_more : (marks : List Bool) (ps : List Part) → IsTrue (parts_shallow marks ps) → IsTrue (parts_shallow (marks ++ b ∷ []) ps)
   parts_more marks [] h = refl
   parts_more marks (x ∷ xs) h =
-      both _ _ (marked_more marks x.node (first_of (marked marks x.node) (parts_shallow marks xs) h))
-      (parts_more marks xs (second_of (marked marks x.node) (parts_shallow marks xs) h))
+      both_true (marked_more marks x.node (and_parts _ _ h).0)
+      (parts_more marks xs (and_parts _ _ h).1)
 
   variants_more : (marks : List Bool) (parts : List Part) (vs : List Span) → IsTrue (variants_shallow marks parts vs) → IsTrue (variants_shallow (marks ++ b ∷ []) parts vs)
   variants_more marks parts [] h = refl
   variants_more marks parts (x ∷ xs) h =
-      let here = parts_shallow marks (span parts x.first x.last) in
-      let rest = variants_shallow marks parts xs in
-      both _ _ (parts_more marks (span parts x.first x.last) (first_of here rest h)) (variants_more marks parts xs (second_of here rest h))
+      both_true (parts_more marks (span parts x.first x.last) (and_parts _ _ h).0) (variants_more marks parts xs (and_parts _ _ h).1)
 
   job_more : (nodes : List Node) (parts : List Part) (variants : List Span) (marks : List Bool) (job : Job) → IsTrue (job_shallow nodes parts variants marks job) → IsTrue (job_shallow nodes parts variants (marks ++ b ∷ []) job)
   job_more nodes parts variants marks Free h = refl
   job_more nodes parts variants marks (Leaf kind) h = refl
   job_more nodes parts variants marks (Record x y) h = parts_more marks (span parts x y) h
-  job_more nodes parts variants marks (Choice name x y) h = variants_more marks parts (take (y - x) (drop x variants)) h
+  job_more nodes parts variants marks (Choice name x y) h = variants_more marks parts (span variants x y) h
   job_more nodes parts variants marks (Array n j) h = marked_more marks j h
   job_more nodes parts variants marks (PointerJob One j) h = h
   job_more nodes parts variants marks (PointerJob Run j) h = h

@@ -1,11 +1,10 @@
 -- What each turn of a check's loop keeps.
-use Rattle.std.proofs.Common.{◌≡◌, ◌≢◌, inl, inr, ℕ, zero, suc, ℤ, pos, ◌+ℤ◌, sym, ap, ap₂, ◌∙◌, ◌+◌, ◌-◌, ◌*◌, ◌<◌, ◌≤◌, max, arith, List, [], ◌∷◌, length, take, drop, drop-cons, Option, Some, None, Result, Ok, Err, OnSome, IfNone, OnOk, IfErr}
+use Rattle.std.proofs.Common.{◌≡◌, ◌≢◌, inl, inr, ℕ, zero, suc, ℤ, pos, ◌+ℤ◌, sym, ap, ◌∙◌, ◌+◌, ◌-◌, ◌*◌, ◌<◌, ◌≤◌, max, arith, List, [], ◌∷◌, length, Option, Some, None, Result, Ok, Err, OnSome, IfNone, OnOk, IfErr}
 use Rattle.archive_check.specs.declared.error.Error.{Error}
 use Rattle.archive_check.specs.declared.error.Error.TheVariants.{OutOfMemory}
 use Rattle.archive_check.specs.declared.plan.Target.{Target}
-use Rattle.archive_check.specs.declared.plan.Target.TheVariants.{Text}
 use Rattle.archive_check.specs.declared.plan.Job.{Job}
-use Rattle.archive_check.specs.declared.plan.Job.TheVariants.{Free, Pointer as PointerJob, Str, Shared, Weak}
+use Rattle.archive_check.specs.declared.plan.Job.TheVariants.{Free, Pointer as PointerJob, Shared, Weak}
 use Rattle.archive_check.specs.declared.plan.Node.{Node}
 use Rattle.archive_check.specs.declared.plan.Part.{Part}
 use Rattle.archive_check.specs.declared.plan.Checker.{Checker}
@@ -15,24 +14,16 @@ use Rattle.archive_check.specs.Ranges.{RangeState, pop_answer, popped}
 use Rattle.archive_check.specs.Met.{Positions, finished, finish_answer}
 use Rattle.archive_check.specs.Tour.{Seen}
 use Rattle.archive_check.specs.Trail.{Fault}
-use Rattle.archive_check.specs.Reads.{u32_at, i32_at, IsOutOfLine, decoded_length}
+use Rattle.archive_check.specs.Reads.{i32_at}
 use Rattle.archive_check.specs.Runs.{count_at, Outcome, done, refused, IsAt, IsNode, NodeRuns, ListRuns, list_part, list_part_stop, list_leave, list_finish}
 use Rattle.archive_check.specs.Lists.{IsMore}
 use Rattle.archive_check.specs.Closed.{span, PartsWithin, SpanFits, ArrayFits, JobFits, IsClosed}
 use Rattle.archive_check.specs.Faults.{IsFor}
 use Rattle.archive_check.specs.Turns.{PartsHere, PartFits, Ready, Stage, stage, pending_in, regions_in, Listing, Entering, Following, Leads, Refuses, Keeps, IsStopped, stops, power, level, rank, cost}
-use Rattle.archive_check.proofs.TurnRules.{turn_parts, turn_elements, turn_part_last, turn_element_last, turn_elements_free, turn_pointer, turn_text, turn_shared, turn_weak}
+use Rattle.archive_check.proofs.TurnRules.{turn_parts, turn_elements, turn_part_last, turn_element_last, turn_elements_free, turn_pointer, turn_shared, turn_weak}
 use Rattle.archive_check.proofs.MetAgrees.{levels_of, agrees_finished, finish_fine, agrees_outside, inside_more, taken_back}
 use Rattle.archive_check.proofs.TurnsEnd.{level_node, level_same, falls_one, falls_two, falls_under, falls_shared}
-use Rattle.archive_check.proofs.Elements.{same_at}
-
-pub span_next : (parts : List Part) (a b : ℕ) (x : Part) → a < b → b ≤ length parts → IsAt parts a x → span parts a b ≡ x ∷ span parts (a + 1) b
-span_next parts a b x lt le at =
-    let few : b - a ≡ suc (b - (a + 1)) = omega arith in
-    let next : suc a ≡ a + 1 = omega arith in
-    ap (λ n. take n (drop a parts)) few
-    ∙ ap (take (suc (b - (a + 1)))) (drop-cons parts a x (omega (arith, at.below)))
-    ∙ ap₂ (λ (y : Part) (q : ℕ). y ∷ take (b - (a + 1)) (drop q parts)) (sym at.is) next
+use Rattle.archive_check.proofs.Elements.{same_at, span_next}
 
 split_count : (n y : ℕ) → 0 < n → n * y ≡ y + (n - 1) * y
 split_count zero y h = absurd (omega arith)
@@ -67,11 +58,6 @@ module _ (m : Checker) (s : RangeState) (met : Positions) where
         → OnSome result (Leads m (Entering m target j n z) (stage s met old) y) → IfNone result (IsStopped m target j n z s fault)
         → Keeps m (Listing m) (stage s met (PartWork i p ∷ old)) y result fault
     pointer_keeps result fault target j n z is en ez leads stopped = enter_keeps result fault target j n z (λ seen o t. turn_pointer m is (rw (en, ez) at t)) leads stopped
-
-    pub text_keeps : (result : Option (Unit {0})) (fault : Error) (j n : ℕ) (z : ℤ) → IsNode m i (Str j) → IsOutOfLine m.bytes.now p → 8 < n → n ≡ decoded_length (u32_at m.bytes.now p) → z ≡ pos p +ℤ i32_at m.bytes.now (p + 4)
-        → OnSome result (Leads m (Entering m Text j n z) (stage s met old) y) → IfNone result (IsStopped m Text j n z s fault)
-        → Keeps m (Listing m) (stage s met (PartWork i p ∷ old)) y result fault
-    text_keeps result fault j n z is out long en ez leads stopped = enter_keeps result fault Text j n z (λ seen o t. turn_text m is out (rw en at long) (rw (en, ez) at t)) leads stopped
 
     follow_keeps : (result : Option (Unit {0})) (fault : Error) (target : Target) (k j : ℕ) → ((seen : Seen) (o : Outcome) → Following m k target j p (stage s met old) seen o → Listing m (stage s met (PartWork i p ∷ old)) seen o)
         → Keeps m (Following m k target j p) (stage s met old) y result fault → Keeps m (Listing m) (stage s met (PartWork i p ∷ old)) y result fault

@@ -2,8 +2,8 @@
 use Rattle.std.proofs.Common.{◌≡◌, ◌≢◌, ℕ, ℤ, pos, ◌+ℤ◌, refl, sym, ap, ◌+◌, ◌-◌, ◌*◌, ◌%◌, ◌<◌, ◌≤◌, arith, List, [], ◌∷◌, length, Option, Some, None, slice_index, Bor}
 use Rattle.std.specs.FinMap.{get, insert}
 use Rattle.archive_check.specs.declared.plan.Target.{Target}
-use Rattle.archive_check.specs.declared.plan.Target.TheVariants.{One, Run, Text}
-use Rattle.archive_check.specs.declared.plan.Job.TheVariants.{Free, Record, Choice, Array, Pointer as PointerJob, Str, Shared, Weak}
+use Rattle.archive_check.specs.declared.plan.Target.TheVariants.{One, Run}
+use Rattle.archive_check.specs.declared.plan.Job.TheVariants.{Free, Record, Choice, Array, Pointer as PointerJob, Shared, Weak}
 use Rattle.archive_check.specs.declared.plan.Part.{Part}
 use Rattle.archive_check.specs.declared.plan.Span.{Span}
 use Rattle.archive_check.specs.declared.plan.Sort.{Sort}
@@ -11,9 +11,9 @@ use Rattle.archive_check.specs.declared.plan.Checker.{Checker}
 use Rattle.archive_check.specs.declared.work.Work.{Work}
 use Rattle.archive_check.specs.declared.work.Work.TheVariants.{Part as PartWork, Parts, Elements, Leave, Finish}
 use Rattle.archive_check.specs.Depth.{Allows, inside}
-use Rattle.archive_check.specs.Reads.{u32_at, i32_at, IsOutOfLine, decoded_length}
+use Rattle.archive_check.specs.Reads.{i32_at}
 use Rattle.archive_check.specs.Tour.{Seen}
-use Rattle.archive_check.specs.Runs.{Outcome, IsAt, IsNode, Takes, RegionIs, count_at, length_of, entry_for, run_record, run_choice, run_array, run_pointer, run_out_of_line, run_shared, run_weak, FollowRuns, follow_new, parts_end, parts_next, parts_stop, elements_end, elements_next, elements_free, elements_stop, EnterRuns, enter_within, enter_stop, contents_one, contents_run, ListRuns, list_end, list_part, list_part_stop, list_parts, list_parts_stop, list_elements, list_elements_stop, list_leave, list_finish}
+use Rattle.archive_check.specs.Runs.{Outcome, IsAt, IsNode, Takes, RegionIs, count_at, length_of, entry_for, run_record, run_choice, run_array, run_pointer, run_shared, run_weak, FollowRuns, follow_new, parts_end, parts_next, parts_stop, elements_end, elements_next, elements_free, elements_stop, EnterRuns, enter_within, enter_stop, contents_one, contents_run, ListRuns, list_end, list_part, list_part_stop, list_parts, list_parts_stop, list_elements, list_elements_stop, list_leave, list_finish}
 use Rattle.archive_check.specs.Turns.{Then, and_then, stops}
 
 -- one level of depth is got back
@@ -39,10 +39,6 @@ module _ (m : Checker) where
   pub turn_pointer : {pd : List ℕ} {d : Option ℕ} {e i p j s : ℕ} {k : Seen} {o : Outcome} {w : List Work} {target : Target} → IsNode m i (PointerJob target j) → Then m pd d e (EnterRuns m pd d e target j (count_at m.bytes.now p target) (pos p +ℤ i32_at m.bytes.now p) s k) w o → ListRuns m pd d e (PartWork i p ∷ w) s k o
   turn_pointer h (and_then v r) = list_part (run_pointer h v) r
   turn_pointer h (stops v) = list_part_stop (run_pointer h v)
-
-  pub turn_text : {pd : List ℕ} {d : Option ℕ} {e i p j s : ℕ} {k : Seen} {o : Outcome} {w : List Work} → IsNode m i (Str j) → IsOutOfLine m.bytes.now p → 8 < decoded_length (u32_at m.bytes.now p) → Then m pd d e (EnterRuns m pd d e Text j (decoded_length (u32_at m.bytes.now p)) (pos p +ℤ i32_at m.bytes.now (p + 4)) s k) w o → ListRuns m pd d e (PartWork i p ∷ w) s k o
-  turn_text h out long (and_then v r) = list_part (run_out_of_line h out long v) r
-  turn_text h out long (stops v) = list_part_stop (run_out_of_line h out long v)
 
   pub turn_shared : {pd : List ℕ} {d : Option ℕ} {e i p c j s : ℕ} {k : Seen} {o : Outcome} {w : List Work} {target : Target} → IsNode m i (Shared c target j) → Then m pd d e (FollowRuns m pd d e c target j (count_at m.bytes.now p target) (length_of m.bytes.now p target) (pos p +ℤ i32_at m.bytes.now p) s k) w o → ListRuns m pd d e (PartWork i p ∷ w) s k o
   turn_shared h (and_then v r) = list_part (run_shared h v) r

@@ -10,9 +10,9 @@ use Rattle.archive_check.specs.Layout.{kind_size}
 use Rattle.archive_check.specs.Expressions.{kind_of}
 use Rattle.archive_check.specs.Runs.{target_size, IsAt, Takes}
 
--- the parts from a up to b
-abbrev pub span : List Part → ℕ → ℕ → List Part
-span parts a b = take (b - a) (drop a parts)
+-- the elements from a up to b
+abbrev pub span : {A : Type 0} → List A → ℕ → ℕ → List A
+span xs a b = take (b - a) (drop a xs)
 
 -- each part lies in the z bytes of the node i, and comes before it
 abbrev pub PartsWithin : Checker → ℕ → ℕ → List Part → Type 0

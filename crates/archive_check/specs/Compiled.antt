@@ -1,5 +1,5 @@
 -- Compiling: what an expression adds to a plan, and what the new nodes stand for. All is said of a checker whose lists go on from the plan's.
-use Rattle.std.specs.Prelude.{◌≡◌, ◌⊎◌, ℕ, ◌+◌, ◌<◌, ◌≤◌, max, List, [], length, Bool, true, Option, Some, None}
+use Rattle.std.specs.Prelude.{◌≡◌, ◌⊎◌, ℕ, ◌+◌, ◌<◌, ◌≤◌, max, List, [], length, Bool, true, false, Option, Some, None}
 use Rattle.archive_check.specs.declared.plan.Target.{Target}
 use Rattle.archive_check.specs.declared.plan.Job.TheVariants.{Free}
 use Rattle.archive_check.specs.declared.plan.Node.{Node}
@@ -8,7 +8,7 @@ use Rattle.archive_check.specs.declared.plan.Span.{Span}
 use Rattle.archive_check.specs.declared.plan.Checker.{Checker}
 use Rattle.archive_check.specs.declared.growing.Known.{Known}
 use Rattle.archive_check.specs.declared.growing.Laid.{Laid}
-use Rattle.archive_check.specs.Shape.{Name, Shape, named, Pointee, Parts, Variants, variant_at}
+use Rattle.archive_check.specs.Shape.{Name, Shape, named, shared, weak, Flavor, Pointee, Parts, Variants, variant_at}
 use Rattle.archive_check.specs.Layout.{Layouts, size_of, align_of, parts_end, parts_align, variants_end, variants_align, pointer_size}
 use Rattle.archive_check.specs.Reads.{Schema, LaidOut}
 use Rattle.archive_check.specs.Runs.{IsAt, IsNode, Takes, target_size}
@@ -20,6 +20,11 @@ use Rattle.archive_check.specs.Measure.{measure_of, measure_of_parts, measure_of
 use Rattle.archive_check.specs.PlanGrowth.{node_of, PlanLists, lists_in, Goes, Grows}
 use Rattle.archive_check.specs.Compilable.{Can, CanParts, CanVariants, CanPoint, CanWait, AllKnown}
 use Rattle.archive_check.specs.CompileQueue.{Wait, Waits, Reserved, measure_of_waits}
+
+-- a pointer to what others may point to as well: a weak one may be null
+abbrev pub counted : Bool → Flavor → Pointee → Shape
+counted true flavor P = weak flavor P
+counted false flavor P = shared flavor P
 
 -- the checker's lists go on from a plan's
 abbrev pub Follows : PlanLists → Checker → Type 0

@@ -44,7 +44,7 @@ abbrev pub job_shallow : List Node → List Part → List Span → List Bool →
 job_shallow nodes parts variants marks Free = true
 job_shallow nodes parts variants marks (Leaf kind) = true
 job_shallow nodes parts variants marks (Record a b) = parts_shallow marks (span parts a b)
-job_shallow nodes parts variants marks (Choice name a b) = variants_shallow marks parts (take (b - a) (drop a variants))
+job_shallow nodes parts variants marks (Choice name a b) = variants_shallow marks parts (span variants a b)
 job_shallow nodes parts variants marks (Array n j) = marked marks j
 job_shallow nodes parts variants marks (PointerJob One j) = free_at nodes j
 job_shallow nodes parts variants marks (PointerJob Run j) = free_at nodes j

@@ -3,14 +3,14 @@
 //! Each case has a function of its own, which is never inlined: a call's frame is cleared when it is entered, so that one large function would
 //! clear at each node what all of the cases need.
 
-ghost use Rattle.std.specs.Prelude.{◌≤◌, ℕ, List, IfOk, length};
+ghost use Rattle.std.specs.Prelude.{◌≡◌, ◌≤◌, ℕ, List, IfOk, true, false, length};
 ghost use Rattle.archive_check.specs.Expressions.{shape_of, flavor_of, pointee_of, shapes_in, variants_in};
-ghost use Rattle.archive_check.specs.Shape.{parts as record_of, choice, array, boxed, vec, str, shared, weak};
+ghost use Rattle.archive_check.specs.Shape.{parts as record_of, choice, array, boxed, vec, str};
 ghost use Rattle.archive_check.specs.PlanGrowth.{lists_of, IsCopied};
 ghost use Rattle.archive_check.specs.CompileQueue.{Waits, waits_of};
 ghost use Rattle.archive_check.specs.declared.growing.Known.{Known};
 ghost use Rattle.archive_check.specs.Compilable.{Can, CanParts, CanVariants, CanPoint, CanWait};
-ghost use Rattle.archive_check.specs.Compiled.{Compiled, CompiledPointee, CompiledParts, CompiledVariants};
+ghost use Rattle.archive_check.specs.Compiled.{counted, Compiled, CompiledPointee, CompiledParts, CompiledVariants};
 
 use crate::expr::{Expr, FlavorInfo, Pointee};
 use crate::extents::{offset_of, pointer_size, times};
@@ -21,6 +21,36 @@ use crate::growing::{
 use crate::plan::{Job, Plan, Target};
 use crate::queue::{Queue, wait};
 use std::alloc::{AllocError, Global};
+
+/// What an expression is compiled with.
+#[derive(Clone, Copy)]
+pub struct Scope<'n> {
+    /// Where memory comes from.
+    pub alloc: Global,
+    /// The nodes of all names, known by counting.
+    pub names: &'n [Known],
+    /// The names' nodes before this one are there.
+    pub done: usize,
+}
+
+// What the node of a pointer does that others may share.
+fn counted_job(weak: bool, sort: usize, target: Target, pointee: usize) -> Job
+    ensures weak { weak ≡ true → result ≡ Job.Weak sort target pointee }
+    ensures shared { weak ≡ false → result ≡ Job.Shared sort target pointee }
+{
+    if weak {
+        return Job::Weak {
+            sort,
+            target,
+            pointee,
+        };
+    }
+    Job::Shared {
+        sort,
+        target,
+        pointee,
+    }
+}
 
 // A sort more, with a copy of its pointee.
 #[inline(never)]
@@ -109,17 +139,18 @@ fn compile_str(plan: &mut Plan) -> Result<usize, AllocError>
     push(plan, Some(8), 4, Job::Str { pointee })
 }
 
-// A pointer to what others may point to as well.
+// A pointer to what others may point to as well, behind a copy of its sort. A weak one may be null.
 #[inline(never)]
-fn compile_shared<'e>(
+fn compile_counted<'e>(
     names: &[Known],
+    weak: bool,
     flavor: FlavorInfo,
     pointee: &'e Pointee,
     plan: &mut Plan,
     queue: &mut Queue<'e>,
 ) -> Result<usize, AllocError>
     requires { CanPoint names.now (pointee_of pointee.now) }
-    ensures { IfOk result (λ j. (done : ℕ) → Compiled names.now done (shared (flavor_of flavor) (pointee_of pointee.now)) (waits_of queue.old) (waits_of queue.new) (lists_of plan.old) (lists_of plan.new) j) }
+    ensures { IfOk result (λ j. (done : ℕ) → Compiled names.now done (counted weak (flavor_of flavor) (pointee_of pointee.now)) (waits_of queue.old) (waits_of queue.new) (lists_of plan.old) (lists_of plan.new) j) }
 {
     let (target, node) = compile_pointee(names, pointee, plan, queue)?;
     let sort = copy_sort(plan, flavor, pointee)?;
@@ -127,70 +158,35 @@ fn compile_shared<'e>(
         plan,
         Some(pointer_size(target)),
         4,
-        Job::Shared {
-            sort,
-            target,
-            pointee: node,
-        },
+        counted_job(weak, sort, target, node),
     )
 }
 
-// Such a pointer, or a null.
-#[inline(never)]
-fn compile_weak<'e>(
-    names: &[Known],
-    flavor: FlavorInfo,
-    pointee: &'e Pointee,
-    plan: &mut Plan,
-    queue: &mut Queue<'e>,
-) -> Result<usize, AllocError>
-    requires { CanPoint names.now (pointee_of pointee.now) }
-    ensures { IfOk result (λ j. (done : ℕ) → Compiled names.now done (weak (flavor_of flavor) (pointee_of pointee.now)) (waits_of queue.old) (waits_of queue.new) (lists_of plan.old) (lists_of plan.new) j) }
-{
-    let (target, node) = compile_pointee(names, pointee, plan, queue)?;
-    let sort = copy_sort(plan, flavor, pointee)?;
-    push(
-        plan,
-        Some(pointer_size(target)),
-        4,
-        Job::Weak {
-            sort,
-            target,
-            pointee: node,
-        },
-    )
-}
-
-/// Compiles an expression, and says which node is its own. `names` has the nodes of all names, known by counting; of those, the ones before
-/// `done` are there. Each name in the expression is known, and each that it holds other than behind a pointer is there. What its pointers lead
-/// to waits in `queue`, unless it is a name. Memory comes from `alloc`.
+/// Compiles an expression, and says which node is its own. Each name in the expression is known, and each that it holds other than behind a
+/// pointer is there. What its pointers lead to waits in `queue`, unless it is a name.
 #[cycle(compile)]
 #[tactic(auto, using(crate::proofs::Views::views))]
 pub fn compile<'e>(
-    alloc: Global,
-    names: &[Known],
-    done: usize,
+    scope: &Scope,
     expr: &'e Expr,
     plan: &mut Plan,
     queue: &mut Queue<'e>,
 ) -> Result<usize, AllocError>
-    requires done { done ≤ length plan.old.nodes.items }
-    requires can { Can names.now done (shape_of expr.now) }
-    ensures { IfOk result (λ j. Compiled names.now done (shape_of expr.now) (waits_of queue.old) (waits_of queue.new) (lists_of plan.old) (lists_of plan.new) j) }
+    requires done { scope.now.done ≤ length plan.old.nodes.items }
+    requires can { Can scope.now.names.now scope.now.done (shape_of expr.now) }
+    ensures { IfOk result (λ j. Compiled scope.now.names.now scope.now.done (shape_of expr.now) (waits_of queue.old) (waits_of queue.new) (lists_of plan.old) (lists_of plan.new) j) }
 {
     match expr {
         Expr::Leaf(kind) => push_leaf(plan, *kind),
-        Expr::Record(parts) => compile_record(alloc, names, done, parts, plan, queue),
-        Expr::Choice(name, variants) => {
-            compile_choice(alloc, names, done, name, variants, plan, queue)
-        }
-        Expr::Array(count, x) => compile_array(alloc, names, done, *count, x, plan, queue),
-        Expr::Box(x) => compile_box(names, x, plan, queue),
-        Expr::Vec(x) => compile_vec(names, x, plan, queue),
+        Expr::Record(parts) => compile_record(scope, parts, plan, queue),
+        Expr::Choice(name, variants) => compile_choice(scope, name, variants, plan, queue),
+        Expr::Array(count, x) => compile_array(scope, *count, x, plan, queue),
+        Expr::Box(x) => compile_box(scope.names, x, plan, queue),
+        Expr::Vec(x) => compile_vec(scope.names, x, plan, queue),
         Expr::Str => compile_str(plan),
-        Expr::Shared(flavor, x) => compile_shared(names, *flavor, x, plan, queue),
-        Expr::Weak(flavor, x) => compile_weak(names, *flavor, x, plan, queue),
-        Expr::Named(name) => Ok(known_node(names, name)),
+        Expr::Shared(flavor, x) => compile_counted(scope.names, false, *flavor, x, plan, queue),
+        Expr::Weak(flavor, x) => compile_counted(scope.names, true, *flavor, x, plan, queue),
+        Expr::Named(name) => Ok(known_node(scope.names, name)),
     }
 }
 
@@ -199,18 +195,16 @@ pub fn compile<'e>(
 #[tactic(auto, using(crate::proofs::Views::views))]
 #[inline(never)]
 fn compile_record<'e>(
-    alloc: Global,
-    names: &[Known],
-    done: usize,
+    scope: &Scope,
     parts: &'e [Expr],
     plan: &mut Plan,
     queue: &mut Queue<'e>,
 ) -> Result<usize, AllocError>
-    requires done { done ≤ length plan.old.nodes.items }
-    requires can { CanParts names.now done (shapes_in parts.now) }
-    ensures { IfOk result (λ j. Compiled names.now done (record_of (shapes_in parts.now)) (waits_of queue.old) (waits_of queue.new) (lists_of plan.old) (lists_of plan.new) j) }
+    requires done { scope.now.done ≤ length plan.old.nodes.items }
+    requires can { CanParts scope.now.names.now scope.now.done (shapes_in parts.now) }
+    ensures { IfOk result (λ j. Compiled scope.now.names.now scope.now.done (record_of (shapes_in parts.now)) (waits_of queue.old) (waits_of queue.new) (lists_of plan.old) (lists_of plan.new) j) }
 {
-    let laid = compile_parts(alloc, names, done, parts, 0, plan, queue)?;
+    let laid = compile_parts(scope, parts, 0, plan, queue)?;
     let size = offset_of(laid.end, laid.align);
     push_laid(
         plan,
@@ -229,19 +223,17 @@ fn compile_record<'e>(
 #[tactic(auto, using(crate::proofs::Views::views))]
 #[inline(never)]
 fn compile_choice<'e>(
-    alloc: Global,
-    names: &[Known],
-    done: usize,
+    scope: &Scope,
     name: &'static str,
     variants: &'e [Vec<Expr>],
     plan: &mut Plan,
     queue: &mut Queue<'e>,
 ) -> Result<usize, AllocError>
-    requires done { done ≤ length plan.old.nodes.items }
-    requires can { CanVariants names.now done (variants_in variants.now) }
-    ensures { IfOk result (λ j. Compiled names.now done (choice name.now (variants_in variants.now)) (waits_of queue.old) (waits_of queue.new) (lists_of plan.old) (lists_of plan.new) j) }
+    requires done { scope.now.done ≤ length plan.old.nodes.items }
+    requires can { CanVariants scope.now.names.now scope.now.done (variants_in variants.now) }
+    ensures { IfOk result (λ j. Compiled scope.now.names.now scope.now.done (choice name.now (variants_in variants.now)) (waits_of queue.old) (waits_of queue.new) (lists_of plan.old) (lists_of plan.new) j) }
 {
-    let laid = compile_variants(alloc, names, done, variants, plan, queue)?;
+    let laid = compile_variants(scope, variants, plan, queue)?;
     let size = offset_of(laid.end, laid.align);
     push_laid(
         plan,
@@ -261,19 +253,17 @@ fn compile_choice<'e>(
 #[tactic(auto, using(crate::proofs::Views::views))]
 #[inline(never)]
 fn compile_array<'e>(
-    alloc: Global,
-    names: &[Known],
-    done: usize,
+    scope: &Scope,
     count: usize,
     x: &'e Expr,
     plan: &mut Plan,
     queue: &mut Queue<'e>,
 ) -> Result<usize, AllocError>
-    requires done { done ≤ length plan.old.nodes.items }
-    requires can { Can names.now done (shape_of x.now) }
-    ensures { IfOk result (λ j. Compiled names.now done (array count (shape_of x.now)) (waits_of queue.old) (waits_of queue.new) (lists_of plan.old) (lists_of plan.new) j) }
+    requires done { scope.now.done ≤ length plan.old.nodes.items }
+    requires can { Can scope.now.names.now scope.now.done (shape_of x.now) }
+    ensures { IfOk result (λ j. Compiled scope.now.names.now scope.now.done (array count (shape_of x.now)) (waits_of queue.old) (waits_of queue.new) (lists_of plan.old) (lists_of plan.new) j) }
 {
-    let element = compile(alloc, names, done, x, plan, queue)?;
+    let element = compile(scope, x, plan, queue)?;
     let here = plan.nodes[element];
     push_laid(
         plan,
@@ -289,21 +279,19 @@ fn compile_array<'e>(
 #[tactic(auto, using(crate::proofs::Views::views))]
 #[inline(never)]
 fn compile_parts<'e>(
-    alloc: Global,
-    names: &[Known],
-    done: usize,
+    scope: &Scope,
     parts: &'e [Expr],
     start: usize,
     plan: &mut Plan,
     queue: &mut Queue<'e>,
 ) -> Result<Laid, AllocError>
-    requires done { done ≤ length plan.old.nodes.items }
-    requires can { CanParts names.now done (shapes_in parts.now) }
-    ensures { IfOk result (λ laid. CompiledParts names.now done start (shapes_in parts.now) (waits_of queue.old) (waits_of queue.new) (lists_of plan.old) (lists_of plan.new) laid) }
+    requires done { scope.now.done ≤ length plan.old.nodes.items }
+    requires can { CanParts scope.now.names.now scope.now.done (shapes_in parts.now) }
+    ensures { IfOk result (λ laid. CompiledParts scope.now.names.now scope.now.done start (shapes_in parts.now) (waits_of queue.old) (waits_of queue.new) (lists_of plan.old) (lists_of plan.new) laid) }
 {
-    let mut row = Row::new(alloc, start);
+    let mut row = Row::new(scope.alloc, start);
     for i in 0..parts.len() {
-        let node = compile(alloc, names, done, &parts[i], plan, queue)?;
+        let node = compile(scope, &parts[i], plan, queue)?;
         row.place(node, plan.nodes[node])?;
     }
     extend_parts(plan, &row)
@@ -314,20 +302,18 @@ fn compile_parts<'e>(
 #[tactic(auto, using(crate::proofs::Views::views))]
 #[inline(never)]
 fn compile_variants<'e>(
-    alloc: Global,
-    names: &[Known],
-    done: usize,
+    scope: &Scope,
     variants: &'e [Vec<Expr>],
     plan: &mut Plan,
     queue: &mut Queue<'e>,
 ) -> Result<Laid, AllocError>
-    requires done { done ≤ length plan.old.nodes.items }
-    requires can { CanVariants names.now done (variants_in variants.now) }
-    ensures { IfOk result (λ laid. CompiledVariants names.now done (variants_in variants.now) (waits_of queue.old) (waits_of queue.new) (lists_of plan.old) (lists_of plan.new) laid) }
+    requires done { scope.now.done ≤ length plan.old.nodes.items }
+    requires can { CanVariants scope.now.names.now scope.now.done (variants_in variants.now) }
+    ensures { IfOk result (λ laid. CompiledVariants scope.now.names.now scope.now.done (variants_in variants.now) (waits_of queue.old) (waits_of queue.new) (lists_of plan.old) (lists_of plan.new) laid) }
 {
-    let mut spans = Spans::new(alloc);
+    let mut spans = Spans::new(scope.alloc);
     for i in 0..variants.len() {
-        let laid = compile_parts(alloc, names, done, &variants[i], 1, plan, queue)?;
+        let laid = compile_parts(scope, &variants[i], 1, plan, queue)?;
         spans.list(laid)?;
     }
     extend_variants(plan, &spans)

@@ -1,6 +1,6 @@
 //! Sizes in bytes. None: above `usize::MAX`.
 
-ghost use Rattle.std.specs.Prelude.{◌≡◌, ◌↔◌, ◌<◌, ◌≤◌, max, IsTrue, Some};
+ghost use Rattle.std.specs.Prelude.{◌≡◌, ◌<◌, max, Some};
 ghost use Rattle.archive_check.specs.Layout.{up as up_to};
 ghost use Rattle.archive_check.specs.Expressions.{kind_of};
 ghost use Rattle.archive_check.specs.Runs.{times as times_of, target_size};

@@ -1,6 +1,6 @@
 //! The names in an expression, and the order of their definitions.
 
-ghost use Rattle.std.specs.Prelude.{◌≡◌, ◌⊎◌, ◌+◌, ◌≤◌, Some, None, OnOk, IfOk, IfErr, true, get_or, option_map, is_some, length};
+ghost use Rattle.std.specs.Prelude.{◌≡◌, ◌⊎◌, ◌≤◌, Some, None, OnOk, IfOk, IfErr, true, get_or, option_map, is_some, length};
 ghost use Rattle.archive_check.specs.Shape.{definition};
 ghost use Rattle.archive_check.specs.Expressions.{shape_of, pointee_of, shapes_in, variants_in, entries_of};
 ghost use Rattle.archive_check.specs.Names.{missing as missing_in, pointee_missing, parts_missing, variants_missing, Taken, IsGathered, Collected, Arranged, NextReady, IsPlacedNext, Complete, Prepared, shapes_from};

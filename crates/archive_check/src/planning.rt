@@ -8,7 +8,7 @@ ghost use Rattle.archive_check.specs.CompileQueue.{waits_of, no_waits};
 ghost use Rattle.archive_check.specs.Numbered.{def_shapes};
 ghost use Rattle.archive_check.specs.Planned.{IsPlan, HasNames, InOrder, Chained, CanChain, CanFinish, Finishes};
 
-use crate::compile::compile;
+use crate::compile::{Scope, compile};
 use crate::counting::{add, count, number};
 use crate::defs::Def;
 use crate::expr::Expr;
@@ -32,7 +32,8 @@ fn compile_defs<'e>(
 {
     for i in 0..defs.len() {
         let done = plan.nodes.len();
-        compile(alloc, names, done, &defs[i].expr, plan, queue)?;
+        let scope = Scope { alloc, names, done };
+        compile(&scope, &defs[i].expr, plan, queue)?;
     }
     Ok(())
 }
@@ -51,7 +52,8 @@ fn compile_waiting<'e>(
     while i < queue.items.len() {
         let done = plan.nodes.len();
         let waiting = queue.items[i];
-        compile(alloc, names, done, waiting.expr, plan, queue)?;
+        let scope = Scope { alloc, names, done };
+        compile(&scope, waiting.expr, plan, queue)?;
         i += 1;
     }
     Ok(())
@@ -76,7 +78,12 @@ impl Plan {
         let mut queue: Queue<'e> = Queue::new(alloc, base);
         compile_defs(alloc, &names, defs, &mut plan, &mut queue)?;
         let done = plan.nodes.len();
-        let node = compile(alloc, &names, done, root, &mut plan, &mut queue)?;
+        let scope = Scope {
+            alloc,
+            names: &names,
+            done,
+        };
+        let node = compile(&scope, root, &mut plan, &mut queue)?;
         compile_waiting(alloc, &names, &mut plan, &mut queue)?;
         Ok((plan, node, names))
     }

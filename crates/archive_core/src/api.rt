@@ -10,11 +10,8 @@ ghost use Rattle.archive_check.specs.Entries.{NoEntries, AreNamedByPosition, Kee
 ghost use Rattle.archive_check.specs.Unshared.{IsUnshared};
 ghost use Rattle.archive_check.specs.Viewed.{Says};
 ghost use Rattle.archive_check.specs.declared.error.Error.TheVariants.{CyclicDeserialize, OutOfMemory};
-ghost use Rattle.archive_check.specs.Told.{Told};
 ghost use Rattle.archive_core.specs.Plans.{no_keys, at_start, GoesOn, HindersWhole, ExplainsWhole, IsOwnCause, IsOfWriting};
 ghost use Rattle.archive_core.specs.Writing.{Archives};
-ghost use Rattle.archive_write.specs.Sharing.{KnowsNone};
-ghost use Rattle.archive_write.specs.Written.{IsBeginning};
 
 pub use crate::context::HighValidator;
 use crate::ser::{Serializer, Writer, serialize_one};
@@ -59,7 +56,6 @@ pub fn to_bytes_in<W: Writer + Drop, T: Serialize<Serializer<W, Global, ()>>>(
 ) -> Result<W, Error>
     ensures archived { IfOk result (λ w. (root : ℕ) × Archives T.Archived.definitions (W.told writer).bytes (W.told w).bytes root T.Archived.shape T.Archived.layout.size
         (T.keys value.now) (T.meaning value.now)) }
-    ensures kept { IfOk result (λ w. IsBeginning (W.told writer).bytes (W.told w).bytes) }
     ensures goes_on { IfOk result (λ w. GoesOn (W.told writer) (W.told w)) }
     ensures refused { IfErr result (λ e. (end : W) × GoesOn (W.told writer) (W.told end)
         × ExplainsWhole (T.hinders value.now) (T.answers value.now) (T.hinders_at value.now) (T.plan value.now) T.Archived.layout no_keys (W.told writer) (W.told end) e) }

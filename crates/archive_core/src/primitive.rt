@@ -1,6 +1,6 @@
 //! Numbers, bools, chars and `()`: their formats, and how they are archived and read back.
 
-ghost use Rattle.std.specs.Prelude.{◌≡◌, ⊤, refl, ℕ, [], length, IfOk, OnOk, IfErr, IsOk};
+ghost use Rattle.std.specs.Prelude.{◌≡◌, ⊤, ℕ, [], length, IfOk, OnOk, IfErr, IsOk};
 ghost use Rattle.archive_check.specs.Shape.{leaf, one};
 ghost use Rattle.archive_check.specs.Reads.{bytes_at, IsLegal};
 ghost use Rattle.archive_check.specs.Definitions.{no_definition, Definitions};
@@ -13,7 +13,6 @@ ghost use Rattle.archive_core.specs.Keyed.{number_keyed, stays};
 ghost use Rattle.archive_core.specs.Plans.{stand, IsAt, GoesOn, Explains};
 ghost use Rattle.archive_core.specs.Writing.{Fresh, Resolves, Writes};
 ghost use Rattle.archive_write.specs.Sharing.{KeepsKnown, IsNoMisuse};
-ghost use Rattle.archive_write.specs.Written.{IsBeginning};
 
 use crate::place::Place;
 use crate::traits::{Archive, Deserialize, Entries, Keys, Portable, Serialize};
@@ -118,7 +117,6 @@ impl<N: Source, S: Writer + Keys> Serialize<S> for N {
         ensures answered { ⊤ }
         ensures planned { OnOk result (IsAt (stand (S.told _serializer.old) (S.state_of _serializer.old)) (S.told _serializer.new) (S.state_of _serializer.new)) }
         ensures goes_on { GoesOn (S.told _serializer.old) (S.told _serializer.new) }
-        ensures kept { IsBeginning (S.told _serializer.old).bytes (S.told _serializer.new).bytes }
         ensures known { KeepsKnown (S.state_of _serializer.old) (S.state_of _serializer.new) }
         ensures no_misuse { IfErr result IsNoMisuse }
         ensures refused { IfErr result (Explains (λ _. ⊥) (length (S.told _serializer.old).bytes) (S.told _serializer.old) (S.told _serializer.new)) }
@@ -183,7 +181,6 @@ impl<N: Native, S: Writer + Keys> Serialize<S> for LittleEndian<N> {
         ensures answered { ⊤ }
         ensures planned { OnOk result (IsAt (stand (S.told _serializer.old) (S.state_of _serializer.old)) (S.told _serializer.new) (S.state_of _serializer.new)) }
         ensures goes_on { GoesOn (S.told _serializer.old) (S.told _serializer.new) }
-        ensures kept { IsBeginning (S.told _serializer.old).bytes (S.told _serializer.new).bytes }
         ensures known { KeepsKnown (S.state_of _serializer.old) (S.state_of _serializer.new) }
         ensures no_misuse { IfErr result IsNoMisuse }
         ensures refused { IfErr result (Explains (λ _. ⊥) (length (S.told _serializer.old).bytes) (S.told _serializer.old) (S.told _serializer.new)) }

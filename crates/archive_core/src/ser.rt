@@ -7,7 +7,6 @@ ghost use Rattle.archive_check.specs.Told.{KeepsKeys};
 ghost use Rattle.archive_core.specs.Plans.{stand, IsAt, GoesOn, Explains, HindersRegion, ExplainsWhole, region_place, one_plan, IsOfWriting};
 ghost use Rattle.archive_core.specs.Writing.{Fresh, Resolves, Puts, LaysOut};
 ghost use Rattle.archive_write.specs.Sharing.{KeepsKnown};
-ghost use Rattle.archive_write.specs.Written.{IsBeginning};
 
 use crate::place::Place;
 use crate::traits::{Archive, Keys, Portable, Serialize};
@@ -81,7 +80,6 @@ pub trait ResolveExt: Writer {
             (length (Self.told self.old).bytes + T.Archived.layout.size) (Self.told self.old) (Self.told self.new)) }
         ensures goes_on { GoesOn (Self.told self.old) (Self.told self.new) }
         ensures sized { OnOk result (length (Self.told self.new).bytes ≡ length (Self.told self.old).bytes + T.Archived.layout.size) }
-        ensures kept { IsBeginning (Self.told self.old).bytes (Self.told self.new).bytes }
         ensures keys { KeepsKeys (Self.state_of self.old) (Self.state_of self.new) }
     {
         let size = T::Archived::size();

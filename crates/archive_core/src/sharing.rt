@@ -6,7 +6,6 @@ ghost use Rattle.archive_check.specs.Told.{KeepsKeys};
 ghost use Rattle.archive_core.specs.Plans.{stand, begun, ended, IsAt, GoesOn, Explains, HindersShared, IsOfWriting};
 ghost use Rattle.archive_core.specs.Writing.{LaysOutShared};
 ghost use Rattle.archive_write.specs.Sharing.{KeepsKnown, IsNoMisuse, known_answer};
-ghost use Rattle.archive_write.specs.Written.{IsBeginning};
 
 use crate::traits::SerializeUnsized;
 use archive_check::error::Error;
@@ -38,7 +37,6 @@ pub trait SharingExt: Sharing + Writer {
             (T.plan value.now (begun (stand (Self.told self.old) (Self.state_of self.old)) key)).place (Self.told self.old) (Self.told self.new)) }
         ensures finished { IfOk result (λ p. Self.state_of self.new key ≡ Some (Some p)) }
         ensures unfinished { OnErr result ((Self.state_of self.new key ≡ None) ⊎ (Self.state_of self.new key ≡ Some None)) }
-        ensures kept { IsBeginning (Self.told self.old).bytes (Self.told self.new).bytes }
         ensures keys { KeepsKnown (Self.state_of self.old) (Self.state_of self.new) }
         ensures named { IfErr result IsOfWriting }
         ensures no_misuse { IfErr result IsNoMisuse }

@@ -1,6 +1,6 @@
 //! Strings and texts.
 
-ghost use Rattle.std.specs.Prelude.{◌≡◌, ◌⊎◌, ◌++◌, ◌<◌, ◌≤◌, ℕ, [], OnOk, IfOk, IfErr, IsOk, IsErrOf, FitsSigned, length, refl, string_bytes};
+ghost use Rattle.std.specs.Prelude.{◌≡◌, ◌++◌, ◌<◌, ◌≤◌, ℕ, [], OnOk, IfOk, IfErr, IsOk, IsErrOf, FitsSigned, length, refl, string_bytes};
 ghost use Rattle.std.specs.Int.{w32};
 ghost use Rattle.std.proofs.Common.{inl, inr};
 ghost use Rattle.archive_check.specs.Shape.{str as str_shape, one, text};
@@ -14,7 +14,6 @@ ghost use Rattle.archive_check.specs.WriterState.{writer_state};
 ghost use Rattle.archive_check.specs.declared.error.Error.TheVariants.{OutOfMemory, LengthTooLarge, StringTooLong};
 ghost use Rattle.archive_check.specs.Told.{KeepsKeys};
 ghost use Rattle.archive_write.specs.Sharing.{KeepsKnown, IsNoMisuse};
-ghost use Rattle.archive_write.specs.Written.{IsBeginning};
 ghost use Rattle.archive_core.specs.Keyed.{text_keyed, text_forward, string_forward};
 ghost use Rattle.archive_core.specs.Named.{text_named, string_named, string_at_named};
 ghost use Rattle.archive_core.specs.Offsets.{distance, IsTooFar};
@@ -170,7 +169,6 @@ impl<'a, S: Writer + Keys> SerializeUnsized<S> for Text<'a> {
         ensures planned { OnOk result (IsAt (text_plan self.now.text.now (stand (S.told serializer.old) (S.state_of serializer.old))) (S.told serializer.new) (S.state_of serializer.new)) }
         ensures goes_on { GoesOn (S.told serializer.old) (S.told serializer.new) }
         ensures text { OnOk result ((S.told serializer.new).bytes ≡ (S.told serializer.old).bytes ++ self.now.text.now) }
-        ensures kept { IsBeginning (S.told serializer.old).bytes (S.told serializer.new).bytes }
         ensures known { KeepsKnown (S.state_of serializer.old) (S.state_of serializer.new) }
         ensures no_misuse { IfErr result IsNoMisuse }
         ensures refused { IfErr result (Explains (HindersText self.now.text.now) (text_plan self.now.text.now (stand (S.told serializer.old) (S.state_of serializer.old))).place (S.told serializer.old) (S.told serializer.new)) }
@@ -222,7 +220,6 @@ impl ArchivedString {
         ensures answered { IfOk result (λ r. StringAnswers value.now (stand (S.told serializer.old) (S.state_of serializer.old)) r) }
         ensures planned { OnOk result (IsAt (string_plan value.now (stand (S.told serializer.old) (S.state_of serializer.old))) (S.told serializer.new) (S.state_of serializer.new)) }
         ensures goes_on { GoesOn (S.told serializer.old) (S.told serializer.new) }
-        ensures kept { IsBeginning (S.told serializer.old).bytes (S.told serializer.new).bytes }
         ensures keys { KeepsKeys (S.state_of serializer.old) (S.state_of serializer.new) }
         ensures hindered { IfErr result (Explains (HindersString value.now (length (S.told serializer.old).bytes)) (string_plan value.now (stand (S.told serializer.old) (S.state_of serializer.old))).place (S.told serializer.old) (S.told serializer.new)) }
         ensures refused { IfErr result (ExplainsStringRefusal value.now (S.place serializer.old) (S.told serializer.old) (S.told serializer.new)) }
@@ -319,7 +316,6 @@ impl<S: Writer + Keys> Serialize<S> for String {
         ensures answered { IfOk result (λ r. StringAnswers (string_bytes self.now) (stand (S.told serializer.old) (S.state_of serializer.old)) r) }
         ensures planned { OnOk result (IsAt (string_plan (string_bytes self.now) (stand (S.told serializer.old) (S.state_of serializer.old))) (S.told serializer.new) (S.state_of serializer.new)) }
         ensures goes_on { GoesOn (S.told serializer.old) (S.told serializer.new) }
-        ensures kept { IsBeginning (S.told serializer.old).bytes (S.told serializer.new).bytes }
         ensures known { KeepsKnown (S.state_of serializer.old) (S.state_of serializer.new) }
         ensures no_misuse { IfErr result IsNoMisuse }
         ensures refused { IfErr result (Explains (HindersString (string_bytes self.now) (length (S.told serializer.old).bytes)) (string_plan (string_bytes self.now) (stand (S.told serializer.old) (S.state_of serializer.old))).place (S.told serializer.old) (S.told serializer.new)) }

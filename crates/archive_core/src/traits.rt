@@ -10,7 +10,6 @@ ghost use Rattle.archive_check.specs.declared.error.Error.{Error as ErrorOf};
 ghost use Rattle.archive_core.specs.Plans.{Stand, stand, IsAt, GoesOn, Explains, IsOwnCause};
 ghost use Rattle.archive_core.specs.Writing.{Naming, IsKeyed, Fresh, Resolves, Writes, LaysOut};
 ghost use Rattle.archive_write.specs.Sharing.{KeepsKnown, IsNoMisuse};
-ghost use Rattle.archive_write.specs.Written.{IsBeginning};
 
 use crate::place::Place;
 use crate::view::{Part, Ref};
@@ -96,7 +95,6 @@ pub trait Serialize<S: Writer + Keys>: Archive {
         ensures answered { IfOk result (λ r. Self.answers self.now (stand (S.told serializer.old) (S.state_of serializer.old)) r) }
         ensures planned { OnOk result (IsAt (Self.plan self.now (stand (S.told serializer.old) (S.state_of serializer.old))) (S.told serializer.new) (S.state_of serializer.new)) }
         ensures goes_on { GoesOn (S.told serializer.old) (S.told serializer.new) }
-        ensures kept { IsBeginning (S.told serializer.old).bytes (S.told serializer.new).bytes }
         ensures known { KeepsKnown (S.state_of serializer.old) (S.state_of serializer.new) }
         ensures no_misuse { IfErr result IsNoMisuse }
         ensures refused { IfErr result (Explains (Self.hinders self.now (stand (S.told serializer.old) (S.state_of serializer.old)))
@@ -179,7 +177,6 @@ pub trait SerializeUnsized<S: Writer + Keys>: ArchiveUnsized {
         ensures there { IfOk result (λ p. p ≡ Self.planned_at self.now (stand (S.told serializer.old) (S.state_of serializer.old))) }
         ensures planned { OnOk result (IsAt (Self.plan self.now (stand (S.told serializer.old) (S.state_of serializer.old))) (S.told serializer.new) (S.state_of serializer.new)) }
         ensures goes_on { GoesOn (S.told serializer.old) (S.told serializer.new) }
-        ensures kept { IsBeginning (S.told serializer.old).bytes (S.told serializer.new).bytes }
         ensures known { KeepsKnown (S.state_of serializer.old) (S.state_of serializer.new) }
         ensures no_misuse { IfErr result IsNoMisuse }
         ensures refused { IfErr result (Explains (Self.hinders self.now (stand (S.told serializer.old) (S.state_of serializer.old)))

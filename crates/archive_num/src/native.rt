@@ -1,6 +1,6 @@
 //! Values of the machine, and the leaves that they are archived as.
 
-ghost use Rattle.std.specs.Prelude.{◌≡◌, ℕ, ℤ, pos, List, length};
+ghost use Rattle.std.specs.Prelude.{◌≡◌, ℕ, ℤ, List, length};
 ghost use Rattle.std.specs.Int.{Width};
 ghost use Rattle.archive_check.specs.Shape.{Kind as KindOf, Sign, number};
 ghost use Rattle.archive_check.specs.Layout.{kind_size};

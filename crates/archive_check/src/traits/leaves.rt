@@ -1,6 +1,6 @@
 // The types of the machine that lie in an archive as they are: no value here has more than one byte.
 
-ghost use Rattle.std.specs.Prelude.{◌≡◌, refl};
+ghost use Rattle.std.specs.Prelude.{refl};
 ghost use Rattle.std.specs.Int.{w8};
 ghost use Rattle.archive_check.specs.Shape.{one, leaf, unit, bool, number, unsigned, signed};
 ghost use Rattle.archive_check.specs.Definitions.{no_definition};

@@ -13,7 +13,6 @@ ghost use Rattle.archive_core.specs.Keyed.{stays, number_keyed};
 ghost use Rattle.archive_core.specs.Plans.{stand, IsAt, GoesOn, Explains};
 ghost use Rattle.archive_core.specs.Writing.{Fresh, Resolves, Writes};
 ghost use Rattle.archive_write.specs.Sharing.{KeepsKnown, IsNoMisuse};
-ghost use Rattle.archive_write.specs.Written.{IsBeginning};
 
 use super::write_leaf;
 use crate::place::Place;
@@ -80,7 +79,6 @@ impl<N: Integer, S: Writer + Keys> Serialize<S> for NonZero<N> {
         ensures known { KeepsKnown (S.state_of _serializer.old) (S.state_of _serializer.new) }
         ensures no_misuse { IfErr result IsNoMisuse }
         ensures refused { IfErr result (Explains (λ _. ⊥) (length (S.told _serializer.old).bytes) (S.told _serializer.old) (S.told _serializer.new)) }
-        ensures kept { IsBeginning (S.told _serializer.old).bytes (S.told _serializer.new).bytes }
         ensures unchanged { S.told _serializer.new ≡ S.told _serializer.old }
         ensures keys { KeepsKeys (S.state_of _serializer.old) (S.state_of _serializer.new) }
         ensures succeeds { IsOk result }

@@ -17,7 +17,6 @@ ghost use Rattle.archive_core.specs.Named.{too_large_named};
 ghost use Rattle.archive_core.specs.Plans.{stand, IsAt, GoesOn, Explains};
 ghost use Rattle.archive_core.specs.Writing.{Fresh, Resolves, Writes};
 ghost use Rattle.archive_write.specs.Sharing.{KeepsKnown, IsNoMisuse};
-ghost use Rattle.archive_write.specs.Written.{IsBeginning};
 
 use crate::place::Place;
 use crate::traits::{Archive, Deserialize, Entries, Keys, Serialize};
@@ -85,7 +84,6 @@ impl<S: Writer + Keys> Serialize<S> for usize {
         ensures refused { IfErr result (Explains (λ e. (e ≡ NumberTooLarge) × (self.now < 2 ^ 32 → ⊥)) (length (S.told _serializer.old).bytes) (S.told _serializer.old) (S.told _serializer.new)) }
         ensures known { KeepsKnown (S.state_of _serializer.old) (S.state_of _serializer.new) }
         ensures no_misuse { IfErr result IsNoMisuse }
-        ensures kept { IsBeginning (S.told _serializer.old).bytes (S.told _serializer.new).bytes }
         ensures unchanged { S.told _serializer.new ≡ S.told _serializer.old }
         ensures keys { KeepsKeys (S.state_of _serializer.old) (S.state_of _serializer.new) }
     {
@@ -171,7 +169,6 @@ impl<S: Writer + Keys> Serialize<S> for isize {
         ensures refused { IfErr result (Explains (λ e. (e ≡ NumberTooLarge) × (FitsSigned w32 self.now → ⊥)) (length (S.told _serializer.old).bytes) (S.told _serializer.old) (S.told _serializer.new)) }
         ensures known { KeepsKnown (S.state_of _serializer.old) (S.state_of _serializer.new) }
         ensures no_misuse { IfErr result IsNoMisuse }
-        ensures kept { IsBeginning (S.told _serializer.old).bytes (S.told _serializer.new).bytes }
         ensures unchanged { S.told _serializer.new ≡ S.told _serializer.old }
         ensures keys { KeepsKeys (S.state_of _serializer.old) (S.state_of _serializer.new) }
     {

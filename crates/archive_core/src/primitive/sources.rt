@@ -1,6 +1,6 @@
 // The sources that are archived as the bytes that stand for them.
 
-ghost use Rattle.std.specs.Prelude.{◌≡◌, refl};
+ghost use Rattle.std.specs.Prelude.{refl};
 
 use super::{Plain, Source};
 use archive_num::{

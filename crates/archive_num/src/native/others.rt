@@ -1,6 +1,6 @@
 // Nothing, a bool and a char as archives hold them.
 
-ghost use Rattle.std.specs.Prelude.{◌≡◌, ◌<◌, ◌==◌, ℕ, List, [], ◌∷◌, length, ⊤, pos, slice_index, refl};
+ghost use Rattle.std.specs.Prelude.{◌<◌, ◌==◌, [], ◌∷◌, length, ⊤, pos, slice_index, refl};
 ghost use Rattle.std.specs.Char.{IsScalar};
 ghost use Rattle.archive_check.specs.Shape.{unit, bool, char};
 ghost use Rattle.archive_check.specs.LittleEndian.{little_bytes, little_number};

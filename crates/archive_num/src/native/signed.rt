@@ -1,6 +1,6 @@
 // Numbers with a sign as archives hold them, the lowest byte first, in two's complement.
 
-ghost use Rattle.std.specs.Prelude.{◌≡◌, ℕ, List, length, ⊤, pos, refl};
+ghost use Rattle.std.specs.Prelude.{length, ⊤, refl};
 ghost use Rattle.std.specs.Int.{w8, w16, w32, w64, w128, cast_signed, cast_unsigned};
 ghost use Rattle.std.specs.Int.RustNames.{FitsSigned};
 ghost use Rattle.archive_check.specs.Shape.{number, signed};

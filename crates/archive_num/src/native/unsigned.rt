@@ -1,6 +1,6 @@
 // Numbers without a sign as archives hold them, the lowest byte first.
 
-ghost use Rattle.std.specs.Prelude.{◌≡◌, ◌^◌, ◌<◌, ℕ, List, length, ⊤, pos, refl};
+ghost use Rattle.std.specs.Prelude.{◌^◌, ◌<◌, length, ⊤, pos, refl};
 ghost use Rattle.std.specs.Int.{w8, w16, w32, w64, w128};
 ghost use Rattle.archive_check.specs.Shape.{number, unsigned};
 ghost use Rattle.archive_check.specs.LittleEndian.{little_bytes, little_number};

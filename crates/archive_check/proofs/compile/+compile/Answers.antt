@@ -36,11 +36,11 @@ compile-compile_box-requires t c = can_boxed (can_as (ap shape_of c.in-Box.is �
 pub compile-compile_vec-requires : goal.compile-compile_vec-requires
 compile-compile_vec-requires t c = can_vec (can_as (ap shape_of c.in-Vec.is ∙ ap (λ y. vec (shape_of y)) (sym c.deref-in-Vec.ensures)) c.requires.can)
 
-pub compile-compile_shared-requires : goal.compile-compile_shared-requires
-compile-compile_shared-requires t c = can_shared (can_as (ap shape_of c.in-Shared.is ∙ ap (λ y. shared (flavor_of c.in-Shared.flavor) (pointee_of y)) (sym c.deref-in-Shared.ensures)) c.requires.can)
+pub compile-compile_counted-requires : goal.compile-compile_counted-requires
+compile-compile_counted-requires t c = can_shared (can_as (ap shape_of c.in-Shared.is ∙ ap (λ y. shared (flavor_of c.in-Shared.flavor) (pointee_of y)) (sym c.deref-in-Shared.ensures)) c.requires.can)
 
-pub compile-compile_weak-requires : goal.compile-compile_weak-requires
-compile-compile_weak-requires t c = can_weak (can_as (ap shape_of c.in-Weak.is ∙ ap (λ y. weak (flavor_of c.in-Weak.flavor) (pointee_of y)) (sym c.deref-in-Weak.ensures)) c.requires.can)
+pub compile-compile_counted-requires-in-Weak : goal.compile-compile_counted-requires-in-Weak
+compile-compile_counted-requires-in-Weak t c = can_weak (can_as (ap shape_of c.in-Weak.is ∙ ap (λ y. weak (flavor_of c.in-Weak.flavor) (pointee_of y)) (sym c.deref-in-Weak.ensures)) c.requires.can)
 
 pub compile-known_node-requires : goal.compile-known_node-requires
 compile-known_node-requires t c = can_name (can_as (ap shape_of c.in-Named.is) c.requires.can)

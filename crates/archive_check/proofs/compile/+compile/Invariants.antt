@@ -26,7 +26,7 @@ abbrev pub decreases-compile_variants : goal.decreases-compile_variants
 decreases-compile_variants l = 2 * measure_of_variants (variants_in l.variants.now)
 
 abbrev pub invariant-compile_parts-loop-i : goal.invariant-compile_parts-loop-i
-invariant-compile_parts-loop-i l = RowIs l.names l.done l.start (shapes_in l.parts) (shapes_in (drop l.i l.parts)) (waits_of l.fn.queue) (waits_of l.queue) (lists_of l.fn.plan) (lists_of l.plan) l.row.parts.items l.row.extent.end l.row.extent.align l.row.free
+invariant-compile_parts-loop-i l = RowIs l.scope.names.now l.scope.done l.start (shapes_in l.parts) (shapes_in (drop l.i l.parts)) (waits_of l.fn.queue) (waits_of l.queue) (lists_of l.fn.plan) (lists_of l.plan) l.row.parts.items l.row.extent.end l.row.extent.align l.row.free
 
 abbrev pub invariant-compile_variants-loop-i : goal.invariant-compile_variants-loop-i
-invariant-compile_variants-loop-i l = SpansAre l.names l.done (variants_in l.variants) (variants_in (drop l.i l.variants)) (waits_of l.fn.queue) (waits_of l.queue) (lists_of l.fn.plan) (lists_of l.plan) l.spans.items.items l.spans.extent.end l.spans.extent.align
+invariant-compile_variants-loop-i l = SpansAre l.scope.names.now l.scope.done (variants_in l.variants) (variants_in (drop l.i l.variants)) (waits_of l.fn.queue) (waits_of l.queue) (lists_of l.fn.plan) (lists_of l.plan) l.spans.items.items l.spans.extent.end l.spans.extent.align

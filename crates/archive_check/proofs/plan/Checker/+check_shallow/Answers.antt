@@ -18,7 +18,7 @@ use Rattle.archive_check.proofs.Elements.{at_default}
 use Rattle.archive_check.proofs.TurnInvariants.{node_fits, none_map, if_none, rank_from}
 use Rattle.archive_check.proofs.PassedElements.{takes_size, element_fits}
 use Rattle.archive_check.proofs.PassedParts.{part_fits}
-use Rattle.archive_check.proofs.AtOnce.{part_marked, variant_shallow, part_below, parts_here, elements_here, through_by, stops_by, through_stays, towards_passed, towards_element, element_stops, elements_over, towards_part, part_stops, parts_over}
+use Rattle.archive_check.proofs.AtOnce.{part_marked, variant_shallow, part_below, parts_here, elements_here, through_by, stops_by, towards_passed, towards_element, element_stops, elements_over, towards_part, part_stops, parts_over}
 use Rattle.archive_check.proofs.plan.Checker.+check_shallow.Goals as goal
 
 pub check_shallow-illegal-requires : goal.check_shallow-illegal-requires
