@@ -6,21 +6,21 @@ use Rattle.archive_check.specs.declared.plan.Job.{Job}
 use Rattle.archive_check.specs.declared.plan.Job.TheVariants.{Free}
 use Rattle.archive_check.specs.declared.plan.Node.{Node}
 use Rattle.archive_check.specs.declared.plan.Checker.{Checker}
-use Rattle.archive_check.specs.declared.growing.Known.{Known}
+use Rattle.archive_check.specs.declared.growing.NamedNode.{NamedNode}
 use Rattle.archive_check.specs.Shape.{Shape}
 use Rattle.archive_check.specs.Layout.{Layouts, size_of, align_of}
 use Rattle.archive_check.specs.Reads.{Schema}
 use Rattle.archive_check.specs.Runs.{IsAt}
-use Rattle.archive_check.specs.Closed.{JobFits}
+use Rattle.archive_check.specs.SoundPlans.{JobFits}
 use Rattle.archive_check.specs.Represents.{StandsFor, stands, Made}
 use Rattle.archive_check.specs.BoundedSizes.{fits}
 use Rattle.archive_check.specs.PlanGrowth.{PlanLists, Goes, Grows, IsPushed, nothing_to_check, IsMade}
-use Rattle.archive_check.specs.Compiled.{Follows, Below, NamesSized, ClosedTo, Settled, Given, MadeTo, Adds, Compiled}
+use Rattle.archive_check.specs.Compiled.{Follows, Below, NamesSized, SoundTo, Settled, Given, MadeTo, Adds, Compiled}
 use Rattle.archive_check.specs.NodeCounts.{count_of}
 use Rattle.archive_check.specs.Measure.{measure_of}
 use Rattle.archive_check.specs.Compilable.{Can, AllKnown}
 use Rattle.archive_check.specs.CompileQueue.{Wait, Waits, measure_of_waits}
-use Rattle.archive_check.proofs.Fitting.{some_is}
+use Rattle.archive_check.proofs.BoundedSizes.{some_is}
 use Rattle.archive_check.proofs.GrowingPlans.{at_more, goes_refl, goes_trans, grows_refl, grows_trans, pushed_grows, pushed_count, pushed_at, pushed_is}
 use Rattle.archive_check.proofs.Elements.{at_behind, at_end, same_at}
 
@@ -34,11 +34,11 @@ given_second {shapes} {from} {ys} xs to e g = record { are = λ k X h. let i : t
 pub given_last : {shapes : ℕ → Shape} {from : ℕ} {X : Shape} (xs : List Shape) (j : ℕ) → j ≡ from + length xs → Given shapes from (xs ++ X ∷ []) → shapes j ≡ X
 given_last {shapes} {from} {X} xs j e g = ap shapes e ∙ g.are (length xs) X (at_end xs X)
 
-pub knows_settled : {names : List Known} {ws : List Wait} {s : Schema} {shapes : ℕ → Shape} {m : Checker} (done : ℕ) → Settled names ws s shapes m → NamesSized names s.layouts done m
+pub knows_settled : {names : List NamedNode} {ws : List Wait} {s : Schema} {shapes : ℕ → Shape} {m : Checker} (done : ℕ) → Settled names ws s shapes m → NamesSized names s.layouts done m
 knows_settled done t name j e h = t.sized name j e
 
 -- fewer wait
-pub settled_less : {names : List Known} {us ws : List Wait} {s : Schema} {shapes : ℕ → Shape} {m : Checker} → Goes ws us → Settled names us s shapes m → Settled names ws s shapes m
+pub settled_less : {names : List NamedNode} {us ws : List Wait} {s : Schema} {shapes : ℕ → Shape} {m : Checker} → Goes ws us → Settled names us s shapes m → Settled names ws s shapes m
 settled_less g t = record {
   laid_out = t.laid_out;
   waits_sized = λ k x at. t.waits_sized k x (at_more g at);
@@ -47,30 +47,30 @@ settled_less g t = record {
   stand = t.stand;
 }
 
-below_less : {names : List Known} {us ws : List Wait} {m : Checker} → Goes ws us → Below names us m → Below names ws m
+below_less : {names : List NamedNode} {us ws : List Wait} {m : Checker} → Goes ws us → Below names us m → Below names ws m
 below_less g t = record { names_below = t.names_below; waits_below = λ k x at. t.waits_below k x (at_more g at) }
 
-pub adds_refl : (names : List Known) (v : Waits) (a : PlanLists) → Adds names [] v v a a
-adds_refl names v a = record { grows = grows_refl a; waits_go = goes_refl v.items; reserved = λ base r. r; count = omega arith; closed = λ m g w c. c; made = λ s shapes m g t given h. h }
+pub adds_refl : (names : List NamedNode) (v : Waits) (a : PlanLists) → Adds names [] v v a a
+adds_refl names v a = record { grows = grows_refl a; waits_go = goes_refl v.items; reserved = λ base r. r; count = omega arith; sound = λ m g w c. c; made = λ s shapes m g t given h. h }
 
-pub adds_trans : {names : List Known} {g h : List Shape} {v w u : Waits} {a b c : PlanLists} → Adds names g v w a b → Adds names h w u b c → Adds names (g ++ h) v u a c
+pub adds_trans : {names : List NamedNode} {g h : List Shape} {v w u : Waits} {a b c : PlanLists} → Adds names g v w a b → Adds names h w u b c → Adds names (g ++ h) v u a c
 adds_trans {g = g} {h = h} f k = record {
   grows = grows_trans f.grows k.grows;
   waits_go = goes_trans f.waits_go k.waits_go;
   reserved = λ base r. k.reserved base (f.reserved base r);
   count = omega (arith, f.count, k.count, length-append g h);
-  closed = λ m r w c. k.closed m r w (f.closed m (grows_trans k.grows r) (below_less k.waits_go w) c);
+  sound = λ m r w c. k.sound m r w (f.sound m (grows_trans k.grows r) (below_less k.waits_go w) c);
   made = λ s shapes m r t given c. k.made s shapes m r t (given_second g _ f.count given) (f.made s shapes m (grows_trans k.grows r) (settled_less k.waits_go t) (given_first h given) c);
 }
 
 -- no node more
-pub adds_same : {names : List Known} {g : List Shape} {v w : Waits} {a b c : PlanLists} → Adds names g v w a b → Grows b c → c.nodes ≡ b.nodes → Adds names g v w a c
+pub adds_same : {names : List NamedNode} {g : List Shape} {v w : Waits} {a b c : PlanLists} → Adds names g v w a b → Grows b c → c.nodes ≡ b.nodes → Adds names g v w a c
 adds_same f r e = record {
   grows = grows_trans f.grows r;
   waits_go = f.waits_go;
   reserved = f.reserved;
   count = ap length e ∙ f.count;
-  closed = λ m k w c. subst (λ xs. ClosedTo m (length xs)) (sym e) (f.closed m (grows_trans r k) w c);
+  sound = λ m k w c. subst (λ xs. SoundTo m (length xs)) (sym e) (f.sound m (grows_trans r k) w c);
   made = λ s shapes m k t given c. subst (λ xs. MadeTo s shapes m (length xs)) (sym e) (f.made s shapes m (grows_trans r k) t given c);
 }
 
@@ -82,8 +82,8 @@ module _ {b c : PlanLists} {size : Option ℕ} {align j : ℕ} {job : Job} (p : 
       let here : IsAt m.nodes.now j node = subst (λ k. IsAt m.nodes.now k node) (e ∙ sym p.is) at in
       (e, same_at here (at_more g.nodes (pushed_at p)))
 
-  push_closed : ((z : ℕ) → size ≡ Some z → JobFits m (length b.nodes) z job) → ClosedTo m (length b.nodes) → ClosedTo m (length c.nodes)
-  push_closed f k = record {
+  push_sound : ((z : ℕ) → size ≡ Some z → JobFits m (length b.nodes) z job) → SoundTo m (length b.nodes) → SoundTo m (length c.nodes)
+  push_sound f k = record {
     fits = λ i node z lt at e. ⊎_elim
         (λ h. k.fits i node z h at e)
         (λ h. let q = new_node i node lt h at in
@@ -109,19 +109,19 @@ module _ {b c : PlanLists} {size : Option ℕ} {align j : ℕ} {job : Job} (p : 
         (cases_lt i (length b.nodes));
   }
 
-module _ {names : List Known} {gives : List Shape} {v w : Waits} {a b c : PlanLists} (f : Adds names gives v w a b) where
+module _ {names : List NamedNode} {gives : List Shape} {v w : Waits} {a b c : PlanLists} (f : Adds names gives v w a b) where
   pub adds_push : {size : Option ℕ} {align j : ℕ} {job : Job} (X : Shape) → IsPushed b c size align job j
       → ((m : Checker) → Follows c m → Below names w.items m → (z : ℕ) → size ≡ Some z → JobFits m (length b.nodes) z job)
       → ((s : Schema) (shapes : ℕ → Shape) (m : Checker) → Follows c m → Settled names w.items s shapes m → size ≡ fits (size_of s.layouts X))
       → ((s : Schema) (shapes : ℕ → Shape) (m : Checker) → Follows c m → Settled names w.items s shapes m → Given shapes (length a.nodes) gives → MadeTo s shapes m (length b.nodes) → (z : ℕ) → size ≡ Some z → Made s shapes m job X)
       → (size ≡ Some 0 → job ≡ Free)
       → Adds names (gives ++ X ∷ []) v w a c
-  adds_push X p closed lay make empty = record {
+  adds_push X p sound lay make empty = record {
     grows = grows_trans f.grows (pushed_grows p);
     waits_go = f.waits_go;
     reserved = f.reserved;
     count = omega (arith, f.count, pushed_count p, length-append gives (X ∷ []));
-    closed = λ m g w k. push_closed p m g (closed m g w) (f.closed m (grows_trans (pushed_grows p) g) w k);
+    sound = λ m g w k. push_sound p m g (sound m g w) (f.sound m (grows_trans (pushed_grows p) g) w k);
     made = λ s shapes m g t given k.
         let first = given_first (X ∷ []) given in
         let old = f.made s shapes m (grows_trans (pushed_grows p) g) t first k in
@@ -135,12 +135,12 @@ module _ {names : List Known} {gives : List Shape} {v w : Waits} {a b c : PlanLi
       → ((s : Schema) (shapes : ℕ → Shape) (m : Checker) → Follows c m → Settled names w.items s shapes m → Given shapes (length a.nodes) gives → MadeTo s shapes m (length b.nodes) → (z : ℕ) → size ≡ Some z → Made s shapes m job X)
       → (size ≡ Some 0 → job ≡ Free)
       → Compiled names done X v w a c j
-  compiled_push {done = done} {j = j} X p count few known lay closed make empty =
+  compiled_push {done = done} {j = j} X p count few known lay sound make empty =
       let last : j ≡ length a.nodes + length gives = omega (arith, p.is, f.count) in
       record {
         gives = gives ++ X ∷ [];
         gives_count = length-append gives (X ∷ []) ∙ count;
-        adds = adds_push X p closed (λ s shapes m g t. (lay m s.layouts g (knows_settled done t)).0) make empty;
+        adds = adds_push X p sound (λ s shapes m g t. (lay m s.layouts g (knows_settled done t)).0) make empty;
         waits_few = few;
         known = known;
         below = omega (arith, pushed_is p);
@@ -167,7 +167,7 @@ pub some_positive : {size : Option ℕ} (z : ℕ) → size ≡ Some z → size �
 some_positive zero e n = absurd (n e)
 some_positive (suc z) e n = omega arith
 
-module _ {names : List Known} {gives : List Shape} {v w : Waits} {a b c : PlanLists} (f : Adds names gives v w a b) where
+module _ {names : List NamedNode} {gives : List Shape} {v w : Waits} {a b c : PlanLists} (f : Adds names gives v w a b) where
   pub compiled_made : {done : ℕ} {size : Option ℕ} {align j : ℕ} {free : Bool} {job : Job} (X : Shape) → IsMade b c size align free job j → length gives + 1 ≡ count_of X → measure_of_waits w.items ≤ measure_of_waits v.items + measure_of X
       → (AllKnown names v.items → Can names done X → AllKnown names w.items)
       → ((m : Checker) (l : Layouts) → Follows c m → NamesSized names l done m → (size ≡ fits (size_of l X)) × (align ≡ align_of l X))
@@ -175,15 +175,15 @@ module _ {names : List Known} {gives : List Shape} {v w : Waits} {a b c : PlanLi
       → ((s : Schema) (shapes : ℕ → Shape) (m : Checker) → Follows c m → Settled names w.items s shapes m → Given shapes (length a.nodes) gives → MadeTo s shapes m (length b.nodes) → (z : ℕ) → size ≡ Some z → (free ≡ true) ⊎ (z ≡ 0) → Made s shapes m Free X)
       → ((s : Schema) (shapes : ℕ → Shape) (m : Checker) → Follows c m → Settled names w.items s shapes m → Given shapes (length a.nodes) gives → (z : ℕ) → size ≡ Some z → 0 < z → Made s shapes m job X)
       → Compiled names done X v w a c j
-  compiled_made {size = size} {free = free} {job = job} X p count few known lay closed make_free make = compiled_push f X p.pushed count few known lay
-      (λ m g w z e. made_job free size job p.made p.made_is (λ q. JobFits m (length b.nodes) z q) (λ h. tt) (λ n. closed m g w z e (some_positive z e n)))
+  compiled_made {size = size} {free = free} {job = job} X p count few known lay sound make_free make = compiled_push f X p.pushed count few known lay
+      (λ m g w z e. made_job free size job p.made p.made_is (λ q. JobFits m (length b.nodes) z q) (λ h. tt) (λ n. sound m g w z e (some_positive z e n)))
       (λ s shapes m g t given k z e. made_job free size job p.made p.made_is (λ q. Made s shapes m q X)
       (λ h. make_free s shapes m g t given k z e (⊎_elim (λ y. inl y) (λ y. inr (y z e)) h))
       (λ n. make s shapes m g t given z e (some_positive z e n)))
       (λ e. made_job free size job p.made p.made_is (λ q. q ≡ Free) (λ h. refl) (λ n. absurd (n e)))
 
 -- an expression's node stands for it
-pub stands_of : {names : List Known} {done : ℕ} {X : Shape} {v w : Waits} {a b : PlanLists} {j : ℕ} {s : Schema} {shapes : ℕ → Shape} {m : Checker}
+pub stands_of : {names : List NamedNode} {done : ℕ} {X : Shape} {v w : Waits} {a b : PlanLists} {j : ℕ} {s : Schema} {shapes : ℕ → Shape} {m : Checker}
     → (c : Compiled names done X v w a b j) → Settled names w.items s shapes m → Given shapes (length a.nodes) c.gives → StandsFor s shapes X j
 stands_of {j = j} {s = s} {shapes = shapes} c t given = ⊎_elim
     (λ h. subst (λ Y. StandsFor s shapes Y j) (sym h.1) (t.stand h.0 j h.2))

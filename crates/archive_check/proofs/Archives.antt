@@ -13,13 +13,13 @@ use Rattle.archive_check.specs.Defined.{Reaches, WellFormed}
 use Rattle.archive_check.specs.Definitions.{Definitions, no_definition, defines, both, listed, Has, Knows}
 use Rattle.archive_check.specs.Trail.{RootTrips}
 use Rattle.archive_check.specs.Ranges.{RangeState, whole}
-use Rattle.archive_check.specs.Met.{Positions, nothing_met}
+use Rattle.archive_check.specs.PositionStates.{Positions, nothing_met}
 use Rattle.archive_check.specs.Fresh.{IsWhole}
 use Rattle.archive_check.specs.Schemas.{Suits, Accepts, Refuses, IsSchemaOf}
 use Rattle.archive_check.specs.Pooled.{Entries}
 use Rattle.archive_check.specs.Entries.{NoEntries, AreNamedByPosition}
 use Rattle.archive_check.specs.Viewed.{Viewed, Says}
-use Rattle.archive_check.specs.Archives.{IsArchiveWithin, IsArchive, IsValueOf, IsFaulty, IsRefusal, IsNoArchive}
+use Rattle.archive_check.specs.Archives.{IsArchiveWithin, IsArchive, IsValueOf, IsFaulty, IsRefusal, ExplainsNoArchive}
 use Rattle.archive_check.proofs.Rounds.{rounds}
 use Rattle.archive_check.proofs.AcceptedWalks.{walks}
 use Rattle.archive_check.proofs.FaultyNotWalked.{root_no_walk}
@@ -101,7 +101,7 @@ archive_viewed D bytes limit root X a = ∥∥₁_elim a.known ∥∥₁_prop (�
 faulty_no_archive : (D : Definitions) (bytes : List ℕ) (limit : Option ℕ) (root : ℕ) (X : Shape) (e : Error) → length bytes < 2 ^ 64 → IsFaulty D bytes limit root X e → IsArchiveWithin D bytes limit root X → ⊥
 faulty_no_archive D bytes limit root X e small f a = ∥∥₁_elim a.known (λ x y. absurd x) (λ (s, k). ∥∥₁_elim (f.trips s k) (λ x y. absurd x) (λ t. ∥∥₁_elim (a.accepted s k) (λ x y. absurd x) (λ b. root_no_walk s bytes small t (walks s bytes limit root X b))))
 
-pub refusal_no_archive : (D : Definitions) (bytes : List ℕ) (limit : Option ℕ) (root : ℕ) (X : Shape) (e : Error) → length bytes < 2 ^ 64 → IsRefusal D bytes limit root X e → IsNoArchive D bytes limit root X e
+pub refusal_no_archive : (D : Definitions) (bytes : List ℕ) (limit : Option ℕ) (root : ℕ) (X : Shape) (e : Error) → length bytes < 2 ^ 64 → IsRefusal D bytes limit root X e → ExplainsNoArchive D bytes limit root X e
 refusal_no_archive D bytes limit root X e small (inl (inl memory)) = inl memory
 refusal_no_archive D bytes limit root X e small (inl (inr (inl (is, none)))) = inr (λ a. none a.well_formed.defined)
 refusal_no_archive D bytes limit root X e small (inl (inr (inr (is, all, none)))) = inr (λ a. none a.well_formed)

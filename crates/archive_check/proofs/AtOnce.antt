@@ -9,13 +9,13 @@ use Rattle.archive_check.specs.declared.plan.Checker.{Checker}
 use Rattle.archive_check.specs.declared.work.Work.{Work}
 use Rattle.archive_check.specs.declared.work.Work.TheVariants.{Part as PartWork}
 use Rattle.archive_check.specs.Ranges.{RangeState}
-use Rattle.archive_check.specs.Met.{Positions}
+use Rattle.archive_check.specs.PositionStates.{Positions}
 use Rattle.archive_check.specs.Tour.{Seen}
 use Rattle.archive_check.specs.Trail.{Fault}
 use Rattle.archive_check.specs.Runs.{Outcome, done, refused, IsAt, IsNode, Takes, RegionIs, ElementsRun, parts_end, parts_next, parts_stop, elements_end, elements_next, elements_stop, list_part, list_part_stop}
-use Rattle.archive_check.specs.Closed.{span, SpanFits, ArrayFits}
+use Rattle.archive_check.specs.SoundPlans.{span, SpanFits, ArrayFits}
 use Rattle.archive_check.specs.Shallow.{marked, free_at, parts_shallow, variants_shallow}
-use Rattle.archive_check.specs.Turns.{Stays, PartFits, PartsFit, ElementsFit, stage, pending_in, Listing, Keeps, HasLevels, cost, rank}
+use Rattle.archive_check.specs.LoopInvariant.{Stays, PartFits, PartsFit, ElementsFit, stage, pending_in, Listing, Keeps, HasLevels, cost, rank}
 use Rattle.archive_check.specs.Through.{Rule, Through, Stops, node_rule, parts_rule, elements_rule}
 use Rattle.std.proofs.lemmas.Bool.{and_parts}
 use Rattle.archive_check.proofs.Elements.{same_at, at_default, at_span}

@@ -5,13 +5,13 @@ use Rattle.archive_check.specs.Shape.{Name, Shape, Table, definition}
 use Rattle.archive_check.specs.Expressions.{shape_of, entries_of}
 use Rattle.archive_check.specs.Defined.{Mentions, Reaches, reaches}
 use Rattle.archive_check.specs.Names.{missing, Taken, Collected, shapes_from}
-use Rattle.archive_check.specs.Numbered.{def_shapes}
+use Rattle.archive_check.specs.NodeNumbers.{def_shapes}
 use Rattle.archive_check.proofs.Named.{append_known, definition_here, definition_other, names_decided, entries_of-append, push_some, push_none, push_once}
 use Rattle.std.proofs.lemmas.List.{get_or_default}
 use Rattle.archive_check.proofs.Elements.{contains_later}
 use Rattle.archive_check.proofs.MissingNames.{missed_mentioned, none_missed}
 use Rattle.archive_check.proofs.LaidOutNames.{reaches_next}
-use Rattle.archive_check.proofs.Numbered.{def_count}
+use Rattle.archive_check.proofs.NodeNumbers.{def_count}
 
 -- the shape behind the root's, at its definition
 shape_at : (ds : List Def) (i : ℕ) (d : Def) (X : Shape) → i < length ds → d ≡ get_or ds i d → X ≡ get_or (def_shapes ds) i X → shape_of d.expr ≡ X

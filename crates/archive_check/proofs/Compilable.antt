@@ -1,12 +1,12 @@
 -- What holds an expression that can be compiled, and what it holds.
 use Rattle.std.proofs.Common.{◌≡◌, ℕ, ◌<◌, sym, subst, List, Some, IsSome}
-use Rattle.archive_check.specs.declared.growing.Known.{Known}
+use Rattle.archive_check.specs.declared.growing.NamedNode.{NamedNode}
 use Rattle.archive_check.specs.Shape.{Name, Shape, parts, choice, array, boxed, vec, shared, weak, named, Flavor, Pointee, one, run, Parts, part, Variants, variant}
 use Rattle.archive_check.specs.Defined.{holds_name, holds_parts, holds_choice, holds_array, holds_first, holds_later, holds_variant, holds_other, Mentions, mentions_held, mentions_array, mentions_parts, mentions_choice, mentions_boxed, mentions_vec, mentions_shared, mentions_weak, mentions_one, mentions_run, mentions_first, mentions_later, mentions_variant, mentions_other}
 use Rattle.archive_check.specs.PlanGrowth.{node_of}
 use Rattle.archive_check.specs.Compilable.{Can, CanParts, CanVariants, CanPoint, CanWait}
 
-module _ {names : List Known} {done : ℕ} where
+module _ {names : List NamedNode} {done : ℕ} where
   pub can_parts : {ps : Parts} → Can names done (parts ps) → CanParts names done ps
   can_parts c = record { parts_known = λ n m. c.known n (mentions_parts m); parts_placed = λ n j h e. c.placed n j (holds_parts h) e }
 
@@ -46,7 +46,7 @@ module _ {names : List Known} {done : ℕ} where
   pub can_placed : {name : Name} {j : ℕ} → Can names done (named name) → node_of names name ≡ Some j → j < done
   can_placed {name} {j} c e = c.placed name j holds_name e
 
-module _ {names : List Known} where
+module _ {names : List NamedNode} where
   pub can_one : {X : Shape} → CanPoint names (one X) → CanWait names X
   can_one c = record { shape_known = λ n m. c.pointee_known n (mentions_one m) }
 
@@ -58,11 +58,11 @@ module _ {names : List Known} where
   wait_name {X} c name e = c.shape_known name (subst (λ Y. Mentions name Y) (sym e) (mentions_held holds_name))
 
 -- the same, said of another shape that is the same
-pub can_as : {names : List Known} {done : ℕ} {X Y : Shape} → X ≡ Y → Can names done X → Can names done Y
+pub can_as : {names : List NamedNode} {done : ℕ} {X Y : Shape} → X ≡ Y → Can names done X → Can names done Y
 can_as {names} {done} e c = subst (λ Z. Can names done Z) e c
 
-pub can_parts_as : {names : List Known} {done : ℕ} {ps qs : Parts} → ps ≡ qs → CanParts names done ps → CanParts names done qs
+pub can_parts_as : {names : List NamedNode} {done : ℕ} {ps qs : Parts} → ps ≡ qs → CanParts names done ps → CanParts names done qs
 can_parts_as {names} {done} e c = subst (λ Z. CanParts names done Z) e c
 
-pub can_variants_as : {names : List Known} {done : ℕ} {vs us : Variants} → vs ≡ us → CanVariants names done vs → CanVariants names done us
+pub can_variants_as : {names : List NamedNode} {done : ℕ} {vs us : Variants} → vs ≡ us → CanVariants names done vs → CanVariants names done us
 can_variants_as {names} {done} e c = subst (λ Z. CanVariants names done Z) e c

@@ -5,7 +5,7 @@ use Rattle.archive_check.specs.declared.plan.Job.TheVariants.{Free, Leaf, Record
 use Rattle.archive_check.specs.declared.plan.Node.{Node}
 use Rattle.archive_check.specs.declared.plan.Part.{Part as PlanPart}
 use Rattle.archive_check.specs.declared.plan.Checker.{Checker}
-use Rattle.archive_check.specs.declared.growing.Known.{Known}
+use Rattle.archive_check.specs.declared.growing.NamedNode.{NamedNode}
 use Rattle.archive_check.specs.declared.growing.Laid.{Laid}
 use Rattle.archive_check.specs.Shape.{Name, Kind, Shape, leaf, parts, choice, array, named, Parts, Variants}
 use Rattle.archive_check.specs.Layout.{Layouts, up, size_of, align_of, kind_size, kind_align, parts_end, variants_end}
@@ -14,7 +14,7 @@ use Rattle.archive_check.specs.Reads.{Schema}
 use Rattle.archive_check.specs.Walk.{walk_parts, walk_array, walk_none}
 use Rattle.archive_check.specs.Expressions.{kind_of}
 use Rattle.archive_check.specs.Runs.{IsAt, IsNode, Takes, times}
-use Rattle.archive_check.specs.Closed.{span, PartsWithin, SpanFits, ArrayFits}
+use Rattle.archive_check.specs.SoundPlans.{span, PartsWithin, SpanFits, ArrayFits}
 use Rattle.archive_check.specs.Represents.{Made, made_free, made_leaf, made_record, made_choice, made_array}
 use Rattle.archive_check.specs.BoundedSizes.{fits, rounded}
 use Rattle.archive_check.specs.CompileQueue.{Waits}
@@ -22,7 +22,7 @@ use Rattle.archive_check.specs.PlanGrowth.{node_of, PlanLists, IsMade}
 use Rattle.archive_check.specs.Compiled.{Follows, NamesSized, Settled, Given, MadeTo, Compiled, IsPartWithin, CompiledParts, CompiledVariants}
 use Rattle.archive_check.proofs.Compilable.{can_parts, can_choice, can_array}
 use Rattle.archive_check.proofs.PlainRuns.{plain_walk}
-use Rattle.archive_check.proofs.Fitting.{fits_some, some_is, rounded_fits, rounded_some, times_none, times_fits}
+use Rattle.archive_check.proofs.BoundedSizes.{fits_some, some_is, rounded_fits, rounded_some, times_none, times_fits}
 use Rattle.archive_check.proofs.GrowingPlans.{at_more, goes_longer, grows_trans, pushed_grows}
 use Rattle.archive_check.proofs.Elements.{same_at, at_dropped, at_taken}
 use Rattle.archive_check.proofs.AddedNodes.{knows_settled, adds_refl, compiled_made, stands_of}
@@ -35,7 +35,7 @@ leaf_free : (k : Kind) (z : ℕ) → Some (kind_size k) ≡ Some z → (is_plain
 leaf_free k z e (inl h) = h
 leaf_free k z e (inr h) = let same : kind_size k ≡ z = cc in empty_plain k (same ∙ h)
 
-pub compiled_leaf : {names : List Known} {done : ℕ} {v : Waits} {a c : PlanLists} (kind : KindExpr) {j : ℕ} → IsMade a c (Some (kind_size (kind_of kind))) (kind_align (kind_of kind)) (is_plain_kind (kind_of kind)) (Leaf kind) j
+pub compiled_leaf : {names : List NamedNode} {done : ℕ} {v : Waits} {a c : PlanLists} (kind : KindExpr) {j : ℕ} → IsMade a c (Some (kind_size (kind_of kind))) (kind_align (kind_of kind)) (is_plain_kind (kind_of kind)) (Leaf kind) j
     → Compiled names done (leaf (kind_of kind)) v v a c j
 compiled_leaf {names = names} {v = v} {a = a} kind p = compiled_made (adds_refl names v a) (leaf (kind_of kind)) p refl (omega arith) (λ all can. all)
     (λ m l g k. (sym (fits_some (kind_size (kind_of kind)) (kind_few (kind_of kind))), refl))
@@ -68,7 +68,7 @@ within_wider m i k z y h w (x ∷ xs) p = let q = p.0 in ((q.0, omega (arith, q.
 pub span_wider : {m : Checker} {i k z y a b : ℕ} → i ≤ k → z ≤ y → SpanFits m i z a b → SpanFits m k y a b
 span_wider {m} {i} {k} {z} {y} {a} {b} h w s = record { last = s.last; few = s.few; within = within_wider m i k z y h w (span m.parts.now a b) s.within }
 
-module _ {names : List Known} {done : ℕ} {v w : Waits} {a b : PlanLists} where
+module _ {names : List NamedNode} {done : ℕ} {v w : Waits} {a b : PlanLists} where
   parts_are_free : {ps : Parts} {laid : Laid} {s : Schema} {shapes : ℕ → Shape} {m : Checker} {z e : ℕ} → (f : CompiledParts names done 0 ps v w a b laid) → Follows b m → MadeTo s shapes m (length b.nodes)
       → laid.end ≡ Some e → e ≤ z → (laid.free ≡ true) ⊎ (z ≡ 0)
       → (k : ℕ) (x : PlanPart) → laid.first ≤ k → k < laid.last → IsAt m.parts.now k x → IsNode m x.node Free × (x.node < length b.nodes)
@@ -79,7 +79,7 @@ module _ {names : List Known} {done : ℕ} {v w : Waits} {a b : PlanLists} where
       let t = fit.takes in
       (record { node = t.node; at = t.at; job_is = made.empty x.node t.node fit.earlier t.at (t.size_is ∙ ap Some none) }, fit.earlier)
 
-module _ {names : List Known} {done : ℕ} {v w : Waits} {a b c : PlanLists} where
+module _ {names : List NamedNode} {done : ℕ} {v w : Waits} {a b c : PlanLists} where
   -- parts
   pub compiled_record : {ps : Parts} {laid : Laid} {size : Option ℕ} {j : ℕ} → CompiledParts names done 0 ps v w a b laid → size ≡ rounded laid.end laid.align
       → IsMade b c size laid.align laid.free (Record laid.first laid.last) j → Compiled names done (parts ps) v w a c j
@@ -122,7 +122,7 @@ module _ {names : List Known} {done : ℕ} {v w : Waits} {a b c : PlanLists} whe
       (λ s shapes m g t given z e pos. let q = split z e in made_choice (f.stand s shapes m (grows_trans grown g) t given q.0 q.1) f.others)
 
 -- elements
-module _ {names : List Known} {done : ℕ} {v w : Waits} {a b : PlanLists} {X : Shape} {element : ℕ} (f : Compiled names done X v w a b element) {here : Node} (at : IsAt b.nodes element here) where
+module _ {names : List NamedNode} {done : ℕ} {v w : Waits} {a b : PlanLists} {X : Shape} {element : ℕ} (f : Compiled names done X v w a b element) {here : Node} (at : IsAt b.nodes element here) where
   element_sized : (m : Checker) (l : Layouts) → Follows b m → NamesSized names l done m → (here.size ≡ fits (size_of l X)) × (here.align ≡ align_of l X)
   element_sized m l g k = let q = f.lays m l g k in let same = same_at (at_more g.nodes at) q.at in (ap (λ (w : Node). w.size) same ∙ q.size_is, ap (λ (w : Node). w.align) same ∙ q.align_is)
 
@@ -150,7 +150,7 @@ module _ {names : List Known} {done : ℕ} {v w : Waits} {a b : PlanLists} {X : 
       let is_size : size_of s.layouts X ≡ y = some_is (sym (element_sized m s.layouts g (knows_settled done t)).0 ∙ i) in
       record { node = here; at = at_more g.nodes at; size_is = i ∙ ap Some (sym is_size) }
 
-pub compiled_array : {names : List Known} {done : ℕ} {v w : Waits} {a b c : PlanLists} {X : Shape} {n element j : ℕ} {here : Node} {free : Bool} {size : Option ℕ} → Compiled names done X v w a b element → IsAt b.nodes element here
+pub compiled_array : {names : List NamedNode} {done : ℕ} {v w : Waits} {a b c : PlanLists} {X : Shape} {n element j : ℕ} {here : Node} {free : Bool} {size : Option ℕ} → Compiled names done X v w a b element → IsAt b.nodes element here
     → n < 18446744073709551616 → size ≡ times here.size n → (free ≡ true → here.job ≡ Free) → IsMade b c size here.align free (Array n element) j → Compiled names done (array n X) v w a c j
 compiled_array {done = done} {X = X} {n = n} {here = here} {free = free} f at few es job p =
     let grown = pushed_grows p.pushed in
@@ -161,7 +161,7 @@ compiled_array {done = done} {X = X} {n = n} {here = here} {free = free} f at fe
     (λ s shapes m g t given z e pos. made_array (stands_of f t given) (element_takes f at (grows_trans grown g) t here.size n z refl (sym es ∙ e) pos))
 
 -- a name
-pub compiled_name : {names : List Known} {done : ℕ} {name : Name} {v : Waits} {a : PlanLists} {j : ℕ} → done ≤ length a.nodes → node_of names name ≡ Some j → j < done → Compiled names done (named name) v v a a j
+pub compiled_name : {names : List NamedNode} {done : ℕ} {name : Name} {v : Waits} {a : PlanLists} {j : ℕ} → done ≤ length a.nodes → node_of names name ≡ Some j → j < done → Compiled names done (named name) v v a a j
 compiled_name {names = names} {name = name} {v = v} {a = a} {j = j} le e h = record {
   gives = [];
   gives_count = refl;

@@ -1,7 +1,7 @@
 -- Expressions that are compiled one after another.
 use Rattle.std.proofs.Common.{◌≡◌, inl, inr, ⊎_elim, ℕ, zero, suc, refl, sym, ap, ap₂, ◌∙◌, subst, ◌+◌, ◌-◌, ◌<◌, ◌≤◌, arith, List, [], ◌∷◌, ◌++◌, length, take, drop, Some, length-append, append_assoc}
 use Rattle.archive_check.specs.declared.defs.Def.{Def}
-use Rattle.archive_check.specs.declared.growing.Known.{Known}
+use Rattle.archive_check.specs.declared.growing.NamedNode.{NamedNode}
 use Rattle.archive_check.specs.declared.queue.Waiting.{Waiting}
 use Rattle.archive_check.specs.Shape.{Shape, named}
 use Rattle.archive_check.specs.Expressions.{shape_of}
@@ -13,16 +13,16 @@ use Rattle.archive_check.specs.CompileQueue.{Wait, Waits, no_waits, waits_in, wa
 use Rattle.archive_check.specs.Compilable.{Can}
 use Rattle.std.proofs.lemmas.List.{take-append-drop, length-take-le}
 use Rattle.archive_check.specs.Compiled.{Compiled}
-use Rattle.archive_check.specs.Numbered.{def_shapes, start_of, IsRootOf}
+use Rattle.archive_check.specs.NodeNumbers.{def_shapes, start_of, IsDefinitionNode}
 use Rattle.archive_check.specs.Planned.{CompiledFrom, Chained, CanFinish, Finishes, FinishesTo}
 use Rattle.archive_check.proofs.GrowingPlans.{at_less, at_more, goes_longer, grows_refl, grows_trans}
 use Rattle.archive_check.proofs.Elements.{at_last, at_end}
 use Rattle.archive_check.proofs.AddedNodes.{given_first, given_second, adds_refl, adds_trans}
-use Rattle.archive_check.proofs.Numbered.{def_count, def_shapes-append, start_next, start_prefix, node_of_first}
+use Rattle.archive_check.proofs.NodeNumbers.{def_count, def_shapes-append, start_next, start_prefix, node_of_first}
 use Rattle.archive_check.proofs.WaitingExpressions.{wait_shapes-append, measure_of_waits-append}
 
 -- nothing yet
-pub chained_start : (names : List Known) (Xs : List Shape) (base : ℕ) (w : Waits) (b : PlanLists) → Xs ≡ [] → w ≡ no_waits base → b ≡ no_lists → Chained names Xs base w b
+pub chained_start : (names : List NamedNode) (Xs : List Shape) (base : ℕ) (w : Waits) (b : PlanLists) → Xs ≡ [] → w ≡ no_waits base → b ≡ no_lists → Chained names Xs base w b
 chained_start names Xs base w b eX ew eb =
     let none : Chained names [] base (no_waits base) no_lists = record {
       gives = [];
@@ -34,7 +34,7 @@ chained_start names Xs base w b eX ew eb =
     subst (λ x. Chained names Xs base w x) (sym eb) (subst (λ x. Chained names Xs base x no_lists) (sym ew) (subst (λ x. Chained names x base (no_waits base) no_lists) (sym eX) none))
 
 -- one more
-pub chained_next : {names : List Known} {Xs : List Shape} {base : ℕ} {v w : Waits} {b c : PlanLists} {X : Shape} {j : ℕ} → Chained names Xs base v b → Compiled names (length b.nodes) X v w b c j → Chained names (Xs ++ X ∷ []) base w c
+pub chained_next : {names : List NamedNode} {Xs : List Shape} {base : ℕ} {v w : Waits} {b c : PlanLists} {X : Shape} {j : ℕ} → Chained names Xs base v b → Compiled names (length b.nodes) X v w b c j → Chained names (Xs ++ X ∷ []) base w c
 chained_next {names} {Xs} {base} {v} {w} {b} {c} {X} {j} r f =
     let here : length b.nodes ≡ 0 + length r.gives = r.adds.count in
     let whole : start_of (Xs ++ X ∷ []) (length Xs + 1) ≡ start_of (Xs ++ X ∷ []) (length Xs) + count_of X = start_next (Xs ++ X ∷ []) (length Xs) X (at_end Xs X) in
@@ -98,7 +98,7 @@ take_all (x ∷ xs) zero h = absurd (omega arith)
 take_all (x ∷ xs) (suc i) h = ap (λ l. x ∷ l) (take_all xs i (omega arith))
 
 -- the definitions, one after another
-pub defs_next : {names : List Known} {defs : List Def} {base i : ℕ} {v w : Waits} {b c : PlanLists} {d : Def} {j : ℕ} → Chained names (def_shapes (take i defs)) base v b → IsAt defs i d
+pub defs_next : {names : List NamedNode} {defs : List Def} {base i : ℕ} {v w : Waits} {b c : PlanLists} {d : Def} {j : ℕ} → Chained names (def_shapes (take i defs)) base v b → IsAt defs i d
     → Compiled names (length b.nodes) (shape_of d.expr) v w b c j → Chained names (def_shapes (take (i + 1) defs)) base w c
 defs_next {names} {defs} {base} {i} {v} {w} {b} {c} {d} r at f =
     let e : def_shapes (take (i + 1) defs) ≡ def_shapes (take i defs) ++ shape_of d.expr ∷ [] = ap def_shapes (take_next defs i d at) ∙ def_shapes-append (take i defs) (d ∷ []) in
@@ -117,7 +117,7 @@ waits_count (x ∷ xs) = ap suc (waits_count xs)
 pub later_take : {vs ws : List Wait} (i : ℕ) (x : Wait) → Goes vs ws → IsAt vs i x → take (i + 1) ws ≡ take i vs ++ x ∷ []
 later_take {vs} {ws} i x g at = ap (take (i + 1)) g.is ∙ take_more vs g.more (i + 1) (omega (arith, at.below)) ∙ take_next vs i x at
 
-pub waits_next : {names : List Known} {base : ℕ} {v w : Waits} {b c : PlanLists} {j : ℕ} (Xs : List Shape) (i : ℕ) (x : Wait) → Chained names (Xs ++ wait_shapes (take i v.items)) base v b → IsAt v.items i x
+pub waits_next : {names : List NamedNode} {base : ℕ} {v w : Waits} {b c : PlanLists} {j : ℕ} (Xs : List Shape) (i : ℕ) (x : Wait) → Chained names (Xs ++ wait_shapes (take i v.items)) base v b → IsAt v.items i x
     → Compiled names (length b.nodes) x.shape v w b c j → Chained names (Xs ++ wait_shapes (take (i + 1) w.items)) base w c
 waits_next {names} {base} {v} {w} {b} {c} Xs i x r at f =
     let e : Xs ++ wait_shapes (take (i + 1) w.items) ≡ (Xs ++ wait_shapes (take i v.items)) ++ x.shape ∷ [] =
@@ -130,7 +130,7 @@ take_size xs zero = omega arith
 take_size [] (suc i) = omega arith
 take_size (x ∷ xs) (suc i) = omega (arith, take_size xs i)
 
-pub waits_fall : {names : List Known} {done i : ℕ} {v w : Waits} {b c : PlanLists} {x : Wait} {j : ℕ} → IsAt v.items i x → Compiled names done x.shape v w b c j
+pub waits_fall : {names : List NamedNode} {done i : ℕ} {v w : Waits} {b c : PlanLists} {x : Wait} {j : ℕ} → IsAt v.items i x → Compiled names done x.shape v w b c j
     → measure_of_waits w.items - measure_of_waits (take (i + 1) w.items) < measure_of_waits v.items - measure_of_waits (take i v.items)
 waits_fall {i = i} {v = v} {w = w} {x = x} at f =
     let e : measure_of_waits (take (i + 1) w.items) ≡ measure_of_waits (take i v.items) + (measure_of x.shape + 1) =
@@ -140,7 +140,7 @@ waits_fall {i = i} {v = v} {w = w} {x = x} at f =
     omega (arith, e, old, take_size v.items (i + 1), f.waits_few)
 
 -- the node that was counted is the one that was compiled
-pub root_same : {names : List Known} {done : ℕ} {v w : Waits} {a b : PlanLists} {j : ℕ} (i start : ℕ) (X : Shape) (k : ℕ) → Compiled names done X v w a b j → length a.nodes ≡ start → IsRootOf names i start X k → k ≡ j
+pub root_same : {names : List NamedNode} {done : ℕ} {v w : Waits} {a b : PlanLists} {j : ℕ} (i start : ℕ) (X : Shape) (k : ℕ) → Compiled names done X v w a b j → length a.nodes ≡ start → IsDefinitionNode names i start X k → k ≡ j
 root_same {names} {a = a} {b = b} {j = j} i start X k c e (inl h) = ⊎_elim
     (λ r. let same : h.0 ≡ r.0 = (let both : named h.0 ≡ named r.0 = sym h.1 ∙ r.1 in cc) in
     let found : Some k ≡ Some j = sym (node_of_first names h.0 h.2.0 k h.2.2) ∙ ap (node_of names) same ∙ r.2 in cc)
@@ -152,7 +152,7 @@ root_same {names} {a = a} {b = b} {j = j} i start X k c e (inr h) = ⊎_elim
     c.root
 
 -- an expression that is compiled from one node on has one node
-pub compiled_same : {names : List Known} {done n : ℕ} {v w v' w' : Waits} {a b c d : PlanLists} {j k : ℕ} (X : Shape) → Compiled names done X v w a b j → Compiled names n X v' w' c d k → length a.nodes ≡ length c.nodes → j ≡ k
+pub compiled_same : {names : List NamedNode} {done n : ℕ} {v w v' w' : Waits} {a b c d : PlanLists} {j k : ℕ} (X : Shape) → Compiled names done X v w a b j → Compiled names n X v' w' c d k → length a.nodes ≡ length c.nodes → j ≡ k
 compiled_same {names} {a = a} {b = b} {c = c} {d = d} {j = j} {k = k} X f g e = ⊎_elim
     (λ h. ⊎_elim
     (λ r. let same : h.0 ≡ r.0 = (let both : named h.0 ≡ named r.0 = sym h.1 ∙ r.1 in cc) in
@@ -165,7 +165,7 @@ compiled_same {names} {a = a} {b = b} {c = c} {d = d} {j = j} {k = k} X f g e = 
     g.root)
     f.root
 
-pub finishes_next : {names : List Known} {u v w : Waits} {a b c : PlanLists} {j : ℕ} (i : ℕ) (x : Wait) → FinishesTo names i u v a b → IsAt v.items i x → Compiled names (length b.nodes) x.shape v w b c j → FinishesTo names (i + 1) u w a c
+pub finishes_next : {names : List NamedNode} {u v w : Waits} {a b c : PlanLists} {j : ℕ} (i : ℕ) (x : Wait) → FinishesTo names i u v a b → IsAt v.items i x → Compiled names (length b.nodes) x.shape v w b c j → FinishesTo names (i + 1) u w a c
 finishes_next i x r at f = record {
   can_to = λ c. let o = r.can_to c in record {
     known = f.known o.known (record { known = (o.known.each i x at).shape_known; placed = λ name j h e. o.below name j e });
@@ -176,11 +176,11 @@ finishes_next i x r at f = record {
 }
 
 -- what waits first can be compiled next
-pub finishes_can : {names : List Known} {u v : Waits} {a b : PlanLists} {i done : ℕ} (x : Wait) → FinishesTo names i u v a b → CanFinish names u a → IsAt v.items i x → done ≡ length b.nodes → Can names done x.shape
+pub finishes_can : {names : List NamedNode} {u v : Waits} {a b : PlanLists} {i done : ℕ} (x : Wait) → FinishesTo names i u v a b → CanFinish names u a → IsAt v.items i x → done ≡ length b.nodes → Can names done x.shape
 finishes_can {names} {i = i} x r c at e = let o = r.can_to c in record { known = (o.known.each i x at).shape_known; placed = λ name j h n. omega (arith, o.below name j n, e) }
 
 -- where the next definition's nodes begin
-pub defs_begin : {names : List Known} {base : ℕ} {v : Waits} {b : PlanLists} (defs : List Def) (i : ℕ) → i ≤ length defs → Chained names (def_shapes (take i defs)) base v b → length b.nodes ≡ start_of (def_shapes defs) i
+pub defs_begin : {names : List NamedNode} {base : ℕ} {v : Waits} {b : PlanLists} (defs : List Def) (i : ℕ) → i ≤ length defs → Chained names (def_shapes (take i defs)) base v b → length b.nodes ≡ start_of (def_shapes defs) i
 defs_begin {b = b} defs i le r =
     let size : length (def_shapes (take i defs)) ≡ i = def_count (take i defs) ∙ length-take-le i defs le in
     let front : start_of (def_shapes (take i defs) ++ def_shapes (drop i defs)) i ≡ start_of (def_shapes (take i defs)) i = start_prefix (def_shapes (take i defs)) (def_shapes (drop i defs)) i (omega (arith, size)) in
@@ -188,7 +188,7 @@ defs_begin {b = b} defs i le r =
     let count : length b.nodes ≡ start_of (def_shapes (take i defs)) (length (def_shapes (take i defs))) = omega (arith, r.adds.count, r.gives_count) in
     count ∙ ap (start_of (def_shapes (take i defs))) size ∙ sym front ∙ ap (λ Xs. start_of Xs i) whole
 
-pub finishes_end : {names : List Known} {u v : Waits} {a b : PlanLists} (i : ℕ) → FinishesTo names i u v a b → length v.items ≤ i → Finishes names u v a b
+pub finishes_end : {names : List NamedNode} {u v : Waits} {a b : PlanLists} (i : ℕ) → FinishesTo names i u v a b → length v.items ≤ i → Finishes names u v a b
 finishes_end {names} {u} {v} {a} {b} i r h = record {
   grows = r.grows_to;
   chained = λ Xs base k. subst (λ ws. Chained names (Xs ++ wait_shapes ws) base v b) (take_all v.items i h) (r.chained_to Xs base k);

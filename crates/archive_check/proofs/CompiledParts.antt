@@ -6,7 +6,7 @@ use Rattle.archive_check.specs.declared.plan.Node.{Node}
 use Rattle.archive_check.specs.declared.plan.Part.{Part as PlanPart}
 use Rattle.archive_check.specs.declared.plan.Span.{Span}
 use Rattle.archive_check.specs.declared.plan.Checker.{Checker}
-use Rattle.archive_check.specs.declared.growing.Known.{Known}
+use Rattle.archive_check.specs.declared.growing.NamedNode.{NamedNode}
 use Rattle.archive_check.specs.declared.growing.Row.{Row}
 use Rattle.archive_check.specs.declared.growing.Spans.{Spans}
 use Rattle.archive_check.specs.declared.growing.Laid.{Laid}
@@ -14,14 +14,14 @@ use Rattle.archive_check.specs.Shape.{Shape, Parts, no_part, part, Variants, no_
 use Rattle.archive_check.specs.Layout.{Layouts, up, size_of, align_of, parts_end, parts_align, variants_end}
 use Rattle.archive_check.specs.Reads.{Schema}
 use Rattle.archive_check.specs.Runs.{IsAt, IsNode, Takes}
-use Rattle.archive_check.specs.Closed.{SpanFits}
+use Rattle.archive_check.specs.SoundPlans.{SpanFits}
 use Rattle.archive_check.specs.Represents.{StandsFor, PartsStand, parts_over, parts_more}
 use Rattle.archive_check.specs.BoundedSizes.{fits, rounded, sum_of, greater_of}
 use Rattle.archive_check.specs.CompileQueue.{Waits}
 use Rattle.archive_check.specs.PlanGrowth.{PlanLists, IsPlaced, IsListed, PartsLaid, SpansLaid}
 use Rattle.archive_check.specs.Shallow.{is_free}
 use Rattle.archive_check.specs.Compiled.{Follows, NamesSized, Settled, Given, Compiled, IsPartWithin, RowIs, CompiledParts, IsVariant, SpansAre, CompiledVariants}
-use Rattle.archive_check.proofs.Fitting.{fits_some, some_is, rounded_fits, rounded_some, sum_fits, sum_some, greater_fits, greater_some}
+use Rattle.archive_check.proofs.BoundedSizes.{fits_some, some_is, rounded_fits, rounded_some, sum_fits, sum_some, greater_fits, greater_some}
 use Rattle.archive_check.proofs.GrowingPlans.{at_more, at_less, goes_longer, grows_trans, extended_grows, part_at, part_of, span_of}
 use Rattle.archive_check.proofs.Elements.{at_last, at_end, same_at}
 use Rattle.archive_check.proofs.AddedNodes.{given_first, given_second, settled_less, knows_settled, adds_refl, adds_trans, adds_same, stands_of}
@@ -39,7 +39,7 @@ both_free true job h = (refl, job_free job h)
 both_free false job h = cc
 
 -- no part yet
-pub row_start : {names : List Known} {done : ℕ} (start : ℕ) {v : Waits} {a : PlanLists} (ps : Parts) (row : List PlanPart) (end : Option ℕ) (align : ℕ) (free : Bool) → start < 18446744073709551616 → row ≡ [] → end ≡ Some start → align ≡ 1
+pub row_start : {names : List NamedNode} {done : ℕ} (start : ℕ) {v : Waits} {a : PlanLists} (ps : Parts) (row : List PlanPart) (end : Option ℕ) (align : ℕ) (free : Bool) → start < 18446744073709551616 → row ≡ [] → end ≡ Some start → align ≡ 1
     → RowIs names done start ps ps v v a a row end align free
 row_start {names = names} start {v = v} {a = a} ps row end align free few none e one = record {
   gives = [];
@@ -58,7 +58,7 @@ row_start {names = names} start {v = v} {a = a} ps row end align free few none e
       subst (λ f. PartsStand s shapes m f last start ps) here (subst (λ w. PartsStand s shapes m (first + length row) last w ps) (sym same) rest);
 }
 
-module _ {names : List Known} {done start : ℕ} {all rest : Parts} {v w u : Waits} {a b c : PlanLists} {X : Shape} {row next : Row} {node : ℕ} {here : Node}
+module _ {names : List NamedNode} {done start : ℕ} {all rest : Parts} {v w u : Waits} {a b c : PlanLists} {X : Shape} {row next : Row} {node : ℕ} {here : Node}
     (r : RowIs names done start all (part X rest) v w a b row.parts.items row.extent.end row.extent.align row.free) (f : Compiled names done X w u b c node) (at : IsAt c.nodes node here) (p : IsPlaced node here row next) where
   longer : length next.parts.items ≡ length row.parts.items + 1
   longer = ap length p.parts_are ∙ length-append row.parts.items (p.last ∷ [])
@@ -148,7 +148,7 @@ module _ {names : List Known} {done start : ℕ} {all rest : Parts} {v w u : Wai
     stand = next_stand;
   }
 
-module _ {names : List Known} {done start : ℕ} {all : Parts} {v w : Waits} {a c d : PlanLists} {row : Row} {laid : Laid} (r : RowIs names done start all no_part v w a c row.parts.items row.extent.end row.extent.align row.free) (p : PartsLaid c d row laid) where
+module _ {names : List NamedNode} {done start : ℕ} {all : Parts} {v w : Waits} {a c d : PlanLists} {row : Row} {laid : Laid} (r : RowIs names done start all no_part v w a c row.parts.items row.extent.end row.extent.align row.free) (p : PartsLaid c d row laid) where
   laid_length : laid.last ≡ laid.first + length row.parts.items
   laid_length = omega (arith, p.last_is, p.first_is, ap length p.extended.parts_are, length-append c.parts row.parts.items)
 
@@ -179,7 +179,7 @@ module _ {names : List Known} {done start : ℕ} {all : Parts} {v w : Waits} {a 
       }
 
 -- no variant yet
-pub spans_start : {names : List Known} {done : ℕ} {v : Waits} {a : PlanLists} (vs : Variants) (row : List Span) (end : Option ℕ) (align : ℕ) → row ≡ [] → end ≡ Some 1 → align ≡ 1 → SpansAre names done vs vs v v a a row end align
+pub spans_start : {names : List NamedNode} {done : ℕ} {v : Waits} {a : PlanLists} (vs : Variants) (row : List Span) (end : Option ℕ) (align : ℕ) → row ≡ [] → end ≡ Some 1 → align ≡ 1 → SpansAre names done vs vs v v a a row end align
 spans_start {names = names} {v = v} {a = a} vs row end align none e one = record {
   gives = [];
   adds = adds_refl names v a;
@@ -195,7 +195,7 @@ spans_start {names = names} {v = v} {a = a} vs row end align none e one = record
   others = λ k. let i : length row + k ≡ k = omega (arith, ap length none) in ap (variant_at vs) i;
 }
 
-module _ {names : List Known} {done : ℕ} {all rest : Variants} {v w u : Waits} {a b c : PlanLists} {ps : Parts} {spans next : Spans} {laid : Laid}
+module _ {names : List NamedNode} {done : ℕ} {all rest : Variants} {v w u : Waits} {a b c : PlanLists} {ps : Parts} {spans next : Spans} {laid : Laid}
     (r : SpansAre names done all (variant ps rest) v w a b spans.items.items spans.extent.end spans.extent.align) (f : CompiledParts names done 1 ps w u b c laid) (p : IsListed laid spans next) where
   spans_longer : length next.items.items ≡ length spans.items.items + 1
   spans_longer = ap length p.items_are ∙ length-append spans.items.items (p.span ∷ [])
@@ -255,7 +255,7 @@ module _ {names : List Known} {done : ℕ} {all rest : Variants} {v w u : Waits}
     others = λ k. let i : length next.items.items + k ≡ length spans.items.items + suc k = omega (arith, spans_longer) in ap (variant_at all) i ∙ r.others (suc k);
   }
 
-module _ {names : List Known} {done : ℕ} {all : Variants} {v w : Waits} {a c d : PlanLists} {spans : Spans} {laid : Laid} (r : SpansAre names done all no_variant v w a c spans.items.items spans.extent.end spans.extent.align) (p : SpansLaid c d spans laid) where
+module _ {names : List NamedNode} {done : ℕ} {all : Variants} {v w : Waits} {a c d : PlanLists} {spans : Spans} {laid : Laid} (r : SpansAre names done all no_variant v w a c spans.items.items spans.extent.end spans.extent.align) (p : SpansLaid c d spans laid) where
   spans_length : laid.last ≡ laid.first + length spans.items.items
   spans_length = omega (arith, p.last_is, p.first_is, ap length p.extended.variants_are, length-append c.variants spans.items.items)
 

@@ -8,13 +8,13 @@ use Rattle.archive_check.specs.declared.plan.Job.{Job}
 use Rattle.archive_check.specs.declared.plan.Job.TheVariants.{Free, Pointer as PointerJob, Shared, Weak, Str}
 use Rattle.archive_check.specs.declared.plan.Sort.{Sort}
 use Rattle.archive_check.specs.declared.plan.Checker.{Checker}
-use Rattle.archive_check.specs.declared.growing.Known.{Known}
+use Rattle.archive_check.specs.declared.growing.NamedNode.{NamedNode}
 use Rattle.archive_check.specs.Shape.{unsigned, number, Shape, leaf, boxed, vec, str, shared, weak, Pointee, one, run, text}
 use Rattle.archive_check.specs.Layout.{Layouts, size_of, align_of}
 use Rattle.archive_check.specs.Reads.{Schema}
 use Rattle.archive_check.specs.Expressions.{flavor_of, pointee_of}
 use Rattle.archive_check.specs.Runs.{IsAt, target_size}
-use Rattle.archive_check.specs.Closed.{JobFits}
+use Rattle.archive_check.specs.SoundPlans.{JobFits}
 use Rattle.archive_check.specs.Represents.{Sized, Points, points_one, points_run, points_text, Made, made_free, made_boxed, made_vec, made_str, made_shared, made_weak}
 use Rattle.archive_check.specs.BoundedSizes.{fits}
 use Rattle.archive_check.specs.Measure.{measure_of}
@@ -25,12 +25,12 @@ use Rattle.archive_check.specs.Compiled.{counted, Follows, Below, Settled, Given
 use Rattle.archive_check.specs.NodeCounts.{count_of}
 use Rattle.archive_check.proofs.Compilable.{can_one, can_run, can_boxed, can_vec, can_shared, can_weak}
 use Rattle.archive_check.proofs.PlainRuns.{plain_walk}
-use Rattle.archive_check.proofs.Fitting.{fits_some}
+use Rattle.archive_check.proofs.BoundedSizes.{fits_some}
 use Rattle.archive_check.proofs.GrowingPlans.{at_more, goes_longer, grows_trans, pushed_grows, pushed_at, pushed_is, sorted_grows, sorted_at}
 use Rattle.archive_check.proofs.AddedNodes.{adds_refl, adds_same, adds_push, compiled_push}
 
 -- what a pointer leads to, as one value or as a run of them
-pub leads_one : {names : List Known} {X : Shape} {v w : Waits} {a : PlanLists} {j : ℕ} → CompiledTarget names X v w a j → CompiledPointee names (one X) v w a a One j
+pub leads_one : {names : List NamedNode} {X : Shape} {v w : Waits} {a : PlanLists} {j : ℕ} → CompiledTarget names X v w a j → CompiledPointee names (one X) v w a a One j
 leads_one t = record {
   gives = [];
   gives_count = refl;
@@ -42,7 +42,7 @@ leads_one t = record {
   points = λ s shapes m g u given. points_one (t.sized s shapes m u) (t.stands s shapes m u);
 }
 
-pub leads_run : {names : List Known} {X : Shape} {v w : Waits} {a : PlanLists} {j : ℕ} → CompiledTarget names X v w a j → CompiledPointee names (run X) v w a a Run j
+pub leads_run : {names : List NamedNode} {X : Shape} {v w : Waits} {a : PlanLists} {j : ℕ} → CompiledTarget names X v w a j → CompiledPointee names (run X) v w a a Run j
 leads_run t = record {
   gives = [];
   gives_count = refl;
@@ -65,7 +65,7 @@ module _ {a b : PlanLists} {i : ℕ} (p : IsPushed a b (Some 1) 1 Free i) where
   byte_below : (m : Checker) → Follows b m → i < length m.nodes.now
   byte_below m g = omega (arith, pushed_is p, goes_longer g.nodes)
 
-module _ {names : List Known} {v : Waits} {a b : PlanLists} {i : ℕ} (p : IsPushed a b (Some 1) 1 Free i) where
+module _ {names : List NamedNode} {v : Waits} {a b : PlanLists} {i : ℕ} (p : IsPushed a b (Some 1) 1 Free i) where
   pub adds_byte : Adds names (byte ∷ []) v v a b
   adds_byte = adds_push (adds_refl names v a) byte p (λ m g w z e. tt) (λ s shapes m g t. sym (fits_some 1 (omega arith)))
       (λ s shapes m g t given k z e. made_free (λ bytes pending depth stop p start seen le. plain_walk s t.laid_out bytes byte p refl le)) (λ e. refl)
@@ -78,37 +78,37 @@ target_few One = (omega arith, omega arith)
 target_few Run = (omega arith, omega arith)
 target_few Text = (omega arith, omega arith)
 
-module _ {names : List Known} {gives : List Shape} {v w : Waits} {a b c : PlanLists} (f : Adds names gives v w a b) where
+module _ {names : List NamedNode} {gives : List Shape} {v w : Waits} {a b c : PlanLists} (f : Adds names gives v w a b) where
   compiled_pointer : {done : ℕ} {j : ℕ} {job : Job} (X : Shape) (size : ℕ) → IsPushed b c (Some size) 4 job j → length gives + 1 ≡ count_of X → measure_of_waits w.items ≤ measure_of_waits v.items + measure_of X → (AllKnown names v.items → Can names done X → AllKnown names w.items) → 4 ≤ size → size ≤ 8
       → ((l : Layouts) → (size_of l X ≡ size) × (align_of l X ≡ 4))
       → ((m : Checker) → Follows c m → Below names w.items m → (z : ℕ) → size ≤ z → JobFits m (length b.nodes) z job)
       → ((s : Schema) (shapes : ℕ → Shape) (m : Checker) → Follows c m → Settled names w.items s shapes m → Given shapes (length a.nodes) gives → Made s shapes m job X)
       → Compiled names done X v w a c j
-  compiled_pointer X size p count few known least most lay closed make = compiled_push f X p count few known
+  compiled_pointer X size p count few known least most lay sound make = compiled_push f X p count few known
       (λ m l g k. let q = lay l in (sym (fits_some size (omega arith)) ∙ ap fits (sym q.0), sym q.1))
-      (λ m g w z e. let same : size ≡ z = cc in closed m g w z (omega arith))
+      (λ m g w z e. let same : size ≡ z = cc in sound m g w z (omega arith))
       (λ s shapes m g t given k z e. make s shapes m g t given)
       (λ e. let same : size ≡ 0 = cc in absurd (omega arith))
 
-module _ {names : List Known} {done : ℕ} {v w : Waits} {a b c : PlanLists} {j i : ℕ} where
+module _ {names : List NamedNode} {done : ℕ} {v w : Waits} {a b c : PlanLists} {j i : ℕ} where
   pub compiled_boxed : {P : Pointee} {target : Target} {size : ℕ} → CompiledPointee names P v w a b target i → size ≡ target_size target → IsPushed b c (Some size) 4 (PointerJob target i) j → Compiled names done (boxed P) v w a c j
   compiled_boxed {P} {target} {size} t es p = compiled_pointer t.adds (boxed P) size p (ap (λ n. n + 1) t.gives_count) (omega (arith, t.waits_few)) (λ all can. t.known all (can_boxed can)) (omega (arith, es, (target_few target).0)) (omega (arith, es, (target_few target).1))
       (λ l. (sym t.size_is ∙ sym es, refl)) (λ m g w z le. (omega (arith, es, le), t.below m (grows_trans (pushed_grows p) g) w))
       (λ s shapes m g u given. made_boxed (t.points s shapes m (grows_trans (pushed_grows p) g) u given))
 
-module _ {names : List Known} {done : ℕ} {v w : Waits} {a c : PlanLists} {j i : ℕ} where
+module _ {names : List NamedNode} {done : ℕ} {v w : Waits} {a c : PlanLists} {j i : ℕ} where
   pub compiled_vec : {X : Shape} → CompiledTarget names X v w a i → IsPushed a c (Some 8) 4 (PointerJob Run i) j → Compiled names done (vec X) v w a c j
   compiled_vec {X} t p = compiled_pointer t.adds (vec X) 8 p refl (omega (arith, t.waits_few)) (λ all can. t.known all (can_vec can)) (omega arith) (omega arith)
       (λ l. (refl, refl)) (λ m g w z le. (le, t.below m w))
       (λ s shapes m g u given. made_vec (points_run (t.sized s shapes m u) (t.stands s shapes m u)))
 
-module _ {names : List Known} {done : ℕ} {v : Waits} {a b c : PlanLists} {j i : ℕ} where
+module _ {names : List NamedNode} {done : ℕ} {v : Waits} {a b c : PlanLists} {j i : ℕ} where
   pub compiled_str : IsPushed a b (Some 1) 1 Free i → IsPushed b c (Some 8) 4 (Str i) j → Compiled names done str v v a c j
   compiled_str q p = compiled_pointer (adds_byte q) str 8 p refl (omega arith) (λ all can. all) (omega arith) (omega arith)
       (λ l. (refl, refl)) (λ m g w z le. (le, byte_below q m (grows_trans (pushed_grows p) g)))
       (λ s shapes m g u given. made_str (byte_sized q m (grows_trans (pushed_grows p) g)))
 
-module _ {names : List Known} {v w : Waits} {a b c : PlanLists} {i k : ℕ} {P : Pointee} {target : Target} {sort : Sort} {flavor : FlavorInfo}
+module _ {names : List NamedNode} {v w : Waits} {a b c : PlanLists} {i k : ℕ} {P : Pointee} {target : Target} {sort : Sort} {flavor : FlavorInfo}
     (t : CompiledPointee names P v w a b target i) (q : IsSorted b c sort k) (ef : sort.flavor ≡ flavor) (ep : pointee_of sort.pointee ≡ P) where
   shared_adds : Adds names t.gives v w a c
   shared_adds = adds_same t.adds (sorted_grows q) q.nodes

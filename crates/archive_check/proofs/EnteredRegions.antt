@@ -12,7 +12,7 @@ use Rattle.archive_check.specs.declared.work.Work.{Work}
 use Rattle.archive_check.specs.declared.work.Work.TheVariants.{Part as PartWork, Elements, Leave}
 use Rattle.archive_check.specs.Depth.{Allows, inside}
 use Rattle.archive_check.specs.Ranges.{RangeState, subtree_answer, pushed, one_more, pop_answer, popped}
-use Rattle.archive_check.specs.Met.{Positions}
+use Rattle.archive_check.specs.PositionStates.{Positions}
 use Rattle.archive_check.specs.Reads.{bytes_at}
 use Rattle.archive_check.specs.Tour.{Seen}
 use Rattle.archive_check.specs.Trail.{Fault, outside, unaligned, too_deep}
@@ -21,9 +21,9 @@ use Rattle.archive_check.specs.Faults.{IsFor}
 use Rattle.archive_check.specs.declared.check.Region.{Region}
 use Rattle.archive_check.specs.Entered.{Lands, Entered}
 use Rattle.archive_check.specs.Through.{Rule, Through, Stops, region_rule, contents_rule}
-use Rattle.archive_check.specs.Turns.{and_then, Passes, Ready, stage, pending_in, regions_in, Agreeing, Listing, Entering, Leads, HasLevels, power, level, cost}
+use Rattle.archive_check.specs.LoopInvariant.{and_then, Passes, Ready, stage, pending_in, regions_in, Agreeing, Listing, Entering, TurnLeads, HasLevels, power, level, cost}
 use Rattle.archive_check.proofs.TurnRules.{enter_one, enter_run}
-use Rattle.archive_check.proofs.MetAgrees.{allows, agrees_inside, taken_back, not_taken}
+use Rattle.archive_check.proofs.ContextAgrees.{allows, agrees_inside, taken_back, not_taken}
 use Rattle.archive_check.proofs.TurnsEnd.{level_end, falls_enter}
 
 pub lands : (s : RangeState) (z : ℤ) (size align t : ℕ) (u : Unit {0}) → z ≡ pos t → Ok u ≡ subtree_answer s z size align → Lands s z size align t
@@ -189,7 +189,7 @@ pub has_levels : (s : RangeState) (met : Positions) (work : List Work) (seen : S
 has_levels s met work seen a = record { levels = a.levels; few = λ d e. omega (arith, a.few d e) }
 
 -- a region that is gone through is no longer to be entered
-pub region_leads : (m : Checker) (target : Target) (j n : ℕ) (z : ℤ) (s s' : RangeState) (met met' : Positions) (old : List Work) → Through (region_rule m target j n z) s s' → met' ≡ met → Leads m (Entering m target j n z) (stage s met old) (stage s' met' old)
+pub region_leads : (m : Checker) (target : Target) (j n : ℕ) (z : ℤ) (s s' : RangeState) (met met' : Positions) (old : List Work) → Through (region_rule m target j n z) s s' → met' ≡ met → TurnLeads m (Entering m target j n z) (stage s met old) (stage s' met' old)
 region_leads m target j n z s s' met met' old through same seen a =
     let some = has_levels s met old seen a in
     let back = through.depth some in (
@@ -223,7 +223,7 @@ module _ (m : Checker) (j n : ℕ) (z : ℤ) (s s' : RangeState) (met met' : Pos
         let k = times_size h.region.node.size n r.size h.region.size_is lt in
         (k.0, record { node = h.region.node; at = h.region.at; size_is = k.1 }, k.2)
 
-    pub entered_one : new ≡ PartWork j r.begin ∷ mid → Leads m (Entering m One j n z) (stage s met old) (stage s' met' new)
+    pub entered_one : new ≡ PartWork j r.begin ∷ mid → TurnLeads m (Entering m One j n z) (stage s met old) (stage s' met' new)
     entered_one e seen a =
         let whole : new ≡ PartWork j r.begin ∷ Leave (r.begin + r.size) s.end ∷ old = e ∙ ap (λ w. PartWork j r.begin ∷ w) listed in (
           seen,
@@ -231,7 +231,7 @@ module _ (m : Checker) (j n : ℕ) (z : ℤ) (s s' : RangeState) (met met' : Pos
           λ o q. entering {target = One} (enter_one m h.region h.lands.above h.lands.below h.lands.aligned (allows a h.deep) lt (moved whole q)),
         )
 
-    pub entered_run : new ≡ Elements j n r.begin ∷ mid → Leads m (Entering m Run j n z) (stage s met old) (stage s' met' new)
+    pub entered_run : new ≡ Elements j n r.begin ∷ mid → TurnLeads m (Entering m Run j n z) (stage s met old) (stage s' met' new)
     entered_run e seen a =
         let whole : new ≡ Elements j n r.begin ∷ Leave (r.begin + r.size) s.end ∷ old = e ∙ ap (λ w. Elements j n r.begin ∷ w) listed in (
           seen,

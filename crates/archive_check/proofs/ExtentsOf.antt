@@ -15,7 +15,7 @@ use Rattle.archive_check.specs.Schemas.{table_in}
 use Rattle.archive_check.specs.BoundedSizes.{fits, rounded, sum_of, greater_of}
 use Rattle.archive_check.specs.PlanGrowth.{node_of}
 use Rattle.archive_check.specs.Extents.{Ends, HasExtent, PartsSoFar, VariantsSoFar}
-use Rattle.archive_check.proofs.Fitting.{fits_some, rounded_fits, sum_fits, greater_fits}
+use Rattle.archive_check.proofs.BoundedSizes.{fits_some, rounded_fits, sum_fits, greater_fits}
 use Rattle.archive_check.proofs.CompiledParts.{ends_positive}
 use Rattle.archive_check.proofs.PositiveAlignments.{parts_align_pos, variants_align_pos}
 

@@ -14,17 +14,17 @@ use Rattle.archive_check.specs.declared.plan.Checker.{Checker}
 use Rattle.archive_check.specs.declared.work.Work.{Work}
 use Rattle.archive_check.specs.declared.work.Work.TheVariants.{Finish}
 use Rattle.archive_check.specs.Ranges.{RangeState}
-use Rattle.archive_check.specs.Met.{Met, Positions, IsStartAnswer, started}
+use Rattle.archive_check.specs.PositionStates.{PositionState, Positions, IsStartAnswer, started}
 use Rattle.archive_check.specs.Reads.{i32_at}
 use Rattle.archive_check.specs.Tour.{Seen, Entry}
 use Rattle.archive_check.specs.Trail.{Fault, cyclic, other_type, other_length}
-use Rattle.archive_check.specs.Runs.{Outcome, refused, IsAt, count_at, length_of, entry_for, EnterRuns, FollowRuns, follow_before, follow_new, follow_again, follow_type, follow_length, follow_cycle}
-use Rattle.archive_check.specs.Turns.{Stage, stage, pending_in, Agreeing, Then, and_then, stops, Entering, Following, Leads, Refuses, Keeps, IsStopped}
-use Rattle.archive_check.proofs.MetAgrees.{levels_of, agrees_same, SeenAs, seen_as, met_none, agrees_new, started_again}
+use Rattle.archive_check.specs.Runs.{Outcome, refused, IsAt, target_count, target_length, entry_for, EnterRuns, FollowRuns, follow_before, follow_new, follow_again, follow_type, follow_length, follow_cycle}
+use Rattle.archive_check.specs.LoopInvariant.{Stage, stage, pending_in, Agreeing, Then, and_then, stops, Entering, Following, TurnLeads, TurnRefuses, Keeps, IsStopped}
+use Rattle.archive_check.proofs.ContextAgrees.{levels_of, agrees_same, SeenAs, seen_as, met_none, agrees_new, started_again}
 use Rattle.archive_check.proofs.TurnRules.{turn_new}
 
 module _ (m : Checker) (s : RangeState) (met : Positions) (old : List Work) (k j p n l : ℕ) (target : Target) (z : ℤ) (sort : Sort)
-    (at : IsAt m.sorts.now k sort) (n_is : n ≡ count_at m.bytes.now p target) (l_is : l ≡ length_of m.bytes.now p target) (z_is : z ≡ pos p +ℤ i32_at m.bytes.now p) where
+    (at : IsAt m.sorts.now k sort) (n_is : n ≡ target_count m.bytes.now p target) (l_is : l ≡ target_length m.bytes.now p target) (z_is : z ≡ pos p +ℤ i32_at m.bytes.now p) where
   abbrev here : Entry
   here = entry_for sort l
 
@@ -44,10 +44,10 @@ module _ (m : Checker) (s : RangeState) (met : Positions) (old : List Work) (k j
       seen_at_by (pos t) same = record { t = t; target_is = same; seen_is = seen_as a t e over (ap met (sym same) ∙ is) }
       seen_at_by (negsuc t) same = absurd (let none = a.before t in let some = ap met (sym same) ∙ is in cc)
 
-  pub follow_refuses : (e : Error) → IsStartAnswer (met z) here (Err e) → Refuses (Following m k target j p) (stage s met old) e
+  pub follow_refuses : (e : Error) → IsStartAnswer (met z) here (Err e) → TurnRefuses (Following m k target j p) (stage s met old) e
   follow_refuses e h = answered (met z) refl e h
     where
-      answered : (o : Option Met) → met z ≡ o → (e : Error) → IsStartAnswer o here (Err e) → Refuses (Following m k target j p) (stage s met old) e
+      answered : (o : Option PositionState) → met z ≡ o → (e : Error) → IsStartAnswer o here (Err e) → TurnRefuses (Following m k target j p) (stage s met old) e
       answered None is e h = inl h
       answered (Some was) is TypeMismatch h = inr (λ seen a.
           let at_t = seen_at seen was.entry was.finished a is in
@@ -57,13 +57,13 @@ module _ (m : Checker) (s : RangeState) (met : Positions) (old : List Work) (k j
           (other_length, refl, following (stops (follow_length at at_t.target_is at_t.seen_is.is h.0 h.1))))
       answered (Some was) is e h = absurd h
 
-  pub follow_cyclic : met z ≡ Some (record { entry = here; finished = false }) → sort.flavor.cycles ≡ false → Refuses (Following m k target j p) (stage s met old) CyclicValidate
+  pub follow_cyclic : met z ≡ Some (record { entry = here; finished = false }) → sort.flavor.cycles ≡ false → TurnRefuses (Following m k target j p) (stage s met old) CyclicValidate
   follow_cyclic is none = inr (λ seen a.
       let at_t = seen_at seen here false a is in
       (cyclic, refl, following (stops (follow_cycle at at_t.target_is at_t.seen_is.is (at_t.seen_is.here refl) none))))
 
   module _ (s1 : RangeState) (met1 : Positions) (same : s1 ≡ s) (starts : met1 ≡ started met z here) where
-    pub follow_known : (over : Bool) → met z ≡ Some (record { entry = here; finished = over }) → (over ≡ false → IsTrue sort.flavor.cycles) → Leads m (Following m k target j p) (stage s met old) (stage s1 met1 old)
+    pub follow_known : (over : Bool) → met z ≡ Some (record { entry = here; finished = over }) → (over ≡ false → IsTrue sort.flavor.cycles) → TurnLeads m (Following m k target j p) (stage s met old) (stage s1 met1 old)
     follow_known over is free seen a =
         let at_t = seen_at seen here over a is in
         let again : Agreeing (stage s1 met1 old) seen = rw (same, starts) (agrees_same (started_again a z here _ is) a) in
@@ -79,7 +79,7 @@ module _ (m : Checker) (s : RangeState) (met : Positions) (old : List Work) (k j
       refused_by runs seen a (negsuc q) is = follow_before (λ t e. let clash : negsuc q ≡ pos t = sym is ∙ e in cc) (runs (pending_in old) seen)
 
       -- a region that isn't entered, wherever its position is
-      pub refuses_new : (e : Error) → IsStopped m target j n z s1 e → Refuses (Following m k target j p) (stage s met old) e
+      pub refuses_new : (e : Error) → IsStopped m target j n z s1 e → TurnRefuses (Following m k target j p) (stage s met old) e
       refuses_new e (inl memory) = inl memory
       refuses_new e (inr stopped) = inr (λ seen a.
           let f = (rw same at stopped) (levels_of a) in
@@ -91,7 +91,7 @@ module _ (m : Checker) (s : RangeState) (met : Positions) (old : List Work) (k j
       follow_nowhere x fault None never stopped = (tt, refuses_new fault stopped)
 
       module _ (t : ℕ) (target_is : z ≡ pos t) (mid : List Work) (list : mid ≡ Finish k t ∷ old) where
-        entered_leads : (x : Stage) → Leads m (Entering m target j n z) (stage s1 met1 mid) x → Leads m (Following m k target j p) (stage s met old) x
+        entered_leads : (x : Stage) → TurnLeads m (Entering m target j n z) (stage s1 met1 mid) x → TurnLeads m (Following m k target j p) (stage s met old) x
         entered_leads x leads seen a =
             let none = met_none a t (ap met (sym target_is) ∙ new) in
             let begun = rw (← target_is) at (agrees_new a t here (ap met (sym target_is) ∙ new)) in
@@ -99,11 +99,11 @@ module _ (m : Checker) (s : RangeState) (met : Positions) (old : List Work) (k j
             let go = leads (insert seen t here) more in
             (go.0, go.1, λ o r. following (turn_new m at target_is none (rw (same, list) at (go.2 o r))))
 
-        pub follow_started : (x : Stage) (fault : Error) (result : Option (Unit {0})) → OnSome result (Leads m (Entering m target j n z) (stage s1 met1 mid) x) → IfNone result (IsStopped m target j n z s1 fault) → Keeps m (Following m k target j p) (stage s met old) x result fault
+        pub follow_started : (x : Stage) (fault : Error) (result : Option (Unit {0})) → OnSome result (TurnLeads m (Entering m target j n z) (stage s1 met1 mid) x) → IfNone result (IsStopped m target j n z s1 fault) → Keeps m (Following m k target j p) (stage s met old) x result fault
         follow_started x fault (Some u) leads stopped = (entered_leads x leads, tt)
         follow_started x fault None leads stopped = (tt, refuses_new fault stopped)
 
-pub answer_of : (o : Option Met) (e : Entry) {r r' : Result ValidationState Error} → r ≡ r' → IsStartAnswer o e r → IsStartAnswer o e r'
+pub answer_of : (o : Option PositionState) (e : Entry) {r r' : Result ValidationState Error} → r ≡ r' → IsStartAnswer o e r → IsStartAnswer o e r'
 answer_of o e is h = rw is at h
 
 -- positions as indices

@@ -49,7 +49,7 @@ pub mod RootRuns
 pub mod ReachedNames
 pub mod TurnsEnd
 pub mod TurnRules
-pub mod MetAgrees
+pub mod ContextAgrees
 pub mod EnteredRegions
 pub mod AtOnce
 pub mod LegalBytes
@@ -58,9 +58,9 @@ pub mod TurnInvariants
 pub mod RootLoop
 pub mod Same
 pub mod Copies
-pub mod KeptPositions
+pub mod SharedPositions
 pub mod SubtreeSteps
-pub mod Fitting
+pub mod BoundedSizes
 pub mod Rounds
 pub mod GrowingPlans
 pub mod Compilable
@@ -70,7 +70,7 @@ pub mod Compiled
 pub mod CompiledPointers
 pub mod CompiledParts
 pub mod Restated
-pub mod Numbered
+pub mod NodeNumbers
 pub mod WaitingExpressions
 pub mod CompiledChain
 pub mod Planned
@@ -86,7 +86,7 @@ pub mod PassedElements
 pub mod PlansInOrder
 pub mod Unshared
 pub mod StandingBytes
-pub mod TidyIsClean
+pub mod CleanRegions
 pub mod ShallowMarks
 pub mod Tightness
 pub mod UniqueBefore

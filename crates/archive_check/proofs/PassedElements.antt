@@ -13,10 +13,10 @@ use Rattle.archive_check.specs.declared.plan.Checker.{Checker}
 use Rattle.archive_check.specs.declared.work.Work.{Work}
 use Rattle.archive_check.specs.declared.work.Work.TheVariants.{Elements}
 use Rattle.archive_check.specs.Ranges.{RangeState}
-use Rattle.archive_check.specs.Met.{Positions}
+use Rattle.archive_check.specs.PositionStates.{Positions}
 use Rattle.archive_check.specs.Tour.{Seen}
 use Rattle.archive_check.specs.Runs.{IsNode, Outcome, IsAt, Takes, ListRuns, elements_end, elements_next, list_elements, list_elements_stop}
-use Rattle.archive_check.specs.Turns.{LiesLegal, lies_free, lies_leaf, PartFits, ElementsFit, Stays, Ready, stage, Listing, Leads, level, cost}
+use Rattle.archive_check.specs.LoopInvariant.{LiesLegal, lies_free, lies_leaf, PartFits, ElementsFit, Stays, Ready, stage, Listing, TurnLeads, level, cost}
 use Rattle.archive_check.proofs.TurnsEnd.{power_falls, level_same}
 use Rattle.archive_check.proofs.Elements.{same_at}
 use Rattle.archive_check.proofs.PlanSizes.{take_same}
@@ -62,11 +62,11 @@ module _ (m : Checker) (j z : ℕ) (takes : Takes m j z) where
 
     module _ (s : RangeState) (met : Positions) (n p c : ℕ) (le : c ≤ n) (stays : (k : ℕ) → k < c → Stays m j (p + k * z)) where
       -- all elements are passed over
-      pub pass_all : c ≡ n → Leads m (Listing m) (stage s met (Elements j n p ∷ old)) (stage s met old)
+      pub pass_all : c ≡ n → TurnLeads m (Listing m) (stage s met (Elements j n p ∷ old)) (stage s met old)
       pass_all all seen agreed = (seen, agreed, λ o r. pass_runs c n p 0 (p + c * z) le (omega arith) refl stays (list_elements (elements_end refl) r))
 
       -- those before the next one are passed over
-      pub pass_leads : Leads m (Listing m) (stage s met (Elements j n p ∷ old)) (stage s met (Elements j (n - c) (p + c * z) ∷ old))
+      pub pass_leads : TurnLeads m (Listing m) (stage s met (Elements j n p ∷ old)) (stage s met (Elements j (n - c) (p + c * z) ∷ old))
       pass_leads seen agreed = (seen, agreed, λ o r. pass_runs c n p (n - c) (p + c * z) le refl refl stays r)
 
       pub pass_ready : Ready m s (Elements j n p ∷ old) → Ready m s (Elements j (n - c) (p + c * z) ∷ old)

@@ -6,11 +6,11 @@ use Rattle.archive_check.specs.declared.plan.Checker.{Checker}
 use Rattle.archive_check.specs.declared.work.Work.{Work}
 use Rattle.archive_check.specs.declared.work.Work.TheVariants.{Parts}
 use Rattle.archive_check.specs.Ranges.{RangeState}
-use Rattle.archive_check.specs.Met.{Positions}
+use Rattle.archive_check.specs.PositionStates.{Positions}
 use Rattle.archive_check.specs.Tour.{Seen}
 use Rattle.archive_check.specs.Runs.{Outcome, IsAt, ListRuns, parts_end, parts_next, list_parts, list_parts_stop}
-use Rattle.archive_check.specs.Closed.{span}
-use Rattle.archive_check.specs.Turns.{PartFits, PartsFit, PartStays, Ready, stage, pending_in, Listing, Leads, level, rank, cost}
+use Rattle.archive_check.specs.SoundPlans.{span}
+use Rattle.archive_check.specs.LoopInvariant.{PartFits, PartsFit, PartStays, Ready, stage, pending_in, Listing, TurnLeads, level, rank, cost}
 use Rattle.archive_check.proofs.TurnsEnd.{power_falls, level_same}
 use Rattle.archive_check.proofs.Elements.{at_default, span_next}
 
@@ -59,7 +59,7 @@ module _ (m : Checker) (p : ℕ) where
 
     module _ (s : RangeState) (met : Positions) (a b c : ℕ) (stays : (k : ℕ) → a ≤ k → k < c → PartStays m p k) where
       -- all parts are passed over
-      pub skip_all : c ≤ b → b ≤ c → Leads m (Listing m) (stage s met (Parts a b p ∷ old)) (stage s met old)
+      pub skip_all : c ≤ b → b ≤ c → TurnLeads m (Listing m) (stage s met (Parts a b p ∷ old)) (stage s met old)
       skip_all le ge seen agreed = (seen, agreed, λ o r. over (nat_le a c) refl r)
         where
           over : {o : Outcome} (t : Bool) → nat_le a c ≡ t → ListRuns m (pending_in old) s.depth s.end old s.start seen o → ListRuns m (pending_in old) s.depth s.end (Parts a b p ∷ old) s.start seen o
@@ -67,7 +67,7 @@ module _ (m : Checker) (p : ℕ) where
           over false e r = let beyond : c < a = grind (arith, nat_tests) in list_parts (parts_end (omega arith)) r
 
       -- the parts before c are passed over
-      pub skip_leads : a ≤ c → c ≤ b → Leads m (Listing m) (stage s met (Parts a b p ∷ old)) (stage s met (Parts c b p ∷ old))
+      pub skip_leads : a ≤ c → c ≤ b → TurnLeads m (Listing m) (stage s met (Parts a b p ∷ old)) (stage s met (Parts c b p ∷ old))
       skip_leads from le seen agreed = (seen, agreed, λ o r. skip_runs (c - a) a b c (omega arith) le stays r)
 
       pub skip_ready : Ready m s (Parts a b p ∷ old) → a ≤ c → c ≤ b → Ready m s (Parts c b p ∷ old)

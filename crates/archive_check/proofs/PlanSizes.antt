@@ -5,7 +5,7 @@ use Rattle.archive_check.specs.Runs.{times, Takes}
 use Rattle.archive_check.specs.Represents.{Sized}
 use Rattle.archive_check.specs.BoundedSizes.{fits}
 use Rattle.archive_check.proofs.Elements.{same_at}
-use Rattle.archive_check.proofs.Fitting.{fits_some, some_is, some_below, none_is, times_fits}
+use Rattle.archive_check.proofs.BoundedSizes.{fits_some, some_is, some_below, none_is, times_fits}
 
 pub take_same : {m : Checker} {j y z : ℕ} → Takes m j y → Takes m j z → y ≡ z
 take_same {y = y} {z = z} t u = let same : Some y ≡ Some z = sym t.size_is ∙ ap (λ q. q.size) (same_at t.at u.at) ∙ u.size_is in cc

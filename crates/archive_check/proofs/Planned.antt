@@ -6,7 +6,7 @@ use Rattle.archive_check.specs.declared.defs.Def.{Def}
 use Rattle.archive_check.specs.declared.plan.Plan.{Plan}
 use Rattle.archive_check.specs.declared.plan.Node.{Node}
 use Rattle.archive_check.specs.declared.plan.Checker.{Checker}
-use Rattle.archive_check.specs.declared.growing.Known.{Known}
+use Rattle.archive_check.specs.declared.growing.NamedNode.{NamedNode}
 use Rattle.archive_check.specs.Shape.{Name, Shape, leaf, unit, named, definition}
 use Rattle.archive_check.specs.Layout.{Layouts, layout, size_of, align_of}
 use Rattle.archive_check.specs.Expressions.{shape_of, entries_of}
@@ -18,12 +18,12 @@ use Rattle.archive_check.specs.BoundedSizes.{fits}
 use Rattle.archive_check.specs.PlanGrowth.{node_of, PlanLists, lists_of, Grows}
 use Rattle.archive_check.specs.CompileQueue.{Wait, Waits, wait_shapes, Reserved}
 use Rattle.archive_check.specs.Compilable.{Can}
-use Rattle.archive_check.specs.Compiled.{Follows, Below, NamesSized, Settled, Given, ClosedTo, MadeTo, Compiled}
-use Rattle.archive_check.specs.Numbered.{def_shapes, start_of, FirstAt, IsNumbered}
+use Rattle.archive_check.specs.Compiled.{Follows, Below, NamesSized, Settled, Given, SoundTo, MadeTo, Compiled}
+use Rattle.archive_check.specs.NodeNumbers.{def_shapes, start_of, FirstAt, IsNumbered}
 use Rattle.archive_check.specs.Planned.{IsOf, IsPlan, HasNames, InOrder, CompiledFrom, Chained, CanFinish, Finishes}
 use Rattle.archive_check.proofs.GrowingPlans.{same_goes, at_more, goes_longer, grows_trans}
 use Rattle.archive_check.proofs.Elements.{same_at, some_at, at_behind, at_end}
-use Rattle.archive_check.proofs.Numbered.{def_at, def_count, can_chain, can_root, all_before, start_next, start_later, start_prefix, start_behind, first_at, definition_is, numbered_known}
+use Rattle.archive_check.proofs.NodeNumbers.{def_at, def_count, can_chain, can_root, all_before, start_next, start_later, start_prefix, start_behind, first_at, definition_is, numbered_known}
 use Rattle.archive_check.proofs.CompiledChain.{root_same, compiled_same, chained_next}
 
 layout_sized : {m : Checker} {j : ℕ} (l : Layouts) (name : Name) (X : Shape) → l name ≡ layout l X → Sized m j (size_of l X) (align_of l X) → Sized m j (l name).size (l name).align
@@ -45,14 +45,14 @@ wait_node base (y ∷ ws) next r (suc k) x h =
     let q = wait_node (base + count_of y.shape) ws next r.2 k x (record { below = omega (arith, h.below); is = h.is }) in (omega (arith, q.0), omega (arith, q.1))
 
 -- what was compiled and is no name stands for its shape
-kept_stands : {names : List Known} {X : Shape} {start : ℕ} {w : Waits} {b : PlanLists} {gives : List Shape} {s : Schema} {shapes : ℕ → Shape} {j : ℕ} → (c : CompiledFrom names X start w b gives) → Given shapes 0 gives
+kept_stands : {names : List NamedNode} {X : Shape} {start : ℕ} {w : Waits} {b : PlanLists} {gives : List Shape} {s : Schema} {shapes : ℕ → Shape} {j : ℕ} → (c : CompiledFrom names X start w b gives) → Given shapes 0 gives
     → j ≡ c.node → j + 1 ≡ start + count_of X → start ≤ j → StandsFor s shapes X j
 kept_stands {X = X} {s = s} {shapes = shapes} c given same last from = ⊎_elim
     (λ w. absurd (omega (arith, last, from, ap count_of w.1)))
     (λ w. subst (λ i. StandsFor s shapes X i) (sym same) (stands (w.2 shapes (c.given shapes given))))
     c.compiled.root
 
-root_stands : {names : List Known} {X : Shape} {start : ℕ} {w : Waits} {ws : List Wait} {b : PlanLists} {gives : List Shape} {s : Schema} {shapes : ℕ → Shape} {m : Checker} → (c : CompiledFrom names X start w b gives) → Settled names ws s shapes m → Given shapes 0 gives → StandsFor s shapes X c.node
+root_stands : {names : List NamedNode} {X : Shape} {start : ℕ} {w : Waits} {ws : List Wait} {b : PlanLists} {gives : List Shape} {s : Schema} {shapes : ℕ → Shape} {m : Checker} → (c : CompiledFrom names X start w b gives) → Settled names ws s shapes m → Given shapes 0 gives → StandsFor s shapes X c.node
 root_stands {s = s} {shapes = shapes} c t given = ⊎_elim
     (λ h. subst (λ Y. StandsFor s shapes Y c.node) (sym h.1) (t.stand h.0 c.node h.2))
     (λ h. stands (h.2 shapes (c.given shapes given)))
@@ -62,7 +62,7 @@ root_stands {s = s} {shapes = shapes} c t given = ⊎_elim
 abbrev all_shapes : List Def → Shape → Waits → List Shape
 all_shapes defs X w = (def_shapes defs ++ X ∷ []) ++ wait_shapes w.items
 
-module _ {names : List Known} {defs : List Def} {w : Waits} {base : ℕ} {b : PlanLists} (X : Shape)
+module _ {names : List NamedNode} {defs : List Def} {w : Waits} {base : ℕ} {b : PlanLists} (X : Shape)
     (num : IsNumbered defs names (length defs)) (chain : Chained names (all_shapes defs X w) base w b) (base_is : base ≡ start_of (def_shapes defs) (length defs) + count_of X) where
   front_count : length (def_shapes defs ++ X ∷ []) ≡ length defs + 1
   front_count = length-append (def_shapes defs) (X ∷ []) ∙ ap (λ n. n + 1) (def_count defs)
@@ -124,7 +124,7 @@ module _ {names : List Known} {defs : List Def} {w : Waits} {base : ℕ} {b : Pl
 
       -- the nodes of the first p definitions have their layouts
       abbrev AreLaid : ℕ → Type 0
-      AreLaid p = (q : ℕ) (d : Def) (k : Known) → q < p → IsAt defs q d → IsAt names q k → Sized m k.node (size_of s.layouts (shape_of d.expr)) (align_of s.layouts (shape_of d.expr))
+      AreLaid p = (q : ℕ) (d : Def) (k : NamedNode) → q < p → IsAt defs q d → IsAt names q k → Sized m k.node (size_of s.layouts (shape_of d.expr)) (align_of s.layouts (shape_of d.expr))
 
       -- so have the names that lead to them
       name_sized : (p : ℕ) → AreLaid p → (r : ℕ) (name : Name) (q j : ℕ) → q < r → FirstAt names name q j → j < start_of (def_shapes defs) p → Sized m j (s.layouts name).size (s.layouts name).align
@@ -193,7 +193,7 @@ plan_follows : (m : Checker) (plan : Plan) → IsOf m plan → Follows (lists_of
 plan_follows m plan o = record { nodes = same_goes o.nodes; parts = same_goes o.parts; variants = same_goes o.variants; sorts = same_goes o.sorts }
 
 -- the plan of all
-pub planned : {names : List Known} {defs : List Def} {w v u : Waits} {base j : ℕ} {b c : PlanLists} (X : Shape) (plan : Plan) → IsNumbered defs names (length defs) → Chained names (all_shapes defs X w) base w (lists_of plan)
+pub planned : {names : List NamedNode} {defs : List Def} {w v u : Waits} {base j : ℕ} {b c : PlanLists} (X : Shape) (plan : Plan) → IsNumbered defs names (length defs) → Chained names (all_shapes defs X w) base w (lists_of plan)
     → base ≡ start_of (def_shapes defs) (length defs) + count_of X
     → Compiled names (length b.nodes) X v u b c j → length b.nodes ≡ start_of (def_shapes defs) (length defs) → Grows c (lists_of plan) → IsPlan defs X plan j
 planned {defs = defs} {w = w} {base = base} {j = j} {b = b} X plan num chain base_is root starts grows =
@@ -201,10 +201,10 @@ planned {defs = defs} {w = w} {base = base} {j = j} {b = b} X plan num chain bas
     let same : j ≡ kept.node = compiled_same X root kept.compiled (starts ∙ sym kept.starts) in
     record {
       below = omega (arith, root.below, goes_longer grows.nodes);
-      closed = λ m o.
+      sound = λ m o.
           let g = plan_follows m plan o in
-          let none : ClosedTo m 0 = record { fits = λ i node z lt at e. absurd (omega (arith, lt)) } in
-          let all = chain.adds.closed m g (all_below X num chain base_is m g) none in
+          let none : SoundTo m 0 = record { fits = λ i node z lt at e. absurd (omega (arith, lt)) } in
+          let all = chain.adds.sound m g (all_below X num chain base_is m g) none in
           record { fits = λ i node z at e. all.fits i node z (omega (arith, at.below, ap length o.nodes)) at e };
       plan_of = λ m s o table laid.
           let g = plan_follows m plan o in
@@ -233,7 +233,7 @@ checker_of plan = record {
 }
 
 -- the names' nodes
-names_planned : {names : List Known} {defs : List Def} {w : Waits} {base : ℕ} (X : Shape) (plan : Plan) → IsNumbered defs names (length defs) → Chained names (all_shapes defs X w) base w (lists_of plan)
+names_planned : {names : List NamedNode} {defs : List Def} {w : Waits} {base : ℕ} (X : Shape) (plan : Plan) → IsNumbered defs names (length defs) → Chained names (all_shapes defs X w) base w (lists_of plan)
     → base ≡ start_of (def_shapes defs) (length defs) + count_of X → HasNames defs names plan
 names_planned {names} {defs} X plan num chain base_is =
     let m = checker_of plan in
@@ -246,7 +246,7 @@ names_planned {names} {defs} X plan num chain base_is =
     }
 
 -- the definitions, then the root, then what waits
-pub all_planned : {names : List Known} {defs : List Def} {v u w : Waits} {base j : ℕ} {b c : PlanLists} (X : Shape) (plan : Plan) → IsNumbered defs names (length defs) → Chained names (def_shapes defs) base v b
+pub all_planned : {names : List NamedNode} {defs : List Def} {v u w : Waits} {base j : ℕ} {b c : PlanLists} (X : Shape) (plan : Plan) → IsNumbered defs names (length defs) → Chained names (def_shapes defs) base v b
     → base ≡ start_of (def_shapes defs) (length defs) + count_of X → Compiled names (length b.nodes) X v u b c j → Finishes names u w c (lists_of plan) → IsPlan defs X plan j
 all_planned {defs = defs} {base = base} X plan num chain base_is root rest =
     let front = chained_next chain root in
@@ -254,7 +254,7 @@ all_planned {defs = defs} {base = base} X plan num chain base_is root rest =
     planned X plan num (rest.chained (def_shapes defs ++ X ∷ []) base front) base_is root (omega (arith, chain.adds.count, chain.gives_count, starts)) rest.grows
 
 -- where the definitions are in order, the root can be compiled behind them, and then all that waits
-module _ {names : List Known} {defs : List Def} {base : ℕ} {v : Waits} {b : PlanLists} {X : Shape} (num : IsNumbered defs names (length defs)) (chain : Chained names (def_shapes defs) base v b) (o : InOrder defs X) where
+module _ {names : List NamedNode} {defs : List Def} {base : ℕ} {v : Waits} {b : PlanLists} {X : Shape} (num : IsNumbered defs names (length defs)) (chain : Chained names (def_shapes defs) base v b) (o : InOrder defs X) where
   root_begins : length b.nodes ≡ start_of (def_shapes defs) (length defs)
   root_begins = let starts = ap (start_of (def_shapes defs)) (def_count defs) in omega (arith, chain.adds.count, chain.gives_count, starts)
 
@@ -267,6 +267,6 @@ module _ {names : List Known} {defs : List Def} {base : ℕ} {v : Waits} {b : Pl
     below = λ name j e. omega (arith, all_before num name j e, root_begins, goes_longer root.adds.grows.nodes);
   }
 
-pub all_named : {names : List Known} {defs : List Def} {v u w : Waits} {base j : ℕ} {b c : PlanLists} (X : Shape) (plan : Plan) → IsNumbered defs names (length defs) → Chained names (def_shapes defs) base v b
+pub all_named : {names : List NamedNode} {defs : List Def} {v u w : Waits} {base j : ℕ} {b c : PlanLists} (X : Shape) (plan : Plan) → IsNumbered defs names (length defs) → Chained names (def_shapes defs) base v b
     → base ≡ start_of (def_shapes defs) (length defs) + count_of X → Compiled names (length b.nodes) X v u b c j → Finishes names u w c (lists_of plan) → HasNames defs names plan
 all_named {defs = defs} {base = base} X plan num chain base_is root rest = names_planned X plan num (rest.chained (def_shapes defs ++ X ∷ []) base (chained_next chain root)) base_is

@@ -19,9 +19,9 @@ use Rattle.archive_check.specs.Tour.{Seen, Entry, pointee_size, pointee_align}
 use Rattle.archive_check.specs.Trail.{Fault, too_large, outside, unaligned, too_deep, cyclic, other_type, other_length, illegal, no_such_variant, no_text, no_string, Trips, trips_leaf, trips_parts, trips_tag, trips_choice, trips_array, trips_boxed, trips_vec, trips_inline, trips_short, trips_out_of_line, trips_shared, trips_weak, trips_named, TripsParts, trips_first, trips_later, TripsRun, trips_element, trips_later_element, TripsFollow, trips_unique, trips_before, trips_new, trips_type, trips_length, trips_cycle, TripsEnter, trips_size, trips_range, trips_align, trips_depth, trips_within, TripsContents, trips_one, trips_run, trips_text}
 use Rattle.archive_check.specs.Walk.{Walk, walk_leaf, walk_parts, walk_choice, walk_array, walk_boxed, walk_vec, walk_inline, walk_out_of_line, walk_shared, walk_null, walk_weak, walk_named, WalkParts, walk_no_part, walk_part, WalkRun, walk_none, walk_element, Follow, follow_unique, follow_new, follow_again, Enter, enter, WalkContents, walk_one, walk_run, walk_text}
 use Rattle.archive_check.specs.Expressions.{kind_of, flavor_of, pointee_of}
-use Rattle.archive_check.specs.Met.{SameType}
-use Rattle.archive_check.specs.Runs.{target_size, count_at, length_of, entry_for, IsAt, IsNode, Takes, RegionIs, Outcome, done, refused, NodeRuns, run_free, run_leaf, run_illegal, run_record, run_choice, run_tag, run_array, run_pointer, run_inline, run_no_text, run_short, run_out_of_line, run_shared, run_null, run_weak, FollowRuns, follow_before, follow_new as runs_new, follow_again as runs_again, follow_type, follow_length, follow_cycle, PartsRun, parts_end, parts_next, parts_stop, ElementsRun, elements_end, elements_next, elements_free, elements_stop, EnterRuns, enter_too_large, enter_outside, enter_unaligned, enter_too_deep, enter_within, enter_stop, ContentsRun, contents_empty, contents_one, contents_run, contents_text, contents_no_text}
-use Rattle.archive_check.specs.Closed.{JobFits, IsClosed}
+use Rattle.archive_check.specs.PositionStates.{SameType}
+use Rattle.archive_check.specs.Runs.{target_size, target_count, target_length, entry_for, IsAt, IsNode, Takes, RegionIs, Outcome, done, refused, NodeRuns, run_free, run_leaf, run_illegal, run_record, run_choice, run_tag, run_array, run_pointer, run_inline, run_no_text, run_short, run_out_of_line, run_shared, run_null, run_weak, FollowRuns, follow_before, follow_new as runs_new, follow_again as runs_again, follow_type, follow_length, follow_cycle, PartsRun, parts_end, parts_next, parts_stop, ElementsRun, elements_end, elements_next, elements_free, elements_stop, EnterRuns, enter_too_large, enter_outside, enter_unaligned, enter_too_deep, enter_within, enter_stop, ContentsRun, contents_empty, contents_one, contents_run, contents_text, contents_no_text}
+use Rattle.archive_check.specs.SoundPlans.{JobFits, IsSound}
 use Rattle.archive_check.specs.Represents.{StandsFor, stands, stands_named, PartsStand, parts_over, parts_more, Sized, Points, points_one, points_run, points_text, Made, made_free, made_leaf, made_record, made_choice, made_array, made_boxed, made_vec, made_str, made_shared, made_weak, Represents, OutcomeSays}
 use Rattle.archive_check.proofs.OneReading.{pos_one}
 use Rattle.archive_check.proofs.PlanSizes.{take_same, times_some, times_many, sized_takes, element_few}
@@ -75,7 +75,7 @@ Counts One n l = n ≡ 1
 Counts Run n l = n ≡ l
 Counts Text n l = n ≡ l
 
-counts_of : (bytes : List ℕ) (p : ℕ) (target : Target) → Counts target (count_at bytes p target) (length_of bytes p target)
+counts_of : (bytes : List ℕ) (p : ℕ) (target : Target) → Counts target (target_count bytes p target) (target_length bytes p target)
 counts_of bytes p One = refl
 counts_of bytes p Run = refl
 counts_of bytes p Text = refl
@@ -172,7 +172,7 @@ module _ (s : Schema) (shapes : ℕ → Shape) (m : Checker) where
   unique_case pending depth stop start seen where_to P l o says = says_map o (λ a k w. follow_unique refl w.1) (λ e t. trips_unique refl t) says
 
   -- the plan and the shapes read the same length
-  length_is : {target : Target} {j : ℕ} {P : Pointee} (p : ℕ) → Points s shapes m target j P → length_of m.bytes.now p target ≡ length_at m.bytes.now p P
+  length_is : {target : Target} {j : ℕ} {P : Pointee} (p : ℕ) → Points s shapes m target j P → target_length m.bytes.now p target ≡ length_at m.bytes.now p P
   length_is p (points_one k st) = refl
   length_is p (points_run k st) = refl
   length_is p (points_text k) = refl
@@ -196,7 +196,7 @@ module _ (s : Schema) (shapes : ℕ → Shape) (m : Checker) where
   -- what comes of following a shared pointer at p of a sort
   abbrev pub SortSays : ℕ → Target → ℕ → List ℕ → Option ℕ → ℕ → ℕ → ℕ → Seen → Outcome → Type 0
   SortSays k target j pending depth stop p start seen o =
-      (sort : Sort) → IsAt m.sorts.now k sort → Points s shapes m target j (pointee_of sort.pointee) → FollowSays (sorted sort (pos p +ℤ i32_at m.bytes.now p) (length_of m.bytes.now p target)) pending depth stop start seen o
+      (sort : Sort) → IsAt m.sorts.now k sort → Points s shapes m target j (pointee_of sort.pointee) → FollowSays (sorted sort (pos p +ℤ i32_at m.bytes.now p) (target_length m.bytes.now p target)) pending depth stop start seen o
 
   shared_case : {X : Shape} {target : Target} {k j : ℕ} (pending : List ℕ) (depth : Option ℕ) (stop p start : ℕ) (seen : Seen) (o : Outcome) → Made s shapes m (Shared k target j) X → SortSays k target j pending depth stop p start seen o → ShapeSays X pending depth stop p start seen o
   shared_case pending depth stop p start seen o (made_shared at h) says = says_map o (λ a k w. walk_shared w) (λ e t. trips_shared t) (rw (length_is p h) at (says _ at h))
@@ -295,13 +295,13 @@ module _ (s : Schema) (shapes : ℕ → Shape) (m : Checker) where
   empty_node {p = p} job (inr (kind, is, none)) made room =
       leaf_case (rw is at made) (record { size = empty_length m.bytes.now p (kind_size (kind_of kind)) none; number = empty_number (kind_of kind) (kind_number (kind_of kind) (bytes_at m.bytes.now p (kind_size (kind_of kind)))) none })
 
-  module _ (r : Represents s shapes m) (closed : IsClosed m) where
+  module _ (r : Represents s shapes m) (sound : IsSound m) where
     empty_walk : {X : Shape} {j align : ℕ} {pending : List ℕ} {depth : Option ℕ} {stop p start : ℕ} {seen : Seen} → StandsFor s shapes X j → Sized m j (size_of s.layouts X) align → size_of s.layouts X ≡ 0 → p ≤ length m.bytes.now → Walk s m.bytes.now pending depth stop p X start seen start seen
     empty_walk {j = j} st k e room =
         let t = sized_takes k (omega (arith, e)) in
         let size_is = t.size_is ∙ ap Some e in
         let made = r.made j t.node 0 t.at size_is in
-        stands_walk st (empty_node t.node.job (empty_job m j t.node.job (closed.fits j t.node 0 t.at size_is)) made.1 (omega (arith, made.0, room)))
+        stands_walk st (empty_node t.node.job (empty_job m j t.node.job (sound.fits j t.node 0 t.at size_is)) made.1 (omega (arith, made.0, room)))
 
     empty_run : {X : Shape} {j align : ℕ} {pending : List ℕ} {depth : Option ℕ} {stop start : ℕ} {seen : Seen} (n p : ℕ) → StandsFor s shapes X j → Sized m j (size_of s.layouts X) align → size_of s.layouts X ≡ 0 → p ≤ length m.bytes.now → WalkRun s m.bytes.now pending depth stop p n X start seen start seen
     empty_run zero p st k e room = walk_none

@@ -7,14 +7,14 @@ use Rattle.archive_check.specs.declared.plan.Target.TheVariants.{One}
 use Rattle.archive_check.specs.declared.plan.Checker.{Checker}
 use Rattle.archive_check.specs.declared.work.Work.{Work}
 use Rattle.archive_check.specs.Ranges.{RangeState}
-use Rattle.archive_check.specs.Met.{Positions}
+use Rattle.archive_check.specs.PositionStates.{Positions}
 use Rattle.archive_check.specs.Tour.{Seen}
 use Rattle.archive_check.specs.Trail.{Fault}
 use Rattle.archive_check.specs.Faults.{IsFor}
 use Rattle.archive_check.specs.Fresh.{IsFresh}
 use Rattle.archive_check.specs.Runs.{Outcome, done, refused, EnterRuns, list_end}
-use Rattle.archive_check.specs.Turns.{Stage, stage, Agreeing, Listing, Entering, Leads, Refuses, IsStopped}
-use Rattle.archive_check.proofs.MetAgrees.{agrees_fresh}
+use Rattle.archive_check.specs.LoopInvariant.{Stage, stage, Agreeing, Listing, Entering, TurnLeads, TurnRefuses, IsStopped}
+use Rattle.archive_check.proofs.ContextAgrees.{agrees_fresh}
 use Rattle.archive_check.proofs.TurnRules.{then_end}
 
 module _ (m : Checker) (s : RangeState) (met : Positions) (root at : ℕ) where
@@ -30,7 +30,7 @@ module _ (m : Checker) (s : RangeState) (met : Positions) (root at : ℕ) where
   RefusesRoot e = (e ≡ OutOfMemory) ⊎ (IsFresh s met → (f : Fault) × IsFor f e × Rooted (refused f))
 
   module _ (z : ℤ) (same : z ≡ pos at) where
-    pub root_leads : (first : List Work) (x : Stage) → first ≡ [] → Leads m (Entering m One root 1 z) (stage s met first) x → LeadsBack x
+    pub root_leads : (first : List Work) (x : Stage) → first ≡ [] → TurnLeads m (Entering m One root 1 z) (stage s met first) x → LeadsBack x
     root_leads first x none leads fresh =
         let go = leads empty (rw none (agrees_fresh s met fresh)) in
         (go.0, go.1, λ o r. then_end m (rw (none, same) at (go.2 o r)))
@@ -44,13 +44,13 @@ module _ (m : Checker) (s : RangeState) (met : Positions) (root at : ℕ) where
     root_ends none fresh = let a = h fresh in (s'.start, a.0, a.2 (done s'.start a.0) (rw none list_end))
 
     module _ (entry : Work) (rest : List Work) (work_is : work ≡ entry ∷ rest) where
-      pub turn_leads : (y : Stage) → Leads m (Listing m) (stage s' met' (entry ∷ rest)) y → LeadsBack y
+      pub turn_leads : (y : Stage) → TurnLeads m (Listing m) (stage s' met' (entry ∷ rest)) y → LeadsBack y
       turn_leads y leads fresh =
           let a = h fresh in
           let go = leads a.0 (rw work_is at a.1) in
           (go.0, go.1, λ o r. a.2 o (rw work_is (go.2 o r)))
 
-      pub turn_refuses : (e : Error) → Refuses (Listing m) (stage s' met' (entry ∷ rest)) e → RefusesRoot e
+      pub turn_refuses : (e : Error) → TurnRefuses (Listing m) (stage s' met' (entry ∷ rest)) e → RefusesRoot e
       turn_refuses e (inl memory) = inl memory
       turn_refuses e (inr stopped) = inr (λ fresh.
           let a = h fresh in

@@ -11,11 +11,11 @@ use Rattle.archive_check.specs.Tour.{root_pointer, Seen}
 use Rattle.archive_check.specs.Trail.{Fault}
 use Rattle.archive_check.specs.Walk.{Enter, enter, RootWalk}
 use Rattle.archive_check.specs.Ranges.{RangeState}
-use Rattle.archive_check.specs.Met.{Positions}
+use Rattle.archive_check.specs.PositionStates.{Positions}
 use Rattle.archive_check.specs.Fresh.{IsFresh, IsWhole}
 use Rattle.archive_check.specs.Faults.{IsFor}
 use Rattle.archive_check.specs.Runs.{Outcome, done, refused, EnterRuns}
-use Rattle.archive_check.specs.Closed.{IsClosed}
+use Rattle.archive_check.specs.SoundPlans.{IsSound}
 use Rattle.archive_check.specs.PlanChecks.{PlanAccepts, PlanRefuses, PlanIsExact}
 use Rattle.archive_check.proofs.OneReading.{pos_one}
 use Rattle.archive_check.proofs.AcceptedWalks.{walked, walks}
@@ -36,7 +36,7 @@ module _ (m : Checker) (j root : ℕ) (limit : Option ℕ) where
   exact_err : (error : Error) → length m.bytes.now < 2 ^ 64 → PlanRefuses m j limit root error → PlanIsExact m j limit root (Err error)
   exact_err error few (fault, is, trips) = inr (λ s X plan. (λ t. cc, λ a. absurd (root_no_walk s m.bytes.now few (trips s X plan) (walks s m.bytes.now limit root X a))))
 
-module _ (m : Checker) (j root : ℕ) (r : RangeState) (met : Positions) (closed : IsClosed m) where
+module _ (m : Checker) (j root : ℕ) (r : RangeState) (met : Positions) (sound : IsSound m) where
   -- what the root's run comes to
   abbrev pub RootRuns : Outcome → Type 0
   RootRuns o = EnterRuns m [] r.depth r.end One j 1 (pos root) r.start empty o
@@ -50,13 +50,13 @@ module _ (m : Checker) (j root : ℕ) (r : RangeState) (met : Positions) (closed
   pub run_accepts : RunDone → IsWhole r met m.bytes.now → PlanAccepts m j r.depth root
   run_accepts runs whole s X plan =
       let v = runs whole.fresh in
-      let here = enter_says s plan.shapes m plan.represents closed None 0 (rw (whole.start, whole.end) at v.2) plan.points refl (omega arith) in
+      let here = enter_says s plan.shapes m plan.represents sound None 0 (rw (whole.start, whole.end) at v.2) plan.points refl (omega arith) in
       walked s m.bytes.now r.depth root X (entered_root s m.bytes.now r.depth root X here.1)
 
   fresh_refuses : (error : Error) → (IsFresh r met → (f : Fault) × IsFor f error × RootRuns (refused f)) → IsWhole r met m.bytes.now → PlanRefuses m j r.depth root error
   fresh_refuses error runs whole =
       let v = runs whole.fresh in
-      (v.0, v.1, λ s X plan. (enter_says s plan.shapes m plan.represents closed None 0 (rw (whole.start, whole.end) at v.2) plan.points refl (omega arith)))
+      (v.0, v.1, λ s X plan. (enter_says s plan.shapes m plan.represents sound None 0 (rw (whole.start, whole.end) at v.2) plan.points refl (omega arith)))
 
   pub run_refuses : (error : Error) → RunRefused error → (error ≡ OutOfMemory) ⊎ (IsWhole r met m.bytes.now → PlanRefuses m j r.depth root error)
   run_refuses error (inl h) = inl h

@@ -12,7 +12,7 @@ use Rattle.archive_check.specs.declared.plan.Node.{Node}
 use Rattle.archive_check.specs.declared.plan.Part.{Part}
 use Rattle.archive_check.specs.declared.plan.Span.{Span}
 use Rattle.archive_check.specs.Runs.{IsAt}
-use Rattle.archive_check.specs.Closed.{span}
+use Rattle.archive_check.specs.SoundPlans.{span}
 use Rattle.archive_check.proofs.Elements.{same_at}
 use Rattle.archive_check.specs.Shallow.{marked, is_free, free_at, parts_shallow, variants_shallow, job_shallow, AreShallow, HasRange, HasSpans, HasIndexes, AreAllMarked}
 

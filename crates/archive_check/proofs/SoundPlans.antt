@@ -12,7 +12,7 @@ use Rattle.archive_check.specs.declared.plan.Checker.{Checker}
 use Rattle.archive_check.specs.Layout.{kind_size}
 use Rattle.archive_check.specs.Expressions.{kind_of}
 use Rattle.archive_check.specs.Runs.{target_size, IsAt, Takes}
-use Rattle.archive_check.specs.Closed.{span, PartsWithin, SpanFits, ArrayFits, VariantsFit, JobFits, IsClosed}
+use Rattle.archive_check.specs.SoundPlans.{span, PartsWithin, SpanFits, ArrayFits, VariantsFit, JobFits, IsSound}
 use Rattle.archive_check.proofs.Elements.{same_at, some_at}
 use Rattle.archive_check.proofs.PlanSizes.{take_same}
 
@@ -123,13 +123,13 @@ module _ (m : Checker) where
       (λ f. f y e) (job_or i y node.job)
 
 -- a plan is sound, or it is not
-pub closed_or_not : (m : Checker) → IsClosed m ⊎ (IsClosed m → ⊥)
-closed_or_not m = same_or
+pub sound_or_not : (m : Checker) → IsSound m ⊎ (IsSound m → ⊥)
+sound_or_not m = same_or
     (λ f. record { fits = λ i node z at e. f i at.below node at z e })
-    (λ closed i lt node at z e. closed.fits i node z at e)
+    (λ sound i lt node at z e. sound.fits i node z at e)
     (below_or (length m.nodes.now) (λ i. (node : Node) → IsAt m.nodes.now i node → (z : ℕ) → node.size ≡ Some z → JobFits m i z node.job)
     (λ i. at_or m.nodes.now (λ node. (z : ℕ) → node.size ≡ Some z → JobFits m i z node.job) (λ node. node_or m i node node.size refl) i))
 
 -- a plan that is merely known to be sound is sound
-pub closed_again : (m : Checker) → ∥ IsClosed m ∥₁ → IsClosed m
-closed_again m h = ⊎_elim (λ closed. closed) (λ no. absurd (∥∥₁_elim h (λ a b. absurd a) no)) (closed_or_not m)
+pub sound_again : (m : Checker) → ∥ IsSound m ∥₁ → IsSound m
+sound_again m h = ⊎_elim (λ sound. sound) (λ no. absurd (∥∥₁_elim h (λ a b. absurd a) no)) (sound_or_not m)

@@ -4,7 +4,7 @@ use Rattle.std.specs.Result.{IsErrAnd}
 use Rattle.archive_check.specs.declared.error.Error.{Error}
 use Rattle.archive_check.specs.declared.error.Error.TheVariants.{ExceededMaximumSubtreeDepth}
 use Rattle.archive_check.specs.Ranges.{RangeState, subtree_answer, pushed, pop_answer, popped}
-use Rattle.archive_check.specs.Met.{Positions}
+use Rattle.archive_check.specs.PositionStates.{Positions}
 use Rattle.archive_check.specs.InSubtree.{IsInState, InSubtree, check_refused, push_refused, call_refused, pop_refused, entered_and_left}
 
 -- a position that is accepted isn't below 0

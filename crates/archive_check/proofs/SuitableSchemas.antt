@@ -15,8 +15,8 @@ use Rattle.archive_check.specs.Names.{HasAll}
 use Rattle.archive_check.specs.PlanChecks.{PlanOf, PlanAccepts, PlanRefuses, PlanIsExact}
 use Rattle.archive_check.specs.Planned.{IsOf, IsPlan}
 use Rattle.archive_check.specs.Schemas.{root_of, table_in, Suits, Accepts, Refuses, IsExact}
-use Rattle.archive_check.specs.Closed.{IsClosed}
-use Rattle.archive_check.proofs.SoundPlans.{closed_again}
+use Rattle.archive_check.specs.SoundPlans.{IsSound}
+use Rattle.archive_check.proofs.SoundPlans.{sound_again}
 use Rattle.archive_check.proofs.WellFormed.{reached_within}
 use Rattle.archive_check.proofs.ReachedNames.{SameName, same_accepted_within, same_faults}
 
@@ -64,6 +64,6 @@ module _ (s : RustSchema) (all : HasAll (table_in s) (root_of s)) (m : Checker) 
 pub plan_known : (s : RustSchema) (plan : ∥ IsPlan s.definitions.items (root_of s) s.plan s.node ∥₁) → s.node < length s.plan.nodes.items
 plan_known s plan = ∥∥₁_elim plan le_prop (λ p. p.below)
 
--- and the plan is closed, with any bytes
-pub plan_closed : (s : RustSchema) (m : Checker) → IsOf m s.plan → ∥ IsPlan s.definitions.items (root_of s) s.plan s.node ∥₁ → IsClosed m
-plan_closed s m is plan = closed_again m (∥∥₁_map plan (λ p. p.closed m is))
+-- and the plan is sound, with any bytes
+pub plan_sound : (s : RustSchema) (m : Checker) → IsOf m s.plan → ∥ IsPlan s.definitions.items (root_of s) s.plan s.node ∥₁ → IsSound m
+plan_sound s m is plan = sound_again m (∥∥₁_map plan (λ p. p.sound m is))

@@ -1,4 +1,4 @@
--- Tight and tidy lists of regions.
+-- Tight lists of clean regions.
 use Rattle.std.proofs.Common.{ℕ, ◌+◌, ◌-◌, ◌/◌, ◌≤◌, List, [], ◌∷◌, ◌++◌, refl, arith}
 use Rattle.std.proofs.Math.Nat.{mul-mod_left}
 use Rattle.archive_check.specs.Shape.{Pointee, one, run, text}
@@ -9,7 +9,7 @@ use Rattle.archive_check.specs.Written.{after, Tight}
 use Rattle.archive_check.specs.CleanRegions.{CleanRegions}
 use Rattle.archive_check.proofs.PositiveAlignments.{align_pos}
 use Rattle.archive_check.proofs.PartsInside.{up_le}
-use Rattle.archive_check.proofs.TidyIsClean.{AreSized}
+use Rattle.archive_check.proofs.CleanRegions.{AreSized}
 
 pub tight_append : (a : ℕ) (C : List Region) (b : ℕ) (D : List Region) (c : ℕ) → Tight a C b → Tight b D c → Tight a (C ++ D) c
 tight_append a [] b D c h k = rw h at k

@@ -11,17 +11,17 @@ use Rattle.archive_check.specs.declared.plan.Checker.{Checker}
 use Rattle.archive_check.specs.declared.work.Work.{Work}
 use Rattle.archive_check.specs.declared.work.Work.TheVariants.{Part as PartWork, Parts, Elements, Leave, Finish}
 use Rattle.archive_check.specs.Ranges.{RangeState, pop_answer, popped}
-use Rattle.archive_check.specs.Met.{Positions, finished, finish_answer}
+use Rattle.archive_check.specs.PositionStates.{Positions, finished, finish_answer}
 use Rattle.archive_check.specs.Tour.{Seen}
 use Rattle.archive_check.specs.Trail.{Fault}
 use Rattle.archive_check.specs.Reads.{i32_at}
-use Rattle.archive_check.specs.Runs.{count_at, Outcome, done, refused, IsAt, IsNode, NodeRuns, ListRuns, list_part, list_part_stop, list_leave, list_finish}
+use Rattle.archive_check.specs.Runs.{target_count, Outcome, done, refused, IsAt, IsNode, NodeRuns, ListRuns, list_part, list_part_stop, list_leave, list_finish}
 use Rattle.archive_check.specs.Lists.{IsMore}
-use Rattle.archive_check.specs.Closed.{span, PartsWithin, SpanFits, ArrayFits, JobFits, IsClosed}
+use Rattle.archive_check.specs.SoundPlans.{span, PartsWithin, SpanFits, ArrayFits, JobFits, IsSound}
 use Rattle.archive_check.specs.Faults.{IsFor}
-use Rattle.archive_check.specs.Turns.{PartsHere, PartFits, Ready, Stage, stage, pending_in, regions_in, Listing, Entering, Following, Leads, Refuses, Keeps, IsStopped, stops, power, level, rank, cost}
+use Rattle.archive_check.specs.LoopInvariant.{PartsHere, PartFits, Ready, Stage, stage, pending_in, regions_in, Listing, Entering, Following, TurnLeads, TurnRefuses, Keeps, IsStopped, stops, power, level, rank, cost}
 use Rattle.archive_check.proofs.TurnRules.{turn_parts, turn_elements, turn_part_last, turn_element_last, turn_elements_free, turn_pointer, turn_shared, turn_weak}
-use Rattle.archive_check.proofs.MetAgrees.{levels_of, agrees_finished, finish_fine, agrees_outside, inside_more, taken_back}
+use Rattle.archive_check.proofs.ContextAgrees.{levels_of, agrees_finished, finish_fine, agrees_outside, inside_more, taken_back}
 use Rattle.archive_check.proofs.TurnsEnd.{level_node, level_same, falls_one, falls_two, falls_under, falls_shared}
 use Rattle.archive_check.proofs.Elements.{same_at, span_next}
 
@@ -33,18 +33,18 @@ module _ (m : Checker) (s : RangeState) (met : Positions) where
   -- a turn that meets nothing, and enters and leaves nothing
   pub same_leads : (old new : List Work) → pending_in new ≡ pending_in old → regions_in new ≡ regions_in old
       → ((seen : Seen) (o : Outcome) → ListRuns m (pending_in old) s.depth s.end new s.start seen o → ListRuns m (pending_in old) s.depth s.end old s.start seen o)
-      → Leads m (Listing m) (stage s met old) (stage s met new)
+      → TurnLeads m (Listing m) (stage s met old) (stage s met new)
   same_leads old new e f turn seen a = (seen, rw (e, f) a, λ o r. turn seen o (rw e at r))
 
-  pub node_leads : (old : List Work) (i p : ℕ) → ((seen : Seen) → NodeRuns m (pending_in old) s.depth s.end i p s.start seen (done s.start seen)) → Leads m (Listing m) (stage s met (PartWork i p ∷ old)) (stage s met old)
+  pub node_leads : (old : List Work) (i p : ℕ) → ((seen : Seen) → NodeRuns m (pending_in old) s.depth s.end i p s.start seen (done s.start seen)) → TurnLeads m (Listing m) (stage s met (PartWork i p ∷ old)) (stage s met old)
   node_leads old i p run seen a = (seen, a, λ o r. list_part (run seen) r)
 
-  pub node_refuses : (old : List Work) (i p : ℕ) (f : Fault) (e : Error) → IsFor f e → ((seen : Seen) → NodeRuns m (pending_in old) s.depth s.end i p s.start seen (refused f)) → Refuses (Listing m) (stage s met (PartWork i p ∷ old)) e
+  pub node_refuses : (old : List Work) (i p : ℕ) (f : Fault) (e : Error) → IsFor f e → ((seen : Seen) → NodeRuns m (pending_in old) s.depth s.end i p s.start seen (refused f)) → TurnRefuses (Listing m) (stage s met (PartWork i p ∷ old)) e
   node_refuses old i p f e is run = inr (λ seen a. (f, is, list_part_stop (run seen)))
 
   module _ (old : List Work) (i p : ℕ) (y : Stage) where
     enter_keeps : (result : Option (Unit {0})) (fault : Error) (target : Target) (j n : ℕ) (z : ℤ) → ((seen : Seen) (o : Outcome) → Entering m target j n z (stage s met old) seen o → Listing m (stage s met (PartWork i p ∷ old)) seen o)
-        → OnSome result (Leads m (Entering m target j n z) (stage s met old) y) → IfNone result (IsStopped m target j n z s fault)
+        → OnSome result (TurnLeads m (Entering m target j n z) (stage s met old) y) → IfNone result (IsStopped m target j n z s fault)
         → Keeps m (Listing m) (stage s met (PartWork i p ∷ old)) y result fault
     enter_keeps (Some u) fault target j n z turn leads stopped = (λ seen a. let go = leads seen a in (go.0, go.1, λ o r. turn seen o (go.2 o r)), tt)
     enter_keeps None fault target j n z turn leads (inl memory) = (tt, inl memory)
@@ -54,8 +54,8 @@ module _ (m : Checker) (s : RangeState) (met : Positions) where
           let f = stopped (levels_of a) in (f.0, f.1, turn seen (refused f.0) (stops (f.2 (pending_in old) seen)))),
     )
 
-    pub pointer_keeps : (result : Option (Unit {0})) (fault : Error) (target : Target) (j n : ℕ) (z : ℤ) → IsNode m i (PointerJob target j) → n ≡ count_at m.bytes.now p target → z ≡ pos p +ℤ i32_at m.bytes.now p
-        → OnSome result (Leads m (Entering m target j n z) (stage s met old) y) → IfNone result (IsStopped m target j n z s fault)
+    pub pointer_keeps : (result : Option (Unit {0})) (fault : Error) (target : Target) (j n : ℕ) (z : ℤ) → IsNode m i (PointerJob target j) → n ≡ target_count m.bytes.now p target → z ≡ pos p +ℤ i32_at m.bytes.now p
+        → OnSome result (TurnLeads m (Entering m target j n z) (stage s met old) y) → IfNone result (IsStopped m target j n z s fault)
         → Keeps m (Listing m) (stage s met (PartWork i p ∷ old)) y result fault
     pointer_keeps result fault target j n z is en ez leads stopped = enter_keeps result fault target j n z (λ seen o t. turn_pointer m is (rw (en, ez) at t)) leads stopped
 
@@ -86,7 +86,7 @@ module _ (m : Checker) (s : RangeState) (met : Positions) where
     part_room a b p x r lt at =
         let here = rw (span_next m.parts.now a b x lt r.fits.0.last at) at r.fits.0.here in omega (arith, here.0.2)
 
-    parts_leads : (a b p : ℕ) (x : Part) → a < b → IsAt m.parts.now a x → new ≡ PartWork x.node (p + x.offset) ∷ Parts (a + 1) b p ∷ old → Leads m (Listing m) (stage s met (Parts a b p ∷ old)) (stage s met new)
+    parts_leads : (a b p : ℕ) (x : Part) → a < b → IsAt m.parts.now a x → new ≡ PartWork x.node (p + x.offset) ∷ Parts (a + 1) b p ∷ old → TurnLeads m (Listing m) (stage s met (Parts a b p ∷ old)) (stage s met new)
     parts_leads a b p x lt at e = same_leads (Parts a b p ∷ old) new (ap pending_in e) (ap regions_in e) (λ seen o r. turn_parts m lt at (rw e at r))
 
     parts_ends : (a b p : ℕ) (x : Part) → a < b → b ≤ length m.parts.now → b < 18446744073709551616 → IsAt m.parts.now a x → new ≡ PartWork x.node (p + x.offset) ∷ Parts (a + 1) b p ∷ old → cost m s.end new < cost m s.end (Parts a b p ∷ old)
@@ -108,7 +108,7 @@ module _ (m : Checker) (s : RangeState) (met : Positions) where
           fits = rw e (record { size = f.size; takes = f.takes; fits = omega (arith, f.fits, all) }, (record { size = f.size; few = omega (arith, f.few); takes = f.takes; fits = omega (arith, f.fits, all, same) }, r.fits.1));
         }
 
-    elements_leads : (j n p z : ℕ) (x : Node) → Ready m s (Elements j n p ∷ old) → 0 < n → IsAt m.nodes.now j x → ((y : ℕ) → x.size ≡ Some y → z ≡ y) → new ≡ PartWork j p ∷ Elements j (n - 1) (p + z) ∷ old → Leads m (Listing m) (stage s met (Elements j n p ∷ old)) (stage s met new)
+    elements_leads : (j n p z : ℕ) (x : Node) → Ready m s (Elements j n p ∷ old) → 0 < n → IsAt m.nodes.now j x → ((y : ℕ) → x.size ≡ Some y → z ≡ y) → new ≡ PartWork j p ∷ Elements j (n - 1) (p + z) ∷ old → TurnLeads m (Listing m) (stage s met (Elements j n p ∷ old)) (stage s met new)
     elements_leads j n p z x r lt at size e =
         let f = r.fits.0 in
         let same = size f.size (ap (λ q. q.size) (same_at at f.takes.at) ∙ f.takes.size_is) in
@@ -129,7 +129,7 @@ module _ (m : Checker) (s : RangeState) (met : Positions) where
         let here = rw (span_next m.parts.now a b x lt r.fits.0.last at) at r.fits.0.here in
         record { below = r.below; fits = rw e (record { size = here.0.0; takes = here.0.1; fits = here.0.2 }, r.fits.1) }
 
-    pub part_leads : (a b p : ℕ) (x : Part) → a < b → IsAt m.parts.now a x → IsMore (Parts (a + 1) b p) (b ≤ a + 1) rest old → Leads m (Listing m) (stage s met (Parts a b p ∷ old)) (stage s met (PartWork x.node (p + x.offset) ∷ rest))
+    pub part_leads : (a b p : ℕ) (x : Part) → a < b → IsAt m.parts.now a x → IsMore (Parts (a + 1) b p) (b ≤ a + 1) rest old → TurnLeads m (Listing m) (stage s met (Parts a b p ∷ old)) (stage s met (PartWork x.node (p + x.offset) ∷ rest))
     part_leads a b p x lt at (inl (some, e)) = parts_leads old (PartWork x.node (p + x.offset) ∷ rest) a b p x lt at (ap (λ w. PartWork x.node (p + x.offset) ∷ w) e)
     part_leads a b p x lt at (inr (ge, e)) = same_leads (Parts a b p ∷ old) (PartWork x.node (p + x.offset) ∷ rest) (ap pending_in e) (ap regions_in e) (λ seen o r. turn_part_last m lt ge at (rw e at r))
 
@@ -149,7 +149,7 @@ module _ (m : Checker) (s : RangeState) (met : Positions) where
         let all = split_count n f.size lt in
         record { below = r.below; fits = rw e (record { size = f.size; takes = f.takes; fits = omega (arith, f.fits, all) }, r.fits.1) }
 
-    pub element_leads : (j n p z : ℕ) (x : Node) → Ready m s (Elements j n p ∷ old) → 0 < n → IsAt m.nodes.now j x → ((y : ℕ) → x.size ≡ Some y → z ≡ y) → IsMore (Elements j (n - 1) (p + z)) (n - 1 ≡ 0) rest old → Leads m (Listing m) (stage s met (Elements j n p ∷ old)) (stage s met (PartWork j p ∷ rest))
+    pub element_leads : (j n p z : ℕ) (x : Node) → Ready m s (Elements j n p ∷ old) → 0 < n → IsAt m.nodes.now j x → ((y : ℕ) → x.size ≡ Some y → z ≡ y) → IsMore (Elements j (n - 1) (p + z)) (n - 1 ≡ 0) rest old → TurnLeads m (Listing m) (stage s met (Elements j n p ∷ old)) (stage s met (PartWork j p ∷ rest))
     element_leads j n p z x r lt at size (inl (some, e)) = elements_leads old (PartWork j p ∷ rest) j n p z x r lt at size (ap (λ w. PartWork j p ∷ w) e)
     element_leads j n p z x r lt at size (inr (none, e)) = same_leads (Elements j n p ∷ old) (PartWork j p ∷ rest) (ap pending_in e) (ap regions_in e) (λ seen o v. turn_element_last m lt none r.fits.0.takes (rw e at v))
 
@@ -160,25 +160,25 @@ module _ (m : Checker) (s : RangeState) (met : Positions) where
         rw e (falls_one (level k s.end j 18446744073709551616) (level k s.end (j + 1) n) (cost m s.end old) (level_node k s.end (j + 1) n j 18446744073709551616 (omega arith) (omega arith)))
 
   module _ (old : List Work) where
-    pub elements_free_leads : (j n p : ℕ) → IsNode m j Free → Ready m s (Elements j n p ∷ old) → Leads m (Listing m) (stage s met (Elements j n p ∷ old)) (stage s met old)
+    pub elements_free_leads : (j n p : ℕ) → IsNode m j Free → Ready m s (Elements j n p ∷ old) → TurnLeads m (Listing m) (stage s met (Elements j n p ∷ old)) (stage s met old)
     elements_free_leads j n p is ready seen a = (seen, a, λ o r. turn_elements_free m is ready.fits.0.takes ready.fits.0.fits r)
 
-    pub node_fits : (i p : ℕ) (job : Job) → IsClosed m → IsNode m i job → (f : PartFits m i p) → JobFits m i f.size job
-    node_fits i p job closed h f =
-        let fits = closed.fits i h.node f.size h.at (ap (λ q. q.size) (same_at h.at f.takes.at) ∙ f.takes.size_is) in rw h.job_is at fits
+    pub node_fits : (i p : ℕ) (job : Job) → IsSound m → IsNode m i job → (f : PartFits m i p) → JobFits m i f.size job
+    node_fits i p job sound h f =
+        let fits = sound.fits i h.node f.size h.at (ap (λ q. q.size) (same_at h.at f.takes.at) ∙ f.takes.size_is) in rw h.job_is at fits
 
-    pub leave_leads : (s' : RangeState) (met' : Positions) (x y : ℕ) → s' ≡ popped s x y → met' ≡ met → Leads m (Listing m) (stage s met (Leave x y ∷ old)) (stage s' met' old)
+    pub leave_leads : (s' : RangeState) (met' : Positions) (x y : ℕ) → s' ≡ popped s x y → met' ≡ met → TurnLeads m (Listing m) (stage s met (Leave x y ∷ old)) (stage s' met' old)
     leave_leads s' met' x y e same seen a =
         (seen, rw (e, same) (agrees_outside (regions_in old) a), λ o r. list_leave (inside_more s.depth) (rw e at r))
 
-    pub leave_refuses : (x y : ℕ) (e : Error) → s.end ≤ x → pop_answer s x ≡ Err e → Refuses (Listing m) (stage s met (Leave x y ∷ old)) e
+    pub leave_refuses : (x y : ℕ) (e : Error) → s.end ≤ x → pop_answer s x ≡ Err e → TurnRefuses (Listing m) (stage s met (Leave x y ∷ old)) e
     leave_refuses x y e le is = inr (λ seen a. absurd (let fine = taken_back s x le (λ d same. omega (arith, a.few d same)) in let clash = sym is ∙ fine in cc))
 
-    pub finish_leads : (s' : RangeState) (met' : Positions) (k t : ℕ) (z : ℤ) → z ≡ pos t → s' ≡ s → met' ≡ finished met z → Leads m (Listing m) (stage s met (Finish k t ∷ old)) (stage s' met' old)
+    pub finish_leads : (s' : RangeState) (met' : Positions) (k t : ℕ) (z : ℤ) → z ≡ pos t → s' ≡ s → met' ≡ finished met z → TurnLeads m (Listing m) (stage s met (Finish k t ∷ old)) (stage s' met' old)
     finish_leads s' met' k t z at same e seen a =
         (seen, rw (same, e, at) (agrees_finished a), λ o r. list_finish (rw same at r))
 
-    pub finish_refuses : (k t : ℕ) (z : ℤ) (e : Error) → z ≡ pos t → Err e ≡ finish_answer (met z) → Refuses (Listing m) (stage s met (Finish k t ∷ old)) e
+    pub finish_refuses : (k t : ℕ) (z : ℤ) (e : Error) → z ≡ pos t → Err e ≡ finish_answer (met z) → TurnRefuses (Listing m) (stage s met (Finish k t ∷ old)) e
     finish_refuses k t z e at is = inr (λ seen a. absurd (let fine = is ∙ ap (λ q. finish_answer (met q)) at ∙ finish_fine a in cc))
 
 pub here_from : (m : Checker) (i p z : ℕ) (xs : List Part) → PartsWithin m i z xs → p + z ≤ length m.bytes.now → PartsHere m p xs
@@ -249,17 +249,17 @@ if_none B (Some u) fault e is h = tt
 if_none B None fault e is h = rw is h
 
 -- a turn that was refused
-pub refused_keeps : (m : Checker) (Before : Stage → Seen → Outcome → Type 0) (x y : Stage) (r : Option (Unit {0})) (fault e : Error) → r ≡ None → fault ≡ e → Refuses Before x e → Keeps m Before x y r fault
+pub refused_keeps : (m : Checker) (Before : Stage → Seen → Outcome → Type 0) (x y : Stage) (r : Option (Unit {0})) (fault e : Error) → r ≡ None → fault ≡ e → TurnRefuses Before x e → Keeps m Before x y r fault
 refused_keeps m Before x y (Some u) fault e none is h = absurd (let clash = none in cc)
 refused_keeps m Before x y None fault e none is h = (tt, rw is h)
 
 -- a turn that is an entry more
-pub pushed_keeps : {E : Type 0} (m : Checker) (Before : Stage → Seen → Outcome → Type 0) (x y : Stage) (r : Option (Unit {0})) (fault : Error) → (E → Leads m Before x y) → OnSome r E → IfNone r (fault ≡ OutOfMemory) → Keeps m Before x y r fault
+pub pushed_keeps : {E : Type 0} (m : Checker) (Before : Stage → Seen → Outcome → Type 0) (x y : Stage) (r : Option (Unit {0})) (fault : Error) → (E → TurnLeads m Before x y) → OnSome r E → IfNone r (fault ≡ OutOfMemory) → Keeps m Before x y r fault
 pushed_keeps m Before x y (Some u) fault leads e memory = (leads e, tt)
 pushed_keeps m Before x y None fault leads e memory = (tt, inl memory)
 
 -- one turn, and then another
-pub then_keeps : (m : Checker) (x y z : Stage) (r : Option (Unit {0})) (fault : Error) → Leads m (Listing m) x y → Keeps m (Listing m) y z r fault → Keeps m (Listing m) x z r fault
+pub then_keeps : (m : Checker) (x y z : Stage) (r : Option (Unit {0})) (fault : Error) → TurnLeads m (Listing m) x y → Keeps m (Listing m) y z r fault → Keeps m (Listing m) x z r fault
 then_keeps m x y z (Some u) fault first next =
     (λ seen a. let b = first seen a in let c = next.0 b.0 b.1 in (c.0, c.1, λ o r. b.2 o (c.2 o r)), tt)
 then_keeps m x y z None fault first (ok, inl memory) = (tt, inl memory)

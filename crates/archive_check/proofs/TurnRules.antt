@@ -13,8 +13,8 @@ use Rattle.archive_check.specs.declared.work.Work.TheVariants.{Part as PartWork,
 use Rattle.archive_check.specs.Depth.{Allows, inside}
 use Rattle.archive_check.specs.Reads.{i32_at}
 use Rattle.archive_check.specs.Tour.{Seen}
-use Rattle.archive_check.specs.Runs.{Outcome, IsAt, IsNode, Takes, RegionIs, count_at, length_of, entry_for, run_record, run_choice, run_array, run_pointer, run_shared, run_weak, FollowRuns, follow_new, parts_end, parts_next, parts_stop, elements_end, elements_next, elements_free, elements_stop, EnterRuns, enter_within, enter_stop, contents_one, contents_run, ListRuns, list_end, list_part, list_part_stop, list_parts, list_parts_stop, list_elements, list_elements_stop, list_leave, list_finish}
-use Rattle.archive_check.specs.Turns.{Then, and_then, stops}
+use Rattle.archive_check.specs.Runs.{Outcome, IsAt, IsNode, Takes, RegionIs, target_count, target_length, entry_for, run_record, run_choice, run_array, run_pointer, run_shared, run_weak, FollowRuns, follow_new, parts_end, parts_next, parts_stop, elements_end, elements_next, elements_free, elements_stop, EnterRuns, enter_within, enter_stop, contents_one, contents_run, ListRuns, list_end, list_part, list_part_stop, list_parts, list_parts_stop, list_elements, list_elements_stop, list_leave, list_finish}
+use Rattle.archive_check.specs.LoopInvariant.{Then, and_then, stops}
 
 -- one level of depth is got back
 pub inside_same : (d outer : Option ℕ) → Allows d 1 → inside d ≡ inside outer → outer ≡ d
@@ -36,15 +36,15 @@ module _ (m : Checker) where
   turn_array h (list_elements v r) = list_part (run_array h v) r
   turn_array h (list_elements_stop v) = list_part_stop (run_array h v)
 
-  pub turn_pointer : {pd : List ℕ} {d : Option ℕ} {e i p j s : ℕ} {k : Seen} {o : Outcome} {w : List Work} {target : Target} → IsNode m i (PointerJob target j) → Then m pd d e (EnterRuns m pd d e target j (count_at m.bytes.now p target) (pos p +ℤ i32_at m.bytes.now p) s k) w o → ListRuns m pd d e (PartWork i p ∷ w) s k o
+  pub turn_pointer : {pd : List ℕ} {d : Option ℕ} {e i p j s : ℕ} {k : Seen} {o : Outcome} {w : List Work} {target : Target} → IsNode m i (PointerJob target j) → Then m pd d e (EnterRuns m pd d e target j (target_count m.bytes.now p target) (pos p +ℤ i32_at m.bytes.now p) s k) w o → ListRuns m pd d e (PartWork i p ∷ w) s k o
   turn_pointer h (and_then v r) = list_part (run_pointer h v) r
   turn_pointer h (stops v) = list_part_stop (run_pointer h v)
 
-  pub turn_shared : {pd : List ℕ} {d : Option ℕ} {e i p c j s : ℕ} {k : Seen} {o : Outcome} {w : List Work} {target : Target} → IsNode m i (Shared c target j) → Then m pd d e (FollowRuns m pd d e c target j (count_at m.bytes.now p target) (length_of m.bytes.now p target) (pos p +ℤ i32_at m.bytes.now p) s k) w o → ListRuns m pd d e (PartWork i p ∷ w) s k o
+  pub turn_shared : {pd : List ℕ} {d : Option ℕ} {e i p c j s : ℕ} {k : Seen} {o : Outcome} {w : List Work} {target : Target} → IsNode m i (Shared c target j) → Then m pd d e (FollowRuns m pd d e c target j (target_count m.bytes.now p target) (target_length m.bytes.now p target) (pos p +ℤ i32_at m.bytes.now p) s k) w o → ListRuns m pd d e (PartWork i p ∷ w) s k o
   turn_shared h (and_then v r) = list_part (run_shared h v) r
   turn_shared h (stops v) = list_part_stop (run_shared h v)
 
-  pub turn_weak : {pd : List ℕ} {d : Option ℕ} {e i p c j s : ℕ} {k : Seen} {o : Outcome} {w : List Work} {target : Target} → IsNode m i (Weak c target j) → i32_at m.bytes.now p ≢ pos 1 → Then m pd d e (FollowRuns m pd d e c target j (count_at m.bytes.now p target) (length_of m.bytes.now p target) (pos p +ℤ i32_at m.bytes.now p) s k) w o → ListRuns m pd d e (PartWork i p ∷ w) s k o
+  pub turn_weak : {pd : List ℕ} {d : Option ℕ} {e i p c j s : ℕ} {k : Seen} {o : Outcome} {w : List Work} {target : Target} → IsNode m i (Weak c target j) → i32_at m.bytes.now p ≢ pos 1 → Then m pd d e (FollowRuns m pd d e c target j (target_count m.bytes.now p target) (target_length m.bytes.now p target) (pos p +ℤ i32_at m.bytes.now p) s k) w o → ListRuns m pd d e (PartWork i p ∷ w) s k o
   turn_weak h other (and_then v r) = list_part (run_weak h other v) r
   turn_weak h other (stops v) = list_part_stop (run_weak h other v)
 

@@ -1,7 +1,7 @@
 -- Why a check's loop ends: what is left falls with each turn.
 use Rattle.std.proofs.Common.{ℕ, zero, suc, ◌+◌, ◌*◌, ◌<◌, ◌≤◌, arith}
 use Rattle.std.proofs.Math.Nat.{mul-le-mul_right}
-use Rattle.archive_check.specs.Turns.{power, level}
+use Rattle.archive_check.specs.LoopInvariant.{power, level}
 
 pub power_pos : (n : ℕ) → 1 ≤ power n
 unfolding power

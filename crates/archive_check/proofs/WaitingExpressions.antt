@@ -1,6 +1,6 @@
 -- Expressions that wait to be compiled, and the nodes that are kept for them.
 use Rattle.std.proofs.Common.{◌≡◌, inl, inr, ⊎_elim, ℕ, refl, sym, ap, subst, ◌+◌, ◌≤◌, arith, List, [], ◌∷◌, ◌++◌, length, Some, Bor}
-use Rattle.archive_check.specs.declared.growing.Known.{Known}
+use Rattle.archive_check.specs.declared.growing.NamedNode.{NamedNode}
 use Rattle.archive_check.specs.declared.expr.Expr.{Expr}
 use Rattle.archive_check.specs.declared.expr.Expr.TheVariants as expr
 use Rattle.archive_check.specs.declared.queue.Waiting.{Waiting}
@@ -28,7 +28,7 @@ pub wait_shapes-append : (xs ys : List Wait) → wait_shapes (xs ++ ys) ≡ wait
 wait_shapes-append [] ys = refl
 wait_shapes-append (x ∷ xs) ys = ap (λ l. x.shape ∷ l) (wait_shapes-append xs ys)
 
-pub targets_name : {names : List Known} {name : Name} {v : Waits} {a : PlanLists} {j : ℕ} → node_of names name ≡ Some j → CompiledTarget names (named name) v v a j
+pub targets_name : {names : List NamedNode} {name : Name} {v : Waits} {a : PlanLists} {j : ℕ} → node_of names name ≡ Some j → CompiledTarget names (named name) v v a j
 targets_name {names = names} {name = name} {v = v} {a = a} {j = j} e = record {
   adds = adds_refl names v a;
   waits_few = omega arith;
@@ -38,7 +38,7 @@ targets_name {names = names} {name = name} {v = v} {a = a} {j = j} e = record {
   stands = λ s shapes m t. t.stand name j e;
 }
 
-pub targets_waiting : {names : List Known} {X : Shape} {v w : Waits} {a : PlanLists} {j : ℕ} → IsWaiting X v w j → CompiledTarget names X v w a j
+pub targets_waiting : {names : List NamedNode} {X : Shape} {v w : Waits} {a : PlanLists} {j : ℕ} → IsWaiting X v w j → CompiledTarget names X v w a j
 targets_waiting {names} {X} {v} {w} {a} {j} q =
     let x : Wait = record { shape = X; node = j } in
     let here : IsAt w.items (length v.items) x = subst (λ xs. IsAt xs (length v.items) x) (sym q.items_are) (at_end v.items x) in
@@ -48,7 +48,7 @@ targets_waiting {names} {X} {v} {w} {a} {j} q =
         waits_go = record { more = x ∷ []; is = q.items_are };
         reserved = λ base r. subst (λ xs. Reserved base xs w.next) (sym q.items_are) (reserved_append base v.items v.next x w.next r q.node_is q.begins q.next_is);
         count = omega arith;
-        closed = λ m g below k. k;
+        sound = λ m g below k. k;
         made = λ s shapes m g t given k. k;
       };
       waits_few = omega (arith, ap measure_of_waits q.items_are, measure_of_waits-append v.items (x ∷ []));
@@ -63,7 +63,7 @@ targets_waiting {names} {X} {v} {w} {a} {j} q =
       stands = λ s shapes m t. t.waits_stand (length v.items) x here;
     }
 
-pub targets_queued : {names : List Known} {a : PlanLists} (X : Shape) (v w : Waits) (j : ℕ) → IsQueued names X v w j → CompiledTarget names X v w a j
+pub targets_queued : {names : List NamedNode} {a : PlanLists} (X : Shape) (v w : Waits) (j : ℕ) → IsQueued names X v w j → CompiledTarget names X v w a j
 targets_queued {names} {a} X v w j (inl h) = subst (λ Y. CompiledTarget names Y v w a j) (sym h.1) (subst (λ u. CompiledTarget names (named h.0) v u a j) (sym h.3) (targets_name h.2))
 targets_queued {names} {a} X v w j (inr h) = targets_waiting h
 

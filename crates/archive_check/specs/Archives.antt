@@ -41,5 +41,5 @@ abbrev pub IsRefusal : Definitions → List ℕ → Option ℕ → ℕ → Shape
 IsRefusal D bytes limit root X error = ExplainsNoSchema X D error ⊎ IsFaulty D bytes limit root X error
 
 -- memory was refused, or the buffer is no archive
-abbrev pub IsNoArchive : Definitions → List ℕ → Option ℕ → ℕ → Shape → Error → Type 0
-IsNoArchive D bytes limit root X error = (error ≡ OutOfMemory) ⊎ (IsArchiveWithin D bytes limit root X → ⊥)
+abbrev pub ExplainsNoArchive : Definitions → List ℕ → Option ℕ → ℕ → Shape → Error → Type 0
+ExplainsNoArchive D bytes limit root X error = (error ≡ OutOfMemory) ⊎ (IsArchiveWithin D bytes limit root X → ⊥)

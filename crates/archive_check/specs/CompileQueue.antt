@@ -1,6 +1,6 @@
 -- The queue of expressions that are still to be compiled, each with its node.
 use Rattle.std.specs.Prelude.{◌≡◌, ◌⊎◌, ℕ, ◌+◌, ◌≤◌, List, [], ◌∷◌, ◌++◌, Some}
-use Rattle.archive_check.specs.declared.growing.Known.{Known}
+use Rattle.archive_check.specs.declared.growing.NamedNode.{NamedNode}
 use Rattle.archive_check.specs.declared.queue.Waiting.{Waiting}
 use Rattle.archive_check.specs.declared.queue.Queue.{Queue}
 use Rattle.archive_check.specs.Shape.{Name, Shape, named}
@@ -51,5 +51,5 @@ pub record IsWaiting (X : Shape) (v w : Waits) (j : ℕ) : Type 0 where
   pub next_is : w.next ≡ v.next + count_of X
 
 -- a name has its node, and what isn't one waits
-abbrev pub IsQueued : List Known → Shape → Waits → Waits → ℕ → Type 0
+abbrev pub IsQueued : List NamedNode → Shape → Waits → Waits → ℕ → Type 0
 IsQueued names X v w j = ((name : Name) × (X ≡ named name) × (node_of names name ≡ Some j) × (w ≡ v)) ⊎ IsWaiting X v w j

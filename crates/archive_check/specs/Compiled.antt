@@ -6,13 +6,13 @@ use Rattle.archive_check.specs.declared.plan.Node.{Node}
 use Rattle.archive_check.specs.declared.plan.Part.{Part as PlanPart}
 use Rattle.archive_check.specs.declared.plan.Span.{Span}
 use Rattle.archive_check.specs.declared.plan.Checker.{Checker}
-use Rattle.archive_check.specs.declared.growing.Known.{Known}
+use Rattle.archive_check.specs.declared.growing.NamedNode.{NamedNode}
 use Rattle.archive_check.specs.declared.growing.Laid.{Laid}
 use Rattle.archive_check.specs.Shape.{Name, Shape, named, shared, weak, Flavor, Pointee, Parts, Variants, variant_at}
 use Rattle.archive_check.specs.Layout.{Layouts, size_of, align_of, parts_end, parts_align, variants_end, variants_align, pointer_size}
 use Rattle.archive_check.specs.Reads.{Schema, LaidOut}
 use Rattle.archive_check.specs.Runs.{IsAt, IsNode, Takes, target_size}
-use Rattle.archive_check.specs.Closed.{JobFits, SpanFits}
+use Rattle.archive_check.specs.SoundPlans.{JobFits, SpanFits}
 use Rattle.archive_check.specs.Represents.{StandsFor, PartsStand, Sized, Points, Made}
 use Rattle.archive_check.specs.BoundedSizes.{fits}
 use Rattle.archive_check.specs.NodeCounts.{count_of, count_pointee, counts_of, variant_counts_of}
@@ -31,20 +31,20 @@ abbrev pub Follows : PlanLists → Checker → Type 0
 Follows b m = Grows b (lists_in m)
 
 -- the nodes of names, and of what waits, are there
-pub record Below (names : List Known) (waits : List Wait) (m : Checker) : Type 0 where
+pub record Below (names : List NamedNode) (waits : List Wait) (m : Checker) : Type 0 where
   pub names_below : (name : Name) (j : ℕ) → node_of names name ≡ Some j → j < length m.nodes.now
   pub waits_below : (k : ℕ) (x : Wait) → IsAt waits k x → x.node < length m.nodes.now
 
 -- the names' nodes before `done` have the names' layouts
-abbrev pub NamesSized : List Known → Layouts → ℕ → Checker → Type 0
+abbrev pub NamesSized : List NamedNode → Layouts → ℕ → Checker → Type 0
 NamesSized names l done m = (name : Name) (j : ℕ) → node_of names name ≡ Some j → j < done → Sized m j (l name).size (l name).align
 
 -- the nodes before n are sound
-pub record ClosedTo (m : Checker) (n : ℕ) : Type 0 where
+pub record SoundTo (m : Checker) (n : ℕ) : Type 0 where
   pub fits : (i : ℕ) (node : Node) (z : ℕ) → i < n → IsAt m.nodes.now i node → node.size ≡ Some z → JobFits m i z node.job
 
 -- the nodes of names, and of what waits, stand for it
-pub record Settled (names : List Known) (waits : List Wait) (s : Schema) (shapes : ℕ → Shape) (m : Checker) : Type 0 where
+pub record Settled (names : List NamedNode) (waits : List Wait) (s : Schema) (shapes : ℕ → Shape) (m : Checker) : Type 0 where
   pub laid_out : LaidOut s
   pub waits_sized : (k : ℕ) (x : Wait) → IsAt waits k x → Sized m x.node (size_of s.layouts x.shape) (align_of s.layouts x.shape)
   pub waits_stand : (k : ℕ) (x : Wait) → IsAt waits k x → StandsFor s shapes x.shape x.node
@@ -61,23 +61,23 @@ pub record MadeTo (s : Schema) (shapes : ℕ → Shape) (m : Checker) (n : ℕ) 
   pub empty : (i : ℕ) (node : Node) → i < n → IsAt m.nodes.now i node → node.size ≡ Some 0 → node.job ≡ Free
 
 -- A plan grows by nodes of these shapes, and what waits by what they lead to. The plan stays sound, and its nodes stand for their shapes.
-pub record Adds (names : List Known) (gives : List Shape) (v w : Waits) (a b : PlanLists) : Type 0 where
+pub record Adds (names : List NamedNode) (gives : List Shape) (v w : Waits) (a b : PlanLists) : Type 0 where
   pub grows : Grows a b
   pub waits_go : Goes v.items w.items
   pub reserved : (base : ℕ) → Reserved base v.items v.next → Reserved base w.items w.next
   pub count : length b.nodes ≡ length a.nodes + length gives
-  pub closed : (m : Checker) → Follows b m → Below names w.items m → ClosedTo m (length a.nodes) → ClosedTo m (length b.nodes)
+  pub sound : (m : Checker) → Follows b m → Below names w.items m → SoundTo m (length a.nodes) → SoundTo m (length b.nodes)
   pub made : (s : Schema) (shapes : ℕ → Shape) (m : Checker) → Follows b m → Settled names w.items s shapes m → Given shapes (length a.nodes) gives
       → MadeTo s shapes m (length a.nodes) → MadeTo s shapes m (length b.nodes)
 
 -- an expression's node: a name's, or the last
-abbrev pub IsRoot : List Known → Shape → PlanLists → PlanLists → List Shape → ℕ → Type 0
+abbrev pub IsRoot : List NamedNode → Shape → PlanLists → PlanLists → List Shape → ℕ → Type 0
 IsRoot names X a b gives j =
     ((name : Name) × (X ≡ named name) × (node_of names name ≡ Some j))
     ⊎ ((j + 1 ≡ length b.nodes) × (length a.nodes ≤ j) × ((shapes : ℕ → Shape) → Given shapes (length a.nodes) gives → shapes j ≡ X))
 
 -- an expression's node is j, with the expression's layout
-pub record Compiled (names : List Known) (done : ℕ) (X : Shape) (v w : Waits) (a b : PlanLists) (j : ℕ) : Type 0 where
+pub record Compiled (names : List NamedNode) (done : ℕ) (X : Shape) (v w : Waits) (a b : PlanLists) (j : ℕ) : Type 0 where
   pub gives : List Shape
   pub gives_count : length gives ≡ count_of X
   pub adds : Adds names gives v w a b
@@ -88,7 +88,7 @@ pub record Compiled (names : List Known) (done : ℕ) (X : Shape) (v w : Waits) 
   pub lays : (m : Checker) (l : Layouts) → Follows b m → NamesSized names l done m → Sized m j (size_of l X) (align_of l X)
 
 -- a node behind a pointer, which may come later
-pub record CompiledTarget (names : List Known) (X : Shape) (v w : Waits) (a : PlanLists) (j : ℕ) : Type 0 where
+pub record CompiledTarget (names : List NamedNode) (X : Shape) (v w : Waits) (a : PlanLists) (j : ℕ) : Type 0 where
   pub adds : Adds names [] v w a a
   pub waits_few : measure_of_waits w.items ≤ measure_of_waits v.items + measure_of X + 1
   pub known : AllKnown names v.items → CanWait names X → AllKnown names w.items
@@ -97,7 +97,7 @@ pub record CompiledTarget (names : List Known) (X : Shape) (v w : Waits) (a : Pl
   pub stands : (s : Schema) (shapes : ℕ → Shape) (m : Checker) → Settled names w.items s shapes m → StandsFor s shapes X j
 
 -- what a pointer leads to
-pub record CompiledPointee (names : List Known) (P : Pointee) (v w : Waits) (a b : PlanLists) (target : Target) (j : ℕ) : Type 0 where
+pub record CompiledPointee (names : List NamedNode) (P : Pointee) (v w : Waits) (a b : PlanLists) (target : Target) (j : ℕ) : Type 0 where
   pub gives : List Shape
   pub gives_count : length gives ≡ count_pointee P
   pub adds : Adds names gives v w a b
@@ -115,7 +115,7 @@ pub record IsPartWithin (m : Checker) (i z : ℕ) (x : PlanPart) : Type 0 where
   pub within : x.offset + size ≤ z
 
 -- parts laid out so far, from an offset on, and those that are left
-pub record RowIs (names : List Known) (done start : ℕ) (all rest : Parts) (v w : Waits) (a b : PlanLists) (row : List PlanPart) (end : Option ℕ) (align : ℕ) (free : Bool) : Type 0 where
+pub record RowIs (names : List NamedNode) (done start : ℕ) (all rest : Parts) (v w : Waits) (a b : PlanLists) (row : List PlanPart) (end : Option ℕ) (align : ℕ) (free : Bool) : Type 0 where
   pub gives : List Shape
   pub adds : Adds names gives v w a b
   pub waits_few : measure_of_waits w.items + measure_of_parts rest ≤ measure_of_waits v.items + measure_of_parts all
@@ -132,7 +132,7 @@ pub record RowIs (names : List Known) (done start : ℕ) (all rest : Parts) (v w
       → PartsStand s shapes m (first + length row) last e rest → PartsStand s shapes m first last start all
 
 -- parts that are laid out
-pub record CompiledParts (names : List Known) (done start : ℕ) (ps : Parts) (v w : Waits) (a b : PlanLists) (laid : Laid) : Type 0 where
+pub record CompiledParts (names : List NamedNode) (done start : ℕ) (ps : Parts) (v w : Waits) (a b : PlanLists) (laid : Laid) : Type 0 where
   pub gives : List Shape
   pub gives_count : length gives ≡ counts_of ps
   pub adds : Adds names gives v w a b
@@ -152,7 +152,7 @@ abbrev pub IsVariant : Schema → (ℕ → Shape) → Checker → Variants → �
 IsVariant s shapes m vs tag x = (ps : Parts) × (variant_at vs tag ≡ Some ps) × PartsStand s shapes m x.first x.last 1 ps
 
 -- variants laid out so far, and those that are left
-pub record SpansAre (names : List Known) (done : ℕ) (all rest : Variants) (v w : Waits) (a b : PlanLists) (row : List Span) (end : Option ℕ) (align : ℕ) : Type 0 where
+pub record SpansAre (names : List NamedNode) (done : ℕ) (all rest : Variants) (v w : Waits) (a b : PlanLists) (row : List Span) (end : Option ℕ) (align : ℕ) : Type 0 where
   pub gives : List Shape
   pub adds : Adds names gives v w a b
   pub waits_few : measure_of_waits w.items + measure_of_variants rest ≤ measure_of_waits v.items + measure_of_variants all
@@ -169,7 +169,7 @@ pub record SpansAre (names : List Known) (done : ℕ) (all rest : Variants) (v w
   pub others : (k : ℕ) → variant_at all (length row + k) ≡ variant_at rest k
 
 -- variants that are laid out
-pub record CompiledVariants (names : List Known) (done : ℕ) (vs : Variants) (v w : Waits) (a b : PlanLists) (laid : Laid) : Type 0 where
+pub record CompiledVariants (names : List NamedNode) (done : ℕ) (vs : Variants) (v w : Waits) (a b : PlanLists) (laid : Laid) : Type 0 where
   pub gives : List Shape
   pub gives_count : length gives ≡ variant_counts_of vs
   pub adds : Adds names gives v w a b

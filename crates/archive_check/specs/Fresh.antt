@@ -1,7 +1,7 @@
 -- A context that a check begins with.
 use Rattle.std.specs.Prelude.{◌≡◌, ◌≢◌, ◌<◌, ℕ, ℤ, List, length, Some, None}
 use Rattle.archive_check.specs.Ranges.{RangeState}
-use Rattle.archive_check.specs.Met.{Positions}
+use Rattle.archive_check.specs.PositionStates.{Positions}
 
 -- nothing was met yet, and levels are left
 pub record IsFresh (s : RangeState) (met : Positions) : Type 0 where

@@ -4,7 +4,7 @@ use Rattle.std.specs.Borrow.{MutBor}
 use Rattle.archive_check.specs.declared.error.Error.{Error}
 use Rattle.archive_check.specs.declared.error.Error.TheVariants.{ExceededMaximumSubtreeDepth}
 use Rattle.archive_check.specs.Ranges.{RangeState, subtree_answer, pushed, pop_answer, popped}
-use Rattle.archive_check.specs.Met.{Positions}
+use Rattle.archive_check.specs.PositionStates.{Positions}
 
 module _ {C : Type 0} (state : C → RangeState) (positions : C → Positions) where
   -- the context at the left is in the state s, and met what the one at the right did

@@ -27,7 +27,7 @@ pub mod RegionLayout
 pub mod LittleEndian
 pub mod Readable
 pub mod Ranges
-pub mod Met
+pub mod PositionStates
 pub mod Fresh
 pub mod SharedPositions
 pub mod InSubtree
@@ -40,7 +40,7 @@ pub mod Measure
 pub mod Runs
 pub mod Represents
 pub mod Lists
-pub mod Closed
+pub mod SoundPlans
 pub mod Shallow
 pub mod Through
 pub mod Entered
@@ -51,10 +51,10 @@ pub mod NodeCounts
 pub mod CompileQueue
 pub mod Compilable
 pub mod Compiled
-pub mod Numbered
+pub mod NodeNumbers
 pub mod Planned
 pub mod PlanChecks
-pub mod Turns
+pub mod LoopInvariant
 pub mod Viewed
 pub mod Archives
 pub mod Entries

@@ -8,7 +8,7 @@ use Rattle.archive_check.specs.declared.plan.Span.{Span}
 use Rattle.archive_check.specs.declared.plan.Sort.{Sort}
 use Rattle.archive_check.specs.declared.plan.Plan.{Plan}
 use Rattle.archive_check.specs.declared.plan.Checker.{Checker}
-use Rattle.archive_check.specs.declared.growing.Known.{Known}
+use Rattle.archive_check.specs.declared.growing.NamedNode.{NamedNode}
 use Rattle.archive_check.specs.declared.growing.Row.{Row}
 use Rattle.archive_check.specs.declared.growing.Spans.{Spans}
 use Rattle.archive_check.specs.declared.growing.Laid.{Laid}
@@ -19,7 +19,7 @@ use Rattle.archive_check.specs.BoundedSizes.{rounded, sum_of, greater_of}
 use Rattle.archive_check.specs.Shallow.{is_free}
 
 -- the node of a name: of the first that is called so
-abbrev pub node_of : List Known → Name → Option ℕ
+abbrev pub node_of : List NamedNode → Name → Option ℕ
 node_of [] name = None
 node_of (k ∷ ks) name = cond (bytes_eq k.name.now name) (Some k.node) (node_of ks name)
 

@@ -3,21 +3,21 @@ use Rattle.std.specs.Prelude.{◌≡◌, ℕ, ◌<◌, List, ◌++◌, length, t
 use Rattle.archive_check.specs.declared.defs.Def.{Def}
 use Rattle.archive_check.specs.declared.plan.Plan.{Plan}
 use Rattle.archive_check.specs.declared.plan.Checker.{Checker}
-use Rattle.archive_check.specs.declared.growing.Known.{Known}
+use Rattle.archive_check.specs.declared.growing.NamedNode.{NamedNode}
 use Rattle.archive_check.specs.declared.plan.Node.{Node}
 use Rattle.archive_check.specs.Shape.{Name, Shape, definition}
 use Rattle.archive_check.specs.Expressions.{shape_of, entries_of}
 use Rattle.archive_check.specs.Defined.{Holds, Mentions}
 use Rattle.archive_check.specs.Reads.{Schema, LaidOut}
 use Rattle.archive_check.specs.Runs.{IsAt}
-use Rattle.archive_check.specs.Closed.{IsClosed}
+use Rattle.archive_check.specs.SoundPlans.{IsSound}
 use Rattle.archive_check.specs.PlanChecks.{PlanOf}
 use Rattle.archive_check.specs.BoundedSizes.{fits}
 use Rattle.archive_check.specs.PlanGrowth.{node_of, PlanLists, no_lists, Grows}
 use Rattle.archive_check.specs.CompileQueue.{Waits, no_waits, wait_shapes}
 use Rattle.archive_check.specs.Compilable.{Can, AllKnown}
 use Rattle.archive_check.specs.Compiled.{Given, Adds, Compiled}
-use Rattle.archive_check.specs.Numbered.{start_of}
+use Rattle.archive_check.specs.NodeNumbers.{start_of}
 
 -- the checker's lists are the plan's
 pub record IsOf (m : Checker) (plan : Plan) : Type 0 where
@@ -29,7 +29,7 @@ pub record IsOf (m : Checker) (plan : Plan) : Type 0 where
 -- The plan is sound. Under each schema of these definitions whose layouts solve it, its nodes stand for shapes, and its node j for X.
 pub record IsPlan (defs : List Def) (X : Shape) (plan : Plan) (j : ℕ) : Type 0 where
   pub below : j < length plan.nodes.items
-  pub closed : (m : Checker) → IsOf m plan → IsClosed m
+  pub sound : (m : Checker) → IsOf m plan → IsSound m
   pub plan_of : (m : Checker) (s : Schema) → IsOf m plan → s.table ≡ entries_of defs → LaidOut s → PlanOf m j s X
 
 -- each name that a definition mentions is defined, and each that it holds, and stands behind no pointer, before it
@@ -43,23 +43,23 @@ pub record InOrder (defs : List Def) (X : Shape) : Type 0 where
   pub root : (name : Name) → Mentions name X → IsSome (definition (entries_of defs) name)
 
 -- each can be compiled where its nodes begin
-abbrev pub CanChain : List Known → List Shape → Type 0
+abbrev pub CanChain : List NamedNode → List Shape → Type 0
 CanChain names Xs = (i : ℕ) (X : Shape) → IsAt Xs i X → Can names (start_of Xs i) X
 
 -- what waits can be compiled behind all names
-pub record CanFinish (names : List Known) (w : Waits) (b : PlanLists) : Type 0 where
+pub record CanFinish (names : List NamedNode) (w : Waits) (b : PlanLists) : Type 0 where
   pub known : AllKnown names w.items
   pub below : (name : Name) (j : ℕ) → node_of names name ≡ Some j → j < length b.nodes
 
 -- The names that are defined have nodes in the plan. Under each schema of these definitions whose layouts solve it, those have the names' layouts.
-pub record HasNames (defs : List Def) (names : List Known) (plan : Plan) : Type 0 where
+pub record HasNames (defs : List Def) (names : List NamedNode) (plan : Plan) : Type 0 where
   pub known : (name : Name) → is_some (node_of names name) ≡ is_some (definition (entries_of defs) name)
   pub there : (name : Name) (j : ℕ) → node_of names name ≡ Some j → j < length plan.nodes.items
   pub sizes : (s : Schema) → s.table ≡ entries_of defs → LaidOut s → (name : Name) (j : ℕ) (node : Node) → node_of names name ≡ Some j → IsAt plan.nodes.items j node → node.size ≡ fits (s.layouts name).size
   pub aligns : (s : Schema) → s.table ≡ entries_of defs → LaidOut s → (name : Name) (j : ℕ) (node : Node) → node_of names name ≡ Some j → IsAt plan.nodes.items j node → node.align ≡ (s.layouts name).align
 
 -- X was compiled from the node `start` on, on the way to the plan
-pub record CompiledFrom (names : List Known) (X : Shape) (start : ℕ) (w : Waits) (b : PlanLists) (gives : List Shape) : Type 0 where
+pub record CompiledFrom (names : List NamedNode) (X : Shape) (start : ℕ) (w : Waits) (b : PlanLists) (gives : List Shape) : Type 0 where
   pub before : PlanLists
   pub after : PlanLists
   pub waits : Waits
@@ -71,7 +71,7 @@ pub record CompiledFrom (names : List Known) (X : Shape) (start : ℕ) (w : Wait
   pub given : (shapes : ℕ → Shape) → Given shapes 0 gives → Given shapes (length before.nodes) compiled.gives
 
 -- these were compiled, one after another; what they lead to waits for the nodes from `base` on
-pub record Chained (names : List Known) (Xs : List Shape) (base : ℕ) (w : Waits) (b : PlanLists) : Type 0 where
+pub record Chained (names : List NamedNode) (Xs : List Shape) (base : ℕ) (w : Waits) (b : PlanLists) : Type 0 where
   pub gives : List Shape
   pub gives_count : length gives ≡ start_of Xs (length Xs)
   pub adds : Adds names gives (no_waits base) w no_lists b
@@ -79,12 +79,12 @@ pub record Chained (names : List Known) (Xs : List Shape) (base : ℕ) (w : Wait
   pub all_known : CanChain names Xs → AllKnown names w.items
 
 -- from v and a on, all that waits is compiled: behind whatever was before, if nothing of v was
-pub record Finishes (names : List Known) (v w : Waits) (a b : PlanLists) : Type 0 where
+pub record Finishes (names : List NamedNode) (v w : Waits) (a b : PlanLists) : Type 0 where
   pub grows : Grows a b
   pub chained : (Xs : List Shape) (base : ℕ) → Chained names Xs base v a → Chained names (Xs ++ wait_shapes w.items) base w b
 
 -- the same, as far as the first i
-pub record FinishesTo (names : List Known) (i : ℕ) (v w : Waits) (a b : PlanLists) : Type 0 where
+pub record FinishesTo (names : List NamedNode) (i : ℕ) (v w : Waits) (a b : PlanLists) : Type 0 where
   pub can_to : CanFinish names v a → CanFinish names w b
   pub grows_to : Grows a b
   pub chained_to : (Xs : List Shape) (base : ℕ) → Chained names Xs base v a → Chained names (Xs ++ wait_shapes (take i w.items)) base w b

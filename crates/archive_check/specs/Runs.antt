@@ -14,7 +14,7 @@ use Rattle.std.specs.Borrow.{Bor}
 use Rattle.archive_check.specs.declared.plan.Checker.{Checker}
 use Rattle.archive_check.specs.declared.work.Work.{Work}
 use Rattle.archive_check.specs.declared.work.Work.TheVariants.{Part as PartWork, Parts, Elements, Leave, Finish}
-use Rattle.archive_check.specs.Met.{SameType}
+use Rattle.archive_check.specs.PositionStates.{SameType}
 use Rattle.archive_check.specs.Layout.{kind_size}
 use Rattle.archive_check.specs.Reads.{bytes_at, u32_at, i32_at, IsLegal, IsOutOfLine, before_end, decoded_length}
 use Rattle.archive_check.specs.Expressions.{kind_of, flavor_of, pointee_of}
@@ -60,16 +60,16 @@ pub record RegionIs (m : Checker) (i n : ℕ) (size : Option ℕ) (align : ℕ) 
   pub align_is : node.align ≡ align
 
 -- how many there are behind a pointer
-abbrev pub count_at : List ℕ → ℕ → Target → ℕ
-count_at bytes p One = 1
-count_at bytes p Run = u32_at bytes (p + 4)
-count_at bytes p Text = u32_at bytes (p + 4)
+abbrev pub target_count : List ℕ → ℕ → Target → ℕ
+target_count bytes p One = 1
+target_count bytes p Run = u32_at bytes (p + 4)
+target_count bytes p Text = u32_at bytes (p + 4)
 
 -- the length that stands in the pointer: 0 for one value
-abbrev pub length_of : List ℕ → ℕ → Target → ℕ
-length_of bytes p One = 0
-length_of bytes p Run = u32_at bytes (p + 4)
-length_of bytes p Text = u32_at bytes (p + 4)
+abbrev pub target_length : List ℕ → ℕ → Target → ℕ
+target_length bytes p One = 0
+target_length bytes p Run = u32_at bytes (p + 4)
+target_length bytes p Text = u32_at bytes (p + 4)
 
 -- how a pointer of the sort and of this length is met
 abbrev pub entry_for : Sort → ℕ → Entry
@@ -111,7 +111,7 @@ mutual
         → NodeRuns m pending depth stop i p start seen o
     run_pointer : {pending : List ℕ} {depth : Option ℕ} {stop i p start j : ℕ} {seen : Seen} {o : Outcome} {target : Target}
         → IsNode m i (PointerJob target j)
-        → EnterRuns m pending depth stop target j (count_at m.bytes.now p target) (pos p +ℤ i32_at m.bytes.now p) start seen o
+        → EnterRuns m pending depth stop target j (target_count m.bytes.now p target) (pos p +ℤ i32_at m.bytes.now p) start seen o
         → NodeRuns m pending depth stop i p start seen o
     run_inline : {pending : List ℕ} {depth : Option ℕ} {stop i p start j : ℕ} {seen : Seen}
         → IsNode m i (Str j)
@@ -136,7 +136,7 @@ mutual
         → NodeRuns m pending depth stop i p start seen o
     run_shared : {pending : List ℕ} {depth : Option ℕ} {stop i p start k j : ℕ} {seen : Seen} {o : Outcome} {target : Target}
         → IsNode m i (Shared k target j)
-        → FollowRuns m pending depth stop k target j (count_at m.bytes.now p target) (length_of m.bytes.now p target) (pos p +ℤ i32_at m.bytes.now p) start seen o
+        → FollowRuns m pending depth stop k target j (target_count m.bytes.now p target) (target_length m.bytes.now p target) (pos p +ℤ i32_at m.bytes.now p) start seen o
         → NodeRuns m pending depth stop i p start seen o
     run_null : {pending : List ℕ} {depth : Option ℕ} {stop i p start k j : ℕ} {seen : Seen} {target : Target}
         → IsNode m i (Weak k target j)
@@ -145,7 +145,7 @@ mutual
     run_weak : {pending : List ℕ} {depth : Option ℕ} {stop i p start k j : ℕ} {seen : Seen} {o : Outcome} {target : Target}
         → IsNode m i (Weak k target j)
         → i32_at m.bytes.now p ≢ pos 1
-        → FollowRuns m pending depth stop k target j (count_at m.bytes.now p target) (length_of m.bytes.now p target) (pos p +ℤ i32_at m.bytes.now p) start seen o
+        → FollowRuns m pending depth stop k target j (target_count m.bytes.now p target) (target_length m.bytes.now p target) (pos p +ℤ i32_at m.bytes.now p) start seen o
         → NodeRuns m pending depth stop i p start seen o
 
   -- a shared pointer is followed: its sort, target, pointee, count, length and position

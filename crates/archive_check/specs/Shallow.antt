@@ -8,7 +8,7 @@ use Rattle.archive_check.specs.declared.plan.Part.{Part}
 use Rattle.archive_check.specs.declared.plan.Span.{Span}
 use Rattle.archive_check.specs.declared.plan.Checker.{Checker}
 use Rattle.archive_check.specs.Runs.{IsAt}
-use Rattle.archive_check.specs.Closed.{span}
+use Rattle.archive_check.specs.SoundPlans.{span}
 
 -- whether a node is marked as shallow
 abbrev pub marked : List Bool → ℕ → Bool

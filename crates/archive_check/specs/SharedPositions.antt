@@ -5,16 +5,16 @@ use Rattle.archive_check.specs.declared.plan.Sort.{Sort}
 use Rattle.archive_check.specs.declared.shared.SharedPosition.{SharedPosition}
 use Rattle.archive_check.specs.Expressions.{flavor_of, pointee_of}
 use Rattle.archive_check.specs.Shape.{Flavor, Pointee}
-use Rattle.archive_check.specs.Met.{Met, Positions}
+use Rattle.archive_check.specs.PositionStates.{PositionState, Positions}
 
 -- a position of this type was met
-abbrev pub met_as : SharedPosition → Sort → Met
+abbrev pub met_as : SharedPosition → Sort → PositionState
 met_as kept sort = record {
   entry = record { flavor = flavor_of sort.flavor; pointee = pointee_of sort.pointee; length = kept.length };
   finished = kept.finished;
 }
 
-abbrev pub met_in : List Sort → Option SharedPosition → Option Met
+abbrev pub met_in : List Sort → Option SharedPosition → Option PositionState
 met_in sorts None = None
 met_in sorts (Some kept) = option_map (met_as kept) (slice_get sorts kept.sort)
 

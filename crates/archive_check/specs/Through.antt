@@ -8,7 +8,7 @@ use Rattle.archive_check.specs.Tour.{Seen}
 use Rattle.archive_check.specs.Trail.{Fault}
 use Rattle.archive_check.specs.Faults.{IsFor}
 use Rattle.archive_check.specs.Runs.{Outcome, done, refused, NodeRuns, PartsRun, ElementsRun, EnterRuns, ContentsRun}
-use Rattle.archive_check.specs.Turns.{HasLevels}
+use Rattle.archive_check.specs.LoopInvariant.{HasLevels}
 
 -- a rule of the check, by what is pending, the levels left, the range's end and start, what is seen, and the outcome
 abbrev pub Rule : Type 1

@@ -4,7 +4,7 @@ use Rattle.std.specs.HashMap.{get, spare}
 use Rattle.std.specs.Ordering.{int_eq}
 use Rattle.archive_check.specs.declared.shared.SharedValidator.{SharedValidator}
 use Rattle.archive_check.specs.declared.validator.Validator.{Validator}
-use Rattle.archive_check.specs.Met.{Positions, nothing_met}
+use Rattle.archive_check.specs.PositionStates.{Positions, nothing_met}
 use Rattle.archive_check.specs.SharedPositions.{positions_in}
 
 -- the positions that a validator of shared ones met

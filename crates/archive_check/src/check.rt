@@ -9,16 +9,16 @@ ghost use Rattle.archive_check.specs.declared.plan.Part.{Part};
 ghost use Rattle.archive_check.specs.Ranges.{subtree_answer, pop_answer, popped};
 ghost use Rattle.archive_check.specs.Tour.{Seen};
 ghost use Rattle.archive_check.specs.Trail.{Fault};
-ghost use Rattle.archive_check.specs.Runs.{count_at, length_of, target_size, IsAt, Takes, RegionIs, EnterRuns, done, refused};
+ghost use Rattle.archive_check.specs.Runs.{target_count, target_length, target_size, IsAt, Takes, RegionIs, EnterRuns, done, refused};
 ghost use Rattle.archive_check.specs.Lists.{list_of};
-ghost use Rattle.archive_check.specs.Closed.{IsClosed};
+ghost use Rattle.archive_check.specs.SoundPlans.{IsSound};
 ghost use Rattle.archive_check.specs.Faults.{IsFor};
 ghost use Rattle.archive_check.specs.Fresh.{IsFresh};
 ghost use Rattle.archive_check.specs.Shallow.{IsMarked};
 ghost use Rattle.archive_check.specs.Entered.{Entered};
 ghost use Rattle.archive_check.specs.Through.{Through, Stops, region_rule, contents_rule};
 ghost use Rattle.archive_check.specs.declared.plan.Target.{Target as TargetOf};
-ghost use Rattle.archive_check.specs.Turns.{PointeeFits, PartFits, PartsFit, ElementsFit, Stays, PartStays, LiesLegal, Ready, stage, Listing, Entering, Following, Leads, Keeps, IsStopped, power, level, cost};
+ghost use Rattle.archive_check.specs.LoopInvariant.{PointeeFits, PartFits, PartsFit, ElementsFit, Stays, PartStays, LiesLegal, Ready, stage, Listing, Entering, Following, TurnLeads, Keeps, IsStopped, power, level, cost};
 
 use crate::bytes::{is_text, read_i32, read_position, read_u32};
 use crate::error::Error;
@@ -60,12 +60,7 @@ fn refuse_region<C: ArchiveContext>(
 /// Stops the check at a range that isn't taken back, likewise.
 #[cold]
 #[inline(never)]
-fn refuse_range<C: ArchiveContext>(
-    start: usize,
-    end: usize,
-    work: &mut Worklist,
-    context: &mut C,
-)
+fn refuse_range<C: ArchiveContext>(start: usize, end: usize, work: &mut Worklist, context: &mut C)
     requires { is_err (pop_answer (C.state context.old) start) ≡ true }
     ensures { pop_answer (C.state context.old) start ≡ Err work.new.fault }
 {
@@ -89,10 +84,7 @@ pub fn leave_region<C: ArchiveContext>(
     ensures list { OnSome result (list_of work.new ≡ list_of work.old) }
     ensures positions { OnSome result (C.positions context.new ≡ C.positions context.old) }
 {
-    if context
-        .pop_subtree_range(Range { start, end })
-        .is_err()
-    {
+    if context.pop_subtree_range(Range { start, end }).is_err() {
         refuse_range(start, end, work, context);
         return None;
     }
@@ -116,7 +108,7 @@ impl Checker<'_> {
     /// How many there are behind the pointer at `at`.
     pub fn count(&self, target: Target, at: usize) -> usize
         requires { at + target_size target ≤ length self.now.bytes.now }
-        ensures { result ≡ count_at self.now.bytes.now at target }
+        ensures { result ≡ target_count self.now.bytes.now at target }
     {
         match target {
             Target::One => 1,
@@ -127,7 +119,7 @@ impl Checker<'_> {
     /// The length that stands in the pointer at `at`: 0 for one value.
     fn length(&self, target: Target, at: usize) -> usize
         requires { at + target_size target ≤ length self.now.bytes.now }
-        ensures { result ≡ length_of self.now.bytes.now at target }
+        ensures { result ≡ target_length self.now.bytes.now at target }
     {
         match target {
             Target::One => 0,
@@ -151,7 +143,7 @@ impl Checker<'_> {
 
     /// Whether the node at `at` is a leaf that is legal, or any bytes.
     pub fn stays(&self, node: usize, at: usize) -> bool
-        requires closed { IsClosed self.now }
+        requires sound { IsSound self.now }
         requires fits { PartFits self.now node at }
         ensures stays { IsTrue result → Stays self.now node at }
         ensures opened { LiesLegal self.now node at → IsTrue result }
@@ -166,7 +158,7 @@ impl Checker<'_> {
 
     /// The first of the parts from `first` up to `last`, of what begins at `base`, that is to be opened; `last` where none is.
     fn skip(&self, first: usize, last: usize, base: usize) -> usize
-        requires closed { IsClosed self.now }
+        requires sound { IsSound self.now }
         requires fits { PartsFit self.now first last base }
         ensures below { result ≤ last }
         ensures above { result < last → first ≤ result }
@@ -184,7 +176,7 @@ impl Checker<'_> {
 
     /// How many of the elements at `at`, each of `size` bytes, come before the first that is to be opened; `count` where none is.
     pub fn pass(&self, node: usize, count: usize, at: usize, size: usize) -> usize
-        requires closed { IsClosed self.now }
+        requires sound { IsSound self.now }
         requires fits { ElementsFit self.now node count at }
         requires size { Takes self.now node size }
         ensures below { result ≤ count }
@@ -251,7 +243,7 @@ impl Checker<'_> {
         work: &mut Worklist,
         context: &mut C,
     ) -> Option<bool>
-        requires closed { IsClosed self.now }
+        requires sound { IsSound self.now }
         requires marked { IsMarked self.now }
         requires region { (align : ℕ) × RegionIs self.now pointee count (Some size) align }
         requires pointee { PointeeFits self.now target pointee count }
@@ -297,12 +289,12 @@ impl Checker<'_> {
         work: &mut Worklist,
         context: &mut C,
     ) -> Option<()>
-        requires closed { IsClosed self.now }
+        requires sound { IsSound self.now }
         requires marked { IsMarked self.now }
         requires ready { Ready self.now (C.state context.old) (list_of work.old) }
         requires pointee { PointeeFits self.now target pointee count }
         ensures ready { OnSome result (Ready self.now (C.state context.new) (list_of work.new)) }
-        ensures runs { OnSome result (Leads self.now (Entering self.now target pointee count position) (stage (C.state context.old) (C.positions context.old) (list_of work.old)) (stage (C.state context.new) (C.positions context.new) (list_of work.new))) }
+        ensures runs { OnSome result (TurnLeads self.now (Entering self.now target pointee count position) (stage (C.state context.old) (C.positions context.old) (list_of work.old)) (stage (C.state context.new) (C.positions context.new) (list_of work.new))) }
         ensures inside { OnSome result ((t : ℕ) × (position ≡ pos t) × (t < 18446744073709551616)) }
         ensures stopped { IfNone result (IsStopped self.now target pointee count position (C.state context.old) work.new.fault) }
         ensures ends { OnSome result (cost self.now (C.state context.new).end (list_of work.new) ≤ power (level (length self.now.nodes.now) (C.state context.old).end 0 0) + cost self.now (C.state context.old).end (list_of work.old)) }
@@ -334,12 +326,12 @@ impl Checker<'_> {
         work: &mut Worklist,
         context: &mut C,
     ) -> Option<()>
-        requires closed { IsClosed self.now }
+        requires sound { IsSound self.now }
         requires marked { IsMarked self.now }
         requires ready { Ready self.now (C.state context.old) (list_of work.old) }
         requires pointee { PointeeFits self.now target pointee count }
         ensures ready { OnSome result (Ready self.now (C.state context.new) (list_of work.new)) }
-        ensures runs { OnSome result (Leads self.now (Entering self.now target pointee count position) (stage (C.state context.old) (C.positions context.old) (list_of work.old)) (stage (C.state context.new) (C.positions context.new) (list_of work.new))) }
+        ensures runs { OnSome result (TurnLeads self.now (Entering self.now target pointee count position) (stage (C.state context.old) (C.positions context.old) (list_of work.old)) (stage (C.state context.new) (C.positions context.new) (list_of work.new))) }
         ensures inside { OnSome result ((t : ℕ) × (position ≡ pos t) × (t < 18446744073709551616)) }
         ensures stopped { IfNone result (IsStopped self.now target pointee count position (C.state context.old) work.new.fault) }
         ensures ends { OnSome result (cost self.now (C.state context.new).end (list_of work.new) ≤ power (level (length self.now.nodes.now) (C.state context.old).end 0 0) + cost self.now (C.state context.old).end (list_of work.old)) }
@@ -357,7 +349,7 @@ impl Checker<'_> {
         work: &mut Worklist,
         context: &mut C,
     ) -> Option<()>
-        requires closed { IsClosed self.now }
+        requires sound { IsSound self.now }
         requires marked { IsMarked self.now }
         requires ready { Ready self.now (C.state context.old) (list_of work.old) }
         requires within { at + target_size target ≤ length self.now.bytes.now }
@@ -400,7 +392,7 @@ impl Checker<'_> {
         work: &mut Worklist,
         context: &mut C,
     ) -> Option<()>
-        requires closed { IsClosed self.now }
+        requires sound { IsSound self.now }
         requires marked { IsMarked self.now }
         requires ready { Ready self.now (C.state context.old) (PartsWork first last base ∷ list_of work.old) }
         ensures ready { OnSome result (Ready self.now (C.state context.new) (list_of work.new)) }
@@ -425,7 +417,7 @@ impl Checker<'_> {
         work: &mut Worklist,
         context: &mut C,
     ) -> Option<()>
-        requires closed { IsClosed self.now }
+        requires sound { IsSound self.now }
         requires marked { IsMarked self.now }
         requires ready { Ready self.now (C.state context.old) (PartWork node at ∷ list_of work.old) }
         ensures ready { OnSome result (Ready self.now (C.state context.new) (list_of work.new)) }
@@ -479,7 +471,7 @@ impl Checker<'_> {
         work: &mut Worklist,
         context: &mut C,
     ) -> Option<()>
-        requires closed { IsClosed self.now }
+        requires sound { IsSound self.now }
         requires marked { IsMarked self.now }
         requires ready { Ready self.now (C.state context.old) (entry ∷ list_of work.old) }
         ensures ready { OnSome result (Ready self.now (C.state context.new) (list_of work.new)) }
@@ -522,7 +514,7 @@ impl Checker<'_> {
         work: &mut Worklist,
         context: &mut C,
     ) -> Option<()>
-        requires closed { IsClosed self.now }
+        requires sound { IsSound self.now }
         requires marked { IsMarked self.now }
         requires below { (C.state context.old).end ≤ length self.now.bytes.now }
         requires known { root < length self.now.nodes.now }

@@ -6,9 +6,9 @@ ghost use Rattle.archive_check.specs.declared.plan.Target.TheVariants.{Text};
 ghost use Rattle.archive_check.specs.declared.plan.Node.{Node};
 ghost use Rattle.archive_check.specs.Runs.{IsAt, IsNode};
 ghost use Rattle.archive_check.specs.Lists.{list_of};
-ghost use Rattle.archive_check.specs.Closed.{IsClosed, span};
+ghost use Rattle.archive_check.specs.SoundPlans.{IsSound, span};
 ghost use Rattle.archive_check.specs.Shallow.{IsMarked, marked, free_at, parts_shallow, job_shallow};
-ghost use Rattle.archive_check.specs.Turns.{PointeeFits, PartFits, PartsFit, ElementsFit};
+ghost use Rattle.archive_check.specs.LoopInvariant.{PointeeFits, PartFits, PartsFit, ElementsFit};
 ghost use Rattle.archive_check.specs.Through.{Through, Stops, node_rule, parts_rule, elements_rule, region_rule};
 
 use crate::bytes::{inline_length, is_out_of_line, is_text, read_coded_length, read_position};
@@ -58,7 +58,7 @@ impl Checker<'_> {
         work: &mut Worklist,
         context: &mut C,
     ) -> Option<()>
-        requires closed { IsClosed self.now }
+        requires sound { IsSound self.now }
         requires job { IsNode self.now node (Str pointee) }
         requires fits { PartFits self.now node at }
         requires below { (C.state context.old).end ≤ length self.now.bytes.now }
@@ -99,7 +99,7 @@ impl Checker<'_> {
         work: &mut Worklist,
         context: &mut C,
     ) -> Option<()>
-        requires closed { IsClosed self.now }
+        requires sound { IsSound self.now }
         requires marked { IsMarked self.now }
         requires shallow { (x : Node) → IsAt self.now.nodes.now node x → IsTrue (job_shallow self.now.nodes.now self.now.parts.now self.now.variants.now self.now.shallow.now x.job) }
         requires fits { PartFits self.now node at }
@@ -149,7 +149,7 @@ impl Checker<'_> {
         work: &mut Worklist,
         context: &mut C,
     ) -> Option<()>
-        requires closed { IsClosed self.now }
+        requires sound { IsSound self.now }
         requires marked { IsMarked self.now }
         requires shallow { IsTrue (parts_shallow self.now.shallow.now (span self.now.parts.now first last)) }
         requires fits { PartsFit self.now first last base }
@@ -177,7 +177,7 @@ impl Checker<'_> {
         work: &mut Worklist,
         context: &mut C,
     ) -> Option<()>
-        requires closed { IsClosed self.now }
+        requires sound { IsSound self.now }
         requires marked { IsMarked self.now }
         requires shallow { IsTrue (marked self.now.shallow.now node) }
         requires fits { ElementsFit self.now node count at }

@@ -2,7 +2,7 @@
 
 ghost use Rattle.std.specs.Prelude.{◌≡◌, ◌⊎◌, ◌<◌, ◌≤◌, length, OnOk, IfErr};
 ghost use Rattle.archive_check.specs.declared.error.Error.TheVariants.{OutOfMemory};
-ghost use Rattle.archive_check.specs.Closed.{IsClosed};
+ghost use Rattle.archive_check.specs.SoundPlans.{IsSound};
 ghost use Rattle.archive_check.specs.Shallow.{IsMarked};
 ghost use Rattle.archive_check.specs.Fresh.{IsWhole};
 ghost use Rattle.archive_check.specs.PlanChecks.{PlanAccepts, PlanRefuses, PlanIsExact};
@@ -24,7 +24,7 @@ impl Checker<'_> {
         at: usize,
         context: &mut C,
     ) -> Result<(), Error>
-        requires closed { IsClosed self.now }
+        requires sound { IsSound self.now }
         requires marked { IsMarked self.now }
         requires below { (C.state context.old).end ≤ length self.now.bytes.now }
         requires known { root < length self.now.nodes.now }

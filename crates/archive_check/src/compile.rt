@@ -8,15 +8,15 @@ ghost use Rattle.archive_check.specs.Expressions.{shape_of, flavor_of, pointee_o
 ghost use Rattle.archive_check.specs.Shape.{parts as record_of, choice, array, boxed, vec, str};
 ghost use Rattle.archive_check.specs.PlanGrowth.{lists_of, IsCopied};
 ghost use Rattle.archive_check.specs.CompileQueue.{Waits, waits_of};
-ghost use Rattle.archive_check.specs.declared.growing.Known.{Known};
+ghost use Rattle.archive_check.specs.declared.growing.NamedNode.{NamedNode};
 ghost use Rattle.archive_check.specs.Compilable.{Can, CanParts, CanVariants, CanPoint, CanWait};
 ghost use Rattle.archive_check.specs.Compiled.{counted, Compiled, CompiledPointee, CompiledParts, CompiledVariants};
 
 use crate::expr::{Expr, FlavorInfo, Pointee};
 use crate::extents::{offset_of, pointer_size, times};
 use crate::growing::{
-    Known, Laid, Row, Spans, extend_parts, extend_variants, is_free, known_node, push, push_laid,
-    push_leaf, push_sort,
+    Laid, NamedNode, Row, Spans, extend_parts, extend_variants, is_free, known_node, push,
+    push_laid, push_leaf, push_sort,
 };
 use crate::plan::{Job, Plan, Target};
 use crate::queue::{Queue, wait};
@@ -28,7 +28,7 @@ pub struct Scope<'n> {
     /// Where memory comes from.
     pub alloc: Global,
     /// The nodes of all names, known by counting.
-    pub names: &'n [Known],
+    pub names: &'n [NamedNode],
     /// The names' nodes before this one are there.
     pub done: usize,
 }
@@ -63,7 +63,7 @@ fn copy_sort(plan: &mut Plan, flavor: FlavorInfo, pointee: &Pointee) -> Result<u
 
 // What a pointer leads to.
 fn compile_pointee<'e>(
-    names: &[Known],
+    names: &[NamedNode],
     pointee: &'e Pointee,
     plan: &mut Plan,
     queue: &mut Queue<'e>,
@@ -90,7 +90,7 @@ fn compile_pointee<'e>(
 // A pointer to what is its own.
 #[inline(never)]
 fn compile_box<'e>(
-    names: &[Known],
+    names: &[NamedNode],
     pointee: &'e Pointee,
     plan: &mut Plan,
     queue: &mut Queue<'e>,
@@ -110,7 +110,7 @@ fn compile_box<'e>(
 // A pointer to a run of elements, with its length.
 #[inline(never)]
 fn compile_vec<'e>(
-    names: &[Known],
+    names: &[NamedNode],
     element: &'e Expr,
     plan: &mut Plan,
     queue: &mut Queue<'e>,
@@ -133,7 +133,7 @@ fn compile_vec<'e>(
 // A string, behind the node of its text's bytes.
 #[inline(never)]
 fn compile_str(plan: &mut Plan) -> Result<usize, AllocError>
-    ensures { IfOk result (λ j. (names : List Known) (done : ℕ) (w : Waits) → Compiled names done str w w (lists_of plan.old) (lists_of plan.new) j) }
+    ensures { IfOk result (λ j. (names : List NamedNode) (done : ℕ) (w : Waits) → Compiled names done str w w (lists_of plan.old) (lists_of plan.new) j) }
 {
     let pointee = push(plan, Some(1), 1, Job::Free)?;
     push(plan, Some(8), 4, Job::Str { pointee })
@@ -142,7 +142,7 @@ fn compile_str(plan: &mut Plan) -> Result<usize, AllocError>
 // A pointer to what others may point to as well, behind a copy of its sort. A weak one may be null.
 #[inline(never)]
 fn compile_counted<'e>(
-    names: &[Known],
+    names: &[NamedNode],
     weak: bool,
     flavor: FlavorInfo,
     pointee: &'e Pointee,

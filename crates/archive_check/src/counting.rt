@@ -6,11 +6,11 @@ ghost use Rattle.archive_check.specs.NodeCounts.{count_of, count_pointee as poin
 ghost use Rattle.archive_check.specs.Shape.{Name, named};
 ghost use Rattle.archive_check.specs.PlanGrowth.{node_of};
 ghost use Rattle.archive_check.specs.Planned.{DefsInOrder};
-ghost use Rattle.archive_check.specs.Numbered.{RootIs, IsNumbered, def_shapes, start_of};
+ghost use Rattle.archive_check.specs.NodeNumbers.{IsExpressionNode, IsNumbered, def_shapes, start_of};
 
 use crate::defs::Def;
 use crate::expr::{Expr, Pointee};
-use crate::growing::{Known, known_node};
+use crate::growing::{NamedNode, known_node};
 use std::alloc::{AllocError, Global};
 
 /// So many and so many. Refused with 1 where that is above `usize::MAX`: there is no memory for it.
@@ -86,9 +86,9 @@ fn count_variants(variants: &[Vec<Expr>]) -> Result<usize, AllocError>
 
 /// The node of an expression whose nodes begin at `start`, and where they end: a name has its own, which is elsewhere and known. Refused with
 /// 1 where the end is above `usize::MAX`.
-pub fn root(names: &[Known], expr: &Expr, start: usize) -> Result<(usize, usize), AllocError>
+pub fn root(names: &[NamedNode], expr: &Expr, start: usize) -> Result<(usize, usize), AllocError>
     requires { (name : Name) → shape_of expr.now ≡ named name → IsSome (node_of names.now name) }
-    ensures { IfOk result (λ r. RootIs names.now start (shape_of expr.now) r.0 × (r.1 ≡ start + count_of (shape_of expr.now))) }
+    ensures { IfOk result (λ r. IsExpressionNode names.now start (shape_of expr.now) r.0 × (r.1 ≡ start + count_of (shape_of expr.now))) }
 {
     let more = count(expr)?;
     let end = add(start, more)?;
@@ -100,15 +100,15 @@ pub fn root(names: &[Known], expr: &Expr, start: usize) -> Result<(usize, usize)
 
 /// The nodes that definitions are compiled to, one after another, and how many there are. Each is a name only where that is defined before it.
 /// Memory comes from `alloc`.
-pub fn number(alloc: Global, defs: &[Def]) -> Result<(Vec<Known>, usize), AllocError>
+pub fn number(alloc: Global, defs: &[Def]) -> Result<(Vec<NamedNode>, usize), AllocError>
     requires { DefsInOrder defs.now }
     ensures { IfOk result (λ r. IsNumbered defs.now r.0.items (length defs.now) × (r.1 ≡ start_of (def_shapes defs.now) (length defs.now))) }
 {
-    let mut names: Vec<Known> = Vec::new(alloc);
+    let mut names: Vec<NamedNode> = Vec::new(alloc);
     let mut start = 0;
     for i in 0..defs.len() {
         let (node, end) = root(&names, &defs[i].expr, start)?;
-        names.push(Known {
+        names.push(NamedNode {
             name: defs[i].name,
             node,
         })?;

@@ -47,7 +47,7 @@ fn up(n: usize, align: usize) -> Option<usize>
 }
 
 /// Where what is aligned so begins, behind an end.
-#[tactic(auto, using(crate::proofs::Fitting::fitting))]
+#[tactic(auto, using(crate::proofs::BoundedSizes::fitting))]
 pub fn offset_of(end: Option<usize>, align: usize) -> Option<usize>
     requires { 0 < align }
     ensures { result ≡ rounded end align }

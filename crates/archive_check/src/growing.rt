@@ -14,7 +14,7 @@ use std::alloc::{AllocError, Global};
 
 /// A name, and the node that its definition is or will be.
 #[derive(Debug, Clone, Copy)]
-pub struct Known {
+pub struct NamedNode {
     /// The name.
     pub name: &'static str,
     /// The node's index.
@@ -71,7 +71,7 @@ impl Plan {
 }
 
 /// The node of the first of the names that is this one.
-pub fn find(names: &[Known], name: &str) -> Option<usize>
+pub fn find(names: &[NamedNode], name: &str) -> Option<usize>
     ensures { result ≡ node_of names.now name.now }
 {
     match names {
@@ -86,7 +86,7 @@ pub fn find(names: &[Known], name: &str) -> Option<usize>
 }
 
 /// The node of a name that is known.
-pub fn known_node(names: &[Known], name: &str) -> usize
+pub fn known_node(names: &[NamedNode], name: &str) -> usize
     requires { IsSome (node_of names.now name.now) }
     ensures { node_of names.now name.now ≡ Some result }
 {

@@ -5,14 +5,14 @@ ghost use Rattle.std.specs.Prelude.{◌≡◌, IfOk, OnOk};
 ghost use Rattle.archive_check.specs.Expressions.{shape_of};
 ghost use Rattle.archive_check.specs.PlanGrowth.{lists_of, no_lists};
 ghost use Rattle.archive_check.specs.CompileQueue.{waits_of, no_waits};
-ghost use Rattle.archive_check.specs.Numbered.{def_shapes};
+ghost use Rattle.archive_check.specs.NodeNumbers.{def_shapes};
 ghost use Rattle.archive_check.specs.Planned.{IsPlan, HasNames, InOrder, Chained, CanChain, CanFinish, Finishes};
 
 use crate::compile::{Scope, compile};
 use crate::counting::{add, count, number};
 use crate::defs::Def;
 use crate::expr::Expr;
-use crate::growing::Known;
+use crate::growing::NamedNode;
 use crate::plan::Plan;
 use crate::queue::Queue;
 use std::alloc::{AllocError, Global};
@@ -20,7 +20,7 @@ use std::alloc::{AllocError, Global};
 // The definitions, compiled one after another to a plan without a node. What they lead to waits in a queue where nothing waits yet.
 fn compile_defs<'e>(
     alloc: Global,
-    names: &[Known],
+    names: &[NamedNode],
     defs: &'e [Def],
     plan: &mut Plan,
     queue: &mut Queue<'e>,
@@ -41,7 +41,7 @@ fn compile_defs<'e>(
 // All that waits, and all that it leads to, compiled one after another.
 fn compile_waiting<'e>(
     alloc: Global,
-    names: &[Known],
+    names: &[NamedNode],
     plan: &mut Plan,
     queue: &mut Queue<'e>,
 ) -> Result<(), AllocError>
@@ -66,7 +66,7 @@ impl Plan {
         alloc: Global,
         defs: &'e [Def],
         root: &'e Expr,
-    ) -> Result<(Plan, usize, Vec<Known>), AllocError>
+    ) -> Result<(Plan, usize, Vec<NamedNode>), AllocError>
         requires { InOrder defs.now (shape_of root.now) }
         ensures made { IfOk result (λ r. IsPlan defs.now (shape_of root.now) r.0 r.1) }
         ensures names { IfOk result (λ r. HasNames defs.now r.2.items r.0) }

@@ -7,7 +7,7 @@ ghost use Rattle.archive_check.specs.CompileQueue.{waits_of, no_waits, IsQueued}
 
 use crate::counting::root;
 use crate::expr::Expr;
-use crate::growing::{Known, known_node};
+use crate::growing::{NamedNode, known_node};
 use std::alloc::{AllocError, Global};
 
 /// An expression, and the node that it is to be compiled to.
@@ -41,7 +41,11 @@ impl<'e> Queue<'e> {
 }
 
 /// The node of what a pointer leads to: a name's, or that of an expression that waits from now on. Each name in it is known.
-pub fn wait<'e>(names: &[Known], expr: &'e Expr, queue: &mut Queue<'e>) -> Result<usize, AllocError>
+pub fn wait<'e>(
+    names: &[NamedNode],
+    expr: &'e Expr,
+    queue: &mut Queue<'e>,
+) -> Result<usize, AllocError>
     requires { CanWait names.now (shape_of expr.now) }
     ensures { IfOk result (λ j. IsQueued names.now (shape_of expr.now) (waits_of queue.old) (waits_of queue.new) j) }
 {

@@ -1,7 +1,7 @@
 //! Which nodes of a plan are shallow: they lead to nothing but bytes that are legal whatever they are, and texts.
 
 ghost use Rattle.std.specs.Prelude.{◌≡◌, length, IfOk, IsTrue};
-ghost use Rattle.archive_check.specs.Closed.{span};
+ghost use Rattle.archive_check.specs.SoundPlans.{span};
 ghost use Rattle.archive_check.specs.Shallow.{marked, free_at, parts_shallow, variants_shallow, job_shallow, AreShallow, HasRange, HasSpans, HasIndexes, AreAllMarked};
 
 use crate::growing::is_free;

@@ -8,7 +8,7 @@ ghost use Rattle.archive_check.specs.Planned.{IsPlan, HasNames};
 
 pub use crate::error::Error;
 pub use crate::expr::{Def, Defs, Expr, FlavorInfo, IntegerKind, Kind, Pointee};
-use crate::growing::Known;
+use crate::growing::NamedNode;
 pub use crate::layout::Layout;
 use crate::names::definitions_of;
 use crate::plan::{Checker, Plan};
@@ -28,7 +28,7 @@ pub struct Schema {
     definitions: Vec<Def>,
     plan: Plan,
     node: usize,
-    names: Vec<Known>,
+    names: Vec<NamedNode>,
     shallow: Vec<bool>,
     ghost complete: { HasAll (entries_of definitions.items) (shape_of root) },
     ghost planned: { ∥ IsPlan definitions.items (shape_of root) plan node ∥₁ },

@@ -6,7 +6,7 @@ ghost use Rattle.std.specs.Ordering.{int_eq};
 ghost use Rattle.archive_check.specs.SharedPositions.{met_as, AreKnown, HasType, IsAbsent, IsGrown};
 ghost use Rattle.archive_check.specs.Expressions.{flavor_of, pointee_of};
 ghost use Rattle.archive_check.specs.Ranges.{whole};
-ghost use Rattle.archive_check.specs.Met.{nothing_met, IsStartAnswer};
+ghost use Rattle.archive_check.specs.PositionStates.{nothing_met, IsStartAnswer};
 ghost use Rattle.archive_check.specs.declared.error.Error.TheVariants.{OutOfMemory};
 
 use crate::error::Error;
@@ -26,7 +26,7 @@ struct SharedPosition {
 }
 
 // Whether a type is this one, as written.
-#[tactic(auto, using(crate::proofs::KeptPositions::same_type))]
+#[tactic(auto, using(crate::proofs::SharedPositions::same_type))]
 fn is_of(sort: &Sort, flavor: &FlavorInfo, pointee: &Pointee) -> bool
     ensures { IsTrue result ↔ ((flavor_of sort.now.flavor ≡ flavor_of flavor.now) × (pointee_of sort.now.pointee ≡ pointee_of pointee.now)) }
 {
@@ -103,7 +103,7 @@ impl<A: Allocator + Copy> Context for SharedValidator<A> {
 }
 
 impl<A: Allocator + Copy> SharedContext for SharedValidator<A> {
-    #[tactic(auto, using(crate::proofs::KeptPositions::kept))]
+    #[tactic(auto, using(crate::proofs::SharedPositions::kept))]
     fn start_shared(
         &mut self,
         flavor: &FlavorInfo,
@@ -124,7 +124,7 @@ impl<A: Allocator + Copy> SharedContext for SharedValidator<A> {
         Ok(ValidationState::Started)
     }
 
-    #[tactic(auto, using(crate::proofs::KeptPositions::kept))]
+    #[tactic(auto, using(crate::proofs::SharedPositions::kept))]
     fn finish_shared(
         &mut self,
         _flavor: &FlavorInfo,
@@ -145,7 +145,7 @@ impl<A: Allocator + Copy> SharedContext for SharedValidator<A> {
 }
 
 // The place of a type in a list, at whose end it is put where it isn't there.
-#[tactic(auto, using(crate::proofs::KeptPositions::same_type))]
+#[tactic(auto, using(crate::proofs::SharedPositions::same_type))]
 fn place_of<A: Allocator>(
     sorts: &mut Vec<Sort, A>,
     flavor: &FlavorInfo,

@@ -1,7 +1,7 @@
 // Bytes made by hand: what is accepted, and the first fault of what isn't.
 
 ghost use Rattle.std.specs.Prelude.{◌≢◌, ◌<◌, ◌≤◌, Some, length};
-ghost use Rattle.archive_check.specs.Closed.{IsClosed};
+ghost use Rattle.archive_check.specs.SoundPlans.{IsSound};
 ghost use Rattle.archive_check.specs.Planned.{IsOf};
 ghost use Rattle.archive_check.specs.declared.plan.Checker.{Checker};
 
@@ -60,7 +60,7 @@ fn check<C: ArchiveContext + SharedContext>(
     at: usize,
     context: &mut C,
 ) -> Result<(), Error>
-    requires closed { (m : Checker) → IsOf m plan.now → IsClosed m }
+    requires sound { (m : Checker) → IsOf m plan.now → IsSound m }
     requires known { node < length plan.now.nodes.items }
     requires below { (C.state context.old).end ≤ length bytes.now }
 {

@@ -2,7 +2,7 @@
 
 ghost use Rattle.std.specs.Prelude.{◌≡◌, ◌≢◌, ◌<◌, ◌≤◌, ◌%◌, ◌↔◌, IsTrue, OnOk, OnErr, IfOk, IfErr, IsErrOf, Some, None, length};
 ghost use Rattle.archive_check.specs.Expressions.{flavor_of, pointee_of};
-ghost use Rattle.archive_check.specs.Met.{Positions, nothing_met, IsStartAnswer, started, finish_answer, finished};
+ghost use Rattle.archive_check.specs.PositionStates.{Positions, nothing_met, IsStartAnswer, started, finish_answer, finished};
 ghost use Rattle.archive_check.specs.Ranges.{RangeState, whole, subtree_answer, pushed, pop_answer, popped};
 
 use crate::error::Error;

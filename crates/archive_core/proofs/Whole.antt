@@ -20,7 +20,7 @@ use Rattle.archive_check.proofs.PositiveAlignments.{align_pos}
 use Rattle.archive_check.proofs.SomeMeaning.{has_meaning}
 use Rattle.archive_check.proofs.OneMeaning.{tours_one}
 use Rattle.archive_check.proofs.StandingBytes.{stands_zero, zero_nowhere, stands_begun}
-use Rattle.archive_check.proofs.TidyIsClean.{regions_clean}
+use Rattle.archive_check.proofs.CleanRegions.{regions_clean}
 use Rattle.archive_check.proofs.Tightness.{tight_append, clean_regions_append, ArePositive, positive_append, sized_append, tour_positive, tour_sized, rising_lower, tight_rises}
 use Rattle.archive_check.proofs.AcceptedWalks.{reads_of}
 use Rattle.archive_core.specs.Writing.{Naming, IsKeyed, World, Holds, Known as KnownKeys, Unseen, Found, Appends, LaysOut, Archives}

@@ -3,7 +3,7 @@
 ghost use Rattle.std.specs.Prelude.{◌≡◌, ◌⊎◌, ◌≤◌, ◌-◌, None, length, IfOk, OnOk, IfErr, ℕ, []};
 ghost use Rattle.archive_check.specs.Fresh.{IsWhole};
 ghost use Rattle.archive_check.specs.Schemas.{ExplainsNoSchema};
-ghost use Rattle.archive_check.specs.Archives.{IsArchiveWithin, IsArchive, IsValueOf, IsRefusal, IsNoArchive};
+ghost use Rattle.archive_check.specs.Archives.{IsArchiveWithin, IsArchive, IsValueOf, IsRefusal, ExplainsNoArchive};
 ghost use Rattle.archive_check.specs.Defined.{WellFormed};
 ghost use Rattle.archive_check.specs.Definitions.{listed};
 ghost use Rattle.archive_check.specs.Entries.{NoEntries, AreNamedByPosition, KeepsEntries, IsCyclic};
@@ -96,7 +96,7 @@ pub fn check_pos_with_context<T: Portable, C: ArchiveContext + SharedContext>(
     ensures accepted { OnOk result (IsWhole (C.state context.old) (C.positions context.old) bytes.now → IsArchiveWithin T.definitions bytes.now (C.state context.old).depth pos T.shape) }
     ensures meaning { IfErr result (λ e. ExplainsNoSchema T.shape T.definitions e ⊎ WellFormed (listed T.definitions) T.shape) }
     ensures refused { IfErr result (λ e. IsWhole (C.state context.old) (C.positions context.old) bytes.now → IsRefusal T.definitions bytes.now (C.state context.old).depth pos T.shape e) }
-    ensures exact { IfErr result (λ e. IsWhole (C.state context.old) (C.positions context.old) bytes.now → IsNoArchive T.definitions bytes.now (C.state context.old).depth pos T.shape e) }
+    ensures exact { IfErr result (λ e. IsWhole (C.state context.old) (C.positions context.old) bytes.now → ExplainsNoArchive T.definitions bytes.now (C.state context.old).depth pos T.shape e) }
 {
     prove!(bytes.len() <= usize::MAX);
     let schema = Schema::of::<T>(alloc)?;
@@ -113,7 +113,7 @@ pub fn access_pos<'a, T: Portable>(
 ) -> Result<Ref<'a, T>, Error>
     ensures accepted { OnOk result (IsArchive T.definitions bytes.now pos T.shape) }
     ensures refused { IfErr result (IsRefusal T.definitions bytes.now None pos T.shape) }
-    ensures exact { IfErr result (IsNoArchive T.definitions bytes.now None pos T.shape) }
+    ensures exact { IfErr result (ExplainsNoArchive T.definitions bytes.now None pos T.shape) }
     ensures buffer { IfOk result (λ r. r.bytes.now ≡ bytes.now) }
     ensures position { IfOk result (λ r. r.pos ≡ pos) }
     ensures whole { IfOk result (λ r. r.len ≡ 0) }
@@ -131,7 +131,7 @@ pub fn access_pos<'a, T: Portable>(
 pub fn access<'a, T: Portable>(alloc: Global, bytes: &'a [u8]) -> Result<Ref<'a, T>, Error>
     ensures accepted { OnOk result (IsArchive T.definitions bytes.now (length bytes.now - T.layout.size) T.shape) }
     ensures refused { IfErr result (IsRefusal T.definitions bytes.now None (length bytes.now - T.layout.size) T.shape) }
-    ensures exact { IfErr result (IsNoArchive T.definitions bytes.now None (length bytes.now - T.layout.size) T.shape) }
+    ensures exact { IfErr result (ExplainsNoArchive T.definitions bytes.now None (length bytes.now - T.layout.size) T.shape) }
     ensures buffer { IfOk result (λ r. r.bytes.now ≡ bytes.now) }
     ensures position { IfOk result (λ r. r.pos ≡ length bytes.now - T.layout.size) }
     ensures whole { IfOk result (λ r. r.len ≡ 0) }
@@ -151,7 +151,7 @@ pub fn access_pos_with_context<'a, T: Portable, C: ArchiveContext + SharedContex
     requires { IsWhole (C.state context.old) (C.positions context.old) bytes.now }
     ensures accepted { OnOk result (IsArchiveWithin T.definitions bytes.now (C.state context.old).depth pos T.shape) }
     ensures refused { IfErr result (IsRefusal T.definitions bytes.now (C.state context.old).depth pos T.shape) }
-    ensures exact { IfErr result (IsNoArchive T.definitions bytes.now (C.state context.old).depth pos T.shape) }
+    ensures exact { IfErr result (ExplainsNoArchive T.definitions bytes.now (C.state context.old).depth pos T.shape) }
     ensures buffer { IfOk result (λ r. r.bytes.now ≡ bytes.now) }
     ensures position { IfOk result (λ r. r.pos ≡ pos) }
     ensures whole { IfOk result (λ r. r.len ≡ 0) }
@@ -172,7 +172,7 @@ pub fn access_with_context<'a, T: Portable, C: ArchiveContext + SharedContext>(
     requires { IsWhole (C.state context.old) (C.positions context.old) bytes.now }
     ensures accepted { OnOk result (IsArchiveWithin T.definitions bytes.now (C.state context.old).depth (length bytes.now - T.layout.size) T.shape) }
     ensures refused { IfErr result (IsRefusal T.definitions bytes.now (C.state context.old).depth (length bytes.now - T.layout.size) T.shape) }
-    ensures exact { IfErr result (IsNoArchive T.definitions bytes.now (C.state context.old).depth (length bytes.now - T.layout.size) T.shape) }
+    ensures exact { IfErr result (ExplainsNoArchive T.definitions bytes.now (C.state context.old).depth (length bytes.now - T.layout.size) T.shape) }
     ensures buffer { IfOk result (λ r. r.bytes.now ≡ bytes.now) }
     ensures position { IfOk result (λ r. r.pos ≡ length bytes.now - T.layout.size) }
     ensures whole { IfOk result (λ r. r.len ≡ 0) }
@@ -196,7 +196,7 @@ where
     ensures refused { IfErr result (λ e. IsRefusal T.Archived.definitions bytes.now None (length bytes.now - T.Archived.layout.size) T.Archived.shape e
         ⊎ ((e ≡ CyclicDeserialize) × IsCyclic T.Archived.definitions bytes.now (D.entry_of deserializer.old) (length bytes.now - T.Archived.layout.size) T.Archived.pointee 0)) }
     ensures unshared { IsUnshared T.Archived.definitions T.Archived.shape → IfErr result (IsRefusal T.Archived.definitions bytes.now None (length bytes.now - T.Archived.layout.size) T.Archived.shape) }
-    ensures exact { IsUnshared T.Archived.definitions T.Archived.shape → IfErr result (IsNoArchive T.Archived.definitions bytes.now None (length bytes.now - T.Archived.layout.size) T.Archived.shape) }
+    ensures exact { IsUnshared T.Archived.definitions T.Archived.shape → IfErr result (ExplainsNoArchive T.Archived.definitions bytes.now None (length bytes.now - T.Archived.layout.size) T.Archived.shape) }
 {
     let root = access::<T::Archived>(alloc, bytes)?;
     <T::Archived as Deserialize<T, D>>::deserialize(alloc, root, deserializer)

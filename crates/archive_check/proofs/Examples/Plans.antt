@@ -17,7 +17,7 @@ use Rattle.archive_check.specs.Layout.{size_of}
 use Rattle.archive_check.specs.Reads.{Schema}
 use Rattle.archive_check.specs.Expressions.{flavor_of}
 use Rattle.archive_check.specs.Runs.{IsAt, Takes}
-use Rattle.archive_check.specs.Closed.{span, PartsWithin, JobFits, SpanFits, IsClosed}
+use Rattle.archive_check.specs.SoundPlans.{span, PartsWithin, JobFits, SpanFits, IsSound}
 use Rattle.archive_check.specs.Represents.{StandsFor, stands, stands_named, PartsStand, parts_over, parts_more, Sized, points_one, Made, made_leaf, made_choice, made_boxed, made_shared}
 use Rattle.archive_check.specs.PlanChecks.{PlanOf}
 
@@ -193,5 +193,5 @@ module _ (name : Bor (List ℕ)) (flavor : FlavorInfo) where
         rw (is, same) (record { tag = omega arith; last = rw variants_are (omega arith); few = omega arith; fits = span_fits })
     all_fit (suc (suc (suc (suc i)))) node z h e = absurd (let below : suc (suc (suc (suc i))) < length the_nodes = rw nodes_are at h.below in omega (arith, below))
 
-    pub list_closed : IsClosed m
-    list_closed = record { fits = all_fit }
+    pub list_sound : IsSound m
+    list_sound = record { fits = all_fit }

@@ -3,9 +3,9 @@ use Rattle.archive_check.specs.declared.defs.Def.{Def}
 use Rattle.archive_check.specs.Expressions.{shape_of}
 use Rattle.archive_check.specs.Runs.{IsAt}
 use Rattle.archive_check.specs.NodeCounts.{count_of}
-use Rattle.archive_check.specs.Numbered.{RootIs, def_shapes}
+use Rattle.archive_check.specs.NodeNumbers.{IsExpressionNode, def_shapes}
 use Rattle.archive_check.proofs.Elements.{same_at}
-use Rattle.archive_check.proofs.Numbered.{numbered_next, start_next, def_at, prefix_found}
+use Rattle.archive_check.proofs.NodeNumbers.{numbered_next, start_next, def_at, prefix_found}
 use Rattle.archive_check.specs.Shape.{named}
 use Rattle.archive_check.specs.Defined.{Holds, holds_name}
 use Rattle.archive_check.specs.PlanGrowth.{node_of}
@@ -15,13 +15,13 @@ pub loop-i-preserved : goal.loop-i-preserved
 loop-i-preserved c =
     let at : IsAt c.args.defs.now c.loop-i.i c.index-defs-i.result = record { below = c.loop-i-test.true; is = c.index-defs-i.is } in
     let again : IsAt c.args.defs.now c.loop-i.i c.index-defs-i-in-loop-i.result = record { below = c.loop-i-test.true; is = c.index-defs-i-in-loop-i.is } in
-    let root : RootIs c.deref.result.now c.loop-i.start (shape_of c.index-defs-i.result.expr) c.in_ok-node.node =
-    subst (λ (y : Def). RootIs c.deref.result.now c.loop-i.start (shape_of y.expr) c.in_ok-node.node) (sym c.index-defs-i.is) c.in_ok-node.ensures.0 in
+    let root : IsExpressionNode c.deref.result.now c.loop-i.start (shape_of c.index-defs-i.result.expr) c.in_ok-node.node =
+    subst (λ (y : Def). IsExpressionNode c.deref.result.now c.loop-i.start (shape_of y.expr) c.in_ok-node.node) (sym c.index-defs-i.is) c.in_ok-node.ensures.0 in
     let end : c.in_ok-node.end ≡ c.loop-i.start + count_of (shape_of c.index-defs-i.result.expr) =
     subst (λ (y : Def). c.in_ok-node.end ≡ c.loop-i.start + count_of (shape_of y.expr)) (sym c.index-defs-i.is) c.in_ok-node.ensures.1 in
     let there : Def = slice_index_or c.args.defs.now c.loop-i.i c.index-defs-i-in-loop-i.result in (
       numbered_next (record { name = there.name; node = c.in_ok-node.node }) c.loop-i.invariant.0 c.loop-i.invariant.1 at (ap (λ (d : Def). d.name.now) (sym again.is ∙ same_at again at))
-          (subst (λ ks. RootIs ks c.loop-i.start (shape_of c.index-defs-i.result.expr) c.in_ok-node.node) c.deref.ensures.value root) c.in_ok-push.ensures.items,
+          (subst (λ ks. IsExpressionNode ks c.loop-i.start (shape_of c.index-defs-i.result.expr) c.in_ok-node.node) c.deref.ensures.value root) c.in_ok-push.ensures.items,
       omega (arith, end, c.loop-i.invariant.1, start_next (def_shapes c.args.defs.now) c.loop-i.i (shape_of c.index-defs-i.result.expr) (def_at c.args.defs.now c.loop-i.i at)),
     )
 

@@ -1,5 +1,5 @@
 use Rattle.std.proofs.Common.{◌≡◌}
-use Rattle.archive_check.specs.Numbered.{def_shapes, start_of, IsNumbered}
+use Rattle.archive_check.specs.NodeNumbers.{def_shapes, start_of, IsNumbered}
 use Rattle.archive_check.proofs.counting.number.Given as goal
 
 abbrev pub invariant-loop-i : goal.invariant-loop-i

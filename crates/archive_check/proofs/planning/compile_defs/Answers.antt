@@ -6,10 +6,10 @@ use Rattle.archive_check.specs.CompileQueue.{waits_of}
 use Rattle.archive_check.proofs.Restated.{as_shape, as_done}
 use Rattle.archive_check.proofs.CompiledChain.{chained_start, defs_next, defs_begin}
 use Rattle.archive_check.specs.Runs.{IsAt}
-use Rattle.archive_check.specs.Numbered.{def_shapes, start_of}
+use Rattle.archive_check.specs.NodeNumbers.{def_shapes, start_of}
 use Rattle.archive_check.specs.Compilable.{Can}
 use Rattle.archive_check.proofs.Compilable.{can_as}
-use Rattle.archive_check.proofs.Numbered.{def_at}
+use Rattle.archive_check.proofs.NodeNumbers.{def_at}
 use Rattle.archive_check.proofs.planning.compile_defs.Goals as goal
 
 pub loop-i-init : goal.loop-i-init

@@ -1,7 +1,7 @@
 use Rattle.std.proofs.Common.{take}
 use Rattle.archive_check.specs.PlanGrowth.{lists_of}
 use Rattle.archive_check.specs.CompileQueue.{waits_of}
-use Rattle.archive_check.specs.Numbered.{def_shapes}
+use Rattle.archive_check.specs.NodeNumbers.{def_shapes}
 use Rattle.archive_check.specs.Planned.{Chained}
 use Rattle.archive_check.proofs.planning.compile_defs.Given as goal
 

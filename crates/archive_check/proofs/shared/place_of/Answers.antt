@@ -1,7 +1,7 @@
 use Rattle.std.proofs.Common.{inr, ◌<◌, ◌≡◌, ◌∙◌, sym, arith, length, get_or, subst, rules, true, false}
 use Rattle.archive_check.specs.Expressions.{flavor_of, pointee_of}
 use Rattle.archive_check.specs.SharedPositions.{IsAbsent}
-use Rattle.archive_check.proofs.KeptPositions.{has_type, has_pushed, none_next, none_absent}
+use Rattle.archive_check.proofs.SharedPositions.{has_type, has_pushed, none_next, none_absent}
 use Rattle.archive_check.proofs.shared.place_of.Goals as goal
 
 pub returns-then-is_of-clause-found : goal.returns-then-is_of-clause-found

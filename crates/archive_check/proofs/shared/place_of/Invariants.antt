@@ -1,5 +1,5 @@
 use Rattle.archive_check.specs.Expressions.{flavor_of, pointee_of}
-use Rattle.archive_check.proofs.KeptPositions.{NoneBefore}
+use Rattle.archive_check.proofs.SharedPositions.{NoneBefore}
 use Rattle.archive_check.proofs.shared.place_of.Given as goal
 
 abbrev pub invariant-loop-place : goal.invariant-loop-place

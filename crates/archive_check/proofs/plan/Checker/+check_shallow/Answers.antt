@@ -9,8 +9,8 @@ use Rattle.archive_check.specs.Reads.{bytes_at}
 use Rattle.archive_check.specs.Trail.{illegal, no_such_variant}
 use Rattle.archive_check.specs.Runs.{IsAt, IsNode, Takes, run_free, run_leaf, run_illegal, run_record, run_choice, run_tag, run_array, run_pointer}
 use Rattle.archive_check.specs.Lists.{list_of}
-use Rattle.archive_check.specs.Closed.{span}
-use Rattle.archive_check.specs.Turns.{rank}
+use Rattle.archive_check.specs.SoundPlans.{span}
+use Rattle.archive_check.specs.LoopInvariant.{rank}
 use Rattle.archive_check.specs.Through.{Stops, node_rule, parts_rule, elements_rule, region_rule}
 use Rattle.archive_check.proofs.EditedBytes.{bytes_long}
 use Rattle.archive_check.proofs.EnteredRegions.{not_true, is_true, through_same}
@@ -27,7 +27,7 @@ check_shallow-illegal-requires g t c =
     let s = g.C.Context.state c.args.context.now in
     let at : IsAt m.nodes.now c.args.node c.index-self-node.result = record { below = c.requires.fits.takes.at.below; is = c.index-self-node.is } in
     let is : IsNode m c.args.node (Leaf c.in-Leaf.kind) = record { node = c.index-self-node.result; at = at; job_is = ap (λ q. q.job) c.index-self-node.is ∙ c.in-Leaf.is } in
-    let k = node_fits m s (g.C.Context.positions c.args.context.now) (list_of c.args.work.now) c.args.node c.args.at (Leaf c.in-Leaf.kind) c.requires.closed is c.requires.fits in
+    let k = node_fits m s (g.C.Context.positions c.args.context.now) (list_of c.args.work.now) c.args.node c.args.at (Leaf c.in-Leaf.kind) c.requires.sound is c.requires.fits in
     (bytes_at m.bytes.now c.args.at (kind_size (kind_of c.in-Leaf.kind)), bytes_long m.bytes.now c.args.at (kind_size (kind_of c.in-Leaf.kind)) (omega (arith, k, c.requires.fits.fits)), (λ u. not_true c.is_legal.result c.if-not-is_legal.true (c.is_legal.ensures.1 u)))
 
 pub check_shallow-returns-then-not-is_legal-clause-stops : goal.check_shallow-returns-then-not-is_legal-clause-stops
@@ -60,9 +60,9 @@ check_shallow-check_shallow_parts-requires g t c =
     let s = g.C.Context.state c.args.context.now in
     let at : IsAt m.nodes.now c.args.node c.index-self-node.result = record { below = c.requires.fits.takes.at.below; is = c.index-self-node.is } in
     let is : IsNode m c.args.node (Record c.in-Record.first c.in-Record.last) = record { node = c.index-self-node.result; at = at; job_is = ap (λ q. q.job) c.index-self-node.is ∙ c.in-Record.is } in
-    let k = node_fits m s (g.C.Context.positions c.args.context.now) (list_of c.args.work.now) c.args.node c.args.at (Record c.in-Record.first c.in-Record.last) c.requires.closed is c.requires.fits in
+    let k = node_fits m s (g.C.Context.positions c.args.context.now) (list_of c.args.work.now) c.args.node c.args.at (Record c.in-Record.first c.in-Record.last) c.requires.sound is c.requires.fits in
     let falls : rank (span m.parts.now c.in-Record.first c.in-Record.last) * 2 < c.args.node * 2 + 1 = let below = rank_from m c.args.node c.requires.fits.size (span m.parts.now c.in-Record.first c.in-Record.last) k.1.within in omega (arith, below) in
-    λ κs lives. (subst (λ n. rank (span m.parts.now c.in-Record.first c.in-Record.last) * 2 < n) c.decreases falls, (lives, (c.requires.closed, (c.requires.marked, (rw is.job_is at (c.requires.shallow c.index-self-node.result at), (parts_here m c.args.node c.args.at c.requires.fits.size c.in-Record.first c.in-Record.last k.1 c.requires.fits.fits, c.requires.below))))))
+    λ κs lives. (subst (λ n. rank (span m.parts.now c.in-Record.first c.in-Record.last) * 2 < n) c.decreases falls, (lives, (c.requires.sound, (c.requires.marked, (rw is.job_is at (c.requires.shallow c.index-self-node.result at), (parts_here m c.args.node c.args.at c.requires.fits.size c.in-Record.first c.in-Record.last k.1 c.requires.fits.fits, c.requires.below))))))
 
 pub check_shallow-returns-in-Record-clause-through : goal.check_shallow-returns-in-Record-clause-through
 check_shallow-returns-in-Record-clause-through g t c =
@@ -94,14 +94,14 @@ check_shallow-check_shallow_parts-requires-in-Choice g t c =
     let s = g.C.Context.state c.args.context.now in
     let at : IsAt m.nodes.now c.args.node c.index-self-node.result = record { below = c.requires.fits.takes.at.below; is = c.index-self-node.is } in
     let is : IsNode m c.args.node (Choice c.in-Choice.name c.in-Choice.first c.in-Choice.last) = record { node = c.index-self-node.result; at = at; job_is = ap (λ q. q.job) c.index-self-node.is ∙ c.in-Choice.is } in
-    let k = node_fits m s (g.C.Context.positions c.args.context.now) (list_of c.args.work.now) c.args.node c.args.at (Choice c.in-Choice.name c.in-Choice.first c.in-Choice.last) c.requires.closed is c.requires.fits in
+    let k = node_fits m s (g.C.Context.positions c.args.context.now) (list_of c.args.work.now) c.args.node c.args.at (Choice c.in-Choice.name c.in-Choice.first c.in-Choice.last) c.requires.sound is c.requires.fits in
     let x = c.in-Some.variant in
     let lt = c.in-Some.ensures.some.0 in
     let there = c.in-Some.ensures.some.1 in
     let tag = slice_index m.bytes.now c.args.at in
     let f = k.fits (c.in-Choice.first + tag) x (omega arith) lt there in
     let falls : rank (span m.parts.now x.first x.last) * 2 < c.args.node * 2 + 1 = let below = rank_from m c.args.node c.requires.fits.size (span m.parts.now x.first x.last) f.within in omega (arith, below) in
-    λ κs lives. (subst (λ n. rank (span m.parts.now x.first x.last) * 2 < n) c.decreases falls, (lives, (c.requires.closed, (c.requires.marked, (variant_shallow m.shallow.now m.parts.now m.variants.now c.in-Choice.last tag c.in-Choice.first (c.in-Choice.first + tag) x refl lt k.last (rw is.job_is at (c.requires.shallow c.index-self-node.result at)) there, (parts_here m c.args.node c.args.at c.requires.fits.size x.first x.last f c.requires.fits.fits, c.requires.below))))))
+    λ κs lives. (subst (λ n. rank (span m.parts.now x.first x.last) * 2 < n) c.decreases falls, (lives, (c.requires.sound, (c.requires.marked, (variant_shallow m.shallow.now m.parts.now m.variants.now c.in-Choice.last tag c.in-Choice.first (c.in-Choice.first + tag) x refl lt k.last (rw is.job_is at (c.requires.shallow c.index-self-node.result at)) there, (parts_here m c.args.node c.args.at c.requires.fits.size x.first x.last f c.requires.fits.fits, c.requires.below))))))
 
 pub check_shallow-returns-in-Some-clause-through : goal.check_shallow-returns-in-Some-clause-through
 check_shallow-returns-in-Some-clause-through g t c =
@@ -135,9 +135,9 @@ check_shallow-check_shallow_elements-requires g t c =
     let s = g.C.Context.state c.args.context.now in
     let at : IsAt m.nodes.now c.args.node c.index-self-node.result = record { below = c.requires.fits.takes.at.below; is = c.index-self-node.is } in
     let is : IsNode m c.args.node (Array c.in-Array.count c.in-Array.element) = record { node = c.index-self-node.result; at = at; job_is = ap (λ q. q.job) c.index-self-node.is ∙ c.in-Array.is } in
-    let k = node_fits m s (g.C.Context.positions c.args.context.now) (list_of c.args.work.now) c.args.node c.args.at (Array c.in-Array.count c.in-Array.element) c.requires.closed is c.requires.fits in
+    let k = node_fits m s (g.C.Context.positions c.args.context.now) (list_of c.args.work.now) c.args.node c.args.at (Array c.in-Array.count c.in-Array.element) c.requires.sound is c.requires.fits in
     let falls : c.in-Array.element * 2 + 2 < c.args.node * 2 + 1 = omega (arith, k.1.earlier) in
-    λ κs lives. (subst (λ n. c.in-Array.element * 2 + 2 < n) c.decreases falls, (lives, (c.requires.closed, (c.requires.marked, (rw is.job_is at (c.requires.shallow c.index-self-node.result at), (elements_here m c.args.node c.args.at c.requires.fits.size c.in-Array.count c.in-Array.element k.1 c.requires.fits.fits, c.requires.below))))))
+    λ κs lives. (subst (λ n. c.in-Array.element * 2 + 2 < n) c.decreases falls, (lives, (c.requires.sound, (c.requires.marked, (rw is.job_is at (c.requires.shallow c.index-self-node.result at), (elements_here m c.args.node c.args.at c.requires.fits.size c.in-Array.count c.in-Array.element k.1 c.requires.fits.fits, c.requires.below))))))
 
 pub check_shallow-returns-in-Array-clause-through : goal.check_shallow-returns-in-Array-clause-through
 check_shallow-returns-in-Array-clause-through g t c =
@@ -200,7 +200,7 @@ check_shallow_parts-check_shallow-requires g t c =
     let below = part_below m.parts.now c.args.last (k - c.args.first) c.args.first k x (omega arith) c.loop-index-test.true c.requires.fits.last at in
     let falls : x.node * 2 + 1 < rank (span m.parts.now c.args.first c.args.last) * 2 = omega (arith, below) in
     let marked = part_marked m.shallow.now m.parts.now c.args.last (k - c.args.first) c.args.first k x (omega arith) c.loop-index-test.true c.requires.fits.last c.requires.shallow at in
-    λ κs lives. (subst (λ n. x.node * 2 + 1 < n) c.decreases falls, (lives, (c.requires.closed, (c.requires.marked, (λ y here. c.requires.marked.shallow x.node y here marked, (f, rw c.loop-index.invariant.2.end c.requires.below))))))
+    λ κs lives. (subst (λ n. x.node * 2 + 1 < n) c.decreases falls, (lives, (c.requires.sound, (c.requires.marked, (λ y here. c.requires.marked.shallow x.node y here marked, (f, rw c.loop-index.invariant.2.end c.requires.below))))))
 
 pub check_shallow_parts-returns-in_err-check_shallow-clause-stops : goal.check_shallow_parts-returns-in_err-check_shallow-clause-stops
 check_shallow_parts-returns-in_err-check_shallow-clause-stops g t c =
@@ -254,7 +254,7 @@ check_shallow_elements-check_shallow-requires g t c =
     let size = λ (y : ℕ) (q : c.index-self-node.result.size ≡ Some y). c.unwrap_or-size.ensures ∙ ap (λ v. unwrap_or v.size 0) (sym c.index-self-node.is) ∙ ap (λ v. unwrap_or v 0) q in
     let takes : Takes m c.args.node c.unwrap_or-size.result = takes_size m c.args.node c.unwrap_or-size.result c.index-self-node.result at c.requires.fits.takes size in
     let falls : c.args.node * 2 + 1 < c.args.node * 2 + 2 = omega arith in
-    λ κs lives. (subst (λ n. c.args.node * 2 + 1 < n) c.decreases falls, (lives, (c.requires.closed, (c.requires.marked, (λ y here. c.requires.marked.shallow c.args.node y here c.requires.shallow, (element_fits m c.args.node c.unwrap_or-size.result takes c.args.count c.args.at c.loop-index.index c.requires.fits c.loop-index-test.true, rw c.loop-index.invariant.2.end c.requires.below))))))
+    λ κs lives. (subst (λ n. c.args.node * 2 + 1 < n) c.decreases falls, (lives, (c.requires.sound, (c.requires.marked, (λ y here. c.requires.marked.shallow c.args.node y here c.requires.shallow, (element_fits m c.args.node c.unwrap_or-size.result takes c.args.count c.args.at c.loop-index.index c.requires.fits c.loop-index-test.true, rw c.loop-index.invariant.2.end c.requires.below))))))
 
 pub check_shallow_elements-returns-in_err-check_shallow-clause-stops : goal.check_shallow_elements-returns-in_err-check_shallow-clause-stops
 check_shallow_elements-returns-in_err-check_shallow-clause-stops g t c =

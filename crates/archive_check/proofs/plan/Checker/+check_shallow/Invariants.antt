@@ -1,7 +1,7 @@
 use Rattle.std.proofs.Common.{◌≡◌, ◌+◌, ◌-◌, ◌*◌}
 use Rattle.archive_check.specs.Lists.{list_of}
-use Rattle.archive_check.specs.Closed.{span}
-use Rattle.archive_check.specs.Turns.{rank}
+use Rattle.archive_check.specs.SoundPlans.{span}
+use Rattle.archive_check.specs.LoopInvariant.{rank}
 use Rattle.archive_check.specs.Through.{parts_rule, elements_rule}
 use Rattle.archive_check.proofs.AtOnce.{Towards}
 use Rattle.archive_check.proofs.plan.Checker.+check_shallow.Given as goal

@@ -7,14 +7,14 @@ use Rattle.archive_check.specs.Runs.{IsNode, run_tag, run_null}
 use Rattle.archive_check.specs.declared.error.Error.TheVariants.{InvalidDiscriminant}
 use Rattle.archive_check.specs.declared.work.Work.TheVariants.{Part as PartWork, Parts}
 use Rattle.archive_check.specs.Lists.{list_of}
-use Rattle.archive_check.specs.Turns.{stage, Listing}
+use Rattle.archive_check.specs.LoopInvariant.{stage, Listing}
 use Rattle.archive_check.proofs.TurnRules.{turn_record, turn_choice, turn_array}
 use Rattle.archive_check.proofs.TurnsEnd.{falls_none}
 use Rattle.archive_check.proofs.TurnInvariants.{node_fits, node_leads, node_refuses, span_ready, span_ends, array_ends, pointer_ends, pointer_keeps, shared_keeps, weak_keeps, shared_ends, some_map, refused_keeps, pushed_keeps, part_ready, part_room, part_leads, part_ends, then_keeps, then_falls, under, rank_from}
 use Rattle.archive_check.proofs.Elements.{at_default}
 use Rattle.archive_check.proofs.AtOnce.{part_below, once_keeps, once_ends}
-use Rattle.archive_check.specs.Closed.{span}
-use Rattle.archive_check.specs.Turns.{rank}
+use Rattle.archive_check.specs.SoundPlans.{span}
+use Rattle.archive_check.specs.LoopInvariant.{rank}
 use Rattle.archive_check.proofs.PassedParts.{skip_all, skip_leads, skip_ready, skip_costs}
 use Rattle.archive_check.proofs.plan.Checker.+open.Goals as goal
 
@@ -56,9 +56,9 @@ open-open_parts-requires g t c =
     let old = list_of c.args.work.now in
     let f = c.requires.ready.fits.0 in
     let is : IsNode m c.args.node (Record c.in-Record.first c.in-Record.last) = record { node = c.index-self-node.result; at = record { below = f.takes.at.below; is = c.index-self-node.is }; job_is = ap (λ q. q.job) c.index-self-node.is ∙ c.in-Record.is } in
-    let k = node_fits m s seen old c.args.node c.args.at (Record c.in-Record.first c.in-Record.last) c.requires.closed is f in
+    let k = node_fits m s seen old c.args.node c.args.at (Record c.in-Record.first c.in-Record.last) c.requires.sound is f in
     let falls : rank (span m.parts.now c.in-Record.first c.in-Record.last) * 2 < c.args.node * 2 + 1 = let below = rank_from m c.args.node f.size (span m.parts.now c.in-Record.first c.in-Record.last) k.1.within in omega (arith, below) in
-    λ κs lives. (subst (λ n. rank (span m.parts.now c.in-Record.first c.in-Record.last) * 2 < n) c.decreases falls, (lives, (c.requires.closed, (c.requires.marked, span_ready m s old c.args.node c.args.at f.size c.in-Record.first c.in-Record.last (Parts c.in-Record.first c.in-Record.last c.args.at ∷ old) k.1 refl c.requires.ready f.fits))))
+    λ κs lives. (subst (λ n. rank (span m.parts.now c.in-Record.first c.in-Record.last) * 2 < n) c.decreases falls, (lives, (c.requires.sound, (c.requires.marked, span_ready m s old c.args.node c.args.at f.size c.in-Record.first c.in-Record.last (Parts c.in-Record.first c.in-Record.last c.args.at ∷ old) k.1 refl c.requires.ready f.fits))))
 
 pub open-returns-in-Record-clause-runs : goal.open-returns-in-Record-clause-runs
 open-returns-in-Record-clause-runs g t c =
@@ -82,7 +82,7 @@ open-returns-in-Record-clause-ends g t c =
     let old = list_of c.args.work.now in
     let f = c.requires.ready.fits.0 in
     let is : IsNode m c.args.node (Record c.in-Record.first c.in-Record.last) = record { node = c.index-self-node.result; at = record { below = f.takes.at.below; is = c.index-self-node.is }; job_is = ap (λ q. q.job) c.index-self-node.is ∙ c.in-Record.is } in
-    let k = node_fits m s seen old c.args.node c.args.at (Record c.in-Record.first c.in-Record.last) c.requires.closed is f in
+    let k = node_fits m s seen old c.args.node c.args.at (Record c.in-Record.first c.in-Record.last) c.requires.sound is f in
     then_falls c.open_parts.result _ _ _ (span_ends m s old c.args.node c.args.at f.size c.in-Record.first c.in-Record.last (Parts c.in-Record.first c.in-Record.last c.args.at ∷ old) k.1 refl) c.open_parts.ensures.ends
 
 pub open-returns-in_default-clause-runs : goal.open-returns-in_default-clause-runs
@@ -107,13 +107,13 @@ open-open_parts-requires-in-Choice g t c =
     let old = list_of c.args.work.now in
     let f = c.requires.ready.fits.0 in
     let is : IsNode m c.args.node (Choice c.in-Choice.name c.in-Choice.first c.in-Choice.last) = record { node = c.index-self-node.result; at = record { below = f.takes.at.below; is = c.index-self-node.is }; job_is = ap (λ q. q.job) c.index-self-node.is ∙ c.in-Choice.is } in
-    let k = node_fits m s seen old c.args.node c.args.at (Choice c.in-Choice.name c.in-Choice.first c.in-Choice.last) c.requires.closed is f in
+    let k = node_fits m s seen old c.args.node c.args.at (Choice c.in-Choice.name c.in-Choice.first c.in-Choice.last) c.requires.sound is f in
     let x = c.in-Some.variant in
     let lt = c.in-Some.ensures.some.0 in
     let at = c.in-Some.ensures.some.1 in
     let fits = k.fits (c.in-Choice.first + slice_index c.args.self.now.bytes.now c.args.at) x (omega arith) lt at in
     let falls : rank (span m.parts.now x.first x.last) * 2 < c.args.node * 2 + 1 = let below = rank_from m c.args.node f.size (span m.parts.now x.first x.last) fits.within in omega (arith, below) in
-    λ κs lives. (subst (λ n. rank (span m.parts.now x.first x.last) * 2 < n) c.decreases falls, (lives, (c.requires.closed, (c.requires.marked, span_ready m s old c.args.node c.args.at f.size x.first x.last (Parts x.first x.last c.args.at ∷ old) fits refl c.requires.ready f.fits))))
+    λ κs lives. (subst (λ n. rank (span m.parts.now x.first x.last) * 2 < n) c.decreases falls, (lives, (c.requires.sound, (c.requires.marked, span_ready m s old c.args.node c.args.at f.size x.first x.last (Parts x.first x.last c.args.at ∷ old) fits refl c.requires.ready f.fits))))
 
 pub open-returns-in-Some-clause-runs : goal.open-returns-in-Some-clause-runs
 open-returns-in-Some-clause-runs g t c =
@@ -140,7 +140,7 @@ open-returns-in-Some-clause-ends g t c =
     let old = list_of c.args.work.now in
     let f = c.requires.ready.fits.0 in
     let is : IsNode m c.args.node (Choice c.in-Choice.name c.in-Choice.first c.in-Choice.last) = record { node = c.index-self-node.result; at = record { below = f.takes.at.below; is = c.index-self-node.is }; job_is = ap (λ q. q.job) c.index-self-node.is ∙ c.in-Choice.is } in
-    let k = node_fits m s seen old c.args.node c.args.at (Choice c.in-Choice.name c.in-Choice.first c.in-Choice.last) c.requires.closed is f in
+    let k = node_fits m s seen old c.args.node c.args.at (Choice c.in-Choice.name c.in-Choice.first c.in-Choice.last) c.requires.sound is f in
     let x = c.in-Some.variant in
     let lt = c.in-Some.ensures.some.0 in
     let at = c.in-Some.ensures.some.1 in
@@ -169,7 +169,7 @@ open-returns-in-Array-clause-ends g t c =
     let old = list_of c.args.work.now in
     let f = c.requires.ready.fits.0 in
     let is : IsNode m c.args.node (Array c.in-Array.count c.in-Array.element) = record { node = c.index-self-node.result; at = record { below = f.takes.at.below; is = c.index-self-node.is }; job_is = ap (λ q. q.job) c.index-self-node.is ∙ c.in-Array.is } in
-    let k = node_fits m s seen old c.args.node c.args.at (Array c.in-Array.count c.in-Array.element) c.requires.closed is f in
+    let k = node_fits m s seen old c.args.node c.args.at (Array c.in-Array.count c.in-Array.element) c.requires.sound is f in
     some_map c.elements.result (λ e. array_ends m s old c.args.node c.args.at f.size c.in-Array.count c.in-Array.element (list_of c.elements.new.self) k.1 e) c.elements.ensures.some
 
 pub open-returns-in-Pointer-clause-runs : goal.open-returns-in-Pointer-clause-runs
@@ -311,7 +311,7 @@ open_parts-open-requires g t c =
     let e = c.in_ok-more_parts.ensures.some in
     let below = part_below m.parts.now c.args.last (c.skip-next.result - c.args.first) c.args.first c.skip-next.result x (omega arith) c.if-next-last.false r.fits.0.last at in
     let falls : x.node * 2 + 1 < rank (span m.parts.now c.args.first c.args.last) * 2 = omega (arith, below) in
-    λ κs lives. (subst (λ n. x.node * 2 + 1 < n) c.decreases falls, (lives, (c.requires.closed, (c.requires.marked, part_ready m s seen old rest c.skip-next.result c.args.last c.args.base x r c.if-next-last.false at e))))
+    λ κs lives. (subst (λ n. x.node * 2 + 1 < n) c.decreases falls, (lives, (c.requires.sound, (c.requires.marked, part_ready m s seen old rest c.skip-next.result c.args.last c.args.base x r c.if-next-last.false at e))))
 
 pub open_parts-returns-clause-runs : goal.open_parts-returns-clause-runs
 open_parts-returns-clause-runs g t c =

@@ -1,6 +1,6 @@
 use Rattle.std.proofs.Common.{◌+◌, ◌*◌}
-use Rattle.archive_check.specs.Closed.{span}
-use Rattle.archive_check.specs.Turns.{rank}
+use Rattle.archive_check.specs.SoundPlans.{span}
+use Rattle.archive_check.specs.LoopInvariant.{rank}
 use Rattle.archive_check.proofs.plan.Checker.+open.Given as goal
 
 abbrev pub decreases-open : goal.decreases-open

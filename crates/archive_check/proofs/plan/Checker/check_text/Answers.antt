@@ -22,12 +22,12 @@ returns-then-length-le8-clause-stops g c =
 
 pub read_position-position-requires : goal.read_position-position-requires
 read_position-position-requires g c =
-    let k = node_fits c.args.self.now (g.C.Context.state c.args.context.now) (g.C.Context.positions c.args.context.now) (list_of c.args.work.now) c.args.node c.args.at (Str c.args.pointee) c.requires.closed c.requires.job c.requires.fits in
+    let k = node_fits c.args.self.now (g.C.Context.state c.args.context.now) (g.C.Context.positions c.args.context.now) (list_of c.args.work.now) c.args.node c.args.at (Str c.args.pointee) c.requires.sound c.requires.job c.requires.fits in
     omega (arith, k.0, c.requires.fits.fits)
 
 pub check_shallow_region-requires-clause-pointee : goal.check_shallow_region-requires-clause-pointee
 check_shallow_region-requires-clause-pointee g c =
-    let k = node_fits c.args.self.now (g.C.Context.state c.args.context.now) (g.C.Context.positions c.args.context.now) (list_of c.args.work.now) c.args.node c.args.at (Str c.args.pointee) c.requires.closed c.requires.job c.requires.fits in
+    let k = node_fits c.args.self.now (g.C.Context.state c.args.context.now) (g.C.Context.positions c.args.context.now) (list_of c.args.work.now) c.args.node c.args.at (Str c.args.pointee) c.requires.sound c.requires.job c.requires.fits in
     record { known = k.1; few = omega (arith, c.read_coded_length-length.type_inv); one = λ e. cc }
 
 pub returns-then-is_out_of_line-clause-through : goal.returns-then-is_out_of_line-clause-through
@@ -51,12 +51,12 @@ returns-then-is_out_of_line-clause-stops g c =
 
 pub inline_length-length-requires : goal.inline_length-length-requires
 inline_length-length-requires g c =
-    let k = node_fits c.args.self.now (g.C.Context.state c.args.context.now) (g.C.Context.positions c.args.context.now) (list_of c.args.work.now) c.args.node c.args.at (Str c.args.pointee) c.requires.closed c.requires.job c.requires.fits in
+    let k = node_fits c.args.self.now (g.C.Context.state c.args.context.now) (g.C.Context.positions c.args.context.now) (list_of c.args.work.now) c.args.node c.args.at (Str c.args.pointee) c.requires.sound c.requires.job c.requires.fits in
     omega (arith, k.0, c.requires.fits.fits)
 
 pub is_text-requires : goal.is_text-requires
 is_text-requires g c =
-    let k = node_fits c.args.self.now (g.C.Context.state c.args.context.now) (g.C.Context.positions c.args.context.now) (list_of c.args.work.now) c.args.node c.args.at (Str c.args.pointee) c.requires.closed c.requires.job c.requires.fits in
+    let k = node_fits c.args.self.now (g.C.Context.state c.args.context.now) (g.C.Context.positions c.args.context.now) (list_of c.args.work.now) c.args.node c.args.at (Str c.args.pointee) c.requires.sound c.requires.job c.requires.fits in
     omega (arith, k.0, c.requires.fits.fits, c.inline_length-length.ensures.short)
 
 pub returns-then-not-is_text-clause-stops : goal.returns-then-not-is_text-clause-stops

@@ -56,7 +56,7 @@ check_shallow-requires g c =
     let below : c.args.pointee < length m.shallow.now = rw (← c.requires.marked.all) at c.requires.pointee.known in
     let mark = mark_is m.shallow.now c.args.pointee _ below c.if-not-self-pointee.false in
     record {
-      closed = c.requires.closed;
+      sound = c.requires.sound;
       marked = c.requires.marked;
       shallow = λ y here. c.requires.marked.shallow c.args.pointee y here mark;
       fits = region_part m c.args.pointee c.args.count c.args.size c.args.begin c.requires.region.0 c.requires.region.1 lt c.requires.within (c.requires.pointee.one c.in-One.is);
@@ -71,7 +71,7 @@ check_shallow_elements-requires g c =
     let below : c.args.pointee < length m.shallow.now = rw (← c.requires.marked.all) at c.requires.pointee.known in
     let mark = mark_is m.shallow.now c.args.pointee _ below c.if-not-self-pointee.false in
     record {
-      closed = c.requires.closed;
+      sound = c.requires.sound;
       marked = c.requires.marked;
       shallow = mark;
       fits = region_elements m c.args.pointee c.args.count c.args.size c.args.begin c.requires.region.0 c.requires.region.1 lt c.requires.within c.requires.pointee.few;

@@ -3,7 +3,7 @@ use Rattle.std.proofs.lemmas.Int.{to_z-of_z}
 use mir.Syntax.{w128}
 use Rattle.archive_check.specs.declared.error.Error.TheVariants.{CyclicValidate}
 use Rattle.archive_check.specs.Lists.{list_of}
-use Rattle.archive_check.specs.Turns.{stage, Following}
+use Rattle.archive_check.specs.LoopInvariant.{stage, Following}
 use Rattle.archive_check.proofs.TurnInvariants.{refused_keeps}
 use Rattle.archive_check.proofs.Elements.{at_default}
 use Rattle.archive_check.proofs.FollowedPointers.{answer_of, index_of, nowhere, follow_refuses, follow_cyclic, follow_known, follow_nowhere, follow_started}

@@ -1,5 +1,5 @@
 use Rattle.std.proofs.Common.{◌<◌, ◌+◌, ◌*◌, ℕ}
-use Rattle.archive_check.specs.Turns.{Stays}
+use Rattle.archive_check.specs.LoopInvariant.{Stays}
 use Rattle.archive_check.proofs.plan.Checker.pass.Given as goal
 
 abbrev pub invariant-loop-index : goal.invariant-loop-index

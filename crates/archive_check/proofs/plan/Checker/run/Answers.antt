@@ -2,7 +2,7 @@ use Rattle.std.proofs.Common.{◌≡◌, arith, pos, to_z}
 use Rattle.std.proofs.lemmas.Int.{to_z_pos}
 use mir.Syntax.{w128}
 use Rattle.archive_check.specs.Lists.{list_of}
-use Rattle.archive_check.specs.Turns.{stage}
+use Rattle.archive_check.specs.LoopInvariant.{stage}
 use Rattle.archive_check.proofs.RootLoop.{root_leads, root_refuses, root_ends, turn_leads, turn_refuses}
 use Rattle.archive_check.proofs.plan.Checker.run.Goals as goal
 

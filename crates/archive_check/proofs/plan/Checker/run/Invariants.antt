@@ -5,7 +5,7 @@ use Rattle.archive_check.specs.Tour.{Seen}
 use Rattle.archive_check.specs.Lists.{list_of}
 use Rattle.archive_check.specs.Fresh.{IsFresh}
 use Rattle.archive_check.specs.Runs.{Outcome, EnterRuns}
-use Rattle.archive_check.specs.Turns.{Ready, cost, stage, Agreeing, Listing}
+use Rattle.archive_check.specs.LoopInvariant.{Ready, cost, stage, Agreeing, Listing}
 use Rattle.archive_check.proofs.plan.Checker.run.Given as goal
 
 abbrev pub decreases-loop-entry : goal.decreases-loop-entry

@@ -1,5 +1,5 @@
 use Rattle.std.proofs.Common.{◌<◌, ◌≤◌, ℕ}
-use Rattle.archive_check.specs.Turns.{PartStays}
+use Rattle.archive_check.specs.LoopInvariant.{PartStays}
 use Rattle.archive_check.proofs.plan.Checker.skip.Given as goal
 
 abbrev pub invariant-loop-index : goal.invariant-loop-index

@@ -5,7 +5,7 @@ use Rattle.archive_check.specs.declared.work.Work.TheVariants.{Part as PartWork,
 use Rattle.archive_check.specs.declared.plan.Job.TheVariants.{Free}
 use Rattle.archive_check.specs.Runs.{IsAt, IsNode, Takes}
 use Rattle.archive_check.specs.Lists.{list_of}
-use Rattle.archive_check.specs.Turns.{Listing, stage}
+use Rattle.archive_check.specs.LoopInvariant.{Listing, stage}
 use Rattle.archive_check.proofs.TurnsEnd.{falls_none}
 use Rattle.archive_check.proofs.TurnInvariants.{element_ready, element_leads, element_ends, elements_free_leads, leave_leads, leave_refuses, some_three, none_map, finish_leads, finish_refuses, refused_keeps, then_keeps, then_falls, under}
 use Rattle.archive_check.proofs.PassedElements.{takes_size, pass_all, pass_leads, pass_ready, pass_costs}

@@ -4,11 +4,11 @@ use Rattle.archive_check.specs.NodeCounts.{count_of}
 use Rattle.archive_check.specs.PlanGrowth.{lists_of}
 use Rattle.archive_check.specs.CompileQueue.{Waits, waits_of}
 use Rattle.archive_check.specs.Compiled.{Compiled}
-use Rattle.archive_check.specs.Numbered.{def_shapes, start_of}
+use Rattle.archive_check.specs.NodeNumbers.{def_shapes, start_of}
 use Rattle.archive_check.specs.Planned.{Chained, Finishes, CanChain, CanFinish}
 use Rattle.archive_check.specs.Compilable.{Can}
 use Rattle.archive_check.proofs.Restated.{as_done}
-use Rattle.archive_check.proofs.Numbered.{can_chain}
+use Rattle.archive_check.proofs.NodeNumbers.{can_chain}
 use Rattle.archive_check.proofs.Planned.{all_planned, all_named, root_can, finish_can}
 use Rattle.archive_check.proofs.plan.Plan.of.Goals as goal
 

@@ -1,11 +1,11 @@
 use Rattle.std.proofs.Common.{inl, inr, ⊎_elim, length, sym, ◌<◌, subst}
-use Rattle.archive_check.proofs.SuitableSchemas.{plan_accepts, plan_refuses, plan_exact, plan_known, plan_closed}
+use Rattle.archive_check.proofs.SuitableSchemas.{plan_accepts, plan_refuses, plan_exact, plan_known, plan_sound}
 use Rattle.archive_check.proofs.TurnInvariants.{ok_map, err_map}
 use Rattle.archive_check.proofs.shape.Schema.check.Goals as goal
 
-pub check-requires-clause-closed : goal.check-requires-clause-closed
-check-requires-clause-closed g c =
-    plan_closed c.args.self.now _ (record { nodes = c.deref.ensures.value; parts = c.deref-2.ensures.value; variants = c.deref-3.ensures.value; sorts = c.deref-4.ensures.value }) c.args.self.now.planned
+pub check-requires-clause-sound : goal.check-requires-clause-sound
+check-requires-clause-sound g c =
+    plan_sound c.args.self.now _ (record { nodes = c.deref.ensures.value; parts = c.deref-2.ensures.value; variants = c.deref-3.ensures.value; sorts = c.deref-4.ensures.value }) c.args.self.now.planned
 
 pub check-requires-clause-known : goal.check-requires-clause-known
 check-requires-clause-known g c = subst (λ xs. c.args.self.now.node < length xs) (sym c.deref.ensures.value) (plan_known c.args.self.now c.args.self.now.planned)

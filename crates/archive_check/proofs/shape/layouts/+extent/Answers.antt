@@ -7,7 +7,7 @@ use Rattle.archive_check.specs.Names.{missing, parts_missing, variants_missing}
 use Rattle.archive_check.specs.Schemas.{table_in}
 use Rattle.archive_check.proofs.Views.{choice_falls, shape_of-Choice, shape_of-Record, shapes_in-drop, shapes_in-end, variants_in-drop, variants_in-end}
 use Rattle.archive_check.proofs.MissingNames.{or_none}
-use Rattle.archive_check.proofs.Fitting.{fits_some, times_fits}
+use Rattle.archive_check.proofs.BoundedSizes.{fits_some, times_fits}
 use Rattle.archive_check.proofs.FreeWalks.{kind_few}
 use Rattle.archive_check.proofs.ExtentsOf.{pointer_fits, arm, whole_ends, parts_start, parts_left, parts_next, parts_done, variants_start, variants_left, variants_next, variants_done}
 use Rattle.archive_check.proofs.shape.layouts.+extent.Goals as goal

@@ -1,7 +1,7 @@
 use Rattle.std.proofs.Common.{true, false}
 use Rattle.std.specs.Int.{w128}
 use Rattle.std.proofs.Math.Facts.{to_z-of_z}
-use Rattle.archive_check.proofs.KeptPositions.{finish_kept}
+use Rattle.archive_check.proofs.SharedPositions.{finish_kept}
 use Rattle.archive_check.proofs.shared.SharedValidatorSharedContext.finish_shared.Goals as goal
 
 pub returns-then-kept-clause-answer : goal.returns-then-kept-clause-answer

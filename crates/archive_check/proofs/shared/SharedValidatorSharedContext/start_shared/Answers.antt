@@ -2,7 +2,7 @@ use Rattle.std.proofs.Common.{sym, ◌∙◌, ap, refl, BuildHasherDefault, Fold
 use Rattle.std.specs.Int.{w128}
 use Rattle.std.specs.Option.{option_copied}
 use Rattle.std.proofs.Math.Facts.{to_z-of_z}
-use Rattle.archive_check.proofs.KeptPositions.{answer_kept, started_kept, started_new, AreKnown-grown, AreKnown-inserted, unchanged_kept, positions_in-grown, on_ok, on_err}
+use Rattle.archive_check.proofs.SharedPositions.{answer_kept, started_kept, started_new, AreKnown-grown, AreKnown-inserted, unchanged_kept, positions_in-grown, on_ok, on_err}
 use Rattle.archive_check.proofs.shared.SharedValidatorSharedContext.start_shared.Goals as goal
 
 pub returns-in-Some-clause-answer : goal.returns-in-Some-clause-answer

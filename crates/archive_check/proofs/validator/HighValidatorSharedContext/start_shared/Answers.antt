@@ -2,7 +2,7 @@ use Rattle.std.proofs.Common.{ap, ◌∙◌}
 use Rattle.std.proofs.lemmas.Int.{to_z-of_z}
 use mir.Syntax.{w128}
 use Rattle.archive_check.specs.Validators.{positions_of}
-use Rattle.archive_check.proofs.KeptPositions.{answer_same, started_same}
+use Rattle.archive_check.proofs.SharedPositions.{answer_same, started_same}
 use Rattle.archive_check.proofs.validator.HighValidatorSharedContext.start_shared.Goals as goal
 
 pub returns-in-Some-clause-answer : goal.returns-in-Some-clause-answer

@@ -53,5 +53,5 @@ JobFits m i z (Shared k target j) = (target_size target ≤ z) × (k < length m.
 JobFits m i z (Weak k target j) = (target_size target ≤ z) × (k < length m.sorts.now) × (j < length m.nodes.now)
 
 -- each node that can be entered fits
-pub record IsClosed (m : Checker) : Type 0 where
+pub record IsSound (m : Checker) : Type 0 where
   pub fits : (i : ℕ) (node : Node) (z : ℕ) → IsAt m.nodes.now i node → node.size ≡ Some z → JobFits m i z node.job

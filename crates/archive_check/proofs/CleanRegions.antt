@@ -1,4 +1,4 @@
--- A tight and tidy list of regions is clean.
+-- A tight list of regions, each of them clean, is clean as a whole.
 use Rattle.std.proofs.Common.{◌≡◌, inl, inr, ℕ, zero, suc, pos, ◌+◌, ◌*◌, ◌<◌, ◌≤◌, List, [], ◌∷◌, length, slice_index, Some, refl, ap, subst, arith, Contains}
 use Rattle.std.proofs.lemmas.Bool.{cases_lt}
 use Rattle.archive_check.specs.Shape.{Name, Flavor, Shape, parts, choice, array, str, weak, named, Pointee, one, run, text, Parts, Variants, definition, variant_at}
@@ -16,7 +16,7 @@ AreSized s [] = Unit {0}
 AreSized s (r ∷ C) = (r.size ≡ pointee_size s r.pointee r.length) × AreSized s C
 
 module _ (s : Schema) (bytes : List ℕ) where
-  -- each part of what is neat is neat
+  -- each part of what is clean is clean
 
   part_clean : {p at stop q : ℕ} {ps : Parts} {Y : Shape} → CleanParts s bytes p at ps stop → IsPart s p at ps q Y → CleanValue s bytes q Y
   part_clean (clean_no_part z) i = elim i [ ]

@@ -1,13 +1,13 @@
 -- The nodes of names, counted before the definitions are compiled.
 use Rattle.std.proofs.Common.{◌≡◌, inl, inr, ⊎_elim, ℕ, zero, suc, refl, sym, ap, ◌∙◌, subst, ◌+◌, ◌<◌, ◌≤◌, arith, List, [], ◌∷◌, ◌++◌, length, take, drop, is_some, IsSome, Bool, true, false, cond, bytes_eq, Option, Some, None, length-append}
 use Rattle.archive_check.specs.declared.defs.Def.{Def}
-use Rattle.archive_check.specs.declared.growing.Known.{Known}
+use Rattle.archive_check.specs.declared.growing.NamedNode.{NamedNode}
 use Rattle.archive_check.specs.Shape.{Name, Shape, definition}
 use Rattle.archive_check.specs.Expressions.{shape_of, entries_of}
 use Rattle.archive_check.specs.Runs.{IsAt}
 use Rattle.archive_check.specs.PlanGrowth.{node_of}
 use Rattle.archive_check.specs.NodeCounts.{count_of}
-use Rattle.archive_check.specs.Numbered.{def_shapes, start_of, FirstAt, IsRootOf, RootIs, IsNumbered}
+use Rattle.archive_check.specs.NodeNumbers.{def_shapes, start_of, FirstAt, IsDefinitionNode, IsExpressionNode, IsNumbered}
 use Rattle.archive_check.specs.Compilable.{Can}
 use Rattle.archive_check.specs.Planned.{DefsInOrder, InOrder, CanChain}
 use Rattle.std.proofs.lemmas.List.{take-append-drop, length-take, length-take-le}
@@ -57,17 +57,17 @@ start_behind [] Ys k = let e : 0 + k ≡ k = omega arith in omega (arith, ap (st
 start_behind (X ∷ Xs) Ys k = let e : suc (length Xs) + k ≡ suc (length Xs + k) = omega arith in omega (arith, ap (start_of (X ∷ (Xs ++ Ys))) e, start_behind Xs Ys k)
 
 -- what is looked for is found at its first entry
-first_here : (k : Known) (ks : List Known) (name : Name) (j : ℕ) → bytes_eq k.name.now name ≡ true → Some k.node ≡ Some j → FirstAt (k ∷ ks) name 0 j
+first_here : (k : NamedNode) (ks : List NamedNode) (name : Name) (j : ℕ) → bytes_eq k.name.now name ≡ true → Some k.node ≡ Some j → FirstAt (k ∷ ks) name 0 j
 first_here k ks name j e f = record { known = k; at = record { below = omega arith; is = refl }; node_is = cc; same = e; others = λ p x h a. absurd (omega arith) }
 
-first_there : (k : Known) (ks : List Known) (name : Name) (q j : ℕ) → bytes_eq k.name.now name ≡ false → FirstAt ks name q j → FirstAt (k ∷ ks) name (suc q) j
+first_there : (k : NamedNode) (ks : List NamedNode) (name : Name) (q j : ℕ) → bytes_eq k.name.now name ≡ false → FirstAt ks name q j → FirstAt (k ∷ ks) name (suc q) j
 first_there k ks name q j e f = record { known = f.known; at = at_cons k f.at; node_is = f.node_is; same = f.same; others = others }
   where
-    others : (p : ℕ) (x : Known) → p < suc q → IsAt (k ∷ ks) p x → bytes_eq x.name.now name ≡ false
-    others zero x h a = ap (λ (y : Known). bytes_eq y.name.now name) a.is ∙ e
+    others : (p : ℕ) (x : NamedNode) → p < suc q → IsAt (k ∷ ks) p x → bytes_eq x.name.now name ≡ false
+    others zero x h a = ap (λ (y : NamedNode). bytes_eq y.name.now name) a.is ∙ e
     others (suc p) x h a = f.others p x (omega arith) (at_tail a)
 
-pub first_at : (names : List Known) (name : Name) (j : ℕ) → node_of names name ≡ Some j → (q : ℕ) × FirstAt names name q j
+pub first_at : (names : List NamedNode) (name : Name) (j : ℕ) → node_of names name ≡ Some j → (q : ℕ) × FirstAt names name q j
 first_at [] name j e = absurd (cc e)
 first_at (k ∷ ks) name j e = by (λ f. first_at ks name j f) (bytes_eq k.name.now name) refl
   where
@@ -75,18 +75,18 @@ first_at (k ∷ ks) name j e = by (λ f. first_at ks name j f) (bytes_eq k.name.
     by later true h = let f : Some k.node ≡ Some j = sym (ap (λ b. cond b (Some k.node) (node_of ks name)) h) ∙ e in (0, first_here k ks name j h f)
     by later false h = let f : node_of ks name ≡ Some j = sym (ap (λ b. cond b (Some k.node) (node_of ks name)) h) ∙ e in let r = later f in (suc r.0, first_there k ks name r.0 j h r.1)
 
-pub node_of_first : (names : List Known) (name : Name) (q j : ℕ) → FirstAt names name q j → node_of names name ≡ Some j
+pub node_of_first : (names : List NamedNode) (name : Name) (q j : ℕ) → FirstAt names name q j → node_of names name ≡ Some j
 node_of_first [] name q j f = absurd (omega (arith, f.at.below))
 node_of_first (k ∷ ks) name zero j f =
     let same : f.known ≡ k = f.at.is in
-    let here : bytes_eq k.name.now name ≡ true = sym (ap (λ (y : Known). bytes_eq y.name.now name) same) ∙ f.same in
-    ap (λ b. cond b (Some k.node) (node_of ks name)) here ∙ ap Some (sym (ap (λ (y : Known). y.node) same) ∙ f.node_is)
+    let here : bytes_eq k.name.now name ≡ true = sym (ap (λ (y : NamedNode). bytes_eq y.name.now name) same) ∙ f.same in
+    ap (λ b. cond b (Some k.node) (node_of ks name)) here ∙ ap Some (sym (ap (λ (y : NamedNode). y.node) same) ∙ f.node_is)
 node_of_first (k ∷ ks) name (suc q) j f =
     let there : bytes_eq k.name.now name ≡ false = f.others 0 k (omega arith) (record { below = omega arith; is = refl }) in
     ap (λ b. cond b (Some k.node) (node_of ks name)) there
     ∙ node_of_first ks name q j (record { known = f.known; at = at_tail f.at; node_is = f.node_is; same = f.same; others = λ p x h a. f.others (suc p) x (omega arith) (at_cons k a) })
 
-pub first_more : {names : List Known} (more : List Known) {name : Name} {q j : ℕ} → FirstAt names name q j → FirstAt (names ++ more) name q j
+pub first_more : {names : List NamedNode} (more : List NamedNode) {name : Name} {q j : ℕ} → FirstAt names name q j → FirstAt (names ++ more) name q j
 first_more {names} more f = record {
   known = f.known;
   at = at_more (record { more = more; is = refl }) f.at;
@@ -96,7 +96,7 @@ first_more {names} more f = record {
 }
 
 -- the definition of a name is that of its first entry
-pub definition_is : (ds : List Def) (names : List Known) → ((i : ℕ) (d : Def) (k : Known) → IsAt ds i d → IsAt names i k → k.name.now ≡ d.name.now)
+pub definition_is : (ds : List Def) (names : List NamedNode) → ((i : ℕ) (d : Def) (k : NamedNode) → IsAt ds i d → IsAt names i k → k.name.now ≡ d.name.now)
     → (name : Name) (q j : ℕ) (d : Def) → FirstAt names name q j → IsAt ds q d → definition (entries_of ds) name ≡ Some (shape_of d.expr)
 definition_is [] names same name q j d f a = absurd (omega (arith, a.below))
 definition_is (x ∷ ds) [] same name q j d f a = absurd (omega (arith, f.at.below))
@@ -111,16 +111,16 @@ definition_is (x ∷ ds) (k ∷ ks) same name (suc q) j d f a =
     (record { known = f.known; at = at_tail f.at; node_is = f.node_is; same = f.same; others = λ p y h g. f.others (suc p) y (omega arith) (at_cons k g) }) (at_tail a)
 
 -- one definition more
-root_more : {names : List Known} (more : List Known) (i start : ℕ) (X : Shape) (j : ℕ) → IsRootOf names i start X j → IsRootOf (names ++ more) i start X j
+root_more : {names : List NamedNode} (more : List NamedNode) (i start : ℕ) (X : Shape) (j : ℕ) → IsDefinitionNode names i start X j → IsDefinitionNode (names ++ more) i start X j
 root_more more i start X j (inl h) = inl (h.0, h.1, (h.2.0, h.2.1, first_more more h.2.2))
 root_more more i start X j (inr h) = inr h
 
-found_root : (names : List Known) (i start : ℕ) (X : Shape) (j : ℕ) → length names ≡ i → RootIs names start X j → IsRootOf names i start X j
+found_root : (names : List NamedNode) (i start : ℕ) (X : Shape) (j : ℕ) → length names ≡ i → IsExpressionNode names start X j → IsDefinitionNode names i start X j
 found_root names i start X j e (inl h) = let f = first_at names h.0 j h.2 in inl (h.0, h.1, (f.0, omega (arith, e, f.1.at.below), f.1))
 found_root names i start X j e (inr h) = inr h
 
-pub numbered_next : {defs : List Def} {names new : List Known} {i start : ℕ} {d : Def} (k : Known) → IsNumbered defs names i → start ≡ start_of (def_shapes defs) i → IsAt defs i d → k.name.now ≡ d.name.now
-    → RootIs names start (shape_of d.expr) k.node → new ≡ names ++ k ∷ [] → IsNumbered defs new (i + 1)
+pub numbered_next : {defs : List Def} {names new : List NamedNode} {i start : ℕ} {d : Def} (k : NamedNode) → IsNumbered defs names i → start ≡ start_of (def_shapes defs) i → IsAt defs i d → k.name.now ≡ d.name.now
+    → IsExpressionNode names start (shape_of d.expr) k.node → new ≡ names ++ k ∷ [] → IsNumbered defs new (i + 1)
 numbered_next {defs} {names} {new} {i} {start} {d} k r es at en root e =
     subst (λ ks. IsNumbered defs ks (i + 1)) (sym e) (record {
       count = omega (arith, length-append names (k ∷ []), r.count);
@@ -128,22 +128,22 @@ numbered_next {defs} {names} {new} {i} {start} {d} k r es at en root e =
           (λ lt. r.name_is p x y h (at_less (record { more = k ∷ []; is = refl }) lt g))
           (λ q. let here : p ≡ i = q.0 ∙ r.count in
           let same : x ≡ d = same_at (subst (λ n. IsAt defs n x) here h) at in
-          ap (λ (z : Known). z.name.now) q.1 ∙ en ∙ ap (λ (z : Def). z.name.now) (sym same))
+          ap (λ (z : NamedNode). z.name.now) q.1 ∙ en ∙ ap (λ (z : Def). z.name.now) (sym same))
           (at_last names k y p g);
       root_is = λ p x y h g. ⊎_elim
           (λ lt. root_more (k ∷ []) p (start_of (def_shapes defs) p) (shape_of x.expr) y.node (r.root_is p x y h (at_less (record { more = k ∷ []; is = refl }) lt g)))
           (λ q. let here : p ≡ i = q.0 ∙ r.count in
           let same : x ≡ d = same_at (subst (λ n. IsAt defs n x) here h) at in
-          let old : IsRootOf names i start (shape_of d.expr) k.node = found_root names i start (shape_of d.expr) k.node r.count root in
-          let here_root : IsRootOf names p (start_of (def_shapes defs) p) (shape_of d.expr) k.node =
-          subst (λ n. IsRootOf names n (start_of (def_shapes defs) n) (shape_of d.expr) k.node) (sym here) (subst (λ n. IsRootOf names i n (shape_of d.expr) k.node) es old) in
+          let old : IsDefinitionNode names i start (shape_of d.expr) k.node = found_root names i start (shape_of d.expr) k.node r.count root in
+          let here_root : IsDefinitionNode names p (start_of (def_shapes defs) p) (shape_of d.expr) k.node =
+          subst (λ n. IsDefinitionNode names n (start_of (def_shapes defs) n) (shape_of d.expr) k.node) (sym here) (subst (λ n. IsDefinitionNode names i n (shape_of d.expr) k.node) es old) in
           root_more (k ∷ []) p (start_of (def_shapes defs) p) (shape_of x.expr) y.node
-          (subst (λ (z : Def). IsRootOf names p (start_of (def_shapes defs) p) (shape_of z.expr) y.node) (sym same) (subst (λ (z : Known). IsRootOf names p (start_of (def_shapes defs) p) (shape_of d.expr) z.node) (sym q.1) here_root)))
+          (subst (λ (z : Def). IsDefinitionNode names p (start_of (def_shapes defs) p) (shape_of z.expr) y.node) (sym same) (subst (λ (z : NamedNode). IsDefinitionNode names p (start_of (def_shapes defs) p) (shape_of d.expr) z.node) (sym q.1) here_root)))
           (at_last names k y p g);
     })
 
 -- a name that is defined by the first definitions has an entry among the first names
-pub named_found : (ds : List Def) (ks : List Known) (name : Name) → ((p : ℕ) (d : Def) (k : Known) → IsAt ds p d → IsAt ks p k → k.name.now ≡ d.name.now) → length ds ≤ length ks
+pub named_found : (ds : List Def) (ks : List NamedNode) (name : Name) → ((p : ℕ) (d : Def) (k : NamedNode) → IsAt ds p d → IsAt ks p k → k.name.now ≡ d.name.now) → length ds ≤ length ks
     → IsSome (definition (entries_of ds) name) → IsSome (node_of ks name)
 named_found [] ks name same le h = let f : false ≡ true = h in absurd (cc f)
 named_found (d ∷ ds) [] name same le h = absurd (omega (arith, le))
@@ -160,7 +160,7 @@ named_found (d ∷ ds) (k ∷ ks) name same le h =
         ap is_some (ap (λ b. cond b (Some k.node) (node_of ks name)) (same_test ∙ e)) ∙ rest there
 
 -- what the first i definitions define is found as soon as there are i names
-pub prefix_found : {defs : List Def} {names : List Known} (i : ℕ) (name : Name) → IsNumbered defs names i → IsSome (definition (entries_of (take i defs)) name) → IsSome (node_of names name)
+pub prefix_found : {defs : List Def} {names : List NamedNode} (i : ℕ) (name : Name) → IsNumbered defs names i → IsSome (definition (entries_of (take i defs)) name) → IsSome (node_of names name)
 prefix_found {defs} {names} i name num h =
     named_found (take i defs) names name (λ p d k at kt. num.name_is p d k (at_taken i defs p d at).1 kt) (omega (arith, length-take i defs, num.count)) h
 
@@ -168,7 +168,7 @@ some_of : (o : Option ℕ) → IsSome o → (j : ℕ) × (o ≡ Some j)
 some_of None h = let f : false ≡ true = h in absurd (cc f)
 some_of (Some j) h = (j, refl)
 
-module _ {names : List Known} {defs : List Def} (num : IsNumbered defs names (length defs)) where
+module _ {names : List NamedNode} {defs : List Def} (num : IsNumbered defs names (length defs)) where
   -- no name's node comes after its definition's
   pub first_below : (r : ℕ) (name : Name) (q j : ℕ) → q < r → FirstAt names name q j → j < start_of (def_shapes defs) (q + 1)
   first_below zero name q j lt f = absurd (omega (arith, lt))
@@ -217,7 +217,7 @@ module _ {names : List Known} {defs : List Def} (num : IsNumbered defs names (le
   }
 
 -- the names are those that are defined
-pub numbered_known : (ds : List Def) (names : List Known) → length names ≡ length ds → ((i : ℕ) (d : Def) (k : Known) → IsAt ds i d → IsAt names i k → k.name.now ≡ d.name.now)
+pub numbered_known : (ds : List Def) (names : List NamedNode) → length names ≡ length ds → ((i : ℕ) (d : Def) (k : NamedNode) → IsAt ds i d → IsAt names i k → k.name.now ≡ d.name.now)
     → (name : Name) → is_some (node_of names name) ≡ is_some (definition (entries_of ds) name)
 numbered_known [] [] e same name = refl
 numbered_known [] (k ∷ ks) e same name = absurd (omega (arith, e))

@@ -20,7 +20,7 @@ use Rattle.archive_check.specs.Shape.{Flavor, Pointee}
 use Rattle.archive_check.specs.Expressions.{flavor_of, pointee_of}
 use Rattle.archive_check.specs.Same.{same_flavor-Decides}
 use Rattle.archive_check.specs.Tour.{Entry}
-use Rattle.archive_check.specs.Met.{Met, Positions, started, started_at, finish_answer, IsStartAnswer}
+use Rattle.archive_check.specs.PositionStates.{PositionState, Positions, started, started_at, finish_answer, IsStartAnswer}
 use Rattle.archive_check.specs.SharedPositions.{met_as, met_in, positions_in, AreKnown, HasType, IsAbsent, IsGrown}
 
 slice_get-append : {A : Type 0} (xs ys : List A) (k : ℕ) → k < length xs → slice_get (xs ++ ys) k ≡ slice_get xs k
@@ -55,11 +55,11 @@ pub positions_in-update : (sorts : List Sort) (f g : ℤ → Option SharedPositi
 positions_in-update sorts f g p x e = λ i q. (ap (met_in sorts) (e q) ∙ met_in-cond sorts (int_eq p q) x (f q)) i
 
 -- a position that was met stays as it was
-own_value : (met : Positions) (p q : ℤ) (old : Option Met) (b : Bool) → (b ≡ true → p ≡ q) → met p ≡ old → met q ≡ cond b old (met q)
+own_value : (met : Positions) (p q : ℤ) (old : Option PositionState) (b : Bool) → (b ≡ true → p ≡ q) → met p ≡ old → met q ≡ cond b old (met q)
 own_value met p q old true same e = sym (ap met (same refl)) ∙ e
 own_value met p q old false same e = refl
 
-pub started-again : (met : Positions) (p : ℤ) (old : Met) (new : Entry) → met p ≡ Some old → met ≡ started met p new
+pub started-again : (met : Positions) (p : ℤ) (old : PositionState) (new : Entry) → met p ≡ Some old → met ≡ started met p new
 started-again met p old new e =
     let same : met ≡ update int_eq met p (Some old) = λ i q. own_value met p q (Some old) (int_eq p q) (signed_Decides p q).0 e i in
     same ∙ ap (λ x. update int_eq met p (Some (started_at x new))) (sym e)

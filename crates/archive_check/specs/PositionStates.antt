@@ -9,13 +9,13 @@ use Rattle.archive_check.specs.declared.validation.ValidationState.TheVariants.{
 use Rattle.archive_check.specs.Tour.{Entry}
 
 -- how a position was first met, and whether what lies there is checked to its end
-pub record Met : Type 0 where
+pub record PositionState : Type 0 where
   pub entry : Entry
   pub finished : Bool
 
 -- what was met at each position
 abbrev pub Positions : Type 0
-Positions = ℤ → Option Met
+Positions = ℤ → Option PositionState
 
 abbrev pub nothing_met : Positions
 nothing_met position = None
@@ -25,7 +25,7 @@ abbrev pub SameType : Entry → Entry → Type 0
 SameType old new = (old.flavor ≡ new.flavor) × (old.pointee ≡ new.pointee)
 
 -- What is answered where a position is started: a type is tested before a length. Memory may be refused for a new one.
-abbrev pub IsStartAnswer : Option Met → Entry → Result ValidationState Error → Type 0
+abbrev pub IsStartAnswer : Option PositionState → Entry → Result ValidationState Error → Type 0
 IsStartAnswer met new (Ok Started) = met ≡ None
 IsStartAnswer met new (Ok Pending) = met ≡ Some (record { entry = new; finished = false })
 IsStartAnswer met new (Ok Finished) = met ≡ Some (record { entry = new; finished = true })
@@ -35,7 +35,7 @@ IsStartAnswer (Some old) new (Err MetadataMismatch) = SameType old.entry new × 
 IsStartAnswer (Some old) new (Err e) = ⊥
 
 -- a position that wasn't met is pending now, one that was stays as it was
-abbrev pub started_at : Option Met → Entry → Met
+abbrev pub started_at : Option PositionState → Entry → PositionState
 started_at None new = record { entry = new; finished = false }
 started_at (Some old) new = old
 
@@ -43,7 +43,7 @@ abbrev pub started : Positions → ℤ → Entry → Positions
 started met position new = update int_eq met position (Some (started_at (met position) new))
 
 -- what is answered where a position is finished
-abbrev pub finish_answer : Option Met → Result (Unit {0}) Error
+abbrev pub finish_answer : Option PositionState → Result (Unit {0}) Error
 finish_answer None = Err NotStarted
 finish_answer (Some met) = cond met.finished (Err AlreadyFinished) (Ok tt)
 

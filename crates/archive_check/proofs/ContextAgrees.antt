@@ -10,10 +10,10 @@ use Rattle.std.specs.FinMap.{get, insert, empty, get-empty}
 use Rattle.archive_check.specs.declared.error.Error.{Error}
 use Rattle.archive_check.specs.Depth.{Allows, inside}
 use Rattle.archive_check.specs.Ranges.{RangeState, one_more, is_full, pop_answer}
-use Rattle.archive_check.specs.Met.{Met, Positions, started_at, started, finished, finish_answer}
+use Rattle.archive_check.specs.PositionStates.{PositionState, Positions, started_at, started, finished, finish_answer}
 use Rattle.archive_check.specs.Tour.{Seen, Entry}
 use Rattle.archive_check.specs.Fresh.{IsFresh}
-use Rattle.archive_check.specs.Turns.{Agrees, HasLevels}
+use Rattle.archive_check.specs.LoopInvariant.{Agrees, HasLevels}
 use Rattle.archive_check.proofs.Elements.{contains_first, contains_later}
 use Rattle.archive_check.proofs.Seen.{same_some, inserted_has, inserted_apart}
 use Rattle.archive_check.proofs.Depths.{levels_allow}
@@ -29,10 +29,10 @@ contains_or_not (t ∷ ts) q = elim (cases_eq t q) [
 
 -- positions
 
-update_here : (met : Positions) (k : ℤ) (w : Option Met) → update int_eq met k w k ≡ w
+update_here : (met : Positions) (k : ℤ) (w : Option PositionState) → update int_eq met k w k ≡ w
 update_here met k w = update_same int_eq met k w k ((Decides-int_eq k k).1 refl)
 
-update_apart : (met : Positions) (k q : ℤ) (w : Option Met) → k ≢ q → update int_eq met k w q ≡ met q
+update_apart : (met : Positions) (k q : ℤ) (w : Option PositionState) → k ≢ q → update int_eq met k w q ≡ met q
 update_apart met k q w other = update_other int_eq met k w q (false_from_ne_true (int_eq k q) (λ e. other ((Decides-int_eq k q).0 e)))
 
 pos_apart : (t q : ℕ) → t ≢ q → pos t ≢ pos q
@@ -85,7 +85,7 @@ module _ {d : Option ℕ} {met : Positions} {pd : List ℕ} {r : ℕ} {seen : Se
 
   entry_same : (t : ℕ) (e old : Entry) (b c : Bool) → met (pos t) ≡ Some (record { entry = e; finished = b }) → met (pos t) ≡ Some (record { entry = old; finished = c }) → (old ≡ e) × (c ≡ b)
   entry_same t e old b c x y =
-      let same : ◌≡◌ {A = Met} (record { entry = old; finished = c }) (record { entry = e; finished = b }) = cc in
+      let same : ◌≡◌ {A = PositionState} (record { entry = old; finished = c }) (record { entry = e; finished = b }) = cc in
       (ap (λ q. q.entry) same, ap (λ q. q.finished) same)
 
   pub seen_as : (t : ℕ) (e : Entry) (b : Bool) → met (pos t) ≡ Some (record { entry = e; finished = b }) → SeenAs t e b
@@ -141,7 +141,7 @@ module _ {d : Option ℕ} {met : Positions} {pd : List ℕ} {r : ℕ} {seen : Se
       }
 
   -- one that was met before stays
-  pub started_again : (t : ℤ) (e : Entry) (m : Met) → met t ≡ Some m → (q : ℤ) → started met t e q ≡ met q
+  pub started_again : (t : ℤ) (e : Entry) (m : PositionState) → met t ≡ Some m → (q : ℤ) → started met t e q ≡ met q
   started_again t e m is q =
       elim (int_or_not t q) [
         | inl same ↦ ap (started met t e) (sym same) ∙ update_here met t (Some (started_at (met t) e)) ∙ ap (λ o. Some (started_at o e)) is ∙ sym is ∙ ap met same

@@ -10,7 +10,7 @@ use Rattle.archive_check.specs.declared.plan.Checker.{Checker}
 use Rattle.archive_check.specs.declared.work.Work.{Work}
 use Rattle.archive_check.specs.declared.work.Work.TheVariants.{Part as PartWork, Parts, Elements, Leave, Finish}
 use Rattle.archive_check.specs.Ranges.{RangeState}
-use Rattle.archive_check.specs.Met.{Positions}
+use Rattle.archive_check.specs.PositionStates.{Positions}
 use Rattle.archive_check.specs.Tour.{Seen, Entry}
 use Rattle.archive_check.specs.Trail.{Fault}
 use Rattle.archive_check.specs.declared.expr.Kind.{Kind as KindExpr}
@@ -18,8 +18,8 @@ use Rattle.archive_check.specs.declared.plan.Job.TheVariants.{Free, Leaf}
 use Rattle.archive_check.specs.Expressions.{kind_of}
 use Rattle.archive_check.specs.Layout.{kind_size}
 use Rattle.archive_check.specs.Reads.{bytes_at, i32_at, IsLegal}
-use Rattle.archive_check.specs.Runs.{Outcome, done, refused, Takes, count_at, length_of, IsAt, IsNode, NodeRuns, ContentsRun, EnterRuns, FollowRuns, ListRuns}
-use Rattle.archive_check.specs.Closed.{span}
+use Rattle.archive_check.specs.Runs.{Outcome, done, refused, Takes, target_count, target_length, IsAt, IsNode, NodeRuns, ContentsRun, EnterRuns, FollowRuns, ListRuns}
+use Rattle.archive_check.specs.SoundPlans.{span}
 use Rattle.archive_check.specs.Faults.{IsFor}
 
 -- n of the node j may be pointed to
@@ -133,20 +133,20 @@ Entering m target j n where_to x seen o =
 abbrev pub Following : Checker → ℕ → Target → ℕ → ℕ → Stage → Seen → Outcome → Type 0
 Following m k target j p x seen o =
     Then m (pending_in x.work) x.range.depth x.range.end
-    (FollowRuns m (pending_in x.work) x.range.depth x.range.end k target j (count_at m.bytes.now p target) (length_of m.bytes.now p target) (pos p +ℤ i32_at m.bytes.now p) x.range.start seen)
+    (FollowRuns m (pending_in x.work) x.range.depth x.range.end k target j (target_count m.bytes.now p target) (target_length m.bytes.now p target) (pos p +ℤ i32_at m.bytes.now p) x.range.start seen)
     x.work o
 
 -- whatever comes of the list that is left came of what was before, and the context agrees again
-abbrev pub Leads : Checker → (Stage → Seen → Outcome → Type 0) → Stage → Stage → Type 0
-Leads m Before x y = (seen : Seen) → Agreeing x seen → (last : Seen) × Agreeing y last × ((o : Outcome) → Listing m y last o → Before x seen o)
+abbrev pub TurnLeads : Checker → (Stage → Seen → Outcome → Type 0) → Stage → Stage → Type 0
+TurnLeads m Before x y = (seen : Seen) → Agreeing x seen → (last : Seen) × Agreeing y last × ((o : Outcome) → Listing m y last o → Before x seen o)
 
 -- the refusal is what comes of what was before, where the context agrees
-abbrev pub Refuses : (Stage → Seen → Outcome → Type 0) → Stage → Error → Type 0
-Refuses Before x e = (e ≡ OutOfMemory) ⊎ ((seen : Seen) → Agreeing x seen → (f : Fault) × IsFor f e × Before x seen (refused f))
+abbrev pub TurnRefuses : (Stage → Seen → Outcome → Type 0) → Stage → Error → Type 0
+TurnRefuses Before x e = (e ≡ OutOfMemory) ⊎ ((seen : Seen) → Agreeing x seen → (f : Fault) × IsFor f e × Before x seen (refused f))
 
 -- a turn from one stage to the next, or (None) to a refusal
 abbrev pub Keeps : Checker → (Stage → Seen → Outcome → Type 0) → Stage → Stage → Option (Unit {0}) → Error → Type 0
-Keeps m Before x y result fault = OnSome result (Leads m Before x y) × IfNone result (Refuses Before x fault)
+Keeps m Before x y result fault = OnSome result (TurnLeads m Before x y) × IfNone result (TurnRefuses Before x fault)
 
 -- levels are left, and no more than a number holds
 pub record HasLevels (depth : Option ℕ) : Type 0 where
