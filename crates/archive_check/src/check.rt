@@ -70,7 +70,7 @@ fn refuse_range<C: ArchiveContext>(start: usize, end: usize, work: &mut Worklist
     }
 }
 
-/// Leaves a region: the range is the one from `start` to `end` again.
+/// Leaves a region: the range is the one from `start` to `end` again. Refused as `pop_subtree_range` is.
 #[inline(always)]
 pub fn leave_region<C: ArchiveContext>(
     start: usize,
