@@ -177,6 +177,17 @@ module _ (m : Checker) (a b p k : ℕ) (x : Part) (lt : k < b) (at : IsAt m.part
 pub parts_over : (m : Checker) (a b p k : ℕ) (s s1 : RangeState) → b ≤ k → Towards (parts_rule m a b p) (parts_rule m k b p) s s1 → Through (parts_rule m a b p) s s1
 parts_over m a b p k s s1 ge towards = towards_end (parts_rule m a b p) (parts_rule m k b p) s s1 towards (λ pending seen. parts_end ge)
 
+-- a part that stands alone
+module _ (m : Checker) (a b p : ℕ) (x : Part) (alone : b - a ≡ 1) (at : IsAt m.parts.now a x) (s : RangeState) where
+  none_yet : Towards (parts_rule m a b p) (parts_rule m a b p) s s
+  none_yet = record { end = refl; depth = λ some. refl; leads = λ some pending seen o q. q }
+
+  pub alone_through : (s' : RangeState) → Through (node_rule m x.node (p + x.offset)) s s' → Through (parts_rule m a b p) s s'
+  alone_through s' through = parts_over m a b p (a + 1) s s' (omega arith) (towards_part m a b p a x (omega arith) at s s none_yet s' through)
+
+  pub alone_stops : (e : Error) → Stops (node_rule m x.node (p + x.offset)) s e → Stops (parts_rule m a b p) s e
+  alone_stops e = part_stops m a b p a x (omega arith) at s s none_yet e
+
 -- what a region holds lies in it
 module _ (m : Checker) (j n z p align : ℕ) (region : RegionIs m j n (Some z) align) (lt : 0 < z) (room : p + z ≤ length m.bytes.now) where
   pub region_part : n ≡ 1 → PartFits m j p

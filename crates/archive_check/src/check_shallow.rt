@@ -1,6 +1,6 @@
 //! The check of shallow nodes. They lead to nothing that has to be listed, so the calls nest as deep as the shape does, and no deeper.
 
-ghost use Rattle.std.specs.Prelude.{◌≡◌, ◌≢◌, ◌<◌, ◌≤◌, length, OnSome, IfNone, IsTrue};
+ghost use Rattle.std.specs.Prelude.{◌≡◌, ◌≢◌, ◌<◌, ◌≤◌, length, OnSome, IfSome, IfNone, IsTrue, false};
 ghost use Rattle.archive_check.specs.declared.plan.Job.TheVariants.{Str};
 ghost use Rattle.archive_check.specs.declared.plan.Target.TheVariants.{Text};
 ghost use Rattle.archive_check.specs.declared.plan.Node.{Node};
@@ -89,6 +89,41 @@ impl Checker<'_> {
         Some(())
     }
 
+    /// Checks the node at `at` where it is a string or a pointer, which takes no call. Answers whether it is one.
+    #[inline(always)]
+    fn check_single<C: ArchiveContext>(
+        &self,
+        node: usize,
+        at: usize,
+        work: &mut Worklist,
+        context: &mut C,
+    ) -> Option<bool>
+        requires sound { IsSound self.now }
+        requires shallow { (x : Node) → IsAt self.now.nodes.now node x → IsTrue (job_shallow self.now.nodes.now self.now.parts.now self.now.variants.now self.now.shallow.now x.job) }
+        requires fits { PartFits self.now node at }
+        requires below { (C.state context.old).end ≤ length self.now.bytes.now }
+        ensures through { IfSome result (λ known. IsTrue known → Through (node_rule self.now node at) (C.state context.old) (C.state context.new)) }
+        ensures others { IfSome result (λ known. known ≡ false → C.state context.new ≡ C.state context.old) }
+        ensures stops { IfNone result (Stops (node_rule self.now node at) (C.state context.old) work.new.fault) }
+        ensures list { OnSome result (list_of work.new ≡ list_of work.old) }
+        ensures positions { OnSome result (C.positions context.new ≡ C.positions context.old) }
+    {
+        let here = self.nodes[node];
+        match here.job {
+            Job::Pointer { target, pointee } => {
+                let count = self.count(target, at);
+                let position = read_position(self.bytes, at, at);
+                self.check_shallow_region(target, pointee, count, position, work, context)?;
+                Some(true)
+            }
+            Job::Str { pointee } => {
+                self.check_text(node, at, pointee, work, context)?;
+                Some(true)
+            }
+            _ => Some(false),
+        }
+    }
+
     /// Checks a shallow node at `at`.
     #[cycle(check_shallow)]
     #[inline(always)]
@@ -124,6 +159,12 @@ impl Checker<'_> {
                     let value = self.bytes[at];
                     return work.refuse(Error::InvalidDiscriminant { name, value });
                 };
+                if variant.last.saturating_sub(variant.first) == 1 {
+                    let part = self.parts[variant.first];
+                    if self.check_single(part.node, at + part.offset, work, context)? {
+                        return Some(());
+                    }
+                }
                 self.check_shallow_parts(variant.first, variant.last, at, work, context)
             }
             Job::Array { count, element } => self.check_shallow_elements(

@@ -18,8 +18,9 @@ use Rattle.archive_check.proofs.Elements.{at_default}
 use Rattle.archive_check.proofs.TurnInvariants.{node_fits, none_map, if_none, rank_from}
 use Rattle.archive_check.proofs.PassedElements.{takes_size, element_fits}
 use Rattle.archive_check.proofs.PassedParts.{part_fits}
-use Rattle.archive_check.proofs.AtOnce.{part_marked, variant_shallow, part_below, parts_here, elements_here, through_by, stops_by, towards_passed, towards_element, element_stops, elements_over, towards_part, part_stops, parts_over}
+use Rattle.archive_check.proofs.AtOnce.{part_marked, variant_shallow, part_below, parts_here, elements_here, through_from, through_by, stops_by, towards_passed, towards_element, element_stops, elements_over, towards_part, part_stops, parts_over, alone_through, alone_stops}
 use Rattle.archive_check.proofs.plan.Checker.+check_shallow.Goals as goal
+use Rattle.archive_check.proofs.plan.Checker.+check_shallow.Goals.{check_shallow-then-saturating_sub-eq1+in_ok-check_single-in-Choice+else-branch, check_shallow-else-saturating_sub-eq1}
 
 pub check_shallow-illegal-requires : goal.check_shallow-illegal-requires
 check_shallow-illegal-requires g t c =
@@ -100,26 +101,127 @@ check_shallow-check_shallow_parts-requires-in-Choice g t c =
     let there = c.in-Some.ensures.some.1 in
     let tag = slice_index m.bytes.now c.args.at in
     let f = k.fits (c.in-Choice.first + tag) x (omega arith) lt there in
+    let same : g.C.Context.state c.if-saturating_sub-eq1.context ≡ s = elim c.if-saturating_sub-eq1.branch [
+      | check_shallow-then-saturating_sub-eq1+in_ok-check_single-in-Choice+else-branch w ↦ ap (λ q. g.C.Context.state q) w.context-is ∙ w.in_ok-check_single-in-Choice.ensures.others w.if-branch.false
+      | check_shallow-else-saturating_sub-eq1 w ↦ ap (λ q. g.C.Context.state q) w.context-is
+    ] in
     let falls : rank (span m.parts.now x.first x.last) * 2 < c.args.node * 2 + 1 = let below = rank_from m c.args.node c.requires.fits.size (span m.parts.now x.first x.last) f.within in omega (arith, below) in
-    λ κs lives. (subst (λ n. rank (span m.parts.now x.first x.last) * 2 < n) c.decreases falls, (lives, (c.requires.sound, (c.requires.marked, (variant_shallow m.shallow.now m.parts.now m.variants.now c.in-Choice.last tag c.in-Choice.first (c.in-Choice.first + tag) x refl lt k.last (rw is.job_is at (c.requires.shallow c.index-self-node.result at)) there, (parts_here m c.args.node c.args.at c.requires.fits.size x.first x.last f c.requires.fits.fits, c.requires.below))))))
+    λ κs lives. (subst (λ n. rank (span m.parts.now x.first x.last) * 2 < n) c.decreases falls, (lives, (c.requires.sound, (c.requires.marked, (variant_shallow m.shallow.now m.parts.now m.variants.now c.in-Choice.last tag c.in-Choice.first (c.in-Choice.first + tag) x refl lt k.last (rw is.job_is at (c.requires.shallow c.index-self-node.result at)) there, (parts_here m c.args.node c.args.at c.requires.fits.size x.first x.last f c.requires.fits.fits, rw same c.requires.below))))))
 
-pub check_shallow-returns-in-Some-clause-through : goal.check_shallow-returns-in-Some-clause-through
-check_shallow-returns-in-Some-clause-through g t c =
+pub check_shallow-overflow_add-at : goal.check_shallow-overflow_add-at
+check_shallow-overflow_add-at g t c =
+    let m = c.args.self.now in
+    let s = g.C.Context.state c.args.context.now in
+    let at : IsAt m.nodes.now c.args.node c.index-self-node.result = record { below = c.requires.fits.takes.at.below; is = c.index-self-node.is } in
+    let is : IsNode m c.args.node (Choice c.in-Choice.name c.in-Choice.first c.in-Choice.last) = record { node = c.index-self-node.result; at = at; job_is = ap (λ q. q.job) c.index-self-node.is ∙ c.in-Choice.is } in
+    let k = node_fits m s (g.C.Context.positions c.args.context.now) (list_of c.args.work.now) c.args.node c.args.at (Choice c.in-Choice.name c.in-Choice.first c.in-Choice.last) c.requires.sound is c.requires.fits in
+    let x = c.in-Some.variant in
+    let lt = c.in-Some.ensures.some.0 in
+    let there = c.in-Some.ensures.some.1 in
+    let tag = slice_index m.bytes.now c.args.at in
+    let f = k.fits (c.in-Choice.first + tag) x (omega arith) lt there in
+    let alone : x.last - x.first ≡ 1 = sym c.saturating_sub.ensures ∙ c.if-saturating_sub-eq1.true in
+    let y = slice_index_or m.parts.now x.first (record { offset = 0; node = 0 }) in
+    let one = at_default m.parts.now x.first (record { offset = 0; node = 0 }) (omega (arith, alone, f.last)) in
+    let part = part_fits m c.args.at x.first x.last x.first y (parts_here m c.args.node c.args.at c.requires.fits.size x.first x.last f c.requires.fits.fits) (omega arith) (omega (arith, alone)) one in
+    let h : c.args.at + y.offset ≤ length m.bytes.now = omega (arith, part.fits) in search rules
+
+pub check_shallow-check_single-requires-clause-shallow : goal.check_shallow-check_single-requires-clause-shallow
+check_shallow-check_single-requires-clause-shallow g t c =
+    let m = c.args.self.now in
+    let s = g.C.Context.state c.args.context.now in
+    let at : IsAt m.nodes.now c.args.node c.index-self-node.result = record { below = c.requires.fits.takes.at.below; is = c.index-self-node.is } in
+    let is : IsNode m c.args.node (Choice c.in-Choice.name c.in-Choice.first c.in-Choice.last) = record { node = c.index-self-node.result; at = at; job_is = ap (λ q. q.job) c.index-self-node.is ∙ c.in-Choice.is } in
+    let k = node_fits m s (g.C.Context.positions c.args.context.now) (list_of c.args.work.now) c.args.node c.args.at (Choice c.in-Choice.name c.in-Choice.first c.in-Choice.last) c.requires.sound is c.requires.fits in
+    let x = c.in-Some.variant in
+    let lt = c.in-Some.ensures.some.0 in
+    let there = c.in-Some.ensures.some.1 in
+    let tag = slice_index m.bytes.now c.args.at in
+    let f = k.fits (c.in-Choice.first + tag) x (omega arith) lt there in
+    let alone : x.last - x.first ≡ 1 = sym c.saturating_sub.ensures ∙ c.if-saturating_sub-eq1.true in
+    let y = slice_index_or m.parts.now x.first (record { offset = 0; node = 0 }) in
+    let one = at_default m.parts.now x.first (record { offset = 0; node = 0 }) (omega (arith, alone, f.last)) in
+    let mark = part_marked m.shallow.now m.parts.now x.last 0 x.first x.first y (omega arith) (omega (arith, alone)) f.last (variant_shallow m.shallow.now m.parts.now m.variants.now c.in-Choice.last tag c.in-Choice.first (c.in-Choice.first + tag) x refl lt k.last (rw is.job_is at (c.requires.shallow c.index-self-node.result at)) there) one in
+    λ z here. c.requires.marked.shallow y.node z here mark
+
+pub check_shallow-check_single-requires-clause-fits : goal.check_shallow-check_single-requires-clause-fits
+check_shallow-check_single-requires-clause-fits g t c =
+    let m = c.args.self.now in
+    let s = g.C.Context.state c.args.context.now in
+    let at : IsAt m.nodes.now c.args.node c.index-self-node.result = record { below = c.requires.fits.takes.at.below; is = c.index-self-node.is } in
+    let is : IsNode m c.args.node (Choice c.in-Choice.name c.in-Choice.first c.in-Choice.last) = record { node = c.index-self-node.result; at = at; job_is = ap (λ q. q.job) c.index-self-node.is ∙ c.in-Choice.is } in
+    let k = node_fits m s (g.C.Context.positions c.args.context.now) (list_of c.args.work.now) c.args.node c.args.at (Choice c.in-Choice.name c.in-Choice.first c.in-Choice.last) c.requires.sound is c.requires.fits in
+    let x = c.in-Some.variant in
+    let lt = c.in-Some.ensures.some.0 in
+    let there = c.in-Some.ensures.some.1 in
+    let tag = slice_index m.bytes.now c.args.at in
+    let f = k.fits (c.in-Choice.first + tag) x (omega arith) lt there in
+    let alone : x.last - x.first ≡ 1 = sym c.saturating_sub.ensures ∙ c.if-saturating_sub-eq1.true in
+    let y = slice_index_or m.parts.now x.first (record { offset = 0; node = 0 }) in
+    let one = at_default m.parts.now x.first (record { offset = 0; node = 0 }) (omega (arith, alone, f.last)) in
+    let part = part_fits m c.args.at x.first x.last x.first y (parts_here m c.args.node c.args.at c.requires.fits.size x.first x.last f c.requires.fits.fits) (omega arith) (omega (arith, alone)) one in
+    part
+
+pub check_shallow-returns-in_err-check_single-in-Choice-clause-stops : goal.check_shallow-returns-in_err-check_single-in-Choice-clause-stops
+check_shallow-returns-in_err-check_single-in-Choice-clause-stops g t c =
+    let m = c.args.self.now in
+    let s = g.C.Context.state c.args.context.now in
+    let at : IsAt m.nodes.now c.args.node c.index-self-node.result = record { below = c.requires.fits.takes.at.below; is = c.index-self-node.is } in
+    let is : IsNode m c.args.node (Choice c.in-Choice.name c.in-Choice.first c.in-Choice.last) = record { node = c.index-self-node.result; at = at; job_is = ap (λ q. q.job) c.index-self-node.is ∙ c.in-Choice.is } in
+    let k = node_fits m s (g.C.Context.positions c.args.context.now) (list_of c.args.work.now) c.args.node c.args.at (Choice c.in-Choice.name c.in-Choice.first c.in-Choice.last) c.requires.sound is c.requires.fits in
+    let x = c.in-Some.variant in
+    let lt = c.in-Some.ensures.some.0 in
+    let there = c.in-Some.ensures.some.1 in
+    let tag = slice_index m.bytes.now c.args.at in
+    let f = k.fits (c.in-Choice.first + tag) x (omega arith) lt there in
+    let alone : x.last - x.first ≡ 1 = sym c.saturating_sub.ensures ∙ c.if-saturating_sub-eq1.true in
+    let y = slice_index_or m.parts.now x.first (record { offset = 0; node = 0 }) in
+    let one = at_default m.parts.now x.first (record { offset = 0; node = 0 }) (omega (arith, alone, f.last)) in
+    rw c.from_residual.ensures (stops_by (parts_rule m x.first x.last c.args.at) (node_rule m c.args.node c.args.at) s c.check_single.new.work.fault (λ pending seen o r. run_choice is lt there r) (alone_stops m x.first x.last c.args.at y alone one s c.check_single.new.work.fault c.in_err-check_single-in-Choice.ensures.stops))
+
+pub check_shallow-returns-then-branch-clause-through : goal.check_shallow-returns-then-branch-clause-through
+check_shallow-returns-then-branch-clause-through g t c =
+    let m = c.args.self.now in
+    let s = g.C.Context.state c.args.context.now in
+    let at : IsAt m.nodes.now c.args.node c.index-self-node.result = record { below = c.requires.fits.takes.at.below; is = c.index-self-node.is } in
+    let is : IsNode m c.args.node (Choice c.in-Choice.name c.in-Choice.first c.in-Choice.last) = record { node = c.index-self-node.result; at = at; job_is = ap (λ q. q.job) c.index-self-node.is ∙ c.in-Choice.is } in
+    let k = node_fits m s (g.C.Context.positions c.args.context.now) (list_of c.args.work.now) c.args.node c.args.at (Choice c.in-Choice.name c.in-Choice.first c.in-Choice.last) c.requires.sound is c.requires.fits in
+    let x = c.in-Some.variant in
+    let lt = c.in-Some.ensures.some.0 in
+    let there = c.in-Some.ensures.some.1 in
+    let tag = slice_index m.bytes.now c.args.at in
+    let f = k.fits (c.in-Choice.first + tag) x (omega arith) lt there in
+    let alone : x.last - x.first ≡ 1 = sym c.saturating_sub.ensures ∙ c.if-saturating_sub-eq1.true in
+    let y = slice_index_or m.parts.now x.first (record { offset = 0; node = 0 }) in
+    let one = at_default m.parts.now x.first (record { offset = 0; node = 0 }) (omega (arith, alone, f.last)) in
+    let s2 = g.C.Context.state c.check_single.new.context in
+    through_from (parts_rule m x.first x.last c.args.at) (node_rule m c.args.node c.args.at) s s2 (λ pending seen o r. run_choice is lt there r) (alone_through m x.first x.last c.args.at y alone one s s2 (c.in_ok-check_single-in-Choice.ensures.through c.if-branch.true))
+
+pub check_shallow-returns-after-saturating_sub-eq1-clause-through : goal.check_shallow-returns-after-saturating_sub-eq1-clause-through
+check_shallow-returns-after-saturating_sub-eq1-clause-through g t c =
     let m = c.args.self.now in
     let s = g.C.Context.state c.args.context.now in
     let at : IsAt m.nodes.now c.args.node c.index-self-node.result = record { below = c.requires.fits.takes.at.below; is = c.index-self-node.is } in
     let is : IsNode m c.args.node (Choice c.in-Choice.name c.in-Choice.first c.in-Choice.last) = record { node = c.index-self-node.result; at = at; job_is = ap (λ q. q.job) c.index-self-node.is ∙ c.in-Choice.is } in
     let x = c.in-Some.variant in
-    through_by (parts_rule m x.first x.last c.args.at) (node_rule m c.args.node c.args.at) s (g.C.Context.state c.check_shallow_parts-in-Choice.new.context) c.check_shallow_parts-in-Choice.result (λ pending seen o r. run_choice is c.in-Some.ensures.some.0 c.in-Some.ensures.some.1 r) c.check_shallow_parts-in-Choice.ensures.through
+    let same : g.C.Context.state c.if-saturating_sub-eq1.context ≡ s = elim c.if-saturating_sub-eq1.branch [
+      | check_shallow-then-saturating_sub-eq1+in_ok-check_single-in-Choice+else-branch w ↦ ap (λ q. g.C.Context.state q) w.context-is ∙ w.in_ok-check_single-in-Choice.ensures.others w.if-branch.false
+      | check_shallow-else-saturating_sub-eq1 w ↦ ap (λ q. g.C.Context.state q) w.context-is
+    ] in
+    through_by (parts_rule m x.first x.last c.args.at) (node_rule m c.args.node c.args.at) s (g.C.Context.state c.check_shallow_parts-in-Choice.new.context) c.check_shallow_parts-in-Choice.result (λ pending seen o r. run_choice is c.in-Some.ensures.some.0 c.in-Some.ensures.some.1 r) (rw same at c.check_shallow_parts-in-Choice.ensures.through)
 
-pub check_shallow-returns-in-Some-clause-stops : goal.check_shallow-returns-in-Some-clause-stops
-check_shallow-returns-in-Some-clause-stops g t c =
+pub check_shallow-returns-after-saturating_sub-eq1-clause-stops : goal.check_shallow-returns-after-saturating_sub-eq1-clause-stops
+check_shallow-returns-after-saturating_sub-eq1-clause-stops g t c =
     let m = c.args.self.now in
     let s = g.C.Context.state c.args.context.now in
     let at : IsAt m.nodes.now c.args.node c.index-self-node.result = record { below = c.requires.fits.takes.at.below; is = c.index-self-node.is } in
     let is : IsNode m c.args.node (Choice c.in-Choice.name c.in-Choice.first c.in-Choice.last) = record { node = c.index-self-node.result; at = at; job_is = ap (λ q. q.job) c.index-self-node.is ∙ c.in-Choice.is } in
     let x = c.in-Some.variant in
-    none_map c.check_shallow_parts-in-Choice.result (stops_by (parts_rule m x.first x.last c.args.at) (node_rule m c.args.node c.args.at) s c.check_shallow_parts-in-Choice.new.work.fault (λ pending seen o r. run_choice is c.in-Some.ensures.some.0 c.in-Some.ensures.some.1 r)) c.check_shallow_parts-in-Choice.ensures.stops
+    let same : g.C.Context.state c.if-saturating_sub-eq1.context ≡ s = elim c.if-saturating_sub-eq1.branch [
+      | check_shallow-then-saturating_sub-eq1+in_ok-check_single-in-Choice+else-branch w ↦ ap (λ q. g.C.Context.state q) w.context-is ∙ w.in_ok-check_single-in-Choice.ensures.others w.if-branch.false
+      | check_shallow-else-saturating_sub-eq1 w ↦ ap (λ q. g.C.Context.state q) w.context-is
+    ] in
+    none_map c.check_shallow_parts-in-Choice.result (stops_by (parts_rule m x.first x.last c.args.at) (node_rule m c.args.node c.args.at) s c.check_shallow_parts-in-Choice.new.work.fault (λ pending seen o r. run_choice is c.in-Some.ensures.some.0 c.in-Some.ensures.some.1 r)) (rw same at c.check_shallow_parts-in-Choice.ensures.stops)
 
 pub check_shallow-check_text-requires-clause-job : goal.check_shallow-check_text-requires-clause-job
 check_shallow-check_text-requires-clause-job g t c =
