@@ -1,5 +1,5 @@
 -- Values without keys, and plans that go on.
-use Rattle.std.proofs.Common.{ℕ, ℤ, zero, suc, ◌≤◌, List, [], length, nat_lt, if◌then◌else◌, Bool, true, false, arith}
+use Rattle.std.proofs.Common.{ℕ, ℤ, ◌≤◌, List, [], length, nat_lt, if◌then◌else◌, Bool, true, false, arith}
 use Rattle.archive_check.specs.Value.{Value, number, text_value}
 use Rattle.archive_core.specs.Plans.{Stand}
 use Rattle.archive_core.specs.TextPlans.{text_plan, string_plan}
