@@ -9,7 +9,6 @@ pub mod Causes
 pub mod TextCauses
 pub mod Regions
 pub mod WholeCauses
-pub mod Repeated
 pub mod Shared
 pub mod SharedCauses
 pub mod KeyStates

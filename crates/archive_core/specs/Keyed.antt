@@ -1,9 +1,7 @@
 -- Values without keys, and plans that go on.
-use Rattle.std.proofs.Common.{ℕ, ℤ, zero, suc, ◌≤◌, List, [], length, nat_lt, if◌then◌else◌, Bool, true, false, arith}
-use Rattle.archive_check.specs.Value.{Value, number, text_value, list}
-use Rattle.archive_check.specs.Reached.{Names, names_list, NamesAmong, names_first, names_later}
+use Rattle.std.proofs.Common.{ℕ, ℤ, ◌≤◌, List, [], length, nat_lt, if◌then◌else◌, Bool, true, false, arith}
+use Rattle.archive_check.specs.Value.{Value, number, text_value}
 use Rattle.archive_core.specs.Plans.{Stand}
-use Rattle.archive_core.specs.Repeated.{repeated}
 use Rattle.archive_core.specs.TextPlans.{text_plan, string_plan}
 use Rattle.archive_core.specs.Writing.{HasKeys, IsKeyed}
 
@@ -15,17 +13,6 @@ number_keyed z = keyed_by_none (number z) (λ k n. elim n [ ])
 
 pub text_keyed : (bytes : List ℕ) → IsKeyed [] (text_value bytes)
 text_keyed bytes = keyed_by_none (text_value bytes) (λ k n. elim n [ ])
-
-named_once : (n k : ℕ) (z : ℤ) → NamesAmong k (repeated n (number z)) → ⊥
-named_once zero k z h = elim h [ ]
-named_once (suc n) k z (names_first h) = elim h [ ]
-named_once (suc n) k z (names_later h) = named_once n k z h
-
-unnamed : (n k : ℕ) (z : ℤ) → Names k (list (repeated n (number z))) → ⊥
-unnamed n k z (names_list h) = named_once n k z h
-
-pub numbers_keyed : (n : ℕ) (z : ℤ) → IsKeyed [] (list (repeated n (number z)))
-numbers_keyed n z = keyed_by_none (list (repeated n (number z))) (λ k h. absurd (unnamed n k z h))
 
 pub stays : (s : Stand) → s.place ≤ s.place
 stays s = omega arith

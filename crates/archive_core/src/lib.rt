@@ -9,8 +9,6 @@ pub mod rel_ptr;
 pub mod ser;
 pub mod sharing;
 pub mod string;
-#[cfg(test)]
-mod tests;
 pub mod traits;
 pub mod view;
 

@@ -2,8 +2,6 @@
 #![tactic(auto)]
 
 mod non_zero;
-#[cfg(test)]
-mod tests;
 
 use archive_num::{FixedIsize, FixedUsize};
 pub use non_zero::NonZero;

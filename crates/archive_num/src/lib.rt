@@ -3,8 +3,6 @@
 
 mod little_endian;
 mod native;
-#[cfg(test)]
-mod tests;
 
 pub use little_endian::LittleEndian;
 pub use native::{Integer, Native};

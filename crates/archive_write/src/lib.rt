@@ -3,5 +3,3 @@
 
 pub mod ser;
 pub mod sharing;
-#[cfg(test)]
-mod tests;

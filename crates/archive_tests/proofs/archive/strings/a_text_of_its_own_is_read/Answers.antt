@@ -5,7 +5,7 @@ use Rattle.archive_check.specs.Definitions.{no_definition}
 use Rattle.archive_check.specs.Shape.{one, str, text}
 use Rattle.archive_check.specs.Viewed.{Viewed}
 use Rattle.archive_check.proofs.ViewedValues.{out_viewed}
-use Rattle.archive_core.proofs.tests.a_text_of_its_own_is_read.Goals as goal
+use Rattle.archive_tests.proofs.archive.strings.a_text_of_its_own_is_read.Goals as goal
 
 abbrev hello : List ℕ
 hello = 104 ∷ 101 ∷ 108 ∷ 108 ∷ 111 ∷ 32 ∷ 119 ∷ 111 ∷ 114 ∷ 108 ∷ 100 ∷ 0 ∷ 139 ∷ 0 ∷ 0 ∷ 0 ∷ 244 ∷ 255 ∷ 255 ∷ 255 ∷ []

@@ -9,7 +9,7 @@ use Rattle.archive_check.specs.Reads.{Schema, reads_array, ReadsRun, reads_none,
 use Rattle.archive_check.specs.CleanRegions.{Stands, clean_array, CleanRun, clean_none, clean_element}
 use Rattle.archive_check.proofs.StandingBytes.{stands_front, stands_back}
 use Rattle.archive_core.specs.Writing.{Resolves}
-use Rattle.archive_core.specs.Repeated.{repeated, copies}
+use Rattle.archive_tests.specs.Repeated.{repeated, copies}
 use Rattle.archive_core.proofs.Appending.{size_is}
 use Rattle.archive_core.proofs.Resolving.{resolves_usize}
 

@@ -1,12 +1,12 @@
 // Numbers that aren't 0.
 
-use crate::{
+use archive_check::expr::{Defs, Expr, IntegerKind, Kind};
+use archive_check::traits::{ArchivePointee, Portable};
+use archive_nonzero::{
     ArchivedNonZeroI8, ArchivedNonZeroI16, ArchivedNonZeroI32, ArchivedNonZeroI64,
     ArchivedNonZeroI128, ArchivedNonZeroIsize, ArchivedNonZeroU8, ArchivedNonZeroU16,
     ArchivedNonZeroU32, ArchivedNonZeroU64, ArchivedNonZeroU128, ArchivedNonZeroUsize,
 };
-use archive_check::expr::{Defs, Expr, IntegerKind, Kind};
-use archive_check::traits::{ArchivePointee, Portable};
 use archive_num::Integer;
 use std::test::Fail;
 

@@ -1,9 +1,9 @@
 // Memory that runs out: budgets that rise, until one serves.
 
-use crate::ser::{Positional, Serializer, Writer};
-use crate::sharing::{Share, Sharing, SharingState};
-use crate::tests::write_string;
+use crate::write::write_string;
 use archive_check::error::Error;
+use archive_write::ser::{Positional, Serializer, Writer};
+use archive_write::sharing::{Share, Sharing, SharingState};
 use linked_list_allocator::LocalHeap;
 use std::alloc::Allocator;
 use std::test::Fail;

@@ -5,8 +5,8 @@ mod memory;
 mod sharing;
 mod writers;
 
-use crate::ser::{Writer, WriterExt};
 use archive_check::error::Error;
+use archive_write::ser::{Writer, WriterExt};
 
 // A text, the zeros up to a multiple of four, and the eight bytes that point at it; answers where these stand.
 fn write_string<W: Writer>(writer: &mut W) -> Result<usize, Error> {

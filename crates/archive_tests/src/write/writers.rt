@@ -3,9 +3,9 @@
 ghost use Rattle.std.specs.Prelude.{◌<◌, ◌≤◌, ◌-◌, length, IsOk};
 ghost use Rattle.archive_write.specs.Written.{padding};
 
-use crate::ser::{Buffer, Positional, ResolverAlloc, Serializer, Writer, WriterExt};
-use crate::tests::write_string;
+use crate::write::write_string;
 use archive_check::error::Error;
+use archive_write::ser::{Buffer, Positional, ResolverAlloc, Serializer, Writer, WriterExt};
 use std::test::Fail;
 
 #[test]
@@ -81,20 +81,5 @@ fn a_buffer_takes_what_fits(rt: HostRuntime) -> Result<(), Fail> {
     };
     assert_eq!(rt; buffer.write(b"5"), Err(refusal));
     assert_eq!(rt; buffer.as_slice(), b"1234".as_slice());
-    Ok(())
-}
-
-#[test]
-fn bytes_beyond_what_is_written_stay(rt: HostRuntime) -> Result<(), Fail> {
-    let mut bytes = [0xcc; 256];
-    let mut buffer = Buffer::from(bytes.as_mut_slice());
-    assert_eq!(rt; write_string(&mut buffer)?, 12);
-    assert_eq!(rt; buffer.pos(), 20);
-    let (written, beyond) = bytes.split_at(20);
-    assert_eq!(rt;
-        written,
-        b"hello world\0\x8b\0\0\0\xf4\xff\xff\xff".as_slice()
-    );
-    assert!(rt; beyond.iter().all(|byte| *byte == 0xcc));
     Ok(())
 }

@@ -1,8 +1,8 @@
 // The states of shared keys.
 
-use crate::ser::Serializer;
-use crate::sharing::{Share, Sharing, SharingState};
 use archive_check::error::Error;
+use archive_write::ser::Serializer;
+use archive_write::sharing::{Share, Sharing, SharingState};
 use std::process::Abort;
 use std::test::Fail;
 

@@ -2,12 +2,12 @@
 
 ghost use Rattle.std.specs.Prelude.{◌≡◌, ◌↔◌, ◌<◌, length, IsTrue};
 
-use crate::{
+use archive_check::expr::{Defs, Expr, IntegerKind, Kind};
+use archive_check::traits::{ArchivePointee, Portable};
+use archive_num::{
     ArchivedChar, ArchivedI16, ArchivedI32, ArchivedI64, ArchivedI128, ArchivedIsize, ArchivedU16,
     ArchivedU32, ArchivedU64, ArchivedU128, ArchivedUsize, Native,
 };
-use archive_check::expr::{Defs, Expr, IntegerKind, Kind};
-use archive_check::traits::{ArchivePointee, Portable};
 use std::test::Fail;
 
 // What is written is read back, whatever it is.

@@ -1,0 +1,25 @@
+-- One thing, many times.
+use Rattle.std.proofs.Common.{ℕ, ℤ, zero, suc, List, [], ◌++◌}
+use Rattle.archive_check.specs.Value.{Value, Values, no_value, value, number, list}
+use Rattle.archive_check.specs.Reached.{Names, names_list, NamesAmong, names_first, names_later}
+use Rattle.archive_core.specs.Keyed.{keyed_by_none}
+use Rattle.archive_core.specs.Writing.{IsKeyed}
+
+abbrev pub repeated : ℕ → Value → Values
+repeated zero v = no_value
+repeated (suc n) v = value v (repeated n v)
+
+abbrev pub copies : ℕ → List ℕ → List ℕ
+copies zero a = []
+copies (suc n) a = a ++ copies n a
+
+named_once : (n k : ℕ) (z : ℤ) → NamesAmong k (repeated n (number z)) → ⊥
+named_once zero k z h = elim h [ ]
+named_once (suc n) k z (names_first h) = elim h [ ]
+named_once (suc n) k z (names_later h) = named_once n k z h
+
+unnamed : (n k : ℕ) (z : ℤ) → Names k (list (repeated n (number z))) → ⊥
+unnamed n k z (names_list h) = named_once n k z h
+
+pub numbers_keyed : (n : ℕ) (z : ℤ) → IsKeyed [] (list (repeated n (number z)))
+numbers_keyed n z = keyed_by_none (list (repeated n (number z))) (λ k h. absurd (unnamed n k z h))

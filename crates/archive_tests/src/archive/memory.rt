@@ -1,0 +1,129 @@
+// A region too large for a local array.
+
+ghost use Rattle.std.specs.Prelude.{◌≡◌, ⊤, refl, [], pos, length, OnOk, IfErr};
+ghost use Rattle.std.specs.Int.{w32};
+ghost use Rattle.std.proofs.Common.{inl, inr};
+ghost use Rattle.archive_check.specs.Shape.{array, leaf, number, one, unsigned};
+ghost use Rattle.archive_check.specs.Definitions.{no_definition};
+ghost use Rattle.archive_check.specs.LeafLayout.{no_definition_reached};
+ghost use Rattle.archive_check.specs.Value.{list, number as number_value};
+ghost use Rattle.archive_core.specs.Keyed.{stays};
+ghost use Rattle.archive_core.specs.Writing.{Fresh, Resolves};
+ghost use Rattle.archive_tests.specs.Repeated.{numbers_keyed, repeated};
+
+use archive_core::api::access;
+use archive_core::error::Error;
+use archive_core::place::Place;
+use archive_core::primitive::ArchivedU32;
+use archive_core::ser::ResolveExt;
+use archive_core::shape::{Defs, Expr};
+use archive_core::traits::{Archive, ArchivePointee, Portable};
+use std::alloc::Global;
+use std::test::Fail;
+
+// A hundred sevens: a value whose region is too large for a local array.
+struct ArchivedSevens;
+
+#[derive(Clone, Copy)]
+struct Sevens;
+
+impl ArchivePointee for ArchivedSevens {
+    type ArchivedMetadata = ();
+
+    ghost pointee = { one (array 25 (leaf (number unsigned w32))) };
+
+    ghost definitions = { no_definition };
+
+    ghost metadata_length = { λ _. 0 };
+
+    fn pointer_metadata(_metadata: &()) -> usize {
+        0
+    }
+}
+
+impl Portable for ArchivedSevens {
+    ghost shape = { array 25 (leaf (number unsigned w32)) };
+
+    ghost layout = { record { size = 100; align = 4 } };
+
+    ghost is_one = { refl };
+
+    ghost is_align = { inr (inr (inl refl)) };
+
+    ghost has_layout = { record { solved = λ s k. refl } };
+
+    ghost no_others = { no_definition_reached (array 25 (leaf (number unsigned w32))) };
+
+    fn size() -> usize {
+        100
+    }
+
+    fn align() -> usize {
+        4
+    }
+
+    fn expr(alloc: Global) -> Result<Expr, Error> {
+        Ok(Expr::Array(25, Box::new(alloc, ArchivedU32::expr(alloc)?)?))
+    }
+
+    fn define(_alloc: Global, _defs: &mut Defs) -> Result<(), Error> {
+        Ok(())
+    }
+}
+
+impl Archive for Sevens {
+    type Archived = ArchivedSevens;
+
+    type Resolver = ();
+
+    ghost meaning = { λ _. list (repeated 25 (number_value (pos 117901063))) };
+
+    ghost flat = { λ _ _. list (repeated 25 (number_value (pos 117901063))) };
+
+    ghost keys = { λ _. [] };
+
+    ghost belongs = { λ _ _. ⊤ };
+
+    ghost plan = { λ _ s. s };
+
+    ghost answers = { λ _ _ _. ⊤ };
+
+    ghost hinders = { λ _ _ _. ⊥ };
+
+    ghost hinders_at = { λ _ _ _ _. ⊥ };
+
+    ghost keyed = { λ _. numbers_keyed 25 (pos 117901063) };
+
+    ghost forward = { λ _ s. stays s };
+
+    ghost named = { λ _ _ _ h. absurd h };
+
+    ghost named_at = { λ _ _ _ _ h. absurd h };
+
+    #[tactic(auto, using(crate::proofs::Repeated::resolves_sevens))]
+    fn resolve(&self, _resolver: (), place: Place<'_, ArchivedSevens>) -> Result<(), Error>
+        requires fresh { Fresh 100 place.pos place.bytes.now }
+        requires same_value { ⊤ }
+        ensures resolved { OnOk result (Resolves no_definition place.entry.pos place.exit.0.now (array 25 (leaf (number unsigned w32))) (list (repeated 25 (number_value (pos 117901063))))) }
+        ensures same_length { length place.exit.0.now ≡ length place.entry.bytes.now }
+        ensures refused { IfErr result (λ _. ⊥) }
+    {
+        let Place { bytes, .. } = place;
+        bytes.fill(7);
+        Ok(())
+    }
+}
+
+#[test]
+fn a_large_region_is_resolved_on_the_heap(rt: HostRuntime) -> Result<(), Fail> {
+    let mut writer = Vec::new(rt.alloc());
+    writer.resolve_aligned(rt.alloc(), &42u32, ())?;
+    assert_eq!(rt; writer.resolve_aligned(rt.alloc(), &Sevens, ())?, 4);
+    assert_eq!(rt; writer.len(), 104);
+    assert!(rt; writer.iter().skip(4).all(|byte| *byte == 7));
+    assert_eq!(rt;
+        access::<ArchivedSevens>(rt.alloc(), writer.as_slice())?.pos(),
+        4
+    );
+    Ok(())
+}

@@ -1,0 +1,9 @@
+//! Tests of the libraries below, through their public calls.
+#![tactic(auto)]
+
+#[cfg(test)]
+mod archive;
+#[cfg(test)]
+mod num;
+#[cfg(test)]
+mod write;

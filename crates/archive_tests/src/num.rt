@@ -1,0 +1,4 @@
+// Numbers, and numbers that aren't 0.
+
+mod non_zero;
+mod numbers;

@@ -1,0 +1,98 @@
+// A device that fails while archives are written to it.
+
+ghost use Rattle.std.specs.Prelude.{None, length, refl, true};
+
+use archive_check::error::Error;
+use archive_check::traits::{Keys, Tells};
+use archive_core::api::to_bytes_in;
+use archive_core::ser::{Positional, Serializer, Writer, serialize_one};
+use archive_core::sharing::{Share, SharingExt};
+use archive_core::string::Text;
+use std::alloc::Global;
+use std::test::Fail;
+
+// A writer whose device takes `left` more writes, and then fails in the midst of each.
+#[derive(Drop)]
+struct Failing {
+    bytes: Vec<u8>,
+    left: u32,
+    failures: u64,
+}
+
+impl Positional for Failing {
+    ghost place = { λ w. length w.bytes.items };
+
+    fn pos(&self) -> usize {
+        self.bytes.len()
+    }
+}
+
+impl Tells for Failing {
+    ghost told = { λ w. record { bytes = w.bytes.items; room = None; failures = w.failures } };
+}
+
+impl Keys for Failing {
+    ghost state_of = { λ _ _. None };
+}
+
+impl Writer for Failing {
+    ghost takes_memory = { true };
+
+    ghost place_law = { λ w. refl };
+
+    fn write(&mut self, bytes: &[u8]) -> Result<(), Error> {
+        if self.failures == u64::MAX {
+            return Err(Error::WriterFailed);
+        }
+        if self.left == 0 {
+            self.failures += 1;
+            self.bytes.write(&bytes[..bytes.len() / 2])?;
+            return Err(Error::WriterFailed);
+        }
+        self.left -= 1;
+        self.bytes.write(bytes)
+    }
+}
+
+// An archive of a text, and behind it regions: a number, a text that is shared by two, and the first text again.
+fn write_archives(alloc: Global, text: &String, device: &mut Failing) -> Result<(), Error> {
+    to_bytes_in(alloc, text, &mut *device)?;
+    let mut serializer = Serializer::new(device, alloc, Share::new(alloc));
+    serialize_one(&7u64, &mut serializer)?;
+    let shared = Text { text: "shared" };
+    serializer.serialize_shared(1, &shared)?;
+    serializer.serialize_shared(1, &shared)?;
+    serialize_one(text, &mut serializer)?;
+    Ok(())
+}
+
+const ARCHIVES: &[u8] =
+    b"hello world\0\x8b\0\0\0\xf4\xff\xff\xff\0\0\0\0\x07\0\0\0\0\0\0\0sharedhello world\0\0\0\x8b\0\0\0\xf2\xff\xff\xff";
+
+#[test]
+fn each_write_fails_in_turn(rt: HostRuntime) -> Result<(), Fail> {
+    let text = String::from_str(rt.alloc(), "hello world")?;
+    let mut held = 0;
+    for left in 0..100 {
+        let mut device = Failing {
+            bytes: Vec::new(rt.alloc()),
+            left,
+            failures: 0,
+        };
+        let written = write_archives(rt.alloc(), &text, &mut device);
+        if device.failures == 0 {
+            assert_eq!(rt; written, Ok(()));
+            assert_eq!(rt; device.bytes.as_slice(), ARCHIVES);
+            return Ok(());
+        }
+        assert_eq!(rt; device.failures, 1, "after {left}");
+        assert_eq!(rt; written, Err(Error::WriterFailed), "after {left}");
+        assert!(rt;
+            ARCHIVES.starts_with(device.bytes.as_slice()),
+            "after {left}"
+        );
+        assert!(rt; device.pos() >= held, "after {left}");
+        held = device.pos();
+    }
+    Err(Fail::from("each run failed"))
+}
