@@ -2,8 +2,8 @@
 use Rattle.std.proofs.Common.{◌≡◌, ◌≢◌, ◌⊎◌, inl, inr, ⊎_elim, ℕ, ◌<◌, ◌^◌, List, [], length, Some, Option, Contains, arith, refl, sym, ap, subst, ◌∙◌}
 use Rattle.std.proofs.Math.Logic.{∥∥₁_elim, ∥∥₁_map, ∥∥₁_prop}
 use Rattle.std.proofs.lemmas.List.Elements.{Contains-append_left, Contains-append_right, Contains-append_cases}
-use Rattle.archive_check.specs.declared.error.Error.{Error}
-use Rattle.archive_check.specs.declared.error.Error.TheVariants.{OutOfMemory}
+use Rattle.archive_check.specs.declared.format.error.Error.{Error}
+use Rattle.archive_check.specs.declared.format.error.Error.TheVariants.{OutOfMemory}
 use Rattle.archive_check.specs.declared.shape.Schema.{Schema as RustSchema}
 use Rattle.archive_check.specs.Shape.{Name, Shape, one, definition}
 use Rattle.archive_check.specs.Value.{Value}
@@ -14,7 +14,7 @@ use Rattle.archive_check.specs.Definitions.{Definitions, no_definition, defines,
 use Rattle.archive_check.specs.Trail.{RootTrips}
 use Rattle.archive_check.specs.Ranges.{RangeState, whole}
 use Rattle.archive_check.specs.PositionStates.{Positions, nothing_met}
-use Rattle.archive_check.specs.Fresh.{IsWhole}
+use Rattle.archive_check.specs.FreshContexts.{IsWhole}
 use Rattle.archive_check.specs.Schemas.{Suits, Accepts, Refuses, IsSchemaOf}
 use Rattle.archive_check.specs.Pooled.{Entries}
 use Rattle.archive_check.specs.Entries.{NoEntries, AreNamedByPosition}

@@ -7,7 +7,7 @@ use Rattle.archive_check.specs.Tour.{Seen, entry}
 use Rattle.archive_check.specs.Walk.{RootWalk, Walk, walk_leaf, walk_parts, walk_choice, walk_array, walk_boxed, walk_vec, walk_inline, walk_out_of_line, walk_shared, walk_null, walk_weak, walk_named, WalkParts, walk_no_part, walk_part, WalkRun, walk_none, walk_element, Follow, follow_unique, follow_new, follow_again, Enter, enter, WalkContents, walk_one, walk_run, walk_text}
 use Rattle.archive_check.specs.Depth.{inside}
 use Rattle.archive_check.specs.Trail.{RootTrips, Fault, Trips, trips_leaf, trips_parts, trips_tag, trips_choice, trips_array, trips_boxed, trips_vec, trips_inline, trips_short, trips_out_of_line, trips_shared, trips_weak, trips_named, TripsParts, trips_first, trips_later, TripsRun, trips_element, trips_later_element, TripsFollow, trips_unique, trips_before, trips_new, trips_type, trips_length, trips_cycle, TripsEnter, trips_size, trips_range, trips_align, trips_depth, trips_within, TripsContents, trips_one, trips_run, trips_text}
-use Rattle.archive_check.proofs.OneReading.{pos_one}
+use Rattle.archive_check.proofs.ReadingUnique.{pos_one}
 
 -- where two walks come to
 abbrev Meets : ℕ → Seen → ℕ → Seen → Type 0

@@ -9,7 +9,7 @@ use Rattle.archive_check.specs.Reads.{Schema, Reads, reads_leaf, reads_parts, re
 use Rattle.archive_check.specs.Tour.{Region, Contents, contents_one, contents_run, contents_text, Leads, Entry, Seen, entry, Tour, tour_end, tour_unique, tour_new, tour_again}
 use Rattle.archive_check.specs.Denotes.{Fills, fills_number, fills_product, fills_case, fills_list, fills_text, fills_box, fills_null, fills_shared_value, fills_unique, fills_shared, FillsAll, fills_no_value, fills_value}
 use Rattle.archive_check.specs.Reached.{Names, names_itself, names_product, names_case, names_list, names_box, NamesAmong, names_first, names_later}
-use Rattle.archive_check.proofs.OneReading.{contents_one_value, pos_one, leads_position, leads_value}
+use Rattle.archive_check.proofs.ReadingUnique.{contents_one_value, pos_one, leads_position, leads_value}
 use Rattle.archive_check.proofs.Seen.{same_key, inserted_has}
 use Rattle.archive_check.proofs.RevisedTour.{tour_grows}
 

@@ -9,8 +9,8 @@ use Rattle.archive_check.specs.Reads.{Schema}
 use Rattle.archive_check.specs.Tour.{Region, Contents, Entry, Seen, entry, Tour, tour_end, tour_unique, tour_new, tour_again}
 use Rattle.archive_check.specs.Denotes.{Meaning, Fills, fills_number, fills_product, fills_case, fills_list, fills_text, fills_box, fills_null, fills_shared_value, fills_unique, fills_shared, FillsAll, fills_no_value, fills_value, IsSharedValue, Denotes}
 use Rattle.archive_check.specs.Reached.{Names, names_itself, names_product, names_case, names_list, names_box, NamesAmong, names_first, names_later, LeadsTo, leads_at_once, leads_through, ReachedMeaning}
-use Rattle.archive_check.proofs.OneReading.{contents_one_value}
-use Rattle.archive_check.proofs.OneMeaning.{fill, tour_fills, fills_one}
+use Rattle.archive_check.proofs.ReadingUnique.{contents_one_value}
+use Rattle.archive_check.proofs.MeaningUnique.{fill, tour_fills, fills_one}
 use Rattle.archive_check.proofs.Seen.{same_key, inserted_has, same_some}
 use Rattle.archive_check.proofs.ReachedParts.{root_reached}
 use Rattle.archive_check.proofs.RevisedTour.{tour_grows}

@@ -49,12 +49,12 @@ module _ (s : Schema) (laid : LaidOut s) (bytes : List ℕ) {pending : List ℕ}
   plain_run n X p h fits = run_of n p (λ q below. plain_walk X q h below) fits
 
 -- where a walk comes to that enters nothing
-abbrev Stays : ℕ → Seen → ℕ → Seen → Type 0
-Stays a l b m = (b ≡ a) × (m ≡ l)
+abbrev IsLegalHere : ℕ → Seen → ℕ → Seen → Type 0
+IsLegalHere a l b m = (b ≡ a) × (m ≡ l)
 
 module _ (s : Schema) (laid : LaidOut s) (bytes : List ℕ) where
   mutual
-    pub empty_stays : {pending : List ℕ} {depth : Option ℕ} {stop p : ℕ} {X : Shape} {a : ℕ} {l : Seen} {b : ℕ} {m : Seen} → Walk s bytes pending depth stop p X a l b m → size_of s.layouts X ≡ 0 → Stays a l b m
+    pub empty_stays : {pending : List ℕ} {depth : Option ℕ} {stop p : ℕ} {X : Shape} {a : ℕ} {l : Seen} {b : ℕ} {m : Seen} → Walk s bytes pending depth stop p X a l b m → size_of s.layouts X ≡ 0 → IsLegalHere a l b m
     empty_stays (walk_leaf h) e = (refl, refl)
     empty_stays (walk_parts {ps = ps} w) e = parts_stay w (omega (arith, up_le (parts_end s.layouts 0 ps) (parts_align s.layouts ps) (parts_align_pos s.layouts ps)))
     empty_stays (walk_choice {variants = vs} {ps = ps} d w) e = absurd (omega (arith, parts_end_le s laid ps 1, variant_end_le s laid vs _ ps d, up_le (variants_end s.layouts vs) (variants_align s.layouts vs) (variants_align_pos s.layouts vs)))
@@ -68,14 +68,14 @@ module _ (s : Schema) (laid : LaidOut s) (bytes : List ℕ) where
     empty_stays (walk_weak {P = P} h w) e = absurd (omega (arith, pointer_few P))
     empty_stays (walk_named {name = name} {X = X} d w) e = let same = ap (λ l. l.size) (laid.solves name X d) in empty_stays w (omega (arith, same))
 
-    parts_stay : {pending : List ℕ} {depth : Option ℕ} {stop p at : ℕ} {ps : Parts} {a : ℕ} {l : Seen} {b : ℕ} {m : Seen} → WalkParts s bytes pending depth stop p at ps a l b m → parts_end s.layouts at ps ≤ at → Stays a l b m
+    parts_stay : {pending : List ℕ} {depth : Option ℕ} {stop p at : ℕ} {ps : Parts} {a : ℕ} {l : Seen} {b : ℕ} {m : Seen} → WalkParts s bytes pending depth stop p at ps a l b m → parts_end s.layouts at ps ≤ at → IsLegalHere a l b m
     parts_stay walk_no_part e = (refl, refl)
     parts_stay (walk_part {at = at} {X = X} {ps = ps} w ws) e =
         let more = up_le at (align_of s.layouts X) (positive s laid X) in
         let rest = parts_end_le s laid ps (up at (align_of s.layouts X) + size_of s.layouts X) in
         let h = empty_stays w (omega arith) in let k = parts_stay ws (omega arith) in (cc (h.0, k.0), cc (h.1, k.1))
 
-    run_stays : {pending : List ℕ} {depth : Option ℕ} {stop p n : ℕ} {X : Shape} {a : ℕ} {l : Seen} {b : ℕ} {m : Seen} → WalkRun s bytes pending depth stop p n X a l b m → n * size_of s.layouts X ≡ 0 → Stays a l b m
+    run_stays : {pending : List ℕ} {depth : Option ℕ} {stop p n : ℕ} {X : Shape} {a : ℕ} {l : Seen} {b : ℕ} {m : Seen} → WalkRun s bytes pending depth stop p n X a l b m → n * size_of s.layouts X ≡ 0 → IsLegalHere a l b m
     run_stays walk_none e = (refl, refl)
     run_stays (walk_element w ws) e = let h = empty_stays w (omega arith) in let k = run_stays ws (omega arith) in (cc (h.0, k.0), cc (h.1, k.1))
 

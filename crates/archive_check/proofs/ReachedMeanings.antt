@@ -8,9 +8,9 @@ use Rattle.archive_check.specs.Value.{Value}
 use Rattle.archive_check.specs.Tour.{Accepted}
 use Rattle.archive_check.specs.Denotes.{Meaning}
 use Rattle.archive_check.specs.Reached.{Reached, ReachedMeaning}
-use Rattle.archive_check.proofs.OneMeaning.{meaning_one}
+use Rattle.archive_check.proofs.MeaningUnique.{meaning_one}
 use Rattle.archive_check.proofs.ReachedParts.{reached_one, part_reached}
-use Rattle.archive_check.proofs.SomeMeaning.{has_meaning}
+use Rattle.archive_check.proofs.MeaningExists.{has_meaning}
 use Rattle.archive_check.proofs.SelectedEntries.{selected}
 use Rattle.archive_check.specs.Leaves.{regions_of}
 use Rattle.archive_check.specs.Within.{PartOfSome}

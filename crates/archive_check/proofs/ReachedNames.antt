@@ -225,14 +225,14 @@ module _ (s s' : Schema) (X : Shape) (same : (name : Name) → Reaches s.table n
   reached_back (reaches m) k = k _ m
   reached_back (reaches_through {Y = Z} {n = n} m d r) k = let q = k n m in reached_back r (known_defined s s' X n Z q ((same n q).definition_is ∙ d))
 
-  same_back : (name : Name) → Reaches s'.table name X → SameName s' s name
-  same_back name r = let q = same name (reached_back r (λ n m. reaches m)) in record { definition_is = sym q.definition_is; layout_is = sym q.layout_is }
+  same_symmetric : (name : Name) → Reaches s'.table name X → SameName s' s name
+  same_symmetric name r = let q = same name (reached_back r (λ n m. reaches m)) in record { definition_is = sym q.definition_is; layout_is = sym q.layout_is }
 
   -- two schemas that say the same of the names reached accept the same buffers, with any limit of depth
   pub same_accepted_within : (bytes : List ℕ) (limit : Option ℕ) (root : ℕ) → AcceptedWithin s bytes limit root X ↔ AcceptedWithin s' bytes limit root X
   same_accepted_within bytes limit root =
-      (λ a. walked s' bytes limit root X (root_again s s' X same bytes (walks s bytes limit root X a)), λ a. walked s bytes limit root X (root_again s' s X same_back bytes (walks s' bytes limit root X a)))
+      (λ a. walked s' bytes limit root X (root_again s s' X same bytes (walks s bytes limit root X a)), λ a. walked s bytes limit root X (root_again s' s X same_symmetric bytes (walks s' bytes limit root X a)))
 
   -- and a check finds the same faults
   pub same_faults : (bytes : List ℕ) (limit : Option ℕ) (root : ℕ) (fault : Fault) → RootTrips s bytes limit root X fault ↔ RootTrips s' bytes limit root X fault
-  same_faults bytes limit root fault = (λ t. root_trips s s' X same bytes t, λ t. root_trips s' s X same_back bytes t)
+  same_faults bytes limit root fault = (λ t. root_trips s s' X same bytes t, λ t. root_trips s' s X same_symmetric bytes t)

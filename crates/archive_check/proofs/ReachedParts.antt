@@ -13,8 +13,8 @@ use Rattle.archive_check.specs.Leaves.{regions_of}
 use Rattle.archive_check.specs.Within.{IsPart, first_part, later_part, Within, whole, in_parts, in_choice, in_array, in_named, PartOf, whole_region, in_one, in_run, in_string, PartOfSome}
 use Rattle.archive_check.specs.Denotes.{Meaning, Denotes, fills_unique, fills_shared}
 use Rattle.archive_check.specs.Reached.{Reached}
-use Rattle.archive_check.proofs.OneReading.{contents_one_value}
-use Rattle.archive_check.proofs.OneMeaning.{Filled, AllFilled, fill, tour_fills, fills_one}
+use Rattle.archive_check.proofs.ReadingUnique.{contents_one_value}
+use Rattle.archive_check.proofs.MeaningUnique.{Filled, AllFilled, fill, tour_fills, fills_one}
 use Rattle.archive_check.proofs.Seen.{same_key}
 use Rattle.archive_check.proofs.Texts.{inline_bytes}
 

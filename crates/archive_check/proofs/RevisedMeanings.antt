@@ -9,8 +9,8 @@ use Rattle.archive_check.specs.Tour.{root_region, Rising, Contents, Entry, Accep
 use Rattle.archive_check.specs.Leaves.{Leaf, leaf_begin, leaves, leaves_of_tour, leaves_of, edit, Overwrites, Replaced, StillAccepted}
 use Rattle.archive_check.specs.Denotes.{Meaning, Fills, IsSharedValue, Denotes}
 use Rattle.archive_check.specs.Revised.{Revised, revised_value, revised_shared}
-use Rattle.archive_check.proofs.OneReading.{reads_one, contents_one_value}
-use Rattle.archive_check.proofs.OneMeaning.{fills_one, values_one, tours_one}
+use Rattle.archive_check.proofs.ReadingUnique.{reads_one, contents_one_value}
+use Rattle.archive_check.proofs.MeaningUnique.{fills_one, values_one, tours_one}
 use Rattle.archive_check.proofs.JoinedTours.{rising_front}
 use Rattle.archive_check.proofs.RegionsApart.{Between, leaves_between, tour_between}
 use Rattle.archive_check.proofs.EqualBytes.{reads_agree}

@@ -26,13 +26,13 @@ module _ (s : Schema) (bytes new : List ℕ) (x y : Leaf) where
   same_first [] P h = tt
   same_first (p ∷ O) P h = (h.0, same_first O P (h.1))
 
-  same_then : (O P : List Pointer) → SameAll (O ++ P) → SameAll P
-  same_then [] P h = h
-  same_then (p ∷ O) P h = same_then O P (h.1)
+  same_transitive : (O P : List Pointer) → SameAll (O ++ P) → SameAll P
+  same_transitive [] P h = h
+  same_transitive (p ∷ O) P h = same_transitive O P (h.1)
 
   turned_split : (O P : List Pointer) → TurnedOne (O ++ P) → (TurnedOne O × SameAll P) ⊎ (SameAll O × TurnedOne P)
   turned_split [] P h = inr (tt, h)
-  turned_split (p ∷ O) P (turned_here c h) = inl (turned_here c (same_first O P h), same_then O P h)
+  turned_split (p ∷ O) P (turned_here c h) = inl (turned_here c (same_first O P h), same_transitive O P h)
   turned_split (p ∷ O) P (turned_later c h) = more (turned_split O P h)
     where
       more : (TurnedOne O × SameAll P) ⊎ (SameAll O × TurnedOne P) → (TurnedOne (p ∷ O) × SameAll P) ⊎ (SameAll (p ∷ O) × TurnedOne P)
@@ -61,7 +61,7 @@ module _ (s : Schema) (bytes new : List ℕ) (x y : Leaf) where
     fill_same_all no_value h = (_, fills_no_value, fills_no_value)
     fill_same_all (value v vs) h =
         let r = fill_same v (same_first (pointers v) (all_pointers vs) h) in
-        let q = fill_same_all vs (same_then (pointers v) (all_pointers vs) h) in
+        let q = fill_same_all vs (same_transitive (pointers v) (all_pointers vs) h) in
         (_, fills_value (r.1) (q.1), fills_value (r.2) (q.2))
 
   values_join : (v : Value) (vs : Values) → (TurnedOne (pointers v) × SameAll (all_pointers vs)) ⊎ (SameAll (pointers v) × TurnedOne (all_pointers vs))
@@ -111,8 +111,8 @@ module _ (s : Schema) (bytes new : List ℕ) (x y : Leaf) where
 
     fill_altered_all : {vs us : Values} → AlteredAmong x y vs us → SameAll (all_pointers vs) → TurnedAmong vs us
     fill_altered_all (altered_first {v = v} {vs = vs} a) h =
-        let r = fill_altered a (same_first (pointers v) (all_pointers vs) h) in let q = fill_same_all vs (same_then (pointers v) (all_pointers vs) h) in
+        let r = fill_altered a (same_first (pointers v) (all_pointers vs) h) in let q = fill_same_all vs (same_transitive (pointers v) (all_pointers vs) h) in
         (_, _, fills_value (r.2) (q.1), fills_value (r.3) (q.2), altered_first (r.4))
     fill_altered_all (altered_later {v = v} {vs = vs} a) h =
-        let r = fill_same v (same_first (pointers v) (all_pointers vs) h) in let q = fill_altered_all a (same_then (pointers v) (all_pointers vs) h) in
+        let r = fill_same v (same_first (pointers v) (all_pointers vs) h) in let q = fill_altered_all a (same_transitive (pointers v) (all_pointers vs) h) in
         (_, _, fills_value (r.1) (q.2), fills_value (r.2) (q.3), altered_later (q.4))

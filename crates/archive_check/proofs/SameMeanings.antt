@@ -36,8 +36,8 @@ mutual
   rename_all_again f g no_value = refl
   rename_all_again f g (value v vs) = ap₂ value (rename_again f g v) (rename_all_again f g vs)
 
-pub same_itself : (a : Meaning) → Same a a
-same_itself a = record {
+pub same_reflexive : (a : Meaning) → Same a a
+same_reflexive a = record {
   to = λ t. t;
   from = λ t. t;
   value = sym (rename_same a.value);
@@ -46,11 +46,11 @@ same_itself a = record {
   back = λ t e v h. (refl, rw (rename_same v) h);
 }
 
-pub same_back : {a b : Meaning} → Same a b → Same b a
-same_back h = record { to = h.from; from = h.to; value = h.value_back; value_back = h.value; there = h.back; back = h.there }
+pub same_symmetric : {a b : Meaning} → Same a b → Same b a
+same_symmetric h = record { to = h.from; from = h.to; value = h.value_back; value_back = h.value; there = h.back; back = h.there }
 
-pub same_then : {a b c : Meaning} → Same a b → Same b c → Same a c
-same_then {a} {b} {c} h k = record {
+pub same_transitive : {a b c : Meaning} → Same a b → Same b c → Same a c
+same_transitive {a} {b} {c} h k = record {
   to = λ t. k.to (h.to t);
   from = λ t. h.from (k.from t);
   value = k.value ∙ ap (rename k.to) h.value ∙ rename_again h.to k.to a.value;

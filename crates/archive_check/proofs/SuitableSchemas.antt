@@ -3,20 +3,20 @@ use Rattle.std.proofs.Math.Logic.{∥∥₁_elim, ∥∥₁_map}
 use Rattle.std.specs.Coded.{le_prop}
 use mathlib.Core.Bool.{Bool-set}
 use Rattle.std.proofs.Common.{◌<◌, length, ◌↔◌, inl, inr, ℕ, refl, sym, ◌∙◌, Option, Result}
-use Rattle.archive_check.specs.declared.error.Error.{Error}
-use Rattle.archive_check.specs.declared.plan.Checker.{Checker}
+use Rattle.archive_check.specs.declared.format.error.Error.{Error}
+use Rattle.archive_check.specs.declared.check.Checker.{Checker}
 use Rattle.archive_check.specs.declared.shape.Schema.{Schema as RustSchema}
 use Rattle.archive_check.specs.Shape.{Name}
 use Rattle.archive_check.specs.Reads.{Schema, LaidOut}
 use Rattle.archive_check.specs.Depth.{AcceptedWithin}
 use Rattle.archive_check.specs.Trail.{Fault, RootTrips}
 use Rattle.archive_check.specs.Defined.{Reaches}
-use Rattle.archive_check.specs.Names.{HasAll}
-use Rattle.archive_check.specs.PlanChecks.{PlanOf, PlanAccepts, PlanRefuses, PlanIsExact}
-use Rattle.archive_check.specs.Planned.{IsOf, IsPlan}
+use Rattle.archive_check.specs.plan.Names.{HasAll}
+use Rattle.archive_check.specs.check.PlanChecks.{PlanOf, PlanAccepts, PlanRefuses, PlanIsExact}
+use Rattle.archive_check.specs.plan.Planned.{IsOf, IsPlan}
 use Rattle.archive_check.specs.Schemas.{root_of, table_in, Suits, Accepts, Refuses, IsExact}
-use Rattle.archive_check.specs.SoundPlans.{IsSound}
-use Rattle.archive_check.proofs.SoundPlans.{sound_again}
+use Rattle.archive_check.specs.plan.SoundPlans.{IsSound}
+use Rattle.archive_check.proofs.plan.SoundPlans.{sound_again}
 use Rattle.archive_check.proofs.WellFormed.{reached_within}
 use Rattle.archive_check.proofs.ReachedNames.{SameName, same_accepted_within, same_faults}
 

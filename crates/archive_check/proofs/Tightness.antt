@@ -5,7 +5,7 @@ use Rattle.archive_check.specs.Shape.{Pointee, one, run, text}
 use Rattle.archive_check.specs.Value.{Pointer}
 use Rattle.archive_check.specs.Reads.{Schema, LaidOut}
 use Rattle.archive_check.specs.Tour.{Region, Seen, Tour, tour_end, tour_unique, tour_new, tour_again, Rising, region_of, pointee_align}
-use Rattle.archive_check.specs.Written.{after, Tight}
+use Rattle.archive_check.specs.Tightness.{after, Tight}
 use Rattle.archive_check.specs.CleanRegions.{CleanRegions}
 use Rattle.archive_check.proofs.PositiveAlignments.{align_pos}
 use Rattle.archive_check.proofs.PartsInside.{up_le}

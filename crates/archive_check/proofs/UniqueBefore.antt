@@ -10,7 +10,7 @@ use Rattle.archive_check.specs.Within.{PartOf, whole_region, in_one, in_run, in_
 use Rattle.archive_check.specs.Viewed.{Lies}
 use Rattle.archive_check.proofs.ReachedParts.{part_of_reads}
 use Rattle.archive_check.proofs.JoinedTours.{rising_front, rising_back, rising_le}
-use Rattle.archive_check.proofs.OneReading.{contents_one_value, pos_one}
+use Rattle.archive_check.proofs.ReadingUnique.{contents_one_value, pos_one}
 use Rattle.archive_check.proofs.PartsInside.{within_inside}
 
 -- the pointer, where it is unique, leads to what ends by this position

@@ -14,8 +14,8 @@ use Rattle.archive_check.specs.Reached.{Reached}
 use Rattle.archive_check.specs.Definitions.{Definitions, Knows}
 use Rattle.archive_check.specs.Viewed.{Lies, Says}
 use Rattle.archive_check.proofs.ReachedParts.{part_reached, pointer_reached, root_reached}
-use Rattle.archive_check.proofs.OneReading.{contents_one_value}
-use Rattle.archive_check.proofs.OneMeaning.{fills_one}
+use Rattle.archive_check.proofs.ReadingUnique.{contents_one_value}
+use Rattle.archive_check.proofs.MeaningUnique.{fills_one}
 use Rattle.archive_check.proofs.PartsInside.{within_inside}
 use Rattle.archive_check.proofs.RegionsApart.{before_end_le, bytes_few}
 

@@ -2,15 +2,15 @@
 use Rattle.std.proofs.Common.{◌≡◌, ◌⊎◌, inl, inr, ⊎_elim, ℕ, zero, suc, ◌+◌, ◌<◌, ◌≤◌, [], ◌∷◌, ◌++◌, length, take, get_or, refl, sym, ap, ◌∙◌, arith, true, false, Some, None, Contains}
 use Rattle.std.proofs.lemmas.List.{take_more, take_all, get_or_default}
 use Rattle.std.proofs.lemmas.List.Elements.{Contains-get_or}
-use Rattle.archive_check.specs.declared.error.Error.{Error}
-use Rattle.archive_check.specs.declared.error.Error.TheVariants.{OutOfMemory, ShapeConflict, RecursiveLayout}
+use Rattle.archive_check.specs.declared.format.error.Error.{Error}
+use Rattle.archive_check.specs.declared.format.error.Error.TheVariants.{OutOfMemory, ShapeConflict, RecursiveLayout}
 use Rattle.archive_check.specs.Shape.{Name, Shape, str, Table, definition}
 use Rattle.archive_check.specs.Defined.{Holds, Reaches, reaches, reaches_through, HeldIn, held, held_through, AllDefined, WellFormed}
 use Rattle.archive_check.specs.Definitions.{Definitions, listed, Extended, Conflicts}
-use Rattle.archive_check.specs.Names.{missing, Complete, Collected, Arranged, Prepared, HasAll}
+use Rattle.archive_check.specs.plan.Names.{missing, Complete, Collected, Arranged, Prepared, HasAll}
 use Rattle.archive_check.specs.Schemas.{ExplainsNoSchema}
-use Rattle.archive_check.proofs.Named.{names_decided, definition_here, definition_other}
-use Rattle.archive_check.proofs.MissingNames.{IsDefined, held_defined, mentioned_defined, none_near, none_missed}
+use Rattle.archive_check.proofs.plan.Named.{names_decided, definition_here, definition_other}
+use Rattle.archive_check.proofs.plan.MissingNames.{IsDefined, held_defined, mentioned_defined, none_near, none_missed}
 use Rattle.archive_check.proofs.Elements.{contains_cases, contains_later}
 use Rattle.archive_check.proofs.LaidOutNames.{Ordered, ordered_none, ordered_next, ordered_never, names_of, names_of-push, names_of-nil, defined_named}
 

@@ -1,9 +1,9 @@
 -- What is answered where a definition is added to others.
 use Rattle.std.specs.Prelude.{◌≡◌, ◌≢◌, Bool, true, false, Option, Some, None, Result, Ok, Err}
 use Rattle.std.specs.Borrow.{Bor}
-use Rattle.archive_check.specs.declared.error.Error.{Error}
-use Rattle.archive_check.specs.declared.error.Error.TheVariants.{OutOfMemory, ShapeConflict}
-use Rattle.archive_check.specs.declared.expr.Expr.{Expr}
+use Rattle.archive_check.specs.declared.format.error.Error.{Error}
+use Rattle.archive_check.specs.declared.format.error.Error.TheVariants.{OutOfMemory, ShapeConflict}
+use Rattle.archive_check.specs.declared.format.expr.Expr.{Expr}
 use Rattle.archive_check.specs.Shape.{Shape}
 use Rattle.archive_check.specs.Expressions.{shape_of}
 

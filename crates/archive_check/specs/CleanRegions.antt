@@ -4,10 +4,10 @@ use Rattle.archive_check.specs.Shape.{Name, Kind, Flavor, Shape, leaf, parts, ch
 use Rattle.archive_check.specs.Layout.{up, size_of, align_of}
 use Rattle.archive_check.specs.Reads.{Schema, bytes_at, i32_at, length_at, before_end, IsOutOfLine}
 use Rattle.archive_check.specs.Tour.{Region}
-use Rattle.archive_check.specs.Written.{after}
+use Rattle.archive_check.specs.Tightness.{after}
 
 -- these bytes stand in the buffer at p
-pub record Stands (bytes : List ℕ) (p : ℕ) (a : List ℕ) : Type 0 where
+pub record Occurs (bytes : List ℕ) (p : ℕ) (a : List ℕ) : Type 0 where
   pub before : List ℕ
   pub behind : List ℕ
   pub is : bytes ≡ before ++ (a ++ behind)

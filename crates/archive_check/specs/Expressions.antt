@@ -3,17 +3,17 @@ use Rattle.std.specs.Prelude.{List, [], ◌∷◌}
 use Rattle.std.specs.Int.{Width, w8, w16, w32, w64, w128}
 use Rattle.std.specs.declared.vec.Vec.{Vec as RustVec}
 use Rattle.std.specs.declared.alloc.Global.{Global}
-use Rattle.archive_check.specs.declared.expr.IntegerKind.{IntegerKind}
-use Rattle.archive_check.specs.declared.expr.IntegerKind.TheVariants.{U8, I8, U16, I16, U32, I32, U64, I64, U128, I128}
-use Rattle.archive_check.specs.declared.expr.Kind.{Kind as KindExpr}
-use Rattle.archive_check.specs.declared.expr.Kind.TheVariants.{Unit as UnitKind, Bool as BoolKind, Char as CharKind, Number, NonZero, RawRel}
-use Rattle.archive_check.specs.declared.expr.FlavorInfo.{FlavorInfo}
-use Rattle.archive_check.specs.declared.expr.Pointee.{Pointee as PointeeExpr}
-use Rattle.archive_check.specs.declared.expr.Pointee.TheVariants as pointee
-use Rattle.archive_check.specs.declared.expr.Expr.{Expr, Row_of-Expr, end_of-Expr, more_of-Expr, Row_of-Expr-Choice-1-1, end_of-Expr-Choice-1-1, more_of-Expr-Choice-1-1}
-use Rattle.archive_check.specs.declared.expr.Expr.TheVariants as expr
-use Rattle.archive_check.specs.declared.defs.Def.{Def}
-use Rattle.archive_check.specs.declared.defs.Defs.{Defs}
+use Rattle.archive_check.specs.declared.format.expr.IntegerKind.{IntegerKind}
+use Rattle.archive_check.specs.declared.format.expr.IntegerKind.TheVariants.{U8, I8, U16, I16, U32, I32, U64, I64, U128, I128}
+use Rattle.archive_check.specs.declared.format.expr.Kind.{Kind as KindExpr}
+use Rattle.archive_check.specs.declared.format.expr.Kind.TheVariants.{Unit as UnitKind, Bool as BoolKind, Char as CharKind, Number, NonZero, RawRel}
+use Rattle.archive_check.specs.declared.format.expr.FlavorInfo.{FlavorInfo}
+use Rattle.archive_check.specs.declared.format.expr.Pointee.{Pointee as PointeeExpr}
+use Rattle.archive_check.specs.declared.format.expr.Pointee.TheVariants as pointee
+use Rattle.archive_check.specs.declared.format.expr.Expr.{Expr, Row_of-Expr, end_of-Expr, more_of-Expr, Row_of-Expr-Choice-1-1, end_of-Expr-Choice-1-1, more_of-Expr-Choice-1-1}
+use Rattle.archive_check.specs.declared.format.expr.Expr.TheVariants as expr
+use Rattle.archive_check.specs.declared.format.defs.Def.{Def}
+use Rattle.archive_check.specs.declared.format.defs.Defs.{Defs}
 use Rattle.archive_check.specs.Shape.{Sign, unsigned, signed, Kind, unit, bool, char, number, non_zero, raw_rel, Flavor, Shape, leaf, parts, choice, array, boxed, vec, str, shared, weak, named, Pointee, one, run, text, Parts, no_part, part, Variants, no_variant, variant, Table}
 
 -- the sign of an integer

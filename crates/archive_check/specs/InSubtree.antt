@@ -1,8 +1,8 @@
 -- A call within a region: the check of the region, its push, the call and the pop, up to the first of them that is refused.
 use Rattle.std.specs.Prelude.{◌≡◌, ℕ, ◌+◌, ℤ, pos, Some, Result, Ok, Err}
 use Rattle.std.specs.Borrow.{MutBor}
-use Rattle.archive_check.specs.declared.error.Error.{Error}
-use Rattle.archive_check.specs.declared.error.Error.TheVariants.{ExceededMaximumSubtreeDepth}
+use Rattle.archive_check.specs.declared.format.error.Error.{Error}
+use Rattle.archive_check.specs.declared.format.error.Error.TheVariants.{ExceededMaximumSubtreeDepth}
 use Rattle.archive_check.specs.Ranges.{RangeState, subtree_answer, pushed, pop_answer, popped}
 use Rattle.archive_check.specs.PositionStates.{Positions}
 

@@ -1,8 +1,8 @@
 -- The calls of a pool on the positions that are read, as functions of what is known there. A refused call leaves all as it was.
 use Rattle.std.specs.Prelude.{ℕ, nat_eq, Option, Some, None, Result, Ok, Err}
 use Rattle.std.specs.Map.{update}
-use Rattle.archive_check.specs.declared.error.Error.{Error}
-use Rattle.archive_check.specs.declared.error.Error.TheVariants.{NotStarted, AlreadyFinished}
+use Rattle.archive_check.specs.declared.format.error.Error.{Error}
+use Rattle.archive_check.specs.declared.format.error.Error.TheVariants.{NotStarted, AlreadyFinished}
 use Rattle.archive_check.specs.Value.{Value}
 
 -- none where a position is unknown, then pending, then finished with a value

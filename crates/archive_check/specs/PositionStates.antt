@@ -2,10 +2,10 @@
 use Rattle.std.specs.Ordering.{int_eq}
 use Rattle.std.specs.Prelude.{◌≡◌, ◌≢◌, ℤ, Bool, true, false, Option, Some, None, option_map, cond, Result, Ok, Err}
 use Rattle.std.specs.Map.{update}
-use Rattle.archive_check.specs.declared.error.Error.{Error}
-use Rattle.archive_check.specs.declared.error.Error.TheVariants.{OutOfMemory, NotStarted, AlreadyFinished, TypeMismatch, MetadataMismatch}
-use Rattle.archive_check.specs.declared.validation.ValidationState.{ValidationState}
-use Rattle.archive_check.specs.declared.validation.ValidationState.TheVariants.{Started, Pending, Finished}
+use Rattle.archive_check.specs.declared.format.error.Error.{Error}
+use Rattle.archive_check.specs.declared.format.error.Error.TheVariants.{OutOfMemory, NotStarted, AlreadyFinished, TypeMismatch, MetadataMismatch}
+use Rattle.archive_check.specs.declared.context.ValidationState.{ValidationState}
+use Rattle.archive_check.specs.declared.context.ValidationState.TheVariants.{Started, Pending, Finished}
 use Rattle.archive_check.specs.Tour.{Entry}
 
 -- how a position was first met, and whether what lies there is checked to its end

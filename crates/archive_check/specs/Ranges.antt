@@ -1,7 +1,7 @@
 -- The calls of a check on its range, as functions of the range.
 use Rattle.std.specs.Prelude.{ℕ, ◌+◌, ◌%◌, Bool, ◌&&◌, ◌==◌, nat_le, nat_lt, if◌then◌else◌, min, ℤ, pos, negsuc, Option, Some, None, Result, Ok, Err}
-use Rattle.archive_check.specs.declared.error.Error.{Error}
-use Rattle.archive_check.specs.declared.error.Error.TheVariants.{InvalidSubtreePointer, UnalignedPointer, RangePoppedTooManyTimes, RangePoppedOutOfOrder}
+use Rattle.archive_check.specs.declared.format.error.Error.{Error}
+use Rattle.archive_check.specs.declared.format.error.Error.TheVariants.{InvalidSubtreePointer, UnalignedPointer, RangePoppedTooManyTimes, RangePoppedOutOfOrder}
 use Rattle.archive_check.specs.Depth.{inside}
 
 -- where regions may lie, how many levels are left (none: no limit), and how many regions were entered

@@ -1,6 +1,6 @@
 -- What the region of a pointer takes, under all definitions that come with its pointee.
 use Rattle.std.specs.Prelude.{◌≡◌, ◌⊎◌, ℕ, ◌<◌, ◌≤◌, ◌^◌, min}
-use Rattle.archive_check.specs.declared.layout.Layout.{Layout as RustLayout}
+use Rattle.archive_check.specs.declared.format.layout.Layout.{Layout as RustLayout}
 use Rattle.archive_check.specs.Shape.{Pointee, one, run, text}
 use Rattle.archive_check.specs.Reads.{Schema}
 use Rattle.archive_check.specs.Definitions.{Definitions, Knows}

@@ -1,9 +1,9 @@
 -- What a schema of the program stands for, and what its check says. What it says is a fact, so it stands between ∥ and ∥₁: there is a tour, or a
 -- trail, and which one doesn't matter, since there is no other.
 use Rattle.std.specs.Prelude.{◌≡◌, ◌⊎◌, ◌↔◌, ℕ, ◌≤◌, ◌^◌, List, Option, Some, IsSome, Result, IsOk, IsErrOf}
-use Rattle.archive_check.specs.declared.error.Error.{Error}
-use Rattle.archive_check.specs.declared.error.Error.TheVariants.{OutOfMemory, ShapeConflict, RecursiveLayout}
-use Rattle.archive_check.specs.declared.layout.Layout.{Layout as RustLayout}
+use Rattle.archive_check.specs.declared.format.error.Error.{Error}
+use Rattle.archive_check.specs.declared.format.error.Error.TheVariants.{OutOfMemory, ShapeConflict, RecursiveLayout}
+use Rattle.archive_check.specs.declared.format.layout.Layout.{Layout as RustLayout}
 use Rattle.archive_check.specs.declared.shape.Schema.{Schema as RustSchema}
 use Rattle.archive_check.specs.Shape.{Name, Shape, Table, definition}
 use Rattle.archive_check.specs.Expressions.{shape_of, entries_of}

@@ -1,43 +1,43 @@
 -- The shared positions that a validator keeps, as a check speaks of them.
 use Rattle.std.specs.Prelude.{◌≡◌, ℕ, ℤ, List, ◌++◌, length, ◌<◌, Option, Some, None, option_map, slice_get}
 use Rattle.std.specs.Option.{ForSome}
-use Rattle.archive_check.specs.declared.plan.Sort.{Sort}
-use Rattle.archive_check.specs.declared.shared.SharedPosition.{SharedPosition}
+use Rattle.archive_check.specs.declared.plan.SharedType.{SharedType}
+use Rattle.archive_check.specs.declared.context.positions.SharedPosition.{SharedPosition}
 use Rattle.archive_check.specs.Expressions.{flavor_of, pointee_of}
 use Rattle.archive_check.specs.Shape.{Flavor, Pointee}
 use Rattle.archive_check.specs.PositionStates.{PositionState, Positions}
 
 -- a position of this type was met
-abbrev pub met_as : SharedPosition → Sort → PositionState
-met_as kept sort = record {
-  entry = record { flavor = flavor_of sort.flavor; pointee = pointee_of sort.pointee; length = kept.length };
+abbrev pub met_as : SharedPosition → SharedType → PositionState
+met_as kept shared_type = record {
+  entry = record { flavor = flavor_of shared_type.flavor; pointee = pointee_of shared_type.pointee; length = kept.length };
   finished = kept.finished;
 }
 
-abbrev pub met_in : List Sort → Option SharedPosition → Option PositionState
-met_in sorts None = None
-met_in sorts (Some kept) = option_map (met_as kept) (slice_get sorts kept.sort)
+abbrev pub met_in : List SharedType → Option SharedPosition → Option PositionState
+met_in shared_types None = None
+met_in shared_types (Some kept) = option_map (met_as kept) (slice_get shared_types kept.shared_type)
 
 -- the positions that are kept, with their types from a list
-abbrev pub positions_in : List Sort → (ℤ → Option SharedPosition) → Positions
-positions_in sorts kept position = met_in sorts (kept position)
+abbrev pub positions_in : List SharedType → (ℤ → Option SharedPosition) → Positions
+positions_in shared_types kept position = met_in shared_types (kept position)
 
 -- each position's type is in the list
-abbrev pub AreKnown : List Sort → (ℤ → Option SharedPosition) → Type 0
-AreKnown sorts kept = (position : ℤ) → ForSome (kept position) (λ k. k.sort < length sorts)
+abbrev pub AreKnown : List SharedType → (ℤ → Option SharedPosition) → Type 0
+AreKnown shared_types kept = (position : ℤ) → ForSome (kept position) (λ k. k.shared_type < length shared_types)
 
 -- the type at a place of a list
-pub record HasType (sorts : List Sort) (place : ℕ) (flavor : Flavor) (pointee : Pointee) : Type 0 where
-  pub sort : Sort
-  pub at : slice_get sorts place ≡ Some sort
-  pub flavor_is : flavor_of sort.flavor ≡ flavor
-  pub pointee_is : pointee_of sort.pointee ≡ pointee
+pub record HasType (shared_types : List SharedType) (place : ℕ) (flavor : Flavor) (pointee : Pointee) : Type 0 where
+  pub shared_type : SharedType
+  pub at : slice_get shared_types place ≡ Some shared_type
+  pub flavor_is : flavor_of shared_type.flavor ≡ flavor
+  pub pointee_is : pointee_of shared_type.pointee ≡ pointee
 
 -- no place of a list has the type
-abbrev pub IsAbsent : List Sort → Flavor → Pointee → Type 0
-IsAbsent sorts flavor pointee = (place : ℕ) → HasType sorts place flavor pointee → ⊥
+abbrev pub IsAbsent : List SharedType → Flavor → Pointee → Type 0
+IsAbsent shared_types flavor pointee = (place : ℕ) → HasType shared_types place flavor pointee → ⊥
 
 -- a list with more types at its end
-pub record IsGrown (old new : List Sort) : Type 0 where
-  pub more : List Sort
+pub record IsGrown (old new : List SharedType) : Type 0 where
+  pub more : List SharedType
   pub is : new ≡ old ++ more

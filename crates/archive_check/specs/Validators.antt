@@ -2,14 +2,14 @@
 use Rattle.std.specs.Prelude.{ℕ, Option, None, Some, Box}
 use Rattle.std.specs.HashMap.{get, spare}
 use Rattle.std.specs.Ordering.{int_eq}
-use Rattle.archive_check.specs.declared.shared.SharedValidator.{SharedValidator}
-use Rattle.archive_check.specs.declared.validator.Validator.{Validator}
+use Rattle.archive_check.specs.declared.context.positions.SharedValidator.{SharedValidator}
+use Rattle.archive_check.specs.declared.context.validator.Validator.{Validator}
 use Rattle.archive_check.specs.PositionStates.{Positions, nothing_met}
 use Rattle.archive_check.specs.SharedPositions.{positions_in}
 
 -- the positions that a validator of shared ones met
 abbrev pub positions_of : {A : Type 0} → SharedValidator A → Positions
-positions_of v = positions_in v.sorts.items (get int_eq v.positions)
+positions_of v = positions_in v.shared_types.items (get int_eq v.positions)
 
 -- those that were met, where the validator of shared ones is made at the first
 abbrev pub positions_met : {A B : Type 0} → Option (Box (SharedValidator A) B) → Positions

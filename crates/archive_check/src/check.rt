@@ -2,36 +2,36 @@
 
 ghost use Rattle.std.specs.Prelude.{◌≡◌, ◌⊎◌, ◌+◌, ◌*◌, ◌<◌, ◌≤◌, ◌∷◌, ℕ, [], pos, length, slice_index, OnOk, IfErr, OnSome, IfSome, IfNone, IsTrue, Some, None, Ok, Err, is_err, ◌≢◌, true, false};
 ghost use Rattle.std.specs.FinMap.{empty};
-ghost use Rattle.archive_check.specs.declared.error.Error.TheVariants.{OutOfMemory};
-ghost use Rattle.archive_check.specs.declared.plan.Target.TheVariants.{One, Text};
-ghost use Rattle.archive_check.specs.declared.work.Work.TheVariants.{Part as PartWork, Parts as PartsWork};
+ghost use Rattle.archive_check.specs.declared.format.error.Error.TheVariants.{OutOfMemory};
+ghost use Rattle.archive_check.specs.declared.plan.PointeeKind.TheVariants.{One, Text};
+ghost use Rattle.archive_check.specs.declared.check.worklist.Work.TheVariants.{Part as PartWork, Parts as PartsWork};
 ghost use Rattle.archive_check.specs.declared.plan.Part.{Part};
 ghost use Rattle.archive_check.specs.Ranges.{subtree_answer, pop_answer, popped};
 ghost use Rattle.archive_check.specs.Tour.{Seen};
 ghost use Rattle.archive_check.specs.Trail.{Fault};
-ghost use Rattle.archive_check.specs.Runs.{target_count, target_length, target_size, IsAt, Takes, RegionIs, EnterRuns, done, refused};
-ghost use Rattle.archive_check.specs.Lists.{list_of};
-ghost use Rattle.archive_check.specs.SoundPlans.{IsSound};
+ghost use Rattle.archive_check.specs.check.Runs.{pointee_count, pointee_length, pointer_bytes, IsAt, Takes, RegionIs, EnterRuns, done, refused};
+ghost use Rattle.archive_check.specs.check.Lists.{list_of};
+ghost use Rattle.archive_check.specs.plan.SoundPlans.{IsSound};
 ghost use Rattle.archive_check.specs.Faults.{IsFor};
-ghost use Rattle.archive_check.specs.Fresh.{IsFresh};
-ghost use Rattle.archive_check.specs.Shallow.{IsMarked};
-ghost use Rattle.archive_check.specs.Entered.{Entered};
-ghost use Rattle.archive_check.specs.Through.{Through, Stops, region_rule, contents_rule};
-ghost use Rattle.archive_check.specs.declared.plan.Target.{Target as TargetOf};
-ghost use Rattle.archive_check.specs.LoopInvariant.{PointeeFits, PartFits, PartsFit, ElementsFit, Stays, PartStays, LiesLegal, Ready, stage, Listing, Entering, Following, TurnLeads, Keeps, IsStopped, power, level, cost};
+ghost use Rattle.archive_check.specs.FreshContexts.{IsFresh};
+ghost use Rattle.archive_check.specs.plan.Shallow.{IsMarked};
+ghost use Rattle.archive_check.specs.check.Entered.{Entered};
+ghost use Rattle.archive_check.specs.check.Through.{Through, Stops, region_rule, contents_rule};
+ghost use Rattle.archive_check.specs.declared.plan.PointeeKind.{PointeeKind as PointeeKindOf};
+ghost use Rattle.archive_check.specs.check.LoopInvariant.{PointeeFits, PartFits, PartsFit, ElementsFit, IsLegalHere, PartIsLegalHere, LiesLegal, Ready, stage, Listing, Entering, Following, TurnLeads, Keeps, IsStopped, power, level, cost};
 
-use crate::bytes::{is_text, read_i32, read_position, read_u32};
-use crate::error::Error;
-use crate::extents::times;
-use crate::layout::Layout;
-use crate::leaf::is_legal;
-use crate::plan::{Checker, Job, Span, Target};
-use crate::validation::{ArchiveContext, SharedContext, ValidationState};
-use crate::work::{Work, Worklist};
+use crate::format::bytes::{is_text, read_i32, read_position, read_u32};
+use crate::format::error::Error;
+use crate::plan::extents::times;
+use crate::format::layout::Layout;
+use crate::format::leaf::is_legal;
+use crate::plan::{Checker, NodeKind, Span, PointeeKind};
+use crate::context::{ArchiveContext, SharedContext, ValidationState};
+use crate::check::worklist::{Work, Worklist};
 use std::ops::Range;
 
 /// The position as an index.
-fn place(position: i128) -> usize
+fn index_of(position: i128) -> usize
     requires { (t : ℕ) × (position ≡ pos t) × (t < 18446744073709551616) }
     ensures { position ≡ pos result }
 {
@@ -106,24 +106,24 @@ pub struct Region {
 
 impl Checker<'_> {
     /// How many there are behind the pointer at `at`.
-    pub fn count(&self, target: Target, at: usize) -> usize
-        requires { at + target_size target ≤ length self.now.bytes.now }
-        ensures { result ≡ target_count self.now.bytes.now at target }
+    pub fn count(&self, target: PointeeKind, at: usize) -> usize
+        requires { at + pointer_bytes target ≤ length self.now.bytes.now }
+        ensures { result ≡ pointee_count self.now.bytes.now at target }
     {
         match target {
-            Target::One => 1,
-            Target::Run | Target::Text => read_u32(self.bytes, at + 4) as usize,
+            PointeeKind::One => 1,
+            PointeeKind::Run | PointeeKind::Text => read_u32(self.bytes, at + 4) as usize,
         }
     }
 
     /// The length that stands in the pointer at `at`: 0 for one value.
-    fn length(&self, target: Target, at: usize) -> usize
-        requires { at + target_size target ≤ length self.now.bytes.now }
-        ensures { result ≡ target_length self.now.bytes.now at target }
+    fn length(&self, target: PointeeKind, at: usize) -> usize
+        requires { at + pointer_bytes target ≤ length self.now.bytes.now }
+        ensures { result ≡ pointee_length self.now.bytes.now at target }
     {
         match target {
-            Target::One => 0,
-            Target::Run | Target::Text => read_u32(self.bytes, at + 4) as usize,
+            PointeeKind::One => 0,
+            PointeeKind::Run | PointeeKind::Text => read_u32(self.bytes, at + 4) as usize,
         }
     }
 
@@ -142,32 +142,32 @@ impl Checker<'_> {
     }
 
     /// Whether the node at `at` is a leaf that is legal, or any bytes.
-    pub fn stays(&self, node: usize, at: usize) -> bool
+    pub fn is_legal_here(&self, node: usize, at: usize) -> bool
         requires sound { IsSound self.now }
         requires fits { PartFits self.now node at }
-        ensures stays { IsTrue result → Stays self.now node at }
+        ensures legal { IsTrue result → IsLegalHere self.now node at }
         ensures opened { LiesLegal self.now node at → IsTrue result }
     {
         let here = self.nodes[node];
-        match here.job {
-            Job::Free => true,
-            Job::Leaf(kind) => is_legal(kind, self.bytes, at),
+        match here.kind {
+            NodeKind::Free => true,
+            NodeKind::Leaf(kind) => is_legal(kind, self.bytes, at),
             _ => false,
         }
     }
 
     /// The first of the parts from `first` up to `last`, of what begins at `base`, that is to be opened; `last` where none is.
-    fn skip(&self, first: usize, last: usize, base: usize) -> usize
+    fn first_to_open(&self, first: usize, last: usize, base: usize) -> usize
         requires sound { IsSound self.now }
         requires fits { PartsFit self.now first last base }
         ensures below { result ≤ last }
         ensures above { result < last → first ≤ result }
         ensures opened { (x : Part) → result < last → IsAt self.now.parts.now result x → LiesLegal self.now x.node (base + x.offset) → ⊥ }
-        ensures skipped { (k : ℕ) → first ≤ k → k < result → PartStays self.now base k }
+        ensures skipped { (k : ℕ) → first ≤ k → k < result → PartIsLegalHere self.now base k }
     {
         for index in first..last {
             let part = self.parts[index];
-            if !self.stays(part.node, base + part.offset) {
+            if !self.is_legal_here(part.node, base + part.offset) {
                 return index;
             }
         }
@@ -175,16 +175,16 @@ impl Checker<'_> {
     }
 
     /// How many of the elements at `at`, each of `size` bytes, come before the first that is to be opened; `count` where none is.
-    pub fn pass(&self, node: usize, count: usize, at: usize, size: usize) -> usize
+    pub fn count_legal(&self, node: usize, count: usize, at: usize, size: usize) -> usize
         requires sound { IsSound self.now }
         requires fits { ElementsFit self.now node count at }
         requires size { Takes self.now node size }
         ensures below { result ≤ count }
         ensures opened { result < count → LiesLegal self.now node (at + result * size) → ⊥ }
-        ensures passed { (k : ℕ) → k < result → Stays self.now node (at + k * size) }
+        ensures passed { (k : ℕ) → k < result → IsLegalHere self.now node (at + k * size) }
     {
         for index in 0..count {
-            if !self.stays(node, at + index * size) {
+            if !self.is_legal_here(node, at + index * size) {
                 return index;
             }
         }
@@ -203,7 +203,7 @@ impl Checker<'_> {
     ) -> Option<Region>
         requires known { pointee < length self.now.nodes.now }
         ensures entered { IfSome result (λ r. Entered self.now pointee count position (C.state context.old) (C.state context.new) r) }
-        ensures stops { IfNone result ((target : TargetOf) → Stops (region_rule self.now target pointee count position) (C.state context.old) work.new.fault) }
+        ensures stops { IfNone result ((target : PointeeKindOf) → Stops (region_rule self.now target pointee count position) (C.state context.old) work.new.fault) }
         ensures list { OnSome result (list_of work.new ≡ list_of work.old) }
         ensures positions { OnSome result (C.positions context.new ≡ C.positions context.old) }
     {
@@ -219,7 +219,7 @@ impl Checker<'_> {
             refuse_region(position, &layout, work, context);
             return None;
         }
-        let begin = place(position);
+        let begin = index_of(position);
         let Ok(Range { start, end }) = context.push_subtree_range(begin, begin + size) else {
             return work.refuse(Error::ExceededMaximumSubtreeDepth);
         };
@@ -235,7 +235,7 @@ impl Checker<'_> {
     #[inline(always)]
     fn contents<C: ArchiveContext>(
         &self,
-        target: Target,
+        target: PointeeKind,
         pointee: usize,
         count: usize,
         begin: usize,
@@ -255,14 +255,14 @@ impl Checker<'_> {
         ensures list { OnSome result (list_of work.new ≡ list_of work.old) }
         ensures positions { OnSome result (C.positions context.new ≡ C.positions context.old) }
     {
-        if let Target::Text = target {
+        if let PointeeKind::Text = target {
             if !is_text(self.bytes, begin, size) {
                 return work.refuse(Error::InvalidUtf8);
             }
             return Some(true);
         }
         let here = self.nodes[pointee];
-        if let Job::Free = here.job {
+        if let NodeKind::Free = here.kind {
             return Some(true);
         }
         if size == 0 {
@@ -272,7 +272,7 @@ impl Checker<'_> {
             return Some(false);
         }
         match target {
-            Target::One => self.check_shallow(pointee, begin, work, context)?,
+            PointeeKind::One => self.check_shallow(pointee, begin, work, context)?,
             _ => self.check_shallow_elements(pointee, count, begin, work, context)?,
         }
         Some(true)
@@ -282,7 +282,7 @@ impl Checker<'_> {
     #[inline(always)]
     fn enter_here<C: ArchiveContext>(
         &self,
-        target: Target,
+        target: PointeeKind,
         pointee: usize,
         count: usize,
         position: i128,
@@ -311,7 +311,7 @@ impl Checker<'_> {
         }
         work.leave(start, end)?;
         match target {
-            Target::One => work.part(pointee, begin),
+            PointeeKind::One => work.part(pointee, begin),
             _ => work.elements(pointee, count, begin),
         }
     }
@@ -319,7 +319,7 @@ impl Checker<'_> {
     /// Enters a region so by a call.
     fn enter<C: ArchiveContext>(
         &self,
-        target: Target,
+        target: PointeeKind,
         pointee: usize,
         count: usize,
         position: i128,
@@ -342,8 +342,8 @@ impl Checker<'_> {
     /// Follows the shared pointer at `at`. What lies at a position that was met before isn't checked again.
     fn follow<C: ArchiveContext + SharedContext>(
         &self,
-        sort: usize,
-        target: Target,
+        shared_type: usize,
+        target: PointeeKind,
         pointee: usize,
         at: usize,
         work: &mut Worklist,
@@ -352,24 +352,24 @@ impl Checker<'_> {
         requires sound { IsSound self.now }
         requires marked { IsMarked self.now }
         requires ready { Ready self.now (C.state context.old) (list_of work.old) }
-        requires within { at + target_size target ≤ length self.now.bytes.now }
-        requires sort { sort < length self.now.sorts.now }
+        requires within { at + pointer_bytes target ≤ length self.now.bytes.now }
+        requires shared_type { shared_type < length self.now.shared_types.now }
         requires pointee { pointee < length self.now.nodes.now }
         ensures ready { OnSome result (Ready self.now (C.state context.new) (list_of work.new)) }
-        ensures runs { Keeps self.now (Following self.now sort target pointee at) (stage (C.state context.old) (C.positions context.old) (list_of work.old)) (stage (C.state context.new) (C.positions context.new) (list_of work.new)) result work.new.fault }
+        ensures runs { Keeps self.now (Following self.now shared_type target pointee at) (stage (C.state context.old) (C.positions context.old) (list_of work.old)) (stage (C.state context.new) (C.positions context.new) (list_of work.new)) result work.new.fault }
         ensures ends { OnSome result (cost self.now (C.state context.new).end (list_of work.new) ≤ 1 + (power (level (length self.now.nodes.now) (C.state context.old).end 0 0) + cost self.now (C.state context.old).end (list_of work.old))) }
     {
         let count = self.count(target, at);
         let length = self.length(target, at);
         let position = read_position(self.bytes, at, at);
-        let kind = &self.sorts[sort];
+        let kind = &self.shared_types[shared_type];
         match context.start_shared(&kind.flavor, &kind.pointee, position, length) {
             Err(error) => work.refuse(error),
             Ok(ValidationState::Started) => {
                 let Ok(begin) = usize::try_from(position) else {
                     return self.enter(target, pointee, count, position, work, context);
                 };
-                work.finish(sort, begin)?;
+                work.finish(shared_type, begin)?;
                 self.enter(target, pointee, count, position, work, context)
             }
             Ok(ValidationState::Pending) => {
@@ -399,7 +399,7 @@ impl Checker<'_> {
         ensures runs { Keeps self.now (Listing self.now) (stage (C.state context.old) (C.positions context.old) (PartsWork first last base ∷ list_of work.old)) (stage (C.state context.new) (C.positions context.new) (list_of work.new)) result work.new.fault }
         ensures ends { OnSome result (cost self.now (C.state context.new).end (list_of work.new) < cost self.now (C.state context.old).end (PartsWork first last base ∷ list_of work.old)) }
     {
-        let next = self.skip(first, last, base);
+        let next = self.first_to_open(first, last, base);
         if next >= last {
             return Some(());
         }
@@ -428,38 +428,38 @@ impl Checker<'_> {
             return self.check_shallow(node, at, work, context);
         }
         let here = self.nodes[node];
-        match here.job {
-            Job::Free | Job::Leaf(_) | Job::Str { .. } => self.check_shallow(
+        match here.kind {
+            NodeKind::Free | NodeKind::Leaf(_) | NodeKind::Str { .. } => self.check_shallow(
                 node, at, work, context,
             ),
-            Job::Record { first, last } => self.open_parts(first, last, at, work, context),
-            Job::Choice { name, first, last } => {
+            NodeKind::Record { first, last } => self.open_parts(first, last, at, work, context),
+            NodeKind::Choice { name, first, last } => {
                 let Some(variant) = self.variant(first, last, at) else {
                     let value = self.bytes[at];
                     return work.refuse(Error::InvalidDiscriminant { name, value });
                 };
                 self.open_parts(variant.first, variant.last, at, work, context)
             }
-            Job::Array { count, element } => work.elements(element, count, at),
-            Job::Pointer { target, pointee } => {
+            NodeKind::Array { count, element } => work.elements(element, count, at),
+            NodeKind::Pointer { target, pointee } => {
                 let count = self.count(target, at);
                 let position = read_position(self.bytes, at, at);
                 self.enter(target, pointee, count, position, work, context)
             }
-            Job::Shared {
-                sort,
+            NodeKind::Shared {
+                shared_type,
                 target,
                 pointee,
-            } => { self.follow(sort, target, pointee, at, work, context) }
-            Job::Weak {
-                sort,
+            } => { self.follow(shared_type, target, pointee, at, work, context) }
+            NodeKind::Weak {
+                shared_type,
                 target,
                 pointee,
             } => {
                 if read_i32(self.bytes, at) == 1 {
                     return Some(());
                 }
-                self.follow(sort, target, pointee, at, work, context)
+                self.follow(shared_type, target, pointee, at, work, context)
             }
         }
     }
@@ -483,11 +483,11 @@ impl Checker<'_> {
             Work::Parts { first, last, base } => self.open_parts(first, last, base, work, context),
             Work::Elements { node, left, at } => {
                 let element = self.nodes[node];
-                if let Job::Free = element.job {
+                if let NodeKind::Free = element.kind {
                     return Some(());
                 }
                 let size = element.size.unwrap_or(0);
-                let passed = self.pass(node, left, at, size);
+                let passed = self.count_legal(node, left, at, size);
                 if passed == left {
                     return Some(());
                 }
@@ -496,8 +496,8 @@ impl Checker<'_> {
                 self.open(node, next, work, context)
             }
             Work::Leave { start, end } => leave_region(start, end, work, context),
-            Work::Finish { sort, at } => {
-                let kind = &self.sorts[sort];
+            Work::Finish { shared_type, at } => {
+                let kind = &self.shared_types[shared_type];
                 if let Err(error) = context.finish_shared(&kind.flavor, &kind.pointee, at as i128) {
                     return work.refuse(error);
                 }
@@ -522,7 +522,7 @@ impl Checker<'_> {
         ensures ok { OnSome result (IsFresh (C.state context.old) (C.positions context.old) → (last : ℕ) × (known : Seen) × EnterRuns self.now [] (C.state context.old).depth (C.state context.old).end One root 1 (pos at) (C.state context.old).start empty (done last known)) }
         ensures err { IfNone result ((work.new.fault ≡ OutOfMemory) ⊎ (IsFresh (C.state context.old) (C.positions context.old) → (f : Fault) × IsFor f work.new.fault × EnterRuns self.now [] (C.state context.old).depth (C.state context.old).end One root 1 (pos at) (C.state context.old).start empty (refused f))) }
     {
-        self.enter_here(Target::One, root, 1, at as i128, work, context)?;
+        self.enter_here(PointeeKind::One, root, 1, at as i128, work, context)?;
         while let Some(entry) = work.pop() {
             self.step(entry, work, context)?;
         }

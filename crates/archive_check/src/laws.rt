@@ -1,16 +1,16 @@
 //! The laws of archives. Each is what a function promises that does nothing, so that the check of this crate proves it.
 
-ghost use Rattle.archive_check.specs.Laws.{SomeMeaning, OneMeaning, AcceptedWhereWalked, FaultyNotWalked, FewSubtrees, RegionsDisjoint, LeavesInRegions, LeafEdited, LeafRevised, EmptyRunWalked, PlainRunWalked, PartsReached, OneReached, RootReached, PointersReached, WithinReached, ElementsReached, OneEncoding, PartsInside, SomeLayouts, OneLayout, OneReading, OneTour, OneFault, RefusedKeepsPooled, SameItself, SameBack, SameThen, PartsReachedMeaning, OneReachedMeaning, NamesKnown, RootReachedMeaning};
+ghost use Rattle.archive_check.specs.Laws.{MeaningExists, MeaningUnique, AcceptedWhereWalked, FaultyNotWalked, FewSubtrees, RegionsDisjoint, LeavesInRegions, LeafEdited, LeafRevised, EmptyRunWalked, PlainRunWalked, PartsReached, ReachedUnique, RootReached, PointersReached, WithinReached, ElementsReached, EncodingUnique, PartsInside, LayoutsExist, LayoutUnique, ReadingUnique, TourUnique, FaultUnique, RefusedKeepsPooled, SameReflexive, SameSymmetric, SameTransitive, PartsReachedMeaning, ReachedMeaningUnique, NamesKnown, RootReachedMeaning};
 ghost use Rattle.archive_check.specs.Laws.{SaidReached, UniqueBefore};
 
 /// An accepted buffer has a meaning.
-pub fn some_meaning()
-    ensures { SomeMeaning }
+pub fn meaning_exists()
+    ensures { MeaningExists }
 {}
 
 /// It has no other.
-pub fn one_meaning()
-    ensures { OneMeaning }
+pub fn meaning_unique()
+    ensures { MeaningUnique }
 {}
 
 /// A check's walk comes to an end exactly where the buffer is accepted and no region is too deep.
@@ -64,8 +64,8 @@ pub fn parts_reached()
 {}
 
 /// It says nothing else.
-pub fn one_reached()
-    ensures { OneReached }
+pub fn reached_unique()
+    ensures { ReachedUnique }
 {}
 
 /// The root says what the archive means.
@@ -89,8 +89,8 @@ pub fn elements_reached()
 {}
 
 /// Different legal bytes of a leaf have different values.
-pub fn one_encoding()
-    ensures { OneEncoding }
+pub fn encoding_unique()
+    ensures { EncodingUnique }
 {}
 
 /// What lies within a value lies within its bytes.
@@ -99,28 +99,28 @@ pub fn parts_inside()
 {}
 
 /// The names that a well-formed shape reaches have layouts, no alignment being 0.
-pub fn some_layouts()
-    ensures { SomeLayouts }
+pub fn layouts_exist()
+    ensures { LayoutsExist }
 {}
 
 /// They have no others, nor has the shape.
-pub fn one_layout()
-    ensures { OneLayout }
+pub fn layout_unique()
+    ensures { LayoutUnique }
 {}
 
 /// The bytes at a position say one thing.
-pub fn one_reading()
-    ensures { OneReading }
+pub fn reading_unique()
+    ensures { ReadingUnique }
 {}
 
 /// Pointers are followed on one tour.
-pub fn one_tour()
-    ensures { OneTour }
+pub fn tour_unique()
+    ensures { TourUnique }
 {}
 
 /// A check finds one fault.
-pub fn one_fault()
-    ensures { OneFault }
+pub fn fault_unique()
+    ensures { FaultUnique }
 {}
 
 /// A refused call on a pooled position changes nothing.
@@ -129,18 +129,18 @@ pub fn refused_keeps_pooled()
 {}
 
 /// Each meaning is the same as itself.
-pub fn same_itself()
-    ensures { SameItself }
+pub fn same_reflexive()
+    ensures { SameReflexive }
 {}
 
 /// Sameness goes both ways.
-pub fn same_back()
-    ensures { SameBack }
+pub fn same_symmetric()
+    ensures { SameSymmetric }
 {}
 
 /// It goes on from one meaning to the next.
-pub fn same_then()
-    ensures { SameThen }
+pub fn same_transitive()
+    ensures { SameTransitive }
 {}
 
 /// Each part of an archive says something, a map included.
@@ -149,8 +149,8 @@ pub fn parts_reached_meaning()
 {}
 
 /// It says nothing else.
-pub fn one_reached_meaning()
-    ensures { OneReachedMeaning }
+pub fn reached_meaning_unique()
+    ensures { ReachedMeaningUnique }
 {}
 
 /// Each name that what an archive means leads to is known to it.

@@ -2,11 +2,11 @@
 
 ghost use Rattle.std.specs.Prelude.{◌<◌};
 
-use crate::expr::{FlavorInfo, Kind, Pointee};
+use crate::format::expr::{FlavorInfo, Kind, Pointee};
 
 /// How many elements a pointer leads to: one value, a run, or the bytes of a text.
 #[derive(Debug, Clone, Copy, PartialEq, Eq)]
-pub enum Target {
+pub enum PointeeKind {
     /// One value.
     One,
     /// Elements, as many as the pointer's length says.
@@ -15,9 +15,9 @@ pub enum Target {
     Text,
 }
 
-/// What there is to check of a node's bytes. Nodes, parts, variants and sorts are named by their index. A text's pointee is a node of one byte.
+/// What there is to check of a node's bytes. Nodes, parts, variants and shared_types are named by their index. A text's pointee is a node of one byte.
 #[derive(Debug, Clone, Copy)]
-pub enum Job {
+pub enum NodeKind {
     /// Any bytes are legal, and lead nowhere.
     Free,
     /// A leaf.
@@ -40,7 +40,7 @@ pub enum Job {
     },
     /// A pointer to what is its own.
     Pointer {
-        target: Target,
+        target: PointeeKind,
         pointee: usize,
     },
     /// A string, whose text's bytes are such a node each.
@@ -49,14 +49,14 @@ pub enum Job {
     },
     /// A pointer to what others may point to as well.
     Shared {
-        sort: usize,
-        target: Target,
+        shared_type: usize,
+        target: PointeeKind,
         pointee: usize,
     },
     /// Such a pointer, or a null.
     Weak {
-        sort: usize,
-        target: Target,
+        shared_type: usize,
+        target: PointeeKind,
         pointee: usize,
     },
 }
@@ -69,7 +69,7 @@ pub struct Node {
     /// The alignment in bytes.
     pub align: usize,
     /// What there is to check.
-    pub job: Job,
+    pub kind: NodeKind,
     pub ghost positive: { 0 < align },
 }
 
@@ -93,7 +93,7 @@ pub struct Span {
 
 /// What makes two shared pointers of one type: their flavor, and their pointee as it is written.
 #[derive(Debug, Drop)]
-pub struct Sort {
+pub struct SharedType {
     /// The flavor.
     pub flavor: FlavorInfo,
     /// The pointee.
@@ -110,7 +110,7 @@ pub struct Plan {
     /// The variants of choices.
     pub variants: Vec<Span>,
     /// The types of shared pointers.
-    pub sorts: Vec<Sort>,
+    pub shared_types: Vec<SharedType>,
 }
 
 /// A plan, and the bytes that it is checked against.
@@ -122,8 +122,8 @@ pub struct Checker<'p> {
     pub parts: &'p [Part],
     /// Its variants.
     pub variants: &'p [Span],
-    /// Its sorts.
-    pub sorts: &'p [Sort],
+    /// Its shared_types.
+    pub shared_types: &'p [SharedType],
     /// Which nodes are shallow: they lead to nothing but bytes that are legal whatever they are, and texts.
     pub shallow: &'p [bool],
     /// The bytes.

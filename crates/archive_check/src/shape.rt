@@ -2,19 +2,19 @@
 
 ghost use Rattle.std.specs.Prelude.{◌≡◌, length};
 ghost use Rattle.archive_check.specs.Expressions.{shape_of, entries_of};
-ghost use Rattle.archive_check.specs.Shallow.{AreShallow};
-ghost use Rattle.archive_check.specs.Names.{HasAll};
-ghost use Rattle.archive_check.specs.Planned.{IsPlan, HasNames};
+ghost use Rattle.archive_check.specs.plan.Shallow.{AreShallow};
+ghost use Rattle.archive_check.specs.plan.Names.{HasAll};
+ghost use Rattle.archive_check.specs.plan.Planned.{IsPlan, HasNames};
 
-pub use crate::error::Error;
-pub use crate::expr::{Def, Defs, Expr, FlavorInfo, IntegerKind, Kind, Pointee};
-use crate::growing::NamedNode;
-pub use crate::layout::Layout;
-use crate::names::definitions_of;
+pub use crate::format::error::Error;
+pub use crate::format::expr::{Def, Defs, Expr, FlavorInfo, IntegerKind, Kind, Pointee};
+use crate::plan::growing::NamedNode;
+pub use crate::format::layout::Layout;
+use crate::plan::names::definitions_of;
 use crate::plan::{Checker, Plan};
-use crate::shallow::shallow_nodes;
-use crate::traits::Portable;
-use crate::validation::{ArchiveContext, SharedContext};
+use crate::plan::shallow::shallow_nodes;
+use crate::format::traits::Portable;
+use crate::context::{ArchiveContext, SharedContext};
 use std::alloc::Global;
 
 mod layouts;
@@ -39,8 +39,8 @@ pub struct Schema {
 
 impl Schema {
     ghost use Rattle.std.specs.Prelude.{◌≡◌, ◌⊎◌, ◌≤◌, length, OnOk, IfOk, IfErr};
-    ghost use Rattle.archive_check.specs.declared.error.Error.TheVariants.{OutOfMemory, LayoutTooLarge};
-    ghost use Rattle.archive_check.specs.Fresh.{IsWhole};
+    ghost use Rattle.archive_check.specs.declared.format.error.Error.TheVariants.{OutOfMemory, LayoutTooLarge};
+    ghost use Rattle.archive_check.specs.FreshContexts.{IsWhole};
     ghost use Rattle.archive_check.specs.Schemas.{Accepts, Refuses, IsExact, IsSchemaOf, HasHeld, ExplainsNoSchema, IsLayoutOf, IsTooLarge};
     ghost use Rattle.archive_check.specs.Expressions.{shape_of};
 
@@ -102,7 +102,7 @@ impl Schema {
             nodes: &self.plan.nodes,
             parts: &self.plan.parts,
             variants: &self.plan.variants,
-            sorts: &self.plan.sorts,
+            shared_types: &self.plan.shared_types,
             shallow: &self.shallow,
             bytes,
         };

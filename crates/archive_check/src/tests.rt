@@ -1,10 +1,10 @@
 // The calls on a range, the refusals' texts, and what bytes are read as.
 
-use crate::error::Error;
-use crate::expr::{Defs, Expr, IntegerKind, Kind};
-use crate::layout::Layout;
-use crate::traits::{ArchivePointee, Portable};
-use crate::validation::{ArchiveContext, ArchiveValidator};
+use crate::format::error::Error;
+use crate::format::expr::{Defs, Expr, IntegerKind, Kind};
+use crate::format::layout::Layout;
+use crate::format::traits::{ArchivePointee, Portable};
+use crate::context::{ArchiveContext, ArchiveValidator};
 use crate::{bytes, leaf};
 use std::ops::Range;
 use std::test::Fail;
@@ -195,8 +195,8 @@ fn expressions_are_compared_as_written(rt: HostRuntime) {
 
 #[test]
 fn leaves_are_told_by_their_bytes(rt: HostRuntime) -> Result<(), Fail> {
-    use crate::expr::{IntegerKind, Kind};
-    use crate::leaf::is_legal;
+    use crate::format::expr::{IntegerKind, Kind};
+    use crate::format::leaf::is_legal;
 
     assert!(rt; is_legal(Kind::Bool, &[1], 0));
     assert!(rt; !is_legal(Kind::Bool, &[2], 0));

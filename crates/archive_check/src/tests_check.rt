@@ -1,18 +1,18 @@
 // Bytes made by hand: what is accepted, and the first fault of what isn't.
 
 ghost use Rattle.std.specs.Prelude.{◌≢◌, ◌<◌, ◌≤◌, Some, length};
-ghost use Rattle.archive_check.specs.SoundPlans.{IsSound};
-ghost use Rattle.archive_check.specs.Planned.{IsOf};
-ghost use Rattle.archive_check.specs.declared.plan.Checker.{Checker};
+ghost use Rattle.archive_check.specs.plan.SoundPlans.{IsSound};
+ghost use Rattle.archive_check.specs.plan.Planned.{IsOf};
+ghost use Rattle.archive_check.specs.declared.check.Checker.{Checker};
 
-use crate::defs::Def;
-use crate::error::Error;
-use crate::expr::{Expr, FlavorInfo, IntegerKind, Kind, Pointee};
+use crate::format::defs::Def;
+use crate::format::error::Error;
+use crate::format::expr::{Expr, FlavorInfo, IntegerKind, Kind, Pointee};
 use crate::plan::{Checker, Plan};
-use crate::shallow::shallow_nodes;
+use crate::plan::shallow::shallow_nodes;
 use crate::tests_plans::planned;
-use crate::validation::{ArchiveContext, SharedContext};
-use crate::validator::HighValidator;
+use crate::context::{ArchiveContext, SharedContext};
+use crate::context::validator::HighValidator;
 use std::alloc::{AllocError, Global};
 use std::test::Fail;
 
@@ -69,7 +69,7 @@ fn check<C: ArchiveContext + SharedContext>(
         nodes: &plan.nodes,
         parts: &plan.parts,
         variants: &plan.variants,
-        sorts: &plan.sorts,
+        shared_types: &plan.shared_types,
         shallow: &shallow,
         bytes,
     };

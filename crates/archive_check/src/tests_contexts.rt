@@ -1,12 +1,12 @@
 // The calls on shared positions, and calls within a region.
 
-use crate::error::Error;
-use crate::expr::{Expr, FlavorInfo, Kind, Pointee};
-use crate::layout::Layout;
-use crate::shared::SharedValidator;
-use crate::subtree::ArchiveContextExt;
-use crate::validation::{ArchiveContext, ArchiveValidator, SharedContext, ValidationState};
-use crate::validator::Validator;
+use crate::format::error::Error;
+use crate::format::expr::{Expr, FlavorInfo, Kind, Pointee};
+use crate::format::layout::Layout;
+use crate::context::positions::SharedValidator;
+use crate::context::subtree::ArchiveContextExt;
+use crate::context::{ArchiveContext, ArchiveValidator, SharedContext, ValidationState};
+use crate::context::validator::Validator;
 use std::test::Fail;
 
 const RC: FlavorInfo = FlavorInfo {

@@ -1,7 +1,7 @@
 // Expressions are compared as they are written, copied alike, and defined once.
 
-use crate::error::Error;
-use crate::expr::{Defs, Expr, FlavorInfo, IntegerKind, Kind, Pointee};
+use crate::format::error::Error;
+use crate::format::expr::{Defs, Expr, FlavorInfo, IntegerKind, Kind, Pointee};
 use std::alloc::{AllocError, Global};
 use std::test::Fail;
 

@@ -1,10 +1,10 @@
 // Shared positions under budgets of memory: an allocator of a fixed size is handed in, and the size rises, so that the refusal moves from request to
 // request until all are served.
 
-use crate::error::Error;
-use crate::expr::{Expr, FlavorInfo, Kind, Pointee};
-use crate::shared::SharedValidator;
-use crate::validation::{SharedContext, ValidationState};
+use crate::format::error::Error;
+use crate::format::expr::{Expr, FlavorInfo, Kind, Pointee};
+use crate::context::positions::SharedValidator;
+use crate::context::{SharedContext, ValidationState};
 use linked_list_allocator::LocalHeap;
 use std::test::Fail;
 

@@ -2,16 +2,16 @@
 
 ghost use Rattle.std.specs.Prelude.{List, IfOk};
 ghost use Rattle.archive_check.specs.Expressions.{shape_of};
-ghost use Rattle.archive_check.specs.Planned.{IsPlan};
-ghost use Rattle.archive_check.specs.declared.defs.Def.{Def};
+ghost use Rattle.archive_check.specs.plan.Planned.{IsPlan};
+ghost use Rattle.archive_check.specs.declared.format.defs.Def.{Def};
 
-use crate::defs::Def;
-use crate::error::Error;
-use crate::expr::{Expr, FlavorInfo, IntegerKind, Kind, Pointee};
-use crate::growing::is_free;
-use crate::names::{collect, in_order};
+use crate::format::defs::Def;
+use crate::format::error::Error;
+use crate::format::expr::{Expr, FlavorInfo, IntegerKind, Kind, Pointee};
+use crate::plan::growing::is_free;
+use crate::plan::names::{collect, in_order};
 use crate::plan::Plan;
-use crate::shallow::shallow_nodes;
+use crate::plan::shallow::shallow_nodes;
 use std::alloc::{AllocError, Global};
 use std::test::Fail;
 
@@ -69,7 +69,7 @@ fn align_of(plan: &Plan, i: usize) -> Option<usize> {
 
 fn is_free_at(plan: &Plan, i: usize) -> Option<bool> {
     match plan.nodes.get(i) {
-        Some(node) => Some(is_free(node.job)),
+        Some(node) => Some(is_free(node.kind)),
         None => None,
     }
 }
@@ -134,10 +134,10 @@ fn a_shared_pointee_is_kept_as_written(rt: HostRuntime) -> Result<(), Fail> {
     let (plan, node) = planned(rt.alloc(), Vec::new(rt.alloc()), &root)?;
     assert_eq!(rt; plan.nodes.len(), 2);
     assert_eq!(rt; node, 0);
-    match plan.sorts.get(0) {
-        Some(sort) => {
-            assert_eq!(rt; sort.flavor, RC);
-            assert_eq!(rt; sort.pointee, Pointee::Run(number()));
+    match plan.shared_types.get(0) {
+        Some(shared_type) => {
+            assert_eq!(rt; shared_type.flavor, RC);
+            assert_eq!(rt; shared_type.pointee, Pointee::Run(number()));
         }
         None => assert!(rt; false),
     }

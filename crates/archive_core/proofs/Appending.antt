@@ -10,8 +10,8 @@ use Rattle.archive_check.specs.Reads.{Schema}
 use Rattle.archive_check.specs.Tour.{Region, contents_one, Leads, Entry, Seen, tour_end, tour_unique, pointee_size, pointee_align, region_of}
 use Rattle.archive_check.specs.Denotes.{Fills, rename, fills_number, fills_box, fills_unique, fills_product, fills_case, fills_no_value, fills_value}
 use Rattle.archive_check.specs.Reached.{Names, names_product, names_case, names_box, names_first, names_later}
-use Rattle.archive_check.specs.Written.{after}
-use Rattle.archive_check.specs.CleanRegions.{Stands, AreZero, CleanPointee, clean_one}
+use Rattle.archive_check.specs.Tightness.{after}
+use Rattle.archive_check.specs.CleanRegions.{Occurs, AreZero, CleanPointee, clean_one}
 use Rattle.archive_check.specs.WriterState.{KeyStates, WriterState, Pads}
 use Rattle.archive_check.proofs.JoinedTours.{tour_append}
 use Rattle.archive_check.proofs.StandingBytes.{stands_fits, stands_zero, zero_nowhere, stands_begun}
@@ -238,7 +238,7 @@ writes_laid D old new ks p P n x h =
     = λ w k. holds_before w D _ _ _ _ _ ks h.grown (λ key y is. rw h.states is) k in
     let begins : (w : World) → Holds w D new.bytes new.states ks → w.bytes ≡ (h.mid.bytes ++ h.zeros) ++ (h.region ++ _)
     = λ w k. k.begins ∙ ap (λ z. z ++ k.rest) (h.grown ∙ sym (append_assoc h.mid.bytes h.zeros h.region)) ∙ append_assoc (h.mid.bytes ++ h.zeros) h.region k.rest in
-    let stands : (w : World) → Holds w D new.bytes new.states ks → Stands w.bytes p h.region
+    let stands : (w : World) → Holds w D new.bytes new.states ks → Occurs w.bytes p h.region
     = λ w k. record { before = h.mid.bytes ++ h.zeros; behind = k.rest; is = begins w k; at = length-append h.mid.bytes h.zeros ∙ sym h.at } in
     let leads : (w : World) → Holds w D new.bytes new.states ks → Leads w.schema w.bytes (to_pointee p P n) p h.flat
     = λ w k. record { target = refl; fits = omega (arith, h.sized w.schema k.knows, stands_fits _ _ _ (stands w k)); contents = h.contents w.schema w.bytes k.knows (stands w k) } in

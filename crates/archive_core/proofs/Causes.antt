@@ -4,8 +4,8 @@ use Rattle.std.specs.Prelude.{IsSomeAnd, Result, Ok, Err, IfErr, IsErrAnd}
 use Rattle.std.proofs.lemmas.List.{append-nil}
 use Rattle.std.proofs.lemmas.Bool.{cases_lt}
 use Rattle.archive_check.specs.Told.{Told}
-use Rattle.archive_check.specs.declared.error.Error.{Error}
-use Rattle.archive_check.specs.declared.error.Error.TheVariants.{OutOfMemory, IsizeOverflow, OffsetOverflow, PositionTooLarge, LengthTooLarge, NumberTooLarge, StringTooLong, BufferOverflow, WriterFailed, ItemWrote, CyclicSerialize, CyclicValidate, CyclicDeserialize, NotStarted, AlreadyFinished, InvalidSubtreePointer, UnalignedPointer, ExceededMaximumSubtreeDepth, RangePoppedTooManyTimes, RangePoppedOutOfOrder, TypeMismatch, MetadataMismatch, LayoutTooLarge, InvalidDiscriminant, InvalidBool, InvalidChar, ZeroNumber, InvalidUtf8, InvalidStringRepr, ShapeConflict, RecursiveLayout, UnsortedKeys}
+use Rattle.archive_check.specs.declared.format.error.Error.{Error}
+use Rattle.archive_check.specs.declared.format.error.Error.TheVariants.{OutOfMemory, IsizeOverflow, OffsetOverflow, PositionTooLarge, LengthTooLarge, NumberTooLarge, StringTooLong, BufferOverflow, WriterFailed, ItemWrote, CyclicSerialize, CyclicValidate, CyclicDeserialize, NotStarted, AlreadyFinished, InvalidSubtreePointer, UnalignedPointer, ExceededMaximumSubtreeDepth, RangePoppedTooManyTimes, RangePoppedOutOfOrder, TypeMismatch, MetadataMismatch, LayoutTooLarge, InvalidDiscriminant, InvalidBool, InvalidChar, ZeroNumber, InvalidUtf8, InvalidStringRepr, ShapeConflict, RecursiveLayout, UnsortedKeys}
 use Rattle.archive_write.specs.Written.{IsBeginning, RoomFalls, ExplainsRefusal}
 use Rattle.archive_core.specs.Plans.{GoesOn, Overflows, Explains, no_memory, no_room, device_failed, own_cause, IsOwnCause, IsOfWriting, of_memory, of_room, of_device, of_value}
 

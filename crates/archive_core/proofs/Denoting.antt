@@ -7,8 +7,8 @@ use Rattle.archive_check.specs.Tour.{Entry, Seen}
 use Rattle.archive_check.specs.Denotes.{IsSharedValue, Same, rename}
 use Rattle.archive_check.specs.Reached.{Names, LeadsTo, leads_at_once, leads_through}
 use Rattle.archive_check.specs.WriterState.{KeyStates}
-use Rattle.archive_check.proofs.OneReading.{contents_one_value}
-use Rattle.archive_check.proofs.OneMeaning.{fills_one}
+use Rattle.archive_check.proofs.ReadingUnique.{contents_one_value}
+use Rattle.archive_check.proofs.MeaningUnique.{fills_one}
 use Rattle.archive_check.proofs.SameMeanings.{rename_again, rename_stays}
 use Rattle.archive_check.proofs.Seen.{same_some}
 use Rattle.archive_core.specs.Writing.{NameMap, Naming, AreNamed, HasKeys, IsKeyed, AreKeys, World, Found, AreFinished}

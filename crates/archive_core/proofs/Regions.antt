@@ -7,8 +7,8 @@ use Rattle.archive_check.specs.Definitions.{Definitions, HasLayout}
 use Rattle.archive_check.specs.Value.{Value}
 use Rattle.archive_check.specs.Told.{Told, KeepsKeys}
 use Rattle.archive_check.specs.WriterState.{KeyStates, writer_state}
-use Rattle.archive_check.specs.declared.error.Error.{Error}
-use Rattle.archive_check.specs.declared.error.Error.TheVariants.{LayoutTooLarge}
+use Rattle.archive_check.specs.declared.format.error.Error.{Error}
+use Rattle.archive_check.specs.declared.format.error.Error.TheVariants.{LayoutTooLarge}
 use Rattle.archive_write.specs.Written.{ExplainsRefusal}
 use Rattle.archive_write.proofs.Padding.{zeroed_replicate}
 use Rattle.archive_core.specs.Writing.{Resolves, Puts, Fresh}

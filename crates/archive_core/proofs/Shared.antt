@@ -8,8 +8,8 @@ use Rattle.archive_check.specs.Value.{Value, hole, shared_value, pointers}
 use Rattle.archive_check.specs.Tour.{Region, Leads, Entry, entry, Seen, tour_end, tour_new, tour_again, region_of, pointee_size, pointee_align}
 use Rattle.archive_check.specs.Denotes.{Fills, fills_shared, rename}
 use Rattle.archive_check.specs.Reached.{names_itself}
-use Rattle.archive_check.specs.Written.{after}
-use Rattle.archive_check.specs.CleanRegions.{Stands, AreZero, IsZeroed, CleanPointee}
+use Rattle.archive_check.specs.Tightness.{after}
+use Rattle.archive_check.specs.CleanRegions.{Occurs, AreZero, IsZeroed, CleanPointee}
 use Rattle.archive_check.specs.Told.{KeyState}
 use Rattle.archive_check.specs.WriterState.{KeyStates, WriterState}
 use Rattle.archive_write.specs.Sharing.{IsSet}
@@ -195,7 +195,7 @@ writes_shared_new D old mid new ks x P n flavor t key tail s more tailz taill sa
     let apart : (w : World) → (k : Holds w D new.bytes new.states ((key, (e, x)) ∷ ks)) → w.bytes ≡ (m.bytes ++ h.zeros) ++ (h.region ++ (tail ++ k.rest))
     = λ w k. k.begins ∙ ap (λ z. z ++ k.rest) (more ∙ ap (λ z. z ++ tail) (h.grown ∙ sym (append_assoc m.bytes h.zeros h.region))) ∙ append_assoc (((m.bytes ++ h.zeros) ++ h.region)) tail k.rest
     ∙ append_assoc (m.bytes ++ h.zeros) h.region (tail ++ k.rest) in
-    let stands : (w : World) → Holds w D new.bytes new.states ((key, (e, x)) ∷ ks) → Stands w.bytes t h.region
+    let stands : (w : World) → Holds w D new.bytes new.states ((key, (e, x)) ∷ ks) → Occurs w.bytes t h.region
     = λ w k. record { before = m.bytes ++ h.zeros; behind = tail ++ k.rest; is = apart w k; at = length-append m.bytes h.zeros ∙ sym h.at } in
     let leads : (w : World) → Holds w D new.bytes new.states ((key, (e, x)) ∷ ks) → Leads w.schema w.bytes (to_shared t flavor P n) t v
     = λ w k. record { target = refl; fits = omega (arith, h.sized w.schema k.knows, stands_fits _ _ _ (stands w k)); contents = h.contents w.schema w.bytes k.knows (stands w k) } in

@@ -3,8 +3,8 @@ use Rattle.std.proofs.Common.{◌≡◌, inl, inr, ℕ, length, refl, ap, subst,
 use Rattle.std.specs.Map.{update}
 use Rattle.archive_check.specs.Told.{Told, KeyState}
 use Rattle.archive_check.specs.WriterState.{KeyStates}
-use Rattle.archive_check.specs.declared.error.Error.{Error}
-use Rattle.archive_check.specs.declared.error.Error.TheVariants.{CyclicSerialize}
+use Rattle.archive_check.specs.declared.format.error.Error.{Error}
+use Rattle.archive_check.specs.declared.format.error.Error.TheVariants.{CyclicSerialize}
 use Rattle.archive_write.specs.Sharing.{IsSet, KeepsKnown, started, start_answer, finish_answer}
 use Rattle.archive_write.specs.declared.sharing.SharingState.{SharingState}
 use Rattle.archive_write.specs.declared.sharing.SharingState.TheVariants.{Started, Pending}

@@ -13,7 +13,7 @@ use Rattle.archive_check.specs.Value.{text_value, hole}
 use Rattle.archive_check.specs.Reads.{bytes_at, u32_at, i32_at, before_end, IsOutOfLine, decoded_length, string_at, Reads, reads_inline, reads_out_of_line}
 use Rattle.archive_check.specs.Tour.{Contents, contents_text}
 use Rattle.archive_check.specs.Denotes.{fills_text}
-use Rattle.archive_check.specs.CleanRegions.{Stands, clean_inline, clean_out_of_line, clean_text}
+use Rattle.archive_check.specs.CleanRegions.{Occurs, clean_inline, clean_out_of_line, clean_text}
 use Rattle.archive_check.specs.Told.{Told, KeepsKeys}
 use Rattle.archive_check.specs.WriterState.{KeyStates, WriterState, writer_state}
 use Rattle.archive_check.proofs.StandingBytes.{stands_front, stands_back, stands_bytes, stands_index, zeroed_none}
@@ -55,9 +55,9 @@ inline_first (b ∷ bs) u h e = text_inline b bs u e
 
 pub resolves_inline : (D : Definitions) (p : ℕ) (bs a : List ℕ) → IsUtf8 bs → length bs ≤ 8 → a ≡ inline_bytes bs → Resolves D p a str (text_value bs)
 resolves_inline D p bs a u h e =
-    let here : (bytes : List ℕ) → Stands bytes p a → before_end (bytes_at bytes p 8) ≡ bs
+    let here : (bytes : List ℕ) → Occurs bytes p a → before_end (bytes_at bytes p 8) ≡ bs
     = λ bytes stands. ap before_end (stands_bytes bytes p 8 a (ap length e ∙ inline_length bs h) stands ∙ e) ∙ inline_text bs u in
-    let first : (bytes : List ℕ) → Stands bytes p a → IsOutOfLine bytes p → ⊥
+    let first : (bytes : List ℕ) → Occurs bytes p a → IsOutOfLine bytes p → ⊥
     = λ bytes stands out. inline_first bs u h (
     let at : slice_index bytes (p + 0) ≡ slice_index a 0 = stands_index bytes p 0 a (omega (arith, ap length e, inline_length bs h)) stands in
     let same : slice_index a 0 ≡ slice_index (inline_bytes bs) 0 = ap (λ x. slice_index x 0) e in
@@ -88,16 +88,16 @@ unfolding i32_at u32_at
 resolves_out_of_line D p t n z a long few small there e =
     let len : List ℕ = to_le_bytes w32 (coded_length n) in
     let off : List ℕ = to_le_bytes w32 (cast_unsigned w32 z) in
-    let whole : (bytes : List ℕ) → Stands bytes p a → Stands bytes p (len ++ off) = λ bytes stands. rw (← e) stands in
-    let coded : (bytes : List ℕ) → Stands bytes p a → u32_at bytes p ≡ coded_length n
+    let whole : (bytes : List ℕ) → Occurs bytes p a → Occurs bytes p (len ++ off) = λ bytes stands. rw (← e) stands in
+    let coded : (bytes : List ℕ) → Occurs bytes p a → u32_at bytes p ≡ coded_length n
     = λ bytes stands. ap (from_le_bytes w32) (stands_bytes bytes p 4 len refl (stands_front bytes p len off (whole bytes stands))) ∙ from_le_bytes-to_le_bytes_4 (coded_length n) (coded_small n few) in
-    let many : (bytes : List ℕ) → Stands bytes p a → decoded_length (u32_at bytes p) ≡ n
+    let many : (bytes : List ℕ) → Occurs bytes p a → decoded_length (u32_at bytes p) ≡ n
     = λ bytes stands. ap decoded_length (coded bytes stands) ∙ coded_back n few in
-    let offset : (bytes : List ℕ) → Stands bytes p a → pos p +ℤ i32_at bytes (p + 4) ≡ pos t
+    let offset : (bytes : List ℕ) → Occurs bytes p a → pos p +ℤ i32_at bytes (p + 4) ≡ pos t
     = λ bytes stands. ap (λ b. pos p +ℤ cast_signed w32 (from_le_bytes w32 b)) (stands_bytes bytes (p + 4) 4 off refl (stands_back bytes p (p + 4) len off refl (whole bytes stands)))
     ∙ ap (λ m. pos p +ℤ cast_signed w32 m) (from_le_bytes-to_le_bytes_4 (cast_unsigned w32 z) (below_32 z small))
     ∙ ap (λ y. pos p +ℤ y) (to_z-of_z w32 z small) ∙ there in
-    let first : (bytes : List ℕ) → Stands bytes p a → IsOutOfLine bytes p
+    let first : (bytes : List ℕ) → Occurs bytes p a → IsOutOfLine bytes p
     = λ bytes stands. (
     let at : slice_index bytes (p + 0) ≡ slice_index (len ++ off) 0 = stands_index bytes p 0 (len ++ off) (omega (arith, length-append len off)) (whole bytes stands) in
     let plain : slice_index bytes (p + 0) ≡ slice_index bytes p = ap (slice_index bytes) (omega arith) in

@@ -2,8 +2,8 @@
 use Rattle.std.proofs.Common.{◌≡◌, inl, inr, ℕ, ◌<◌, ◌≤◌, List, ◌++◌, length, refl, ap, length-append, arith}
 use Rattle.archive_check.specs.Told.{Told, KeepsKeys}
 use Rattle.archive_check.specs.WriterState.{KeyStates}
-use Rattle.archive_check.specs.declared.error.Error.{Error}
-use Rattle.archive_check.specs.declared.error.Error.TheVariants.{PositionTooLarge, LengthTooLarge, StringTooLong}
+use Rattle.archive_check.specs.declared.format.error.Error.{Error}
+use Rattle.archive_check.specs.declared.format.error.Error.TheVariants.{PositionTooLarge, LengthTooLarge, StringTooLong}
 use Rattle.archive_write.specs.Written.{ExplainsRefusal}
 use Rattle.archive_core.specs.Plans.{Stand, stand, IsAt, Explains, own_cause}
 use Rattle.archive_core.specs.TextPlans.{text_plan, string_plan, HindersText, HindersString}

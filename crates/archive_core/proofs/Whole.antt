@@ -10,15 +10,15 @@ use Rattle.archive_check.specs.Value.{Value, pointers}
 use Rattle.archive_check.specs.Reads.{Reads}
 use Rattle.archive_check.specs.Tour.{Region, Entry, Accepted, root_region}
 use Rattle.archive_check.specs.Denotes.{IsSharedValue, rename}
-use Rattle.archive_check.specs.Written.{Tight}
-use Rattle.archive_check.specs.CleanRegions.{Stands, CleanRegions}
+use Rattle.archive_check.specs.Tightness.{Tight}
+use Rattle.archive_check.specs.CleanRegions.{Occurs, CleanRegions}
 use Rattle.archive_check.specs.Told.{Told}
 use Rattle.archive_check.specs.WriterState.{KeyStates, WriterState, writer_state}
-use Rattle.archive_check.specs.declared.error.Error.{Error}
+use Rattle.archive_check.specs.declared.format.error.Error.{Error}
 use Rattle.archive_core.specs.Plans.{Stand, IsAt, region_place, one_plan}
 use Rattle.archive_check.proofs.PositiveAlignments.{align_pos}
-use Rattle.archive_check.proofs.SomeMeaning.{has_meaning}
-use Rattle.archive_check.proofs.OneMeaning.{tours_one}
+use Rattle.archive_check.proofs.MeaningExists.{has_meaning}
+use Rattle.archive_check.proofs.MeaningUnique.{tours_one}
 use Rattle.archive_check.proofs.StandingBytes.{stands_zero, zero_nowhere, stands_begun}
 use Rattle.archive_check.proofs.CleanRegions.{regions_clean}
 use Rattle.archive_check.proofs.Tightness.{tight_append, clean_regions_append, ArePositive, positive_append, sized_append, tour_positive, tour_sized, rising_lower, tight_rises}
@@ -51,7 +51,7 @@ archives D old new ks x X size root fresh keyed h end =
           let unseen : Unseen empty (length old.bytes) (length mid.bytes) = record { unseen = λ t a b. get-empty {X = Entry} nat_cmp t } in
           let first : Appends w (length old.bytes) (length mid.bytes) mid.states [] empty (pointers v) = o.appends w [] empty holds known unseen in
           let apart : new.bytes ≡ (mid.bytes ++ h.zeros) ++ h.region = h.grown ∙ sym (append_assoc mid.bytes h.zeros h.region) in
-          let stands : Stands new.bytes root h.region = stands_begun new.bytes (mid.bytes ++ h.zeros) h.region [] root (apart ∙ sym (append-nil ((mid.bytes ++ h.zeros) ++ h.region))) (h.at ∙ sym (length-append mid.bytes h.zeros)) in
+          let stands : Occurs new.bytes root h.region = stands_begun new.bytes (mid.bytes ++ h.zeros) h.region [] root (apart ∙ sym (append-nil ((mid.bytes ++ h.zeros) ++ h.region))) (h.at ∙ sym (length-append mid.bytes h.zeros)) in
           let whole : length h.region ≡ size_of s.layouts X = h.sized s knows in
           let reads : Reads s new.bytes root X v = reads_of (h.contents s new.bytes knows stands) in
           let C : List Region = first.regions ++ root_region s root X ∷ [] in

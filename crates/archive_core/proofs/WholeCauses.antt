@@ -4,7 +4,7 @@ use Rattle.archive_check.specs.Definitions.{IsAlign}
 use Rattle.archive_check.specs.Layout.{Layout, up}
 use Rattle.archive_check.specs.Told.{Told}
 use Rattle.archive_check.specs.WriterState.{KeyStates, writer_state, Pads}
-use Rattle.archive_check.specs.declared.error.Error.{Error}
+use Rattle.archive_check.specs.declared.format.error.Error.{Error}
 use Rattle.archive_check.proofs.PartsInside.{up_le}
 use Rattle.archive_write.specs.Written.{padding, ExplainsRefusal}
 use Rattle.archive_write.proofs.Padding.{align_low, padded}

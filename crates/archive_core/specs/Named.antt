@@ -1,7 +1,7 @@
 -- The causes of numbers and texts are among those that a value may have.
 use Rattle.std.proofs.Common.{◌≡◌, inl, inr, ℕ, List}
-use Rattle.archive_check.specs.declared.error.Error.{Error}
-use Rattle.archive_check.specs.declared.error.Error.TheVariants.{NumberTooLarge}
+use Rattle.archive_check.specs.declared.format.error.Error.{Error}
+use Rattle.archive_check.specs.declared.format.error.Error.TheVariants.{NumberTooLarge}
 use Rattle.archive_core.specs.Plans.{IsOwnCause, of_isize, of_offset, of_position, of_length, of_number, of_string}
 use Rattle.archive_core.specs.TextPlans.{HindersText, HindersString, HindersStringAt}
 

@@ -1,8 +1,8 @@
 -- Offsets between positions.
 use Rattle.std.specs.Prelude.{◌≡◌, ◌⊎◌, ℕ, ℤ, pos, ◌-ℤ◌, FitsSigned}
 use Rattle.std.specs.Int.{w32, w64}
-use Rattle.archive_check.specs.declared.error.Error.{Error}
-use Rattle.archive_check.specs.declared.error.Error.TheVariants.{IsizeOverflow, OffsetOverflow}
+use Rattle.archive_check.specs.declared.format.error.Error.{Error}
+use Rattle.archive_check.specs.declared.format.error.Error.TheVariants.{IsizeOverflow, OffsetOverflow}
 
 -- how far it is from one position to another
 abbrev pub distance : ℕ → ℕ → ℤ

@@ -4,8 +4,8 @@ use Rattle.std.specs.Map.{update}
 use Rattle.archive_check.specs.Layout.{Layout, up}
 use Rattle.archive_check.specs.Told.{Told, KeyState}
 use Rattle.archive_check.specs.WriterState.{KeyStates}
-use Rattle.archive_check.specs.declared.error.Error.{Error}
-use Rattle.archive_check.specs.declared.error.Error.TheVariants.{OutOfMemory, IsizeOverflow, OffsetOverflow, PositionTooLarge, LengthTooLarge, NumberTooLarge, StringTooLong, BufferOverflow, WriterFailed, ItemWrote, CyclicSerialize, LayoutTooLarge}
+use Rattle.archive_check.specs.declared.format.error.Error.{Error}
+use Rattle.archive_check.specs.declared.format.error.Error.TheVariants.{OutOfMemory, IsizeOverflow, OffsetOverflow, PositionTooLarge, LengthTooLarge, NumberTooLarge, StringTooLong, BufferOverflow, WriterFailed, ItemWrote, CyclicSerialize, LayoutTooLarge}
 use Rattle.archive_write.specs.Written.{IsBeginning, RoomFalls}
 
 -- where a writer stands: how many bytes it holds, and the states of the shared keys

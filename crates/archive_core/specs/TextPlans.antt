@@ -1,8 +1,8 @@
 -- What the writing of a text, or of a string, is planned to come to, and why it is refused.
 use Rattle.std.specs.Prelude.{◌≡◌, ◌⊎◌, ℕ, ◌+◌, ◌<◌, List, length, nat_lt, if◌then◌else◌}
 use Rattle.archive_check.specs.Told.{Told}
-use Rattle.archive_check.specs.declared.error.Error.{Error}
-use Rattle.archive_check.specs.declared.error.Error.TheVariants.{PositionTooLarge, LengthTooLarge, StringTooLong}
+use Rattle.archive_check.specs.declared.format.error.Error.{Error}
+use Rattle.archive_check.specs.declared.format.error.Error.TheVariants.{PositionTooLarge, LengthTooLarge, StringTooLong}
 use Rattle.archive_write.specs.Written.{ExplainsRefusal}
 use Rattle.archive_core.specs.Offsets.{distance, IsTooFar}
 use Rattle.archive_core.specs.Plans.{Stand}

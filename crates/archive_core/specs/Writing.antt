@@ -10,8 +10,8 @@ use Rattle.archive_check.specs.Reads.{Schema, Reads}
 use Rattle.archive_check.specs.Tour.{Region, Contents, Entry, Seen, Tour, pointee_size, pointee_align}
 use Rattle.archive_check.specs.Denotes.{Meaning, Denotes, Same, Fills, FillsAll, rename, rename_all}
 use Rattle.archive_check.specs.Reached.{Names, NamesAmong, LeadsTo}
-use Rattle.archive_check.specs.Written.{Tight, TightFrom, CleanFrom}
-use Rattle.archive_check.specs.CleanRegions.{Stands, IsZeroed, CleanValue, CleanPointee, CleanRegions}
+use Rattle.archive_check.specs.Tightness.{Tight, TightFrom, CleanFrom}
+use Rattle.archive_check.specs.CleanRegions.{Occurs, IsZeroed, CleanValue, CleanPointee, CleanRegions}
 use Rattle.archive_check.specs.WriterState.{KeyStates, WriterState}
 use Rattle.archive_write.specs.Sharing.{IsSet}
 
@@ -128,8 +128,8 @@ pub record WritesAll (definitions : Definitions) (old new : WriterState) (keys :
 
 -- these bytes, at p, are clean and read as the value, with its pointers
 pub record Resolves (definitions : Definitions) (p : ℕ) (a : List ℕ) (X : Shape) (flat : Value) : Type 0 where
-  pub reads : (s : Schema) (bytes : List ℕ) → Knows s definitions → Stands bytes p a → Reads s bytes p X flat
-  pub clean : (s : Schema) (bytes : List ℕ) → Knows s definitions → Stands bytes p a → CleanValue s bytes p X
+  pub reads : (s : Schema) (bytes : List ℕ) → Knows s definitions → Occurs bytes p a → Reads s bytes p X flat
+  pub clean : (s : Schema) (bytes : List ℕ) → Knows s definitions → Occurs bytes p a → CleanValue s bytes p X
 
 -- one value was appended
 pub record Puts (definitions : Definitions) (old new : WriterState) (X : Shape) (L : Layout) (flat : Value) : Type 0 where
@@ -180,8 +180,8 @@ pub record LaysOut (definitions : Definitions) (old new : WriterState) (keys : L
   pub at : p ≡ length mid.bytes + length zeros
   pub aligned : (s : Schema) → Knows s definitions → p ≡ up (length mid.bytes) (pointee_align s P)
   pub sized : (s : Schema) → Knows s definitions → length region ≡ pointee_size s P n
-  pub contents : (s : Schema) (bytes : List ℕ) → Knows s definitions → Stands bytes p region → Contents s bytes p P n flat
-  pub clean : (s : Schema) (bytes : List ℕ) → Knows s definitions → Stands bytes p region → CleanPointee s bytes p P n
+  pub contents : (s : Schema) (bytes : List ℕ) → Knows s definitions → Occurs bytes p region → Contents s bytes p P n flat
+  pub clean : (s : Schema) (bytes : List ℕ) → Knows s definitions → Occurs bytes p region → CleanPointee s bytes p P n
   pub states : new.states ≡ mid.states
 
 -- the pointer to a shared pointee

@@ -1,7 +1,7 @@
 //! Whole archives: written, checked and read back.
 
 ghost use Rattle.std.specs.Prelude.{◌≡◌, ◌⊎◌, ◌≤◌, ◌-◌, None, length, IfOk, OnOk, IfErr, ℕ, []};
-ghost use Rattle.archive_check.specs.Fresh.{IsWhole};
+ghost use Rattle.archive_check.specs.FreshContexts.{IsWhole};
 ghost use Rattle.archive_check.specs.Schemas.{ExplainsNoSchema};
 ghost use Rattle.archive_check.specs.Archives.{IsArchiveWithin, IsArchive, IsValueOf, IsRefusal, ExplainsNoArchive};
 ghost use Rattle.archive_check.specs.Defined.{WellFormed};
@@ -9,7 +9,7 @@ ghost use Rattle.archive_check.specs.Definitions.{listed};
 ghost use Rattle.archive_check.specs.Entries.{NoEntries, AreNamedByPosition, KeepsEntries, IsCyclic};
 ghost use Rattle.archive_check.specs.Unshared.{IsUnshared};
 ghost use Rattle.archive_check.specs.Viewed.{Says};
-ghost use Rattle.archive_check.specs.declared.error.Error.TheVariants.{CyclicDeserialize, OutOfMemory};
+ghost use Rattle.archive_check.specs.declared.format.error.Error.TheVariants.{CyclicDeserialize, OutOfMemory};
 ghost use Rattle.archive_core.specs.Plans.{no_keys, at_start, GoesOn, HindersWhole, ExplainsWhole, IsOwnCause, IsOfWriting};
 ghost use Rattle.archive_core.specs.Writing.{Archives};
 
@@ -17,9 +17,9 @@ pub use crate::context::HighValidator;
 use crate::ser::{Serializer, Writer, serialize_one};
 use crate::traits::{Archive, Deserialize, Entries, Keys, Portable, Serialize};
 use crate::view::{Part, Ref};
-use archive_check::error::Error;
+use archive_check::format::error::Error;
 use archive_check::shape::Schema;
-use archive_check::validation::{ArchiveContext, SharedContext};
+use archive_check::context::{ArchiveContext, SharedContext};
 use std::alloc::Global;
 
 /// Where the root of an archive of `len` bytes lies: so many bytes before its end as a `T` has, or at 0 where there are fewer.

@@ -1,3 +1,3 @@
 //! The context of a check of a whole buffer.
 
-pub use archive_check::validator::HighValidator;
+pub use archive_check::context::validator::HighValidator;

@@ -17,7 +17,7 @@ ghost use Rattle.archive_write.specs.Sharing.{KeepsKnown, IsNoMisuse};
 use crate::place::Place;
 use crate::traits::{Archive, Deserialize, Entries, Keys, Portable, Serialize};
 use crate::view::{Part, Ref};
-use archive_check::error::Error;
+use archive_check::format::error::Error;
 pub use archive_nonzero::{
     ArchivedNonZeroI8, ArchivedNonZeroI16, ArchivedNonZeroI32, ArchivedNonZeroI64,
     ArchivedNonZeroI128, ArchivedNonZeroIsize, ArchivedNonZeroU8, ArchivedNonZeroU16,

@@ -3,9 +3,9 @@
 ghost use Rattle.std.specs.Prelude.{◌≡◌, MatchResult, FitsSigned};
 ghost use Rattle.std.specs.Int.{w64};
 ghost use Rattle.archive_core.specs.Offsets.{distance};
-ghost use Rattle.archive_check.specs.declared.error.Error.TheVariants.{IsizeOverflow};
+ghost use Rattle.archive_check.specs.declared.format.error.Error.TheVariants.{IsizeOverflow};
 
-use archive_check::error::Error;
+use archive_check::format::error::Error;
 
 /// How far it is from one position to another, in bytes. Refused with 2 exactly where the difference doesn't fit `isize`.
 pub fn signed_offset(from: usize, to: usize) -> Result<isize, Error>

@@ -10,7 +10,7 @@ ghost use Rattle.archive_write.specs.Sharing.{KeepsKnown};
 
 use crate::place::Place;
 use crate::traits::{Archive, Keys, Portable, Serialize};
-use archive_check::error::Error;
+use archive_check::format::error::Error;
 pub use archive_write::ser::{Buffer, Positional, ResolverAlloc, Serializer, Writer, WriterExt};
 use std::alloc::Allocator;
 

@@ -8,7 +8,7 @@ ghost use Rattle.archive_core.specs.Writing.{LaysOutShared};
 ghost use Rattle.archive_write.specs.Sharing.{KeepsKnown, IsNoMisuse, known_answer};
 
 use crate::traits::SerializeUnsized;
-use archive_check::error::Error;
+use archive_check::format::error::Error;
 use archive_write::ser::Writer;
 pub use archive_write::sharing::{Share, Sharing, SharingState};
 

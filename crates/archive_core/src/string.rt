@@ -11,7 +11,7 @@ ghost use Rattle.archive_check.specs.Readable.{string_text};
 ghost use Rattle.archive_check.specs.Value.{text_value};
 ghost use Rattle.archive_check.specs.Viewed.{Viewed, Says};
 ghost use Rattle.archive_check.specs.WriterState.{writer_state};
-ghost use Rattle.archive_check.specs.declared.error.Error.TheVariants.{OutOfMemory, LengthTooLarge, StringTooLong};
+ghost use Rattle.archive_check.specs.declared.format.error.Error.TheVariants.{OutOfMemory, LengthTooLarge, StringTooLong};
 ghost use Rattle.archive_check.specs.Told.{KeepsKeys};
 ghost use Rattle.archive_write.specs.Sharing.{KeepsKnown, IsNoMisuse};
 ghost use Rattle.archive_core.specs.Keyed.{text_keyed, text_forward, string_forward};
@@ -31,10 +31,10 @@ use crate::traits::{
     Portable, Serialize, SerializeUnsized,
 };
 use crate::view::{Part, Ref};
-use archive_check::bytes::{
+use archive_check::format::bytes::{
     inline_length, is_out_of_line, read_coded_length, read_target, read_text,
 };
-use archive_check::error::Error;
+use archive_check::format::error::Error;
 use archive_check::shape::{Defs, Expr};
 use archive_write::ser::Writer;
 use std::alloc::Global;

@@ -5,16 +5,16 @@ ghost use Rattle.archive_check.specs.Entries.{AreNamedByPosition, KeepsEntries, 
 ghost use Rattle.archive_check.specs.Value.{Value};
 ghost use Rattle.archive_check.specs.Viewed.{Viewed, Says};
 ghost use Rattle.archive_check.specs.WriterState.{writer_state};
-ghost use Rattle.archive_check.specs.declared.error.Error.TheVariants.{OutOfMemory, CyclicDeserialize, LengthTooLarge};
-ghost use Rattle.archive_check.specs.declared.error.Error.{Error as ErrorOf};
+ghost use Rattle.archive_check.specs.declared.format.error.Error.TheVariants.{OutOfMemory, CyclicDeserialize, LengthTooLarge};
+ghost use Rattle.archive_check.specs.declared.format.error.Error.{Error as ErrorOf};
 ghost use Rattle.archive_core.specs.Plans.{Stand, stand, IsAt, GoesOn, Explains, IsOwnCause};
 ghost use Rattle.archive_core.specs.Writing.{Naming, IsKeyed, Fresh, Resolves, Writes, LaysOut};
 ghost use Rattle.archive_write.specs.Sharing.{KeepsKnown, IsNoMisuse};
 
 use crate::place::Place;
 use crate::view::{Part, Ref};
-use archive_check::error::Error;
-pub use archive_check::traits::{ArchivePointee, Entries, Keys, Portable, Tells};
+use archive_check::format::error::Error;
+pub use archive_check::format::traits::{ArchivePointee, Entries, Keys, Portable, Tells};
 use archive_write::ser::Writer;
 use std::alloc::Global;
 

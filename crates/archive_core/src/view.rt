@@ -10,7 +10,7 @@ ghost use Rattle.archive_check.specs.Viewed.{Viewed, Says};
 ghost use Rattle.archive_num.specs.Digits.{is_zero};
 
 use crate::primitive::Plain;
-use archive_check::traits::ArchivePointee;
+use archive_check::format::traits::ArchivePointee;
 use archive_nonzero::NonZero;
 use archive_num::{Integer, LittleEndian, Native};
 use std::alloc::AllocError;

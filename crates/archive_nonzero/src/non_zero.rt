@@ -7,9 +7,9 @@ ghost use Rattle.archive_check.specs.LeafLayout.{leaf_layout, leaf_align, leaf_h
 ghost use Rattle.archive_check.specs.Expressions.{kind_of};
 ghost use Rattle.archive_num.specs.Digits.{is_zero};
 
-use archive_check::error::Error;
-use archive_check::expr::{Defs, Expr, Kind};
-use archive_check::traits::{ArchivePointee, Portable};
+use archive_check::format::error::Error;
+use archive_check::format::expr::{Defs, Expr, Kind};
+use archive_check::format::traits::{ArchivePointee, Portable};
 use archive_num::Integer;
 use std::alloc::{AllocError, Global};
 use std::cmp::Ordering;

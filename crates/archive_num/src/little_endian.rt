@@ -6,9 +6,9 @@ ghost use Rattle.archive_check.specs.Definitions.{no_definition};
 ghost use Rattle.archive_check.specs.LeafLayout.{leaf_layout, leaf_align, leaf_has_layout, no_definition_reached};
 
 use crate::Native;
-use archive_check::error::Error;
-use archive_check::expr::{Defs, Expr};
-use archive_check::traits::{ArchivePointee, Portable};
+use archive_check::format::error::Error;
+use archive_check::format::expr::{Defs, Expr};
+use archive_check::format::traits::{ArchivePointee, Portable};
 use std::alloc::{AllocError, Global};
 use std::cmp::Ordering;
 use std::fmt;

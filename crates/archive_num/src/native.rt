@@ -9,7 +9,7 @@ ghost use Rattle.archive_check.specs.Expressions.{kind_of, sign_of, width_of};
 ghost use Rattle.archive_check.specs.LittleEndian.{AreBytes};
 ghost use Rattle.archive_num.specs.Digits.{is_zero};
 
-use archive_check::expr::{IntegerKind, Kind};
+use archive_check::format::expr::{IntegerKind, Kind};
 use std::hash::Hash;
 
 mod others;

@@ -6,7 +6,7 @@ use Rattle.archive_check.specs.Layout.{Layout, size_of}
 use Rattle.archive_check.specs.Definitions.{Definitions, Knows, HasLayout}
 use Rattle.archive_check.specs.Value.{Value, list, number}
 use Rattle.archive_check.specs.Reads.{Schema, reads_array, ReadsRun, reads_none, reads_element}
-use Rattle.archive_check.specs.CleanRegions.{Stands, clean_array, CleanRun, clean_none, clean_element}
+use Rattle.archive_check.specs.CleanRegions.{Occurs, clean_array, CleanRun, clean_none, clean_element}
 use Rattle.archive_check.proofs.StandingBytes.{stands_front, stands_back}
 use Rattle.archive_core.specs.Writing.{Resolves}
 use Rattle.archive_tests.specs.Repeated.{repeated, copies}
@@ -17,12 +17,12 @@ module _ (D : Definitions) (X : Shape) (L : Layout) (a : List ℕ) (v : Value) (
   next : (s : Schema) → Knows s D → (p : ℕ) → p + size_of s.layouts X ≡ p + length a
   next s k p = omega (arith, size_is layout s k, sized)
 
-  run_reads : (n p : ℕ) (s : Schema) (bytes : List ℕ) → Knows s D → Stands bytes p (copies n a) → ReadsRun s bytes p n X (repeated n v)
+  run_reads : (n p : ℕ) (s : Schema) (bytes : List ℕ) → Knows s D → Occurs bytes p (copies n a) → ReadsRun s bytes p n X (repeated n v)
   run_reads zero p s bytes k h = reads_none
   run_reads (suc n) p s bytes k h = reads_element ((each p).reads s bytes k (stands_front bytes p a (copies n a) h))
       (rw (next s k p) (run_reads n (p + length a) s bytes k (stands_back bytes p (p + length a) a (copies n a) refl h)))
 
-  run_clean : (n p : ℕ) (s : Schema) (bytes : List ℕ) → Knows s D → Stands bytes p (copies n a) → CleanRun s bytes p n X
+  run_clean : (n p : ℕ) (s : Schema) (bytes : List ℕ) → Knows s D → Occurs bytes p (copies n a) → CleanRun s bytes p n X
   run_clean zero p s bytes k h = clean_none
   run_clean (suc n) p s bytes k h = clean_element ((each p).clean s bytes k (stands_front bytes p a (copies n a) h))
       (rw (next s k p) (run_clean n (p + length a) s bytes k (stands_back bytes p (p + length a) a (copies n a) refl h)))

@@ -5,7 +5,7 @@ mod memory;
 mod sharing;
 mod writers;
 
-use archive_check::error::Error;
+use archive_check::format::error::Error;
 use archive_write::ser::{Writer, WriterExt};
 
 // A text, the zeros up to a multiple of four, and the eight bytes that point at it; answers where these stand.

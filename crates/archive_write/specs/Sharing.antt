@@ -2,8 +2,8 @@
 use Rattle.std.specs.Prelude.{◌≡◌, ◌≢◌, ℕ, Option, Some, None, Result, Ok, Err, nat_eq}
 use Rattle.std.specs.Map.{update}
 use Rattle.archive_check.specs.Told.{KeyState}
-use Rattle.archive_check.specs.declared.error.Error.{Error}
-use Rattle.archive_check.specs.declared.error.Error.TheVariants.{CyclicSerialize, NotStarted, AlreadyFinished}
+use Rattle.archive_check.specs.declared.format.error.Error.{Error}
+use Rattle.archive_check.specs.declared.format.error.Error.TheVariants.{CyclicSerialize, NotStarted, AlreadyFinished}
 use Rattle.archive_write.specs.declared.sharing.SharingState.{SharingState}
 use Rattle.archive_write.specs.declared.sharing.SharingState.TheVariants.{Started, Pending, Finished}
 

@@ -1,8 +1,8 @@
 -- What a write does to a writer.
 use Rattle.std.specs.Prelude.{◌≡◌, ℕ, ◌+◌, ◌-◌, ◌^◌, ◌<◌, ◌≤◌, ◌⊎◌, List, ◌++◌, length, Option, Some, None, IsSomeAnd, ⊤}
 use Rattle.archive_check.specs.Layout.{up}
-use Rattle.archive_check.specs.declared.error.Error.{Error}
-use Rattle.archive_check.specs.declared.error.Error.TheVariants.{OutOfMemory, BufferOverflow, WriterFailed}
+use Rattle.archive_check.specs.declared.format.error.Error.{Error}
+use Rattle.archive_check.specs.declared.format.error.Error.TheVariants.{OutOfMemory, BufferOverflow, WriterFailed}
 
 -- ys is xs and then perhaps more
 pub record IsBeginning (xs ys : List ℕ) : Type 0 where

@@ -7,8 +7,8 @@ ghost use Rattle.archive_check.specs.Told.{KeepsKeys, nothing_told};
 ghost use Rattle.archive_write.specs.Sharing.{start_answer, started, finish_answer, IsSet, KnowsNone};
 
 use crate::ser::Serializer;
-use archive_check::error::Error;
-use archive_check::traits::{Keys, Tells};
+use archive_check::format::error::Error;
+use archive_check::format::traits::{Keys, Tells};
 use std::alloc::{Allocator, Global};
 use std::collections::HashMap;
 use std::hash::{BuildHasherDefault, FoldHasher};

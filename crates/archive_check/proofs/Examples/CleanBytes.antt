@@ -5,7 +5,7 @@ use Rattle.archive_check.specs.Shape.{Shape, str, weak, Pointee, one, run}
 use Rattle.archive_check.specs.Reads.{bytes_at}
 use Rattle.archive_check.specs.Tour.{Region, root_region}
 use Rattle.archive_check.specs.Within.{Within, whole, in_parts, in_choice, in_array, in_named, PartOf, whole_region, in_one, in_run, in_string, PartOfSome}
-use Rattle.archive_check.specs.Written.{owned_part, Clean}
+use Rattle.archive_check.specs.Tightness.{owned_part, Clean}
 use Rattle.archive_check.proofs.Examples.Terms.{no_names}
 use Rattle.archive_check.proofs.Examples.Strings.{hi}
 

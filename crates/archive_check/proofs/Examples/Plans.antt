@@ -1,25 +1,25 @@
 -- A plan of lists of bools whose rest is their own or shared: a name that holds itself behind two kinds of pointers.
 use Rattle.std.proofs.Common.{◌≡◌, ℕ, refl, sym, ap, ◌∙◌, ◌+◌, ◌<◌, ◌≤◌, arith, List, [], ◌∷◌, length, slice_index_or, Some, None, suc, zero, true, Bor, bytes_eq}
 use Rattle.std.proofs.lemmas.Slice.Eq.{bytes_eq-Decides}
-use Rattle.archive_check.specs.declared.expr.Kind.TheVariants.{Bool as BoolKind}
-use Rattle.archive_check.specs.declared.expr.FlavorInfo.{FlavorInfo}
-use Rattle.archive_check.specs.declared.expr.Pointee.TheVariants as pointee
-use Rattle.archive_check.specs.declared.expr.Expr.TheVariants as expr
-use Rattle.archive_check.specs.declared.plan.Target.TheVariants.{One}
-use Rattle.archive_check.specs.declared.plan.Job.TheVariants.{Leaf, Choice, Pointer as PointerJob, Shared}
+use Rattle.archive_check.specs.declared.format.expr.Kind.TheVariants.{Bool as BoolKind}
+use Rattle.archive_check.specs.declared.format.expr.FlavorInfo.{FlavorInfo}
+use Rattle.archive_check.specs.declared.format.expr.Pointee.TheVariants as pointee
+use Rattle.archive_check.specs.declared.format.expr.Expr.TheVariants as expr
+use Rattle.archive_check.specs.declared.plan.PointeeKind.TheVariants.{One}
+use Rattle.archive_check.specs.declared.plan.NodeKind.TheVariants.{Leaf, Choice, Pointer as PointerNode, Shared}
 use Rattle.archive_check.specs.declared.plan.Node.{Node}
 use Rattle.archive_check.specs.declared.plan.Part.{Part as PlanPart}
 use Rattle.archive_check.specs.declared.plan.Span.{Span}
-use Rattle.archive_check.specs.declared.plan.Sort.{Sort}
-use Rattle.archive_check.specs.declared.plan.Checker.{Checker}
+use Rattle.archive_check.specs.declared.plan.SharedType.{SharedType}
+use Rattle.archive_check.specs.declared.check.Checker.{Checker}
 use Rattle.archive_check.specs.Shape.{Shape, leaf, bool, choice, boxed, shared, named, one, Parts, no_part, part, Variants, no_variant, variant, variant_at, definition}
 use Rattle.archive_check.specs.Layout.{size_of}
 use Rattle.archive_check.specs.Reads.{Schema}
 use Rattle.archive_check.specs.Expressions.{flavor_of}
-use Rattle.archive_check.specs.Runs.{IsAt, Takes}
-use Rattle.archive_check.specs.SoundPlans.{span, PartsWithin, JobFits, SpanFits, IsSound}
-use Rattle.archive_check.specs.Represents.{StandsFor, stands, stands_named, PartsStand, parts_over, parts_more, Sized, points_one, Made, made_leaf, made_choice, made_boxed, made_shared}
-use Rattle.archive_check.specs.PlanChecks.{PlanOf}
+use Rattle.archive_check.specs.check.Runs.{IsAt, Takes}
+use Rattle.archive_check.specs.plan.SoundPlans.{span, PartsWithin, NodeKindFits, SpanFits, IsSound}
+use Rattle.archive_check.specs.plan.Represents.{StandsFor, stands, stands_named, PartsStand, parts_over, parts_more, Sized, points_one, Made, made_leaf, made_choice, made_boxed, made_shared}
+use Rattle.archive_check.specs.check.PlanChecks.{PlanOf}
 
 module _ (name : Bor (List ℕ)) (flavor : FlavorInfo) where
   abbrev own : Parts
@@ -35,16 +35,16 @@ module _ (name : Bor (List ℕ)) (flavor : FlavorInfo) where
   lists = record { table = (name.now, choice name.now either) ∷ []; layouts = λ n. record { size = 8; align = 4 } }
 
   abbrev bool_node : Node
-  bool_node = record { size = Some 1; align = 1; job = Leaf BoolKind; positive = omega arith }
+  bool_node = record { size = Some 1; align = 1; kind = Leaf BoolKind; positive = omega arith }
 
   abbrev own_node : Node
-  own_node = record { size = Some 4; align = 4; job = PointerJob One 3; positive = omega arith }
+  own_node = record { size = Some 4; align = 4; kind = PointerNode One 3; positive = omega arith }
 
   abbrev common_node : Node
-  common_node = record { size = Some 4; align = 4; job = Shared 0 One 3; positive = omega arith }
+  common_node = record { size = Some 4; align = 4; kind = Shared 0 One 3; positive = omega arith }
 
   abbrev list_node : Node
-  list_node = record { size = Some 8; align = 4; job = Choice name 0 3; positive = omega arith }
+  list_node = record { size = Some 8; align = 4; kind = Choice name 0 3; positive = omega arith }
 
   abbrev the_nodes : List Node
   the_nodes = bool_node ∷ own_node ∷ common_node ∷ list_node ∷ []
@@ -73,8 +73,8 @@ module _ (name : Bor (List ℕ)) (flavor : FlavorInfo) where
   abbrev the_variants : List Span
   the_variants = no_span ∷ own_span ∷ common_span ∷ []
 
-  abbrev the_sort : Sort
-  the_sort = record { flavor = flavor; pointee = pointee.One (expr.Named name) }
+  abbrev the_shared_type : SharedType
+  the_shared_type = record { flavor = flavor; pointee = pointee.One (expr.Named name) }
 
   abbrev shape_at : ℕ → Shape
   shape_at zero = leaf bool
@@ -82,15 +82,15 @@ module _ (name : Bor (List ℕ)) (flavor : FlavorInfo) where
   shape_at (suc (suc zero)) = shared (flavor_of flavor) (one (named name.now))
   shape_at (suc (suc (suc i))) = choice name.now either
 
-  module _ (m : Checker) (nodes_are : m.nodes.now ≡ the_nodes) (parts_are : m.parts.now ≡ the_parts) (variants_are : m.variants.now ≡ the_variants) (sorts_are : m.sorts.now ≡ the_sort ∷ []) where
+  module _ (m : Checker) (nodes_are : m.nodes.now ≡ the_nodes) (parts_are : m.parts.now ≡ the_parts) (variants_are : m.variants.now ≡ the_variants) (shared_types_are : m.shared_types.now ≡ the_shared_type ∷ []) where
     node_at : (i : ℕ) (x : Node) → i < length the_nodes → x ≡ slice_index_or the_nodes i x → IsAt m.nodes.now i x
     node_at i x lt e = record { below = rw nodes_are lt; is = rw nodes_are e }
 
     part_at : (i : ℕ) (x : PlanPart) → i < length the_parts → x ≡ slice_index_or the_parts i x → IsAt m.parts.now i x
     part_at i x lt e = record { below = rw parts_are lt; is = rw parts_are e }
 
-    sort_at : IsAt m.sorts.now 0 the_sort
-    sort_at = record { below = rw sorts_are (omega arith); is = rw sorts_are refl }
+    shared_type_at : IsAt m.shared_types.now 0 the_shared_type
+    shared_type_at = record { below = rw shared_types_are (omega arith); is = rw shared_types_are refl }
 
     bool_takes : Takes m 0 1
     bool_takes = record { node = bool_node; at = node_at 0 bool_node (omega arith) refl; size_is = refl }
@@ -130,7 +130,7 @@ module _ (name : Bor (List ℕ)) (flavor : FlavorInfo) where
     no_more (suc (suc zero)) h = absurd (omega arith)
     no_more (suc (suc (suc tag))) h = refl
 
-    all_made : (i : ℕ) (node : Node) (z : ℕ) → IsAt m.nodes.now i node → node.size ≡ Some z → (size_of lists.layouts (shape_at i) ≡ z) × Made lists shape_at m node.job (shape_at i)
+    all_made : (i : ℕ) (node : Node) (z : ℕ) → IsAt m.nodes.now i node → node.size ≡ Some z → (size_of lists.layouts (shape_at i) ≡ z) × Made lists shape_at m node.kind (shape_at i)
     all_made zero node z h e =
         let is : node ≡ bool_node = rw nodes_are at h.is in
         let sized : Some 1 ≡ Some z = sym (ap (λ q. q.size) is) ∙ e in
@@ -142,7 +142,7 @@ module _ (name : Bor (List ℕ)) (flavor : FlavorInfo) where
     all_made (suc (suc zero)) node z h e =
         let is : node ≡ common_node = rw nodes_are at h.is in
         let sized : Some 4 ≡ Some z = sym (ap (λ q. q.size) is) ∙ e in
-        (cc, rw is (made_shared sort_at (points_one list_sized list_stands)))
+        (cc, rw is (made_shared shared_type_at (points_one list_sized list_stands)))
     all_made (suc (suc (suc zero))) node z h e =
         let is : node ≡ list_node = rw nodes_are at h.is in
         let sized : Some 8 ≡ Some z = sym (ap (λ q. q.size) is) ∙ e in
@@ -170,7 +170,7 @@ module _ (name : Bor (List ℕ)) (flavor : FlavorInfo) where
         rw is (record { last = rw parts_are (omega arith); few = omega arith; within = rest_within (span m.parts.now 2 4) (rw parts_are refl) })
     span_fits (suc (suc (suc k))) x le lt h = absurd (omega arith)
 
-    all_fit : (i : ℕ) (node : Node) (z : ℕ) → IsAt m.nodes.now i node → node.size ≡ Some z → JobFits m i z node.job
+    all_fit : (i : ℕ) (node : Node) (z : ℕ) → IsAt m.nodes.now i node → node.size ≡ Some z → NodeKindFits m i z node.kind
     all_fit zero node z h e =
         let is : node ≡ bool_node = rw nodes_are at h.is in
         let sized : Some 1 ≡ Some z = sym (ap (λ q. q.size) is) ∙ e in
@@ -185,7 +185,7 @@ module _ (name : Bor (List ℕ)) (flavor : FlavorInfo) where
         let is : node ≡ common_node = rw nodes_are at h.is in
         let sized : Some 4 ≡ Some z = sym (ap (λ q. q.size) is) ∙ e in
         let same : z ≡ 4 = cc in
-        rw (is, same) (omega arith, rw sorts_are (omega arith), rw nodes_are (omega arith))
+        rw (is, same) (omega arith, rw shared_types_are (omega arith), rw nodes_are (omega arith))
     all_fit (suc (suc (suc zero))) node z h e =
         let is : node ≡ list_node = rw nodes_are at h.is in
         let sized : Some 8 ≡ Some z = sym (ap (λ q. q.size) is) ∙ e in

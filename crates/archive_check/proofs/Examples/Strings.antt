@@ -8,7 +8,7 @@ use Rattle.archive_check.specs.Value.{text_value}
 use Rattle.archive_check.specs.Reads.{bytes_at, u32_at, i32_at, decoded_length, reads_out_of_line, reads_inline, IsOutOfLine, before_end}
 use Rattle.archive_check.specs.Tour.{contents_text, tour_end, tour_unique}
 use Rattle.archive_check.specs.Denotes.{fills_text, fills_unique}
-use Rattle.archive_check.specs.Written.{TightFrom}
+use Rattle.archive_check.specs.Tightness.{TightFrom}
 use Rattle.archive_check.specs.Trail.{outside, unaligned, no_string, no_text, trips_within, trips_one, trips_short, trips_inline, trips_range, trips_align}
 use Rattle.archive_check.proofs.Examples.Terms.{no_names, Says, Refused, refused, shares_nothing}
 

@@ -4,14 +4,14 @@ ghost use Rattle.std.specs.Prelude.{◌≡◌, Some, None, false};
 ghost use Rattle.archive_check.specs.Shape.{named};
 ghost use Rattle.archive_check.specs.Layout.{pointer_size as pointer_takes};
 ghost use Rattle.archive_check.specs.Expressions.{shape_of, pointee_of, shapes_in, variants_in};
-ghost use Rattle.archive_check.specs.Names.{missing, parts_missing, variants_missing};
+ghost use Rattle.archive_check.specs.plan.Names.{missing, parts_missing, variants_missing};
 ghost use Rattle.archive_check.specs.Schemas.{table_in};
-ghost use Rattle.archive_check.specs.Extents.{HasExtent, PartsHaveExtent, VariantsHaveExtent};
+ghost use Rattle.archive_check.specs.plan.Extents.{HasExtent, PartsHaveExtent, VariantsHaveExtent};
 
-use crate::expr::{Expr, Pointee};
-use crate::extents::{Extent, pointer_size, times};
-use crate::growing::find;
-use crate::plan::Target;
+use crate::format::expr::{Expr, Pointee};
+use crate::plan::extents::{Extent, pointer_size, times};
+use crate::plan::growing::find;
+use crate::plan::PointeeKind;
 use crate::shape::Schema;
 
 // What a name takes: what its node does.
@@ -35,9 +35,9 @@ fn extent_of_pointer(pointee: &Pointee) -> Extent
     ensures align { result.align ≡ 4 }
 {
     let target = match pointee {
-        Pointee::One(_) => Target::One,
-        Pointee::Run(_) => Target::Run,
-        Pointee::Text => Target::Text,
+        Pointee::One(_) => PointeeKind::One,
+        Pointee::Run(_) => PointeeKind::Run,
+        Pointee::Text => PointeeKind::Text,
     };
     Extent {
         end: Some(pointer_size(target)),
@@ -47,7 +47,7 @@ fn extent_of_pointer(pointee: &Pointee) -> Extent
 
 /// What an expression takes: it ends at its size.
 #[cycle(extent)]
-#[tactic(auto, using(crate::proofs::Views::views))]
+#[tactic(auto, using(crate::proofs::plan::Views::views))]
 pub fn extent_of(schema: &Schema, expr: &Expr) -> Extent
     requires { missing false (table_in schema.now) (shape_of expr.now) ≡ None }
     ensures { HasExtent schema.now (shape_of expr.now) result }
@@ -77,7 +77,7 @@ pub fn extent_of(schema: &Schema, expr: &Expr) -> Extent
 
 // What parts take, from an offset on.
 #[cycle(extent)]
-#[tactic(auto, using(crate::proofs::Views::views))]
+#[tactic(auto, using(crate::proofs::plan::Views::views))]
 fn extent_of_parts(schema: &Schema, parts: &[Expr], start: usize) -> Extent
     requires { parts_missing false (table_in schema.now) (shapes_in parts.now) ≡ None }
     ensures { PartsHaveExtent schema.now start (shapes_in parts.now) result }
@@ -92,7 +92,7 @@ fn extent_of_parts(schema: &Schema, parts: &[Expr], start: usize) -> Extent
 
 // What variants take, each behind the tag.
 #[cycle(extent)]
-#[tactic(auto, using(crate::proofs::Views::views))]
+#[tactic(auto, using(crate::proofs::plan::Views::views))]
 fn extent_of_variants(schema: &Schema, variants: &[Vec<Expr>]) -> Extent
     requires { variants_missing false (table_in schema.now) (variants_in variants.now) ≡ None }
     ensures { VariantsHaveExtent schema.now (variants_in variants.now) result }

@@ -7,12 +7,12 @@ ghost use Rattle.archive_check.specs.Shape.{one, named, leaf, number, unsigned};
 ghost use Rattle.archive_check.specs.Definitions.{defines};
 ghost use Rattle.archive_check.specs.NamedLayout.{name_has_layout, name_reached};
 
-use crate::error::Error;
-use crate::expr::{Defs, Expr, FlavorInfo, IntegerKind, Kind, Pointee};
-use crate::layout::Layout;
-use crate::names::missing;
+use crate::format::error::Error;
+use crate::format::expr::{Defs, Expr, FlavorInfo, IntegerKind, Kind, Pointee};
+use crate::format::layout::Layout;
+use crate::plan::names::missing;
 use crate::shape::Schema;
-use crate::traits::{ArchivePointee, LayoutRaw, Portable, layout_of_run};
+use crate::format::traits::{ArchivePointee, LayoutRaw, Portable, layout_of_run};
 use std::alloc::{AllocError, Global};
 use std::test::Fail;
 
@@ -63,7 +63,7 @@ impl Portable for ArchivedId {
         Ok(Expr::Named("ArchivedId"))
     }
 
-    #[tactic(auto, using(crate::proofs::AddedDefinitions::not_extended))]
+    #[tactic(auto, using(crate::proofs::format::AddedDefinitions::not_extended))]
     fn define(_alloc: Global, defs: &mut Defs) -> Result<(), Error> {
         let number = Expr::Leaf(Kind::Number(IntegerKind::U64));
         defs.add("ArchivedId", number)?;

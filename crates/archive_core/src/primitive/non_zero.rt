@@ -18,7 +18,7 @@ use super::write_leaf;
 use crate::place::Place;
 use crate::traits::{Archive, Deserialize, Entries, Keys, Serialize};
 use crate::view::{Part, Ref};
-use archive_check::error::Error;
+use archive_check::format::error::Error;
 use archive_nonzero::NonZero;
 use archive_num::Integer;
 use archive_write::ser::Writer;

@@ -6,7 +6,7 @@ ghost use Rattle.archive_core.specs.Offsets.{distance, IsTooFar};
 ghost use Rattle.archive_core.specs.Strings.{inline_bytes, out_of_line_bytes, coded_length};
 
 use crate::rel_ptr::signed_offset;
-use archive_check::error::Error;
+use archive_check::format::error::Error;
 
 /// A text of at most so many bytes stands in the string itself.
 pub const INLINE_CAPACITY: usize = 8;

@@ -9,7 +9,7 @@ ghost use Rattle.archive_check.proofs.LittleEndian.{length-little_bytes, AreByte
 ghost use Rattle.archive_num.specs.Leaves.{unit-bytes, unit-leaf, unit-reads, unit-value, bool-bytes, bool-kind, bool-legal, bool-leaf, bool-number, bool-reads, bool-value, char-kind, char-legal, char-leaf, char-number, char-reads, char-value};
 
 use crate::Native;
-use archive_check::expr::Kind;
+use archive_check::format::expr::Kind;
 
 impl Native for () {
     ghost kind = { unit };

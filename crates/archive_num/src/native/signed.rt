@@ -9,7 +9,7 @@ ghost use Rattle.archive_check.proofs.LittleEndian.{length-little_bytes, AreByte
 ghost use Rattle.archive_num.specs.Leaves.{number-leaf, signed-number, signed-reads, signed-value};
 
 use crate::{Integer, Native};
-use archive_check::expr::{IntegerKind, Kind};
+use archive_check::format::expr::{IntegerKind, Kind};
 
 #[tactic(auto, using(archive_check::proofs::LittleEndian::std_bytes))]
 impl Native for i8 {

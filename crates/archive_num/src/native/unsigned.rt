@@ -8,7 +8,7 @@ ghost use Rattle.archive_check.proofs.LittleEndian.{length-little_bytes, AreByte
 ghost use Rattle.archive_num.specs.Leaves.{number-leaf, unsigned-number, unsigned-reads, unsigned-value};
 
 use crate::{Integer, Native};
-use archive_check::expr::{IntegerKind, Kind};
+use archive_check::format::expr::{IntegerKind, Kind};
 
 #[tactic(auto, using(archive_check::proofs::LittleEndian::std_bytes))]
 impl Native for u8 {

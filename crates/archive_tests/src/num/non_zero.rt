@@ -1,7 +1,7 @@
 // Numbers that aren't 0.
 
-use archive_check::expr::{Defs, Expr, IntegerKind, Kind};
-use archive_check::traits::{ArchivePointee, Portable};
+use archive_check::format::expr::{Defs, Expr, IntegerKind, Kind};
+use archive_check::format::traits::{ArchivePointee, Portable};
 use archive_nonzero::{
     ArchivedNonZeroI8, ArchivedNonZeroI16, ArchivedNonZeroI32, ArchivedNonZeroI64,
     ArchivedNonZeroI128, ArchivedNonZeroIsize, ArchivedNonZeroU8, ArchivedNonZeroU16,

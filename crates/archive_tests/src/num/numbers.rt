@@ -2,8 +2,8 @@
 
 ghost use Rattle.std.specs.Prelude.{◌≡◌, ◌↔◌, ◌<◌, length, IsTrue};
 
-use archive_check::expr::{Defs, Expr, IntegerKind, Kind};
-use archive_check::traits::{ArchivePointee, Portable};
+use archive_check::format::expr::{Defs, Expr, IntegerKind, Kind};
+use archive_check::format::traits::{ArchivePointee, Portable};
 use archive_num::{
     ArchivedChar, ArchivedI16, ArchivedI32, ArchivedI64, ArchivedI128, ArchivedIsize, ArchivedU16,
     ArchivedU32, ArchivedU64, ArchivedU128, ArchivedUsize, Native,

@@ -2,8 +2,8 @@
 
 ghost use Rattle.std.specs.Prelude.{None, length, refl, true};
 
-use archive_check::error::Error;
-use archive_check::traits::{Keys, Tells};
+use archive_check::format::error::Error;
+use archive_check::format::traits::{Keys, Tells};
 use archive_core::api::to_bytes_in;
 use archive_core::ser::{Positional, Serializer, Writer, serialize_one};
 use archive_core::sharing::{Share, SharingExt};

@@ -1,7 +1,7 @@
 // Memory that runs out: budgets that rise, until one serves.
 
 use crate::write::write_string;
-use archive_check::error::Error;
+use archive_check::format::error::Error;
 use archive_write::ser::{Positional, Serializer, Writer};
 use archive_write::sharing::{Share, Sharing, SharingState};
 use linked_list_allocator::LocalHeap;

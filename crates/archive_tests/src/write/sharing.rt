@@ -1,6 +1,6 @@
 // The states of shared keys.
 
-use archive_check::error::Error;
+use archive_check::format::error::Error;
 use archive_write::ser::Serializer;
 use archive_write::sharing::{Share, Sharing, SharingState};
 use std::process::Abort;

@@ -4,7 +4,7 @@ ghost use Rattle.std.specs.Prelude.{◌<◌, ◌≤◌, ◌-◌, length, IsOk};
 ghost use Rattle.archive_write.specs.Written.{padding};
 
 use crate::write::write_string;
-use archive_check::error::Error;
+use archive_check::format::error::Error;
 use archive_write::ser::{Buffer, Positional, ResolverAlloc, Serializer, Writer, WriterExt};
 use std::test::Fail;
 

@@ -7,8 +7,8 @@ ghost use Rattle.archive_check.specs.Told.{KeepsKeys};
 ghost use Rattle.archive_write.specs.Written.{IsBeginning, RoomFalls, ExplainsRefusal};
 
 use crate::ser::{Positional, Writer};
-use archive_check::error::Error;
-use archive_check::traits::{Keys, Tells};
+use archive_check::format::error::Error;
+use archive_check::format::traits::{Keys, Tells};
 
 /// A writer over bytes that are lent to it. It takes as many bytes as they are, and leaves those beyond what is written as they were.
 #[derive(Drop)]

@@ -6,8 +6,8 @@ ghost use Rattle.archive_check.specs.Told.{KeepsKeys};
 ghost use Rattle.archive_write.specs.Written.{IsBeginning, RoomFalls, ExplainsRefusal, padding};
 
 use crate::ser::Writer;
-use archive_check::error::Error;
-use archive_check::traits::Portable;
+use archive_check::format::error::Error;
+use archive_check::format::traits::Portable;
 
 // How many zeros stand between a position and the next multiple of an alignment.
 fn zeros_due(pos: usize, align: usize) -> usize

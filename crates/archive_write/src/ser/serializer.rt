@@ -3,8 +3,8 @@
 ghost use Rattle.std.specs.Prelude.{◌≡◌};
 
 use crate::ser::{Positional, Writer};
-use archive_check::error::Error;
-use archive_check::traits::{Keys, Tells};
+use archive_check::format::error::Error;
+use archive_check::format::traits::{Keys, Tells};
 use std::alloc::Allocator;
 
 /// What a value is serialized to.

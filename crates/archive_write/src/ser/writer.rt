@@ -4,8 +4,8 @@ ghost use Rattle.std.specs.Prelude.{◌≡◌, ◌++◌, ◌≤◌, ℕ, Bool, t
 ghost use Rattle.archive_check.specs.Told.{KeepsKeys};
 ghost use Rattle.archive_write.specs.Written.{IsBeginning, RoomFalls, ExplainsRefusal};
 
-use archive_check::error::Error;
-use archive_check::traits::Keys;
+use archive_check::format::error::Error;
+use archive_check::format::traits::Keys;
 use std::alloc::Allocator;
 
 /// What stands at a position.

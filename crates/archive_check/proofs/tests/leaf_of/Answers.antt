@@ -3,7 +3,7 @@ use Rattle.archive_check.specs.Layout.{kind_size}
 use Rattle.archive_check.specs.Reads.{bytes_at}
 use Rattle.archive_check.specs.Expressions.{kind_of}
 use Rattle.archive_check.proofs.EditedBytes.{bytes_long}
-use Rattle.archive_check.proofs.EnteredRegions.{not_true}
+use Rattle.archive_check.proofs.check.EnteredRegions.{not_true}
 use Rattle.archive_check.proofs.tests.leaf_of.Goals as goal
 
 pub illegal-requires : goal.illegal-requires

@@ -1,8 +1,8 @@
 use Rattle.std.proofs.Common.{refl, sym, subst}
 use Rattle.archive_check.specs.Expressions.{shape_of, entries_of}
-use Rattle.archive_check.specs.Planned.{InOrder}
+use Rattle.archive_check.specs.plan.Planned.{InOrder}
 use Rattle.archive_check.proofs.WellFormed.{collected_complete, arranged_complete}
-use Rattle.archive_check.proofs.PlansInOrder.{in_order_of}
+use Rattle.archive_check.proofs.plan.PlansInOrder.{in_order_of}
 use Rattle.archive_check.proofs.tests_plans.planned.Goals as goal
 
 pub in_order-requires : goal.in_order-requires

@@ -3,7 +3,7 @@ use Rattle.archive_check.specs.Shape.{definition}
 use Rattle.archive_check.specs.Expressions.{table_of}
 use Rattle.archive_check.specs.AddAnswer.{IsAddAnswer}
 use Rattle.archive_check.specs.Definitions.{defines, Extended}
-use Rattle.archive_check.proofs.AddedDefinitions.{extended_by, not_extended}
+use Rattle.archive_check.proofs.format.AddedDefinitions.{extended_by, not_extended}
 use Rattle.archive_bench.specs.Sets.{node}
 use Rattle.archive_bench.proofs.sets.ArchivedNodePortable.define.Goals as goal
 

@@ -1,15 +1,15 @@
 use Rattle.std.proofs.Common.{rules, ◌≡◌, ◌+◌, sym, ap, subst, length, arith}
 use Rattle.archive_check.specs.Expressions.{shape_of}
-use Rattle.archive_check.specs.NodeCounts.{count_of}
-use Rattle.archive_check.specs.PlanGrowth.{lists_of}
-use Rattle.archive_check.specs.CompileQueue.{Waits, waits_of}
-use Rattle.archive_check.specs.Compiled.{Compiled}
-use Rattle.archive_check.specs.NodeNumbers.{def_shapes, start_of}
-use Rattle.archive_check.specs.Planned.{Chained, Finishes, CanChain, CanFinish}
-use Rattle.archive_check.specs.Compilable.{Can}
-use Rattle.archive_check.proofs.Restated.{as_done}
-use Rattle.archive_check.proofs.NodeNumbers.{can_chain}
-use Rattle.archive_check.proofs.Planned.{all_planned, all_named, root_can, finish_can}
+use Rattle.archive_check.specs.plan.NodeCounts.{count_of}
+use Rattle.archive_check.specs.plan.PlanGrowth.{lists_of}
+use Rattle.archive_check.specs.plan.CompileQueue.{Waits, waits_of}
+use Rattle.archive_check.specs.plan.Compiled.{Compiled}
+use Rattle.archive_check.specs.plan.NodeNumbers.{def_shapes, start_of}
+use Rattle.archive_check.specs.plan.Planned.{Chained, Finishes, CanChain, CanFinish}
+use Rattle.archive_check.specs.plan.Compilable.{Can}
+use Rattle.archive_check.proofs.plan.Restated.{as_done}
+use Rattle.archive_check.proofs.plan.NodeNumbers.{can_chain}
+use Rattle.archive_check.proofs.plan.Planned.{all_planned, all_named, root_can, finish_can}
 use Rattle.archive_check.proofs.plan.Plan.of.Goals as goal
 
 pub compile_defs-requires-clause-can : goal.compile_defs-requires-clause-can

@@ -1,6 +1,6 @@
 use Rattle.archive_check.specs.Expressions.{shape_of}
 use Rattle.archive_check.specs.Schemas.{table_in}
-use Rattle.archive_check.proofs.MissingNames.{none_held_missed}
+use Rattle.archive_check.proofs.plan.MissingNames.{none_held_missed}
 use Rattle.archive_check.proofs.shape.Schema.layout.Goals as goal
 
 pub extent_of-extent-requires : goal.extent_of-extent-requires

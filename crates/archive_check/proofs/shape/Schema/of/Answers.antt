@@ -1,8 +1,8 @@
 use Rattle.std.proofs.Common.{sym, subst, true}
 use Rattle.archive_check.specs.Expressions.{shape_of, entries_of}
-use Rattle.archive_check.specs.Planned.{InOrder}
-use Rattle.archive_check.proofs.MissingNames.{held_known}
-use Rattle.archive_check.proofs.PlansInOrder.{in_order_of}
+use Rattle.archive_check.specs.plan.Planned.{InOrder}
+use Rattle.archive_check.proofs.plan.MissingNames.{held_known}
+use Rattle.archive_check.proofs.plan.PlansInOrder.{in_order_of}
 use Rattle.archive_check.proofs.shape.Schema.of.Goals as goal
 
 pub of-requires : goal.of-requires

@@ -1,15 +1,15 @@
 use Rattle.std.proofs.Common.{⊎_elim, ◌+◌, ◌<◌, ap, sym, ◌∙◌, subst, arith, refl, Some, false, drop}
 use Rattle.archive_check.specs.Expressions.{kind_of, flavor_of, shape_of, pointee_of, shapes_in, variants_in}
-use Rattle.archive_check.specs.Measure.{measure_of_variants}
+use Rattle.archive_check.specs.plan.Measure.{measure_of_variants}
 use Rattle.archive_check.specs.Shape.{parts, choice, array, boxed, shared, weak, variant}
-use Rattle.archive_check.specs.Runs.{times}
-use Rattle.archive_check.specs.Names.{missing, parts_missing, variants_missing}
+use Rattle.archive_check.specs.check.Runs.{times}
+use Rattle.archive_check.specs.plan.Names.{missing, parts_missing, variants_missing}
 use Rattle.archive_check.specs.Schemas.{table_in}
-use Rattle.archive_check.proofs.Views.{choice_falls, shape_of-Choice, shape_of-Record, shapes_in-drop, shapes_in-end, variants_in-drop, variants_in-end}
-use Rattle.archive_check.proofs.MissingNames.{or_none}
-use Rattle.archive_check.proofs.BoundedSizes.{fits_some, times_fits}
-use Rattle.archive_check.proofs.FreeWalks.{kind_few}
-use Rattle.archive_check.proofs.ExtentsOf.{pointer_fits, arm, whole_ends, parts_start, parts_left, parts_next, parts_done, variants_start, variants_left, variants_next, variants_done}
+use Rattle.archive_check.proofs.plan.Views.{choice_falls, shape_of-Choice, shape_of-Record, shapes_in-drop, shapes_in-end, variants_in-drop, variants_in-end}
+use Rattle.archive_check.proofs.plan.MissingNames.{or_none}
+use Rattle.archive_check.proofs.plan.BoundedSizes.{fits_some, times_fits}
+use Rattle.archive_check.proofs.plan.FreeWalks.{kind_few}
+use Rattle.archive_check.proofs.plan.ExtentsOf.{pointer_fits, arm, whole_ends, parts_start, parts_left, parts_next, parts_done, variants_start, variants_left, variants_next, variants_done}
 use Rattle.archive_check.proofs.shape.layouts.+extent.Goals as goal
 use Rattle.archive_check.proofs.shape.layouts.+extent.Goals.{extent_of-in-Leaf, extent_of-in-Record, extent_of-in-Choice, extent_of-in-Array, extent_of-in-Named, extent_of-in-Vec, extent_of-in-Vec-2, extent_of-in-Box2}
 

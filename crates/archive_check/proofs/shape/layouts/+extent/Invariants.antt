@@ -1,10 +1,10 @@
 use Rattle.std.proofs.Common.{◌≡◌, None, false, drop}
 use Rattle.archive_check.specs.Expressions.{shape_of, shapes_in, variants_in}
-use Rattle.archive_check.specs.Measure.{measure_of, measure_of_parts, measure_of_variants}
-use Rattle.archive_check.specs.Names.{parts_missing, variants_missing}
+use Rattle.archive_check.specs.plan.Measure.{measure_of, measure_of_parts, measure_of_variants}
+use Rattle.archive_check.specs.plan.Names.{parts_missing, variants_missing}
 use Rattle.archive_check.specs.Reads.{Schema}
 use Rattle.archive_check.specs.Schemas.{table_in, Suits}
-use Rattle.archive_check.specs.Extents.{PartsSoFar, VariantsSoFar}
+use Rattle.archive_check.specs.plan.Extents.{PartsSoFar, VariantsSoFar}
 use Rattle.archive_check.proofs.shape.layouts.+extent.Given as goal
 
 abbrev pub decreases-extent_of : goal.decreases-extent_of

@@ -1,6 +1,6 @@
 use Rattle.std.proofs.Common.{sym, ◌∙◌, refl, ap}
-use Rattle.archive_check.specs.PlanGrowth.{node_of}
-use Rattle.archive_check.proofs.ExtentsOf.{name_there, name_extent}
+use Rattle.archive_check.specs.plan.PlanGrowth.{node_of}
+use Rattle.archive_check.proofs.plan.ExtentsOf.{name_there, name_extent}
 use Rattle.archive_check.proofs.shape.layouts.extent_of_name.Goals as goal
 
 pub returns : goal.returns

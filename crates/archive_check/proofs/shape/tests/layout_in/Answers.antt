@@ -1,8 +1,8 @@
 use Rattle.std.proofs.Common.{sym, ap, ◌∙◌, false, option_map}
 use Rattle.archive_check.specs.Expressions.{shape_of, entries_of}
-use Rattle.archive_check.specs.Names.{missing}
+use Rattle.archive_check.specs.plan.Names.{missing}
 use Rattle.archive_check.specs.Schemas.{table_in}
-use Rattle.archive_check.proofs.MissingNames.{held_known}
+use Rattle.archive_check.proofs.plan.MissingNames.{held_known}
 use Rattle.archive_check.proofs.shape.tests.layout_in.Goals as goal
 
 pub layout-requires : goal.layout-requires

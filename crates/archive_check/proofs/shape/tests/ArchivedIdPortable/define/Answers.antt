@@ -1,4 +1,4 @@
-use Rattle.archive_check.proofs.AddedDefinitions.{extended_by}
+use Rattle.archive_check.proofs.format.AddedDefinitions.{extended_by}
 use Rattle.archive_check.proofs.shape.tests.ArchivedIdPortable.define.Goals as goal
 
 pub returns-clause-added : goal.returns-clause-added

@@ -1,0 +1,12 @@
+-- Lemmas on the check of bytes against a plan.
+pub mod AtOnce
+pub mod ContextAgrees
+pub mod EnteredRegions
+pub mod FollowedPointers
+pub mod LegalElements
+pub mod LegalParts
+pub mod RootLoop
+pub mod RootRuns
+pub mod TurnInvariants
+pub mod TurnRules
+pub mod TurnsEnd

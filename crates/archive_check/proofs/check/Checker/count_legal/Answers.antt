@@ -1,0 +1,11 @@
+use Rattle.archive_check.proofs.check.EnteredRegions.{is_true}
+use Rattle.archive_check.proofs.check.LegalElements.{element_fits, passes_more}
+use Rattle.archive_check.proofs.check.Checker.count_legal.Goals as goal
+
+pub is_legal_here-requires-clause-fits : goal.is_legal_here-requires-clause-fits
+is_legal_here-requires-clause-fits c =
+    element_fits c.args.self.now c.args.node c.args.size c.requires.size c.args.count c.args.at c.loop-index.index c.requires.fits c.loop-index-test.true
+
+pub loop-index-preserved : goal.loop-index-preserved
+loop-index-preserved c =
+    passes_more c.args.self.now c.args.node c.args.size c.requires.size c.args.at c.loop-index.index c.loop-index.invariant (c.is_legal_here.ensures.legal (is_true c.is_legal_here.result c.if-not-is_legal_here.false))

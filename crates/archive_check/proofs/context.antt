@@ -1,0 +1,4 @@
+-- Lemmas on what a check keeps.
+pub mod PowersOfTwo
+pub mod SharedPositions
+pub mod SubtreeSteps

@@ -1,0 +1,180 @@
+-- Steps of what is kept of shared positions.
+use Rattle.std.proofs.Common.{◌≡◌, ⊎_elim, ℕ, ◌<◌, ◌≤◌, ℤ, List, [], ◌∷◌, ◌++◌, length, Bool, true, false, cond, refl, sym, ap, ◌∙◌, subst, Option, Some, None, option_map, arith, zero, suc, slice_get, Result, Ok, Err, OnOk, OnErr, ◌&&◌, bytes_eq, get_or, ◌+◌, length-append}
+use Rattle.std.specs.Bool.{beq}
+use Rattle.std.proofs.lemmas.Bool.{cases_lt}
+use Rattle.std.proofs.lemmas.Option.{slice_get_read, slice_get_within}
+use mathlib.Core.Bool.{true≢false}
+use Rattle.std.specs.Cmp.{signed_Decides}
+use Rattle.std.specs.Ordering.{int_eq}
+use Rattle.std.specs.Map.{update, lookup}
+use Rattle.std.specs.HashMap.{HashMap, get, Updates, IsUnchanged}
+use Rattle.std.specs.Option.{ForSome}
+use Rattle.archive_check.specs.declared.format.error.Error.TheVariants.{AlreadyFinished}
+use Rattle.archive_check.specs.declared.plan.SharedType.{SharedType}
+use Rattle.archive_check.specs.declared.context.positions.SharedPosition.{SharedPosition}
+use Rattle.archive_check.specs.declared.format.expr.FlavorInfo.{FlavorInfo}
+use Rattle.archive_check.specs.declared.format.expr.Pointee.{Pointee as PointeeExpr}
+use Rattle.archive_check.specs.declared.format.error.Error.{Error}
+use Rattle.archive_check.specs.declared.context.ValidationState.{ValidationState}
+use Rattle.archive_check.specs.Shape.{Flavor, Pointee}
+use Rattle.archive_check.specs.Expressions.{flavor_of, pointee_of}
+use Rattle.archive_check.specs.Equality.{same_flavor-Decides}
+use Rattle.archive_check.specs.Tour.{Entry}
+use Rattle.archive_check.specs.PositionStates.{PositionState, Positions, started, started_at, finish_answer, IsStartAnswer}
+use Rattle.archive_check.specs.SharedPositions.{met_as, met_in, positions_in, AreKnown, HasType, IsAbsent, IsGrown}
+
+slice_get-append : {A : Type 0} (xs ys : List A) (k : ℕ) → k < length xs → slice_get (xs ++ ys) k ≡ slice_get xs k
+slice_get-append [] ys k h = absurd (omega arith)
+slice_get-append (x ∷ xs) ys zero h = refl
+slice_get-append (x ∷ xs) ys (suc k) h = slice_get-append xs ys k (omega arith)
+
+slice_get-some : {A : Type 0} (xs : List A) (k : ℕ) → k < length xs → (x : A) × (slice_get xs k ≡ Some x)
+slice_get-some [] k h = absurd (omega arith)
+slice_get-some (x ∷ xs) zero h = (x, refl)
+slice_get-some (x ∷ xs) (suc k) h = slice_get-some xs k (omega arith)
+
+slice_get-last : {A : Type 0} (xs : List A) (x : A) → slice_get (xs ++ x ∷ []) (length xs) ≡ Some x
+slice_get-last [] x = refl
+slice_get-last (y ∷ xs) x = slice_get-last xs x
+
+met_in-grown : (shared_types more : List SharedType) (kept : Option SharedPosition) → ForSome kept (λ k. k.shared_type < length shared_types) → met_in (shared_types ++ more) kept ≡ met_in shared_types kept
+met_in-grown shared_types more None h = refl
+met_in-grown shared_types more (Some k) h = ap (option_map (met_as k)) (slice_get-append shared_types more k.shared_type (h k refl))
+
+pub positions_in-grown : (old new : List SharedType) (f : ℤ → Option SharedPosition) → IsGrown old new → AreKnown old f → positions_in new f ≡ positions_in old f
+positions_in-grown old new f g h =
+    let grown : positions_in (old ++ g.more) f ≡ positions_in old f = λ i q. met_in-grown old g.more (f q) (h q) i in
+    ap (λ shared_types. positions_in shared_types f) g.is ∙ grown
+
+-- one position gets another value
+met_in-cond : (shared_types : List SharedType) (b : Bool) (x y : Option SharedPosition) → met_in shared_types (cond b x y) ≡ cond b (met_in shared_types x) (met_in shared_types y)
+met_in-cond shared_types true x y = refl
+met_in-cond shared_types false x y = refl
+
+pub positions_in-update : (shared_types : List SharedType) (f g : ℤ → Option SharedPosition) (p : ℤ) (x : Option SharedPosition) → ((q : ℤ) → g q ≡ cond (int_eq p q) x (f q)) → positions_in shared_types g ≡ update int_eq (positions_in shared_types f) p (met_in shared_types x)
+positions_in-update shared_types f g p x e = λ i q. (ap (met_in shared_types) (e q) ∙ met_in-cond shared_types (int_eq p q) x (f q)) i
+
+-- a position that was met stays as it was
+own_value : (met : Positions) (p q : ℤ) (old : Option PositionState) (b : Bool) → (b ≡ true → p ≡ q) → met p ≡ old → met q ≡ cond b old (met q)
+own_value met p q old true same e = sym (ap met (same refl)) ∙ e
+own_value met p q old false same e = refl
+
+pub started-again : (met : Positions) (p : ℤ) (old : PositionState) (new : Entry) → met p ≡ Some old → met ≡ started met p new
+started-again met p old new e =
+    let same : met ≡ update int_eq met p (Some old) = λ i q. own_value met p q (Some old) (int_eq p q) (signed_Decides p q).0 e i in
+    same ∙ ap (λ x. update int_eq met p (Some (started_at x new))) (sym e)
+
+-- a position that is kept was met, with its type in the list
+pub met_in-kept : (shared_types : List SharedType) (f : ℤ → Option SharedPosition) (p key : ℤ) (k : SharedPosition) → AreKnown shared_types f → key ≡ p → f key ≡ Some k → (shared_type : SharedType) × (slice_get shared_types k.shared_type ≡ Some shared_type) × (positions_in shared_types f p ≡ Some (met_as k shared_type))
+met_in-kept shared_types f p key k h same e =
+    let (shared_type, at) = slice_get-some shared_types k.shared_type (h key k e) in
+    (shared_type, at, ap (positions_in shared_types f) (sym same) ∙ ap (met_in shared_types) e ∙ ap (option_map (met_as k)) at)
+
+pub finish_kept : (shared_types : List SharedType) (f : ℤ → Option SharedPosition) (p key : ℤ) (k : SharedPosition) (b : Bool) → AreKnown shared_types f → key ≡ p → Some k ≡ f key → k.finished ≡ b → cond b (Err AlreadyFinished) (Ok tt) ≡ finish_answer (positions_in shared_types f p)
+finish_kept shared_types f p key k b h same e is =
+    let answer : Bool → Result (Unit {0}) Error = λ b. cond b (Err AlreadyFinished) (Ok tt) in
+    sym (ap finish_answer (met_in-kept shared_types f p key k h same (sym e)).2 ∙ ap answer is)
+
+-- equal flavors
+pub same_flavors : (f g : FlavorInfo) → (bytes_eq f.name.now g.name.now && beq f.cycles g.cycles) ≡ true → flavor_of f ≡ flavor_of g
+same_flavors f g e = (same_flavor-Decides (flavor_of f) (flavor_of g)).0 e
+
+pub other_flavors : (f g : FlavorInfo) → (bytes_eq f.name.now g.name.now && beq f.cycles g.cycles) ≡ false → flavor_of f ≡ flavor_of g → ⊥
+other_flavors f g e s = true≢false (sym ((same_flavor-Decides (flavor_of f) (flavor_of g)).1 s) ∙ e)
+
+pub has_type : (shared_types : List SharedType) (k : ℕ) (shared_type : SharedType) (f : FlavorInfo) (P : Pointee) → k < length shared_types → shared_type ≡ get_or shared_types k shared_type → flavor_of shared_type.flavor ≡ flavor_of f → pointee_of shared_type.pointee ≡ P → HasType shared_types k (flavor_of f) P
+has_type shared_types k shared_type f P h e s t = record { shared_type = shared_type; at = slice_get_read shared_types (length shared_types) k shared_type refl h e; flavor_is = s; pointee_is = t }
+
+pub has_pushed : (shared_types new : List SharedType) (k : ℕ) (f : FlavorInfo) (p : PointeeExpr) (P : Pointee) → new ≡ shared_types ++ record { flavor = f; pointee = p } ∷ [] → k ≡ length shared_types → pointee_of p ≡ P → HasType new k (flavor_of f) P
+has_pushed shared_types new k f p P grown h s =
+    let shared_type : SharedType = record { flavor = f; pointee = p } in
+    let here : slice_get (shared_types ++ shared_type ∷ []) k ≡ Some shared_type = ap (slice_get (shared_types ++ shared_type ∷ [])) h ∙ slice_get-last shared_types shared_type in
+    record { shared_type = shared_type; at = ap (λ xs. slice_get xs k) grown ∙ here; flavor_is = refl; pointee_is = s }
+
+-- no place before n has the type
+abbrev pub NoneBefore : List SharedType → Flavor → Pointee → ℕ → Type 0
+NoneBefore shared_types flavor pointee n = (place : ℕ) → place < n → HasType shared_types place flavor pointee → ⊥
+
+pub none_next : (shared_types : List SharedType) (flavor : Flavor) (pointee : Pointee) (n : ℕ) (x : SharedType) → NoneBefore shared_types flavor pointee n → n < length shared_types → x ≡ get_or shared_types n x
+    → (flavor_of x.flavor ≡ flavor → pointee_of x.pointee ≡ pointee → ⊥) → NoneBefore shared_types flavor pointee (n + 1)
+none_next shared_types flavor pointee n x before below is other place lt has = ⊎_elim
+    (λ less. before place less has)
+    (λ last.
+    let here : slice_get shared_types place ≡ Some x = ap (slice_get shared_types) (omega (arith, last, lt)) ∙ slice_get_read shared_types (length shared_types) n x refl below is in
+    let same : has.shared_type ≡ x = cc (sym has.at ∙ here) in
+    other (ap (λ (s : SharedType). flavor_of s.flavor) (sym same) ∙ has.flavor_is) (ap (λ (s : SharedType). pointee_of s.pointee) (sym same) ∙ has.pointee_is))
+    (cases_lt place n)
+
+pub none_absent : (shared_types : List SharedType) (flavor : Flavor) (pointee : Pointee) (n : ℕ) → NoneBefore shared_types flavor pointee n → length shared_types ≤ n → IsAbsent shared_types flavor pointee
+none_absent shared_types flavor pointee n before end place has = before place (omega (arith, end, slice_get_within shared_types place has.shared_type has.at)) has
+
+-- the types' list grows, and a position is entered
+pub AreKnown-grown : (old new : List SharedType) (f : ℤ → Option SharedPosition) → AreKnown old f → IsGrown old new → AreKnown new f
+AreKnown-grown old new f h g q k e =
+    let l : length new ≡ length old + length g.more = ap length g.is ∙ length-append old g.more in
+    let b : k.shared_type < length old = h q k e in
+    omega arith
+
+-- what is answered and left where a kept position is started again
+start_kept : (shared_types : List SharedType) (f : ℤ → Option SharedPosition) (p key : ℤ) (k : SharedPosition) (shared_type : SharedType) → AreKnown shared_types f → key ≡ p → Some k ≡ f key → shared_type ≡ get_or shared_types k.shared_type shared_type → positions_in shared_types f p ≡ Some (met_as k shared_type)
+start_kept shared_types f p key k shared_type h same e is =
+    let at : slice_get shared_types k.shared_type ≡ Some shared_type = slice_get_read shared_types (length shared_types) k.shared_type shared_type refl (h key k (sym e)) is in
+    ap (positions_in shared_types f) (sym same) ∙ ap (met_in shared_types) (sym e) ∙ ap (option_map (met_as k)) at
+
+pub answer_kept : (shared_types : List SharedType) (f : ℤ → Option SharedPosition) (p key : ℤ) (k : SharedPosition) (shared_type : SharedType) (new : Entry) (r : Result ValidationState Error) → AreKnown shared_types f → key ≡ p → Some k ≡ f key → shared_type ≡ get_or shared_types k.shared_type shared_type → IsStartAnswer (Some (met_as k shared_type)) new r → IsStartAnswer (positions_in shared_types f p) new r
+answer_kept shared_types f p key k shared_type new r h same e is a = subst (λ met. IsStartAnswer met new r) (sym (start_kept shared_types f p key k shared_type h same e is)) a
+
+pub started_kept : (shared_types : List SharedType) (f : ℤ → Option SharedPosition) (p key : ℤ) (k : SharedPosition) (shared_type : SharedType) (new : Entry) → AreKnown shared_types f → key ≡ p → Some k ≡ f key → shared_type ≡ get_or shared_types k.shared_type shared_type → positions_in shared_types f ≡ started (positions_in shared_types f) p new
+started_kept shared_types f p key k shared_type new h same e is = started-again (positions_in shared_types f) p (met_as k shared_type) new (start_kept shared_types f p key k shared_type h same e is)
+
+-- a position is entered, with a type of the grown list
+pub started_new : (old new : List SharedType) (f g : ℤ → Option SharedPosition) (p key put : ℤ) (k : SharedPosition) (flavor : Flavor) (pointee : Pointee)
+    → AreKnown old f → IsGrown old new → HasType new k.shared_type flavor pointee → key ≡ p → put ≡ p → None ≡ f key → k.finished ≡ false
+    → ((q : ℤ) → g q ≡ cond (int_eq put q) (Some k) (f q))
+    → positions_in new g ≡ started (positions_in old f) p (record { flavor = flavor; pointee = pointee; length = k.length })
+started_new old new f g p key put k flavor pointee known grown type same putting none pending e =
+    let entry : Entry = record { flavor = flavor; pointee = pointee; length = k.length } in
+    let met : met_in new (Some k) ≡ Some (record { entry = entry; finished = false }) =
+    ap (option_map (met_as k)) type.at ∙ (λ i. Some (record { entry = record { flavor = type.flavor_is i; pointee = type.pointee_is i; length = k.length }; finished = pending i })) in
+    let before : positions_in old f p ≡ None = ap (positions_in old f) (sym same) ∙ ap (met_in old) (sym none) in
+    let stays = positions_in-grown old new f grown known in
+    positions_in-update new f g put (Some k) e
+    ∙ (λ i. update int_eq (stays i) (putting i) (met i))
+    ∙ ap (λ x. update int_eq (positions_in old f) p (Some (started_at x entry))) (sym before)
+
+known_cond : (shared_types : List SharedType) (b : Bool) (k x : SharedPosition) (old now : Option SharedPosition) → k.shared_type < length shared_types → ForSome old (λ k. k.shared_type < length shared_types) → now ≡ cond b (Some k) old → now ≡ Some x → x.shared_type < length shared_types
+known_cond shared_types true k x old now h o e s = let same : Some k ≡ Some x = sym e ∙ s in let one : k ≡ x = cc in subst (λ y. y.shared_type < length shared_types) one h
+known_cond shared_types false k x old now h o e s = o x (sym e ∙ s)
+
+-- every position is still known where one of them was entered, or none
+pub AreKnown-inserted : {S E : Type 0} (shared_types : List SharedType) (m n : HashMap ℤ SharedPosition S) (key : ℤ) (k : SharedPosition) (flavor : Flavor) (pointee : Pointee) (r : Result (Option SharedPosition) E)
+    → AreKnown shared_types (get int_eq m) → HasType shared_types k.shared_type flavor pointee → OnOk r (Updates int_eq m n key (Some k)) → OnErr r (IsUnchanged m n) → AreKnown shared_types (get int_eq n)
+AreKnown-inserted shared_types m n key k flavor pointee (Ok old) known type ok err q x e =
+    known_cond shared_types (int_eq key q) k x (get int_eq m q) (get int_eq n q) (slice_get_within shared_types k.shared_type type.shared_type type.at) (known q) (ok.0 q) e
+AreKnown-inserted shared_types m n key k flavor pointee (Err e') known type ok err q x e =
+    known q x (ap (λ es. lookup (int_eq q) es) (sym err) ∙ e)
+
+pub unchanged_kept : {S : Type 0} (old new : List SharedType) (m n : HashMap ℤ SharedPosition S) → AreKnown old (get int_eq m) → IsGrown old new → IsUnchanged m n → positions_in new (get int_eq n) ≡ positions_in old (get int_eq m)
+unchanged_kept old new m n known grown same =
+    let stays = positions_in-grown old new (get int_eq m) grown known in
+    let entries : positions_in new (get int_eq n) ≡ positions_in new (get int_eq m) = ap (λ es. positions_in new (λ q. lookup (int_eq q) es)) same in
+    entries ∙ stays
+
+pub on_ok : {T E : Type 0} {P : Type 0} (r : Result T E) → P → OnOk r P
+on_ok (Ok x) p = p
+on_ok (Err e) p = tt
+
+pub on_err : {T E : Type 0} {P : Type 0} (r : Result T E) → P → OnErr r P
+on_err (Ok x) p = tt
+on_err (Err e) p = p
+
+pub ruleset kept = (positions_in-grown, positions_in-update, started-again, AreKnown-grown)
+
+pub ruleset same_type = (same_flavors, other_flavors)
+
+-- what is said of the positions that were met is said of the same ones under another name
+pub answer_same : (met before : Positions) (p : ℤ) (e : Entry) (r : Result ValidationState Error) → met ≡ before → IsStartAnswer (met p) e r → IsStartAnswer (before p) e r
+answer_same met before p e r same h = subst (λ f. IsStartAnswer (f p) e r) same h
+
+pub started_same : (met before after : Positions) (p : ℤ) (e : Entry) (r : Result ValidationState Error) → met ≡ before → OnOk r (after ≡ started met p e) → OnOk r (after ≡ started before p e)
+started_same met before after p e r same h = subst (λ f. OnOk r (after ≡ started f p e)) same h

@@ -1,0 +1,5 @@
+-- Lemmas on leaves in bytes, and on expressions and definitions.
+pub mod AddedDefinitions
+pub mod BytesAt
+pub mod EqualExpressions
+pub mod LegalBytes

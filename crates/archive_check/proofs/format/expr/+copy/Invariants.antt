@@ -1,0 +1,22 @@
+use Rattle.std.proofs.Common.{◌≡◌, ◌++◌, drop}
+use Rattle.archive_check.specs.Expressions.{shape_of, pointee_of, shapes_in, variants_in}
+use Rattle.archive_check.specs.plan.Measure.{measure_of, measure_of_pointee, measure_of_parts, measure_of_variants}
+use Rattle.archive_check.proofs.format.expr.+copy.Given as goal
+
+abbrev pub invariant-copy_parts-loop-i : goal.invariant-copy_parts-loop-i
+invariant-copy_parts-loop-i l = shapes_in (l.copies.items ++ drop l.i l.parts) ≡ shapes_in l.parts
+
+abbrev pub invariant-copy_variants-loop-i : goal.invariant-copy_variants-loop-i
+invariant-copy_variants-loop-i l = variants_in (l.copies.items ++ drop l.i l.variants) ≡ variants_in l.variants
+
+abbrev pub decreases-copy_expression : goal.decreases-copy_expression
+decreases-copy_expression l = measure_of (shape_of l.expr.now)
+
+abbrev pub decreases-copy_pointee : goal.decreases-copy_pointee
+decreases-copy_pointee l = measure_of_pointee (pointee_of l.pointee.now)
+
+abbrev pub decreases-copy_parts : goal.decreases-copy_parts
+decreases-copy_parts l = measure_of_parts (shapes_in l.parts.now)
+
+abbrev pub decreases-copy_variants : goal.decreases-copy_variants
+decreases-copy_variants l = measure_of_variants (variants_in l.variants.now)

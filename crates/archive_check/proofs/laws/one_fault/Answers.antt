@@ -1,5 +1,0 @@
-use Rattle.archive_check.proofs.OneFault.{root_one_fault}
-use Rattle.archive_check.proofs.laws.one_fault.Goals as goal
-
-pub returns : goal.returns
-returns c s bytes limit root X e f small t u = root_one_fault s bytes small t u

@@ -1,6 +1,0 @@
-use Rattle.std.proofs.Common.{sym}
-use Rattle.archive_check.proofs.OneReading.{tour_one}
-use Rattle.archive_check.proofs.laws.one_tour.Goals as goal
-
-pub returns : goal.returns
-returns c s bytes pending seen last final O C D h k = let same = tour_one s bytes h k in (sym (same.0), sym (same.1))

@@ -1,0 +1,5 @@
+use Rattle.archive_check.proofs.SameMeanings.{same_symmetric}
+use Rattle.archive_check.proofs.laws.same_symmetric.Goals as goal
+
+pub returns : goal.returns
+returns c a b h = same_symmetric h

@@ -1,6 +1,0 @@
-use Rattle.archive_check.specs.Expressions.{flavor_of, pointee_of}
-use Rattle.archive_check.proofs.SharedPositions.{NoneBefore}
-use Rattle.archive_check.proofs.shared.place_of.Given as goal
-
-abbrev pub invariant-loop-place : goal.invariant-loop-place
-invariant-loop-place g l = NoneBefore l.sort-items (flavor_of l.flavor) (pointee_of l.pointee) l.place

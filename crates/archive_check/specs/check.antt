@@ -1,0 +1,7 @@
+-- How a check goes over a plan, and what each of its turns keeps.
+pub mod Entered
+pub mod Lists
+pub mod LoopInvariant
+pub mod PlanChecks
+pub mod Runs
+pub mod Through

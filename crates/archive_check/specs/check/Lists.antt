@@ -1,0 +1,12 @@
+-- The work list of a check.
+use Rattle.std.specs.Prelude.{◌≡◌, ◌⊎◌, List, ◌∷◌, reverse}
+use Rattle.archive_check.specs.declared.check.worklist.Work.{Work}
+use Rattle.archive_check.specs.declared.check.worklist.Worklist.{Worklist}
+
+-- what is left, the next first
+abbrev pub list_of : Worklist → List Work
+list_of work = reverse work.entries.items
+
+-- where there is nothing to an entry the list is the old one, and else the entry was put on it
+abbrev pub IsMore : Work → Type 0 → List Work → List Work → Type 0
+IsMore entry Nothing new old = ((Nothing → ⊥) × (new ≡ entry ∷ old)) ⊎ (Nothing × (new ≡ old))

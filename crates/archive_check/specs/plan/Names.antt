@@ -1,0 +1,109 @@
+-- The names in expressions, and the definitions that they need.
+use Rattle.std.specs.Prelude.{◌≡◌, ◌≢◌, ℕ, suc, ◌<◌, Bool, true, false, Option, Some, None, cond, is_some, List, [], ◌∷◌, length, take, get_or, Contains, ◌++◌}
+use Rattle.std.specs.List.{remove}
+use Rattle.archive_check.specs.declared.format.defs.Def.{Def}
+use Rattle.archive_check.specs.Expressions.{shape_of, entries_of}
+use Rattle.archive_check.specs.Defined.{Reaches, WellFormed}
+use Rattle.archive_check.specs.Definitions.{Definitions, listed}
+use Rattle.archive_check.specs.plan.NodeNumbers.{def_shapes}
+use Rattle.archive_check.specs.Shape.{Name, Shape, parts, choice, array, boxed, vec, shared, weak, named, Pointee, one, run, text, Parts, no_part, part, Variants, no_variant, variant, Table, definition}
+
+-- the first of two
+abbrev pub or_else : Option Name → Option Name → Option Name
+or_else None other = other
+or_else (Some name) other = Some name
+
+-- the first name that has none; behind pointers too, where `far` says so
+abbrev mutual
+  pub missing : Bool → Table → Shape → Option Name
+  missing far table (parts ps) = parts_missing far table ps
+  missing far table (choice name vs) = variants_missing far table vs
+  missing far table (array n X) = missing far table X
+  missing far table (boxed P) = cond far (pointee_missing far table P) None
+  missing far table (vec X) = cond far (missing far table X) None
+  missing far table (shared flavor P) = cond far (pointee_missing far table P) None
+  missing far table (weak flavor P) = cond far (pointee_missing far table P) None
+  missing far table (named name) = cond (is_some (definition table name)) None (Some name)
+  missing far table _ = None
+
+  pub pointee_missing : Bool → Table → Pointee → Option Name
+  pointee_missing far table (one X) = missing far table X
+  pointee_missing far table (run X) = missing far table X
+  pointee_missing far table text = None
+
+  pub parts_missing : Bool → Table → Parts → Option Name
+  parts_missing far table no_part = None
+  parts_missing far table (part X ps) = or_else (missing far table X) (parts_missing far table ps)
+
+  pub variants_missing : Bool → Table → Variants → Option Name
+  variants_missing far table no_variant = None
+  variants_missing far table (variant ps vs) = or_else (parts_missing far table ps) (variants_missing far table vs)
+
+-- what is left where the definition of a name was asked for
+abbrev pub Taken : List Def → Name → Option Def → List Def → Type 0
+Taken old name None new = (definition (entries_of old) name ≡ None) × (new ≡ old)
+Taken old name (Some d) new =
+    (d.name.now ≡ name)
+    × (definition (entries_of old) name ≡ Some (shape_of d.expr))
+    × (suc (length new) ≡ length old)
+    × ((n : Name) → n ≢ name → definition (entries_of new) n ≡ definition (entries_of old) n)
+
+-- the definition of a name is taken out of a list, and added to those that were found
+pub record IsGathered (name : Name) (old found new next : List Def) : Type 0 where
+  pub def : Def
+  pub taken : Taken old name (Some def) new
+  pub added : next ≡ found ++ def ∷ []
+
+-- Of the definitions `old` those that X reaches, each once, and all that they mention with them.
+pub record Collected (old : Table) (X : Shape) (new : Table) : Type 0 where
+  pub kept : (name : Name) (Y : Shape) → definition new name ≡ Some Y → definition old name ≡ Some Y
+  pub reached : (name : Name) (Y : Shape) → definition new name ≡ Some Y → Reaches old name X
+  pub once : (name : Name) (Y : Shape) → Contains new (name, Y) → definition new name ≡ Some Y
+  pub root : missing true new X ≡ None
+  pub closed : (name : Name) (Y : Shape) → definition new name ≡ Some Y → missing true new Y ≡ None
+
+-- the same definitions, each once, and each holds only names that are defined before it
+pub record Arranged (old new : Table) : Type 0 where
+  pub same : (name : Name) → definition new name ≡ definition old name
+  pub once : (name : Name) (Y : Shape) → Contains new (name, Y) → definition new name ≡ Some Y
+  pub earlier : (k : ℕ) (name : Name) (Y : Shape) → k < length new → (name, Y) ≡ get_or new k (name, Y) → missing false (take k new) Y ≡ None
+
+-- each of the first i holds a name that isn't defined
+abbrev pub NotReady : Table → List Def → ℕ → Type 0
+NotReady placed rest i = (k : ℕ) (d : Def) → k < i → d ≡ get_or rest k d → (name : Name) × (missing false placed (shape_of d.expr) ≡ Some name)
+
+-- the first of these that holds only defined names, if there is one
+abbrev pub NextReady : Table → List Def → Option ℕ → Type 0
+NextReady placed rest (Some i) = (i < length rest) × ((d : Def) → d ≡ get_or rest i d → missing false placed (shape_of d.expr) ≡ None) × NotReady placed rest i
+NextReady placed rest None = NotReady placed rest (length rest)
+
+-- that one is taken out of a list, and placed behind the others
+pub record IsOrderedNext (placed old next new : List Def) : Type 0 where
+  pub at : ℕ
+  pub def : Def
+  pub ready : NextReady (entries_of placed) old (Some at)
+  pub is : def ≡ get_or old at def
+  pub added : next ≡ placed ++ def ∷ []
+  pub left : new ≡ remove old at
+
+-- each definition is the one of its name, and what it holds is defined
+pub record Complete (table : Table) : Type 0 where
+  pub once : (name : Name) (Y : Shape) → Contains table (name, Y) → definition table name ≡ Some Y
+  pub closed : (name : Name) (Y : Shape) → definition table name ≡ Some Y → missing false table Y ≡ None
+
+-- the root's shape, and those of the definitions
+abbrev pub shapes_from : Shape → List Def → List Shape
+shapes_from X ds = X ∷ def_shapes ds
+
+-- each name that the expression or a definition mentions is defined
+pub record HasAll (table : Table) (X : Shape) : Type 0 where
+  pub root : missing true table X ≡ None
+  pub closed : (name : Name) (Y : Shape) → definition table name ≡ Some Y → missing true table Y ≡ None
+
+-- The definitions that a shape reaches, of those that come with it, in order; and the shape is well formed.
+pub record Prepared (D : Definitions) (X : Shape) (table : Table) : Type 0 where
+  pub known : (name : Name) (Y : Shape) → definition table name ≡ Some Y → definition (listed D) name ≡ Some Y
+  pub has : (name : Name) (Y : Shape) → Reaches (listed D) name X → definition (listed D) name ≡ Some Y → definition table name ≡ Some Y
+  pub complete : HasAll table X
+  pub ordered : Arranged table table
+  pub well_formed : WellFormed (listed D) X

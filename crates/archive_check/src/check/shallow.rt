@@ -1,0 +1,238 @@
+//! The check of shallow nodes. They lead to nothing that has to be listed, so the calls nest as deep as the shape does, and no deeper.
+
+ghost use Rattle.std.specs.Prelude.{◌≡◌, ◌≢◌, ◌<◌, ◌≤◌, length, OnSome, IfSome, IfNone, IsTrue, false};
+ghost use Rattle.archive_check.specs.declared.plan.NodeKind.TheVariants.{Str};
+ghost use Rattle.archive_check.specs.declared.plan.PointeeKind.TheVariants.{Text};
+ghost use Rattle.archive_check.specs.declared.plan.Node.{Node};
+ghost use Rattle.archive_check.specs.check.Runs.{IsAt, IsNode};
+ghost use Rattle.archive_check.specs.check.Lists.{list_of};
+ghost use Rattle.archive_check.specs.plan.SoundPlans.{IsSound, span};
+ghost use Rattle.archive_check.specs.plan.Shallow.{IsMarked, marked, free_at, parts_shallow, kind_shallow};
+ghost use Rattle.archive_check.specs.check.LoopInvariant.{PointeeFits, PartFits, PartsFit, ElementsFit};
+ghost use Rattle.archive_check.specs.check.Through.{Through, Stops, node_rule, parts_rule, elements_rule, region_rule};
+
+use crate::format::bytes::{inline_length, is_out_of_line, is_text, read_coded_length, read_position};
+use crate::check::leave_region;
+use crate::format::error::Error;
+use crate::format::leaf::{illegal, is_legal};
+use crate::plan::{Checker, NodeKind, PointeeKind};
+use crate::context::ArchiveContext;
+use crate::check::worklist::Worklist;
+
+impl Checker<'_> {
+    /// Checks a region of so many of the pointee: a text, or bytes that are legal whatever they are.
+    #[inline(always)]
+    fn check_shallow_region<C: ArchiveContext>(
+        &self,
+        target: PointeeKind,
+        pointee: usize,
+        count: usize,
+        position: i128,
+        work: &mut Worklist,
+        context: &mut C,
+    ) -> Option<()>
+        requires pointee { PointeeFits self.now target pointee count }
+        requires shallow { target ≢ Text → IsTrue (free_at self.now.nodes.now pointee) }
+        requires below { (C.state context.old).end ≤ length self.now.bytes.now }
+        ensures through { OnSome result (Through (region_rule self.now target pointee count position) (C.state context.old) (C.state context.new)) }
+        ensures stops { IfNone result (Stops (region_rule self.now target pointee count position) (C.state context.old) work.new.fault) }
+        ensures list { OnSome result (list_of work.new ≡ list_of work.old) }
+        ensures positions { OnSome result (C.positions context.new ≡ C.positions context.old) }
+    {
+        let region = self.enter_region(pointee, count, position, work, context)?;
+        if let PointeeKind::Text = target {
+            if !is_text(self.bytes, region.begin, region.size) {
+                return work.refuse(Error::InvalidUtf8);
+            }
+        }
+        leave_region(region.outer_start, region.outer_end, work, context)
+    }
+
+    /// Checks the string at `at`, whose node this is.
+    #[inline(always)]
+    fn check_text<C: ArchiveContext>(
+        &self,
+        node: usize,
+        at: usize,
+        pointee: usize,
+        work: &mut Worklist,
+        context: &mut C,
+    ) -> Option<()>
+        requires sound { IsSound self.now }
+        requires kind { IsNode self.now node (Str pointee) }
+        requires fits { PartFits self.now node at }
+        requires below { (C.state context.old).end ≤ length self.now.bytes.now }
+        ensures through { OnSome result (Through (node_rule self.now node at) (C.state context.old) (C.state context.new)) }
+        ensures stops { IfNone result (Stops (node_rule self.now node at) (C.state context.old) work.new.fault) }
+        ensures list { OnSome result (list_of work.new ≡ list_of work.old) }
+        ensures positions { OnSome result (C.positions context.new ≡ C.positions context.old) }
+    {
+        if is_out_of_line(self.bytes, at) {
+            let length = read_coded_length(self.bytes, at);
+            if length <= 8 {
+                return work.refuse(Error::InvalidStringRepr);
+            }
+            let position = read_position(self.bytes, at, at + 4);
+            return self.check_shallow_region(
+                PointeeKind::Text,
+                pointee,
+                length,
+                position,
+                work,
+                context,
+            );
+        }
+        let length = inline_length(self.bytes, at);
+        if !is_text(self.bytes, at, length) {
+            return work.refuse(Error::InvalidUtf8);
+        }
+        Some(())
+    }
+
+    /// Checks the node at `at` where it is a string or a pointer, which takes no call. Answers whether it is one.
+    #[inline(always)]
+    fn check_single<C: ArchiveContext>(
+        &self,
+        node: usize,
+        at: usize,
+        work: &mut Worklist,
+        context: &mut C,
+    ) -> Option<bool>
+        requires sound { IsSound self.now }
+        requires shallow { (x : Node) → IsAt self.now.nodes.now node x → IsTrue (kind_shallow self.now.nodes.now self.now.parts.now self.now.variants.now self.now.shallow.now x.kind) }
+        requires fits { PartFits self.now node at }
+        requires below { (C.state context.old).end ≤ length self.now.bytes.now }
+        ensures through { IfSome result (λ known. IsTrue known → Through (node_rule self.now node at) (C.state context.old) (C.state context.new)) }
+        ensures others { IfSome result (λ known. known ≡ false → C.state context.new ≡ C.state context.old) }
+        ensures stops { IfNone result (Stops (node_rule self.now node at) (C.state context.old) work.new.fault) }
+        ensures list { OnSome result (list_of work.new ≡ list_of work.old) }
+        ensures positions { OnSome result (C.positions context.new ≡ C.positions context.old) }
+    {
+        let here = self.nodes[node];
+        match here.kind {
+            NodeKind::Pointer { target, pointee } => {
+                let count = self.count(target, at);
+                let position = read_position(self.bytes, at, at);
+                self.check_shallow_region(target, pointee, count, position, work, context)?;
+                Some(true)
+            }
+            NodeKind::Str { pointee } => {
+                self.check_text(node, at, pointee, work, context)?;
+                Some(true)
+            }
+            _ => Some(false),
+        }
+    }
+
+    /// Checks a shallow node at `at`.
+    #[cycle(check_shallow)]
+    #[inline(always)]
+    pub fn check_shallow<C: ArchiveContext>(
+        &self,
+        node: usize,
+        at: usize,
+        work: &mut Worklist,
+        context: &mut C,
+    ) -> Option<()>
+        requires sound { IsSound self.now }
+        requires marked { IsMarked self.now }
+        requires shallow { (x : Node) → IsAt self.now.nodes.now node x → IsTrue (kind_shallow self.now.nodes.now self.now.parts.now self.now.variants.now self.now.shallow.now x.kind) }
+        requires fits { PartFits self.now node at }
+        requires below { (C.state context.old).end ≤ length self.now.bytes.now }
+        ensures through { OnSome result (Through (node_rule self.now node at) (C.state context.old) (C.state context.new)) }
+        ensures stops { IfNone result (Stops (node_rule self.now node at) (C.state context.old) work.new.fault) }
+        ensures list { OnSome result (list_of work.new ≡ list_of work.old) }
+        ensures positions { OnSome result (C.positions context.new ≡ C.positions context.old) }
+    {
+        let here = self.nodes[node];
+        match here.kind {
+            NodeKind::Free => Some(()),
+            NodeKind::Leaf(kind) => {
+                if !is_legal(kind, self.bytes, at) {
+                    return work.refuse(illegal(kind));
+                }
+                Some(())
+            }
+            NodeKind::Record { first, last } => self.check_shallow_parts(first, last, at, work, context),
+            NodeKind::Choice { name, first, last } => {
+                let Some(variant) = self.variant(first, last, at) else {
+                    let value = self.bytes[at];
+                    return work.refuse(Error::InvalidDiscriminant { name, value });
+                };
+                if variant.last.saturating_sub(variant.first) == 1 {
+                    let part = self.parts[variant.first];
+                    if self.check_single(part.node, at + part.offset, work, context)? {
+                        return Some(());
+                    }
+                }
+                self.check_shallow_parts(variant.first, variant.last, at, work, context)
+            }
+            NodeKind::Array { count, element } => self.check_shallow_elements(
+                element, count, at, work, context,
+            ),
+            NodeKind::Pointer { target, pointee } => {
+                let count = self.count(target, at);
+                let position = read_position(self.bytes, at, at);
+                self.check_shallow_region(target, pointee, count, position, work, context)
+            }
+            NodeKind::Str { pointee } => self.check_text(node, at, pointee, work, context),
+            NodeKind::Shared { .. } | NodeKind::Weak { .. } => unreachable!(),
+        }
+    }
+
+    /// Checks the parts from `first` up to `last`, of what begins at `base`. Each is shallow.
+    #[cycle(check_shallow)]
+    fn check_shallow_parts<C: ArchiveContext>(
+        &self,
+        first: usize,
+        last: usize,
+        base: usize,
+        work: &mut Worklist,
+        context: &mut C,
+    ) -> Option<()>
+        requires sound { IsSound self.now }
+        requires marked { IsMarked self.now }
+        requires shallow { IsTrue (parts_shallow self.now.shallow.now (span self.now.parts.now first last)) }
+        requires fits { PartsFit self.now first last base }
+        requires below { (C.state context.old).end ≤ length self.now.bytes.now }
+        ensures through { OnSome result (Through (parts_rule self.now first last base) (C.state context.old) (C.state context.new)) }
+        ensures stops { IfNone result (Stops (parts_rule self.now first last base) (C.state context.old) work.new.fault) }
+        ensures list { OnSome result (list_of work.new ≡ list_of work.old) }
+        ensures positions { OnSome result (C.positions context.new ≡ C.positions context.old) }
+    {
+        for index in first..last {
+            let part = self.parts[index];
+            let at = base + part.offset;
+            self.check_shallow(part.node, at, work, context)?;
+        }
+        Some(())
+    }
+
+    /// Checks so many elements, the first of them at `at`. They are shallow.
+    #[cycle(check_shallow)]
+    pub fn check_shallow_elements<C: ArchiveContext>(
+        &self,
+        node: usize,
+        count: usize,
+        at: usize,
+        work: &mut Worklist,
+        context: &mut C,
+    ) -> Option<()>
+        requires sound { IsSound self.now }
+        requires marked { IsMarked self.now }
+        requires shallow { IsTrue (marked self.now.shallow.now node) }
+        requires fits { ElementsFit self.now node count at }
+        requires below { (C.state context.old).end ≤ length self.now.bytes.now }
+        ensures through { OnSome result (Through (elements_rule self.now node count at) (C.state context.old) (C.state context.new)) }
+        ensures stops { IfNone result (Stops (elements_rule self.now node count at) (C.state context.old) work.new.fault) }
+        ensures list { OnSome result (list_of work.new ≡ list_of work.old) }
+        ensures positions { OnSome result (C.positions context.new ≡ C.positions context.old) }
+    {
+        let size = self.nodes[node].size.unwrap_or(0);
+        let passed = self.count_legal(node, count, at, size);
+        for index in passed..count {
+            self.check_shallow(node, at + index * size, work, context)?;
+        }
+        Some(())
+    }
+}

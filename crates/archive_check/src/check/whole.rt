@@ -1,0 +1,42 @@
+//! The check of a whole archive against a plan.
+
+ghost use Rattle.std.specs.Prelude.{◌≡◌, ◌⊎◌, ◌<◌, ◌≤◌, length, OnOk, IfErr};
+ghost use Rattle.archive_check.specs.declared.format.error.Error.TheVariants.{OutOfMemory};
+ghost use Rattle.archive_check.specs.plan.SoundPlans.{IsSound};
+ghost use Rattle.archive_check.specs.plan.Shallow.{IsMarked};
+ghost use Rattle.archive_check.specs.FreshContexts.{IsWhole};
+ghost use Rattle.archive_check.specs.check.PlanChecks.{PlanAccepts, PlanRefuses, PlanIsExact};
+
+use crate::format::error::Error;
+use crate::check::Checker;
+use crate::context::{ArchiveContext, SharedContext};
+use crate::check::worklist::Worklist;
+use std::alloc::Global;
+
+impl Checker<'_> {
+    /// Whether the bytes are an archive of what the root node stands for, with the root at a position in bytes. In a context for these
+    /// bytes that met nothing yet the answer is exact: Ok where they are one with no region too deep, else the refusal of the first test
+    /// that is false, with the numbers of `Error`; and 1 where memory is refused.
+    pub fn check<C: ArchiveContext + SharedContext>(
+        &self,
+        alloc: Global,
+        root: usize,
+        at: usize,
+        context: &mut C,
+    ) -> Result<(), Error>
+        requires sound { IsSound self.now }
+        requires marked { IsMarked self.now }
+        requires below { (C.state context.old).end ≤ length self.now.bytes.now }
+        requires known { root < length self.now.nodes.now }
+        ensures ok { OnOk result (IsWhole (C.state context.old) (C.positions context.old) self.now.bytes.now → PlanAccepts self.now root (C.state context.old).depth at) }
+        ensures err { IfErr result (λ e. (e ≡ OutOfMemory) ⊎ (IsWhole (C.state context.old) (C.positions context.old) self.now.bytes.now → PlanRefuses self.now root (C.state context.old).depth at e)) }
+        ensures exact { IsWhole (C.state context.old) (C.positions context.old) self.now.bytes.now → PlanIsExact self.now root (C.state context.old).depth at result }
+    {
+        prove!(self.bytes.len() <= usize::MAX);
+        let mut work = Worklist::new(alloc);
+        match self.run(root, at, &mut work, context) {
+            Some(()) => Ok(()),
+            None => Err(work.fault()),
+        }
+    }
+}

@@ -1,0 +1,224 @@
+//! What a check keeps: the range that regions may lie in, and the shared positions that it came to.
+
+ghost use Rattle.std.specs.Prelude.{◌≡◌, ◌≢◌, ◌<◌, ◌≤◌, ◌%◌, ◌↔◌, IsTrue, OnOk, OnErr, IfOk, IfErr, IsErrOf, Some, None, length};
+ghost use Rattle.archive_check.specs.Expressions.{flavor_of, pointee_of};
+ghost use Rattle.archive_check.specs.PositionStates.{Positions, nothing_met, IsStartAnswer, started, finish_answer, finished};
+ghost use Rattle.archive_check.specs.Ranges.{RangeState, whole, subtree_answer, pushed, pop_answer, popped};
+
+use crate::format::error::Error;
+use crate::format::expr::{FlavorInfo, Pointee};
+use crate::format::layout::Layout;
+pub use crate::context::positions::SharedValidator;
+pub use crate::context::subtree::ArchiveContextExt;
+pub use crate::context::validator::Validator;
+use std::marker::{Model, PhantomData};
+use std::ops::Range;
+
+/// What tells contracts the state of a check. It has no calls.
+pub trait Context {
+    // The range, the levels left and the regions entered.
+    ghost state: { Self → RangeState };
+
+    // The shared positions that were met.
+    ghost positions: { Self → Positions };
+}
+
+/// What a check asks about the regions of a buffer. A refused call changes nothing. Positions are in bytes from the buffer's first one.
+/// The calls and their order are those of rkyv 0.8.18, with positions in place of addresses.
+pub trait ArchiveContext: Context {
+    /// Whether a region of `layout` may begin at `position`: refused with 16 where it doesn't lie within the range, and else with 17 where
+    /// `position` is no multiple of its alignment.
+    fn check_subtree_ptr(&mut self, position: i128, layout: &Layout) -> Result<(), Error>
+        ensures answer { result ≡ subtree_answer (Self.state self.old) position layout.now.size layout.now.align }
+        ensures fits { OnOk result ((Self.state self.old).end < 18446744073709551616) }
+        ensures unchanged { Self.state self.new ≡ Self.state self.old }
+        ensures positions { Self.positions self.new ≡ Self.positions self.old };
+
+    /// Enters a region from `root` to `end`: regions may now lie before it alone. Answers the range to be given back by
+    /// `pop_subtree_range`. Refused with 18 exactly where one level is left.
+    fn push_subtree_range(&mut self, root: usize, end: usize) -> Result<Range<usize>, Error>
+        requires rising { ((Self.state self.old).start ≤ root) × (root ≤ end) × (end ≤ (Self.state self.old).end) }
+        ensures refused { IsErrOf result Error.ExceededMaximumSubtreeDepth ↔ (Self.state self.old).depth ≡ Some 1 }
+        ensures outer { IfOk result (λ r. (r.start ≡ end) × (r.end ≡ (Self.state self.old).end)) }
+        ensures entered { OnOk result (Self.state self.new ≡ pushed (Self.state self.old) root) }
+        ensures too_deep { IfErr result (λ e. e ≡ Error.ExceededMaximumSubtreeDepth) }
+        ensures unchanged { OnErr result (Self.state self.new ≡ Self.state self.old) }
+        ensures positions { Self.positions self.new ≡ Self.positions self.old };
+
+    /// Leaves a region: regions may lie in `range` again. Refused with 20 where it begins below the current end, and else with 19 where the
+    /// levels left are `usize::MAX`.
+    fn pop_subtree_range(&mut self, range: Range<usize>) -> Result<(), Error>
+        ensures answer { result ≡ pop_answer (Self.state self.old) range.start }
+        ensures left { OnOk result (Self.state self.new ≡ popped (Self.state self.old) range.start range.end) }
+        ensures unchanged { OnErr result (Self.state self.new ≡ Self.state self.old) }
+        ensures positions { Self.positions self.new ≡ Self.positions self.old };
+}
+
+/// What a shared position was when it was started.
+#[derive(Debug, Clone, Copy, PartialEq, Eq)]
+pub enum ValidationState {
+    /// It is met for the first time.
+    Started,
+    /// What lies there is being checked.
+    Pending,
+    /// What lies there was checked.
+    Finished,
+}
+
+/// What a check asks about shared positions, each known by itself alone. A refused call changes nothing.
+/// The calls are those of rkyv 0.8.18, with positions in place of addresses and with a flavor and an expression in place of a type's number.
+pub trait SharedContext: Context {
+    /// Comes to a pointee at `position`; `length` is its length in elements or bytes, 0 for one value. Refused with 21 where the position was
+    /// started with another flavor or pointee, else with 22 where it was with another length, and with 1 where memory is refused.
+    fn start_shared(
+        &mut self,
+        flavor: &FlavorInfo,
+        pointee: &Pointee,
+        position: i128,
+        length: usize,
+    ) -> Result<ValidationState, Error>
+        ensures answer { IsStartAnswer (Self.positions self.old position) (record { flavor = flavor_of flavor.now; pointee = pointee_of pointee.now; length = length }) result }
+        ensures started { OnOk result (Self.positions self.new ≡ started (Self.positions self.old) position (record { flavor = flavor_of flavor.now; pointee = pointee_of pointee.now; length = length })) }
+        ensures unchanged { OnErr result (Self.positions self.new ≡ Self.positions self.old) }
+        ensures range { Self.state self.new ≡ Self.state self.old };
+
+    /// Leaves the pointee at `position`, whatever its flavor and pointee. Refused with 14 where it wasn't started, and with 15 where it is
+    /// finished.
+    fn finish_shared(
+        &mut self,
+        flavor: &FlavorInfo,
+        pointee: &Pointee,
+        position: i128,
+    ) -> Result<(), Error>
+        ensures answer { result ≡ finish_answer (Self.positions self.old position) }
+        ensures finished { OnOk result (Self.positions self.new ≡ finished (Self.positions self.old) position) }
+        ensures unchanged { OnErr result (Self.positions self.new ≡ Self.positions self.old) }
+        ensures range { Self.state self.new ≡ Self.state self.old };
+}
+
+// Whether a position is a multiple of an alignment: by a mask where that is a power of two, since a division is slow.
+fn is_multiple(position: usize, align: usize) -> bool
+    requires { 0 < align }
+    ensures { IsTrue result ↔ position % align ≡ 0 }
+{
+    if align.is_power_of_two() {
+        return position & (align - 1) == 0;
+    }
+    position % align == 0
+}
+
+/// The range of one buffer.
+#[derive(Drop)]
+pub struct ArchiveValidator<'a> {
+    start: usize,
+    end: usize,
+    depth: Option<usize>,
+    pushes: usize,
+    of: PhantomData<&'a [u8]>,
+}
+
+impl<'a> Model for ArchiveValidator<'a> {
+    ghost Value = { RangeState };
+
+    ghost view = { λ v. record { start = v.start; end = v.end; depth = v.depth; pushes = v.pushes } };
+}
+
+impl<'a> ArchiveValidator<'a> {
+    /// The whole of `bytes`, with no limit of depth.
+    pub fn new(bytes: &'a [u8]) -> ArchiveValidator<'a>
+        ensures { result ≡ whole (length bytes.now) None }
+    {
+        ArchiveValidator::with_max_depth(bytes, None)
+    }
+
+    /// The whole of `bytes`; of `depth` levels the last lets no region be entered.
+    pub fn with_max_depth(bytes: &'a [u8], depth: Option<usize>) -> ArchiveValidator<'a>
+        requires { depth ≢ Some 0 }
+        ensures { result ≡ whole (length bytes.now) depth }
+    {
+        ArchiveValidator {
+            start: 0,
+            end: bytes.len(),
+            depth,
+            pushes: 0,
+            of: PhantomData,
+        }
+    }
+
+    /// How many regions were entered, `usize::MAX` where it is more.
+    pub fn subtrees(&self) -> usize
+        ensures { result ≡ self.now.pushes }
+    {
+        self.pushes
+    }
+
+    // The refusal of a region that doesn't lie within the range.
+    fn outside(&self, position: i128, size: usize) -> Error
+        ensures { result ≡ Error.InvalidSubtreePointer position size self.now.start self.now.end }
+    {
+        Error::InvalidSubtreePointer {
+            position,
+            size,
+            start: self.start,
+            end: self.end,
+        }
+    }
+}
+
+impl Context for ArchiveValidator<'_> {
+    ghost state = { λ v. v };
+
+    ghost positions = { λ v. nothing_met };
+}
+
+impl ArchiveContext for ArchiveValidator<'_> {
+    fn check_subtree_ptr(&mut self, position: i128, layout: &Layout) -> Result<(), Error> {
+        if position < 0 || position > usize::MAX as i128 {
+            return Err(self.outside(position, layout.size));
+        }
+        let root = position as usize;
+        if root < self.start || root > self.end || layout.size > self.end - root {
+            return Err(self.outside(position, layout.size));
+        }
+        if !is_multiple(root, layout.align) {
+            return Err(Error::UnalignedPointer {
+                position,
+                align: layout.align,
+            });
+        }
+        Ok(())
+    }
+
+    fn push_subtree_range(&mut self, root: usize, end: usize) -> Result<Range<usize>, Error> {
+        if let Some(depth) = &mut self.depth {
+            if *depth == 1 {
+                return Err(Error::ExceededMaximumSubtreeDepth);
+            }
+            *depth = depth.saturating_sub(1);
+        }
+        let outer = Range {
+            start: end,
+            end: self.end,
+        };
+        self.end = root;
+        if self.pushes < usize::MAX {
+            self.pushes += 1;
+        }
+        Ok(outer)
+    }
+
+    fn pop_subtree_range(&mut self, range: Range<usize>) -> Result<(), Error> {
+        if range.start < self.end {
+            return Err(Error::RangePoppedOutOfOrder);
+        }
+        if let Some(depth) = &mut self.depth {
+            if *depth == usize::MAX {
+                return Err(Error::RangePoppedTooManyTimes);
+            }
+            *depth += 1;
+        }
+        self.start = range.start;
+        self.end = range.end;
+        Ok(())
+    }
+}

@@ -1,0 +1,169 @@
+//! The shared positions of a check, kept in a map.
+
+ghost use Rattle.std.specs.Prelude.{◌≡◌, ◌⊎◌, ◌↔◌, ◌≤◌, IsTrue, Some, None, IfOk, IfErr};
+ghost use Rattle.std.specs.HashMap.{get};
+ghost use Rattle.std.specs.Ordering.{int_eq};
+ghost use Rattle.archive_check.specs.SharedPositions.{met_as, AreKnown, HasType, IsAbsent, IsGrown};
+ghost use Rattle.archive_check.specs.Expressions.{flavor_of, pointee_of};
+ghost use Rattle.archive_check.specs.Ranges.{whole};
+ghost use Rattle.archive_check.specs.PositionStates.{nothing_met, IsStartAnswer};
+ghost use Rattle.archive_check.specs.declared.format.error.Error.TheVariants.{OutOfMemory};
+
+use crate::format::error::Error;
+use crate::format::expr::{FlavorInfo, Pointee};
+use crate::plan::SharedType;
+use crate::context::{Context, SharedContext, ValidationState};
+use std::alloc::{AllocError, Allocator, Global};
+use std::collections::HashMap;
+use std::hash::{BuildHasherDefault, FoldHasher};
+
+/// What is kept of a shared position: its type, by its place in the list of types, its length, and whether it is finished.
+#[derive(Debug, Clone, Copy)]
+struct SharedPosition {
+    shared_type: usize,
+    length: usize,
+    finished: bool,
+}
+
+// Whether a type is this one, as written.
+#[tactic(auto, using(crate::proofs::context::SharedPositions::same_type))]
+fn is_of(shared_type: &SharedType, flavor: &FlavorInfo, pointee: &Pointee) -> bool
+    ensures { IsTrue result ↔ ((flavor_of shared_type.now.flavor ≡ flavor_of flavor.now) × (pointee_of shared_type.now.pointee ≡ pointee_of pointee.now)) }
+{
+    shared_type.flavor == *flavor && shared_type.pointee == *pointee
+}
+
+impl SharedPosition {
+    // What is answered where this position, whose type is `shared_type`, is started again.
+    fn answer(
+        &self,
+        shared_type: &SharedType,
+        flavor: &FlavorInfo,
+        pointee: &Pointee,
+        length: usize,
+    ) -> Result<ValidationState, Error>
+        ensures { IsStartAnswer (Some (met_as self.now shared_type.now)) (record { flavor = flavor_of flavor.now; pointee = pointee_of pointee.now; length = length }) result }
+    {
+        if !is_of(shared_type, flavor, pointee) {
+            return Err(Error::TypeMismatch);
+        }
+        if self.length != length {
+            return Err(Error::MetadataMismatch);
+        }
+        Ok(if self.finished {
+            ValidationState::Finished
+        } else {
+            ValidationState::Pending
+        })
+    }
+}
+
+type Positions<A> = HashMap<i128, SharedPosition, BuildHasherDefault<FoldHasher>, A>;
+
+/// The shared positions that a check came to. Each type is kept once, and a position keeps its type's place.
+#[derive(Drop)]
+pub struct SharedValidator<A: Allocator = Global> {
+    shared_types: Vec<SharedType, A>,
+    positions: Positions<A>,
+    ghost known: { AreKnown shared_types.items (get int_eq positions) },
+}
+
+impl<A: Allocator + Copy> SharedValidator<A> {
+    ghost use Rattle.archive_check.specs.Validators.{positions_of, room_of};
+
+    /// No position. Memory comes from `alloc`, and none is taken yet.
+    pub fn new(alloc: A) -> SharedValidator<A>
+        ensures { positions_of result ≡ nothing_met }
+    {
+        SharedValidator {
+            shared_types: Vec::new(alloc),
+            positions: HashMap::new(alloc),
+        }
+    }
+
+    /// No position, and room for so many. Memory comes from `alloc`; refused with 1 where it is refused.
+    pub fn with_capacity(alloc: A, capacity: usize) -> Result<SharedValidator<A>, Error>
+        ensures nothing { IfOk result (λ v. positions_of v ≡ nothing_met) }
+        ensures room { IfOk result (λ v. capacity ≤ room_of v) }
+        ensures refused { IfErr result (λ e. e ≡ OutOfMemory) }
+    {
+        Ok(SharedValidator {
+            shared_types: Vec::new(alloc),
+            positions: HashMap::with_capacity(alloc, capacity)?,
+        })
+    }
+}
+
+impl<A: Allocator + Copy> Context for SharedValidator<A> {
+    ghost use Rattle.archive_check.specs.Validators.{positions_of};
+
+    ghost state = { λ v. whole 0 None };
+
+    ghost positions = { positions_of };
+}
+
+impl<A: Allocator + Copy> SharedContext for SharedValidator<A> {
+    #[tactic(auto, using(crate::proofs::context::SharedPositions::kept))]
+    fn start_shared(
+        &mut self,
+        flavor: &FlavorInfo,
+        pointee: &Pointee,
+        position: i128,
+        length: usize,
+    ) -> Result<ValidationState, Error> {
+        if let Some(kept) = self.positions.get(&position) {
+            return kept.answer(&self.shared_types[kept.shared_type], flavor, pointee, length);
+        }
+        let shared_type = type_index(&mut self.shared_types, flavor, pointee)?;
+        let kept = SharedPosition {
+            shared_type,
+            length,
+            finished: false,
+        };
+        let _ = self.positions.insert(position, kept)?;
+        Ok(ValidationState::Started)
+    }
+
+    #[tactic(auto, using(crate::proofs::context::SharedPositions::kept))]
+    fn finish_shared(
+        &mut self,
+        _flavor: &FlavorInfo,
+        _pointee: &Pointee,
+        position: i128,
+    ) -> Result<(), Error> {
+        match self.positions.get_mut(&position) {
+            None => Err(Error::NotStarted),
+            Some(kept) => {
+                if kept.finished {
+                    return Err(Error::AlreadyFinished);
+                }
+                kept.finished = true;
+                Ok(())
+            }
+        }
+    }
+}
+
+// The place of a type in a list, at whose end it is put where it isn't there.
+#[tactic(auto, using(crate::proofs::context::SharedPositions::same_type))]
+fn type_index<A: Allocator>(
+    shared_types: &mut Vec<SharedType, A>,
+    flavor: &FlavorInfo,
+    pointee: &Pointee,
+) -> Result<usize, AllocError>
+    ensures found { IfOk result (λ k. HasType shared_types.new.items k (flavor_of flavor.now) (pointee_of pointee.now)) }
+    ensures kept { IsGrown shared_types.old.items shared_types.new.items }
+    ensures once { (shared_types.new.items ≡ shared_types.old.items) ⊎ IsAbsent shared_types.old.items (flavor_of flavor.now) (pointee_of pointee.now) }
+{
+    for (place, shared_type) in shared_types.iter().enumerate() {
+        if is_of(shared_type, flavor, pointee) {
+            return Ok(place);
+        }
+    }
+    let place = shared_types.len();
+    shared_types.push(SharedType {
+        flavor: *flavor,
+        pointee: pointee.clone()?,
+    })?;
+    Ok(place)
+}

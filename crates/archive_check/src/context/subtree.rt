@@ -1,0 +1,32 @@
+//! Calls within a region of a check.
+
+ghost use Rattle.std.specs.Fn.{FnOnceReturnsAtMut};
+ghost use Rattle.archive_check.specs.InSubtree.{InSubtree, IsCallable};
+
+use crate::format::error::Error;
+use crate::format::layout::Layout;
+use crate::context::ArchiveContext;
+
+/// What is made of the calls of any `ArchiveContext`.
+pub trait ArchiveContextExt: ArchiveContext {
+    /// Calls `f` within the region of `layout` at `position`, in bytes from the buffer's first one: the region is checked (16, 17) and entered
+    /// (18), then `f` is called, and then the region is left (20, 19). The first refusal is answered, `f`'s own too, and nothing more is
+    /// called after it. As in rkyv 0.8.18, with a position in place of an address.
+    final fn in_subtree_raw<
+        R: Drop,
+        E: From<Error> + Drop,
+        F: FnOnce(&mut Self) -> Result<R, E> + Drop,
+    >(&mut self, position: i128, layout: &Layout, f: F) -> Result<R, E>
+        requires { IsCallable Self.state Self.positions (λ inner. F.pre f inner) self.old position layout.now.size layout.now.align }
+        ensures { InSubtree Self.state Self.positions (λ inner answer after. FnOnceReturnsAtMut F.FnOnce f inner answer after) E.from_gives self.old position layout.now.size layout.now.align result self.new }
+    {
+        self.check_subtree_ptr(position, layout)?;
+        let root = position as usize;
+        let outer = self.push_subtree_range(root, root + layout.size)?;
+        let answer = f(self)?;
+        self.pop_subtree_range(outer)?;
+        Ok(answer)
+    }
+}
+
+impl<C: ArchiveContext> ArchiveContextExt for C {}

@@ -1,0 +1,180 @@
+//! Contexts of a check that are made of one for the range and one for the shared positions.
+
+ghost use Rattle.std.specs.Prelude.{◌≡◌, ◌≢◌, Some, None};
+ghost use Rattle.archive_check.specs.FreshContexts.{IsWhole};
+
+use crate::format::error::Error;
+use crate::format::expr::{FlavorInfo, Pointee};
+use crate::format::layout::Layout;
+use crate::context::positions::SharedValidator;
+use crate::context::{
+    ArchiveContext, ArchiveValidator, Context, SharedContext, ValidationState,
+};
+use std::alloc::Global;
+use std::ops::Range;
+
+/// A context that asks `archive` about the range, and `shared` about shared positions.
+#[derive(Drop)]
+pub struct Validator<A, S> {
+    archive: A,
+    shared: S,
+}
+
+impl<A: Context, S: Context> Validator<A, S> {
+    /// The two as one.
+    pub fn new(archive: A, shared: S) -> Validator<A, S>
+        ensures state { ⟦<Validator<A, S> as Context>⟧.state result ≡ A.state archive }
+        ensures positions { ⟦<Validator<A, S> as Context>⟧.positions result ≡ S.positions shared }
+    {
+        Validator { archive, shared }
+    }
+}
+
+impl<'a, S: Context> Validator<ArchiveValidator<'a>, S> {
+    /// How many regions were entered, `usize::MAX` where it is more.
+    pub fn subtrees(&self) -> usize
+        ensures { result ≡ (⟦<Validator<ArchiveValidator<'a>, S> as Context>⟧.state self.now).pushes }
+    {
+        self.archive.subtrees()
+    }
+}
+
+impl<A: Context, S: Context> Context for Validator<A, S> {
+    ghost use Rattle.archive_check.specs.Validators.{archive_of, shared_of};
+
+    ghost state = { λ v. A.state (archive_of v) };
+
+    ghost positions = { λ v. S.positions (shared_of v) };
+}
+
+impl<A: ArchiveContext, S: Context> ArchiveContext for Validator<A, S> {
+    fn check_subtree_ptr(&mut self, position: i128, layout: &Layout) -> Result<(), Error> {
+        self.archive.check_subtree_ptr(position, layout)
+    }
+
+    fn push_subtree_range(&mut self, root: usize, end: usize) -> Result<Range<usize>, Error> {
+        self.archive.push_subtree_range(root, end)
+    }
+
+    fn pop_subtree_range(&mut self, range: Range<usize>) -> Result<(), Error> {
+        self.archive.pop_subtree_range(range)
+    }
+}
+
+impl<A: Context, S: SharedContext> SharedContext for Validator<A, S> {
+    fn start_shared(
+        &mut self,
+        flavor: &FlavorInfo,
+        pointee: &Pointee,
+        position: i128,
+        length: usize,
+    ) -> Result<ValidationState, Error> {
+        self.shared.start_shared(flavor, pointee, position, length)
+    }
+
+    fn finish_shared(
+        &mut self,
+        flavor: &FlavorInfo,
+        pointee: &Pointee,
+        position: i128,
+    ) -> Result<(), Error> {
+        self.shared.finish_shared(flavor, pointee, position)
+    }
+}
+
+/// The range of one buffer and the shared positions in it. rkyv has the name for a `Validator` of the two.
+#[derive(Drop)]
+pub struct HighValidator<'a> {
+    range: ArchiveValidator<'a>,
+    alloc: Global,
+    // Made at the first shared position, since many archives have none.
+    positions: Option<Box<SharedValidator>>,
+}
+
+impl<'a> HighValidator<'a> {
+    /// The whole of `bytes`, of which nothing was met yet, with no limit of depth. Memory comes from `alloc`, and none is taken yet.
+    pub fn new(alloc: Global, bytes: &'a [u8]) -> HighValidator<'a>
+        ensures whole { IsWhole (⟦<HighValidator<'a> as Context>⟧.state result) (⟦<HighValidator<'a> as Context>⟧.positions result) bytes.now }
+        ensures unlimited { (⟦<HighValidator<'a> as Context>⟧.state result).depth ≡ None }
+        ensures none_entered { (⟦<HighValidator<'a> as Context>⟧.state result).pushes ≡ 0 }
+    {
+        HighValidator::with_max_depth(alloc, bytes, None)
+    }
+
+    /// The whole of `bytes`, of which nothing was met yet; of `depth` levels the last lets no region be entered. Memory comes from `alloc`, and none
+    /// is taken yet.
+    pub fn with_max_depth(alloc: Global, bytes: &'a [u8], depth: Option<usize>) -> HighValidator<'a>
+        requires { depth ≢ Some 0 }
+        ensures whole { IsWhole (⟦<HighValidator<'a> as Context>⟧.state result) (⟦<HighValidator<'a> as Context>⟧.positions result) bytes.now }
+        ensures limited { (⟦<HighValidator<'a> as Context>⟧.state result).depth ≡ depth }
+        ensures none_entered { (⟦<HighValidator<'a> as Context>⟧.state result).pushes ≡ 0 }
+    {
+        prove!(depth.unwrap_or(0) <= usize::MAX);
+        HighValidator {
+            range: ArchiveValidator::with_max_depth(bytes, depth),
+            alloc,
+            positions: None,
+        }
+    }
+
+    /// How many regions were entered, `usize::MAX` where it is more.
+    pub fn subtrees(&self) -> usize
+        ensures { result ≡ (⟦<HighValidator<'a> as Context>⟧.state self.now).pushes }
+    {
+        self.range.subtrees()
+    }
+}
+
+impl Context for HighValidator<'_> {
+    ghost use Rattle.archive_check.specs.Validators.{positions_met};
+
+    ghost state = { λ v. v.range };
+
+    ghost positions = { λ v. positions_met v.positions };
+}
+
+impl ArchiveContext for HighValidator<'_> {
+    fn check_subtree_ptr(&mut self, position: i128, layout: &Layout) -> Result<(), Error> {
+        self.range.check_subtree_ptr(position, layout)
+    }
+
+    fn push_subtree_range(&mut self, root: usize, end: usize) -> Result<Range<usize>, Error> {
+        self.range.push_subtree_range(root, end)
+    }
+
+    fn pop_subtree_range(&mut self, range: Range<usize>) -> Result<(), Error> {
+        self.range.pop_subtree_range(range)
+    }
+}
+
+impl SharedContext for HighValidator<'_> {
+    fn start_shared(
+        &mut self,
+        flavor: &FlavorInfo,
+        pointee: &Pointee,
+        position: i128,
+        length: usize,
+    ) -> Result<ValidationState, Error> {
+        match &mut self.positions {
+            Some(positions) => positions.start_shared(flavor, pointee, position, length),
+            None => {
+                let mut positions = Box::new(self.alloc, SharedValidator::new(self.alloc))?;
+                let answer = positions.start_shared(flavor, pointee, position, length);
+                self.positions = Some(positions);
+                answer
+            }
+        }
+    }
+
+    fn finish_shared(
+        &mut self,
+        flavor: &FlavorInfo,
+        pointee: &Pointee,
+        position: i128,
+    ) -> Result<(), Error> {
+        match &mut self.positions {
+            Some(positions) => positions.finish_shared(flavor, pointee, position),
+            None => Err(Error::NotStarted),
+        }
+    }
+}

@@ -1,0 +1,82 @@
+//! Definitions: what names in expressions stand for.
+
+ghost use Rattle.std.specs.Prelude.{◌≡◌, ◌++◌, ◌∷◌, [], IfOk, OnErr, if◌then◌else◌};
+ghost use Rattle.archive_check.specs.Shape.{definition};
+ghost use Rattle.archive_check.specs.Expressions.{shape_of, entries_of, table_of};
+ghost use Rattle.archive_check.specs.AddAnswer.{IsFound, IsAddAnswer};
+
+use crate::format::error::Error;
+use crate::format::expr::Expr;
+use std::alloc::Global;
+
+/// The expression that a name stands for.
+#[derive(Debug, Drop, PartialEq, Eq)]
+pub struct Def {
+    /// The name.
+    pub name: &'static str,
+    /// What it stands for.
+    pub expr: Expr,
+}
+
+/// The definitions of names.
+#[derive(Debug, Drop)]
+pub struct Defs {
+    items: Vec<Def>,
+}
+
+impl Defs {
+    /// No definition. Memory comes from `alloc`, and none is taken yet.
+    pub fn new(alloc: Global) -> Defs
+        ensures { table_of result ≡ [] }
+    {
+        Defs {
+            items: Vec::new(alloc),
+        }
+    }
+
+    /// Defines `name`. Answers true where the name is new, and false where it has this very definition already. Refused with 30 where it has
+    /// another one, and with 1 where it is new and memory is refused; a refused call changes nothing. The rule is our own: rkyv 0.8.18 has no
+    /// definitions. Memory comes from the allocator that the definitions were made with.
+    #[tactic(auto, using(crate::proofs::plan::Named::tables))]
+    pub fn add(&mut self, name: &'static str, expr: Expr) -> Result<bool, Error>
+        ensures answer { IsAddAnswer (definition (table_of self.old) name.now) (shape_of expr) result }
+        ensures added { IfOk result (λ new. table_of self.new ≡ (if new then table_of self.old ++ (name.now, shape_of expr) ∷ [] else table_of self.old)) }
+        ensures unchanged { OnErr result (table_of self.new ≡ table_of self.old) }
+    {
+        match find(&self.items, name) {
+            Some(defined) => {
+                if *defined == expr {
+                    Ok(false)
+                } else {
+                    Err(Error::ShapeConflict)
+                }
+            }
+            None => {
+                self.items.push(Def { name, expr })?;
+                Ok(true)
+            }
+        }
+    }
+}
+
+impl Defs {
+    // The definitions.
+    pub(crate) fn into_items(self) -> Vec<Def>
+        ensures { entries_of result.items ≡ table_of self }
+    {
+        self.items
+    }
+}
+
+// The first definition of a name.
+#[tactic(auto, using(crate::proofs::plan::Named::tables))]
+fn find<'a>(items: &'a [Def], name: &str) -> Option<&'a Expr>
+    ensures { IsFound result (definition (entries_of items.now) name.now) }
+{
+    for def in items {
+        if def.name == name {
+            return Some(&def.expr);
+        }
+    }
+    None
+}

@@ -1,0 +1,128 @@
+//! What archived types, keys and entries tell of themselves.
+
+ghost use Rattle.std.specs.Prelude.{◌≡◌, ◌⊎◌, ℕ, min, Bool, true, Option, None, Contains, OnOk, IfOk, IfErr};
+ghost use Rattle.archive_check.specs.Shape.{Name, Shape, Pointee, one};
+ghost use Rattle.archive_check.specs.Layout.{Layout as LayoutOf};
+ghost use Rattle.archive_check.specs.Expressions.{shape_of, table_of};
+ghost use Rattle.archive_check.specs.Definitions.{Definitions, HasLayout, IsAlign, listed, Extended, Conflicts};
+ghost use Rattle.archive_check.specs.Defined.{Reaches};
+ghost use Rattle.archive_check.specs.Value.{Value};
+ghost use Rattle.archive_check.specs.Told.{Told, nothing_told, KeyState};
+ghost use Rattle.archive_check.specs.declared.format.error.Error.TheVariants.{OutOfMemory, ShapeConflict};
+
+use crate::format::error::Error;
+use crate::format::expr::{Defs, Expr};
+use std::alloc::{Allocator, Global};
+
+mod layouts;
+mod leaves;
+
+pub use layouts::{LayoutRaw, layout_of_run};
+
+/// What a pointer may lead to: an archived value, a slice or a text.
+pub trait ArchivePointee {
+    /// What stands in a pointer beside its offset: nothing for one value, else a length.
+    type ArchivedMetadata;
+
+    // What the pointee is.
+    ghost pointee: { Pointee };
+
+    // The definitions of the names in it.
+    ghost definitions: { Definitions };
+
+    // The length that the metadata is.
+    ghost metadata_length: { Self.ArchivedMetadata → ℕ };
+
+    /// The length that `metadata` is: 0 for one value, else the number of elements or bytes.
+    fn pointer_metadata(metadata: &Self::ArchivedMetadata) -> usize
+        ensures { result ≡ metadata_length metadata.now };
+}
+
+/// A type whose values lie in an archive as they are.
+pub trait Portable: ArchivePointee {
+    // What its bytes are read as.
+    ghost shape: { Shape };
+
+    // Its size and alignment.
+    ghost layout: { LayoutOf };
+
+    /// The size in bytes, `usize::MAX` where it is more.
+    fn size() -> usize
+        ensures { result ≡ min layout.size 18446744073709551615 };
+
+    /// The alignment in bytes.
+    fn align() -> usize
+        ensures { result ≡ layout.align };
+
+    /// The type's expression. Memory comes from `alloc`; refused with 1 where it is refused.
+    fn expr(alloc: Global) -> Result<Expr, Error>
+        ensures shape { IfOk result (λ e. shape_of e ≡ shape) }
+        ensures refused { IfErr result (λ e. e ≡ OutOfMemory) };
+
+    /// Adds the definitions of the names that the type reaches, and no others. Refused with 1 where memory is refused, and with 30 where a name
+    /// has another definition already, or two.
+    fn define(alloc: Global, defs: &mut Defs) -> Result<(), Error>
+        ensures added { OnOk result (Extended (table_of defs.old) Self.definitions (table_of defs.new)) }
+        ensures refused { IfErr result (λ e. (e ≡ OutOfMemory) ⊎ ((e ≡ ShapeConflict) × Conflicts (table_of defs.old) Self.definitions)) };
+
+    ghost is_one: { Self.pointee ≡ one shape };
+
+    ghost is_align: { IsAlign layout.align };
+
+    ghost has_layout: { HasLayout Self.definitions shape layout };
+
+    ghost no_others: { (name : Name) (X : Shape) → Contains (listed Self.definitions) (name, X) → Reaches (listed Self.definitions) name shape };
+}
+
+/// What tells contracts the bytes that it holds, its room and its device's failures. It has no calls.
+pub trait Tells {
+    // What is told.
+    ghost told: { Self → Told };
+}
+
+/// What tells contracts the state of each shared key. It has no calls.
+pub trait Keys: Tells {
+    // The state of a key.
+    ghost state_of: { Self → ℕ → KeyState };
+}
+
+/// What tells contracts the state of each position that is read, whatever its type. It has no calls.
+pub trait Entries {
+    // The state of a position: none where it is unknown, then pending, then finished with a value.
+    ghost entry_of: { Self → ℕ → Option (Option Value) };
+
+    // Whether pending positions are kept.
+    ghost keeps: { Bool };
+}
+
+impl Tells for () {
+    ghost told = { λ _. nothing_told };
+}
+
+impl Keys for () {
+    ghost state_of = { λ _ _. None };
+}
+
+impl<A: Allocator> Tells for Vec<u8, A> {
+    ghost told = { λ v. record { bytes = v.items; room = None; failures = 0 } };
+}
+
+impl<A: Allocator> Keys for Vec<u8, A> {
+    ghost state_of = { λ _ _. None };
+}
+
+impl Entries for () {
+    ghost entry_of = { λ _ _. None };
+
+    ghost keeps = { true };
+}
+
+/// What is borrowed tells what its owner does.
+impl<W: Tells> Tells for &mut W {
+    ghost told = { λ r. W.told r.now };
+}
+
+/// What is borrowed has its owner's keys.
+impl<S: Keys> Keys for &mut S {
+    ghost state_of = { λ r. S.state_of r.now };
+}
