@@ -20,15 +20,36 @@ ghost use Rattle.archive_check.specs.check.Through.{Through, Stops, region_rule,
 ghost use Rattle.archive_check.specs.declared.plan.PointeeKind.{PointeeKind as PointeeKindOf};
 ghost use Rattle.archive_check.specs.check.LoopInvariant.{PointeeFits, PartFits, PartsFit, ElementsFit, IsLegalHere, PartIsLegalHere, LiesLegal, Ready, stage, Listing, Entering, Following, TurnLeads, Keeps, IsStopped, power, level, cost};
 
+mod shallow;
+mod whole;
+pub mod worklist;
+
+use crate::check::worklist::{Work, Worklist};
+use crate::context::{ArchiveContext, SharedContext, ValidationState};
 use crate::format::bytes::{is_text, read_i32, read_position, read_u32};
 use crate::format::error::Error;
-use crate::plan::extents::times;
 use crate::format::layout::Layout;
 use crate::format::leaf::is_legal;
-use crate::plan::{Checker, NodeKind, Span, PointeeKind};
-use crate::context::{ArchiveContext, SharedContext, ValidationState};
-use crate::check::worklist::{Work, Worklist};
+use crate::plan::extents::times;
+use crate::plan::{Node, NodeKind, Part, PointeeKind, SharedType, Span};
 use std::ops::Range;
+
+/// A plan, and the bytes that it is checked against.
+#[derive(Clone, Copy)]
+pub struct Checker<'p> {
+    /// The plan's nodes.
+    pub nodes: &'p [Node],
+    /// Its parts.
+    pub parts: &'p [Part],
+    /// Its variants.
+    pub variants: &'p [Span],
+    /// Its shared_types.
+    pub shared_types: &'p [SharedType],
+    /// Which nodes are shallow: they lead to nothing but bytes that are legal whatever they are, and texts.
+    pub shallow: &'p [bool],
+    /// The bytes.
+    pub bytes: &'p [u8],
+}
 
 /// The position as an index.
 fn index_of(position: i128) -> usize

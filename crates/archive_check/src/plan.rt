@@ -2,6 +2,15 @@
 
 ghost use Rattle.std.specs.Prelude.{◌<◌};
 
+pub mod assembly;
+pub mod compile;
+pub mod extents;
+pub mod growing;
+pub mod names;
+pub mod numbering;
+pub mod queue;
+pub mod shallow;
+
 use crate::format::expr::{FlavorInfo, Kind, Pointee};
 
 /// How many elements a pointer leads to: one value, a run, or the bytes of a text.
@@ -111,21 +120,4 @@ pub struct Plan {
     pub variants: Vec<Span>,
     /// The types of shared pointers.
     pub shared_types: Vec<SharedType>,
-}
-
-/// A plan, and the bytes that it is checked against.
-#[derive(Clone, Copy)]
-pub struct Checker<'p> {
-    /// The plan's nodes.
-    pub nodes: &'p [Node],
-    /// Its parts.
-    pub parts: &'p [Part],
-    /// Its variants.
-    pub variants: &'p [Span],
-    /// Its shared_types.
-    pub shared_types: &'p [SharedType],
-    /// Which nodes are shallow: they lead to nothing but bytes that are legal whatever they are, and texts.
-    pub shallow: &'p [bool],
-    /// The bytes.
-    pub bytes: &'p [u8],
 }

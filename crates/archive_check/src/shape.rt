@@ -6,20 +6,19 @@ ghost use Rattle.archive_check.specs.plan.Shallow.{AreShallow};
 ghost use Rattle.archive_check.specs.plan.Names.{HasAll};
 ghost use Rattle.archive_check.specs.plan.Planned.{IsPlan, HasNames};
 
+use crate::check::Checker;
+use crate::context::{ArchiveContext, SharedContext};
 pub use crate::format::error::Error;
 pub use crate::format::expr::{Def, Defs, Expr, FlavorInfo, IntegerKind, Kind, Pointee};
-use crate::plan::growing::NamedNode;
 pub use crate::format::layout::Layout;
-use crate::plan::names::definitions_of;
-use crate::plan::{Checker, Plan};
-use crate::plan::shallow::shallow_nodes;
 use crate::format::traits::Portable;
-use crate::context::{ArchiveContext, SharedContext};
+use crate::plan::Plan;
+use crate::plan::growing::NamedNode;
+use crate::plan::names::definitions_of;
+use crate::plan::shallow::shallow_nodes;
 use std::alloc::Global;
 
 mod layouts;
-#[cfg(test)]
-mod tests;
 
 /// An expression, with the definitions of the names that it reaches. It is compiled once, and checks any number of buffers.
 #[derive(Drop)]

@@ -13,13 +13,13 @@ ghost use Rattle.archive_check.specs.declared.format.error.Error.TheVariants.{Cy
 ghost use Rattle.archive_core.specs.Plans.{no_keys, at_start, GoesOn, HindersWhole, ExplainsWhole, IsOwnCause, IsOfWriting};
 ghost use Rattle.archive_core.specs.Writing.{Archives};
 
-pub use crate::context::HighValidator;
 use crate::ser::{Serializer, Writer, serialize_one};
 use crate::traits::{Archive, Deserialize, Entries, Keys, Portable, Serialize};
 use crate::view::{Part, Ref};
+pub use archive_check::context::HighValidator;
+use archive_check::context::{ArchiveContext, SharedContext};
 use archive_check::format::error::Error;
 use archive_check::shape::Schema;
-use archive_check::context::{ArchiveContext, SharedContext};
 use std::alloc::Global;
 
 /// Where the root of an archive of `len` bytes lies: so many bytes before its end as a `T` has, or at 0 where there are fewer.

@@ -2,7 +2,6 @@
 #![tactic(auto)]
 
 pub mod api;
-pub mod context;
 pub mod place;
 pub mod primitive;
 pub mod rel_ptr;
@@ -12,4 +11,5 @@ pub mod string;
 pub mod traits;
 pub mod view;
 
-pub use archive_check::{error, shape, validation};
+pub use archive_check::format::error;
+pub use archive_check::{context as validation, laws, shape};

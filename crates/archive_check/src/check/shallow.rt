@@ -11,13 +11,15 @@ ghost use Rattle.archive_check.specs.plan.Shallow.{IsMarked, marked, free_at, pa
 ghost use Rattle.archive_check.specs.check.LoopInvariant.{PointeeFits, PartFits, PartsFit, ElementsFit};
 ghost use Rattle.archive_check.specs.check.Through.{Through, Stops, node_rule, parts_rule, elements_rule, region_rule};
 
-use crate::format::bytes::{inline_length, is_out_of_line, is_text, read_coded_length, read_position};
-use crate::check::leave_region;
+use crate::check::worklist::Worklist;
+use crate::check::{Checker, leave_region};
+use crate::context::ArchiveContext;
+use crate::format::bytes::{
+    inline_length, is_out_of_line, is_text, read_coded_length, read_position,
+};
 use crate::format::error::Error;
 use crate::format::leaf::{illegal, is_legal};
-use crate::plan::{Checker, NodeKind, PointeeKind};
-use crate::context::ArchiveContext;
-use crate::check::worklist::Worklist;
+use crate::plan::{NodeKind, PointeeKind};
 
 impl Checker<'_> {
     /// Checks a region of so many of the pointee: a text, or bytes that are legal whatever they are.
@@ -153,7 +155,9 @@ impl Checker<'_> {
                 }
                 Some(())
             }
-            NodeKind::Record { first, last } => self.check_shallow_parts(first, last, at, work, context),
+            NodeKind::Record { first, last } => self.check_shallow_parts(
+                first, last, at, work, context,
+            ),
             NodeKind::Choice { name, first, last } => {
                 let Some(variant) = self.variant(first, last, at) else {
                     let value = self.bytes[at];

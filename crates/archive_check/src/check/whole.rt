@@ -7,10 +7,10 @@ ghost use Rattle.archive_check.specs.plan.Shallow.{IsMarked};
 ghost use Rattle.archive_check.specs.FreshContexts.{IsWhole};
 ghost use Rattle.archive_check.specs.check.PlanChecks.{PlanAccepts, PlanRefuses, PlanIsExact};
 
-use crate::format::error::Error;
 use crate::check::Checker;
-use crate::context::{ArchiveContext, SharedContext};
 use crate::check::worklist::Worklist;
+use crate::context::{ArchiveContext, SharedContext};
+use crate::format::error::Error;
 use std::alloc::Global;
 
 impl Checker<'_> {

@@ -9,10 +9,10 @@ ghost use Rattle.archive_check.specs.Ranges.{whole};
 ghost use Rattle.archive_check.specs.PositionStates.{nothing_met, IsStartAnswer};
 ghost use Rattle.archive_check.specs.declared.format.error.Error.TheVariants.{OutOfMemory};
 
+use crate::context::{Context, SharedContext, ValidationState};
 use crate::format::error::Error;
 use crate::format::expr::{FlavorInfo, Pointee};
 use crate::plan::SharedType;
-use crate::context::{Context, SharedContext, ValidationState};
 use std::alloc::{AllocError, Allocator, Global};
 use std::collections::HashMap;
 use std::hash::{BuildHasherDefault, FoldHasher};
@@ -112,7 +112,12 @@ impl<A: Allocator + Copy> SharedContext for SharedValidator<A> {
         length: usize,
     ) -> Result<ValidationState, Error> {
         if let Some(kept) = self.positions.get(&position) {
-            return kept.answer(&self.shared_types[kept.shared_type], flavor, pointee, length);
+            return kept.answer(
+                &self.shared_types[kept.shared_type],
+                flavor,
+                pointee,
+                length,
+            );
         }
         let shared_type = type_index(&mut self.shared_types, flavor, pointee)?;
         let kept = SharedPosition {

@@ -3,9 +3,9 @@
 ghost use Rattle.std.specs.Fn.{FnOnceReturnsAtMut};
 ghost use Rattle.archive_check.specs.InSubtree.{InSubtree, IsCallable};
 
+use crate::context::ArchiveContext;
 use crate::format::error::Error;
 use crate::format::layout::Layout;
-use crate::context::ArchiveContext;
 
 /// What is made of the calls of any `ArchiveContext`.
 pub trait ArchiveContextExt: ArchiveContext {

@@ -3,13 +3,11 @@
 ghost use Rattle.std.specs.Prelude.{◌≡◌, ◌≢◌, Some, None};
 ghost use Rattle.archive_check.specs.FreshContexts.{IsWhole};
 
+use crate::context::positions::SharedValidator;
+use crate::context::{ArchiveContext, ArchiveValidator, Context, SharedContext, ValidationState};
 use crate::format::error::Error;
 use crate::format::expr::{FlavorInfo, Pointee};
 use crate::format::layout::Layout;
-use crate::context::positions::SharedValidator;
-use crate::context::{
-    ArchiveContext, ArchiveValidator, Context, SharedContext, ValidationState,
-};
 use std::alloc::Global;
 use std::ops::Range;
 

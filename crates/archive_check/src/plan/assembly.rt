@@ -8,12 +8,12 @@ ghost use Rattle.archive_check.specs.plan.CompileQueue.{waits_of, no_waits};
 ghost use Rattle.archive_check.specs.plan.NodeNumbers.{def_shapes};
 ghost use Rattle.archive_check.specs.plan.Planned.{IsPlan, HasNames, InOrder, Chained, CanChain, CanFinish, Finishes};
 
-use crate::plan::compile::{Scope, compile};
-use crate::plan::numbering::{add, count, number};
 use crate::format::defs::Def;
 use crate::format::expr::Expr;
-use crate::plan::growing::NamedNode;
 use crate::plan::Plan;
+use crate::plan::compile::{Scope, compile};
+use crate::plan::growing::NamedNode;
+use crate::plan::numbering::{add, count, number};
 use crate::plan::queue::Queue;
 use std::alloc::{AllocError, Global};
 

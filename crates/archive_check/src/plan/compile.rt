@@ -15,11 +15,11 @@ ghost use Rattle.archive_check.specs.plan.Compiled.{counted, Compiled, CompiledP
 use crate::format::expr::{Expr, FlavorInfo, Pointee};
 use crate::plan::extents::{offset_of, pointer_size, times};
 use crate::plan::growing::{
-    LaidRange, NamedNode, LaidParts, LaidVariants, extend_parts, extend_variants, is_free, known_node, push,
-    push_laid, push_leaf, push_shared_type,
+    LaidParts, LaidRange, LaidVariants, NamedNode, extend_parts, extend_variants, is_free,
+    known_node, push, push_laid, push_leaf, push_shared_type,
 };
-use crate::plan::{NodeKind, Plan, PointeeKind};
 use crate::plan::queue::{Queue, wait};
+use crate::plan::{NodeKind, Plan, PointeeKind};
 use std::alloc::{AllocError, Global};
 
 /// What an expression is compiled with.
@@ -54,7 +54,11 @@ fn counted_kind(weak: bool, shared_type: usize, target: PointeeKind, pointee: us
 
 // A shared_type more, with a copy of its pointee.
 #[inline(never)]
-fn copy_shared_type(plan: &mut Plan, flavor: FlavorInfo, pointee: &Pointee) -> Result<usize, AllocError>
+fn copy_shared_type(
+    plan: &mut Plan,
+    flavor: FlavorInfo,
+    pointee: &Pointee,
+) -> Result<usize, AllocError>
     ensures { IfOk result (λ k. IsCopied (lists_of plan.old) (lists_of plan.new) flavor (pointee_of pointee.now) k) }
 {
     let copy = pointee.clone()?;

@@ -9,7 +9,7 @@ ghost use Rattle.archive_check.specs.plan.Shallow.{is_free as is_free_kind};
 
 use crate::format::expr::{FlavorInfo, Kind, Pointee};
 use crate::plan::extents::{Extent, is_plain};
-use crate::plan::{NodeKind, Node, Part, Plan, SharedType, Span};
+use crate::plan::{Node, NodeKind, Part, Plan, SharedType, Span};
 use std::alloc::{AllocError, Global};
 
 /// A name, and the node that its definition is or will be.
@@ -109,7 +109,11 @@ pub fn push(
 }
 
 /// One shared_type more.
-pub fn push_shared_type(plan: &mut Plan, flavor: FlavorInfo, pointee: Pointee) -> Result<usize, AllocError>
+pub fn push_shared_type(
+    plan: &mut Plan,
+    flavor: FlavorInfo,
+    pointee: Pointee,
+) -> Result<usize, AllocError>
     ensures { IfOk result (λ k. IsTypeAdded (lists_of plan.old) (lists_of plan.new) (record { flavor = flavor; pointee = pointee }) k) }
 {
     let shared_type = plan.shared_types.len();

@@ -5,9 +5,9 @@ ghost use Rattle.archive_check.specs.Expressions.{shape_of};
 ghost use Rattle.archive_check.specs.plan.Compilable.{CanWait};
 ghost use Rattle.archive_check.specs.plan.CompileQueue.{waits_of, no_waits, IsQueued};
 
-use crate::plan::numbering::root;
 use crate::format::expr::Expr;
 use crate::plan::growing::{NamedNode, known_node};
+use crate::plan::numbering::root;
 use std::alloc::{AllocError, Global};
 
 /// An expression, and the node that it is to be compiled to.

@@ -5,7 +5,7 @@ ghost use Rattle.archive_check.specs.plan.SoundPlans.{span};
 ghost use Rattle.archive_check.specs.plan.Shallow.{marked, free_at, parts_shallow, variants_shallow, kind_shallow, AreShallow, HasRange, HasSpans, HasIndexes, AreAllMarked};
 
 use crate::plan::growing::is_free;
-use crate::plan::{NodeKind, Node, Part, Plan, Span, PointeeKind};
+use crate::plan::{Node, NodeKind, Part, Plan, PointeeKind, Span};
 use std::alloc::{AllocError, Global};
 
 // Whether a node is marked. One that isn't there is not.

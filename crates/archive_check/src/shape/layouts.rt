@@ -9,9 +9,9 @@ ghost use Rattle.archive_check.specs.Schemas.{table_in};
 ghost use Rattle.archive_check.specs.plan.Extents.{HasExtent, PartsHaveExtent, VariantsHaveExtent};
 
 use crate::format::expr::{Expr, Pointee};
+use crate::plan::PointeeKind;
 use crate::plan::extents::{Extent, pointer_size, times};
 use crate::plan::growing::find;
-use crate::plan::PointeeKind;
 use crate::shape::Schema;
 
 // What a name takes: what its node does.

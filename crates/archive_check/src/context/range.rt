@@ -1,0 +1,138 @@
+//! The range that regions may lie in.
+
+ghost use Rattle.std.specs.Prelude.{◌≡◌, ◌≢◌, ◌<◌, ◌%◌, ◌↔◌, IsTrue, Some, None, length};
+ghost use Rattle.archive_check.specs.PositionStates.{nothing_met};
+ghost use Rattle.archive_check.specs.Ranges.{RangeState, whole};
+
+use crate::context::{ArchiveContext, Context};
+use crate::format::error::Error;
+use crate::format::layout::Layout;
+use std::marker::{Model, PhantomData};
+use std::ops::Range;
+
+// Whether a position is a multiple of an alignment: by a mask where that is a power of two, since a division is slow.
+fn is_multiple(position: usize, align: usize) -> bool
+    requires { 0 < align }
+    ensures { IsTrue result ↔ position % align ≡ 0 }
+{
+    if align.is_power_of_two() {
+        return position & (align - 1) == 0;
+    }
+    position % align == 0
+}
+
+/// The range of one buffer.
+#[derive(Drop)]
+pub struct ArchiveValidator<'a> {
+    start: usize,
+    end: usize,
+    depth: Option<usize>,
+    pushes: usize,
+    of: PhantomData<&'a [u8]>,
+}
+
+impl<'a> Model for ArchiveValidator<'a> {
+    ghost Value = { RangeState };
+
+    ghost view = { λ v. record { start = v.start; end = v.end; depth = v.depth; pushes = v.pushes } };
+}
+
+impl<'a> ArchiveValidator<'a> {
+    /// The whole of `bytes`, with no limit of depth.
+    pub fn new(bytes: &'a [u8]) -> ArchiveValidator<'a>
+        ensures { result ≡ whole (length bytes.now) None }
+    {
+        ArchiveValidator::with_max_depth(bytes, None)
+    }
+
+    /// The whole of `bytes`; of `depth` levels the last lets no region be entered.
+    pub fn with_max_depth(bytes: &'a [u8], depth: Option<usize>) -> ArchiveValidator<'a>
+        requires { depth ≢ Some 0 }
+        ensures { result ≡ whole (length bytes.now) depth }
+    {
+        ArchiveValidator {
+            start: 0,
+            end: bytes.len(),
+            depth,
+            pushes: 0,
+            of: PhantomData,
+        }
+    }
+
+    /// How many regions were entered, `usize::MAX` where it is more.
+    pub fn subtrees(&self) -> usize
+        ensures { result ≡ self.now.pushes }
+    {
+        self.pushes
+    }
+
+    // The refusal of a region that doesn't lie within the range.
+    fn outside(&self, position: i128, size: usize) -> Error
+        ensures { result ≡ Error.InvalidSubtreePointer position size self.now.start self.now.end }
+    {
+        Error::InvalidSubtreePointer {
+            position,
+            size,
+            start: self.start,
+            end: self.end,
+        }
+    }
+}
+
+impl Context for ArchiveValidator<'_> {
+    ghost state = { λ v. v };
+
+    ghost positions = { λ v. nothing_met };
+}
+
+impl ArchiveContext for ArchiveValidator<'_> {
+    fn check_subtree_ptr(&mut self, position: i128, layout: &Layout) -> Result<(), Error> {
+        if position < 0 || position > usize::MAX as i128 {
+            return Err(self.outside(position, layout.size));
+        }
+        let root = position as usize;
+        if root < self.start || root > self.end || layout.size > self.end - root {
+            return Err(self.outside(position, layout.size));
+        }
+        if !is_multiple(root, layout.align) {
+            return Err(Error::UnalignedPointer {
+                position,
+                align: layout.align,
+            });
+        }
+        Ok(())
+    }
+
+    fn push_subtree_range(&mut self, root: usize, end: usize) -> Result<Range<usize>, Error> {
+        if let Some(depth) = &mut self.depth {
+            if *depth == 1 {
+                return Err(Error::ExceededMaximumSubtreeDepth);
+            }
+            *depth = depth.saturating_sub(1);
+        }
+        let outer = Range {
+            start: end,
+            end: self.end,
+        };
+        self.end = root;
+        if self.pushes < usize::MAX {
+            self.pushes += 1;
+        }
+        Ok(outer)
+    }
+
+    fn pop_subtree_range(&mut self, range: Range<usize>) -> Result<(), Error> {
+        if range.start < self.end {
+            return Err(Error::RangePoppedOutOfOrder);
+        }
+        if let Some(depth) = &mut self.depth {
+            if *depth == usize::MAX {
+                return Err(Error::RangePoppedTooManyTimes);
+            }
+            *depth += 1;
+        }
+        self.start = range.start;
+        self.end = range.end;
+        Ok(())
+    }
+}

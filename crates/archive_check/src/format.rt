@@ -1,0 +1,9 @@
+//! The format: the refusals, expressions and definitions, layouts, leaves in bytes, and what archived types tell of themselves.
+
+pub mod bytes;
+pub mod defs;
+pub mod error;
+pub mod expr;
+pub mod layout;
+pub mod leaf;
+pub mod traits;
