@@ -1,1 +1,2 @@
+pub mod AddedNames
 pub mod Repeated

@@ -4,6 +4,8 @@
 #[cfg(test)]
 mod archive;
 #[cfg(test)]
+mod check;
+#[cfg(test)]
 mod num;
 #[cfg(test)]
 mod write;

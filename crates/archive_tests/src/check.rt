@@ -1,0 +1,13 @@
+// Archived types, their layouts, and the check of bytes against them.
+
+mod buffers;
+mod contexts;
+mod expressions;
+mod forms;
+mod layouts;
+mod leaves;
+mod marks;
+mod memory;
+mod names;
+mod parts;
+mod ranges;

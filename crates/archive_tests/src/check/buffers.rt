@@ -1,0 +1,193 @@
+// Bytes made by hand: what is accepted, and the first fault of what isn't.
+
+ghost use Rattle.std.specs.Prelude.{◌≢◌, Some};
+
+use super::forms::{Inner, Node, OptionalBytes, OptionalNumber, TwoTypes};
+use super::marks::{
+    ArchivedBox, ArchivedBoxedSlice, ArchivedRc, ArchivedRcSlice, ArchivedVec, Array, Named, Plain,
+};
+use archive_check::format::error::Error;
+use archive_check::shape::Schema;
+use archive_check::format::traits::Portable;
+use archive_check::context::validator::HighValidator;
+use archive_num::{ArchivedU32, ArchivedU64};
+use std::alloc::Global;
+use std::process::Abort;
+use std::test::Fail;
+
+// How many regions a check of a `T` at a position enters, with a limit of depth.
+fn entered<T: Portable>(
+    alloc: Global,
+    bytes: &[u8],
+    at: usize,
+    levels: Option<usize>,
+) -> Result<usize, Error>
+    requires { levels ≢ Some 0 }
+{
+    let mut context = HighValidator::with_max_depth(alloc, bytes, levels);
+    let schema = Schema::of::<T>(alloc)?;
+    schema.check(bytes, at, &mut context)?;
+    Ok(context.subtrees())
+}
+
+pub(super) fn checked<T: Portable>(alloc: Global, bytes: &[u8], at: usize) -> Result<usize, Error> {
+    entered::<T>(alloc, bytes, at, None)
+}
+
+pub(super) fn outside(
+    position: i128,
+    size: usize,
+    start: usize,
+    end: usize,
+) -> Result<usize, Error> {
+    Err(Error::InvalidSubtreePointer {
+        position,
+        size,
+        start,
+        end,
+    })
+}
+
+// Checks a `T` in each row: its bytes, the root's position, and how many regions are entered, or the refusal.
+pub(super) fn assert_rows<T: Portable>(
+    rt: &impl Abort,
+    alloc: Global,
+    rows: &[(&[u8], usize, Result<usize, Error>)],
+) {
+    for (bytes, at, answer) in rows {
+        assert_eq!(rt;
+            &checked::<T>(alloc, bytes, *at),
+            answer,
+            "{bytes:?} at {at}"
+        );
+    }
+}
+
+#[test]
+fn a_region_lies_in_one_box_alone(rt: HostRuntime) {
+    let apart = b"Hello world\0\xf4\xff\xff\xff\x05\0\0\0\xf2\xff\xff\xff\x05\0\0\0";
+    let twice = b"Hello world\0\xf4\xff\xff\xff\x0b\0\0\0\xec\xff\xff\xff\x0b\0\0\0";
+    let before = b"Hello world\0\xf0\xff\xff\xff\x0b\0\0\0\xe8\xff\xff\xff\x0b\0\0\0";
+    assert_rows::<Array<ArchivedBoxedSlice<u8>, 2>>(
+        &rt,
+        rt.alloc(),
+        &[
+            (apart, 12, Ok(3)),
+            (twice, 12, outside(0, 11, 11, 12)),
+            (before, 12, outside(-4, 11, 0, 12)),
+        ],
+    );
+}
+
+#[test]
+fn regions_rise(rt: HostRuntime) {
+    let rising = b"\x01\0\0\0\x02\0\0\0\xf8\xff\xff\xff\xf8\xff\xff\xff";
+    let falling = b"\x01\0\0\0\x02\0\0\0\xfc\xff\xff\xff\xf4\xff\xff\xff";
+    assert_rows::<Array<ArchivedBox<ArchivedU32>, 2>>(
+        &rt,
+        rt.alloc(),
+        &[(rising, 8, Ok(3)), (falling, 8, outside(0, 4, 8, 8))],
+    );
+}
+
+#[test]
+fn a_limit_of_depth_counts_the_root(rt: HostRuntime) {
+    let bytes = b"Hello world\0\x01\0\0\0\xf0\xff\xff\xff\x0b\0\0\0";
+    let one = entered::<Plain<OptionalBytes>>(rt.alloc(), bytes, 12, Some(1));
+    assert_eq!(rt; one, Err(Error::ExceededMaximumSubtreeDepth));
+    let two = entered::<Plain<OptionalBytes>>(rt.alloc(), bytes, 12, Some(2));
+    assert_eq!(rt; two, Err(Error::ExceededMaximumSubtreeDepth));
+    let three = entered::<Plain<OptionalBytes>>(rt.alloc(), bytes, 12, Some(3));
+    assert_eq!(rt; three, Ok(2));
+    let unlimited = entered::<Plain<OptionalBytes>>(rt.alloc(), bytes, 12, None);
+    assert_eq!(rt; unlimited, Ok(2));
+}
+
+#[test]
+fn a_tag_says_what_is_looked_at(rt: HostRuntime) {
+    let other = Err(Error::InvalidDiscriminant {
+        name: "ArchivedOption",
+        value: 2,
+    });
+    assert_rows::<Plain<OptionalNumber>>(
+        &rt,
+        rt.alloc(),
+        &[
+            (b"\0\xaa\xbb\xcc\x01\x02\x03\x04", 0, Ok(1)),
+            (b"\x01\xaa\xbb\xcc\x01\x02\x03\x04", 0, Ok(1)),
+            (b"\x02\xaa\xbb\xcc\x01\x02\x03\x04", 0, other),
+        ],
+    );
+}
+
+#[test]
+fn lengths_are_counted_without_end(rt: HostRuntime) {
+    let none = b"\0\0\0\0\0\0\0\0";
+    let one = b"\0\0\0\0\x01\0\0\0";
+    let many = b"\0\0\0\0\xff\xff\xff\xff";
+    let before = b"\0\0\0\x80\0\0\0\0";
+    assert_rows::<ArchivedVec<ArchivedU32>>(
+        &rt,
+        rt.alloc(),
+        &[
+            (none, 0, Ok(2)),
+            (many, 0, outside(0, 17_179_869_180, 0, 0)),
+            (before, 0, outside(-2_147_483_648, 0, 0, 0)),
+        ],
+    );
+    assert_rows::<ArchivedVec<()>>(&rt, rt.alloc(), &[(many, 0, Ok(2))]);
+    assert_rows::<ArchivedVec<Array<ArchivedU64, 4_294_967_296>>>(
+        &rt,
+        rt.alloc(),
+        &[
+            (one, 0, outside(0, 34_359_738_368, 0, 0)),
+            (many, 0, Err(Error::LayoutTooLarge)),
+        ],
+    );
+}
+
+#[test]
+fn shared_positions_have_one_type_and_length(rt: HostRuntime) {
+    let alloc = rt.alloc();
+    let ten = b"\x0a\0\0\0\xfc\xff\xff\xff\xf8\xff\xff\xff";
+    let falling = b"\x0a\0\0\0\x0b\0\0\0\xfc\xff\xff\xff\xf4\xff\xff\xff";
+    let lengths = b"\x01\x02\x03\x04\xfc\xff\xff\xff\x04\0\0\0\xf4\xff\xff\xff\x02\0\0\0";
+    let unit = b"\0\0\0\0\xfc\xff\xff\xff\xf8\xff\xff\xff";
+    assert_rows::<Array<ArchivedRc<ArchivedU32>, 2>>(
+        &rt,
+        alloc,
+        &[(ten, 4, Ok(2)), (falling, 8, outside(0, 4, 8, 8))],
+    );
+    assert_rows::<Plain<TwoTypes>>(&rt, alloc, &[(ten, 4, Err(Error::TypeMismatch))]);
+    assert_rows::<Array<ArchivedRcSlice<u8>, 2>>(
+        &rt,
+        alloc,
+        &[(lengths, 4, Err(Error::MetadataMismatch))],
+    );
+    assert_rows::<Array<ArchivedRc<()>, 2>>(&rt, alloc, &[(unit, 4, Ok(2))]);
+}
+
+#[test]
+fn a_cycle_is_refused_and_a_null_is_not_followed(rt: HostRuntime) {
+    assert_rows::<ArchivedRc<Named<Inner>>>(
+        &rt,
+        rt.alloc(),
+        &[
+            (b"\0\0\0\0\xfc\xff\xff\xff", 4, Err(Error::CyclicValidate)),
+            (b"\x01\0\0\0\xfc\xff\xff\xff", 4, Ok(2)),
+        ],
+    );
+}
+
+#[test]
+fn deep_lists_take_no_stack(rt: HostRuntime) -> Result<(), Fail> {
+    let itself = b"\x01\0\0\0\x04\0\0\0\x01\0\0\0\xf4\xff\xff\xff";
+    assert_rows::<Named<Node>>(&rt, rt.alloc(), &[(itself, 8, outside(8, 8, 0, 0))]);
+    let mut bytes = vec![in rt.alloc(); 0u8; 8]?;
+    for _ in 0..200_000 {
+        bytes.extend_from_slice(b"\x01\0\0\0\xf4\xff\xff\xff")?;
+    }
+    let regions = checked::<Named<Node>>(rt.alloc(), &bytes, 1_600_000);
+    assert_eq!(rt; regions, Ok(200_001));
+    Ok(())
+}

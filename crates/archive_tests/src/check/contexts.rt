@@ -1,0 +1,149 @@
+// The calls on shared positions, and calls within a region.
+
+use archive_check::format::error::Error;
+use archive_check::format::expr::{Expr, FlavorInfo, Kind, Pointee};
+use archive_check::format::layout::Layout;
+use archive_check::context::positions::SharedValidator;
+use archive_check::context::subtree::ArchiveContextExt;
+use archive_check::context::{ArchiveContext, ArchiveValidator, SharedContext, ValidationState};
+use archive_check::context::validator::Validator;
+use std::test::Fail;
+
+const RC: FlavorInfo = FlavorInfo {
+    name: "RcFlavor",
+    cycles: false,
+};
+
+const OTHER: FlavorInfo = FlavorInfo {
+    name: "RcFlavor",
+    cycles: true,
+};
+
+#[test]
+fn a_position_has_one_type_and_length(rt: HostRuntime) -> Result<(), Fail> {
+    let mut shared = SharedValidator::new(rt.alloc());
+    let text = Pointee::Text;
+    let unit = Pointee::One(Expr::Leaf(Kind::Unit));
+    assert_eq!(rt;
+        shared.start_shared(&RC, &text, 8, 3),
+        Ok(ValidationState::Started)
+    );
+    assert_eq!(rt;
+        shared.start_shared(&OTHER, &text, 8, 3),
+        Err(Error::TypeMismatch)
+    );
+    assert_eq!(rt;
+        shared.start_shared(&RC, &unit, 8, 0),
+        Err(Error::TypeMismatch)
+    );
+    assert_eq!(rt;
+        shared.start_shared(&RC, &text, 8, 4),
+        Err(Error::MetadataMismatch)
+    );
+    assert_eq!(rt;
+        shared.start_shared(&RC, &text, 8, 3),
+        Ok(ValidationState::Pending)
+    );
+    Ok(())
+}
+
+#[test]
+fn a_position_is_finished_once(rt: HostRuntime) -> Result<(), Fail> {
+    let mut shared = SharedValidator::new(rt.alloc());
+    let text = Pointee::Text;
+    let unit = Pointee::One(Expr::Leaf(Kind::Unit));
+    assert_eq!(rt; shared.finish_shared(&RC, &text, 8), Err(Error::NotStarted));
+    assert_eq!(rt;
+        shared.start_shared(&RC, &text, 8, 3),
+        Ok(ValidationState::Started)
+    );
+    assert_eq!(rt;
+        shared.start_shared(&RC, &unit, -8, 0),
+        Ok(ValidationState::Started)
+    );
+    assert_eq!(rt; shared.finish_shared(&OTHER, &unit, 8), Ok(()));
+    assert_eq!(rt;
+        shared.finish_shared(&RC, &text, 8),
+        Err(Error::AlreadyFinished)
+    );
+    assert_eq!(rt;
+        shared.start_shared(&RC, &text, 8, 3),
+        Ok(ValidationState::Finished)
+    );
+    assert_eq!(rt;
+        shared.start_shared(&RC, &text, 8, 2),
+        Err(Error::MetadataMismatch)
+    );
+    assert_eq!(rt;
+        shared.start_shared(&RC, &unit, -8, 0),
+        Ok(ValidationState::Pending)
+    );
+    Ok(())
+}
+
+#[test]
+fn a_validator_asks_both(rt: HostRuntime) -> Result<(), Fail> {
+    let archive = ArchiveValidator::with_max_depth(&[0; 12], Some(2));
+    let shared = SharedValidator::with_capacity(rt.alloc(), 2)?;
+    let mut both = Validator::new(archive, shared);
+    let layout = Layout { size: 4, align: 4 };
+    both.check_subtree_ptr(8, &layout)?;
+    assert_eq!(rt;
+        both.start_shared(&RC, &Pointee::Text, 8, 4),
+        Ok(ValidationState::Started)
+    );
+    let outer = both.push_subtree_range(8, 12)?;
+    assert_eq!(rt;
+        both.push_subtree_range(4, 8).err(),
+        Some(Error::ExceededMaximumSubtreeDepth)
+    );
+    both.pop_subtree_range(outer)?;
+    assert_eq!(rt; both.finish_shared(&RC, &Pointee::Text, 8), Ok(()));
+    assert_eq!(rt;
+        both.start_shared(&RC, &Pointee::Text, 8, 4),
+        Ok(ValidationState::Finished)
+    );
+    assert_eq!(rt; both.subtrees(), 1);
+    Ok(())
+}
+
+#[test]
+fn a_call_is_made_within_a_region(rt: HostRuntime) -> Result<(), Fail> {
+    let mut range = ArchiveValidator::with_max_depth(&[0; 12], Some(2));
+    let layout = Layout { size: 4, align: 4 };
+    let inside = range.in_subtree_raw(4, &layout, |inner| -> Result<Error, Error> {
+        let layout = Layout { size: 4, align: 4 };
+        inner.check_subtree_ptr(0, &layout)?;
+        Ok(
+            inner
+                .check_subtree_ptr(4, &layout)
+                .err()
+                .unwrap_or(Error::OutOfMemory),
+        )
+    });
+    let outside = Error::InvalidSubtreePointer {
+        position: 4,
+        size: 4,
+        start: 0,
+        end: 4,
+    };
+    assert_eq!(rt; inside, Ok(outside));
+    assert_eq!(rt;
+        range.in_subtree_raw(10, &layout, |_| -> Result<(), Error> { Ok(()) }),
+        Err(Error::InvalidSubtreePointer {
+            position: 10,
+            size: 4,
+            start: 8,
+            end: 12,
+        })
+    );
+    assert_eq!(rt; range.subtrees(), 1);
+    let refused = range.in_subtree_raw(8, &layout, |inner| -> Result<(), Error> {
+        inner.in_subtree_raw(8, &Layout { size: 0, align: 1 }, |_| -> Result<(), Error> {
+            Ok(())
+        })
+    });
+    assert_eq!(rt; refused, Err(Error::ExceededMaximumSubtreeDepth));
+    assert_eq!(rt; range.subtrees(), 2);
+    Ok(())
+}

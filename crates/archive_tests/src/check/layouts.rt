@@ -1,0 +1,114 @@
+// The layouts of shapes, and which have none.
+
+use super::forms::{
+    BoxedText, Either, Flags, Id, Inner, Mixed, Node, Nothing, OptionalBytes, OptionalNumber,
+    Padded, Rounded, Text, Titled, Tree, Undefined, Unmarked, WeakText, Wide,
+};
+use super::marks::{
+    ArchivedBox, ArchivedBoxedSlice, ArchivedRc, ArchivedRcSlice, ArchivedRcWeak, ArchivedVec,
+    Array, Named, Plain,
+};
+use super::names::{Endless, Tagged};
+use archive_check::format::error::Error;
+use archive_check::format::layout::Layout;
+use archive_check::shape::Schema;
+use archive_check::format::traits::{LayoutRaw, Portable, layout_of_run};
+use archive_num::ArchivedU64;
+use std::alloc::Global;
+use std::process::Abort;
+
+// 2 to the power of 61: so many numbers of eight bytes are more than a size can be.
+const MANY: usize = 2_305_843_009_213_693_952;
+
+fn numbers(layout: Result<Layout, Error>) -> Result<(usize, usize), Error> {
+    match layout {
+        Ok(layout) => Ok((layout.size, layout.align)),
+        Err(error) => Err(error),
+    }
+}
+
+// The size and the alignment of a type, as its schema has them.
+fn layout_of<T: Portable>(alloc: Global) -> Result<(usize, usize), Error> {
+    let schema = Schema::of::<T>(alloc)?;
+    numbers(schema.layout(&T::expr(alloc)?))
+}
+
+fn assert_layout<T: Portable>(rt: &impl Abort, alloc: Global, size: usize, align: usize) {
+    let layout = layout_of::<T>(alloc);
+    assert_eq!(rt; layout, Ok((size, align)), "{size} at {align}");
+}
+
+#[test]
+fn records_and_choices_are_padded(rt: HostRuntime) {
+    let alloc = rt.alloc();
+    assert_layout::<Plain<OptionalNumber>>(&rt, alloc, 8, 4);
+    assert_layout::<Plain<OptionalBytes>>(&rt, alloc, 12, 4);
+    assert_layout::<Plain<Either>>(&rt, alloc, 8, 4);
+    assert_layout::<Plain<Padded>>(&rt, alloc, 32, 8);
+    assert_layout::<Plain<Wide>>(&rt, alloc, 32, 16);
+    assert_layout::<Plain<Nothing>>(&rt, alloc, 0, 1);
+    assert_layout::<Plain<Mixed>>(&rt, alloc, 20, 4);
+    assert_layout::<Plain<Titled>>(&rt, alloc, 16, 4);
+    assert_layout::<Array<Plain<Unmarked>, 3>>(&rt, alloc, 12, 4);
+}
+
+#[test]
+fn pointers_take_four_bytes_or_eight(rt: HostRuntime) {
+    let alloc = rt.alloc();
+    assert_layout::<ArchivedBox<Named<Node>>>(&rt, alloc, 4, 4);
+    assert_layout::<ArchivedBoxedSlice<u8>>(&rt, alloc, 8, 4);
+    assert_layout::<Plain<BoxedText>>(&rt, alloc, 8, 4);
+    assert_layout::<ArchivedRc<ArchivedU64>>(&rt, alloc, 4, 4);
+    assert_layout::<ArchivedRcSlice<ArchivedU64>>(&rt, alloc, 8, 4);
+    assert_layout::<ArchivedRcWeak<ArchivedU64>>(&rt, alloc, 4, 4);
+    assert_layout::<Plain<WeakText>>(&rt, alloc, 8, 4);
+    assert_layout::<ArchivedVec<ArchivedU64>>(&rt, alloc, 8, 4);
+    assert_layout::<Plain<Text>>(&rt, alloc, 8, 4);
+}
+
+#[test]
+fn arrays_are_as_large_as_a_size_can_be(rt: HostRuntime) {
+    let alloc = rt.alloc();
+    assert_layout::<Array<ArchivedU64, 4_294_967_296>>(&rt, alloc, 34_359_738_368, 8);
+    assert_layout::<Array<u8, { usize::MAX }>>(&rt, alloc, usize::MAX, 1);
+    assert_layout::<Array<Array<ArchivedU64, MANY>, 0>>(&rt, alloc, 0, 8);
+    let too_large = layout_of::<Array<ArchivedU64, MANY>>(alloc);
+    assert_eq!(rt; too_large, Err(Error::LayoutTooLarge));
+    let rounded = layout_of::<Plain<Rounded>>(alloc);
+    assert_eq!(rt; rounded, Err(Error::LayoutTooLarge));
+}
+
+#[test]
+fn names_have_the_layouts_of_their_definitions(rt: HostRuntime) {
+    let alloc = rt.alloc();
+    assert_layout::<Named<Id>>(&rt, alloc, 8, 8);
+    assert_layout::<Tagged>(&rt, alloc, 16, 8);
+    assert_layout::<Array<Tagged, 2>>(&rt, alloc, 32, 8);
+    assert_layout::<Named<Inner>>(&rt, alloc, 4, 4);
+    assert_layout::<Named<Flags>>(&rt, alloc, 8, 4);
+    assert_layout::<Named<Tree>>(&rt, alloc, 8, 4);
+}
+
+#[test]
+fn a_name_is_defined_and_does_not_hold_itself(rt: HostRuntime) {
+    let undefined = layout_of::<Plain<Undefined>>(rt.alloc());
+    assert_eq!(rt; undefined, Err(Error::ShapeConflict));
+    let endless = layout_of::<Endless>(rt.alloc());
+    assert_eq!(rt; endless, Err(Error::RecursiveLayout));
+}
+
+#[test]
+fn regions_have_layouts(rt: HostRuntime) {
+    let rows = [
+        (<Named<Id>>::layout_raw(0), Ok((8, 8))),
+        (<()>::layout_raw(0), Ok((0, 1))),
+        (layout_of_run::<Named<Id>>(0), Ok((0, 8))),
+        (layout_of_run::<Named<Id>>(3), Ok((24, 8))),
+        (layout_of_run::<u8>(usize::MAX), Ok((usize::MAX, 1))),
+        (layout_of_run::<()>(usize::MAX), Ok((0, 1))),
+        (layout_of_run::<Named<Id>>(MANY), Err(Error::LayoutTooLarge)),
+    ];
+    for (layout, wanted) in rows {
+        assert_eq!(rt; numbers(layout), wanted, "{wanted:?}");
+    }
+}
