@@ -222,8 +222,8 @@ fn short(number: f64) -> String {
     }
 }
 
-// The ratios alone: to rkyv, FlatBuffers and Cap'n Proto, by set and operation.
-fn short_table(rows: &[Row]) -> String {
+// The ratios alone: to rkyv, FlatBuffers and Cap'n Proto, by set and operation, of the sets that are wanted.
+fn short_table(rows: &[Row], wanted: impl Fn(&str) -> bool) -> String {
     let mut out = String::new();
     writeln!(
         out,
@@ -234,7 +234,7 @@ fn short_table(rows: &[Row]) -> String {
     )
     .unwrap();
     writeln!(out, "|---|{}|", ["---"; 5].join("|")).unwrap();
-    for (set, _) in SETS {
+    for (set, _) in SETS.into_iter().filter(|(set, _)| wanted(&set.title())) {
         let cells = rows.iter().filter(|it| it.set == set).map(|row| {
             if row.cells[Format::Project as usize].ns().is_none() {
                 return "not yet".to_string();
@@ -258,6 +258,13 @@ fn short_table(rows: &[Row]) -> String {
     out
 }
 
+// The sets whose ratios the README has.
+const IN_README: [&str; 4] = [
+    "one u32",
+    "string of 11 bytes",
+    "10,000 rows",
+    "chain of 100,000 boxes",
+];
 const README: &str = "../README.md";
 const BEGIN: &str = "<!-- the ratios, by bench/run -->\n";
 const END: &str = "<!-- end of the ratios -->";
@@ -292,7 +299,7 @@ pub fn write(
     writeln!(
         out,
         "\n![The ratios as bars](results.svg)\n\n## The ratios\n\n{}",
-        short_table(rows)
+        short_table(rows, |_| true)
     )
     .unwrap();
     out.push_str("## Times, speeds and ratios\n");
@@ -303,5 +310,5 @@ pub fn write(
     out.push_str("it makes included, as a counter in place of `malloc` tells (`bench/heap`).\n\n");
     growth_table(&mut out, growth, heap);
     fs::write("RESULTS.md", out).expect("RESULTS.md is written");
-    readme(&short_table(rows));
+    readme(&short_table(rows, |title| IN_README.contains(&title)));
 }

@@ -43,7 +43,7 @@ pub struct Checker<'p> {
     pub parts: &'p [Part],
     /// Its variants.
     pub variants: &'p [Span],
-    /// Its shared_types.
+    /// Its shared types.
     pub shared_types: &'p [SharedType],
     /// Which nodes are shallow: they lead to nothing but bytes that are legal whatever they are, and texts.
     pub shallow: &'p [bool],

@@ -19,7 +19,7 @@ use std::ops::Range;
 pub use subtree::ArchiveContextExt;
 pub use validator::{HighValidator, Validator};
 
-/// What tells contracts the state of a check. It has no calls.
+/// What tells contracts the state of a check. It has no calls. Our own.
 pub trait Context {
     // The range, the levels left and the regions entered.
     ghost state: { Self → RangeState };
@@ -29,10 +29,10 @@ pub trait Context {
 }
 
 /// What a check asks about the regions of a buffer. A refused call changes nothing. Positions are in bytes from the buffer's first one.
-/// The calls and their order are those of rkyv 0.8.18, with positions in place of addresses.
+/// The calls are those of rkyv 0.8.18, with positions in place of addresses.
 pub trait ArchiveContext: Context {
-    /// Whether a region of `layout` may begin at `position`: refused with 16 where it doesn't lie within the range, and else with 17 where
-    /// `position` is no multiple of its alignment.
+    /// Whether a region of `layout` may begin at `position`: refused with `InvalidSubtreePointer`, 16, where it doesn't lie within the range, and
+    /// else with `UnalignedPointer`, 17, where `position` is no multiple of its alignment. It asks nothing: `position` may be negative.
     fn check_subtree_ptr(&mut self, position: i128, layout: &Layout) -> Result<(), Error>
         ensures answer { result ≡ subtree_answer (Self.state self.old) position layout.now.size layout.now.align }
         ensures fits { OnOk result ((Self.state self.old).end < 18446744073709551616) }
@@ -40,7 +40,8 @@ pub trait ArchiveContext: Context {
         ensures positions { Self.positions self.new ≡ Self.positions self.old };
 
     /// Enters a region from `root` to `end`: regions may now lie before it alone. Answers the range to be given back by
-    /// `pop_subtree_range`. Refused with 18 exactly where one level is left.
+    /// `pop_subtree_range`. Asks that the region lies in the range: `root` isn't below its start, nor above `end`, nor `end` above its end.
+    /// Refused with `ExceededMaximumSubtreeDepth`, 18, exactly where one level is left.
     fn push_subtree_range(&mut self, root: usize, end: usize) -> Result<Range<usize>, Error>
         requires rising { ((Self.state self.old).start ≤ root) × (root ≤ end) × (end ≤ (Self.state self.old).end) }
         ensures refused { IsErrOf result Error.ExceededMaximumSubtreeDepth ↔ (Self.state self.old).depth ≡ Some 1 }
@@ -50,8 +51,8 @@ pub trait ArchiveContext: Context {
         ensures unchanged { OnErr result (Self.state self.new ≡ Self.state self.old) }
         ensures positions { Self.positions self.new ≡ Self.positions self.old };
 
-    /// Leaves a region: regions may lie in `range` again. Refused with 20 where it begins below the current end, and else with 19 where the
-    /// levels left are `usize::MAX`.
+    /// Leaves a region: regions may lie in `range` again. Refused with `RangePoppedOutOfOrder`, 20, where it begins below the current end, and else
+    /// with `RangePoppedTooManyTimes`, 19, where the levels left are `usize::MAX`. rkyv 0.8.18 sets the range before that refusal.
     fn pop_subtree_range(&mut self, range: Range<usize>) -> Result<(), Error>
         ensures answer { result ≡ pop_answer (Self.state self.old) range.start }
         ensures left { OnOk result (Self.state self.new ≡ popped (Self.state self.old) range.start range.end) }
@@ -59,7 +60,7 @@ pub trait ArchiveContext: Context {
         ensures positions { Self.positions self.new ≡ Self.positions self.old };
 }
 
-/// What a shared position was when it was started.
+/// What a shared position was when it was started, as in rkyv 0.8.18.
 #[derive(Debug, Clone, Copy, PartialEq, Eq)]
 pub enum ValidationState {
     /// It is met for the first time.
@@ -73,8 +74,9 @@ pub enum ValidationState {
 /// What a check asks about shared positions, each known by itself alone. A refused call changes nothing.
 /// The calls are those of rkyv 0.8.18, with positions in place of addresses and with a flavor and an expression in place of a type's number.
 pub trait SharedContext: Context {
-    /// Comes to a pointee at `position`; `length` is its length in elements or bytes, 0 for one value. Refused with 21 where the position was
-    /// started with another flavor or pointee, else with 22 where it was with another length, and with 1 where memory is refused.
+    /// Comes to a pointee at `position`; `length` is its length in elements or bytes, 0 for one value. Refused with `TypeMismatch`, 21, where the
+    /// position was started with another flavor or pointee, else with `MetadataMismatch`, 22, where it was with another length; and with
+    /// `OutOfMemory`, 1, where it is new and memory is refused.
     fn start_shared(
         &mut self,
         flavor: &FlavorInfo,
@@ -87,8 +89,8 @@ pub trait SharedContext: Context {
         ensures unchanged { OnErr result (Self.positions self.new ≡ Self.positions self.old) }
         ensures range { Self.state self.new ≡ Self.state self.old };
 
-    /// Leaves the pointee at `position`, whatever its flavor and pointee. Refused with 14 where it wasn't started, and with 15 where it is
-    /// finished.
+    /// Leaves the pointee at `position`, whatever its flavor and pointee. Refused with `NotStarted`, 14, exactly where it wasn't started, and with
+    /// `AlreadyFinished`, 15, exactly where it is finished.
     fn finish_shared(
         &mut self,
         flavor: &FlavorInfo,

@@ -1,4 +1,5 @@
-//! The laws of archives. Each is what a function promises that does nothing, so that the check of this crate proves it.
+//! The laws of archives. Each is what a function promises that does nothing, so that the check of this crate proves it. They are laws of our own
+//! definitions, which `specs/Laws.antt` states and docs/DEFINITIONS.md lists.
 
 ghost use Rattle.archive_check.specs.Laws.{MeaningExists, MeaningUnique, AcceptedWhereWalked, FaultyNotWalked, FewSubtrees, RegionsDisjoint, LeavesInRegions, LeafEdited, LeafRevised, EmptyRunWalked, PlainRunWalked, PartsReached, ReachedUnique, RootReached, PointersReached, WithinReached, ElementsReached, EncodingUnique, PartsInside, LayoutsExist, LayoutUnique, ReadingUnique, TourUnique, FaultUnique, RefusedKeepsPooled, SameReflexive, SameSymmetric, SameTransitive, PartsReachedMeaning, ReachedMeaningUnique, NamesKnown, RootReachedMeaning};
 ghost use Rattle.archive_check.specs.Laws.{SaidReached, UniqueBefore};
@@ -8,7 +9,7 @@ pub fn meaning_exists()
     ensures { MeaningExists }
 {}
 
-/// It has no other.
+/// An accepted buffer has no two meanings.
 pub fn meaning_unique()
     ensures { MeaningUnique }
 {}
@@ -23,7 +24,7 @@ pub fn faulty_not_walked()
     ensures { FaultyNotWalked }
 {}
 
-/// A check enters few regions, whether it comes to an end or finds a fault.
+/// A check of n bytes enters at most 1 + n / 4 regions, whether it comes to an end or finds a fault.
 pub fn few_subtrees()
     ensures { FewSubtrees }
 {}
@@ -43,7 +44,7 @@ pub fn leaf_edited()
     ensures { LeafEdited }
 {}
 
-/// And what the buffer means changes in that leaf alone.
+/// Where legal bytes are written over a leaf, what the buffer means changes in that leaf alone.
 pub fn leaf_revised()
     ensures { LeafRevised }
 {}
@@ -63,7 +64,7 @@ pub fn parts_reached()
     ensures { PartsReached }
 {}
 
-/// It says nothing else.
+/// A part of an archive says one thing.
 pub fn reached_unique()
     ensures { ReachedUnique }
 {}
@@ -83,7 +84,7 @@ pub fn within_reached()
     ensures { WithinReached }
 {}
 
-/// So are the elements of a reached run.
+/// The elements of a reached run are reached.
 pub fn elements_reached()
     ensures { ElementsReached }
 {}
@@ -103,7 +104,7 @@ pub fn layouts_exist()
     ensures { LayoutsExist }
 {}
 
-/// They have no others, nor has the shape.
+/// The names that a well-formed shape reaches have no two layouts, nor has the shape.
 pub fn layout_unique()
     ensures { LayoutUnique }
 {}
@@ -133,12 +134,12 @@ pub fn same_reflexive()
     ensures { SameReflexive }
 {}
 
-/// Sameness goes both ways.
+/// Sameness of meanings goes both ways.
 pub fn same_symmetric()
     ensures { SameSymmetric }
 {}
 
-/// It goes on from one meaning to the next.
+/// Sameness of meanings goes on from one to the next.
 pub fn same_transitive()
     ensures { SameTransitive }
 {}
@@ -148,7 +149,7 @@ pub fn parts_reached_meaning()
     ensures { PartsReachedMeaning }
 {}
 
-/// It says nothing else.
+/// A part of an archive says one thing, a map included.
 pub fn reached_meaning_unique()
     ensures { ReachedMeaningUnique }
 {}
@@ -158,7 +159,7 @@ pub fn names_known()
     ensures { NamesKnown }
 {}
 
-/// It knows no others: the root says what the archive means, its map included.
+/// The root says what the archive means, its map included: it knows no other names than those that it leads to.
 pub fn root_reached_meaning()
     ensures { RootReachedMeaning }
 {}

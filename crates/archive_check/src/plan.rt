@@ -24,7 +24,7 @@ pub enum PointeeKind {
     Text,
 }
 
-/// What there is to check of a node's bytes. Nodes, parts, variants and shared_types are named by their index. A text's pointee is a node of one byte.
+/// What there is to check of a node's bytes. Nodes, parts, variants and shared types are named by their index. A text's pointee is a node of one byte.
 #[derive(Debug, Clone, Copy)]
 pub enum NodeKind {
     /// Any bytes are legal, and lead nowhere.

@@ -20,7 +20,8 @@ use std::alloc::Global;
 
 mod layouts;
 
-/// An expression, with the definitions of the names that it reaches. It is compiled once, and checks any number of buffers.
+/// An expression, with the definitions of the names that it reaches. It is compiled once, and checks any number of buffers. Our own: rkyv 0.8.18 has
+/// code for each type in its place.
 #[derive(Drop)]
 pub struct Schema {
     root: Expr,
@@ -44,8 +45,8 @@ impl Schema {
     ghost use Rattle.archive_check.specs.Expressions.{shape_of};
 
     /// The schema of `T`: its expression and the definitions of all names that it reaches, compiled. Memory comes from `alloc`, also that which a
-    /// check takes. Refused with 1 where memory is refused, with 30 exactly where a name that is reached has none or two definitions, and else with
-    /// 31 exactly where a name holds itself other than behind a pointer.
+    /// check takes. Refused with `OutOfMemory`, 1, where memory is refused, with `ShapeConflict`, 30, exactly where a name that is reached has none
+    /// or two definitions, and else with `RecursiveLayout`, 31, exactly where a name holds itself other than behind a pointer.
     pub fn of<T: Portable>(alloc: Global) -> Result<Schema, Error>
         ensures made { IfOk result (λ s. IsSchemaOf s T.shape T.definitions) }
         ensures held { IfOk result (λ s. HasHeld s T.shape) }
@@ -66,8 +67,8 @@ impl Schema {
     }
 
     /// The layout of an expression, in bytes. It asks that each name that `expr` holds, other than behind a pointer, is defined in the schema, as
-    /// those of the type's own expression are. It takes no memory. Refused with 23 exactly where the size is above `usize::MAX`; an array of nothing
-    /// has size 0, whatever its element.
+    /// those of the type's own expression are. It takes no memory. Refused with `LayoutTooLarge`, 23, exactly where the size is above `usize::MAX`; an
+    /// array of nothing has size 0, whatever its element.
     pub fn layout(&self, expr: &Expr) -> Result<Layout, Error>
         requires { HasHeld self.now (shape_of expr.now) }
         ensures ok { IfOk result (λ l. IsLayoutOf self.now (shape_of expr.now) l) }
@@ -83,9 +84,11 @@ impl Schema {
         }
     }
 
-    /// Whether `bytes` hold a value of the schema at `pos`, in the order that docs/FORMAT.md gives. In a context for these bytes that met nothing
-    /// yet the answer is exact: Ok where the buffer is an archive with its root there and with no region too deep, and else the refusal of the
-    /// first test that is false, with its fields. Refused with 1 where memory is refused for the list of what is left to check.
+    /// Whether `bytes` hold a value of the schema at `pos`, in bytes from the first one. The order of the tests is our own; docs/FORMAT.md has it.
+    /// Asks that the context's range ends in the buffer. In a context for these bytes that met nothing yet the answer is exact: Ok where the buffer
+    /// is an archive with its root there and with no region too deep, and else the refusal of the first test that is false, with its fields
+    /// (12, 16 to 18 and 21 to 29 of docs/FORMAT.md). Refused with `OutOfMemory`, 1, where memory is refused for the list of what is left to check
+    /// or for a shared position. What a context is left with isn't said: make a new one for the next check.
     pub fn check<C: ArchiveContext + SharedContext>(
         &self,
         bytes: &[u8],

@@ -1,4 +1,5 @@
-//! Numbers, bools, chars and `()`: their formats, and how they are archived and read back.
+//! Numbers, bools, chars and `()`: their formats, and how they are archived and read back, as in rkyv 0.8.18. None of them is ever refused but a
+//! `usize` or `isize` that doesn't fit 32 bits: `NumberTooLarge`, 6.
 
 ghost use Rattle.std.specs.Prelude.{◌≡◌, ⊤, ℕ, [], length, IfOk, OnOk, IfErr, IsOk};
 ghost use Rattle.archive_check.specs.Shape.{leaf, one};
@@ -35,7 +36,7 @@ mod non_zero;
 mod sizes;
 mod sources;
 
-/// A value of the machine that is archived as the bytes that stand for it.
+/// A value of the machine that is archived as the bytes that stand for it. Our own, so that one implementation archives all of them.
 pub trait Source: Native {
     /// Its archived type.
     type Format: Portable;
@@ -47,7 +48,7 @@ pub trait Source: Native {
     ghost same_shape: { Self.Format.shape ≡ leaf Self.kind };
 }
 
-/// A source that lies in an archive as it is, so that its format is itself: `()`, `bool`, `u8`, `i8`.
+/// A source that lies in an archive as it is, so that its format is itself: `()`, `bool`, `u8`, `i8`. Our own.
 pub trait Plain: Source + Portable {
     // As a pointee it is its leaf.
     ghost same_pointee: { Self.pointee ≡ one (leaf Self.kind) };

@@ -7,7 +7,8 @@ ghost use Rattle.archive_check.specs.declared.format.error.Error.TheVariants.{Is
 
 use archive_check::format::error::Error;
 
-/// How far it is from one position to another, in bytes. Refused with 2 exactly where the difference doesn't fit `isize`.
+/// How far it is from one position to another, in bytes. Refused with `IsizeOverflow`, 2, exactly where the difference doesn't fit `isize`. As in rkyv
+/// 0.8.18.
 pub fn signed_offset(from: usize, to: usize) -> Result<isize, Error>
     ensures { MatchResult result (λ z. z ≡ distance from to) (λ e. (e ≡ IsizeOverflow) × ¬ FitsSigned w64 (distance from to)) }
 {

@@ -57,11 +57,13 @@ fn resolve_into<T: Archive>(
     value.resolve(resolver, Place::new(pos, bytes))
 }
 
-/// The regions that every writer can take.
+/// The regions that every writer can take. rkyv 0.8.18 has the call in `WriterExt`.
 pub trait ResolveExt: Writer {
-    /// Resolves `value` into the next region and writes it; answers the region's position. The writer stands at a multiple of the archived
-    /// type's alignment. Memory for a large region comes from `alloc`: refused with 1 where it is refused, with 23 where the region would end
-    /// above `usize::MAX`, with what `resolve` refuses with, or as the writer refuses.
+    /// Resolves `value` into the next region and writes it; answers the region's position, in bytes from the first one. Asks that the writer stands
+    /// at a multiple of the archived type's alignment, as `align_for` leaves it, and that the resolver is one of this value. Memory for a region
+    /// above 64 bytes comes from `alloc`: refused with `OutOfMemory`, 1, where it is refused, with `LayoutTooLarge`, 23, where the region would end
+    /// above `usize::MAX`, with what `resolve` refuses with, or as the writer refuses (`BufferOverflow`, 8; `WriterFailed`, 9). After a refusal,
+    /// too, the bytes from before are a beginning of those that the writer holds.
     #[tactic(auto, using(crate::proofs::Regions::fresh_zeros, crate::proofs::Regions::fresh_front, crate::proofs::Regions::region_too_large, crate::proofs::Causes::goes_nowhere))]
     final fn resolve_aligned<A: Allocator + Drop, T: Archive>(
         &mut self,
@@ -97,9 +99,11 @@ pub trait ResolveExt: Writer {
 
 impl<W: Writer> ResolveExt for W {}
 
-/// Writes what `value` owns and then the value as a region of its own, at the next multiple of its alignment, and answers the region's position.
-/// Refused as the value's serialization or its resolving refuses, with 23 where the region would end above `usize::MAX`, with 1 where memory is
-/// refused, or as the writer refuses.
+/// Writes what `value` owns and then the value as a region of its own, at the next multiple of its alignment, and answers the region's position, in
+/// bytes from the first one. It asks nothing. Refused as the value's serialization or its resolving refuses, with `LayoutTooLarge`, 23, where the
+/// region would end above `usize::MAX`, with `OutOfMemory`, 1, where memory is refused, or as the writer refuses (`BufferOverflow`, 8;
+/// `WriterFailed`, 9). After a refusal, too, the bytes from before are a beginning of those that `serializer` holds, and known keys keep their
+/// states. Our own: rkyv 0.8.18 has it as `SerializeUnsized` of a value.
 #[tactic(auto, using(crate::proofs::Appending::lays_one))]
 pub fn serialize_one<S: Writer + Keys + ResolverAlloc, T: Serialize<S>>(
     value: &T,

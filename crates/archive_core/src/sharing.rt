@@ -12,11 +12,13 @@ use archive_check::format::error::Error;
 use archive_write::ser::Writer;
 pub use archive_write::sharing::{Share, Sharing, SharingState};
 
-/// What everything that writes and keeps shared keys can do besides.
+/// What everything that writes and keeps shared keys can do besides. As in rkyv 0.8.18, with a key in place of an address.
 pub trait SharingExt: Sharing + Writer {
     /// Writes `value` where `key` is unknown, finishes the key there and answers the position, in bytes from the first one; of a finished key
-    /// answers the kept position and writes nothing. Refused with 11 where the key is pending, so that its value holds itself; nothing changes
-    /// then. Else refused with 1 where memory is refused, or as the value refuses; the key is then unknown or pending. Never refused with 14 or 15.
+    /// answers the kept position and writes nothing, whatever `value` is: a key should name one value, and nothing tests it. Refused with
+    /// `CyclicSerialize`, 11, where the key is pending, so that its value holds itself; nothing changes then. Else refused with `OutOfMemory`, 1,
+    /// where memory is refused, or as the value and the writer refuse; the key is then unknown or pending. Never refused with `NotStarted`, 14, or
+    /// `AlreadyFinished`, 15.
     #[tactic(auto, using(crate::proofs::Causes::goes_nowhere))]
     final fn serialize_shared<T: SerializeUnsized<Self>>(
         &mut self,

@@ -1,4 +1,5 @@
-//! Numbers that aren't 0, as archives hold them: the lowest byte first. One format serves every width.
+//! Numbers that aren't 0, as archives hold them: the lowest byte first. One format serves every width. The bytes and names are those of rkyv 0.8.18;
+//! `ArchivedNonZeroU8` and `ArchivedNonZeroI8` are our own.
 #![tactic(auto)]
 
 mod non_zero;
@@ -36,8 +37,8 @@ pub type ArchivedNonZeroU64 = NonZero<u64>;
 /// An archived `u128` that isn't 0: sixteen bytes, at a multiple of sixteen.
 pub type ArchivedNonZeroU128 = NonZero<u128>;
 
-/// An archived length or position that isn't 0.
+/// An archived length or position that isn't 0: four bytes, at a multiple of four.
 pub type ArchivedNonZeroUsize = NonZero<FixedUsize>;
 
-/// An archived offset that isn't 0.
+/// An archived offset that isn't 0: four bytes, at a multiple of four.
 pub type ArchivedNonZeroIsize = NonZero<FixedIsize>;

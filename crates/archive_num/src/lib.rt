@@ -1,4 +1,5 @@
-//! Numbers as archives hold them: the lowest byte first. One format serves every width.
+//! Numbers as archives hold them: the lowest byte first. One format serves every width. The bytes are those of rkyv 0.8.18, whose names the aliases
+//! are; that 128-bit numbers are aligned to 16 is our own choice. Positions, sizes and alignments are in bytes.
 #![tactic(auto)]
 
 mod little_endian;
@@ -34,14 +35,14 @@ pub type ArchivedU128 = LittleEndian<u128>;
 /// An archived `char`: the number of a Unicode scalar value, in four bytes, at a multiple of four.
 pub type ArchivedChar = LittleEndian<char>;
 
-/// The number that an archived length or position holds.
+/// The number that an archived length or position holds: 32 bits, as by default in rkyv 0.8.18.
 pub type FixedUsize = u32;
 
-/// The number that an archived offset holds.
+/// The number that an archived offset holds: 32 bits, as by default in rkyv 0.8.18.
 pub type FixedIsize = i32;
 
-/// An archived length or position.
+/// An archived length or position: four bytes, at a multiple of four.
 pub type ArchivedUsize = LittleEndian<FixedUsize>;
 
-/// An archived offset.
+/// An archived offset: four bytes, at a multiple of four.
 pub type ArchivedIsize = LittleEndian<FixedIsize>;

@@ -16,7 +16,7 @@ mod others;
 mod signed;
 mod unsigned;
 
-/// A value of the machine, and the bytes that stand for it: a number, a bool, a char, or nothing.
+/// A value of the machine, and the bytes that stand for it: a number, a bool, a char, or nothing. Our own: rkyv 0.8.18 has code for each type.
 pub trait Native: Copy + Ord + Hash {
     // The leaf that it is archived as.
     ghost kind: { KindOf };
@@ -47,13 +47,14 @@ pub trait Native: Copy + Ord + Hash {
     fn byte_count() -> usize
         ensures { result ≡ byte_count };
 
-    /// Writes the bytes that stand for `self` over `out`, the lowest first.
+    /// Writes the bytes that stand for `self` over `out`, the lowest first. Asks that `out` has `byte_count` bytes.
     fn write_to(self, out: &mut [u8])
         requires { length out.old ≡ byte_count }
         ensures bytes { out.new ≡ bytes_of self }
         ensures fits { fits self };
 
-    /// The value that `bytes` stand for, the lowest first.
+    /// The value that `bytes` stand for, the lowest first. Asks that they are `byte_count` bytes, and that they stand for a value of the type, as those
+    /// do that are a leaf of its kind (`archive_check::format::leaf::is_legal`).
     fn read_from(bytes: &[u8]) -> Self
         requires length { length bytes.now ≡ byte_count }
         requires legal { are_legal bytes.now }
@@ -87,7 +88,7 @@ pub trait Native: Copy + Ord + Hash {
     ghost value_law: { (bs : List ℕ) → IsLegal kind bs → value_of (number_of bs) ≡ kind_value kind bs };
 }
 
-/// A number of the machine, which may be 0.
+/// A number of the machine, which may be 0. Our own.
 pub trait Integer: Native {
     // Whether it has a sign.
     ghost sign: { Sign };

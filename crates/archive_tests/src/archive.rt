@@ -4,6 +4,7 @@ mod memory;
 mod numbers;
 mod positions;
 mod reading;
+mod readme;
 mod shared;
 mod strings;
 mod writing;

@@ -13,7 +13,7 @@ use std::alloc::{Allocator, Global};
 use std::collections::HashMap;
 use std::hash::{BuildHasherDefault, FoldHasher};
 
-/// What a key was when it was started.
+/// What a key was when it was started. As in rkyv 0.8.18.
 #[derive(Clone, Copy, Debug, PartialEq, Eq)]
 pub enum SharingState {
     /// It was unknown, and is pending now: its value is to be written.
@@ -24,9 +24,11 @@ pub enum SharingState {
     Finished(usize),
 }
 
-/// What keeps the states of shared keys. The told bytes stay as they are, and a refused call changes nothing.
+/// What keeps the states of shared keys. The told bytes stay as they are, and a refused call changes nothing. The calls are those of rkyv 0.8.18; a key
+/// is a number that the owner chooses, in place of an address.
 pub trait Sharing: Keys {
-    /// Answers what `key` was, and makes it pending where it was unknown. Refused with 1 where memory is refused, for an unknown key alone.
+    /// Answers what `key` was, and makes it pending where it was unknown. Refused with `OutOfMemory`, 1, where memory is refused, for an unknown key
+    /// alone.
     fn start_sharing(&mut self, key: u64) -> Result<SharingState, Error>
         ensures answer { IfOk result (λ s. s ≡ start_answer (Self.state_of self.old key)) }
         ensures after { OnOk result (IsSet (Self.state_of self.old) key (started (Self.state_of self.old key)) (Self.state_of self.new)) }
@@ -34,8 +36,8 @@ pub trait Sharing: Keys {
         ensures refusal { IfErr result (λ e. (e ≡ Error.OutOfMemory) × (Self.state_of self.old key ≡ None)) }
         ensures told { Self.told self.new ≡ Self.told self.old };
 
-    /// Finishes the pending `key` at `pos`, in bytes from the first one. Refused with 14 exactly where it is unknown, and with 15 exactly where it
-    /// is finished already. Takes no memory.
+    /// Finishes the pending `key` at `pos`, in bytes from the first one. Refused with `NotStarted`, 14, exactly where it is unknown, and with
+    /// `AlreadyFinished`, 15, exactly where it is finished already. Takes no memory.
     fn finish_sharing(&mut self, key: u64, pos: usize) -> Result<(), Error>
         ensures answer { result ≡ finish_answer (Self.state_of self.old key) }
         ensures after { OnOk result (IsSet (Self.state_of self.old) key (Some (Some pos)) (Self.state_of self.new)) }
@@ -66,7 +68,7 @@ impl<W: Tells, A, S: Sharing> Sharing for Serializer<W, A, S> {
 
 type States<A> = HashMap<u64, Option<usize>, BuildHasherDefault<FoldHasher>, A>;
 
-/// The states of the keys that one archive has met, in memory from an `A`.
+/// The states of the keys that one archive has met, in memory from an `A`. As in rkyv 0.8.18, which takes its memory unasked.
 #[derive(Drop)]
 pub struct Share<A: Allocator = Global> {
     states: States<A>,
@@ -82,7 +84,8 @@ impl<A: Allocator + Clone> Share<A> {
         }
     }
 
-    /// Knows no key, and has room for `capacity` of them: no start of so many keys is refused. Refused with 1 where memory is refused.
+    /// Knows no key, and has room for `capacity` of them: no start of so many keys is refused. Memory comes from `alloc`; refused with `OutOfMemory`,
+    /// 1, where it is refused.
     pub fn with_capacity(alloc: A, capacity: usize) -> Result<Share<A>, Error>
         ensures fresh { IfOk result (λ s. KnowsNone (⟦<Share<A> as Keys>⟧.state_of s)) }
         ensures room { IfOk result (λ s. capacity ≤ spare s.states) }

@@ -52,7 +52,7 @@ pub record ElementsFit (m : Checker) (j n p : ℕ) : Type 0 where
   pub takes : Takes m j size
   pub fits : p + n * size ≤ length m.bytes.now
 
--- what remains lies in the bytes, the ranges to come back to lie behind one another, and shared_types are known
+-- what remains lies in the bytes, the ranges to come back to lie behind one another, and shared types are known
 abbrev pub ListFits : Checker → ℕ → List Work → Type 0
 ListFits m stop [] = Unit {0}
 ListFits m stop (PartWork i p ∷ work) = PartFits m i p × ListFits m stop work

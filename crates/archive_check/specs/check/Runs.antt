@@ -71,7 +71,7 @@ pointee_length bytes p One = 0
 pointee_length bytes p Run = u32_at bytes (p + 4)
 pointee_length bytes p Text = u32_at bytes (p + 4)
 
--- how a pointer of the shared_type and of this length is met
+-- how a pointer of the shared type and of this length is met
 abbrev pub entry_for : SharedType → ℕ → Entry
 entry_for shared_type l = record { flavor = flavor_of shared_type.flavor; pointee = pointee_of shared_type.pointee; length = l }
 
@@ -148,7 +148,7 @@ mutual
         → FollowRuns m pending depth stop k target j (pointee_count m.bytes.now p target) (pointee_length m.bytes.now p target) (pos p +ℤ i32_at m.bytes.now p) start seen o
         → NodeRuns m pending depth stop i p start seen o
 
-  -- a shared pointer is followed: its shared_type, target, pointee, count, length and position
+  -- a shared pointer is followed: its shared type, target, pointee, count, length and position
   pub data FollowRuns (m : Checker) : List ℕ → Option ℕ → ℕ → ℕ → PointeeKind → ℕ → ℕ → ℕ → ℤ → ℕ → Seen → Outcome → Type 0 where
     -- a position before the buffer was never met, and is outside
     follow_before : {pending : List ℕ} {depth : Option ℕ} {stop k j n l start : ℕ} {seen : Seen} {o : Outcome} {target : PointeeKind} {where_to : ℤ}

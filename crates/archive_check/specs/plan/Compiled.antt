@@ -147,7 +147,7 @@ pub record CompiledParts (names : List NamedNode) (done start : ℕ) (ps : Parts
   pub stand : (s : Schema) (shapes : ℕ → Shape) (m : Checker) → Follows b m → Settled names w.items s shapes m → Given shapes (length a.nodes) gives
       → (e : ℕ) → laid.end ≡ Some e → PartsStand s shapes m laid.first laid.last start ps
 
--- the parts of a span are these, behind a tag
+-- the parts of a variant's span are these, behind a tag
 abbrev pub IsVariant : Schema → (ℕ → Shape) → Checker → Variants → ℕ → Span → Type 0
 IsVariant s shapes m vs tag x = (ps : Parts) × (variant_at vs tag ≡ Some ps) × PartsStand s shapes m x.first x.last 1 ps
 

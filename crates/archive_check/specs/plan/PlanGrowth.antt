@@ -1,4 +1,4 @@
--- How a plan grows: its lists go on, by a node, a shared_type, parts or variants.
+-- How a plan grows: its lists go on, by a node, a shared type, parts or variants.
 use Rattle.std.specs.Prelude.{◌≡◌, ℕ, ◌<◌, max, List, [], ◌∷◌, ◌++◌, length, Bool, true, false, ◌&&◌, nat_eq, Option, Some, None, cond, bytes_eq}
 use Rattle.archive_check.specs.declared.plan.NodeKind.{NodeKind}
 use Rattle.archive_check.specs.declared.plan.NodeKind.TheVariants.{Free}
@@ -63,7 +63,7 @@ pub record IsPushed (a b : PlanLists) (size : Option ℕ) (align : ℕ) (kind : 
   pub align_is : node.align ≡ align
   pub kind_is : node.kind ≡ kind
 
--- one shared_type more
+-- one shared type more
 pub record IsTypeAdded (a b : PlanLists) (shared_type : SharedType) (k : ℕ) : Type 0 where
   pub shared_types : b.shared_types ≡ a.shared_types ++ shared_type ∷ []
   pub nodes : b.nodes ≡ a.nodes
@@ -71,7 +71,7 @@ pub record IsTypeAdded (a b : PlanLists) (shared_type : SharedType) (k : ℕ) : 
   pub variants : b.variants ≡ a.variants
   pub is : k ≡ length a.shared_types
 
--- one shared_type more, of this flavor and this pointee
+-- one shared type more, of this flavor and this pointee
 pub record IsCopied (a b : PlanLists) (flavor : FlavorInfo) (P : Pointee) (k : ℕ) : Type 0 where
   pub shared_type : SharedType
   pub sorted : IsTypeAdded a b shared_type k
@@ -96,7 +96,7 @@ pub record IsMade (a b : PlanLists) (size : Option ℕ) (align : ℕ) (free : Bo
   pub made_is : made ≡ cond (nothing_to_check free size) Free kind
   pub pushed : IsPushed a b size align made j
 
--- a part more, behind those of a row
+-- a part more, behind the laid ones
 pub record IsPartAdded (node : ℕ) (here : Node) (row next : LaidParts) : Type 0 where
   pub last : Part
   pub offset : Option ℕ
@@ -117,7 +117,7 @@ pub record IsVariantAdded (laid : LaidRange) (spans next : LaidVariants) : Type 
   pub end_is : next.extent.end ≡ greater_of spans.extent.end laid.end
   pub align_is : next.extent.align ≡ max spans.extent.align laid.align
 
--- a row stands in a plan
+-- laid parts stand in a plan
 pub record PartsLaid (a b : PlanLists) (row : LaidParts) (laid : LaidRange) : Type 0 where
   pub extended : IsExtended a b row.parts.items []
   pub first_is : laid.first ≡ length a.parts

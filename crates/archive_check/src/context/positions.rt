@@ -60,7 +60,8 @@ impl SharedPosition {
 
 type Positions<A> = HashMap<i128, SharedPosition, BuildHasherDefault<FoldHasher>, A>;
 
-/// The shared positions that a check came to. Each type is kept once, and a position keeps its type's place.
+/// The shared positions that a check came to. Each type is kept once, and a position keeps its type's place. rkyv 0.8.18 keeps a type's number, and
+/// what is known of a position by its address.
 #[derive(Drop)]
 pub struct SharedValidator<A: Allocator = Global> {
     shared_types: Vec<SharedType, A>,
@@ -81,7 +82,7 @@ impl<A: Allocator + Copy> SharedValidator<A> {
         }
     }
 
-    /// No position, and room for so many. Memory comes from `alloc`; refused with 1 where it is refused.
+    /// No position, and room for `capacity` of them. Memory comes from `alloc`; refused with `OutOfMemory`, 1, where it is refused.
     pub fn with_capacity(alloc: A, capacity: usize) -> Result<SharedValidator<A>, Error>
         ensures nothing { IfOk result (λ v. positions_of v ≡ nothing_met) }
         ensures room { IfOk result (λ v. capacity ≤ room_of v) }
@@ -149,7 +150,7 @@ impl<A: Allocator + Copy> SharedContext for SharedValidator<A> {
     }
 }
 
-// The place of a type in a list, at whose end it is put where it isn't there.
+// The index of a type in a list, at whose end it is put where it isn't there.
 #[tactic(auto, using(crate::proofs::context::SharedPositions::same_type))]
 fn type_index<A: Allocator>(
     shared_types: &mut Vec<SharedType, A>,

@@ -21,7 +21,7 @@ fn is_multiple(position: usize, align: usize) -> bool
     position % align == 0
 }
 
-/// The range of one buffer.
+/// The range of one buffer, with the levels that are left and a count of the regions that were entered. As in rkyv 0.8.18, but for the count.
 #[derive(Drop)]
 pub struct ArchiveValidator<'a> {
     start: usize,
@@ -45,7 +45,8 @@ impl<'a> ArchiveValidator<'a> {
         ArchiveValidator::with_max_depth(bytes, None)
     }
 
-    /// The whole of `bytes`; of `depth` levels the last lets no region be entered.
+    /// The whole of `bytes`; of `depth` levels the last lets no region be entered, so 2 lets one be. Asks that `depth` isn't 0, as the type of rkyv
+    /// 0.8.18 says it.
     pub fn with_max_depth(bytes: &'a [u8], depth: Option<usize>) -> ArchiveValidator<'a>
         requires { depth ≢ Some 0 }
         ensures { result ≡ whole (length bytes.now) depth }
@@ -59,7 +60,7 @@ impl<'a> ArchiveValidator<'a> {
         }
     }
 
-    /// How many regions were entered, `usize::MAX` where it is more.
+    /// How many regions were entered, `usize::MAX` where it is more. Our own.
     pub fn subtrees(&self) -> usize
         ensures { result ≡ self.now.pushes }
     {

@@ -9,9 +9,10 @@ use crate::format::layout::Layout;
 
 /// What is made of the calls of any `ArchiveContext`.
 pub trait ArchiveContextExt: ArchiveContext {
-    /// Calls `f` within the region of `layout` at `position`, in bytes from the buffer's first one: the region is checked (16, 17) and entered
-    /// (18), then `f` is called, and then the region is left (20, 19). The first refusal is answered, `f`'s own too, and nothing more is
-    /// called after it. As in rkyv 0.8.18, with a position in place of an address.
+    /// Calls `f` within the region of `layout` at `position`, in bytes from the buffer's first one: the region is checked (`InvalidSubtreePointer`,
+    /// 16; `UnalignedPointer`, 17) and entered (`ExceededMaximumSubtreeDepth`, 18), then `f` is called, and then the region is left
+    /// (`RangePoppedOutOfOrder`, 20; `RangePoppedTooManyTimes`, 19). The first refusal is answered, `f`'s own too, and nothing more is called after
+    /// it. Asks that `f` may be called in each state that entering leaves. As in rkyv 0.8.18, with a position in place of an address.
     final fn in_subtree_raw<
         R: Drop,
         E: From<Error> + Drop,

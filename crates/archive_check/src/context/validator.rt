@@ -11,7 +11,7 @@ use crate::format::layout::Layout;
 use std::alloc::Global;
 use std::ops::Range;
 
-/// A context that asks `archive` about the range, and `shared` about shared positions.
+/// A context that asks `archive` about the range, and `shared` about shared positions. As in rkyv 0.8.18.
 #[derive(Drop)]
 pub struct Validator<A, S> {
     archive: A,
@@ -80,7 +80,7 @@ impl<A: Context, S: SharedContext> SharedContext for Validator<A, S> {
     }
 }
 
-/// The range of one buffer and the shared positions in it. rkyv has the name for a `Validator` of the two.
+/// The range of one buffer and the shared positions in it. rkyv 0.8.18 has the name for a `Validator` of the two.
 #[derive(Drop)]
 pub struct HighValidator<'a> {
     range: ArchiveValidator<'a>,
@@ -90,7 +90,7 @@ pub struct HighValidator<'a> {
 }
 
 impl<'a> HighValidator<'a> {
-    /// The whole of `bytes`, of which nothing was met yet, with no limit of depth. Memory comes from `alloc`, and none is taken yet.
+    /// The whole of `bytes`, of which nothing was met yet, with no limit of depth. Memory comes from `alloc`, and none is taken yet. Our own.
     pub fn new(alloc: Global, bytes: &'a [u8]) -> HighValidator<'a>
         ensures whole { IsWhole (⟦<HighValidator<'a> as Context>⟧.state result) (⟦<HighValidator<'a> as Context>⟧.positions result) bytes.now }
         ensures unlimited { (⟦<HighValidator<'a> as Context>⟧.state result).depth ≡ None }
@@ -99,8 +99,8 @@ impl<'a> HighValidator<'a> {
         HighValidator::with_max_depth(alloc, bytes, None)
     }
 
-    /// The whole of `bytes`, of which nothing was met yet; of `depth` levels the last lets no region be entered. Memory comes from `alloc`, and none
-    /// is taken yet.
+    /// The whole of `bytes`, of which nothing was met yet; of `depth` levels the last lets no region be entered, so 2 lets one be, the root. Asks
+    /// that `depth` isn't 0; None is no limit. Memory comes from `alloc`, and none is taken yet. Our own.
     pub fn with_max_depth(alloc: Global, bytes: &'a [u8], depth: Option<usize>) -> HighValidator<'a>
         requires { depth ≢ Some 0 }
         ensures whole { IsWhole (⟦<HighValidator<'a> as Context>⟧.state result) (⟦<HighValidator<'a> as Context>⟧.positions result) bytes.now }

@@ -1,4 +1,4 @@
-//! Definitions: what names in expressions stand for.
+//! Definitions: what names in expressions stand for. They are our own, as expressions are.
 
 ghost use Rattle.std.specs.Prelude.{◌≡◌, ◌++◌, ◌∷◌, [], IfOk, OnErr, if◌then◌else◌};
 ghost use Rattle.archive_check.specs.Shape.{definition};
@@ -34,9 +34,9 @@ impl Defs {
         }
     }
 
-    /// Defines `name`. Answers true where the name is new, and false where it has this very definition already. Refused with 30 where it has
-    /// another one, and with 1 where it is new and memory is refused; a refused call changes nothing. The rule is our own: rkyv 0.8.18 has no
-    /// definitions. Memory comes from the allocator that the definitions were made with.
+    /// Defines `name`. Answers true where the name is new, and false where it has this very definition already. Refused with `ShapeConflict`, 30,
+    /// where it has another one, and with `OutOfMemory`, 1, where it is new and memory is refused; a refused call changes nothing. Memory comes
+    /// from the allocator that the definitions were made with.
     #[tactic(auto, using(crate::proofs::plan::Named::tables))]
     pub fn add(&mut self, name: &'static str, expr: Expr) -> Result<bool, Error>
         ensures answer { IsAddAnswer (definition (table_of self.old) name.now) (shape_of expr) result }

@@ -1,4 +1,4 @@
-//! The refusals. Each has a number and a name; text for people comes by `Display`.
+//! The refusals. Each has a number and a name; text for people comes by `Display`. docs/FORMAT.md has a table of them.
 
 ghost use Rattle.std.specs.Prelude.{◌≡◌};
 ghost use Rattle.archive_check.specs.Errors.{number_of, name_of};
@@ -14,53 +14,53 @@ pub enum Error {
     #[error("out of memory")]
     OutOfMemory,
     /// 2: a difference of two positions doesn't fit `isize`.
-    #[error("a difference of positions doesn't fit isize")]
+    #[error("the distance between two positions doesn't fit isize")]
     IsizeOverflow,
     /// 3: a difference of two positions fits `isize`, and not the offset's type.
-    #[error("a difference of positions doesn't fit the offset")]
+    #[error("the distance between two positions doesn't fit the offset")]
     OffsetOverflow,
     /// 4: a written pointee's position is above 4,294,967,295.
-    #[error("a position above 32 bits")]
+    #[error("a position above 4294967295 doesn't fit 32 bits")]
     PositionTooLarge,
     /// 5: the length of a slice, a vec or a text is above 4,294,967,295.
-    #[error("a length above 32 bits")]
+    #[error("a length above 4294967295 doesn't fit 32 bits")]
     LengthTooLarge,
-    /// 6: a source `usize` or `isize` doesn't fit 32 bits.
-    #[error("a number above 32 bits")]
+    /// 6: a `usize` or `isize` that is written doesn't fit 32 bits.
+    #[error("a usize or isize doesn't fit 32 bits")]
     NumberTooLarge,
     /// 7: a string's text is longer than 1,073,741,823 bytes.
-    #[error("a text above 1073741823 bytes")]
+    #[error("the text of a string has more than 1073741823 bytes")]
     StringTooLong,
     /// 8: a writer that holds `len` of at most `cap` bytes was given `write_len` more, which don't fit.
-    #[error("{write_len} bytes into a buffer of {cap} that holds {len}")]
+    #[error("{write_len} more bytes don't fit a buffer of {cap} bytes that holds {len}")]
     BufferOverflow {
         write_len: usize,
         cap: usize,
         len: usize,
     },
     /// 9: the writer's device failed.
-    #[error("the writer failed")]
+    #[error("the writer's device failed")]
     WriterFailed,
-    /// 10: an item of a sequence of unknown length wrote bytes of its own.
-    #[error("an item wrote")]
+    /// 10: an item of a sequence of unknown length wrote bytes of its own. No call answers it yet.
+    #[error("an item of a sequence of unknown length wrote bytes of its own")]
     ItemWrote,
     /// 11: a shared value is written that is being written already.
-    #[error("a shared value that holds itself is written")]
+    #[error("a shared value that holds itself can't be written")]
     CyclicSerialize,
-    /// 12: a shared position is checked that is being checked already, and its flavor forbids cycles.
-    #[error("a shared value that holds itself is checked")]
+    /// 12: a shared position is met that is being checked already, and its flavor forbids cycles.
+    #[error("a shared value holds itself, which its type forbids")]
     CyclicValidate,
-    /// 13: a shared position is read that is being read already.
-    #[error("a shared value that holds itself is read")]
+    /// 13: a shared position is met that is being read already.
+    #[error("a shared value that holds itself can't be read back")]
     CyclicDeserialize,
-    /// 14: a finish of what wasn't started.
-    #[error("not started")]
+    /// 14: a shared key or position is finished that wasn't started.
+    #[error("a shared value is finished that wasn't started")]
     NotStarted,
-    /// 15: a finish of what is finished.
-    #[error("already finished")]
+    /// 15: a shared key or position is finished that is finished already.
+    #[error("a shared value is finished that is finished already")]
     AlreadyFinished,
     /// 16: a region of `size` bytes at `position` doesn't lie in the range `start..end`.
-    #[error("a region at {position} of {size} bytes outside {start}..{end}")]
+    #[error("a region of {size} bytes at {position} doesn't lie within {start}..{end}")]
     InvalidSubtreePointer {
         position: i128,
         size: usize,
@@ -68,58 +68,58 @@ pub enum Error {
         end: usize,
     },
     /// 17: a region lies in the range, and its position is no multiple of `align`.
-    #[error("a region at {position}, no multiple of {align}")]
+    #[error("a region at {position}, which is no multiple of {align}")]
     UnalignedPointer {
         position: i128,
         align: usize,
     },
-    /// 18: a region is entered with no depth left.
-    #[error("too deep")]
+    /// 18: a region is entered with one level left, the last of which lets none be entered.
+    #[error("regions lie too deep in one another")]
     ExceededMaximumSubtreeDepth,
-    /// 19: a range is popped where no push is open.
-    #[error("a range popped too many times")]
+    /// 19: a range is given back where the levels left are `usize::MAX`.
+    #[error("a range is given back more often than one was taken")]
     RangePoppedTooManyTimes,
-    /// 20: a range is popped that begins below the current end.
-    #[error("a range popped out of order")]
+    /// 20: a range is given back that begins below the current end.
+    #[error("a range is given back out of order")]
     RangePoppedOutOfOrder,
-    /// 21: a shared position is met with another type.
-    #[error("another type at a shared position")]
+    /// 21: a shared position is met that was met with another flavor or pointee.
+    #[error("a shared value is pointed to as two types")]
     TypeMismatch,
-    /// 22: a shared position is met with this type and another length.
-    #[error("another length at a shared position")]
+    /// 22: a shared position is met that was met with this type and another length.
+    #[error("a shared value is pointed to with two lengths")]
     MetadataMismatch,
     /// 23: a region's size, or the end of one that is written, is above `usize::MAX`.
-    #[error("a layout above usize")]
+    #[error("a value takes more bytes than a usize can count")]
     LayoutTooLarge,
     /// 24: the tag `value` names no variant of the choice `name`.
-    #[error("tag {value} of {name}")]
+    #[error("tag {value} names no variant of {name}")]
     InvalidDiscriminant {
         name: &'static str,
         value: u8,
     },
     /// 25: a bool's byte is neither 0 nor 1.
-    #[error("a bool that is neither 0 nor 1")]
+    #[error("the byte of a bool is neither 0 nor 1")]
     InvalidBool,
     /// 26: a char's number is no scalar value of Unicode.
-    #[error("no char")]
+    #[error("the number of a char is no Unicode scalar value")]
     InvalidChar,
     /// 27: all bytes of a non-zero number are 0.
-    #[error("zero")]
+    #[error("a number is 0 that must not be 0")]
     ZeroNumber,
     /// 28: a text isn't UTF-8.
-    #[error("no UTF-8")]
+    #[error("a text isn't UTF-8")]
     InvalidUtf8,
-    /// 29: an out-of-line string has eight bytes or fewer.
-    #[error("a short text out of line")]
+    /// 29: an out-of-line string codes a length of eight bytes or fewer.
+    #[error("a text of eight bytes or fewer stands outside its string")]
     InvalidStringRepr,
-    /// 30: a name has no definition, or two different ones.
-    #[error("a name with no definition, or with two")]
+    /// 30: a name that a type reaches has no definition, or two different ones.
+    #[error("the name of a type has no definition, or two")]
     ShapeConflict,
     /// 31: a name holds itself other than behind a pointer.
-    #[error("a name that holds itself")]
+    #[error("a type holds itself other than behind a pointer")]
     RecursiveLayout,
     /// 32: kept for sorted maps. No call answers it yet.
-    #[error("unsorted keys")]
+    #[error("the keys of a sorted map aren't in order")]
     UnsortedKeys,
 }
 
@@ -140,7 +140,7 @@ impl<T: Drop> From<AllocFailed<T>> for Error {
 }
 
 impl Error {
-    /// The refusal's number, from 1 to 32.
+    /// The refusal's number, from 1 to 32. Our own.
     pub fn number(&self) -> u32
         ensures { result ≡ number_of self.now }
     {
@@ -180,7 +180,7 @@ impl Error {
         }
     }
 
-    /// The refusal's name, as the case is spelled.
+    /// The refusal's name, as the case is spelled. Our own.
     pub fn name(&self) -> &'static str
         ensures { result.now ≡ name_of self.now }
     {

@@ -1,4 +1,5 @@
-//! Expressions: what the bytes of an archived type are read as.
+//! Expressions: what the bytes of an archived type are read as. They are our own: rkyv 0.8.18 has a trait that each type checks itself by. The bytes
+//! that they stand for are those of rkyv 0.8.18.
 
 ghost use Rattle.std.specs.Prelude.{◌≡◌, ◌↔◌, IsTrue, IfOk};
 ghost use Rattle.std.specs.Int.{byte_len};
@@ -37,7 +38,7 @@ pub enum IntegerKind {
 }
 
 impl IntegerKind {
-    /// How many bytes it has, which is also its alignment.
+    /// How many bytes it has, which is also its alignment. That numbers of 16 bytes are aligned to 16 is our own choice.
     pub fn size(self) -> usize
         ensures { result ≡ byte_len (width_of self) }
     {
@@ -69,7 +70,7 @@ pub enum Kind {
 }
 
 impl Kind {
-    /// How many bytes it has.
+    /// How many bytes it has, as in rkyv 0.8.18.
     pub fn size(self) -> usize
         ensures { result ≡ kind_size (kind_of self) }
     {
@@ -82,7 +83,7 @@ impl Kind {
         }
     }
 
-    /// Its alignment in bytes.
+    /// Its alignment in bytes: as many as it has, and 1 where it has none.
     pub fn align(self) -> usize
         ensures { result ≡ kind_align (kind_of self) }
     {
@@ -90,7 +91,7 @@ impl Kind {
     }
 }
 
-/// A flavor of shared pointers: its name, and whether a value may lie within itself.
+/// A flavor of shared pointers, as rkyv 0.8.18's `Flavor`: its name, which is our own, and whether a value may lie within itself.
 #[derive(Debug, Clone, Copy, PartialEq, Eq)]
 pub struct FlavorInfo {
     /// The name.
@@ -156,7 +157,7 @@ impl Eq for Expr {
     ghost laws = { on_equiv shape_of same_shape-equiv };
 }
 
-/// Two pointees are equal where they are written alike.
+/// Two pointees are equal where they are written alike; names are compared as names.
 impl PartialEq for Pointee {
     ghost eq = { on pointee_of same_pointee };
 
@@ -175,7 +176,8 @@ impl Eq for Pointee {
     ghost laws = { on_equiv pointee_of same_pointee-equiv };
 }
 
-/// A copy is written alike. Its memory comes from the allocators of what is copied; it is refused where they refuse.
+/// A copy is written alike. Its memory comes from the allocators of what is copied; it is refused where they refuse, and a `?` makes
+/// `OutOfMemory`, 1, of that.
 impl Clone for Expr {
     ghost is_clone = { λ a b. shape_of b ≡ shape_of a };
 

@@ -1,4 +1,4 @@
-//! Which bytes are a leaf.
+//! Which bytes are a leaf: those that rkyv 0.8.18 accepts as one.
 
 ghost use Rattle.std.specs.Prelude.{◌≡◌, ◌≢◌, ℕ, ◌↔◌, ◌+◌, ◌<◌, ◌≤◌, length, slice_index, IsTrue, List};
 ghost use Rattle.archive_check.specs.Expressions.{kind_of};
@@ -23,7 +23,7 @@ fn has_bits(bytes: &[u8], at: usize, n: usize) -> bool
     false
 }
 
-/// Whether the bytes at `at` are a leaf of the kind.
+/// Whether the bytes at `at` are a leaf of the kind. Asks that as many bytes as the kind has lie in the buffer from there on.
 pub fn is_legal(kind: Kind, bytes: &[u8], at: usize) -> bool
     requires { at + kind_size (kind_of kind) ≤ length bytes.now }
     ensures { IsTrue result ↔ IsLegal (kind_of kind) (bytes_at bytes.now at (kind_size (kind_of kind))) }
@@ -39,7 +39,8 @@ pub fn is_legal(kind: Kind, bytes: &[u8], at: usize) -> bool
     }
 }
 
-/// The refusal of bytes that are no leaf of the kind: 25 of a bool, 26 of a char and 27 of a number that is 0. There are such bytes.
+/// The refusal of bytes that are no leaf of the kind: `InvalidBool`, 25, of a bool, `InvalidChar`, 26, of a char, and `ZeroNumber`, 27, of a number
+/// that is 0. Asks for a kind that has illegal bytes: no others do.
 #[inline]
 pub fn illegal(kind: Kind) -> Error
     requires { (bytes : List ℕ) × (length bytes ≡ kind_size (kind_of kind)) × (IsLegal (kind_of kind) bytes → ⊥) }

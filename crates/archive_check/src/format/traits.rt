@@ -19,7 +19,7 @@ mod leaves;
 
 pub use layouts::{LayoutRaw, layout_of_run};
 
-/// What a pointer may lead to: an archived value, a slice or a text.
+/// What a pointer may lead to: an archived value, a slice or a text. As in rkyv 0.8.18, with a length in place of a pointer's metadata.
 pub trait ArchivePointee {
     /// What stands in a pointer beside its offset: nothing for one value, else a length.
     type ArchivedMetadata;
@@ -38,7 +38,8 @@ pub trait ArchivePointee {
         ensures { result ≡ metadata_length metadata.now };
 }
 
-/// A type whose values lie in an archive as they are.
+/// A type whose values lie in an archive as they are. The trait is rkyv 0.8.18's, its calls are our own: there a type's layout is Rust's, and each
+/// type checks itself.
 pub trait Portable: ArchivePointee {
     // What its bytes are read as.
     ghost shape: { Shape };
@@ -46,21 +47,21 @@ pub trait Portable: ArchivePointee {
     // Its size and alignment.
     ghost layout: { LayoutOf };
 
-    /// The size in bytes, `usize::MAX` where it is more.
+    /// The size in bytes, `usize::MAX` where it is that or more.
     fn size() -> usize
         ensures { result ≡ min layout.size 18446744073709551615 };
 
-    /// The alignment in bytes.
+    /// The alignment in bytes: a power of two, at most 32.
     fn align() -> usize
         ensures { result ≡ layout.align };
 
-    /// The type's expression. Memory comes from `alloc`; refused with 1 where it is refused.
+    /// The type's expression. Memory comes from `alloc`; refused with `OutOfMemory`, 1, where it is refused.
     fn expr(alloc: Global) -> Result<Expr, Error>
         ensures shape { IfOk result (λ e. shape_of e ≡ shape) }
         ensures refused { IfErr result (λ e. e ≡ OutOfMemory) };
 
-    /// Adds the definitions of the names that the type reaches, and no others. Refused with 1 where memory is refused, and with 30 where a name
-    /// has another definition already, or two.
+    /// Adds the definitions of the names that the type reaches, and no others. Refused with `OutOfMemory`, 1, where memory is refused, and with
+    /// `ShapeConflict`, 30, where a name has another definition in `defs` already, or two. Memory comes from `alloc` and from that of `defs`.
     fn define(alloc: Global, defs: &mut Defs) -> Result<(), Error>
         ensures added { OnOk result (Extended (table_of defs.old) Self.definitions (table_of defs.new)) }
         ensures refused { IfErr result (λ e. (e ≡ OutOfMemory) ⊎ ((e ≡ ShapeConflict) × Conflicts (table_of defs.old) Self.definitions)) };
@@ -74,19 +75,19 @@ pub trait Portable: ArchivePointee {
     ghost no_others: { (name : Name) (X : Shape) → Contains (listed Self.definitions) (name, X) → Reaches (listed Self.definitions) name shape };
 }
 
-/// What tells contracts the bytes that it holds, its room and its device's failures. It has no calls.
+/// What tells contracts the bytes that it holds, its room and its device's failures. It has no calls. Our own.
 pub trait Tells {
     // What is told.
     ghost told: { Self → Told };
 }
 
-/// What tells contracts the state of each shared key. It has no calls.
+/// What tells contracts the state of each shared key. It has no calls. Our own.
 pub trait Keys: Tells {
     // The state of a key.
     ghost state_of: { Self → ℕ → KeyState };
 }
 
-/// What tells contracts the state of each position that is read, whatever its type. It has no calls.
+/// What tells contracts the state of each position that is read, whatever its type. It has no calls. Our own.
 pub trait Entries {
     // The state of a position: none where it is unknown, then pending, then finished with a value.
     ghost entry_of: { Self → ℕ → Option (Option Value) };

@@ -52,7 +52,7 @@ fn counted_kind(weak: bool, shared_type: usize, target: PointeeKind, pointee: us
     }
 }
 
-// A shared_type more, with a copy of its pointee.
+// One shared type more, with a copy of its pointee.
 #[inline(never)]
 fn copy_shared_type(
     plan: &mut Plan,
@@ -143,7 +143,7 @@ fn compile_str(plan: &mut Plan) -> Result<usize, AllocError>
     push(plan, Some(8), 4, NodeKind::Str { pointee })
 }
 
-// A pointer to what others may point to as well, behind a copy of its shared_type. A weak one may be null.
+// A pointer to what others may point to as well, behind a copy of its shared type. A weak one may be null.
 #[inline(never)]
 fn compile_counted<'e>(
     names: &[NamedNode],

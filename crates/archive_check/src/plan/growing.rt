@@ -108,7 +108,7 @@ pub fn push(
     Ok(node)
 }
 
-/// One shared_type more.
+/// One shared type more.
 pub fn push_shared_type(
     plan: &mut Plan,
     flavor: FlavorInfo,
@@ -223,7 +223,7 @@ impl LaidVariants {
     }
 }
 
-/// The parts of a row, behind those of a plan.
+/// Laid parts, behind those of a plan.
 pub fn extend_parts(plan: &mut Plan, row: &LaidParts) -> Result<LaidRange, AllocError>
     ensures { IfOk result (λ laid. PartsLaid (lists_of plan.old) (lists_of plan.new) row.now laid) }
 {
@@ -238,7 +238,7 @@ pub fn extend_parts(plan: &mut Plan, row: &LaidParts) -> Result<LaidRange, Alloc
     })
 }
 
-/// Variants, behind those of a plan.
+/// Laid variants, behind those of a plan.
 pub fn extend_variants(plan: &mut Plan, spans: &LaidVariants) -> Result<LaidRange, AllocError>
     ensures { IfOk result (λ laid. VariantsLaid (lists_of plan.old) (lists_of plan.new) spans.now laid) }
 {

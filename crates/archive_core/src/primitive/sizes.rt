@@ -72,7 +72,7 @@ impl Archive for usize {
 }
 
 impl<S: Writer + Keys> Serialize<S> for usize {
-    /// Writes nothing. Refused with 6 exactly where the number doesn't fit 32 bits.
+    /// Writes nothing. Refused with `NumberTooLarge`, 6, exactly where the number doesn't fit 32 bits without a sign. rkyv 0.8.18 cuts it off.
     #[tactic(auto, using(crate::proofs::Appending::writes_number, crate::proofs::Causes::goes_nowhere, crate::proofs::Causes::explains_own))]
     fn serialize(&self, _serializer: &mut S) -> Result<(), Error>
         ensures written { IfOk result (λ _. Writes no_definition (writer_state (S.told _serializer.old) (S.state_of _serializer.old)) (writer_state (S.told _serializer.new) (S.state_of _serializer.new)) [] (number_value (pos self.now)) (number_value (pos self.now))) }
@@ -157,7 +157,7 @@ impl Archive for isize {
 }
 
 impl<S: Writer + Keys> Serialize<S> for isize {
-    /// Writes nothing. Refused with 6 exactly where the number doesn't fit 32 bits.
+    /// Writes nothing. Refused with `NumberTooLarge`, 6, exactly where the number doesn't fit 32 bits with a sign. rkyv 0.8.18 cuts it off.
     #[tactic(auto, using(crate::proofs::Appending::writes_number, crate::proofs::Causes::goes_nowhere, crate::proofs::Causes::explains_own))]
     fn serialize(&self, _serializer: &mut S) -> Result<(), Error>
         ensures written { IfOk result (λ _. Writes no_definition (writer_state (S.told _serializer.old) (S.state_of _serializer.old)) (writer_state (S.told _serializer.new) (S.state_of _serializer.new)) [] (number_value self.now) (number_value self.now)) }

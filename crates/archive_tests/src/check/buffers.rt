@@ -6,10 +6,10 @@ use super::forms::{Inner, Node, OptionalBytes, OptionalNumber, TwoTypes};
 use super::marks::{
     ArchivedBox, ArchivedBoxedSlice, ArchivedRc, ArchivedRcSlice, ArchivedVec, Array, Named, Plain,
 };
-use archive_check::format::error::Error;
-use archive_check::shape::Schema;
-use archive_check::format::traits::Portable;
 use archive_check::context::validator::HighValidator;
+use archive_check::format::error::Error;
+use archive_check::format::traits::Portable;
+use archive_check::shape::Schema;
 use archive_num::{ArchivedU32, ArchivedU64};
 use std::alloc::Global;
 use std::process::Abort;

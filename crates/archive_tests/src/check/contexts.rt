@@ -1,12 +1,12 @@
 // The calls on shared positions, and calls within a region.
 
+use archive_check::context::positions::SharedValidator;
+use archive_check::context::subtree::ArchiveContextExt;
+use archive_check::context::validator::Validator;
+use archive_check::context::{ArchiveContext, ArchiveValidator, SharedContext, ValidationState};
 use archive_check::format::error::Error;
 use archive_check::format::expr::{Expr, FlavorInfo, Kind, Pointee};
 use archive_check::format::layout::Layout;
-use archive_check::context::positions::SharedValidator;
-use archive_check::context::subtree::ArchiveContextExt;
-use archive_check::context::{ArchiveContext, ArchiveValidator, SharedContext, ValidationState};
-use archive_check::context::validator::Validator;
 use std::test::Fail;
 
 const RC: FlavorInfo = FlavorInfo {

@@ -11,8 +11,8 @@ use super::marks::{
 use super::names::{Endless, Tagged};
 use archive_check::format::error::Error;
 use archive_check::format::layout::Layout;
-use archive_check::shape::Schema;
 use archive_check::format::traits::{LayoutRaw, Portable, layout_of_run};
+use archive_check::shape::Schema;
 use archive_num::ArchivedU64;
 use std::alloc::Global;
 use std::process::Abort;

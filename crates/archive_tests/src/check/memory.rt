@@ -1,10 +1,10 @@
 // Shared positions under budgets of memory: an allocator of a fixed size is handed in, and the size rises, so that the refusal moves from request to
 // request until all are served.
 
-use archive_check::format::error::Error;
-use archive_check::format::expr::{Expr, FlavorInfo, Kind, Pointee};
 use archive_check::context::positions::SharedValidator;
 use archive_check::context::{SharedContext, ValidationState};
+use archive_check::format::error::Error;
+use archive_check::format::expr::{Expr, FlavorInfo, Kind, Pointee};
 use linked_list_allocator::LocalHeap;
 use std::test::Fail;
 

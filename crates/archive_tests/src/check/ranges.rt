@@ -1,8 +1,8 @@
 // The calls on a range, and the refusals' texts.
 
+use archive_check::context::{ArchiveContext, ArchiveValidator};
 use archive_check::format::error::Error;
 use archive_check::format::layout::Layout;
-use archive_check::context::{ArchiveContext, ArchiveValidator};
 use std::ops::Range;
 use std::test::Fail;
 

@@ -10,7 +10,8 @@ use crate::ser::{Positional, Writer};
 use archive_check::format::error::Error;
 use archive_check::format::traits::{Keys, Tells};
 
-/// A writer over bytes that are lent to it. It takes as many bytes as they are, and leaves those beyond what is written as they were.
+/// A writer over bytes that are lent to it. It takes as many bytes as they are, and leaves those beyond what is written as they were. rkyv 0.8.18 lends
+/// bytes that may be uninitialized, too.
 #[derive(Drop)]
 pub struct Buffer<'a> {
     bytes: &'a mut [u8],
@@ -37,7 +38,7 @@ impl<'a, const N: usize> From<&'a mut [u8; N]> for Buffer<'a> {
 }
 
 impl<'a> Buffer<'a> {
-    /// What is written.
+    /// What is written, from the first byte. Our own.
     pub fn as_slice(&self) -> &[u8]
         ensures { result.now ≡ (⟦<Buffer<'a> as Tells>⟧.told self.now).bytes }
     {
@@ -61,7 +62,7 @@ impl<'a> Keys for Buffer<'a> {
     ghost state_of = { λ _ _. None };
 }
 
-/// A write is refused with 8 exactly where the bytes don't fit, and then changes nothing. It takes no memory.
+/// A write is refused with `BufferOverflow`, 8, exactly where the bytes don't fit, and then changes nothing. It takes no memory.
 impl<'a> Writer for Buffer<'a> {
     ghost takes_memory = { false };
 

@@ -19,9 +19,10 @@ fn zeros_due(pos: usize, align: usize) -> usize
     (align - past) % align
 }
 
-/// What every writer can do besides. Refusals are those of the writer.
+/// What every writer can do besides. Refusals are those of the writer: `OutOfMemory`, 1, `BufferOverflow`, 8, and `WriterFailed`, 9, as its `write`
+/// has them; the bytes from before are then a beginning of those that it holds. As in rkyv 0.8.18.
 pub trait WriterExt: Writer {
-    /// Writes `n` zeros.
+    /// Writes `n` zeros. Asks for fewer than 32, where rkyv 0.8.18 takes 32, too.
     final fn pad(&mut self, n: usize) -> Result<(), Error>
     where
         Self: Sized,
@@ -38,7 +39,8 @@ pub trait WriterExt: Writer {
         self.write(&zeros[..n])
     }
 
-    /// Writes zeros up to the next multiple of `align` bytes, and answers the position there.
+    /// Writes zeros up to the next multiple of `align` bytes, none where the writer stands at one, and answers the position there, in bytes from
+    /// the first one. Asks that `align` is from 1 to 32; it need not be a power of two.
     final fn align(&mut self, align: usize) -> Result<usize, Error>
     where
         Self: Sized,
@@ -57,7 +59,7 @@ pub trait WriterExt: Writer {
         Ok(self.pos())
     }
 
-    /// Writes zeros up to the next multiple of the alignment of `T`, and answers the position there.
+    /// Writes zeros up to the next multiple of the alignment of `T`, and answers the position there, in bytes from the first one. It asks nothing.
     #[tactic(auto, using(crate::proofs::Padding::pads_by))]
     final fn align_for<T: Portable>(&mut self) -> Result<usize, Error>
     where

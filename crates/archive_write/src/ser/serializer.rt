@@ -7,7 +7,7 @@ use archive_check::format::error::Error;
 use archive_check::format::traits::{Keys, Tells};
 use std::alloc::Allocator;
 
-/// What a value is serialized to.
+/// What a value is serialized to. Each call is that of the part that it concerns. As in rkyv 0.8.18.
 #[derive(Drop)]
 pub struct Serializer<W, A, S> {
     /// What takes the bytes.
@@ -56,7 +56,7 @@ impl<W, A, S> Serializer<W, A, S> {
     }
 }
 
-/// What hands out an allocator for resolvers.
+/// What hands out an allocator for resolvers. Our own: rkyv 0.8.18 allocates by calls of the serializer.
 pub trait ResolverAlloc {
     /// The allocator's type.
     type Alloc: Allocator + Copy;

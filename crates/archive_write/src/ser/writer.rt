@@ -8,24 +8,24 @@ use archive_check::format::error::Error;
 use archive_check::format::traits::Keys;
 use std::alloc::Allocator;
 
-/// What stands at a position.
+/// What stands at a position. As in rkyv 0.8.18.
 pub trait Positional {
     // The position: how many bytes stand before it.
     ghost place: { Self → ℕ };
 
-    /// The position, in bytes from the first one.
+    /// The position: how many bytes stand before it.
     fn pos(&self) -> usize
         ensures { result ≡ place self.now };
 }
 
-/// What takes bytes at its end.
+/// What takes bytes at its end. The call is that of rkyv 0.8.18; that a writer tells its bytes, its room and its device's failures is our own.
 pub trait Writer: Positional + Keys {
     // Whether a write may ask for memory.
     ghost takes_memory: { Bool };
 
-    /// Appends `bytes`. Refused with 1 where memory is refused, never where a write takes none; with 8 only where its room is less; and with 9 only
-    /// where its device fails in this call or has failed `u64::MAX` times. After a refusal the bytes from before are a beginning of those that it
-    /// holds. The shared keys are as before.
+    /// Appends `bytes`. Refused with `OutOfMemory`, 1, where memory is refused, never where a write takes none; with `BufferOverflow`, 8, only where
+    /// its room is less; and with `WriterFailed`, 9, only where its device fails in this call or has failed `u64::MAX` times. After a refusal the
+    /// bytes from before are a beginning of those that it holds. The shared keys are as before.
     fn write(&mut self, bytes: &[u8]) -> Result<(), Error>
         ensures written { OnOk result ((Self.told self.new).bytes ≡ (Self.told self.old).bytes ++ bytes.now) }
         ensures kept { OnErr result (IsBeginning (Self.told self.old).bytes (Self.told self.new).bytes) }
@@ -76,7 +76,7 @@ impl<A: Allocator> Positional for Vec<u8, A> {
     }
 }
 
-/// A vector has no limit but memory, and a refused write leaves it unchanged.
+/// A vector has no limit but memory: refused with `OutOfMemory`, 1, alone, and then unchanged.
 impl<A: Allocator> Writer for Vec<u8, A> {
     ghost takes_memory = { true };
 

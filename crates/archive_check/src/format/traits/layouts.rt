@@ -12,9 +12,9 @@ use crate::plan::extents::times;
 
 /// What knows how large the region is that a pointer to it leads to.
 pub trait LayoutRaw: ArchivePointee {
-    /// The layout of the region of a pointer with this length: 0 for one value, else the number of elements or bytes. Refused with 23 exactly
-    /// where its size is above `usize::MAX`, except that one value, or a run of one, isn't refused: its size then is `usize::MAX`. rkyv 0.8.18
-    /// takes the metadata in place of its length, and refuses a slice or a text above `isize::MAX`.
+    /// The layout, in bytes, of the region of a pointer with this length: 0 for one value, else the number of elements or bytes. Refused with
+    /// `LayoutTooLarge`, 23, exactly where its size is above `usize::MAX`, except that one value, or a run of one, isn't refused: its size then is
+    /// `usize::MAX`. rkyv 0.8.18 takes the metadata in place of its length, and refuses a slice or a text above `isize::MAX`.
     fn layout_raw(length: usize) -> Result<Layout, Error>
         ensures made { IfOk result (λ l. IsRegionLayout Self.definitions Self.pointee length l) }
         ensures refused { IfErr result (λ e. (e ≡ LayoutTooLarge) × IsLargeRegion Self.definitions Self.pointee length) };
@@ -34,8 +34,8 @@ impl<T: Portable> LayoutRaw for T {
     }
 }
 
-/// The layout of so many values one behind another, as slices and vectors have them. Refused with 23 exactly where its size is above
-/// `usize::MAX`, except that a run of one isn't refused: its size then is `usize::MAX`.
+/// The layout, in bytes, of so many values one behind another, as slices and vectors have them. Refused with `LayoutTooLarge`, 23, exactly where
+/// its size is above `usize::MAX`, except that a run of one isn't refused: its size then is `usize::MAX`. Our own.
 pub fn layout_of_run<T: Portable>(length: usize) -> Result<Layout, Error>
     ensures made { IfOk result (λ l. IsRegionLayout T.definitions (run T.shape) length l) }
     ensures refused { IfErr result (λ e. (e ≡ LayoutTooLarge) × IsLargeRegion T.definitions (run T.shape) length) }
