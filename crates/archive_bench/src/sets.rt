@@ -40,7 +40,7 @@ fn list_of(alloc: Global, element: Expr) -> Result<Expr, AllocError>
 }
 
 // Nothing, or a value.
-#[tactic(auto, using(archive_check::proofs::plan::Views::views))]
+#[tactic(auto, using(archive_check::proofs::format::Views::views))]
 fn option_of(alloc: Global, value: Expr) -> Result<Expr, AllocError>
     ensures { IfOk result (λ e. shape_of e ≡ optional (shape_of value)) }
 {
@@ -49,7 +49,7 @@ fn option_of(alloc: Global, value: Expr) -> Result<Expr, AllocError>
 }
 
 // What a node is: a record of nothing, or of a box with the next node.
-#[tactic(auto, using(archive_check::proofs::plan::Views::views))]
+#[tactic(auto, using(archive_check::proofs::format::Views::views))]
 fn chain_of(alloc: Global) -> Result<Expr, AllocError>
     ensures { IfOk result (λ e. shape_of e ≡ chain) }
 {
@@ -137,7 +137,7 @@ impl Portable for ArchivedRecord {
         4
     }
 
-    #[tactic(auto, using(archive_check::proofs::plan::Views::views))]
+    #[tactic(auto, using(archive_check::proofs::format::Views::views))]
     fn expr(alloc: Global) -> Result<Expr, Error> {
         let list = option_of(alloc, list_of(alloc, number(IntegerKind::I32))?)?;
         let parts = vec![in alloc; number(IntegerKind::U8), Expr::Str, list]?;
@@ -184,7 +184,7 @@ impl Portable for ArchivedRows {
         4
     }
 
-    #[tactic(auto, using(archive_check::proofs::plan::Views::views))]
+    #[tactic(auto, using(archive_check::proofs::format::Views::views))]
     fn expr(alloc: Global) -> Result<Expr, Error> {
         let values = ArchivedNumbers::expr(alloc)?;
         let row = vec![in alloc; number(IntegerKind::U64), Expr::Str, values]?;

@@ -3,3 +3,4 @@ pub mod AddedDefinitions
 pub mod BytesAt
 pub mod EqualExpressions
 pub mod LegalBytes
+pub mod Views

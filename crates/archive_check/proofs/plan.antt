@@ -22,5 +22,4 @@ pub mod Represented
 pub mod Restated
 pub mod ShallowMarks
 pub mod SoundPlans
-pub mod Views
 pub mod WaitingExpressions

@@ -11,7 +11,7 @@ use Rattle.archive_check.specs.declared.format.expr.Expr.{Expr}
 use Rattle.archive_check.specs.declared.format.expr.Expr.TheVariants as expr
 use Rattle.archive_check.specs.Expressions.{sign_of, width_of, kind_of, shape_of, shapes_in, variants_in}
 use Rattle.archive_check.specs.Equality.{same_sign, same_width, same_kind, same_shape, same_parts, same_variants}
-use Rattle.archive_check.proofs.plan.Views.{shape_of-Choice}
+use Rattle.archive_check.proofs.format.Views.{shape_of-Choice}
 
 -- the derived tests of kinds are those of their shapes
 integer_same : (j k : IntegerKind) → (integer_eq.ghosts).eq j k ≡ (same_sign (sign_of j) (sign_of k) && same_width (width_of j) (width_of k))

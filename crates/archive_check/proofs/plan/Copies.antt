@@ -4,7 +4,7 @@ use Rattle.std.proofs.lemmas.List.{drop_all, append-nil}
 use Rattle.archive_check.specs.declared.format.expr.Expr.{Expr}
 use Rattle.archive_check.specs.Shape.{part, variant}
 use Rattle.archive_check.specs.Expressions.{shape_of, shapes_in, variants_in}
-use Rattle.archive_check.proofs.plan.Views.{shapes_in-drop, variants_in-drop}
+use Rattle.archive_check.proofs.format.Views.{shapes_in-drop, variants_in-drop}
 
 pub shapes_in-copy : (ys xs : List Expr) (i : ℕ) (x y : Expr) → i < length xs → x ≡ get_or xs i x → shape_of y ≡ shape_of x → shapes_in ((ys ++ y ∷ []) ++ drop (i + 1) xs) ≡ shapes_in (ys ++ drop i xs)
 shapes_in-copy [] xs i x y h e s = ap (λ q. part q (shapes_in (drop (i + 1) xs))) s ∙ sym (shapes_in-drop xs i x h e)

@@ -196,7 +196,7 @@ impl Clone for Pointee {
 }
 
 #[cycle(same)]
-#[tactic(auto, using(crate::proofs::plan::Views::views, crate::proofs::format::EqualExpressions::same))]
+#[tactic(auto, using(crate::proofs::format::Views::views, crate::proofs::format::EqualExpressions::same))]
 fn same_expressions(a: &Expr, b: &Expr) -> bool
     ensures { result ≡ same_shape (shape_of a.now) (shape_of b.now) }
 {
@@ -216,7 +216,7 @@ fn same_expressions(a: &Expr, b: &Expr) -> bool
 }
 
 #[cycle(same)]
-#[tactic(auto, using(crate::proofs::plan::Views::views, crate::proofs::format::EqualExpressions::same))]
+#[tactic(auto, using(crate::proofs::format::Views::views, crate::proofs::format::EqualExpressions::same))]
 fn same_pointees(a: &Pointee, b: &Pointee) -> bool
     ensures { result ≡ same_pointee (pointee_of a.now) (pointee_of b.now) }
 {
@@ -229,7 +229,7 @@ fn same_pointees(a: &Pointee, b: &Pointee) -> bool
 }
 
 #[cycle(same)]
-#[tactic(auto, using(crate::proofs::plan::Views::views, crate::proofs::format::EqualExpressions::same))]
+#[tactic(auto, using(crate::proofs::format::Views::views, crate::proofs::format::EqualExpressions::same))]
 fn same_lists(a: &[Expr], b: &[Expr]) -> bool
     ensures { result ≡ same_parts (shapes_in a.now) (shapes_in b.now) }
 {
@@ -245,7 +245,7 @@ fn same_lists(a: &[Expr], b: &[Expr]) -> bool
 }
 
 #[cycle(same)]
-#[tactic(auto, using(crate::proofs::plan::Views::views, crate::proofs::format::EqualExpressions::same))]
+#[tactic(auto, using(crate::proofs::format::Views::views, crate::proofs::format::EqualExpressions::same))]
 fn same_variant_lists(a: &[Vec<Expr>], b: &[Vec<Expr>]) -> bool
     ensures { result ≡ same_variants (variants_in a.now) (variants_in b.now) }
 {
@@ -261,7 +261,7 @@ fn same_variant_lists(a: &[Vec<Expr>], b: &[Vec<Expr>]) -> bool
 }
 
 #[cycle(copy)]
-#[tactic(auto, using(crate::proofs::plan::Views::views, crate::proofs::plan::Copies::copies))]
+#[tactic(auto, using(crate::proofs::format::Views::views, crate::proofs::plan::Copies::copies))]
 fn copy_expression(expr: &Expr) -> Result<Expr, AllocError>
     ensures { IfOk result (λ e. shape_of e ≡ shape_of expr.now) }
 {
@@ -286,7 +286,7 @@ fn copy_expression(expr: &Expr) -> Result<Expr, AllocError>
 }
 
 #[cycle(copy)]
-#[tactic(auto, using(crate::proofs::plan::Views::views, crate::proofs::plan::Copies::copies))]
+#[tactic(auto, using(crate::proofs::format::Views::views, crate::proofs::plan::Copies::copies))]
 fn copy_pointee(pointee: &Pointee) -> Result<Pointee, AllocError>
     ensures { IfOk result (λ p. pointee_of p ≡ pointee_of pointee.now) }
 {
@@ -298,7 +298,7 @@ fn copy_pointee(pointee: &Pointee) -> Result<Pointee, AllocError>
 }
 
 #[cycle(copy)]
-#[tactic(auto, using(crate::proofs::plan::Views::views, crate::proofs::plan::Copies::copies))]
+#[tactic(auto, using(crate::proofs::format::Views::views, crate::proofs::plan::Copies::copies))]
 fn copy_parts(alloc: Global, parts: &[Expr]) -> Result<Vec<Expr>, AllocError>
     ensures { IfOk result (λ v. shapes_in v.items ≡ shapes_in parts.now) }
 {
@@ -310,7 +310,7 @@ fn copy_parts(alloc: Global, parts: &[Expr]) -> Result<Vec<Expr>, AllocError>
 }
 
 #[cycle(copy)]
-#[tactic(auto, using(crate::proofs::plan::Views::views, crate::proofs::plan::Copies::copies))]
+#[tactic(auto, using(crate::proofs::format::Views::views, crate::proofs::plan::Copies::copies))]
 fn copy_variants(alloc: Global, variants: &[Vec<Expr>]) -> Result<Vec<Vec<Expr>>, AllocError>
     ensures { IfOk result (λ v. variants_in v.items ≡ variants_in variants.now) }
 {

@@ -169,7 +169,7 @@ fn compile_counted<'e>(
 /// Compiles an expression, and says which node is its own. Each name in the expression is known, and each that it holds other than behind a
 /// pointer is there. What its pointers lead to waits in `queue`, unless it is a name.
 #[cycle(compile)]
-#[tactic(auto, using(crate::proofs::plan::Views::views))]
+#[tactic(auto, using(crate::proofs::format::Views::views))]
 pub fn compile<'e>(
     scope: &Scope,
     expr: &'e Expr,
@@ -196,7 +196,7 @@ pub fn compile<'e>(
 
 // A record, behind its parts.
 #[cycle(compile)]
-#[tactic(auto, using(crate::proofs::plan::Views::views))]
+#[tactic(auto, using(crate::proofs::format::Views::views))]
 #[inline(never)]
 fn compile_record<'e>(
     scope: &Scope,
@@ -224,7 +224,7 @@ fn compile_record<'e>(
 
 // A choice, behind its variants.
 #[cycle(compile)]
-#[tactic(auto, using(crate::proofs::plan::Views::views))]
+#[tactic(auto, using(crate::proofs::format::Views::views))]
 #[inline(never)]
 fn compile_choice<'e>(
     scope: &Scope,
@@ -254,7 +254,7 @@ fn compile_choice<'e>(
 
 // An array, behind its element.
 #[cycle(compile)]
-#[tactic(auto, using(crate::proofs::plan::Views::views))]
+#[tactic(auto, using(crate::proofs::format::Views::views))]
 #[inline(never)]
 fn compile_array<'e>(
     scope: &Scope,
@@ -280,7 +280,7 @@ fn compile_array<'e>(
 
 // Parts, laid out from an offset on.
 #[cycle(compile)]
-#[tactic(auto, using(crate::proofs::plan::Views::views))]
+#[tactic(auto, using(crate::proofs::format::Views::views))]
 #[inline(never)]
 fn compile_parts<'e>(
     scope: &Scope,
@@ -303,7 +303,7 @@ fn compile_parts<'e>(
 
 // Variants, each laid out behind the tag.
 #[cycle(compile)]
-#[tactic(auto, using(crate::proofs::plan::Views::views))]
+#[tactic(auto, using(crate::proofs::format::Views::views))]
 #[inline(never)]
 fn compile_variants<'e>(
     scope: &Scope,

@@ -42,7 +42,7 @@ fn take(defs: &mut Vec<Def>, name: &str) -> Option<Def>
 
 // The first name in an expression that has no definition; behind pointers too, where `far` says so.
 #[cycle(missing)]
-#[tactic(auto, using(crate::proofs::plan::Views::views))]
+#[tactic(auto, using(crate::proofs::format::Views::views))]
 pub(crate) fn missing(expr: &Expr, defs: &[Def], far: bool) -> Option<&'static str>
     ensures { option_map (λ name. name.now) result ≡ missing_in far (entries_of defs.now) (shape_of expr.now) }
 {
@@ -72,7 +72,7 @@ pub(crate) fn missing(expr: &Expr, defs: &[Def], far: bool) -> Option<&'static s
 }
 
 #[cycle(missing)]
-#[tactic(auto, using(crate::proofs::plan::Views::views))]
+#[tactic(auto, using(crate::proofs::format::Views::views))]
 fn missing_pointee(pointee: &Pointee, defs: &[Def], far: bool) -> Option<&'static str>
     ensures { option_map (λ name. name.now) result ≡ pointee_missing far (entries_of defs.now) (pointee_of pointee.now) }
 {
@@ -83,7 +83,7 @@ fn missing_pointee(pointee: &Pointee, defs: &[Def], far: bool) -> Option<&'stati
 }
 
 #[cycle(missing)]
-#[tactic(auto, using(crate::proofs::plan::Views::views))]
+#[tactic(auto, using(crate::proofs::format::Views::views))]
 fn missing_part(parts: &[Expr], defs: &[Def], far: bool) -> Option<&'static str>
     ensures { option_map (λ name. name.now) result ≡ parts_missing far (entries_of defs.now) (shapes_in parts.now) }
 {
@@ -96,7 +96,7 @@ fn missing_part(parts: &[Expr], defs: &[Def], far: bool) -> Option<&'static str>
 }
 
 #[cycle(missing)]
-#[tactic(auto, using(crate::proofs::plan::Views::views))]
+#[tactic(auto, using(crate::proofs::format::Views::views))]
 fn missing_variant(variants: &[Vec<Expr>], defs: &[Def], far: bool) -> Option<&'static str>
     ensures { option_map (λ name. name.now) result ≡ variants_missing far (entries_of defs.now) (variants_in variants.now) }
 {

@@ -32,7 +32,7 @@ fn count_pointee(pointee: &Pointee) -> usize
 
 /// How many nodes an expression is compiled to, but for what its pointers lead to. Refused with 1 where that is above `usize::MAX`.
 #[cycle(count)]
-#[tactic(auto, using(crate::proofs::plan::Views::views))]
+#[tactic(auto, using(crate::proofs::format::Views::views))]
 pub fn count(expr: &Expr) -> Result<usize, AllocError>
     ensures { IfOk result (λ n. n ≡ count_of (shape_of expr.now)) }
 {
@@ -58,7 +58,7 @@ pub fn count(expr: &Expr) -> Result<usize, AllocError>
 
 // How many nodes parts are compiled to.
 #[cycle(count)]
-#[tactic(auto, using(crate::proofs::plan::Views::views))]
+#[tactic(auto, using(crate::proofs::format::Views::views))]
 fn count_parts(parts: &[Expr]) -> Result<usize, AllocError>
     ensures { IfOk result (λ n. n ≡ counts_of (shapes_in parts.now)) }
 {
@@ -72,7 +72,7 @@ fn count_parts(parts: &[Expr]) -> Result<usize, AllocError>
 
 // How many nodes variants are compiled to.
 #[cycle(count)]
-#[tactic(auto, using(crate::proofs::plan::Views::views))]
+#[tactic(auto, using(crate::proofs::format::Views::views))]
 fn count_variants(variants: &[Vec<Expr>]) -> Result<usize, AllocError>
     ensures { IfOk result (λ n. n ≡ variant_counts_of (variants_in variants.now)) }
 {

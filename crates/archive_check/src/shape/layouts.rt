@@ -47,7 +47,7 @@ fn extent_of_pointer(pointee: &Pointee) -> Extent
 
 /// What an expression takes: it ends at its size.
 #[cycle(extent)]
-#[tactic(auto, using(crate::proofs::plan::Views::views))]
+#[tactic(auto, using(crate::proofs::format::Views::views))]
 pub fn extent_of(schema: &Schema, expr: &Expr) -> Extent
     requires { missing false (table_in schema.now) (shape_of expr.now) ≡ None }
     ensures { HasExtent schema.now (shape_of expr.now) result }
@@ -77,7 +77,7 @@ pub fn extent_of(schema: &Schema, expr: &Expr) -> Extent
 
 // What parts take, from an offset on.
 #[cycle(extent)]
-#[tactic(auto, using(crate::proofs::plan::Views::views))]
+#[tactic(auto, using(crate::proofs::format::Views::views))]
 fn extent_of_parts(schema: &Schema, parts: &[Expr], start: usize) -> Extent
     requires { parts_missing false (table_in schema.now) (shapes_in parts.now) ≡ None }
     ensures { PartsHaveExtent schema.now start (shapes_in parts.now) result }
@@ -92,7 +92,7 @@ fn extent_of_parts(schema: &Schema, parts: &[Expr], start: usize) -> Extent
 
 // What variants take, each behind the tag.
 #[cycle(extent)]
-#[tactic(auto, using(crate::proofs::plan::Views::views))]
+#[tactic(auto, using(crate::proofs::format::Views::views))]
 fn extent_of_variants(schema: &Schema, variants: &[Vec<Expr>]) -> Extent
     requires { variants_missing false (table_in schema.now) (variants_in variants.now) ≡ None }
     ensures { VariantsHaveExtent schema.now (variants_in variants.now) result }

@@ -17,7 +17,7 @@ use archive_num::{ArchivedI32, ArchivedU16, ArchivedU32, ArchivedU64, ArchivedU1
 use std::alloc::{AllocError, Global};
 
 // A choice of two variants with these parts.
-#[tactic(auto, using(archive_check::proofs::plan::Views::views))]
+#[tactic(auto, using(archive_check::proofs::format::Views::views))]
 fn choice_of(
     alloc: Global,
     name: &'static str,
@@ -40,7 +40,7 @@ fn option_of(alloc: Global, value: Expr) -> Result<Expr, AllocError>
 }
 
 // Two values, one behind the other.
-#[tactic(auto, using(archive_check::proofs::plan::Views::views))]
+#[tactic(auto, using(archive_check::proofs::format::Views::views))]
 pub(crate) fn pair_of(alloc: Global, first: Expr, second: Expr) -> Result<Expr, AllocError>
     ensures { IfOk result (λ e. shape_of e ≡ pair (shape_of first) (shape_of second)) }
 {
@@ -122,7 +122,7 @@ impl Form for Nothing {
         Layout { size: 0, align: 1 }
     }
 
-    #[tactic(auto, using(archive_check::proofs::plan::Views::views))]
+    #[tactic(auto, using(archive_check::proofs::format::Views::views))]
     fn expr(alloc: Global) -> Result<Expr, Error> {
         Ok(Expr::Record(vec![in alloc]?))
     }
@@ -228,7 +228,7 @@ impl Form for Either {
         Layout { size: 8, align: 4 }
     }
 
-    #[tactic(auto, using(archive_check::proofs::plan::Views::views))]
+    #[tactic(auto, using(archive_check::proofs::format::Views::views))]
     fn expr(alloc: Global) -> Result<Expr, Error> {
         let small = vec![in alloc; u8::expr(alloc)?]?;
         let large = vec![in alloc; ArchivedU32::expr(alloc)?]?;
@@ -252,7 +252,7 @@ impl Form for Padded {
         Layout { size: 32, align: 8 }
     }
 
-    #[tactic(auto, using(archive_check::proofs::plan::Views::views))]
+    #[tactic(auto, using(archive_check::proofs::format::Views::views))]
     fn expr(alloc: Global) -> Result<Expr, Error> {
         let number = ArchivedU64::expr(alloc)?;
         let parts = vec![in alloc; u8::expr(alloc)?, number, u8::expr(alloc)?, Expr::Str]?;
@@ -342,7 +342,7 @@ impl Form for Mixed {
         Layout { size: 20, align: 4 }
     }
 
-    #[tactic(auto, using(archive_check::proofs::plan::Views::views))]
+    #[tactic(auto, using(archive_check::proofs::format::Views::views))]
     fn expr(alloc: Global) -> Result<Expr, Error> {
         let numbers = ArchivedVec::<ArchivedU32>::expr(alloc)?;
         let parts = vec![in alloc; bool::expr(alloc)?, Expr::Str, numbers]?;
@@ -485,7 +485,7 @@ impl Form for Inner {
         Layout { size: 4, align: 4 }
     }
 
-    #[tactic(auto, using(archive_check::proofs::plan::Views::views))]
+    #[tactic(auto, using(archive_check::proofs::format::Views::views))]
     fn expr(alloc: Global) -> Result<Expr, Error> {
         let pointee = Pointee::One(Expr::Named("Inner"));
         let pointer = Expr::Weak(RC, Box::new(alloc, pointee)?);
@@ -517,7 +517,7 @@ impl Form for Node {
         Layout { size: 8, align: 4 }
     }
 
-    #[tactic(auto, using(archive_check::proofs::plan::Views::views))]
+    #[tactic(auto, using(archive_check::proofs::format::Views::views))]
     fn expr(alloc: Global) -> Result<Expr, Error> {
         let next = Pointee::One(Expr::Named("ArchivedNode"));
         let end = vec![in alloc]?;
@@ -550,7 +550,7 @@ impl Form for Flags {
         Layout { size: 8, align: 4 }
     }
 
-    #[tactic(auto, using(archive_check::proofs::plan::Views::views))]
+    #[tactic(auto, using(archive_check::proofs::format::Views::views))]
     fn expr(alloc: Global) -> Result<Expr, Error> {
         let rest = Pointee::One(Expr::Named("Flags"));
         let end = vec![in alloc]?;
@@ -583,7 +583,7 @@ impl Form for Tree {
         Layout { size: 8, align: 4 }
     }
 
-    #[tactic(auto, using(archive_check::proofs::plan::Views::views))]
+    #[tactic(auto, using(archive_check::proofs::format::Views::views))]
     fn expr(alloc: Global) -> Result<Expr, Error> {
         let child = pair_of(alloc, Expr::Named("Tree"), ArchivedU32::expr(alloc)?)?;
         Ok(Expr::Record(vec![in alloc; Expr::Vec(Box::new(alloc, child)?)]?))

@@ -2,7 +2,7 @@ use Rattle.std.specs.Prelude.{codes}
 use Rattle.std.proofs.Common.{◌∙◌, ap}
 use Rattle.archive_check.specs.Shape.{choice, variant, no_variant}
 use Rattle.archive_check.specs.Expressions.{shapes_in, variants_in}
-use Rattle.archive_check.proofs.plan.Views.{shape_of-Choice}
+use Rattle.archive_check.proofs.format.Views.{shape_of-Choice}
 use Rattle.archive_bench.proofs.sets.option_of.Goals as goal
 
 pub returns : goal.returns

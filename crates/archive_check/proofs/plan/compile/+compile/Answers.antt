@@ -2,7 +2,7 @@ use Rattle.std.proofs.Common.{◌≡◌, ◌<◌, ◌+◌, ◌*◌, subst, sym, 
 use Rattle.archive_check.specs.Expressions.{flavor_of, shape_of, pointee_of, shapes_in, variants_in}
 use Rattle.archive_check.specs.plan.Measure.{measure_of, measure_of_parts, measure_of_variants}
 use Rattle.archive_check.specs.Shape.{parts, choice, array, boxed, vec, shared, weak, variant}
-use Rattle.archive_check.proofs.plan.Views.{record_falls, choice_falls, shape_of-Choice, shape_of-Record, shapes_in-drop, shapes_in-end, shapes_size-at, variants_in-drop, variants_in-end, measure_of_variants-at}
+use Rattle.archive_check.proofs.format.Views.{record_falls, choice_falls, shape_of-Choice, shape_of-Record, shapes_in-drop, shapes_in-end, shapes_size-at, variants_in-drop, variants_in-end, measure_of_variants-at}
 use Rattle.archive_check.proofs.plan.Restated.{ok_map, as_shape, row_left, spans_left}
 use Rattle.archive_check.proofs.plan.Compiled.{compiled_leaf, compiled_record, compiled_choice, compiled_array, compiled_name}
 use Rattle.archive_check.proofs.plan.CompiledParts.{row_start, row_next, row_done, spans_start, spans_next, spans_done}

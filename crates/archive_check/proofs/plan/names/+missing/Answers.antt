@@ -2,7 +2,7 @@ use Rattle.std.proofs.Common.{◌<◌, ap, sym, ◌∙◌, subst}
 use Rattle.archive_check.specs.Expressions.{shape_of, variants_in, entries_of}
 use Rattle.archive_check.specs.plan.Measure.{measure_of_variants}
 use Rattle.archive_check.specs.plan.Names.{missing as missing_in, variants_missing}
-use Rattle.archive_check.proofs.plan.Views.{choice_falls, shape_of-Choice}
+use Rattle.archive_check.proofs.format.Views.{choice_falls, shape_of-Choice}
 use Rattle.archive_check.proofs.plan.names.+missing.Goals as goal
 
 pub missing-missing_variant-requires : goal.missing-missing_variant-requires

@@ -2,7 +2,7 @@ use Rattle.std.proofs.Common.{◌+◌, ◌<◌, ap, sym, ◌∙◌, subst}
 use Rattle.archive_check.specs.Expressions.{shape_of, variants_in}
 use Rattle.archive_check.specs.plan.Measure.{measure_of_variants}
 use Rattle.archive_check.specs.plan.NodeCounts.{count_of, variant_counts_of}
-use Rattle.archive_check.proofs.plan.Views.{choice_falls, shape_of-Choice}
+use Rattle.archive_check.proofs.format.Views.{choice_falls, shape_of-Choice}
 use Rattle.archive_check.proofs.plan.Restated.{ok_map}
 use Rattle.archive_check.proofs.plan.numbering.+count.Goals as goal
 

@@ -5,7 +5,7 @@ use Rattle.archive_check.specs.Shape.{parts, choice, array, boxed, shared, weak,
 use Rattle.archive_check.specs.check.Runs.{times}
 use Rattle.archive_check.specs.plan.Names.{missing, parts_missing, variants_missing}
 use Rattle.archive_check.specs.Schemas.{table_in}
-use Rattle.archive_check.proofs.plan.Views.{choice_falls, shape_of-Choice, shape_of-Record, shapes_in-drop, shapes_in-end, variants_in-drop, variants_in-end}
+use Rattle.archive_check.proofs.format.Views.{choice_falls, shape_of-Choice, shape_of-Record, shapes_in-drop, shapes_in-end, variants_in-drop, variants_in-end}
 use Rattle.archive_check.proofs.plan.MissingNames.{or_none}
 use Rattle.archive_check.proofs.plan.BoundedSizes.{fits_some, times_fits}
 use Rattle.archive_check.proofs.plan.FreeWalks.{kind_few}

@@ -1,7 +1,7 @@
 use Rattle.std.proofs.Common.{◌∙◌, ap}
 use Rattle.archive_check.specs.Shape.{choice}
 use Rattle.archive_check.specs.Expressions.{variants_in}
-use Rattle.archive_check.proofs.plan.Views.{shape_of-Choice}
+use Rattle.archive_check.proofs.format.Views.{shape_of-Choice}
 use Rattle.archive_tests.proofs.check.forms.choice_of.Goals as goal
 
 pub returns : goal.returns
