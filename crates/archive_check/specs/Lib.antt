@@ -32,7 +32,6 @@ pub mod FreshContexts
 pub mod SharedPositions
 pub mod InSubtree
 pub mod Validators
-pub mod Told
 pub mod Schemas
 pub mod Faults
 pub mod Viewed

@@ -1,20 +1,42 @@
--- What a writer holds, with the states of the shared keys; and zeros up to a multiple.
-use Rattle.std.specs.Prelude.{◌≡◌, ℕ, List, ◌++◌, length}
+-- What a writer tells of itself: what it holds, and the states of the shared keys. Zeros up to a multiple.
+use Rattle.std.specs.Prelude.{◌≡◌, ℕ, List, [], ◌++◌, length, Option, None}
 use Rattle.archive_check.specs.Layout.{up}
-use Rattle.archive_check.specs.Told.{Told, KeyState}
 use Rattle.archive_check.specs.CleanRegions.{IsZeroed}
+
+-- none where a key is unknown, then pending, then finished at a position
+abbrev pub KeyState : Type 0
+KeyState = Option (Option ℕ)
 
 -- the state of each shared key
 abbrev pub KeyStates : Type 0
 KeyStates = ℕ → KeyState
 
--- a writer's bytes, and the states of the shared keys
+-- the bytes that a writer holds, how many more it can take where there is a limit, how often its device failed, and the states of the shared keys
 pub record WriterState : Type 0 where
   pub bytes : List ℕ
+  pub room : Option ℕ
+  pub failures : ℕ
   pub states : KeyStates
 
-abbrev pub writer_state : Told → KeyStates → WriterState
-writer_state told states = record { bytes = told.bytes; states = states }
+-- no key is known
+abbrev pub no_keys : KeyStates
+no_keys k = None
+
+-- of what holds no bytes
+abbrev pub only_keys : KeyStates → WriterState
+only_keys states = record { bytes = []; room = None; failures = 0; states = states }
+
+-- of what holds these bytes, without a limit, a device or a key
+abbrev pub only_bytes : List ℕ → WriterState
+only_bytes bytes = record { bytes = bytes; room = None; failures = 0; states = no_keys }
+
+-- no key changes its state
+abbrev pub KeepsKeys : KeyStates → KeyStates → Type 0
+KeepsKeys f g = (k : ℕ) → g k ≡ f k
+
+-- nothing changes but states of keys
+abbrev pub KeepsBytes : WriterState → WriterState → Type 0
+KeepsBytes old new = (new.bytes ≡ old.bytes) × (new.room ≡ old.room) × (new.failures ≡ old.failures)
 
 -- zeros were appended up to the next multiple
 pub record Pads (align : ℕ) (old new : WriterState) : Type 0 where

@@ -11,7 +11,7 @@ use Rattle.archive_check.proofs.ReadingUnique.{contents_one_value}
 use Rattle.archive_check.proofs.MeaningUnique.{fills_one}
 use Rattle.archive_check.proofs.SameMeanings.{rename_again, rename_stays}
 use Rattle.archive_check.proofs.Seen.{same_some}
-use Rattle.archive_core.specs.Writing.{NameMap, Naming, AreNamed, HasKeys, IsKeyed, AreKeys, World, Found, AreFinished}
+use Rattle.archive_core.specs.Writing.{NameMap, Naming, AreNamed, HasKeys, LeadsToKey, key_at_once, key_through, IsKeyed, AreKeys, World, Found, AreFinished}
 
 -- keys
 
@@ -19,6 +19,11 @@ named_in : (names : NameMap) (ks : List Naming) (k : Naming) → AreNamed names 
 named_in names [] k h (i, less, e) = absurd (omega (arith, less))
 named_in names (l ∷ ks) k h (zero, less, e) = rw e at h.0
 named_in names (l ∷ ks) k h (suc i, less, e) = named_in names ks k h.1 (i, omega arith, e)
+
+-- the map tells what the value leads to as its keys do
+leads_in : (names : NameMap) (ks : List Naming) (v : Value) (k : ℕ) → AreNamed names ks → LeadsToKey ks v k → LeadsTo names v k
+leads_in names ks v k h (key_at_once n) = leads_at_once n
+leads_in names ks v k h (key_through {l = l} i c n) = leads_through (leads_in names ks v l.0 h i) (named_in names ks l h c) n
 
 -- names that come back
 
@@ -49,7 +54,7 @@ pub record InTheEnd (w : World) (states : KeyStates) (ks : List Naming) (x : Val
   pub placed : (k t : ℕ) → states k ≡ Some (Some t) → w.position k ≡ t
   pub apart : (k l t : ℕ) → states k ≡ Some (Some t) → states l ≡ Some (Some t) → k ≡ l
   pub finished : AreFinished states x
-  pub keys : AreKeys w.names ks x
+  pub keys : AreKeys w.names ks
   pub keyed : IsKeyed ks x
   pub typed : (k t : ℕ) (e : Entry) (v : Value) → states k ≡ Some (Some t) → get w.names k ≡ Some (e, v) → get seen t ≡ Some e
   pub inner : (k t : ℕ) (e : Entry) (v : Value) → states k ≡ Some (Some t) → get w.names k ≡ Some (e, v) → AreFinished states v
@@ -64,6 +69,10 @@ module _ (w : World) (states : KeyStates) (ks : List Naming) (x : Value) (seen :
       let (y, c) = is_key t l in
       let same : y.1 ≡ z = one_value (get w.names t) y.0 e y.1 z (named_in w.names ks (t, y) h.keys.named c) is in
       h.keyed.named (t, y) c k (rw same n)
+
+  -- and each key that the map has is led to
+  leads : (k : ℕ) (y : Entry × Value) → get w.names k ≡ Some y → LeadsTo w.names x k
+  leads k y is = leads_in w.names ks x k h.keys.named (h.keyed.only (k, y) (h.keys.only k y is))
 
   is_finished : (k : ℕ) → LeadsTo w.names x k → (t : ℕ) × (states k ≡ Some (Some t))
   is_finished k (leads_at_once n) = h.finished k n
@@ -95,7 +104,7 @@ module _ (w : World) (states : KeyStates) (ks : List Naming) (x : Value) (seen :
 
   there : (k : ℕ) (e : Entry) (y : Value) → get w.names k ≡ Some (e, y) → (from (w.position k) ≡ k) × (get shared (w.position k) ≡ Some (e, rename w.position y))
   there k e y is =
-      let l = h.keys.only k (e, y) is in
+      let l = leads k (e, y) is in
       let (t, finished) = is_finished k l in
       let at = h.typed k t e y finished is in
       let f = h.found t e at in
@@ -109,7 +118,7 @@ module _ (w : World) (states : KeyStates) (ks : List Naming) (x : Value) (seen :
       let f = h.found t e at in
       let key : from t ≡ f.key = from_is f.key t e f.finished at in
       let stays : rename from (rename w.position f.value) ≡ f.value
-      = rename_back w.position from f.value (λ k n. from_position k (leads_through (h.keys.only f.key (e, f.value) f.names) f.names n)) in
+      = rename_back w.position from f.value (λ k n. from_position k (leads_through (leads f.key (e, f.value) f.names) f.names n)) in
       let same : rename w.position f.value ≡ z = one_value (get shared t) e e _ z (known_value t e (get seen t) (get shared t) f at (h.knows t)) is in
       (ap w.position key ∙ h.placed f.key t f.finished, rw key (f.names ∙ ap (λ y. Some (e, y)) (sym stays ∙ ap (rename from) same)))
 

@@ -1,8 +1,7 @@
 -- The states of keys, where that of one is set.
 use Rattle.std.proofs.Common.{◌≡◌, ℕ, ◌∙◌}
 use Rattle.std.proofs.lemmas.Map.{update_here, update_apart}
-use Rattle.archive_check.specs.Told.{KeyState}
-use Rattle.archive_check.specs.WriterState.{KeyStates}
+use Rattle.archive_check.specs.WriterState.{KeyState, KeyStates}
 use Rattle.archive_write.specs.Sharing.{IsSet}
 
 -- it is this one now

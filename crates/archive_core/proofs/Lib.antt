@@ -6,9 +6,9 @@ pub mod Denoting
 pub mod StringsWritten
 pub mod Whole
 pub mod Causes
-pub mod TextCauses
+pub mod Planned
+pub mod Unhindered
 pub mod Regions
-pub mod WholeCauses
 pub mod Shared
 pub mod SharedCauses
 pub mod KeyStates

@@ -10,8 +10,7 @@ use Rattle.archive_check.specs.Denotes.{Fills, fills_shared, rename}
 use Rattle.archive_check.specs.Reached.{names_itself}
 use Rattle.archive_check.specs.Tightness.{after}
 use Rattle.archive_check.specs.CleanRegions.{Occurs, AreZero, IsZeroed, CleanPointee}
-use Rattle.archive_check.specs.Told.{KeyState}
-use Rattle.archive_check.specs.WriterState.{KeyStates, WriterState}
+use Rattle.archive_check.specs.WriterState.{KeyState, KeyStates, WriterState}
 use Rattle.archive_write.specs.Sharing.{IsSet}
 use Rattle.archive_check.proofs.StandingBytes.{stands_fits, stands_zero, stands_begun}
 use Rattle.archive_check.proofs.Tightness.{tight_append, clean_regions_append}

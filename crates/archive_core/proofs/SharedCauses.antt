@@ -1,33 +1,101 @@
 -- How the writing of a shared value goes, from that of its pointee.
-use Rattle.std.proofs.Common.{◌≡◌, inl, inr, ℕ, length, refl, ap, subst, ◌∙◌, arith, Some, None, nat_eq, Result, Ok, Err}
+use Rattle.std.proofs.Common.{◌≡◌, inl, inr, ℕ, length, refl, sym, ap, subst, ◌∙◌, arith, List, Option, Some, None, nat_eq, Result, Ok, Err}
 use Rattle.std.specs.Map.{update}
-use Rattle.archive_check.specs.Told.{Told, KeyState}
-use Rattle.archive_check.specs.WriterState.{KeyStates}
+use Rattle.std.proofs.lemmas.Bool.{cases_eq}
+use Rattle.archive_check.specs.Shape.{Pointee}
+use Rattle.archive_check.specs.Definitions.{Definitions}
+use Rattle.archive_check.specs.Value.{Value}
+use Rattle.archive_check.specs.WriterState.{KeyState, KeyStates, WriterState, KeepsBytes}
 use Rattle.archive_check.specs.declared.format.error.Error.{Error}
 use Rattle.archive_check.specs.declared.format.error.Error.TheVariants.{CyclicSerialize}
+use Rattle.archive_write.specs.Written.{GoesOn}
 use Rattle.archive_write.specs.Sharing.{IsSet, KeepsKnown, started, start_answer, finish_answer}
 use Rattle.archive_write.specs.declared.sharing.SharingState.{SharingState}
 use Rattle.archive_write.specs.declared.sharing.SharingState.TheVariants.{Started, Pending}
-use Rattle.archive_core.specs.Plans.{Stand, stand, begun, Explains, own_cause, HindersShared, IsOwnCause, of_key, IsOfWriting}
-use Rattle.archive_core.proofs.KeyStates.{set_here}
-use Rattle.archive_core.proofs.Causes.{explains_sooner, explains_named}
+use Rattle.archive_core.specs.Writing.{Naming, LaysOut}
+use Rattle.archive_core.specs.Plans.{Cursor, cursor, begun, IsAt, LiesAsPlanned, SerializedRegion, serialized_region, SerializedShared, serialized_shared}
+use Rattle.archive_core.specs.Causes.{Explains, own_cause, HindersRegion, HindersShared, RegionReaches, IsRegionRefused, IsOwnCause, of_key, IsOfWriting}
+use Rattle.archive_core.proofs.KeyStates.{set_here, set_other}
+use Rattle.archive_core.proofs.Causes.{goes_kept, goes_both, explains_later, explains_named}
 
 -- where a new key's value is begun
-pub begun_stand : (old mid : Told) (f g : KeyStates) (key : ℕ) → f key ≡ None → mid ≡ old → IsSet f key (started (f key)) g → stand mid g ≡ begun (stand old f) key
-begun_stand old mid f g key unknown same set =
-    let states : g ≡ update nat_eq f key (Some None) = (λ i k. (set k ∙ ap (λ s. update nat_eq f key (started s) k) unknown) i) in
-    (λ i. record { place = length (same i).bytes; states = states i })
+pub begun_cursor : (old mid : WriterState) (key : ℕ) → old.states key ≡ None → KeepsBytes old mid → IsSet old.states key (started (old.states key)) mid.states
+    → cursor mid ≡ begun (cursor old) key
+begun_cursor old mid key unknown same set =
+    let states : mid.states ≡ update nat_eq old.states key (Some None) = (λ i k. (set k ∙ ap (λ s. update nat_eq old.states key (started s) k) unknown) i) in
+    (λ i. record { place = length (same.0 i); states = states i })
 
-pub shared_hindered : (own : Stand → Error → Type 0) (plan : Stand → Stand) (old mid new : Told) (f g : KeyStates) (key : ℕ) (e : Error) → f key ≡ None → mid ≡ old → IsSet f key (started (f key)) g
-    → Explains (own (stand mid g)) (plan (stand mid g)).place mid new e → Explains (HindersShared (f key) (own (begun (stand old f) key))) (plan (begun (stand old f) key)).place old new e
-shared_hindered own plan old mid new f g key e unknown same set h =
-    let at = begun_stand old mid f g key unknown same set in
-    let there : Explains (own (begun (stand old f) key)) (plan (begun (stand old f) key)).place old new e
-    = subst (λ s. Explains (own s) (plan s).place old new e) at (subst (λ t. Explains (own (stand mid g)) (plan (stand mid g)).place t new e) same h) in
-    explains_sooner _ (HindersShared (f key) (own (begun (stand old f) key))) _ _ old new e (omega arith) (λ x. inr x) there
+but_states : (a b : WriterState) → KeepsBytes a b → b ≡ record a { states = b.states }
+but_states a b (bytes, room, failures) = λ i. record { bytes = bytes i; room = room i; failures = failures i; states = b.states }
 
-pub shared_pending : (own : Error → Type 0) (stop : ℕ) (state : KeyState) (old new : Told) → state ≡ Some None → Explains (HindersShared state own) stop old new CyclicSerialize
-shared_pending own stop state old new is = own_cause (inl (refl, is))
+-- it goes on from where the key was unknown
+pub begun_goes : (old mid : WriterState) (key : ℕ) → old.states key ≡ None → KeepsBytes old mid → IsSet old.states key (started (old.states key)) mid.states → GoesOn old mid
+begun_goes old mid key unknown same set = goes_kept old mid same (λ k x is. elim (cases_eq k key) [
+  | inl eq ↦ (let none : old.states k ≡ None = rw eq unknown in cc)
+  | inr n ↦ set_other old.states mid.states key (started (old.states key)) set k n ∙ is
+])
+
+-- and a key that was unknown is finished in the end
+pub ended_goes : (old mid low new : WriterState) (key p : ℕ) → old.states key ≡ None → KeepsBytes old mid → IsSet old.states key (started (old.states key)) mid.states → GoesOn mid low
+    → KeepsBytes low new → IsSet low.states key (Some (Some p)) new.states → GoesOn old new
+ended_goes old mid low new key p unknown same set g like finish =
+    let begins : GoesOn old low = goes_both old mid low (begun_goes old mid key unknown same set) g in
+    record {
+      kept = rw (like.0) begins.kept;
+      room = rw (like.0, like.1) begins.room;
+      device = rw (like.2) begins.device;
+      known = λ k x is. elim (cases_eq k key) [
+        | inl eq ↦ (let none : old.states k ≡ None = rw eq unknown in cc)
+        | inr n ↦ set_other low.states new.states key (Some (Some p)) finish k n ∙ begins.known k x is
+      ];
+    }
+
+module _ (D : Definitions) (P : Pointee) (n : ℕ) (ks : List Naming) (v : Value) (key : ℕ) where
+  abbrev Hindered : WriterState → Error → Type 0
+  Hindered old = HindersShared (old.states key) (HindersRegion D P n ks v (begun (cursor old) key))
+
+  abbrev Reached : WriterState → ℕ → Type 0
+  Reached old = RegionReaches D P n ks v (begun (cursor old) key)
+
+  pub shared_hindered : (old mid new : WriterState) (e : Error) → old.states key ≡ None → KeepsBytes old mid → IsSet old.states key (started (old.states key)) mid.states
+      → GoesOn mid new → IsRegionRefused D P n ks v mid new e → Explains (Hindered old) (Reached old) old new e
+  shared_hindered old mid new e unknown same set g h =
+      let at = begun_cursor old mid key unknown same set in
+      let there : Explains (HindersRegion D P n ks v (begun (cursor old) key)) (Reached old) mid new e
+      = subst (λ c. Explains (HindersRegion D P n ks v c) (RegionReaches D P n ks v c) mid new e) at h in
+      explains_later _ (Hindered old) _ (Reached old) old mid new e (begun_goes old mid key unknown same set) g (λ x. inr x) (λ m x. x) there
+
+  pub shared_pending : (old mid new : WriterState) → old.states key ≡ Some None → Explains (Hindered old) (Reached old) mid new CyclicSerialize
+  shared_pending old mid new is = own_cause (inl (refl, is))
+
+  -- what an unknown key names was laid out, and the key finished there
+  pub laid_shared : (p : ℕ) (old mid low new : WriterState) → old.states key ≡ None → KeepsBytes old mid → IsSet old.states key (started (old.states key)) mid.states
+      → SerializedRegion D P n ks v p mid low → KeepsBytes low new → IsSet low.states key (Some (Some p)) new.states → SerializedShared D P n key ks v p old new
+  laid_shared p old mid low new unknown same set (serialized_region lays planned) like finish = serialized_shared
+      (record {
+        unknown = unknown;
+        begun = mid.states;
+        begins = rw unknown at set;
+        laid = low.states;
+        lays = subst (λ w. LaysOut D w (record new { states = low.states }) ks p P n v) (but_states old mid same)
+            (subst (λ w. LaysOut D mid w ks p P n v) (but_states new low (sym (like.0), sym (like.1), sym (like.2))) lays);
+        ends = finish;
+      })
+      (λ s names k l. (
+      let q = (subst (λ c. LiesAsPlanned D P n ks v c p (λ b. IsAt b low)) (begun_cursor old mid key unknown same set) planned) s names k l in
+      record {
+        begin = q.begin;
+        steps = q.steps;
+        stop = q.stop;
+        plans = q.plans;
+        such = (
+          q.such.0,
+          record {
+            place = ap length (like.0) ∙ q.such.1.place;
+            keys = λ j. finish j ∙ ap (λ f. update nat_eq f key (Some (Some p)) j) (λ i m. q.such.1.keys m i);
+          },
+        );
+      }))
 
 -- what the answers of the calls say
 
@@ -48,10 +116,11 @@ finished_served f g h key r e unknown set kept answer is =
     let there : h key ≡ Some None = kept key None here in
     let served : r ≡ Ok tt = answer ∙ ap finish_answer there in cc
 
--- each refusal is one of writing, where the value's causes are its own
-shared_own : (state : KeyState) (own : Error → Type 0) → ((e : Error) → own e → IsOwnCause e) → (e : Error) → HindersShared state own e → IsOwnCause e
-shared_own state own f e (inl h) = rw (h.0) of_key
-shared_own state own f e (inr h) = f e h
+-- each refusal is one of writing
+shared_own : (D : Definitions) (P : Pointee) (n : ℕ) (ks : List Naming) (v : Value) (a : Cursor) (state : KeyState) (e : Error) → HindersShared state (HindersRegion D P n ks v a) e → IsOwnCause e
+shared_own D P n ks v a state e (inl h) = rw (h.0) of_key
+shared_own D P n ks v a state e (inr h) = h.named
 
-pub shared_named : (own : Error → Type 0) (stop : ℕ) (state : KeyState) (old new : Told) → ((e : Error) → own e → IsOwnCause e) → (e : Error) → Explains (HindersShared state own) stop old new e → IsOfWriting e
-shared_named own stop state old new f e h = explains_named (HindersShared state own) stop old new e (shared_own state own f) h
+pub shared_named : (D : Definitions) (P : Pointee) (n : ℕ) (ks : List Naming) (v : Value) (a : Cursor) (reaches : ℕ → Type 0) (state : KeyState) (old new : WriterState) (e : Error)
+    → Explains (HindersShared state (HindersRegion D P n ks v a)) reaches old new e → IsOfWriting e
+shared_named D P n ks v a reaches state old new e h = explains_named _ reaches old new e (λ d x. shared_own D P n ks v a state d x) h

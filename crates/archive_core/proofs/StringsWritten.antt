@@ -14,8 +14,7 @@ use Rattle.archive_check.specs.Reads.{bytes_at, u32_at, i32_at, before_end, IsOu
 use Rattle.archive_check.specs.Tour.{Contents, contents_text}
 use Rattle.archive_check.specs.Denotes.{fills_text}
 use Rattle.archive_check.specs.CleanRegions.{Occurs, clean_inline, clean_out_of_line, clean_text}
-use Rattle.archive_check.specs.Told.{Told, KeepsKeys}
-use Rattle.archive_check.specs.WriterState.{KeyStates, WriterState, writer_state}
+use Rattle.archive_check.specs.WriterState.{WriterState, KeepsKeys}
 use Rattle.archive_check.proofs.StandingBytes.{stands_front, stands_back, stands_bytes, stands_index, zeroed_none}
 use Rattle.archive_check.proofs.Texts.{text_no_end, text_inline, text_before}
 use Rattle.archive_core.specs.Offsets.{distance}
@@ -112,7 +111,7 @@ resolves_out_of_line D p t n z a long few small there e =
 
 -- what is written
 
-up_one : (n : ℕ) → up n 1 ≡ n
+pub up_one : (n : ℕ) → up n 1 ≡ n
 up_one n = omega arith
 
 pub flat_inline : (bs : List ℕ) (t : ℕ) → length bs ≤ 8 → string_flat bs t ≡ text_value bs
@@ -124,12 +123,12 @@ flat_out_of_line bs t h = if_long (length bs) (hole (to_text t (length bs))) (te
 pub writes_inline : (D : Definitions) (told : WriterState) (bs : List ℕ) (t : ℕ) → length bs ≤ 8 → Writes D told told [] (string_flat bs t) (text_value bs)
 writes_inline D told bs t h = rw (flat_inline bs t h) (writes_nothing D told (text_value bs) refl (λ k n. elim n [ ]) (λ w. fills_text))
 
-pub lays_text : (D : Definitions) (old new : Told) (f g : KeyStates) (bs : List ℕ) (t : ℕ) → IsUtf8 bs → new.bytes ≡ old.bytes ++ bs → t ≡ length old.bytes → KeepsKeys f g
-    → LaysOut D (writer_state old f) (writer_state new g) [] t text (length bs) (text_value bs)
-lays_text D old new f g bs t u grown here keys = record {
-  mid = writer_state old f;
+pub lays_text : (D : Definitions) (old new : WriterState) (bs : List ℕ) (t : ℕ) → IsUtf8 bs → new.bytes ≡ old.bytes ++ bs → t ≡ length old.bytes
+    → KeepsKeys old.states new.states → LaysOut D old new [] t text (length bs) (text_value bs)
+lays_text D old new bs t u grown here keys = record {
+  mid = old;
   flat = text_value bs;
-  owned = writes_nothing D (writer_state old f) (text_value bs) refl (λ k n. elim n [ ]) (λ w. fills_text);
+  owned = writes_nothing D old (text_value bs) refl (λ k n. elim n [ ]) (λ w. fills_text);
   zeros = [];
   region = bs;
   grown = grown;

@@ -12,10 +12,9 @@ use Rattle.archive_check.specs.Tour.{Region, Entry, Accepted, root_region}
 use Rattle.archive_check.specs.Denotes.{IsSharedValue, rename}
 use Rattle.archive_check.specs.Tightness.{Tight}
 use Rattle.archive_check.specs.CleanRegions.{Occurs, CleanRegions}
-use Rattle.archive_check.specs.Told.{Told}
-use Rattle.archive_check.specs.WriterState.{KeyStates, WriterState, writer_state}
+use Rattle.archive_check.specs.WriterState.{WriterState}
 use Rattle.archive_check.specs.declared.format.error.Error.{Error}
-use Rattle.archive_core.specs.Plans.{Stand, IsAt, region_place, one_plan}
+use Rattle.archive_core.specs.Plans.{SerializedRegion, serialized_region}
 use Rattle.archive_check.proofs.PositiveAlignments.{align_pos}
 use Rattle.archive_check.proofs.MeaningExists.{has_meaning}
 use Rattle.archive_check.proofs.MeaningUnique.{tours_one}
@@ -96,8 +95,8 @@ archives D old new ks x X size root fresh keyed h end =
           });
     }
 
-pub archives_of : (r : Result ℕ Error) (D : Definitions) (old new : Told) (f g : KeyStates) (ks : List Naming) (x : Value) (X : Shape) (L : Layout) (plan : Stand)
-    → ((k : ℕ) → f k ≡ None) → IsKeyed ks x → IfOk r (λ p. LaysOut D (writer_state old f) (writer_state new g) ks p (one X) 0 x) → IfOk r (λ p. p ≡ region_place L plan) → OnOk r (IsAt (one_plan L plan) new g)
-    → IfOk r (λ root. Archives D old.bytes new.bytes root X L.size ks x)
-archives_of (Ok p) D old new f g ks x X L plan fresh keyed h there at = archives D (writer_state old f) (writer_state new g) ks x X L.size p fresh keyed h (ap (λ n. n + L.size) there ∙ sym at.place)
-archives_of (Err e) D old new f g ks x X L plan fresh keyed h there at = tt
+pub archives_of : (r : Result ℕ Error) (D : Definitions) (old new : WriterState) (ks : List Naming) (x : Value) (X : Shape) (size : ℕ)
+    → ((k : ℕ) → old.states k ≡ None) → IsKeyed ks x → IfOk r (λ p. SerializedRegion D (one X) 0 ks x p old new) → IfOk r (λ p. p + size ≡ length new.bytes)
+    → IfOk r (λ root. Archives D old.bytes new.bytes root X size ks x)
+archives_of (Ok p) D old new ks x X size fresh keyed (serialized_region lays planned) ends = archives D old new ks x X size p fresh keyed lays ends
+archives_of (Err e) D old new ks x X size fresh keyed h ends = tt

@@ -1,23 +1,10 @@
--- What the writing of a text, or of a string, is planned to come to, and why it is refused.
-use Rattle.std.specs.Prelude.{◌≡◌, ◌⊎◌, ℕ, ◌+◌, ◌<◌, List, length, nat_lt, if◌then◌else◌}
-use Rattle.archive_check.specs.Told.{Told}
+-- Why a text, or the text of a string, isn't written, by the one write that it takes.
+use Rattle.std.specs.Prelude.{◌≡◌, ◌⊎◌, ℕ, ◌<◌, List, length}
+use Rattle.archive_check.specs.WriterState.{WriterState}
 use Rattle.archive_check.specs.declared.format.error.Error.{Error}
 use Rattle.archive_check.specs.declared.format.error.Error.TheVariants.{PositionTooLarge, LengthTooLarge, StringTooLong}
 use Rattle.archive_write.specs.Written.{ExplainsRefusal}
 use Rattle.archive_core.specs.Offsets.{distance, IsTooFar}
-use Rattle.archive_core.specs.Plans.{Stand}
-
--- a text's bytes come at once
-abbrev pub text_plan : List ℕ → Stand → Stand
-text_plan bytes s = record { place = s.place + length bytes; states = s.states }
-
--- and a string's if it isn't inline
-abbrev pub string_plan : List ℕ → Stand → Stand
-string_plan bytes s = if nat_lt 8 (length bytes) then text_plan bytes s else s
-
--- the text of a string that isn't inline stands where the writer stood
-abbrev pub StringAnswers : List ℕ → Stand → ℕ → Type 0
-StringAnswers bytes s t = 8 < length bytes → t ≡ s.place
 
 -- the text has more bytes than a pointer can say
 abbrev pub HindersText : List ℕ → Error → Type 0
@@ -32,9 +19,9 @@ abbrev pub HindersStringAt : List ℕ → ℕ → ℕ → Error → Type 0
 HindersStringAt bytes t p e = (8 < length bytes) × IsTooFar e (distance p t)
 
 -- why a text isn't written: it is too long, or the writer, which stands at t, refuses the one write that it takes
-abbrev pub ExplainsTextRefusal : List ℕ → ℕ → Told → Told → Error → Type 0
+abbrev pub ExplainsTextRefusal : List ℕ → ℕ → WriterState → WriterState → Error → Type 0
 ExplainsTextRefusal bytes t old new e = HindersText bytes e ⊎ ExplainsRefusal (length bytes) t old.room old.failures new.failures e
 
 -- and why a string's isn't: it is too long for a string, it stands too far behind, or the writer refuses
-abbrev pub ExplainsStringRefusal : List ℕ → ℕ → Told → Told → Error → Type 0
+abbrev pub ExplainsStringRefusal : List ℕ → ℕ → WriterState → WriterState → Error → Type 0
 ExplainsStringRefusal bytes t old new e = HindersString bytes t e ⊎ ExplainsRefusal (length bytes) t old.room old.failures new.failures e

@@ -9,7 +9,7 @@ use Rattle.archive_check.specs.Value.{Pointer, Value, Values, pointers, all_poin
 use Rattle.archive_check.specs.Reads.{Schema, Reads}
 use Rattle.archive_check.specs.Tour.{Region, Contents, Entry, Seen, Tour, pointee_size, pointee_align}
 use Rattle.archive_check.specs.Denotes.{Meaning, Denotes, Same, Fills, FillsAll, rename, rename_all}
-use Rattle.archive_check.specs.Reached.{Names, NamesAmong, LeadsTo}
+use Rattle.archive_check.specs.Reached.{Names, NamesAmong}
 use Rattle.archive_check.specs.Tightness.{Tight, TightFrom, CleanFrom}
 use Rattle.archive_check.specs.CleanRegions.{Occurs, IsZeroed, CleanValue, CleanPointee, CleanRegions}
 use Rattle.archive_check.specs.WriterState.{KeyStates, WriterState}
@@ -31,15 +31,21 @@ AreNamed names (k ∷ ks) = (get names k.0 ≡ Some k.1) × AreNamed names ks
 abbrev pub HasKeys : List Naming → Value → Type 0
 HasKeys keys v = (k : ℕ) → Names k v → (x : Entry × Value) × Contains keys (k, x)
 
--- the names in the value, and in what its keys name, are among its keys
+-- the value leads to the key: it stands in the value, or in what one of these keys names to which the value leads
+pub data LeadsToKey (keys : List Naming) (v : Value) : ℕ → Type 0 where
+  key_at_once : {k : ℕ} → Names k v → LeadsToKey keys v k
+  key_through : {k : ℕ} {l : Naming} → LeadsToKey keys v l.0 → Contains keys l → Names k l.1.1 → LeadsToKey keys v k
+
+-- These are the keys that the value leads to: each name in it, and in what its keys name, is among them, and there are no others.
 pub record IsKeyed (keys : List Naming) (v : Value) : Type 0 where
   pub value : HasKeys keys v
   pub named : (k : Naming) → Contains keys k → HasKeys keys k.1.1
+  pub only : (k : Naming) → Contains keys k → LeadsToKey keys v k.0
 
--- The map has these keys, each of which names one thing, and no others than those that the value leads to.
-pub record AreKeys (names : NameMap) (keys : List Naming) (v : Value) : Type 0 where
+-- The map has just these keys, each of which names one thing.
+pub record AreKeys (names : NameMap) (keys : List Naming) : Type 0 where
   pub named : AreNamed names keys
-  pub only : (k : ℕ) (x : Entry × Value) → get names k ≡ Some x → LeadsTo names v k
+  pub only : (k : ℕ) (x : Entry × Value) → get names k ≡ Some x → Contains keys (k, x)
 
 -- What a writer holds in the end, and what is known of it: its schema, where each key's value lies, and what each key names.
 pub record World : Type 0 where
@@ -162,7 +168,7 @@ pub record Archives (definitions : Definitions) (old new : List ℕ) (root : ℕ
   pub added : List ℕ
   pub grown : new ≡ old ++ added
   pub root_ends : root + size ≡ length new
-  pub archived : (s : Schema) (names : NameMap) → Knows s definitions → AreKeys names keys value → IsWritten s (length old) new root X names value
+  pub archived : (s : Schema) (names : NameMap) → Knows s definitions → AreKeys names keys → IsWritten s (length old) new root X names value
 
 -- the pointer to a pointee of n elements or bytes that has its region for itself
 abbrev pub to_pointee : ℕ → Pointee → ℕ → Pointer
@@ -194,5 +200,5 @@ pub record LaysOutShared (definitions : Definitions) (old new : WriterState) (ke
   pub begun : KeyStates
   pub begins : IsSet old.states key (Some None) begun
   pub laid : KeyStates
-  pub lays : LaysOut definitions (record { bytes = old.bytes; states = begun }) (record { bytes = new.bytes; states = laid }) keys p P n value
+  pub lays : LaysOut definitions (record old { states = begun }) (record new { states = laid }) keys p P n value
   pub ends : IsSet laid key (Some (Some p)) new.states

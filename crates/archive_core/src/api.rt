@@ -10,8 +10,11 @@ ghost use Rattle.archive_check.specs.Entries.{NoEntries, AreNamedByPosition, Kee
 ghost use Rattle.archive_check.specs.Unshared.{IsUnshared};
 ghost use Rattle.archive_check.specs.Viewed.{Says};
 ghost use Rattle.archive_check.specs.declared.format.error.Error.TheVariants.{CyclicDeserialize, OutOfMemory};
-ghost use Rattle.archive_core.specs.Plans.{no_keys, at_start, GoesOn, HindersWhole, ExplainsWhole, IsOwnCause, IsOfWriting};
+ghost use Rattle.archive_check.specs.Shape.{one};
+ghost use Rattle.archive_core.specs.Causes.{HindersRegion, IsRegionRefused};
+ghost use Rattle.archive_core.specs.Plans.{at_start, unshared};
 ghost use Rattle.archive_core.specs.Writing.{Archives};
+ghost use Rattle.archive_write.specs.Written.{GoesOn};
 
 use crate::ser::{Serializer, Writer, serialize_one};
 use crate::traits::{Archive, Deserialize, Entries, Keys, Portable, Serialize};
@@ -35,12 +38,11 @@ fn serialize_whole<W: Writer + Drop, T: Serialize<Serializer<W, Global, ()>>>(
     value: &T,
     writer: W,
 ) -> (W, Result<usize, Error>)
-    ensures archived { IfOk result.1 (λ root. Archives T.Archived.definitions (W.told writer).bytes (W.told result.0).bytes root T.Archived.shape T.Archived.layout.size
+    ensures archived { IfOk result.1 (λ root. Archives T.Archived.definitions (W.state writer).bytes (W.state result.0).bytes root T.Archived.shape T.Archived.layout.size
         (T.keys value.now) (T.meaning value.now)) }
-    ensures goes_on { GoesOn (W.told writer) (W.told result.0) }
-    ensures refused { IfErr result.1 (ExplainsWhole (T.hinders value.now) (T.answers value.now) (T.hinders_at value.now) (T.plan value.now) T.Archived.layout
-        no_keys (W.told writer) (W.told result.0)) }
-    ensures named { IfErr result.1 IsOfWriting }
+    ensures goes_on { GoesOn (unshared (W.state writer)) (unshared (W.state result.0)) }
+    ensures refused { IfErr result.1 (IsRegionRefused T.Archived.definitions (one T.Archived.shape) 0 (T.keys value.now) (T.meaning value.now)
+        (unshared (W.state writer)) (unshared (W.state result.0))) }
 {
     let mut serializer = Serializer::new(writer, alloc, ());
     let root = serialize_one(value, &mut serializer);
@@ -54,12 +56,12 @@ pub fn to_bytes_in<W: Writer + Drop, T: Serialize<Serializer<W, Global, ()>>>(
     value: &T,
     writer: W,
 ) -> Result<W, Error>
-    ensures archived { IfOk result (λ w. (root : ℕ) × Archives T.Archived.definitions (W.told writer).bytes (W.told w).bytes root T.Archived.shape T.Archived.layout.size
+    ensures archived { IfOk result (λ w. (root : ℕ) × Archives T.Archived.definitions (W.state writer).bytes (W.state w).bytes root T.Archived.shape T.Archived.layout.size
         (T.keys value.now) (T.meaning value.now)) }
-    ensures goes_on { IfOk result (λ w. GoesOn (W.told writer) (W.told w)) }
-    ensures refused { IfErr result (λ e. (end : W) × GoesOn (W.told writer) (W.told end)
-        × ExplainsWhole (T.hinders value.now) (T.answers value.now) (T.hinders_at value.now) (T.plan value.now) T.Archived.layout no_keys (W.told writer) (W.told end) e) }
-    ensures named { IfErr result IsOfWriting }
+    ensures goes_on { IfOk result (λ w. GoesOn (unshared (W.state writer)) (unshared (W.state w))) }
+    ensures refused { IfErr result (λ e. (end : W) × GoesOn (unshared (W.state writer)) (unshared (W.state end))
+        × IsRegionRefused T.Archived.definitions (one T.Archived.shape) 0 (T.keys value.now) (T.meaning value.now)
+        (unshared (W.state writer)) (unshared (W.state end)) e) }
 {
     let (writer, root) = serialize_whole(alloc, value, writer);
     root?;
@@ -75,8 +77,7 @@ pub fn to_bytes<T: Serialize<Serializer<Vec<u8>, Global, ()>>>(
     ensures archived { IfOk result (λ bytes. (root : ℕ) × Archives T.Archived.definitions [] bytes.items root T.Archived.shape T.Archived.layout.size
         (T.keys value.now) (T.meaning value.now)) }
     ensures refused { IfErr result (λ e. (e ≡ OutOfMemory)
-        ⊎ HindersWhole (T.hinders value.now) (T.answers value.now) (T.hinders_at value.now) (T.plan value.now) T.Archived.layout at_start e) }
-    ensures named { IfErr result (λ e. (e ≡ OutOfMemory) ⊎ IsOwnCause e) }
+        ⊎ HindersRegion T.Archived.definitions (one T.Archived.shape) 0 (T.keys value.now) (T.meaning value.now) at_start e) }
 {
     let (bytes, root) = serialize_whole(alloc, value, Vec::new(alloc));
     root?;

@@ -8,12 +8,11 @@ ghost use Rattle.archive_check.specs.Definitions.{no_definition, Definitions};
 ghost use Rattle.archive_check.specs.Value.{number};
 ghost use Rattle.archive_check.specs.Viewed.{Viewed, Says};
 ghost use Rattle.archive_check.specs.Layout.{kind_size};
-ghost use Rattle.archive_check.specs.WriterState.{writer_state};
-ghost use Rattle.archive_check.specs.Told.{KeepsKeys};
-ghost use Rattle.archive_core.specs.Keyed.{number_keyed, stays};
-ghost use Rattle.archive_core.specs.Plans.{stand, IsAt, GoesOn, Explains};
-ghost use Rattle.archive_core.specs.Writing.{Fresh, Resolves, Writes};
-ghost use Rattle.archive_write.specs.Sharing.{KeepsKnown, IsNoMisuse};
+ghost use Rattle.archive_core.specs.Keyed.{number_keyed};
+ghost use Rattle.archive_core.specs.Causes.{HindersAt, IsRefused};
+ghost use Rattle.archive_core.specs.Plans.{Serialized};
+ghost use Rattle.archive_core.specs.Writing.{Fresh, Resolves};
+ghost use Rattle.archive_write.specs.Written.{GoesOn};
 
 use crate::place::Place;
 use crate::traits::{Archive, Deserialize, Entries, Keys, Portable, Serialize};
@@ -78,28 +77,14 @@ impl<N: Source> Archive for N {
 
     ghost belongs = { λ _ _. ⊤ };
 
-    ghost plan = { λ _ s. s };
-
-    ghost answers = { λ _ _ _. ⊤ };
-
-    ghost hinders = { λ _ _ _. ⊥ };
-
-    ghost hinders_at = { λ _ _ _ _. ⊥ };
-
     ghost keyed = { λ n. number_keyed (N.value_of n) };
-
-    ghost forward = { λ _ s. stays s };
-
-    ghost named = { λ _ _ _ h. absurd h };
-
-    ghost named_at = { λ _ _ _ _ h. absurd h };
 
     fn resolve(&self, _resolver: (), place: Place<'_, N::Format>) -> Result<(), Error>
         requires fresh { Fresh (N.Format.layout.size) place.pos place.bytes.now }
         requires same_value { ⊤ }
         ensures resolved { OnOk result (Resolves N.Format.definitions place.entry.pos place.exit.0.now (N.Format.shape) (number (N.value_of self.now))) }
         ensures same_length { length place.exit.0.now ≡ length place.entry.bytes.now }
-        ensures refused { IfErr result (λ _. ⊥) }
+        ensures refused { IfErr result (HindersAt N.Format.definitions N.Format.shape (number (N.value_of self.now)) place.entry.pos) }
         ensures written { place.exit.0.now ≡ N.bytes_of self.now }
         ensures succeeds { IsOk result }
     {
@@ -110,19 +95,13 @@ impl<N: Source> Archive for N {
 }
 
 impl<N: Source, S: Writer + Keys> Serialize<S> for N {
-    #[tactic(auto, using(crate::proofs::Appending::writes_number, crate::proofs::Causes::goes_nowhere))]
+    #[tactic(auto, using(crate::proofs::Causes::goes_nowhere))]
     fn serialize(&self, _serializer: &mut S) -> Result<(), Error>
-        ensures written { IfOk result (λ _. Writes N.Format.definitions (writer_state (S.told _serializer.old) (S.state_of _serializer.old)) (writer_state (S.told _serializer.new) (S.state_of _serializer.new))
-            [] (number (N.value_of self.now)) (number (N.value_of self.now))) }
+        ensures serialized { IfOk result (λ _. Serialized N.Format.definitions N.Format.shape [] (number (N.value_of self.now)) (number (N.value_of self.now)) (S.state _serializer.old) (S.state _serializer.new)) }
         ensures same_value { ⊤ }
-        ensures answered { ⊤ }
-        ensures planned { OnOk result (IsAt (stand (S.told _serializer.old) (S.state_of _serializer.old)) (S.told _serializer.new) (S.state_of _serializer.new)) }
-        ensures goes_on { GoesOn (S.told _serializer.old) (S.told _serializer.new) }
-        ensures known { KeepsKnown (S.state_of _serializer.old) (S.state_of _serializer.new) }
-        ensures no_misuse { IfErr result IsNoMisuse }
-        ensures refused { IfErr result (Explains (λ _. ⊥) (length (S.told _serializer.old).bytes) (S.told _serializer.old) (S.told _serializer.new)) }
-        ensures unchanged { S.told _serializer.new ≡ S.told _serializer.old }
-        ensures keys { KeepsKeys (S.state_of _serializer.old) (S.state_of _serializer.new) }
+        ensures goes_on { GoesOn (S.state _serializer.old) (S.state _serializer.new) }
+        ensures refused { IfErr result (IsRefused N.Format.definitions N.Format.shape [] (number (N.value_of self.now)) (S.state _serializer.old) (S.state _serializer.new)) }
+        ensures unchanged { S.state _serializer.new ≡ S.state _serializer.old }
         ensures succeeds { IsOk result }
     {
         Ok(())
@@ -142,28 +121,14 @@ impl<N: Native> Archive for LittleEndian<N> {
 
     ghost belongs = { λ _ _. ⊤ };
 
-    ghost plan = { λ _ s. s };
-
-    ghost answers = { λ _ _ _. ⊤ };
-
-    ghost hinders = { λ _ _ _. ⊥ };
-
-    ghost hinders_at = { λ _ _ _ _. ⊥ };
-
     ghost keyed = { λ n. number_keyed (N.value_of n) };
-
-    ghost forward = { λ _ s. stays s };
-
-    ghost named = { λ _ _ _ h. absurd h };
-
-    ghost named_at = { λ _ _ _ _ h. absurd h };
 
     fn resolve(&self, _resolver: (), place: Place<'_, LittleEndian<N>>) -> Result<(), Error>
         requires fresh { Fresh (kind_size N.kind) place.pos place.bytes.now }
         requires same_value { ⊤ }
         ensures resolved { OnOk result (Resolves no_definition place.entry.pos place.exit.0.now (leaf N.kind) (number (N.value_of self.now))) }
         ensures same_length { length place.exit.0.now ≡ length place.entry.bytes.now }
-        ensures refused { IfErr result (λ _. ⊥) }
+        ensures refused { IfErr result (HindersAt no_definition (leaf N.kind) (number (N.value_of self.now)) place.entry.pos) }
         ensures written { place.exit.0.now ≡ N.bytes_of self.now }
         ensures succeeds { IsOk result }
     {
@@ -174,19 +139,13 @@ impl<N: Native> Archive for LittleEndian<N> {
 }
 
 impl<N: Native, S: Writer + Keys> Serialize<S> for LittleEndian<N> {
-    #[tactic(auto, using(crate::proofs::Appending::writes_number, crate::proofs::Causes::goes_nowhere))]
+    #[tactic(auto, using(crate::proofs::Causes::goes_nowhere))]
     fn serialize(&self, _serializer: &mut S) -> Result<(), Error>
-        ensures written { IfOk result (λ _. Writes no_definition (writer_state (S.told _serializer.old) (S.state_of _serializer.old)) (writer_state (S.told _serializer.new) (S.state_of _serializer.new))
-            [] (number (N.value_of self.now)) (number (N.value_of self.now))) }
+        ensures serialized { IfOk result (λ _. Serialized no_definition (leaf N.kind) [] (number (N.value_of self.now)) (number (N.value_of self.now)) (S.state _serializer.old) (S.state _serializer.new)) }
         ensures same_value { ⊤ }
-        ensures answered { ⊤ }
-        ensures planned { OnOk result (IsAt (stand (S.told _serializer.old) (S.state_of _serializer.old)) (S.told _serializer.new) (S.state_of _serializer.new)) }
-        ensures goes_on { GoesOn (S.told _serializer.old) (S.told _serializer.new) }
-        ensures known { KeepsKnown (S.state_of _serializer.old) (S.state_of _serializer.new) }
-        ensures no_misuse { IfErr result IsNoMisuse }
-        ensures refused { IfErr result (Explains (λ _. ⊥) (length (S.told _serializer.old).bytes) (S.told _serializer.old) (S.told _serializer.new)) }
-        ensures unchanged { S.told _serializer.new ≡ S.told _serializer.old }
-        ensures keys { KeepsKeys (S.state_of _serializer.old) (S.state_of _serializer.new) }
+        ensures goes_on { GoesOn (S.state _serializer.old) (S.state _serializer.new) }
+        ensures refused { IfErr result (IsRefused no_definition (leaf N.kind) [] (number (N.value_of self.now)) (S.state _serializer.old) (S.state _serializer.new)) }
+        ensures unchanged { S.state _serializer.new ≡ S.state _serializer.old }
         ensures succeeds { IsOk result }
     {
         Ok(())

@@ -1,12 +1,12 @@
 //! Writers, and the regions that are resolved into them.
 
-ghost use Rattle.std.specs.Prelude.{◌≡◌, ◌+◌, ◌%◌, length, IfOk, OnOk, IfErr};
-ghost use Rattle.archive_check.specs.WriterState.{writer_state};
+ghost use Rattle.std.specs.Prelude.{◌≡◌, ◌+◌, ◌≤◌, ◌%◌, length, IfOk, OnOk, IfErr};
+ghost use Rattle.archive_check.specs.WriterState.{KeepsKeys};
 ghost use Rattle.archive_check.specs.Shape.{one};
-ghost use Rattle.archive_check.specs.Told.{KeepsKeys};
-ghost use Rattle.archive_core.specs.Plans.{stand, IsAt, GoesOn, Explains, HindersRegion, ExplainsWhole, region_place, one_plan, IsOfWriting};
-ghost use Rattle.archive_core.specs.Writing.{Fresh, Resolves, Puts, LaysOut};
-ghost use Rattle.archive_write.specs.Sharing.{KeepsKnown};
+ghost use Rattle.archive_core.specs.Causes.{Explains, HindersAt, HindersRegionAt, IsRegionRefused};
+ghost use Rattle.archive_core.specs.Plans.{SerializedRegion};
+ghost use Rattle.archive_core.specs.Writing.{Fresh, Resolves, Puts};
+ghost use Rattle.archive_write.specs.Written.{GoesOn};
 
 use crate::place::Place;
 use crate::traits::{Archive, Keys, Portable, Serialize};
@@ -25,15 +25,15 @@ fn resolve_region<W: Writer, T: Archive>(
     resolver: T::Resolver,
     region: &mut [u8],
 ) -> Result<usize, Error>
-    requires fresh { Fresh T.Archived.layout.size (length (W.told writer.old).bytes) region.old }
+    requires fresh { Fresh T.Archived.layout.size (length (W.state writer.old).bytes) region.old }
     requires same_value { T.belongs value.now resolver }
-    ensures put { OnOk result (Puts T.Archived.definitions (writer_state (W.told writer.old) (W.state_of writer.old)) (writer_state (W.told writer.new) (W.state_of writer.new))
+    ensures put { OnOk result (Puts T.Archived.definitions (W.state writer.old) (W.state writer.new)
         T.Archived.shape T.Archived.layout (T.flat value.now resolver)) }
-    ensures position { IfOk result (λ p. p ≡ length (W.told writer.old).bytes) }
-    ensures refused { IfErr result (Explains (HindersRegion (T.hinders_at value.now resolver) T.Archived.layout (length (W.told writer.old).bytes))
-        (length (W.told writer.old).bytes + T.Archived.layout.size) (W.told writer.old) (W.told writer.new)) }
-    ensures goes_on { GoesOn (W.told writer.old) (W.told writer.new) }
-    ensures keys { KeepsKeys (W.state_of writer.old) (W.state_of writer.new) }
+    ensures position { IfOk result (λ p. p ≡ length (W.state writer.old).bytes) }
+    ensures refused { IfErr result (Explains (HindersRegionAt T.Archived.definitions T.Archived.shape T.Archived.layout (T.flat value.now resolver) (length (W.state writer.old).bytes))
+        (λ n. n ≤ length (W.state writer.old).bytes + T.Archived.layout.size) (W.state writer.old) (W.state writer.new)) }
+    ensures goes_on { GoesOn (W.state writer.old) (W.state writer.new) }
+    ensures keys { KeepsKeys (W.state writer.old).states (W.state writer.new).states }
 {
     let pos = writer.pos();
     resolve_into(value, resolver, pos, region)?;
@@ -52,7 +52,7 @@ fn resolve_into<T: Archive>(
     requires same_value { T.belongs value.now resolver }
     ensures resolved { OnOk result (Resolves T.Archived.definitions pos bytes.new T.Archived.shape (T.flat value.now resolver)) }
     ensures same_length { length bytes.new ≡ length bytes.old }
-    ensures refused { IfErr result (T.hinders_at value.now resolver pos) }
+    ensures refused { IfErr result (HindersAt T.Archived.definitions T.Archived.shape (T.flat value.now resolver) pos) }
 {
     value.resolve(resolver, Place::new(pos, bytes))
 }
@@ -75,14 +75,14 @@ pub trait ResolveExt: Writer {
         Self: Sized,
         requires aligned { Self.place self.old % T.Archived.layout.align ≡ 0 }
         requires same_value { T.belongs value.now resolver }
-        ensures region { OnOk result (Puts T.Archived.definitions (writer_state (Self.told self.old) (Self.state_of self.old)) (writer_state (Self.told self.new) (Self.state_of self.new))
+        ensures region { OnOk result (Puts T.Archived.definitions (Self.state self.old) (Self.state self.new)
             T.Archived.shape T.Archived.layout (T.flat value.now resolver)) }
         ensures position { IfOk result (λ p. p ≡ Self.place self.old) }
-        ensures refused { IfErr result (Explains (HindersRegion (T.hinders_at value.now resolver) T.Archived.layout (length (Self.told self.old).bytes))
-            (length (Self.told self.old).bytes + T.Archived.layout.size) (Self.told self.old) (Self.told self.new)) }
-        ensures goes_on { GoesOn (Self.told self.old) (Self.told self.new) }
-        ensures sized { OnOk result (length (Self.told self.new).bytes ≡ length (Self.told self.old).bytes + T.Archived.layout.size) }
-        ensures keys { KeepsKeys (Self.state_of self.old) (Self.state_of self.new) }
+        ensures refused { IfErr result (Explains (HindersRegionAt T.Archived.definitions T.Archived.shape T.Archived.layout (T.flat value.now resolver) (length (Self.state self.old).bytes))
+            (λ n. n ≤ length (Self.state self.old).bytes + T.Archived.layout.size) (Self.state self.old) (Self.state self.new)) }
+        ensures goes_on { GoesOn (Self.state self.old) (Self.state self.new) }
+        ensures sized { OnOk result (length (Self.state self.new).bytes ≡ length (Self.state self.old).bytes + T.Archived.layout.size) }
+        ensures keys { KeepsKeys (Self.state self.old).states (Self.state self.new).states }
     {
         let size = T::Archived::size();
         if self.pos().checked_add(size).is_none() {
@@ -104,20 +104,17 @@ impl<W: Writer> ResolveExt for W {}
 /// region would end above `usize::MAX`, with `OutOfMemory`, 1, where memory is refused, or as the writer refuses (`BufferOverflow`, 8;
 /// `WriterFailed`, 9). After a refusal, too, the bytes from before are a beginning of those that `serializer` holds, and known keys keep their
 /// states. Our own: rkyv 0.8.18 has it as `SerializeUnsized` of a value.
-#[tactic(auto, using(crate::proofs::Appending::lays_one))]
+#[tactic(auto, using(crate::proofs::Planned::serialized_one))]
 pub fn serialize_one<S: Writer + Keys + ResolverAlloc, T: Serialize<S>>(
     value: &T,
     serializer: &mut S,
 ) -> Result<usize, Error>
-    ensures written { IfOk result (λ p. LaysOut T.Archived.definitions (writer_state (S.told serializer.old) (S.state_of serializer.old)) (writer_state (S.told serializer.new) (S.state_of serializer.new))
-        (T.keys value.now) p (one T.Archived.shape) 0 (T.meaning value.now)) }
-    ensures there { IfOk result (λ p. p ≡ region_place T.Archived.layout (T.plan value.now (stand (S.told serializer.old) (S.state_of serializer.old)))) }
-    ensures planned { OnOk result (IsAt (one_plan T.Archived.layout (T.plan value.now (stand (S.told serializer.old) (S.state_of serializer.old)))) (S.told serializer.new) (S.state_of serializer.new)) }
-    ensures goes_on { GoesOn (S.told serializer.old) (S.told serializer.new) }
-    ensures known { KeepsKnown (S.state_of serializer.old) (S.state_of serializer.new) }
-    ensures refused { IfErr result (ExplainsWhole (T.hinders value.now) (T.answers value.now) (T.hinders_at value.now) (T.plan value.now) T.Archived.layout
-        (S.state_of serializer.old) (S.told serializer.old) (S.told serializer.new)) }
-    ensures named { IfErr result IsOfWriting }
+    ensures serialized { IfOk result (λ p. SerializedRegion T.Archived.definitions (one T.Archived.shape) 0 (T.keys value.now) (T.meaning value.now) p
+        (S.state serializer.old) (S.state serializer.new)) }
+    ensures ends { IfOk result (λ p. p + T.Archived.layout.size ≡ length (S.state serializer.new).bytes) }
+    ensures goes_on { GoesOn (S.state serializer.old) (S.state serializer.new) }
+    ensures refused { IfErr result (IsRegionRefused T.Archived.definitions (one T.Archived.shape) 0 (T.keys value.now) (T.meaning value.now)
+        (S.state serializer.old) (S.state serializer.new)) }
 {
     let resolver = value.serialize(serializer)?;
     serializer.align_for::<T::Archived>()?;

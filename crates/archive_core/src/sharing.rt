@@ -1,11 +1,11 @@
 //! Shared values: each is written once, and its key answers where.
 
-ghost use Rattle.std.specs.Prelude.{◌≡◌, ◌⊎◌, ◌≤◌, None, Option, Some, ℕ, length, IfOk, IfErr, OnErr};
-ghost use Rattle.archive_check.specs.WriterState.{writer_state};
-ghost use Rattle.archive_check.specs.Told.{KeepsKeys};
-ghost use Rattle.archive_core.specs.Plans.{stand, begun, ended, IsAt, GoesOn, Explains, HindersShared, IsOfWriting};
-ghost use Rattle.archive_core.specs.Writing.{LaysOutShared};
-ghost use Rattle.archive_write.specs.Sharing.{KeepsKnown, IsNoMisuse, known_answer};
+ghost use Rattle.std.specs.Prelude.{◌≡◌, ◌⊎◌, None, Option, Some, ℕ, IfOk, IfErr, OnErr};
+ghost use Rattle.archive_check.specs.WriterState.{KeepsBytes, KeepsKeys};
+ghost use Rattle.archive_core.specs.Causes.{Explains, HindersShared, HindersRegion, RegionReaches};
+ghost use Rattle.archive_core.specs.Plans.{cursor, begun, SerializedShared};
+ghost use Rattle.archive_write.specs.Sharing.{known_answer};
+ghost use Rattle.archive_write.specs.Written.{GoesOn};
 
 use crate::traits::SerializeUnsized;
 use archive_check::format::error::Error;
@@ -27,21 +27,19 @@ pub trait SharingExt: Sharing + Writer {
     ) -> Result<usize, Error>
     where
         Self: Sized,
-        ensures known { (s : Option ℕ) → Self.state_of self.old key ≡ Some s → result ≡ known_answer s }
-        ensures unchanged { (s : Option ℕ) → Self.state_of self.old key ≡ Some s → (Self.told self.new ≡ Self.told self.old) × KeepsKeys (Self.state_of self.old) (Self.state_of self.new) }
-        ensures written { Self.state_of self.old key ≡ None → IfOk result (λ p. (length (Self.told self.old).bytes ≤ p) × (p ≤ length (Self.told self.new).bytes)) }
-        ensures laid { Self.state_of self.old key ≡ None → IfOk result (λ p. LaysOutShared T.Archived.definitions (writer_state (Self.told self.old) (Self.state_of self.old)) (writer_state (Self.told self.new) (Self.state_of self.new))
-            key (T.keys value.now) p T.Archived.pointee (T.source_length value.now) (T.meaning value.now)) }
-        ensures there { Self.state_of self.old key ≡ None → IfOk result (λ p. p ≡ T.planned_at value.now (begun (stand (Self.told self.old) (Self.state_of self.old)) key)) }
-        ensures planned { Self.state_of self.old key ≡ None → IfOk result (λ p. IsAt (ended (T.plan value.now (begun (stand (Self.told self.old) (Self.state_of self.old)) key)) key p) (Self.told self.new) (Self.state_of self.new)) }
-        ensures goes_on { GoesOn (Self.told self.old) (Self.told self.new) }
-        ensures refused { IfErr result (Explains (HindersShared (Self.state_of self.old key) (T.hinders value.now (begun (stand (Self.told self.old) (Self.state_of self.old)) key)))
-            (T.plan value.now (begun (stand (Self.told self.old) (Self.state_of self.old)) key)).place (Self.told self.old) (Self.told self.new)) }
-        ensures finished { IfOk result (λ p. Self.state_of self.new key ≡ Some (Some p)) }
-        ensures unfinished { OnErr result ((Self.state_of self.new key ≡ None) ⊎ (Self.state_of self.new key ≡ Some None)) }
-        ensures keys { KeepsKnown (Self.state_of self.old) (Self.state_of self.new) }
-        ensures named { IfErr result IsOfWriting }
-        ensures no_misuse { IfErr result IsNoMisuse }
+        ensures known { (s : Option ℕ) → (Self.state self.old).states key ≡ Some s → result ≡ known_answer s }
+        ensures unchanged { (s : Option ℕ) → (Self.state self.old).states key ≡ Some s → KeepsBytes (Self.state self.old) (Self.state self.new)
+            × KeepsKeys (Self.state self.old).states (Self.state self.new).states }
+        ensures serialized { (Self.state self.old).states key ≡ None → IfOk result (λ p. SerializedShared T.Archived.definitions T.Archived.pointee (T.source_length value.now) key
+            (T.keys value.now) (T.meaning value.now) p (Self.state self.old) (Self.state self.new)) }
+        ensures goes_on { GoesOn (Self.state self.old) (Self.state self.new) }
+        ensures refused { IfErr result (Explains
+            (HindersShared ((Self.state self.old).states key)
+            (HindersRegion T.Archived.definitions T.Archived.pointee (T.source_length value.now) (T.keys value.now) (T.meaning value.now) (begun (cursor (Self.state self.old)) key)))
+            (RegionReaches T.Archived.definitions T.Archived.pointee (T.source_length value.now) (T.keys value.now) (T.meaning value.now) (begun (cursor (Self.state self.old)) key))
+            (Self.state self.old) (Self.state self.new)) }
+        ensures finished { IfOk result (λ p. (Self.state self.new).states key ≡ Some (Some p)) }
+        ensures unfinished { OnErr result (((Self.state self.new).states key ≡ None) ⊎ ((Self.state self.new).states key ≡ Some None)) }
     {
         match self.start_sharing(key)? {
             SharingState::Started => {

@@ -10,17 +10,16 @@ ghost use Rattle.archive_check.specs.Reads.{bytes_at};
 ghost use Rattle.archive_check.specs.Readable.{string_text};
 ghost use Rattle.archive_check.specs.Value.{text_value};
 ghost use Rattle.archive_check.specs.Viewed.{Viewed, Says};
-ghost use Rattle.archive_check.specs.WriterState.{writer_state};
 ghost use Rattle.archive_check.specs.declared.format.error.Error.TheVariants.{OutOfMemory, LengthTooLarge, StringTooLong};
-ghost use Rattle.archive_check.specs.Told.{KeepsKeys};
-ghost use Rattle.archive_write.specs.Sharing.{KeepsKnown, IsNoMisuse};
-ghost use Rattle.archive_core.specs.Keyed.{text_keyed, text_forward, string_forward};
-ghost use Rattle.archive_core.specs.Named.{text_named, string_named, string_at_named};
+ghost use Rattle.archive_check.specs.WriterState.{KeepsKeys};
+ghost use Rattle.archive_write.specs.Written.{GoesOn};
+ghost use Rattle.archive_core.specs.Causes.{HindersAt, IsRefused, IsRegionRefused};
+ghost use Rattle.archive_core.specs.Keyed.{text_keyed};
 ghost use Rattle.archive_core.specs.Offsets.{distance, IsTooFar};
-ghost use Rattle.archive_core.specs.Plans.{stand, IsAt, GoesOn, Explains};
+ghost use Rattle.archive_core.specs.Plans.{Serialized, SerializedRegion};
 ghost use Rattle.archive_core.specs.Strings.{string_form, string_flat};
-ghost use Rattle.archive_core.specs.TextPlans.{text_plan, string_plan, StringAnswers, HindersText, HindersString, HindersStringAt, ExplainsTextRefusal, ExplainsStringRefusal};
-ghost use Rattle.archive_core.specs.Writing.{Fresh, Resolves, Writes, LaysOut};
+ghost use Rattle.archive_core.specs.TextPlans.{HindersStringAt, ExplainsTextRefusal, ExplainsStringRefusal};
+ghost use Rattle.archive_core.specs.Writing.{Fresh, Resolves};
 
 pub mod repr;
 
@@ -140,17 +139,7 @@ impl<'a> ArchiveUnsized for Text<'a> {
 
     ghost keys = { λ _. [] };
 
-    ghost plan = { λ t s. text_plan t.text.now s };
-
-    ghost planned_at = { λ _ s. s.place };
-
-    ghost hinders = { λ t _ e. HindersText t.text.now e };
-
     ghost keyed = { λ t. text_keyed t.text.now };
-
-    ghost forward = { λ t s. text_forward t.text.now s };
-
-    ghost named = { λ t _ e h. text_named t.text.now e h };
 
     fn archived_metadata(&self) -> Result<ArchivedUsize, Error> {
         let Ok(len) = u32::try_from(self.text.len()) else {
@@ -161,20 +150,16 @@ impl<'a> ArchiveUnsized for Text<'a> {
 }
 
 impl<'a, S: Writer + Keys> SerializeUnsized<S> for Text<'a> {
-    #[tactic(auto, using(crate::proofs::StringsWritten::lays_text, crate::proofs::TextCauses::text_written, crate::proofs::TextCauses::text_refused, crate::proofs::TextCauses::text_too_long, crate::proofs::Causes::goes_nowhere, crate::proofs::Causes::goes_written, crate::proofs::Causes::goes_refused))]
+    #[tactic(auto, using(crate::proofs::Planned::serialized_text, crate::proofs::Planned::text_refused, crate::proofs::Planned::long_text_refused, crate::proofs::Causes::goes_nowhere, crate::proofs::Causes::goes_written, crate::proofs::Causes::goes_refused))]
     fn serialize_unsized(&self, serializer: &mut S) -> Result<usize, Error>
-        ensures written { IfOk result (λ p. LaysOut no_definition (writer_state (S.told serializer.old) (S.state_of serializer.old)) (writer_state (S.told serializer.new) (S.state_of serializer.new)) [] p text (length self.now.text.now) (text_value self.now.text.now)) }
-        ensures position { IfOk result (λ p. (length (S.told serializer.old).bytes ≤ p) × (p ≤ length (S.told serializer.new).bytes)) }
-        ensures there { IfOk result (λ p. p ≡ length (S.told serializer.old).bytes) }
-        ensures planned { OnOk result (IsAt (text_plan self.now.text.now (stand (S.told serializer.old) (S.state_of serializer.old))) (S.told serializer.new) (S.state_of serializer.new)) }
-        ensures goes_on { GoesOn (S.told serializer.old) (S.told serializer.new) }
-        ensures text { OnOk result ((S.told serializer.new).bytes ≡ (S.told serializer.old).bytes ++ self.now.text.now) }
-        ensures known { KeepsKnown (S.state_of serializer.old) (S.state_of serializer.new) }
-        ensures no_misuse { IfErr result IsNoMisuse }
-        ensures refused { IfErr result (Explains (HindersText self.now.text.now) (text_plan self.now.text.now (stand (S.told serializer.old) (S.state_of serializer.old))).place (S.told serializer.old) (S.told serializer.new)) }
-        ensures keys { KeepsKeys (S.state_of serializer.old) (S.state_of serializer.new) }
-        ensures too_long { 4294967295 < length self.now.text.now → IsErrOf result LengthTooLarge × (S.told serializer.new ≡ S.told serializer.old) }
-        ensures cause { IfErr result (ExplainsTextRefusal self.now.text.now (S.place serializer.old) (S.told serializer.old) (S.told serializer.new)) }
+        ensures serialized { IfOk result (λ p. SerializedRegion no_definition text (length self.now.text.now) [] (text_value self.now.text.now) p (S.state serializer.old) (S.state serializer.new)) }
+        ensures goes_on { GoesOn (S.state serializer.old) (S.state serializer.new) }
+        ensures refused { IfErr result (IsRegionRefused no_definition text (length self.now.text.now) [] (text_value self.now.text.now) (S.state serializer.old) (S.state serializer.new)) }
+        ensures there { IfOk result (λ p. p ≡ length (S.state serializer.old).bytes) }
+        ensures text { OnOk result ((S.state serializer.new).bytes ≡ (S.state serializer.old).bytes ++ self.now.text.now) }
+        ensures keys { KeepsKeys (S.state serializer.old).states (S.state serializer.new).states }
+        ensures too_long { 4294967295 < length self.now.text.now → IsErrOf result LengthTooLarge × (S.state serializer.new ≡ S.state serializer.old) }
+        ensures cause { IfErr result (ExplainsTextRefusal self.now.text.now (S.place serializer.old) (S.state serializer.old) (S.state serializer.new)) }
     {
         if let Err(error) = self.archived_metadata() {
             return Err(error);
@@ -205,24 +190,22 @@ impl<D: Entries> DeserializeUnsized<String, D> for ArchivedStr {
 impl ArchivedString {
     /// Writes the text, if it is longer than eight bytes, and answers where. Refused with 7 exactly where it is longer than 1,073,741,823 bytes,
     /// before anything is written, with 4 where it was written above 4,294,967,295, or as the writer refuses.
-    #[tactic(auto, using(crate::proofs::StringsWritten::writes_inline, crate::proofs::StringsWritten::writes_out_of_line, crate::proofs::TextCauses::string_stays, crate::proofs::TextCauses::string_grows, crate::proofs::TextCauses::string_refused, crate::proofs::TextCauses::string_too_far, crate::proofs::TextCauses::string_too_long, crate::proofs::Causes::goes_nowhere, crate::proofs::Causes::goes_written, crate::proofs::Causes::goes_refused))]
+    #[tactic(auto, using(crate::proofs::Planned::serialized_inline, crate::proofs::Planned::serialized_out_of_line, crate::proofs::Planned::string_refused, crate::proofs::Planned::long_string_refused, crate::proofs::Planned::far_string_refused, crate::proofs::Causes::goes_nowhere))]
     pub fn serialize_from_str<S: Writer + Keys>(
         value: &str,
         serializer: &mut S,
     ) -> Result<StringResolver, Error>
-        ensures serialized { IfOk result (λ r. Writes no_definition (writer_state (S.told serializer.old) (S.state_of serializer.old)) (writer_state (S.told serializer.new) (S.state_of serializer.new)) [] (string_flat value.now r) (text_value value.now)) }
+        ensures serialized { IfOk result (λ r. Serialized no_definition str_shape [] (text_value value.now) (string_flat value.now r) (S.state serializer.old) (S.state serializer.new)) }
         ensures held { OnOk result (length value.now ≤ 1073741823) }
-        ensures inline { length value.now ≤ 8 → IsOk result × (S.told serializer.new ≡ S.told serializer.old) }
-        ensures too_long { 1073741823 < length value.now → IsErrOf result StringTooLong × (S.told serializer.new ≡ S.told serializer.old) }
-        ensures near { 8 < length value.now → OnOk result (length (S.told serializer.old).bytes ≤ 4294967295) }
-        ensures elsewhere { 8 < length value.now → IfOk result (λ r. (r ≡ length (S.told serializer.old).bytes)
-            × ((S.told serializer.new).bytes ≡ (S.told serializer.old).bytes ++ value.now)) }
-        ensures answered { IfOk result (λ r. StringAnswers value.now (stand (S.told serializer.old) (S.state_of serializer.old)) r) }
-        ensures planned { OnOk result (IsAt (string_plan value.now (stand (S.told serializer.old) (S.state_of serializer.old))) (S.told serializer.new) (S.state_of serializer.new)) }
-        ensures goes_on { GoesOn (S.told serializer.old) (S.told serializer.new) }
-        ensures keys { KeepsKeys (S.state_of serializer.old) (S.state_of serializer.new) }
-        ensures hindered { IfErr result (Explains (HindersString value.now (length (S.told serializer.old).bytes)) (string_plan value.now (stand (S.told serializer.old) (S.state_of serializer.old))).place (S.told serializer.old) (S.told serializer.new)) }
-        ensures refused { IfErr result (ExplainsStringRefusal value.now (S.place serializer.old) (S.told serializer.old) (S.told serializer.new)) }
+        ensures goes_on { GoesOn (S.state serializer.old) (S.state serializer.new) }
+        ensures refused { IfErr result (IsRefused no_definition str_shape [] (text_value value.now) (S.state serializer.old) (S.state serializer.new)) }
+        ensures inline { length value.now ≤ 8 → IsOk result × (S.state serializer.new ≡ S.state serializer.old) }
+        ensures too_long { 1073741823 < length value.now → IsErrOf result StringTooLong × (S.state serializer.new ≡ S.state serializer.old) }
+        ensures near { 8 < length value.now → OnOk result (length (S.state serializer.old).bytes ≤ 4294967295) }
+        ensures elsewhere { 8 < length value.now → IfOk result (λ r. (r ≡ length (S.state serializer.old).bytes)
+            × ((S.state serializer.new).bytes ≡ (S.state serializer.old).bytes ++ value.now)) }
+        ensures keys { KeepsKeys (S.state serializer.old).states (S.state serializer.new).states }
+        ensures cause { IfErr result (ExplainsStringRefusal value.now (S.place serializer.old) (S.state serializer.old) (S.state serializer.new)) }
     {
         if value.len() <= repr::INLINE_CAPACITY {
             return Ok(StringResolver { pos: 0 });
@@ -275,21 +258,7 @@ impl Archive for String {
 
     ghost belongs = { λ s _. length (string_bytes s) ≤ 1073741823 };
 
-    ghost plan = { λ s at. string_plan (string_bytes s) at };
-
-    ghost answers = { λ s at r. StringAnswers (string_bytes s) at r };
-
-    ghost hinders = { λ s at e. HindersString (string_bytes s) at.place e };
-
-    ghost hinders_at = { λ s r p e. HindersStringAt (string_bytes s) r p e };
-
     ghost keyed = { λ s. text_keyed (string_bytes s) };
-
-    ghost forward = { λ s at. string_forward (string_bytes s) at };
-
-    ghost named = { λ s at e h. string_named (string_bytes s) at.place e h };
-
-    ghost named_at = { λ s r p e h. string_at_named (string_bytes s) r p e h };
 
     fn resolve(
         &self,
@@ -300,7 +269,8 @@ impl Archive for String {
         requires same_value { length (string_bytes self.now) ≤ 1073741823 }
         ensures resolved { OnOk result (Resolves no_definition place.entry.pos place.exit.0.now str_shape (string_flat (string_bytes self.now) resolver)) }
         ensures same_length { length place.exit.0.now ≡ length place.entry.bytes.now }
-        ensures refused { IfErr result (HindersStringAt (string_bytes self.now) resolver place.entry.pos) }
+        ensures refused { IfErr result (HindersAt no_definition str_shape (string_flat (string_bytes self.now) resolver) place.entry.pos) }
+        ensures cause { IfErr result (HindersStringAt (string_bytes self.now) resolver place.entry.pos) }
         ensures written { OnOk result (place.exit.0.now ≡ string_form (string_bytes self.now) place.entry.pos resolver) }
         ensures inline { length (string_bytes self.now) ≤ 8 → IsOk result }
     {
@@ -311,19 +281,16 @@ impl Archive for String {
 
 impl<S: Writer + Keys> Serialize<S> for String {
     fn serialize(&self, serializer: &mut S) -> Result<StringResolver, Error>
-        ensures written { IfOk result (λ r. Writes no_definition (writer_state (S.told serializer.old) (S.state_of serializer.old)) (writer_state (S.told serializer.new) (S.state_of serializer.new)) [] (string_flat (string_bytes self.now) r) (text_value (string_bytes self.now))) }
+        ensures serialized { IfOk result (λ r. Serialized no_definition str_shape [] (text_value (string_bytes self.now)) (string_flat (string_bytes self.now) r) (S.state serializer.old) (S.state serializer.new)) }
         ensures same_value { OnOk result (length (string_bytes self.now) ≤ 1073741823) }
-        ensures answered { IfOk result (λ r. StringAnswers (string_bytes self.now) (stand (S.told serializer.old) (S.state_of serializer.old)) r) }
-        ensures planned { OnOk result (IsAt (string_plan (string_bytes self.now) (stand (S.told serializer.old) (S.state_of serializer.old))) (S.told serializer.new) (S.state_of serializer.new)) }
-        ensures goes_on { GoesOn (S.told serializer.old) (S.told serializer.new) }
-        ensures known { KeepsKnown (S.state_of serializer.old) (S.state_of serializer.new) }
-        ensures no_misuse { IfErr result IsNoMisuse }
-        ensures refused { IfErr result (Explains (HindersString (string_bytes self.now) (length (S.told serializer.old).bytes)) (string_plan (string_bytes self.now) (stand (S.told serializer.old) (S.state_of serializer.old))).place (S.told serializer.old) (S.told serializer.new)) }
-        ensures keys { KeepsKeys (S.state_of serializer.old) (S.state_of serializer.new) }
-        ensures inline { length (string_bytes self.now) ≤ 8 → IsOk result × (S.told serializer.new ≡ S.told serializer.old) }
-        ensures elsewhere { 8 < length (string_bytes self.now) → IfOk result (λ r. (r ≡ length (S.told serializer.old).bytes)
-            × ((S.told serializer.new).bytes ≡ (S.told serializer.old).bytes ++ string_bytes self.now)) }
-        ensures cause { IfErr result (ExplainsStringRefusal (string_bytes self.now) (S.place serializer.old) (S.told serializer.old) (S.told serializer.new)) }
+        ensures goes_on { GoesOn (S.state serializer.old) (S.state serializer.new) }
+        ensures refused { IfErr result (IsRefused no_definition str_shape [] (text_value (string_bytes self.now)) (S.state serializer.old) (S.state serializer.new)) }
+        ensures keys { KeepsKeys (S.state serializer.old).states (S.state serializer.new).states }
+        ensures inline { length (string_bytes self.now) ≤ 8 → IsOk result × (S.state serializer.new ≡ S.state serializer.old) }
+        ensures too_long { 1073741823 < length (string_bytes self.now) → IsErrOf result StringTooLong × (S.state serializer.new ≡ S.state serializer.old) }
+        ensures elsewhere { 8 < length (string_bytes self.now) → IfOk result (λ r. (r ≡ length (S.state serializer.old).bytes)
+            × ((S.state serializer.new).bytes ≡ (S.state serializer.old).bytes ++ string_bytes self.now)) }
+        ensures cause { IfErr result (ExplainsStringRefusal (string_bytes self.now) (S.place serializer.old) (S.state serializer.old) (S.state serializer.new)) }
     {
         ArchivedString::serialize_from_str(self.as_str(), serializer)
     }

@@ -1,20 +1,19 @@
 //! What is archived and how, and what is read back.
 
-ghost use Rattle.std.specs.Prelude.{◌≡◌, ◌⊎◌, ◌≤◌, ◌<◌, ℕ, length, IfOk, OnOk, IfErr, IsErr, List};
+ghost use Rattle.std.specs.Prelude.{◌≡◌, ◌⊎◌, ◌<◌, ℕ, length, IfOk, OnOk, IfErr, IsErr, List};
 ghost use Rattle.archive_check.specs.Entries.{AreNamedByPosition, KeepsEntries, IsCyclic};
 ghost use Rattle.archive_check.specs.Value.{Value};
 ghost use Rattle.archive_check.specs.Viewed.{Viewed, Says};
-ghost use Rattle.archive_check.specs.WriterState.{writer_state};
 ghost use Rattle.archive_check.specs.declared.format.error.Error.TheVariants.{OutOfMemory, CyclicDeserialize, LengthTooLarge};
-ghost use Rattle.archive_check.specs.declared.format.error.Error.{Error as ErrorOf};
-ghost use Rattle.archive_core.specs.Plans.{Stand, stand, IsAt, GoesOn, Explains, IsOwnCause};
-ghost use Rattle.archive_core.specs.Writing.{Naming, IsKeyed, Fresh, Resolves, Writes, LaysOut};
-ghost use Rattle.archive_write.specs.Sharing.{KeepsKnown, IsNoMisuse};
+ghost use Rattle.archive_core.specs.Causes.{HindersAt, IsRefused, IsRegionRefused};
+ghost use Rattle.archive_core.specs.Plans.{Serialized, SerializedRegion};
+ghost use Rattle.archive_core.specs.Writing.{Naming, IsKeyed, Fresh, Resolves};
+ghost use Rattle.archive_write.specs.Written.{GoesOn};
 
 use crate::place::Place;
 use crate::view::{Part, Ref};
 use archive_check::format::error::Error;
-pub use archive_check::format::traits::{ArchivePointee, Entries, Keys, Portable, Tells};
+pub use archive_check::format::traits::{ArchivePointee, Entries, Keys, Portable};
 use archive_write::ser::Writer;
 use std::alloc::Global;
 
@@ -45,18 +44,6 @@ pub trait Archive {
     // The resolver is one of this value.
     ghost belongs: { Self → Self.Resolver → Type 0 };
 
-    // Where a writer will stand behind what the value owns.
-    ghost plan: { Self → Stand → Stand };
-
-    // A serialization from there answers this resolver.
-    ghost answers: { Self → Stand → Self.Resolver → Type 0 };
-
-    // What hinders a serialization from there.
-    ghost hinders: { Self → Stand → ErrorOf → Type 0 };
-
-    // What hinders its resolving at a position.
-    ghost hinders_at: { Self → Self.Resolver → ℕ → ErrorOf → Type 0 };
-
     /// Writes the archived value over the bytes of `place`, which are zeros. Refused with 2 or 3 where an offset doesn't fit, else with what the
     /// value's parts refuse with.
     fn resolve(
@@ -68,19 +55,10 @@ pub trait Archive {
         requires same_value { belongs self.now resolver }
         ensures resolved { OnOk result (Resolves Self.Archived.definitions place.entry.pos place.exit.0.now Self.Archived.shape (flat self.now resolver)) }
         ensures same_length { length place.exit.0.now ≡ length place.entry.bytes.now }
-        ensures refused { IfErr result (hinders_at self.now resolver place.entry.pos) };
+        ensures refused { IfErr result (HindersAt Self.Archived.definitions Self.Archived.shape (flat self.now resolver) place.entry.pos) };
 
-    // The names in what it means are among its keys.
+    // Its keys are those that its meaning leads to.
     ghost keyed: { (v : Self) → IsKeyed (keys v) (meaning v) };
-
-    // A writer doesn't go back.
-    ghost forward: { (v : Self) (s : Stand) → s.place ≤ (plan v s).place };
-
-    // What hinders it is a cause of the value's own, and no want of memory or room, nor a failing device.
-    ghost named: { (v : Self) (s : Stand) (e : ErrorOf) → hinders v s e → IsOwnCause e };
-
-    // And so is what hinders its resolving.
-    ghost named_at: { (v : Self) (r : Self.Resolver) (p : ℕ) (e : ErrorOf) → hinders_at v r p e → IsOwnCause e };
 }
 
 /// A source that can be serialized to an `S`.
@@ -89,16 +67,12 @@ pub trait Serialize<S: Writer + Keys>: Archive {
     /// as the writer refuses, or with 1 where memory is refused; never with 14 or 15. After a refusal, too, the bytes from before are a beginning of
     /// those that `serializer` holds, and each key that was known keeps its state.
     fn serialize(&self, serializer: &mut S) -> Result<Self::Resolver, Error>
-        ensures written { IfOk result (λ r. Writes Self.Archived.definitions (writer_state (S.told serializer.old) (S.state_of serializer.old)) (writer_state (S.told serializer.new) (S.state_of serializer.new))
-            (Self.keys self.now) (Self.flat self.now r) (Self.meaning self.now)) }
+        ensures serialized { IfOk result (λ r. Serialized Self.Archived.definitions Self.Archived.shape (Self.keys self.now) (Self.meaning self.now)
+            (Self.flat self.now r) (S.state serializer.old) (S.state serializer.new)) }
         ensures same_value { IfOk result (λ r. Self.belongs self.now r) }
-        ensures answered { IfOk result (λ r. Self.answers self.now (stand (S.told serializer.old) (S.state_of serializer.old)) r) }
-        ensures planned { OnOk result (IsAt (Self.plan self.now (stand (S.told serializer.old) (S.state_of serializer.old))) (S.told serializer.new) (S.state_of serializer.new)) }
-        ensures goes_on { GoesOn (S.told serializer.old) (S.told serializer.new) }
-        ensures known { KeepsKnown (S.state_of serializer.old) (S.state_of serializer.new) }
-        ensures no_misuse { IfErr result IsNoMisuse }
-        ensures refused { IfErr result (Explains (Self.hinders self.now (stand (S.told serializer.old) (S.state_of serializer.old)))
-            (Self.plan self.now (stand (S.told serializer.old) (S.state_of serializer.old))).place (S.told serializer.old) (S.told serializer.new)) };
+        ensures goes_on { GoesOn (S.state serializer.old) (S.state serializer.new) }
+        ensures refused { IfErr result (IsRefused Self.Archived.definitions Self.Archived.shape (Self.keys self.now) (Self.meaning self.now)
+            (S.state serializer.old) (S.state serializer.new)) };
 }
 
 /// A format that can be read back as a `T`.
@@ -140,29 +114,14 @@ pub trait ArchiveUnsized {
     // The keys that it holds, with what each names.
     ghost keys: { Self → List Naming };
 
-    // Where a writer will stand behind its region.
-    ghost plan: { Self → Stand → Stand };
-
-    // Where its region will begin.
-    ghost planned_at: { Self → Stand → ℕ };
-
-    // What hinders a serialization from there.
-    ghost hinders: { Self → Stand → ErrorOf → Type 0 };
-
     /// What stands in a pointer to it beside the offset. Refused with 5 exactly where its length is above 4,294,967,295.
     fn archived_metadata(&self) -> Result<ArchivedMetadata<Self>, Error>
         ensures value { IfOk result (λ m. Self.Archived.metadata_length m ≡ source_length self.now) }
         ensures refused { IfErr result (λ e. (e ≡ LengthTooLarge) × (4294967295 < source_length self.now)) }
         ensures too_long { 4294967295 < source_length self.now → IsErr result };
 
-    // The names in what it means are among its keys.
+    // Its keys are those that its meaning leads to.
     ghost keyed: { (v : Self) → IsKeyed (keys v) (meaning v) };
-
-    // A writer doesn't go back.
-    ghost forward: { (v : Self) (s : Stand) → s.place ≤ (plan v s).place };
-
-    // What hinders it is a cause of the value's own, and no want of memory or room, nor a failing device.
-    ghost named: { (v : Self) (s : Stand) (e : ErrorOf) → hinders v s e → IsOwnCause e };
 }
 
 /// A source that can be serialized to an `S` as a region of its own.
@@ -171,16 +130,11 @@ pub trait SerializeUnsized<S: Writer + Keys>: ArchiveUnsized {
     /// refuses, or with 1 where memory is refused; never with 14 or 15. After a refusal, too, the bytes from before are a beginning of those that
     /// `serializer` holds, and each key that was known keeps its state.
     fn serialize_unsized(&self, serializer: &mut S) -> Result<usize, Error>
-        ensures written { IfOk result (λ p. LaysOut Self.Archived.definitions (writer_state (S.told serializer.old) (S.state_of serializer.old)) (writer_state (S.told serializer.new) (S.state_of serializer.new))
-            (Self.keys self.now) p Self.Archived.pointee (Self.source_length self.now) (Self.meaning self.now)) }
-        ensures position { IfOk result (λ p. (length (S.told serializer.old).bytes ≤ p) × (p ≤ length (S.told serializer.new).bytes)) }
-        ensures there { IfOk result (λ p. p ≡ Self.planned_at self.now (stand (S.told serializer.old) (S.state_of serializer.old))) }
-        ensures planned { OnOk result (IsAt (Self.plan self.now (stand (S.told serializer.old) (S.state_of serializer.old))) (S.told serializer.new) (S.state_of serializer.new)) }
-        ensures goes_on { GoesOn (S.told serializer.old) (S.told serializer.new) }
-        ensures known { KeepsKnown (S.state_of serializer.old) (S.state_of serializer.new) }
-        ensures no_misuse { IfErr result IsNoMisuse }
-        ensures refused { IfErr result (Explains (Self.hinders self.now (stand (S.told serializer.old) (S.state_of serializer.old)))
-            (Self.plan self.now (stand (S.told serializer.old) (S.state_of serializer.old))).place (S.told serializer.old) (S.told serializer.new)) };
+        ensures serialized { IfOk result (λ p. SerializedRegion Self.Archived.definitions Self.Archived.pointee (Self.source_length self.now) (Self.keys self.now)
+            (Self.meaning self.now) p (S.state serializer.old) (S.state serializer.new)) }
+        ensures goes_on { GoesOn (S.state serializer.old) (S.state serializer.new) }
+        ensures refused { IfErr result (IsRegionRefused Self.Archived.definitions Self.Archived.pointee (Self.source_length self.now) (Self.keys self.now)
+            (Self.meaning self.now) (S.state serializer.old) (S.state serializer.new)) };
 }
 
 /// A pointee that can be read back as a `T`: the value, a vector of the elements, or a string.

@@ -6,9 +6,8 @@ use Rattle.std.proofs.lemmas.List.{get_or-replicate, length-replicate}
 use Rattle.archive_check.specs.Definitions.{IsAlign}
 use Rattle.archive_check.specs.Layout.{up}
 use Rattle.archive_check.proofs.PartsInside.{up_le}
-use Rattle.archive_check.specs.Told.{Told, KeepsKeys}
 use Rattle.archive_check.specs.CleanRegions.{IsZeroed}
-use Rattle.archive_check.specs.WriterState.{KeyStates, writer_state, Pads}
+use Rattle.archive_check.specs.WriterState.{WriterState, KeepsKeys, Pads}
 use Rattle.archive_write.specs.Written.{padding}
 
 by_rest : (n a q r : ℕ) → 1 ≤ a → n ≡ q * a + r → r < a → (a - r) % a ≡ padding a n
@@ -38,9 +37,9 @@ padded n a h = omega (arith, up_le n a (align_low a h))
 pub zeroed_replicate : (n : ℕ) → IsZeroed (replicate n 0)
 zeroed_replicate n = record { zero_at = λ i h. get_or-replicate n i 0 0 (omega (arith, length-replicate {A = ℕ} n 0)) }
 
-pub pads_by : (align place : ℕ) (old new : Told) (s t : KeyStates) → IsAlign align → place ≡ length old.bytes
-    → new.bytes ≡ old.bytes ++ replicate (padding align place) 0 → KeepsKeys s t → Pads align (writer_state old s) (writer_state new t)
-pads_by align place old new s t is here grown keys = record {
+pub pads_by : (align place : ℕ) (old new : WriterState) → IsAlign align → place ≡ length old.bytes
+    → new.bytes ≡ old.bytes ++ replicate (padding align place) 0 → KeepsKeys old.states new.states → Pads align old new
+pads_by align place old new is here grown keys = record {
   zeros = replicate (padding align place) 0;
   grown = grown;
   zeroed = zeroed_replicate (padding align place);

@@ -1,7 +1,7 @@
 -- Calls on the states of shared keys.
 use Rattle.std.specs.Prelude.{◌≡◌, ◌≢◌, ℕ, Option, Some, None, Result, Ok, Err, nat_eq}
 use Rattle.std.specs.Map.{update}
-use Rattle.archive_check.specs.Told.{KeyState}
+use Rattle.archive_check.specs.WriterState.{KeyState}
 use Rattle.archive_check.specs.declared.format.error.Error.{Error}
 use Rattle.archive_check.specs.declared.format.error.Error.TheVariants.{CyclicSerialize, NotStarted, AlreadyFinished}
 use Rattle.archive_write.specs.declared.sharing.SharingState.{SharingState}

@@ -1,8 +1,10 @@
 -- What a write does to a writer.
 use Rattle.std.specs.Prelude.{◌≡◌, ℕ, ◌+◌, ◌-◌, ◌^◌, ◌<◌, ◌≤◌, ◌⊎◌, List, ◌++◌, length, Option, Some, None, IsSomeAnd, ⊤}
 use Rattle.archive_check.specs.Layout.{up}
+use Rattle.archive_check.specs.WriterState.{WriterState}
 use Rattle.archive_check.specs.declared.format.error.Error.{Error}
 use Rattle.archive_check.specs.declared.format.error.Error.TheVariants.{OutOfMemory, BufferOverflow, WriterFailed}
+use Rattle.archive_write.specs.Sharing.{KeepsKnown}
 
 -- ys is xs and then perhaps more
 pub record IsBeginning (xs ys : List ℕ) : Type 0 where
@@ -13,6 +15,14 @@ pub record IsBeginning (xs ys : List ℕ) : Type 0 where
 abbrev pub RoomFalls : Option ℕ → Option ℕ → List ℕ → List ℕ → Type 0
 RoomFalls None new xs ys = new ≡ None
 RoomFalls (Some room) new xs ys = (length ys ≤ length xs + room) × (new ≡ Some (room - (length ys - length xs)))
+
+-- What was told before is a beginning of what is told now; the room has fallen by as many bytes as came; no failure is forgotten; each known key keeps its
+-- state.
+pub record GoesOn (old new : WriterState) : Type 0 where
+  pub kept : IsBeginning old.bytes new.bytes
+  pub room : RoomFalls old.room new.room old.bytes new.bytes
+  pub device : old.failures ≤ new.failures
+  pub known : KeepsKnown old.states new.states
 
 -- Why a write of n bytes was refused: for want of memory; for want of room; or by its device, which failed now or had failed too often.
 abbrev pub ExplainsRefusal : ℕ → ℕ → Option ℕ → ℕ → ℕ → Error → Type 0

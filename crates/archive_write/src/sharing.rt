@@ -3,12 +3,12 @@
 
 ghost use Rattle.std.specs.Prelude.{◌≡◌, ◌+◌, ◌≤◌, ◌<◌, None, Some, OnOk, OnErr, IfOk, IfErr, IsOk, nat_eq};
 ghost use Rattle.std.specs.HashMap.{get, spare};
-ghost use Rattle.archive_check.specs.Told.{KeepsKeys, nothing_told};
+ghost use Rattle.archive_check.specs.WriterState.{KeepsKeys, KeepsBytes, only_keys};
 ghost use Rattle.archive_write.specs.Sharing.{start_answer, started, finish_answer, IsSet, KnowsNone};
 
 use crate::ser::Serializer;
 use archive_check::format::error::Error;
-use archive_check::format::traits::{Keys, Tells};
+use archive_check::format::traits::Keys;
 use std::alloc::{Allocator, Global};
 use std::collections::HashMap;
 use std::hash::{BuildHasherDefault, FoldHasher};
@@ -30,19 +30,19 @@ pub trait Sharing: Keys {
     /// Answers what `key` was, and makes it pending where it was unknown. Refused with `OutOfMemory`, 1, where memory is refused, for an unknown key
     /// alone.
     fn start_sharing(&mut self, key: u64) -> Result<SharingState, Error>
-        ensures answer { IfOk result (λ s. s ≡ start_answer (Self.state_of self.old key)) }
-        ensures after { OnOk result (IsSet (Self.state_of self.old) key (started (Self.state_of self.old key)) (Self.state_of self.new)) }
-        ensures unchanged { OnErr result (KeepsKeys (Self.state_of self.old) (Self.state_of self.new)) }
-        ensures refusal { IfErr result (λ e. (e ≡ Error.OutOfMemory) × (Self.state_of self.old key ≡ None)) }
-        ensures told { Self.told self.new ≡ Self.told self.old };
+        ensures answer { IfOk result (λ s. s ≡ start_answer ((Self.state self.old).states key)) }
+        ensures after { OnOk result (IsSet (Self.state self.old).states key (started ((Self.state self.old).states key)) (Self.state self.new).states) }
+        ensures unchanged { OnErr result (KeepsKeys (Self.state self.old).states (Self.state self.new).states) }
+        ensures refusal { IfErr result (λ e. (e ≡ Error.OutOfMemory) × ((Self.state self.old).states key ≡ None)) }
+        ensures bytes { KeepsBytes (Self.state self.old) (Self.state self.new) };
 
     /// Finishes the pending `key` at `pos`, in bytes from the first one. Refused with `NotStarted`, 14, exactly where it is unknown, and with
     /// `AlreadyFinished`, 15, exactly where it is finished already. Takes no memory.
     fn finish_sharing(&mut self, key: u64, pos: usize) -> Result<(), Error>
-        ensures answer { result ≡ finish_answer (Self.state_of self.old key) }
-        ensures after { OnOk result (IsSet (Self.state_of self.old) key (Some (Some pos)) (Self.state_of self.new)) }
-        ensures unchanged { OnErr result (KeepsKeys (Self.state_of self.old) (Self.state_of self.new)) }
-        ensures told { Self.told self.new ≡ Self.told self.old };
+        ensures answer { result ≡ finish_answer ((Self.state self.old).states key) }
+        ensures after { OnOk result (IsSet (Self.state self.old).states key (Some (Some pos)) (Self.state self.new).states) }
+        ensures unchanged { OnErr result (KeepsKeys (Self.state self.old).states (Self.state self.new).states) }
+        ensures bytes { KeepsBytes (Self.state self.old) (Self.state self.new) };
 }
 
 /// What is borrowed keeps its owner's states.
@@ -56,7 +56,7 @@ impl<S: Sharing> Sharing for &mut S {
     }
 }
 
-impl<W: Tells, A, S: Sharing> Sharing for Serializer<W, A, S> {
+impl<W: Keys, A, S: Sharing> Sharing for Serializer<W, A, S> {
     fn start_sharing(&mut self, key: u64) -> Result<SharingState, Error> {
         self.sharing.start_sharing(key)
     }
@@ -77,7 +77,7 @@ pub struct Share<A: Allocator = Global> {
 impl<A: Allocator + Clone> Share<A> {
     /// Knows no key. Memory comes from `alloc` with the first one.
     pub fn new(alloc: A) -> Share<A>
-        ensures { KnowsNone (⟦<Share<A> as Keys>⟧.state_of result) }
+        ensures { KnowsNone (⟦<Share<A> as Keys>⟧.state result).states }
     {
         Share {
             states: HashMap::new(alloc),
@@ -87,7 +87,7 @@ impl<A: Allocator + Clone> Share<A> {
     /// Knows no key, and has room for `capacity` of them: no start of so many keys is refused. Memory comes from `alloc`; refused with `OutOfMemory`,
     /// 1, where it is refused.
     pub fn with_capacity(alloc: A, capacity: usize) -> Result<Share<A>, Error>
-        ensures fresh { IfOk result (λ s. KnowsNone (⟦<Share<A> as Keys>⟧.state_of s)) }
+        ensures fresh { IfOk result (λ s. KnowsNone (⟦<Share<A> as Keys>⟧.state s).states) }
         ensures room { IfOk result (λ s. capacity ≤ spare s.states) }
         ensures refusal { IfErr result (λ e. e ≡ Error.OutOfMemory) }
     {
@@ -98,7 +98,7 @@ impl<A: Allocator + Clone> Share<A> {
 
     /// Forgets every key, so that it serves for another archive. Takes no memory, and keeps what it has.
     pub fn clear(&mut self)
-        ensures fresh { KnowsNone (⟦<Share<A> as Keys>⟧.state_of self.new) }
+        ensures fresh { KnowsNone (⟦<Share<A> as Keys>⟧.state self.new).states }
         ensures room { spare self.old.states ≤ spare self.new.states }
     {
         self.states.clear();
@@ -106,12 +106,8 @@ impl<A: Allocator + Clone> Share<A> {
 }
 
 /// It holds no bytes.
-impl<A: Allocator + Clone> Tells for Share<A> {
-    ghost told = { λ _. nothing_told };
-}
-
 impl<A: Allocator + Clone> Keys for Share<A> {
-    ghost state_of = { λ s. get nat_eq s.states };
+    ghost state = { λ s. only_keys (get nat_eq s.states) };
 }
 
 /// A start takes memory only where no room is left; it uses up room for one key at most. A finish uses up none.
@@ -121,7 +117,7 @@ impl<A: Allocator + Clone> Sharing for Share<A> {
         ensures after { OnOk result (IsSet (get nat_eq self.old.states) key (started (get nat_eq self.old.states key)) (get nat_eq self.new.states)) }
         ensures unchanged { OnErr result (KeepsKeys (get nat_eq self.old.states) (get nat_eq self.new.states)) }
         ensures refusal { IfErr result (λ e. (e ≡ Error.OutOfMemory) × (get nat_eq self.old.states key ≡ None)) }
-        ensures told { nothing_told ≡ nothing_told }
+        ensures bytes { KeepsBytes (only_keys (get nat_eq self.old.states)) (only_keys (get nat_eq self.new.states)) }
         ensures served { 0 < spare self.old.states → IsOk result }
         ensures room { spare self.old.states ≤ spare self.new.states + 1 }
     {
@@ -140,7 +136,7 @@ impl<A: Allocator + Clone> Sharing for Share<A> {
         ensures answer { result ≡ finish_answer (get nat_eq self.old.states key) }
         ensures after { OnOk result (IsSet (get nat_eq self.old.states) key (Some (Some pos)) (get nat_eq self.new.states)) }
         ensures unchanged { OnErr result (KeepsKeys (get nat_eq self.old.states) (get nat_eq self.new.states)) }
-        ensures told { nothing_told ≡ nothing_told }
+        ensures bytes { KeepsBytes (only_keys (get nat_eq self.old.states)) (only_keys (get nat_eq self.new.states)) }
         ensures room { spare self.new.states ≡ spare self.old.states }
     {
         match self.states.get_mut(&key) {

@@ -7,7 +7,7 @@ ghost use Rattle.archive_check.specs.Expressions.{shape_of, table_of};
 ghost use Rattle.archive_check.specs.Definitions.{Definitions, HasLayout, IsAlign, listed, Extended, Conflicts};
 ghost use Rattle.archive_check.specs.Defined.{Reaches};
 ghost use Rattle.archive_check.specs.Value.{Value};
-ghost use Rattle.archive_check.specs.Told.{Told, nothing_told, KeyState};
+ghost use Rattle.archive_check.specs.WriterState.{WriterState, no_keys, only_keys, only_bytes};
 ghost use Rattle.archive_check.specs.declared.format.error.Error.TheVariants.{OutOfMemory, ShapeConflict};
 
 use crate::format::error::Error;
@@ -75,16 +75,10 @@ pub trait Portable: ArchivePointee {
     ghost no_others: { (name : Name) (X : Shape) → Contains (listed Self.definitions) (name, X) → Reaches (listed Self.definitions) name shape };
 }
 
-/// What tells contracts the bytes that it holds, its room and its device's failures. It has no calls. Our own.
-pub trait Tells {
-    // What is told.
-    ghost told: { Self → Told };
-}
-
-/// What tells contracts the state of each shared key. It has no calls. Our own.
-pub trait Keys: Tells {
-    // The state of a key.
-    ghost state_of: { Self → ℕ → KeyState };
+/// What tells contracts the state of a writer: its bytes, its room, its device's failures and the states of the shared keys. It has no calls. Our own.
+pub trait Keys {
+    // The state.
+    ghost state: { Self → WriterState };
 }
 
 /// What tells contracts the state of each position that is read, whatever its type. It has no calls. Our own.
@@ -96,20 +90,12 @@ pub trait Entries {
     ghost keeps: { Bool };
 }
 
-impl Tells for () {
-    ghost told = { λ _. nothing_told };
-}
-
 impl Keys for () {
-    ghost state_of = { λ _ _. None };
-}
-
-impl<A: Allocator> Tells for Vec<u8, A> {
-    ghost told = { λ v. record { bytes = v.items; room = None; failures = 0 } };
+    ghost state = { λ _. only_keys no_keys };
 }
 
 impl<A: Allocator> Keys for Vec<u8, A> {
-    ghost state_of = { λ _ _. None };
+    ghost state = { λ v. only_bytes v.items };
 }
 
 impl Entries for () {
@@ -119,11 +105,6 @@ impl Entries for () {
 }
 
 /// What is borrowed tells what its owner does.
-impl<W: Tells> Tells for &mut W {
-    ghost told = { λ r. W.told r.now };
-}
-
-/// What is borrowed has its owner's keys.
 impl<S: Keys> Keys for &mut S {
-    ghost state_of = { λ r. S.state_of r.now };
+    ghost state = { λ r. S.state r.now };
 }

@@ -2,17 +2,16 @@
 
 ghost use Rattle.std.specs.Prelude.{◌≡◌, ⊤, [], length, IfOk, OnOk, IfErr, IsOk};
 ghost use Rattle.archive_check.specs.Definitions.{no_definition};
-ghost use Rattle.archive_check.specs.WriterState.{writer_state};
 ghost use Rattle.archive_check.specs.Layout.{kind_size};
 ghost use Rattle.archive_check.specs.Shape.{leaf, one, non_zero};
 ghost use Rattle.archive_check.specs.Reads.{bytes_at};
 ghost use Rattle.archive_check.specs.Value.{number};
 ghost use Rattle.archive_check.specs.Viewed.{Viewed, Says};
-ghost use Rattle.archive_check.specs.Told.{KeepsKeys};
-ghost use Rattle.archive_core.specs.Keyed.{stays, number_keyed};
-ghost use Rattle.archive_core.specs.Plans.{stand, IsAt, GoesOn, Explains};
-ghost use Rattle.archive_core.specs.Writing.{Fresh, Resolves, Writes};
-ghost use Rattle.archive_write.specs.Sharing.{KeepsKnown, IsNoMisuse};
+ghost use Rattle.archive_core.specs.Keyed.{number_keyed};
+ghost use Rattle.archive_core.specs.Causes.{HindersAt, IsRefused};
+ghost use Rattle.archive_core.specs.Plans.{Serialized};
+ghost use Rattle.archive_core.specs.Writing.{Fresh, Resolves};
+ghost use Rattle.archive_write.specs.Written.{GoesOn};
 
 use super::write_leaf;
 use crate::place::Place;
@@ -37,27 +36,13 @@ impl<N: Integer> Archive for NonZero<N> {
 
     ghost belongs = { λ _ _. ⊤ };
 
-    ghost plan = { λ _ s. s };
-
-    ghost answers = { λ _ _ _. ⊤ };
-
-    ghost hinders = { λ _ _ _. ⊥ };
-
-    ghost hinders_at = { λ _ _ _ _. ⊥ };
-
     ghost keyed = { λ n. number_keyed (N.value_of n) };
-
-    ghost forward = { λ _ s. stays s };
-
-    ghost named = { λ _ _ _ h. absurd h };
-
-    ghost named_at = { λ _ _ _ _ h. absurd h };
 
     fn resolve(&self, _resolver: (), place: Place<'_, NonZero<N>>) -> Result<(), Error>
         requires fresh { Fresh (kind_size (non_zero N.sign N.width)) place.pos place.bytes.now }
         requires same_value { ⊤ }
         ensures resolved { OnOk result (Resolves no_definition place.entry.pos place.exit.0.now (leaf (non_zero N.sign N.width)) (number (N.value_of self.now))) }
-        ensures refused { IfErr result (λ _. ⊥) }
+        ensures refused { IfErr result (HindersAt no_definition (leaf (non_zero N.sign N.width)) (number (N.value_of self.now)) place.entry.pos) }
         ensures same_length { length place.exit.0.now ≡ length place.entry.bytes.now }
         ensures written { place.exit.0.now ≡ N.bytes_of self.now }
         ensures succeeds { IsOk result }
@@ -69,18 +54,13 @@ impl<N: Integer> Archive for NonZero<N> {
 }
 
 impl<N: Integer, S: Writer + Keys> Serialize<S> for NonZero<N> {
-    #[tactic(auto, using(crate::proofs::Appending::writes_number, crate::proofs::Causes::goes_nowhere))]
+    #[tactic(auto, using(crate::proofs::Causes::goes_nowhere))]
     fn serialize(&self, _serializer: &mut S) -> Result<(), Error>
-        ensures written { IfOk result (λ _. Writes no_definition (writer_state (S.told _serializer.old) (S.state_of _serializer.old)) (writer_state (S.told _serializer.new) (S.state_of _serializer.new)) [] (number (N.value_of self.now)) (number (N.value_of self.now))) }
+        ensures serialized { IfOk result (λ _. Serialized no_definition (leaf (non_zero N.sign N.width)) [] (number (N.value_of self.now)) (number (N.value_of self.now)) (S.state _serializer.old) (S.state _serializer.new)) }
         ensures same_value { ⊤ }
-        ensures answered { ⊤ }
-        ensures planned { OnOk result (IsAt (stand (S.told _serializer.old) (S.state_of _serializer.old)) (S.told _serializer.new) (S.state_of _serializer.new)) }
-        ensures goes_on { GoesOn (S.told _serializer.old) (S.told _serializer.new) }
-        ensures known { KeepsKnown (S.state_of _serializer.old) (S.state_of _serializer.new) }
-        ensures no_misuse { IfErr result IsNoMisuse }
-        ensures refused { IfErr result (Explains (λ _. ⊥) (length (S.told _serializer.old).bytes) (S.told _serializer.old) (S.told _serializer.new)) }
-        ensures unchanged { S.told _serializer.new ≡ S.told _serializer.old }
-        ensures keys { KeepsKeys (S.state_of _serializer.old) (S.state_of _serializer.new) }
+        ensures goes_on { GoesOn (S.state _serializer.old) (S.state _serializer.new) }
+        ensures refused { IfErr result (IsRefused no_definition (leaf (non_zero N.sign N.width)) [] (number (N.value_of self.now)) (S.state _serializer.old) (S.state _serializer.new)) }
+        ensures unchanged { S.state _serializer.new ≡ S.state _serializer.old }
         ensures succeeds { IsOk result }
     {
         Ok(())

@@ -5,18 +5,16 @@ ghost use Rattle.std.specs.Int.{w32, cast_signed, cast_unsigned};
 ghost use Rattle.std.specs.Int.RustNames.{FitsSigned};
 ghost use Rattle.archive_check.specs.Shape.{leaf, one, number, signed, unsigned};
 ghost use Rattle.archive_check.specs.Definitions.{no_definition};
-ghost use Rattle.archive_check.specs.WriterState.{writer_state};
 ghost use Rattle.archive_check.specs.Reads.{bytes_at};
 ghost use Rattle.archive_check.specs.Value.{number as number_value};
 ghost use Rattle.archive_check.specs.Viewed.{Viewed, Says};
-ghost use Rattle.archive_check.specs.Told.{KeepsKeys};
 ghost use Rattle.archive_check.specs.declared.format.error.Error.TheVariants.{NumberTooLarge};
 ghost use Rattle.archive_check.specs.LittleEndian.{little_bytes, little_number};
-ghost use Rattle.archive_core.specs.Keyed.{number_keyed, stays};
-ghost use Rattle.archive_core.specs.Named.{too_large_named};
-ghost use Rattle.archive_core.specs.Plans.{stand, IsAt, GoesOn, Explains};
-ghost use Rattle.archive_core.specs.Writing.{Fresh, Resolves, Writes};
-ghost use Rattle.archive_write.specs.Sharing.{KeepsKnown, IsNoMisuse};
+ghost use Rattle.archive_core.specs.Keyed.{number_keyed};
+ghost use Rattle.archive_core.specs.Causes.{HindersAt, IsRefused};
+ghost use Rattle.archive_core.specs.Plans.{Serialized};
+ghost use Rattle.archive_core.specs.Writing.{Fresh, Resolves};
+ghost use Rattle.archive_write.specs.Written.{GoesOn};
 
 use crate::place::Place;
 use crate::traits::{Archive, Deserialize, Entries, Keys, Serialize};
@@ -39,21 +37,7 @@ impl Archive for usize {
 
     ghost belongs = { λ n _. n < 2 ^ 32 };
 
-    ghost plan = { λ _ s. s };
-
-    ghost answers = { λ _ _ _. ⊤ };
-
-    ghost hinders = { λ n _ e. (e ≡ NumberTooLarge) × (n < 2 ^ 32 → ⊥) };
-
-    ghost hinders_at = { λ _ _ _ _. ⊥ };
-
     ghost keyed = { λ n. number_keyed (pos n) };
-
-    ghost forward = { λ _ s. stays s };
-
-    ghost named = { λ _ _ e h. too_large_named e (h.0) };
-
-    ghost named_at = { λ _ _ _ _ h. absurd h };
 
     #[tactic(auto, using(crate::proofs::Resolving::resolves_usize))]
     fn resolve(&self, _resolver: (), place: Place<'_, ArchivedUsize>) -> Result<(), Error>
@@ -61,7 +45,7 @@ impl Archive for usize {
         requires same_value { self.now < 2 ^ 32 }
         ensures resolved { OnOk result (Resolves no_definition place.entry.pos place.exit.0.now (leaf (number unsigned w32)) (number_value (pos self.now))) }
         ensures same_length { length place.exit.0.now ≡ length place.entry.bytes.now }
-        ensures refused { IfErr result (λ _. ⊥) }
+        ensures refused { IfErr result (HindersAt no_definition (leaf (number unsigned w32)) (number_value (pos self.now)) place.entry.pos) }
         ensures written { place.exit.0.now ≡ little_bytes 4 self.now }
         ensures succeeds { IsOk result }
     {
@@ -73,19 +57,14 @@ impl Archive for usize {
 
 impl<S: Writer + Keys> Serialize<S> for usize {
     /// Writes nothing. Refused with `NumberTooLarge`, 6, exactly where the number doesn't fit 32 bits without a sign. rkyv 0.8.18 cuts it off.
-    #[tactic(auto, using(crate::proofs::Appending::writes_number, crate::proofs::Causes::goes_nowhere, crate::proofs::Causes::explains_own))]
+    #[tactic(auto, using(crate::proofs::Causes::goes_nowhere, crate::proofs::Planned::usize_refused))]
     fn serialize(&self, _serializer: &mut S) -> Result<(), Error>
-        ensures written { IfOk result (λ _. Writes no_definition (writer_state (S.told _serializer.old) (S.state_of _serializer.old)) (writer_state (S.told _serializer.new) (S.state_of _serializer.new)) [] (number_value (pos self.now)) (number_value (pos self.now))) }
+        ensures serialized { IfOk result (λ _. Serialized no_definition (leaf (number unsigned w32)) [] (number_value (pos self.now)) (number_value (pos self.now)) (S.state _serializer.old) (S.state _serializer.new)) }
         ensures same_value { IfOk result (λ _. self.now < 2 ^ 32) }
-        ensures answered { IfOk result (λ _. ⊤) }
-        ensures planned { OnOk result (IsAt (stand (S.told _serializer.old) (S.state_of _serializer.old)) (S.told _serializer.new) (S.state_of _serializer.new)) }
-        ensures goes_on { GoesOn (S.told _serializer.old) (S.told _serializer.new) }
+        ensures goes_on { GoesOn (S.state _serializer.old) (S.state _serializer.new) }
+        ensures refused { IfErr result (IsRefused no_definition (leaf (number unsigned w32)) [] (number_value (pos self.now)) (S.state _serializer.old) (S.state _serializer.new)) }
+        ensures unchanged { S.state _serializer.new ≡ S.state _serializer.old }
         ensures cause { IfErr result (λ e. (e ≡ NumberTooLarge) × (self.now < 2 ^ 32 → ⊥)) }
-        ensures refused { IfErr result (Explains (λ e. (e ≡ NumberTooLarge) × (self.now < 2 ^ 32 → ⊥)) (length (S.told _serializer.old).bytes) (S.told _serializer.old) (S.told _serializer.new)) }
-        ensures known { KeepsKnown (S.state_of _serializer.old) (S.state_of _serializer.new) }
-        ensures no_misuse { IfErr result IsNoMisuse }
-        ensures unchanged { S.told _serializer.new ≡ S.told _serializer.old }
-        ensures keys { KeepsKeys (S.state_of _serializer.old) (S.state_of _serializer.new) }
     {
         if FixedUsize::try_from(*self).is_err() {
             return Err(Error::NumberTooLarge);
@@ -124,21 +103,7 @@ impl Archive for isize {
 
     ghost belongs = { λ n _. FitsSigned w32 n };
 
-    ghost plan = { λ _ s. s };
-
-    ghost answers = { λ _ _ _. ⊤ };
-
-    ghost hinders = { λ n _ e. (e ≡ NumberTooLarge) × (FitsSigned w32 n → ⊥) };
-
-    ghost hinders_at = { λ _ _ _ _. ⊥ };
-
     ghost keyed = { λ n. number_keyed n };
-
-    ghost forward = { λ _ s. stays s };
-
-    ghost named = { λ _ _ e h. too_large_named e (h.0) };
-
-    ghost named_at = { λ _ _ _ _ h. absurd h };
 
     #[tactic(auto, using(crate::proofs::Resolving::resolves_isize))]
     fn resolve(&self, _resolver: (), place: Place<'_, ArchivedIsize>) -> Result<(), Error>
@@ -146,7 +111,7 @@ impl Archive for isize {
         requires same_value { FitsSigned w32 self.now }
         ensures resolved { OnOk result (Resolves no_definition place.entry.pos place.exit.0.now (leaf (number signed w32)) (number_value self.now)) }
         ensures same_length { length place.exit.0.now ≡ length place.entry.bytes.now }
-        ensures refused { IfErr result (λ _. ⊥) }
+        ensures refused { IfErr result (HindersAt no_definition (leaf (number signed w32)) (number_value self.now) place.entry.pos) }
         ensures written { place.exit.0.now ≡ little_bytes 4 (cast_unsigned w32 self.now) }
         ensures succeeds { IsOk result }
     {
@@ -158,19 +123,14 @@ impl Archive for isize {
 
 impl<S: Writer + Keys> Serialize<S> for isize {
     /// Writes nothing. Refused with `NumberTooLarge`, 6, exactly where the number doesn't fit 32 bits with a sign. rkyv 0.8.18 cuts it off.
-    #[tactic(auto, using(crate::proofs::Appending::writes_number, crate::proofs::Causes::goes_nowhere, crate::proofs::Causes::explains_own))]
+    #[tactic(auto, using(crate::proofs::Causes::goes_nowhere, crate::proofs::Planned::isize_refused))]
     fn serialize(&self, _serializer: &mut S) -> Result<(), Error>
-        ensures written { IfOk result (λ _. Writes no_definition (writer_state (S.told _serializer.old) (S.state_of _serializer.old)) (writer_state (S.told _serializer.new) (S.state_of _serializer.new)) [] (number_value self.now) (number_value self.now)) }
+        ensures serialized { IfOk result (λ _. Serialized no_definition (leaf (number signed w32)) [] (number_value self.now) (number_value self.now) (S.state _serializer.old) (S.state _serializer.new)) }
         ensures same_value { IfOk result (λ _. FitsSigned w32 self.now) }
-        ensures answered { IfOk result (λ _. ⊤) }
-        ensures planned { OnOk result (IsAt (stand (S.told _serializer.old) (S.state_of _serializer.old)) (S.told _serializer.new) (S.state_of _serializer.new)) }
-        ensures goes_on { GoesOn (S.told _serializer.old) (S.told _serializer.new) }
+        ensures goes_on { GoesOn (S.state _serializer.old) (S.state _serializer.new) }
+        ensures refused { IfErr result (IsRefused no_definition (leaf (number signed w32)) [] (number_value self.now) (S.state _serializer.old) (S.state _serializer.new)) }
+        ensures unchanged { S.state _serializer.new ≡ S.state _serializer.old }
         ensures cause { IfErr result (λ e. (e ≡ NumberTooLarge) × (FitsSigned w32 self.now → ⊥)) }
-        ensures refused { IfErr result (Explains (λ e. (e ≡ NumberTooLarge) × (FitsSigned w32 self.now → ⊥)) (length (S.told _serializer.old).bytes) (S.told _serializer.old) (S.told _serializer.new)) }
-        ensures known { KeepsKnown (S.state_of _serializer.old) (S.state_of _serializer.new) }
-        ensures no_misuse { IfErr result IsNoMisuse }
-        ensures unchanged { S.told _serializer.new ≡ S.told _serializer.old }
-        ensures keys { KeepsKeys (S.state_of _serializer.old) (S.state_of _serializer.new) }
     {
         if FixedIsize::try_from(*self).is_err() {
             return Err(Error::NumberTooLarge);

@@ -7,7 +7,7 @@ ghost use Rattle.archive_check.specs.Shape.{array, leaf, number, one, unsigned};
 ghost use Rattle.archive_check.specs.Definitions.{no_definition};
 ghost use Rattle.archive_check.specs.LeafLayout.{no_definition_reached};
 ghost use Rattle.archive_check.specs.Value.{list, number as number_value};
-ghost use Rattle.archive_core.specs.Keyed.{stays};
+ghost use Rattle.archive_core.specs.Causes.{HindersAt};
 ghost use Rattle.archive_core.specs.Writing.{Fresh, Resolves};
 ghost use Rattle.archive_tests.specs.Repeated.{numbers_keyed, repeated};
 
@@ -84,21 +84,7 @@ impl Archive for Sevens {
 
     ghost belongs = { λ _ _. ⊤ };
 
-    ghost plan = { λ _ s. s };
-
-    ghost answers = { λ _ _ _. ⊤ };
-
-    ghost hinders = { λ _ _ _. ⊥ };
-
-    ghost hinders_at = { λ _ _ _ _. ⊥ };
-
     ghost keyed = { λ _. numbers_keyed 25 (pos 117901063) };
-
-    ghost forward = { λ _ s. stays s };
-
-    ghost named = { λ _ _ _ h. absurd h };
-
-    ghost named_at = { λ _ _ _ _ h. absurd h };
 
     #[tactic(auto, using(crate::proofs::Repeated::resolves_sevens))]
     fn resolve(&self, _resolver: (), place: Place<'_, ArchivedSevens>) -> Result<(), Error>
@@ -106,7 +92,7 @@ impl Archive for Sevens {
         requires same_value { ⊤ }
         ensures resolved { OnOk result (Resolves no_definition place.entry.pos place.exit.0.now (array 25 (leaf (number unsigned w32))) (list (repeated 25 (number_value (pos 117901063))))) }
         ensures same_length { length place.exit.0.now ≡ length place.entry.bytes.now }
-        ensures refused { IfErr result (λ _. ⊥) }
+        ensures refused { IfErr result (HindersAt no_definition (array 25 (leaf (number unsigned w32))) (list (repeated 25 (number_value (pos 117901063)))) place.entry.pos) }
     {
         let Place { bytes, .. } = place;
         bytes.fill(7);

@@ -26,10 +26,10 @@ fn archive_of(alloc: Global, text: &String) -> Result<Vec<u8>, Error>
 }
 
 // What it says of a number's refusals: none comes but for want of memory.
-fn archive_of_number(alloc: Global, number: &u32) -> Result<Vec<u8>, Error>
+fn archive_of_number(alloc: Global, number: u32) -> Result<Vec<u8>, Error>
     ensures { IfErr result (λ e. e ≡ OutOfMemory) }
 {
-    to_bytes(alloc, number)
+    to_bytes(alloc, &number)
 }
 
 #[test]
@@ -42,7 +42,7 @@ fn a_value_is_laid_out_as_a_region(rt: HostRuntime) -> Result<(), Fail> {
     assert_eq!(rt; serialize_one(&7u64, &mut serializer)?, 24);
     let bytes = serializer.into_writer();
     assert_eq!(rt;
-        archive_of_number(rt.alloc(), &42)?.as_slice(),
+        archive_of_number(rt.alloc(), 42)?.as_slice(),
         b"\x2a\0\0\0".as_slice()
     );
     let (first, rest) = bytes.split_at(20);

@@ -1,9 +1,10 @@
 // A device that fails while archives are written to it.
 
-ghost use Rattle.std.specs.Prelude.{None, length, refl, true};
+ghost use Rattle.std.specs.Prelude.{length, refl, true};
+ghost use Rattle.archive_check.specs.WriterState.{only_bytes};
 
 use archive_check::format::error::Error;
-use archive_check::format::traits::{Keys, Tells};
+use archive_check::format::traits::Keys;
 use archive_core::api::to_bytes_in;
 use archive_core::ser::{Positional, Serializer, Writer, serialize_one};
 use archive_core::sharing::{Share, SharingExt};
@@ -27,12 +28,8 @@ impl Positional for Failing {
     }
 }
 
-impl Tells for Failing {
-    ghost told = { λ w. record { bytes = w.bytes.items; room = None; failures = w.failures } };
-}
-
 impl Keys for Failing {
-    ghost state_of = { λ _ _. None };
+    ghost state = { λ w. record (only_bytes w.bytes.items) { failures = w.failures } };
 }
 
 impl Writer for Failing {

@@ -3,12 +3,12 @@
 ghost use Rattle.std.specs.Prelude.{◌≡◌, ◌+◌, ◌-◌, ◌≤◌, ◌++◌, ◌↔◌, length, take, drop, false, IsTrue, None, Some, OnOk, OnErr, IfErr, IsOk, IsErrOf};
 ghost use Rattle.std.proofs.Common.{sym};
 ghost use Rattle.std.proofs.lemmas.List.{length-take-le};
-ghost use Rattle.archive_check.specs.Told.{KeepsKeys};
+ghost use Rattle.archive_check.specs.WriterState.{KeepsKeys, no_keys};
 ghost use Rattle.archive_write.specs.Written.{IsBeginning, RoomFalls, ExplainsRefusal};
 
 use crate::ser::{Positional, Writer};
 use archive_check::format::error::Error;
-use archive_check::format::traits::{Keys, Tells};
+use archive_check::format::traits::Keys;
 
 /// A writer over bytes that are lent to it. It takes as many bytes as they are, and leaves those beyond what is written as they were. rkyv 0.8.18 lends
 /// bytes that may be uninitialized, too.
@@ -40,7 +40,7 @@ impl<'a, const N: usize> From<&'a mut [u8; N]> for Buffer<'a> {
 impl<'a> Buffer<'a> {
     /// What is written, from the first byte. Our own.
     pub fn as_slice(&self) -> &[u8]
-        ensures { result.now ≡ (⟦<Buffer<'a> as Tells>⟧.told self.now).bytes }
+        ensures { result.now ≡ (⟦<Buffer<'a> as Keys>⟧.state self.now).bytes }
     {
         &self.bytes[..self.len]
     }
@@ -54,12 +54,8 @@ impl<'a> Positional for Buffer<'a> {
     }
 }
 
-impl<'a> Tells for Buffer<'a> {
-    ghost told = { λ b. record { bytes = take b.len b.bytes.now; room = Some (length b.bytes.now - b.len); failures = 0 } };
-}
-
 impl<'a> Keys for Buffer<'a> {
-    ghost state_of = { λ _ _. None };
+    ghost state = { λ b. record { bytes = take b.len b.bytes.now; room = Some (length b.bytes.now - b.len); failures = 0; states = no_keys } };
 }
 
 /// A write is refused with `BufferOverflow`, 8, exactly where the bytes don't fit, and then changes nothing. It takes no memory.
@@ -74,7 +70,7 @@ impl<'a> Writer for Buffer<'a> {
         ensures room { RoomFalls (Some (length self.old.bytes.now - self.old.len)) (Some (length self.new.bytes.now - self.new.len)) (take self.old.len self.old.bytes.now) (take self.new.len self.new.bytes.now) }
         ensures refusal { IfErr result (ExplainsRefusal (length bytes.now) self.old.len (Some (length self.old.bytes.now - self.old.len)) 0 0) }
         ensures device { 0 ≤ 0 }
-        ensures keys { KeepsKeys (λ _. None) (λ _. None) }
+        ensures keys { KeepsKeys no_keys no_keys }
         ensures memory { IsErrOf result Error.OutOfMemory → IsTrue false }
         ensures fits { IsOk result ↔ (self.old.len + length bytes.now ≤ length self.old.bytes.now) }
         ensures overflow { IfErr result (λ e. e ≡ Error.BufferOverflow (length bytes.now) (length self.old.bytes.now) self.old.len) }

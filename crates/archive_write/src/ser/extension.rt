@@ -1,8 +1,7 @@
 //! What is written to every writer.
 
 ghost use Rattle.std.specs.Prelude.{◌≡◌, ◌++◌, ◌<◌, ◌≤◌, OnOk, OnErr, IfOk, IfErr, IsErrOf, IsTrue, replicate};
-ghost use Rattle.archive_check.specs.WriterState.{writer_state, Pads};
-ghost use Rattle.archive_check.specs.Told.{KeepsKeys};
+ghost use Rattle.archive_check.specs.WriterState.{KeepsKeys, Pads};
 ghost use Rattle.archive_write.specs.Written.{IsBeginning, RoomFalls, ExplainsRefusal, padding};
 
 use crate::ser::Writer;
@@ -27,12 +26,12 @@ pub trait WriterExt: Writer {
     where
         Self: Sized,
         requires { n < 32 }
-        ensures written { OnOk result ((Self.told self.new).bytes ≡ (Self.told self.old).bytes ++ replicate n 0) }
-        ensures kept { OnErr result (IsBeginning (Self.told self.old).bytes (Self.told self.new).bytes) }
-        ensures room { RoomFalls (Self.told self.old).room (Self.told self.new).room (Self.told self.old).bytes (Self.told self.new).bytes }
-        ensures refusal { IfErr result (ExplainsRefusal n (Self.place self.old) (Self.told self.old).room (Self.told self.old).failures (Self.told self.new).failures) }
-        ensures device { (Self.told self.old).failures ≤ (Self.told self.new).failures }
-        ensures keys { KeepsKeys (Self.state_of self.old) (Self.state_of self.new) }
+        ensures written { OnOk result ((Self.state self.new).bytes ≡ (Self.state self.old).bytes ++ replicate n 0) }
+        ensures kept { OnErr result (IsBeginning (Self.state self.old).bytes (Self.state self.new).bytes) }
+        ensures room { RoomFalls (Self.state self.old).room (Self.state self.new).room (Self.state self.old).bytes (Self.state self.new).bytes }
+        ensures refusal { IfErr result (ExplainsRefusal n (Self.place self.old) (Self.state self.old).room (Self.state self.old).failures (Self.state self.new).failures) }
+        ensures device { (Self.state self.old).failures ≤ (Self.state self.new).failures }
+        ensures keys { KeepsKeys (Self.state self.old).states (Self.state self.new).states }
         ensures memory { IsErrOf result Error.OutOfMemory → IsTrue Self.takes_memory }
     {
         let zeros = [0; 32];
@@ -47,12 +46,12 @@ pub trait WriterExt: Writer {
         requires low { 0 < align }
         requires high { align ≤ 32 }
         ensures position { IfOk result (λ p. p ≡ Self.place self.new) }
-        ensures written { OnOk result ((Self.told self.new).bytes ≡ (Self.told self.old).bytes ++ replicate (padding align (Self.place self.old)) 0) }
-        ensures kept { OnErr result (IsBeginning (Self.told self.old).bytes (Self.told self.new).bytes) }
-        ensures room { RoomFalls (Self.told self.old).room (Self.told self.new).room (Self.told self.old).bytes (Self.told self.new).bytes }
-        ensures refusal { IfErr result (ExplainsRefusal (padding align (Self.place self.old)) (Self.place self.old) (Self.told self.old).room (Self.told self.old).failures (Self.told self.new).failures) }
-        ensures device { (Self.told self.old).failures ≤ (Self.told self.new).failures }
-        ensures keys { KeepsKeys (Self.state_of self.old) (Self.state_of self.new) }
+        ensures written { OnOk result ((Self.state self.new).bytes ≡ (Self.state self.old).bytes ++ replicate (padding align (Self.place self.old)) 0) }
+        ensures kept { OnErr result (IsBeginning (Self.state self.old).bytes (Self.state self.new).bytes) }
+        ensures room { RoomFalls (Self.state self.old).room (Self.state self.new).room (Self.state self.old).bytes (Self.state self.new).bytes }
+        ensures refusal { IfErr result (ExplainsRefusal (padding align (Self.place self.old)) (Self.place self.old) (Self.state self.old).room (Self.state self.old).failures (Self.state self.new).failures) }
+        ensures device { (Self.state self.old).failures ≤ (Self.state self.new).failures }
+        ensures keys { KeepsKeys (Self.state self.old).states (Self.state self.new).states }
         ensures memory { IsErrOf result Error.OutOfMemory → IsTrue Self.takes_memory }
     {
         self.pad(zeros_due(self.pos(), align))?;
@@ -65,13 +64,13 @@ pub trait WriterExt: Writer {
     where
         Self: Sized,
         ensures position { IfOk result (λ p. p ≡ Self.place self.new) }
-        ensures padded { OnOk result (Pads T.layout.align (writer_state (Self.told self.old) (Self.state_of self.old)) (writer_state (Self.told self.new) (Self.state_of self.new))) }
-        ensures written { OnOk result ((Self.told self.new).bytes ≡ (Self.told self.old).bytes ++ replicate (padding T.layout.align (Self.place self.old)) 0) }
-        ensures kept { OnErr result (IsBeginning (Self.told self.old).bytes (Self.told self.new).bytes) }
-        ensures room { RoomFalls (Self.told self.old).room (Self.told self.new).room (Self.told self.old).bytes (Self.told self.new).bytes }
-        ensures refusal { IfErr result (ExplainsRefusal (padding T.layout.align (Self.place self.old)) (Self.place self.old) (Self.told self.old).room (Self.told self.old).failures (Self.told self.new).failures) }
-        ensures device { (Self.told self.old).failures ≤ (Self.told self.new).failures }
-        ensures keys { KeepsKeys (Self.state_of self.old) (Self.state_of self.new) }
+        ensures padded { OnOk result (Pads T.layout.align (Self.state self.old) (Self.state self.new)) }
+        ensures written { OnOk result ((Self.state self.new).bytes ≡ (Self.state self.old).bytes ++ replicate (padding T.layout.align (Self.place self.old)) 0) }
+        ensures kept { OnErr result (IsBeginning (Self.state self.old).bytes (Self.state self.new).bytes) }
+        ensures room { RoomFalls (Self.state self.old).room (Self.state self.new).room (Self.state self.old).bytes (Self.state self.new).bytes }
+        ensures refusal { IfErr result (ExplainsRefusal (padding T.layout.align (Self.place self.old)) (Self.place self.old) (Self.state self.old).room (Self.state self.old).failures (Self.state self.new).failures) }
+        ensures device { (Self.state self.old).failures ≤ (Self.state self.new).failures }
+        ensures keys { KeepsKeys (Self.state self.old).states (Self.state self.new).states }
         ensures memory { IsErrOf result Error.OutOfMemory → IsTrue Self.takes_memory }
     {
         self.align(T::align())

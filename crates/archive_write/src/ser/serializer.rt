@@ -4,7 +4,7 @@ ghost use Rattle.std.specs.Prelude.{◌≡◌};
 
 use crate::ser::{Positional, Writer};
 use archive_check::format::error::Error;
-use archive_check::format::traits::{Keys, Tells};
+use archive_check::format::traits::Keys;
 use std::alloc::Allocator;
 
 /// What a value is serialized to. Each call is that of the part that it concerns. As in rkyv 0.8.18.
@@ -87,12 +87,8 @@ impl<W: Positional, A, S> Positional for Serializer<W, A, S> {
     }
 }
 
-impl<W: Tells, A, S> Tells for Serializer<W, A, S> {
-    ghost told = { λ s. W.told s.writer };
-}
-
-impl<W: Tells, A, S: Keys> Keys for Serializer<W, A, S> {
-    ghost state_of = { λ s. S.state_of s.sharing };
+impl<W: Keys, A, S: Keys> Keys for Serializer<W, A, S> {
+    ghost state = { λ s. record (W.state s.writer) { states = (S.state s.sharing).states } };
 }
 
 impl<W: Writer, A, S: Keys> Writer for Serializer<W, A, S> {

@@ -1,7 +1,7 @@
 //! Writers.
 
 ghost use Rattle.std.specs.Prelude.{◌≡◌, ◌++◌, ◌≤◌, ℕ, Bool, true, IsTrue, None, length, OnOk, OnErr, IfErr, IsErrOf, refl};
-ghost use Rattle.archive_check.specs.Told.{KeepsKeys};
+ghost use Rattle.archive_check.specs.WriterState.{KeepsKeys, no_keys};
 ghost use Rattle.archive_write.specs.Written.{IsBeginning, RoomFalls, ExplainsRefusal};
 
 use archive_check::format::error::Error;
@@ -27,16 +27,16 @@ pub trait Writer: Positional + Keys {
     /// its room is less; and with `WriterFailed`, 9, only where its device fails in this call or has failed `u64::MAX` times. After a refusal the
     /// bytes from before are a beginning of those that it holds. The shared keys are as before.
     fn write(&mut self, bytes: &[u8]) -> Result<(), Error>
-        ensures written { OnOk result ((Self.told self.new).bytes ≡ (Self.told self.old).bytes ++ bytes.now) }
-        ensures kept { OnErr result (IsBeginning (Self.told self.old).bytes (Self.told self.new).bytes) }
-        ensures room { RoomFalls (Self.told self.old).room (Self.told self.new).room (Self.told self.old).bytes (Self.told self.new).bytes }
-        ensures refusal { IfErr result (ExplainsRefusal (length bytes.now) (Self.place self.old) (Self.told self.old).room (Self.told self.old).failures (Self.told self.new).failures) }
-        ensures device { (Self.told self.old).failures ≤ (Self.told self.new).failures }
-        ensures keys { KeepsKeys (Self.state_of self.old) (Self.state_of self.new) }
+        ensures written { OnOk result ((Self.state self.new).bytes ≡ (Self.state self.old).bytes ++ bytes.now) }
+        ensures kept { OnErr result (IsBeginning (Self.state self.old).bytes (Self.state self.new).bytes) }
+        ensures room { RoomFalls (Self.state self.old).room (Self.state self.new).room (Self.state self.old).bytes (Self.state self.new).bytes }
+        ensures refusal { IfErr result (ExplainsRefusal (length bytes.now) (Self.place self.old) (Self.state self.old).room (Self.state self.old).failures (Self.state self.new).failures) }
+        ensures device { (Self.state self.old).failures ≤ (Self.state self.new).failures }
+        ensures keys { KeepsKeys (Self.state self.old).states (Self.state self.new).states }
         ensures memory { IsErrOf result Error.OutOfMemory → IsTrue takes_memory };
 
     // It stands behind the bytes that it tells.
-    ghost place_law: { (w : Self) → Self.place w ≡ length (Self.told w).bytes };
+    ghost place_law: { (w : Self) → Self.place w ≡ length (Self.state w).bytes };
 }
 
 /// What is borrowed stands where its owner does.
@@ -88,7 +88,7 @@ impl<A: Allocator> Writer for Vec<u8, A> {
         ensures room { RoomFalls None None self.old.items self.new.items }
         ensures refusal { IfErr result (ExplainsRefusal (length bytes.now) (length self.old.items) None 0 0) }
         ensures device { 0 ≤ 0 }
-        ensures keys { KeepsKeys (λ _. None) (λ _. None) }
+        ensures keys { KeepsKeys no_keys no_keys }
         ensures memory { IsErrOf result Error.OutOfMemory → IsTrue true }
         ensures unchanged { OnErr result (self.new.items ≡ self.old.items) }
         ensures out_of_memory { IfErr result (λ e. e ≡ Error.OutOfMemory) }

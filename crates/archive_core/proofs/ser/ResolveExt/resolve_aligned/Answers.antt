@@ -1,6 +1,6 @@
 use Rattle.std.proofs.Common.{arith}
 use Rattle.archive_check.specs.declared.format.error.Error.TheVariants.{OutOfMemory}
-use Rattle.archive_core.specs.Plans.{no_memory}
+use Rattle.archive_core.specs.Causes.{no_memory}
 use Rattle.archive_core.proofs.Causes.{err_by}
 use Rattle.archive_core.proofs.Regions.{fresh_front, sum_fits}
 use Rattle.archive_core.proofs.ser.ResolveExt.resolve_aligned.Goals as goal
