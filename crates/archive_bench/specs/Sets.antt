@@ -11,13 +11,21 @@ optional X = choice (codes "ArchivedOption") (variant no_part (variant (part X n
 abbrev pub numbers : Shape
 numbers = vec (leaf (number unsigned w32))
 
+-- i32s
+abbrev pub integers : Shape
+integers = vec (leaf (number signed w32))
+
 -- a u8, a string, and perhaps i32s
 abbrev pub small_record : Shape
-small_record = parts (part (leaf (number unsigned w8)) (part str (part (optional (vec (leaf (number signed w32)))) no_part)))
+small_record = parts (part (leaf (number unsigned w8)) (part str (part (optional integers) no_part)))
 
--- rows of a u64, a string and u32s
+-- a u64, a string and u32s
+abbrev pub row : Shape
+row = parts (part (leaf (number unsigned w64)) (part str (part numbers no_part)))
+
+-- rows
 abbrev pub rows : Shape
-rows = vec (parts (part (leaf (number unsigned w64)) (part str (part numbers no_part))))
+rows = vec row
 
 -- the name of a box's contents in a chain
 abbrev pub node : Name

@@ -7,12 +7,19 @@ ghost use Rattle.archive_check.specs.Expressions.{shape_of, sign_of, width_of};
 ghost use Rattle.archive_check.specs.Definitions.{no_definition, defines};
 ghost use Rattle.archive_check.specs.LeafLayout.{no_definition_reached};
 ghost use Rattle.archive_check.specs.NamedLayout.{name_has_layout, name_reached};
+ghost use Rattle.archive_check.specs.SelfCheck.Laws.{by_schema, parts_check, plain_check};
 ghost use Rattle.archive_bench.specs.Sets.{optional, numbers, small_record, rows, node, chain};
 
 use archive_core::error::Error;
+use archive_core::primitive::ArchivedU32;
+use archive_core::self_check::{BySchema, RecordCheck, VecCheck};
 use archive_core::shape::{Defs, Expr, IntegerKind, Kind, Pointee};
+use archive_core::string::ArchivedString;
 use archive_core::traits::{ArchivePointee, Portable};
+use fields::{ArchivedOptionalIntegers, ArchivedRow};
 use std::alloc::{AllocError, Global};
+
+mod fields;
 
 /// An archived `Vec<u32>`, for the set `numbers`: eight bytes, which say where the numbers stand and how many they are.
 pub struct ArchivedNumbers;
@@ -77,6 +84,8 @@ impl Portable for ArchivedNumbers {
 
     ghost layout = { record { size = 8; align = 4 } };
 
+    type Check = VecCheck<ArchivedU32>;
+
     ghost is_one = { refl };
 
     ghost is_align = { inr (inr (inl refl)) };
@@ -84,6 +93,8 @@ impl Portable for ArchivedNumbers {
     ghost has_layout = { record { solved = λ s k. refl } };
 
     ghost no_others = { no_definition_reached numbers };
+
+    ghost checks = { λ direct. plain_check numbers 8 refl refl };
 
     fn size() -> usize {
         8
@@ -121,6 +132,8 @@ impl Portable for ArchivedRecord {
 
     ghost layout = { record { size = 24; align = 4 } };
 
+    type Check = RecordCheck<(u8, (ArchivedString, (ArchivedOptionalIntegers, ())))>;
+
     ghost is_one = { refl };
 
     ghost is_align = { inr (inr (inl refl)) };
@@ -128,6 +141,8 @@ impl Portable for ArchivedRecord {
     ghost has_layout = { record { solved = λ s k. refl } };
 
     ghost no_others = { no_definition_reached small_record };
+
+    ghost checks = { λ direct. parts_check small_record 24 _ 24 refl refl refl (λ t. (tt, (tt, (tt, tt)))) };
 
     fn size() -> usize {
         24
@@ -168,6 +183,8 @@ impl Portable for ArchivedRows {
 
     ghost layout = { record { size = 8; align = 4 } };
 
+    type Check = VecCheck<ArchivedRow>;
+
     ghost is_one = { refl };
 
     ghost is_align = { inr (inr (inl refl)) };
@@ -175,6 +192,8 @@ impl Portable for ArchivedRows {
     ghost has_layout = { record { solved = λ s k. refl } };
 
     ghost no_others = { no_definition_reached rows };
+
+    ghost checks = { λ direct. plain_check rows 8 refl refl };
 
     fn size() -> usize {
         8
@@ -215,6 +234,8 @@ impl Portable for ArchivedNode {
 
     ghost layout = { record { size = 8; align = 4 } };
 
+    type Check = BySchema;
+
     ghost is_one = { refl };
 
     ghost is_align = { inr (inr (inl refl)) };
@@ -222,6 +243,8 @@ impl Portable for ArchivedNode {
     ghost has_layout = { name_has_layout node chain (record { size = 8; align = 4 }) (λ s k. refl) };
 
     ghost no_others = { name_reached node chain };
+
+    ghost checks = { λ direct. by_schema direct };
 
     fn size() -> usize {
         8

@@ -47,3 +47,4 @@ pub mod StandingBytes
 pub mod CleanRegions
 pub mod Tightness
 pub mod UniqueBefore
+pub mod SelfCheck

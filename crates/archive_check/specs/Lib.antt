@@ -41,5 +41,7 @@ pub mod Pooled
 pub mod Unshared
 pub mod CleanRegions
 pub mod WriterState
+pub mod OneSchema
+pub mod SelfCheck
 pub mod plan
 pub mod check

@@ -6,4 +6,5 @@ pub mod context;
 pub mod format;
 pub mod laws;
 mod plan;
+pub mod self_check;
 pub mod shape;

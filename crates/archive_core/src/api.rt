@@ -16,13 +16,17 @@ ghost use Rattle.archive_core.specs.Plans.{at_start, unshared};
 ghost use Rattle.archive_core.specs.Writing.{Archives};
 ghost use Rattle.archive_write.specs.Written.{GoesOn};
 
+mod kept;
+
 use crate::ser::{Serializer, Writer, serialize_one};
 use crate::traits::{Archive, Deserialize, Entries, Keys, Portable, Serialize};
 use crate::view::{Part, Ref};
 pub use archive_check::context::HighValidator;
 use archive_check::context::{ArchiveContext, SharedContext};
 use archive_check::format::error::Error;
+use archive_check::self_check::{SelfCheck, check_root};
 use archive_check::shape::Schema;
+pub use kept::Access;
 use std::alloc::Global;
 
 /// Where the root of an archive of `len` bytes lies: so many bytes before its end as a `T` has, or at 0 where there are fewer.
@@ -100,6 +104,9 @@ pub fn check_pos_with_context<T: Portable, C: ArchiveContext + SharedContext>(
     ensures exact { IfErr result (λ e. IsWhole (C.state context.old) (C.positions context.old) bytes.now → ExplainsNoArchive T.definitions bytes.now (C.state context.old).depth pos T.shape e) }
 {
     prove!(bytes.len() <= usize::MAX);
+    if T::Check::is_direct() {
+        return check_root::<T, C>(bytes, pos, context);
+    }
     let schema = Schema::of::<T>(alloc)?;
     schema.check(bytes, pos, context)
 }

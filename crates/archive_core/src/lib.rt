@@ -12,4 +12,4 @@ pub mod traits;
 pub mod view;
 
 pub use archive_check::format::error;
-pub use archive_check::{context as validation, laws, shape};
+pub use archive_check::{context as validation, laws, self_check, shape};

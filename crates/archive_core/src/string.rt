@@ -6,6 +6,7 @@ ghost use Rattle.std.proofs.Common.{inl, inr};
 ghost use Rattle.archive_check.specs.Shape.{str as str_shape, one, text};
 ghost use Rattle.archive_check.specs.Definitions.{no_definition};
 ghost use Rattle.archive_check.specs.LeafLayout.{no_definition_reached};
+ghost use Rattle.archive_check.specs.SelfCheck.Laws.{plain_check};
 ghost use Rattle.archive_check.specs.Reads.{bytes_at};
 ghost use Rattle.archive_check.specs.Readable.{string_text};
 ghost use Rattle.archive_check.specs.Value.{text_value};
@@ -34,6 +35,7 @@ use archive_check::format::bytes::{
     inline_length, is_out_of_line, read_coded_length, read_target, read_text,
 };
 use archive_check::format::error::Error;
+use archive_check::self_check::StringCheck;
 use archive_check::shape::{Defs, Expr};
 use archive_write::ser::Writer;
 use std::alloc::Global;
@@ -91,6 +93,8 @@ impl Portable for ArchivedString {
 
     ghost layout = { record { size = 8; align = 4 } };
 
+    type Check = StringCheck;
+
     ghost is_one = { refl };
 
     ghost is_align = { inr (inr (inl refl)) };
@@ -98,6 +102,8 @@ impl Portable for ArchivedString {
     ghost has_layout = { record { solved = λ s k. refl } };
 
     ghost no_others = { no_definition_reached str_shape };
+
+    ghost checks = { λ direct. plain_check str_shape 8 refl refl };
 
     fn size() -> usize {
         8

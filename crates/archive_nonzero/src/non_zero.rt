@@ -1,15 +1,19 @@
 // The format of a number that isn't 0.
 
-ghost use Rattle.std.specs.Prelude.{◌≡◌, false, ⊤, refl};
+ghost use Rattle.std.specs.Prelude.{◌≡◌, true, false, ⊤, refl};
 ghost use Rattle.archive_check.specs.Shape.{leaf, one, non_zero};
+ghost use Rattle.archive_check.specs.Layout.{kind_size};
 ghost use Rattle.archive_check.specs.Definitions.{no_definition};
 ghost use Rattle.archive_check.specs.LeafLayout.{leaf_layout, leaf_align, leaf_has_layout, no_definition_reached};
+ghost use Rattle.archive_check.specs.SelfCheck.Laws.{leaf_check};
 ghost use Rattle.archive_check.specs.Expressions.{kind_of};
 ghost use Rattle.archive_num.specs.Digits.{is_zero};
 
 use archive_check::format::error::Error;
 use archive_check::format::expr::{Defs, Expr, Kind};
+use archive_check::self_check::{SelfCheck, check_leaf};
 use archive_check::format::traits::{ArchivePointee, Portable};
+use archive_check::context::ArchiveContext;
 use archive_num::Integer;
 use std::alloc::{AllocError, Global};
 use std::cmp::Ordering;
@@ -96,6 +100,8 @@ impl<N: Integer> Portable for NonZero<N> {
 
     ghost layout = { leaf_layout (non_zero N.sign N.width) };
 
+    type Check = NonZero<N>;
+
     ghost is_one = { refl };
 
     ghost is_align = { leaf_align (non_zero N.sign N.width) };
@@ -103,6 +109,8 @@ impl<N: Integer> Portable for NonZero<N> {
     ghost has_layout = { leaf_has_layout (non_zero N.sign N.width) };
 
     ghost no_others = { no_definition_reached (leaf (non_zero N.sign N.width)) };
+
+    ghost checks = { λ direct. leaf_check (non_zero N.sign N.width) };
 
     fn size() -> usize {
         non_zero_kind::<N>().size()
@@ -118,5 +126,29 @@ impl<N: Integer> Portable for NonZero<N> {
 
     fn define(_alloc: Global, _defs: &mut Defs) -> Result<(), Error> {
         Ok(())
+    }
+}
+
+impl<N: Integer> SelfCheck for NonZero<N> {
+    ghost shape = { leaf (non_zero N.sign N.width) };
+
+    ghost definitions = { no_definition };
+
+    ghost span = { kind_size (non_zero N.sign N.width) };
+
+    ghost direct = { true };
+
+    fn is_direct() -> bool {
+        true
+    }
+
+    #[inline(always)]
+    fn check_at<C: ArchiveContext>(
+        bytes: &[u8],
+        at: usize,
+        refusal: &mut Error,
+        context: &mut C,
+    ) -> Option<()> {
+        check_leaf(non_zero_kind::<N>(), bytes, at, refusal, context)
     }
 }

@@ -1,14 +1,18 @@
 //! The format of a number.
 
-ghost use Rattle.std.specs.Prelude.{◌≡◌, refl};
+ghost use Rattle.std.specs.Prelude.{◌≡◌, refl, true};
 ghost use Rattle.archive_check.specs.Shape.{leaf, one};
+ghost use Rattle.archive_check.specs.Layout.{kind_size};
 ghost use Rattle.archive_check.specs.Definitions.{no_definition};
 ghost use Rattle.archive_check.specs.LeafLayout.{leaf_layout, leaf_align, leaf_has_layout, no_definition_reached};
+ghost use Rattle.archive_check.specs.SelfCheck.Laws.{leaf_check};
 
 use crate::Native;
 use archive_check::format::error::Error;
 use archive_check::format::expr::{Defs, Expr};
+use archive_check::self_check::{SelfCheck, check_leaf};
 use archive_check::format::traits::{ArchivePointee, Portable};
+use archive_check::context::ArchiveContext;
 use std::alloc::{AllocError, Global};
 use std::cmp::Ordering;
 use std::fmt;
@@ -73,6 +77,8 @@ impl<N: Native> Portable for LittleEndian<N> {
 
     ghost layout = { leaf_layout N.kind };
 
+    type Check = LittleEndian<N>;
+
     ghost is_one = { refl };
 
     ghost is_align = { leaf_align N.kind };
@@ -80,6 +86,8 @@ impl<N: Native> Portable for LittleEndian<N> {
     ghost has_layout = { leaf_has_layout N.kind };
 
     ghost no_others = { no_definition_reached (leaf N.kind) };
+
+    ghost checks = { λ direct. leaf_check N.kind };
 
     fn size() -> usize {
         N::kind().size()
@@ -95,5 +103,29 @@ impl<N: Native> Portable for LittleEndian<N> {
 
     fn define(_alloc: Global, _defs: &mut Defs) -> Result<(), Error> {
         Ok(())
+    }
+}
+
+impl<N: Native> SelfCheck for LittleEndian<N> {
+    ghost shape = { leaf N.kind };
+
+    ghost definitions = { no_definition };
+
+    ghost span = { kind_size N.kind };
+
+    ghost direct = { true };
+
+    fn is_direct() -> bool {
+        true
+    }
+
+    #[inline(always)]
+    fn check_at<C: ArchiveContext>(
+        bytes: &[u8],
+        at: usize,
+        refusal: &mut Error,
+        context: &mut C,
+    ) -> Option<()> {
+        check_leaf(N::kind(), bytes, at, refusal, context)
     }
 }

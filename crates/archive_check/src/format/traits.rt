@@ -1,17 +1,19 @@
 //! What archived types, keys and entries tell of themselves.
 
-ghost use Rattle.std.specs.Prelude.{◌≡◌, ◌⊎◌, ℕ, min, Bool, true, Option, None, Contains, OnOk, IfOk, IfErr};
+ghost use Rattle.std.specs.Prelude.{◌≡◌, ◌⊎◌, ℕ, min, Bool, true, IsTrue, Option, None, Contains, OnOk, IfOk, IfErr};
 ghost use Rattle.archive_check.specs.Shape.{Name, Shape, Pointee, one};
 ghost use Rattle.archive_check.specs.Layout.{Layout as LayoutOf};
 ghost use Rattle.archive_check.specs.Expressions.{shape_of, table_of};
 ghost use Rattle.archive_check.specs.Definitions.{Definitions, HasLayout, IsAlign, listed, Extended, Conflicts};
 ghost use Rattle.archive_check.specs.Defined.{Reaches};
+ghost use Rattle.archive_check.specs.SelfCheck.Laws.{IsCheckOf};
 ghost use Rattle.archive_check.specs.Value.{Value};
 ghost use Rattle.archive_check.specs.WriterState.{WriterState, no_keys, only_keys, only_bytes};
 ghost use Rattle.archive_check.specs.declared.format.error.Error.TheVariants.{OutOfMemory, ShapeConflict};
 
 use crate::format::error::Error;
 use crate::format::expr::{Defs, Expr};
+use crate::self_check::SelfCheck;
 use std::alloc::{Allocator, Global};
 
 mod layouts;
@@ -47,6 +49,9 @@ pub trait Portable: ArchivePointee {
     // Its size and alignment.
     ghost layout: { LayoutOf };
 
+    /// The check of its values where they lie. `BySchema` where they share something or hold themselves: then a schema checks them.
+    type Check: SelfCheck;
+
     /// The size in bytes, `usize::MAX` where it is that or more.
     fn size() -> usize
         ensures { result ≡ min layout.size 18446744073709551615 };
@@ -73,6 +78,8 @@ pub trait Portable: ArchivePointee {
     ghost has_layout: { HasLayout Self.definitions shape layout };
 
     ghost no_others: { (name : Name) (X : Shape) → Contains (listed Self.definitions) (name, X) → Reaches (listed Self.definitions) name shape };
+
+    ghost checks: { IsTrue Self.Check.direct → IsCheckOf Self.definitions shape layout.size Self.Check.definitions Self.Check.shape Self.Check.span };
 }
 
 /// What tells contracts the state of a writer: its bytes, its room, its device's failures and the states of the shared keys. It has no calls. Our own.

@@ -10,7 +10,9 @@ ghost use Rattle.archive_check.specs.Value.{list, number as number_value};
 ghost use Rattle.archive_core.specs.Causes.{HindersAt};
 ghost use Rattle.archive_core.specs.Writing.{Fresh, Resolves};
 ghost use Rattle.archive_tests.specs.Repeated.{numbers_keyed, repeated};
+ghost use Rattle.archive_check.specs.SelfCheck.Laws.{by_schema};
 
+use archive_check::self_check::BySchema;
 use archive_core::api::access;
 use archive_core::error::Error;
 use archive_core::place::Place;
@@ -46,6 +48,8 @@ impl Portable for ArchivedSevens {
 
     ghost layout = { record { size = 100; align = 4 } };
 
+    type Check = BySchema;
+
     ghost is_one = { refl };
 
     ghost is_align = { inr (inr (inl refl)) };
@@ -53,6 +57,8 @@ impl Portable for ArchivedSevens {
     ghost has_layout = { record { solved = λ s k. refl } };
 
     ghost no_others = { no_definition_reached (array 25 (leaf (number unsigned w32))) };
+
+    ghost checks = { λ direct. by_schema direct };
 
     fn size() -> usize {
         100

@@ -11,7 +11,9 @@ ghost use Rattle.archive_check.specs.Definitions.{no_definition, defines, IsAlig
 ghost use Rattle.archive_check.specs.LeafLayout.{no_definition_reached};
 ghost use Rattle.archive_check.specs.NamedLayout.{name_has_layout, name_reached};
 ghost use Rattle.archive_tests.specs.Forms.{rc, reaches_around};
+ghost use Rattle.archive_check.specs.SelfCheck.Laws.{by_schema};
 
+use archive_check::self_check::BySchema;
 use archive_check::format::error::Error;
 use archive_check::format::expr::{Defs, Expr, FlavorInfo, Pointee};
 use archive_check::format::layout::Layout;
@@ -69,6 +71,8 @@ impl<F: Form> Portable for Plain<F> {
 
     ghost layout = { F.layout };
 
+    type Check = BySchema;
+
     ghost is_one = { refl };
 
     ghost is_align = { F.is_align };
@@ -76,6 +80,8 @@ impl<F: Form> Portable for Plain<F> {
     ghost has_layout = { record { solved = λ s k. F.laid_out s.layouts } };
 
     ghost no_others = { no_definition_reached F.shape };
+
+    ghost checks = { λ direct. by_schema direct };
 
     fn size() -> usize {
         F::size_and_align().size
@@ -127,6 +133,8 @@ impl<F: Definition> Portable for Named<F> {
 
     ghost layout = { F.layout };
 
+    type Check = BySchema;
+
     ghost is_one = { refl };
 
     ghost is_align = { F.is_align };
@@ -134,6 +142,8 @@ impl<F: Definition> Portable for Named<F> {
     ghost has_layout = { name_has_layout F.name F.shape F.layout (λ s k. F.laid_out s.layouts) };
 
     ghost no_others = { name_reached F.name F.shape };
+
+    ghost checks = { λ direct. by_schema direct };
 
     fn size() -> usize {
         F::size_and_align().size
@@ -199,6 +209,8 @@ impl<A: Around, T: Portable> Portable for Behind<A, T> {
 
     ghost layout = { record { size = A.size; align = 4 } };
 
+    type Check = BySchema;
+
     ghost is_one = { refl };
 
     ghost is_align = { inr (inr (inl refl)) };
@@ -206,6 +218,8 @@ impl<A: Around, T: Portable> Portable for Behind<A, T> {
     ghost has_layout = { record { solved = λ s k. A.laid_out s.layouts T.shape } };
 
     ghost no_others = { λ name X c. reaches_around (A.mentions T.shape) (T.no_others name X c) };
+
+    ghost checks = { λ direct. by_schema direct };
 
     fn size() -> usize {
         A::size()
@@ -382,6 +396,8 @@ impl<T: Portable, const N: usize> Portable for Array<T, N> {
 
     ghost layout = { record { size = N * T.layout.size; align = T.layout.align } };
 
+    type Check = BySchema;
+
     ghost is_one = { refl };
 
     ghost is_align = { T.is_align };
@@ -389,6 +405,8 @@ impl<T: Portable, const N: usize> Portable for Array<T, N> {
     ghost has_layout = { record { solved = λ s k. ap (λ l. record { size = N * l.size; align = l.align }) (T.has_layout.solved s k) } };
 
     ghost no_others = { λ name X c. reaches_around (λ _ m. mentions_array m) (T.no_others name X c) };
+
+    ghost checks = { λ direct. by_schema direct };
 
     fn size() -> usize {
         N.saturating_mul(T::size())

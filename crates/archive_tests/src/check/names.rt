@@ -11,6 +11,9 @@ ghost use Rattle.archive_tests.specs.Forms.{u64 as number64, tagged, itself, rea
 
 use super::forms::{Id, pair_of};
 use super::marks::Named;
+ghost use Rattle.archive_check.specs.SelfCheck.Laws.{by_schema};
+
+use archive_check::self_check::BySchema;
 use archive_check::format::error::Error;
 use archive_check::format::expr::{Defs, Expr, Pointee};
 use archive_check::format::traits::{ArchivePointee, Portable};
@@ -38,6 +41,8 @@ impl Portable for Tagged {
 
     ghost layout = { record { size = 16; align = 8 } };
 
+    type Check = BySchema;
+
     ghost is_one = { refl };
 
     ghost is_align = { inr (inr (inr (inl refl))) };
@@ -45,6 +50,8 @@ impl Portable for Tagged {
     ghost has_layout = { record { solved = λ s k. ap (λ l. layout_of (λ _. l) (tagged (codes "ArchivedId"))) (k.laid_out.solves (codes "ArchivedId") number64 k.has) } };
 
     ghost no_others = { λ name X c. reaches_around (λ _ m. mentions_parts (mentions_later (mentions_first m))) (name_reached (codes "ArchivedId") number64 name X c) };
+
+    ghost checks = { λ direct. by_schema direct };
 
     fn size() -> usize {
         16
@@ -85,6 +92,8 @@ impl Portable for Endless {
 
     ghost layout = { record { size = 4; align = 4 } };
 
+    type Check = BySchema;
+
     ghost is_one = { refl };
 
     ghost is_align = { inr (inr (inl refl)) };
@@ -92,6 +101,8 @@ impl Portable for Endless {
     ghost has_layout = { record { solved = λ s k. refl } };
 
     ghost no_others = { λ name X c. reaches_around (λ _ m. mentions_boxed (mentions_one m)) (name_reached (codes "Itself") itself name X c) };
+
+    ghost checks = { λ direct. by_schema direct };
 
     fn size() -> usize {
         4

@@ -5,6 +5,7 @@ ghost use Rattle.std.specs.Int.{w8};
 ghost use Rattle.archive_check.specs.Shape.{one, leaf, unit, bool, number, unsigned, signed};
 ghost use Rattle.archive_check.specs.Definitions.{no_definition};
 ghost use Rattle.archive_check.specs.LeafLayout.{leaf_layout, leaf_align, leaf_has_layout, no_definition_reached};
+ghost use Rattle.archive_check.specs.SelfCheck.Laws.{leaf_check};
 
 use super::{ArchivePointee, Portable};
 use crate::format::error::Error;
@@ -30,6 +31,8 @@ impl Portable for () {
 
     ghost layout = { leaf_layout unit };
 
+    type Check = ();
+
     ghost is_one = { refl };
 
     ghost is_align = { leaf_align unit };
@@ -37,6 +40,8 @@ impl Portable for () {
     ghost has_layout = { leaf_has_layout unit };
 
     ghost no_others = { no_definition_reached (leaf unit) };
+
+    ghost checks = { λ direct. leaf_check unit };
 
     fn size() -> usize {
         0
@@ -74,6 +79,8 @@ impl Portable for bool {
 
     ghost layout = { leaf_layout bool };
 
+    type Check = bool;
+
     ghost is_one = { refl };
 
     ghost is_align = { leaf_align bool };
@@ -81,6 +88,8 @@ impl Portable for bool {
     ghost has_layout = { leaf_has_layout bool };
 
     ghost no_others = { no_definition_reached (leaf bool) };
+
+    ghost checks = { λ direct. leaf_check bool };
 
     fn size() -> usize {
         1
@@ -118,6 +127,8 @@ impl Portable for u8 {
 
     ghost layout = { leaf_layout (number unsigned w8) };
 
+    type Check = u8;
+
     ghost is_one = { refl };
 
     ghost is_align = { leaf_align (number unsigned w8) };
@@ -125,6 +136,8 @@ impl Portable for u8 {
     ghost has_layout = { leaf_has_layout (number unsigned w8) };
 
     ghost no_others = { no_definition_reached (leaf (number unsigned w8)) };
+
+    ghost checks = { λ direct. leaf_check (number unsigned w8) };
 
     fn size() -> usize {
         1
@@ -162,6 +175,8 @@ impl Portable for i8 {
 
     ghost layout = { leaf_layout (number signed w8) };
 
+    type Check = i8;
+
     ghost is_one = { refl };
 
     ghost is_align = { leaf_align (number signed w8) };
@@ -169,6 +184,8 @@ impl Portable for i8 {
     ghost has_layout = { leaf_has_layout (number signed w8) };
 
     ghost no_others = { no_definition_reached (leaf (number signed w8)) };
+
+    ghost checks = { λ direct. leaf_check (number signed w8) };
 
     fn size() -> usize {
         1

@@ -1,0 +1,156 @@
+-- Regions are entered, and what they hold is gone through or refused.
+use Rattle.std.proofs.Common.{◌≡◌, ◌≢◌, ℕ, zero, suc, ℤ, pos, negsuc, refl, sym, ap, ◌∙◌, ◌+◌, ◌-◌, ◌%◌, ◌<◌, ◌≤◌, nat_le, nat_eq, Bool, true, false, arith, List, Option, Some, None, Ok, Err}
+use Rattle.std.proofs.lemmas.Bool.Decides.{nat_tests}
+use Rattle.archive_check.specs.declared.format.error.Error.{Error}
+use Rattle.archive_check.specs.declared.format.error.Error.TheVariants.{ExceededMaximumSubtreeDepth}
+use Rattle.archive_check.specs.declared.check.Region.{Region}
+use Rattle.archive_check.specs.Value.{Pointer}
+use Rattle.archive_check.specs.Reads.{Schema}
+use Rattle.archive_check.specs.Depth.{Allows, inside}
+use Rattle.archive_check.specs.Ranges.{RangeState, subtree_answer, pushed, one_more, pop_answer, popped}
+use Rattle.archive_check.specs.Tour.{Seen, region_of, pointee_size, pointee_align}
+use Rattle.archive_check.specs.Walk.{enter}
+use Rattle.archive_check.specs.Trail.{Fault, outside, unaligned, too_deep, TripsEnter, trips_size, trips_range, trips_align, trips_depth, trips_within}
+use Rattle.archive_check.specs.Faults.{IsFor}
+use Rattle.archive_check.specs.Definitions.{Definitions, Knows}
+use Rattle.archive_check.specs.check.Runs.{refused}
+use Rattle.archive_check.specs.check.Entered.{Lands}
+use Rattle.archive_check.specs.check.LoopInvariant.{HasLevels}
+use Rattle.archive_check.specs.plan.BoundedSizes.{fits}
+use Rattle.archive_check.specs.SelfCheck.Ways.{Goes, Halts, enter_way}
+use Rattle.archive_check.specs.SelfCheck.Regions.{NotEntered, not_sized, not_within, not_aligned, not_allowed, EntersNot, Begun, contents_way}
+use Rattle.archive_check.proofs.plan.BoundedSizes.{some_is, some_below, none_is}
+use Rattle.archive_check.proofs.check.ContextAgrees.{taken_back, not_taken}
+
+-- what a refusal of the range says
+negative : (n t : ℕ) → negsuc n ≡ pos t → ⊥
+negative n t e = cc
+
+pos_same : (n t : ℕ) → pos n ≡ pos t → n ≡ t
+pos_same n t e = cc
+
+pub astray : (s : RangeState) (z : ℤ) (size align : ℕ) (e : Error) → Err e ≡ subtree_answer s z size align → EntersNot s z align (Some size) e
+astray s (negsuc k) size align e h some = (outside (negsuc k) size s.start s.end, cc, not_within (λ t is above below. negative k t is))
+astray s (pos k) size align e h some = astray_by s k size align e (nat_le s.start k) (nat_le (k + size) s.end) (nat_eq (k % align) 0) refl refl refl h
+  where
+    astray_by : (s : RangeState) (k : ℕ) (size align : ℕ) (e : Error) → (a b d : Bool) → nat_le s.start k ≡ a → nat_le (k + size) s.end ≡ b → nat_eq (k % align) 0 ≡ d → Err e ≡ subtree_answer s (pos k) size align
+        → (f : Fault) × IsFor f e × NotEntered s (pos k) align (Some size) f
+    astray_by s k size align e true true true p q r h = absurd (grind (arith, nat_tests))
+    astray_by s k size align e true true false p q r h =
+        (unaligned k align, grind (arith, nat_tests), not_aligned refl (grind (arith, nat_tests)) (grind (arith, nat_tests)) (λ u. grind (arith, nat_tests)))
+    astray_by s k size align e true false d p q r h =
+        (outside (pos k) size s.start s.end, grind (arith, nat_tests), not_within (λ t is above below. let same : k ≡ t = pos_same k t is in grind (arith, nat_tests)))
+    astray_by s k size align e false b d p q r h =
+        (outside (pos k) size s.start s.end, grind (arith, nat_tests), not_within (λ t is above below. let same : k ≡ t = pos_same k t is in grind (arith, nat_tests)))
+
+-- the last level lets no region be entered
+last_level : (d : Option ℕ) → d ≡ Some 1 → Allows d 1 → ⊥
+last_level None e a = cc
+last_level (Some n) e a = let one : n ≡ 1 = cc in omega arith
+
+pub stopped_deep : (s : RangeState) (z : ℤ) (size align t : ℕ) (e : Error) → Lands s z size align t → s.depth ≡ Some 1 → e ≡ ExceededMaximumSubtreeDepth → EntersNot s z align (Some size) e
+stopped_deep s z size align t e at deep is some = (too_deep, is, not_allowed at (last_level s.depth deep))
+
+levels_allow : (d : Option ℕ) → d ≢ Some 0 → (d ≡ Some 1 → ⊥) → Allows d 1
+levels_allow None some deep = tt
+levels_allow (Some zero) some deep = absurd (some refl)
+levels_allow (Some (suc zero)) some deep = absurd (deep refl)
+levels_allow (Some (suc (suc n))) some deep = omega arith
+
+levels_inside : (d : Option ℕ) → HasLevels d → (d ≡ Some 1 → ⊥) → HasLevels (inside d)
+levels_inside None h deep = record { levels = λ e. cc; few = λ d e. cc }
+levels_inside (Some zero) h deep = absurd (h.levels refl)
+levels_inside (Some (suc zero)) h deep = absurd (deep refl)
+levels_inside (Some (suc (suc n))) h deep = record {
+  levels = λ e. let none : suc (suc n) - 1 ≡ 0 = cc in omega arith;
+  few = λ d e. let same : suc (suc n) - 1 ≡ d = cc in omega (arith, h.few (suc (suc n)) refl);
+}
+
+inside_few : (depth : Option ℕ) → HasLevels depth → (d : ℕ) → inside depth ≡ Some d → d + 1 < 18446744073709551616
+inside_few None h d e = cc
+inside_few (Some n) h d e = let same : n - 1 ≡ d = cc in let some : n ≢ 0 = (λ z. h.levels (ap Some z)) in omega (arith, h.few n refl)
+
+level_back : (d : Option ℕ) → d ≢ Some 0 → one_more (inside d) ≡ d
+level_back None some = refl
+level_back (Some zero) some = absurd (some refl)
+level_back (Some (suc n)) some = let same : suc n - 1 + 1 ≡ suc n = omega arith in ap Some same
+
+-- what the calls on the range say of a region that is entered
+pub lands : (s : RangeState) (z : ℤ) (size align t : ℕ) (u : Unit {0}) → z ≡ pos t → Ok u ≡ subtree_answer s z size align → Lands s z size align t
+lands s (negsuc n) size align t u e h = cc
+lands s (pos n) size align t u e h =
+    let same : n ≡ t = cc in
+    record { target = e; above = grind (arith, nat_tests); below = grind (arith, nat_tests); aligned = grind (arith, nat_tests) }
+
+pub begun : (s s1 s2 : RangeState) (z : ℤ) (align : ℕ) (r : Region) (u : Unit {0})
+    → z ≡ pos r.begin → Ok u ≡ subtree_answer s z r.size align
+    → s1 ≡ s → s2 ≡ pushed s1 r.begin → (s1.depth ≡ Some 1 → ⊥) → (r.outer_start ≡ r.begin + r.size) × (r.outer_end ≡ s1.end)
+    → Begun s s2 z align r
+begun s s1 s2 z align r u target v same pushes deep ends =
+    let p : s2 ≡ pushed s r.begin = pushes ∙ ap (λ q. pushed q r.begin) same in
+    record {
+      lands = lands s z r.size align r.begin u target v;
+      start = ap (λ q. q.start) p;
+      end = ap (λ q. q.end) p;
+      depth = ap (λ q. q.depth) p;
+      deep = λ e. deep (ap (λ q. q.depth) same ∙ e);
+      outer_start = ends.0;
+      outer_end = ends.1 ∙ ap (λ q. q.end) same;
+    }
+
+-- a region of N bytes, aligned so, whatever schema knows the definitions
+module _ (D : Definitions) (bytes : List ℕ) (p : Pointer) (N align : ℕ)
+    (sized : (t : Schema) → Knows t D → pointee_size t p.pointee p.length ≡ N)
+    (aligned : (t : Schema) → Knows t D → pointee_align t p.pointee ≡ align)
+    (s : RangeState) where
+  trips_not : (size : Option ℕ) (f : Fault) → size ≡ fits N → NotEntered s p.target align size f → (t : Schema) → Knows t D → (pending : List ℕ) (seen : Seen) → TripsEnter t bytes pending s.depth s.end p s.start seen f
+  trips_not _ _ e not_sized t k pending seen = trips_size {stop = s.end} {start = s.start} {p = p} (omega (arith, none_is (sym e), sized t k))
+  trips_not _ _ e (not_within {n = n} out) t k pending seen =
+      let same : pointee_size t p.pointee p.length ≡ n = sized t k ∙ some_is (sym e) in
+      rw (← same) (trips_range {stop = s.end} {start = s.start} {p = p} (omega (arith, same, some_below N (sym e))) (λ q is above below. out q is above (omega (arith, same, below))))
+  trips_not _ _ e (not_aligned {n = n} {t = q} is above below not) t k pending seen =
+      let same : pointee_size t p.pointee p.length ≡ n = sized t k ∙ some_is (sym e) in
+      let al : pointee_align t p.pointee ≡ align = aligned t k in
+      rw (← al) (trips_align {stop = s.end} {start = s.start} {p = p} is above (omega (arith, same, below)) (λ h. not (rw al at h)))
+  trips_not _ _ e (not_allowed {n = n} {t = q} at not) t k pending seen =
+      let same : pointee_size t p.pointee p.length ≡ n = sized t k ∙ some_is (sym e) in
+      let al : pointee_align t p.pointee ≡ align = aligned t k in
+      trips_depth {stop = s.end} {start = s.start} {p = p} at.target at.above (omega (arith, same, at.below)) (rw al at.aligned) not
+
+  pub enters_not : (size : Option ℕ) (e : Error) → size ≡ fits N → EntersNot s p.target align size e → Halts D (enter_way bytes p) s e
+  enters_not size e is not some = let f = not some in (f.0, f.1, trips_not size f.0 is f.2)
+
+  module _ (s' : RangeState) (r : Region) (is : Some r.size ≡ fits N) (h : Begun s s' p.target align r) where
+    within : HasLevels s.depth → HasLevels s'.depth
+    within some = rw h.depth (levels_inside s.depth some h.deep)
+
+    room : (t : Schema) → Knows t D → r.begin + (region_of t p r.begin).size ≤ s.end
+    room t k = omega (arith, sized t k, some_is (sym is), h.lands.below)
+
+    -- what the region holds is gone through, and it is left
+    pub region_goes : (s1 s2 : RangeState) → Goes D (contents_way bytes r.begin p.pointee p.length) s' s1 → s2 ≡ popped s1 r.outer_start r.outer_end → Goes D (enter_way bytes p) s s2
+    region_goes s1 s2 goes left = record {
+      end = ap (λ q. q.end) left ∙ h.outer_end;
+      depth = λ some. ap (λ q. q.depth) left ∙ ap one_more (goes.depth (within some) ∙ h.depth) ∙ level_back s.depth some.levels;
+      runs = λ some t k pending seen.
+          let c = rw (h.depth, h.end, h.start) at (goes.runs (within some) t k pending seen) in
+          let al : pointee_align t p.pointee ≡ align = aligned t k in
+          let start : s2.start ≡ r.begin + (region_of t p r.begin).size = ap (λ q. q.start) left ∙ h.outer_start ∙ ap (λ n. r.begin + n) (sym (sized t k ∙ some_is (sym is))) in
+          (r.begin, rw start (enter {p = p} h.lands.target h.lands.above (room t k) (rw al h.lands.aligned) (levels_allow s.depth some.levels h.deep) c));
+    }
+
+    -- a region whose contents are gone through can be left
+    pub region_left : (s1 : RangeState) (e : Error) → Goes D (contents_way bytes r.begin p.pointee p.length) s' s1 → pop_answer s1 r.outer_start ≡ Err e → Halts D (enter_way bytes p) s e
+    region_left s1 e goes fails some =
+        let end : s1.end ≡ r.begin = goes.end ∙ h.end in
+        let fine = taken_back s1 r.outer_start (omega (arith, end, h.outer_start)) (λ d f. inside_few s.depth some d (sym (goes.depth (within some) ∙ h.depth) ∙ f)) in
+        absurd (not_taken s1 r.outer_start e fails fine)
+
+    -- what the region holds is refused
+    trips_inner : HasLevels s.depth → (f : Fault) (t : Schema) → Knows t D → (pending : List ℕ) (seen : Seen) → contents_way bytes r.begin p.pointee p.length t pending s'.depth s'.end s'.start seen (refused f) → TripsEnter t bytes pending s.depth s.end p s.start seen f
+    trips_inner some f t k pending seen w =
+        let al : pointee_align t p.pointee ≡ align = aligned t k in
+        trips_within {p = p} h.lands.target h.lands.above (room t k) (rw al h.lands.aligned) (levels_allow s.depth some.levels h.deep) (rw (h.depth, h.end, h.start) at w)
+
+    pub region_halts : (e : Error) → Halts D (contents_way bytes r.begin p.pointee p.length) s' e → Halts D (enter_way bytes p) s e
+    region_halts e halts some = let f = halts (within some) in (f.0, f.1, λ t k pending seen. trips_inner some f.0 t k pending seen (f.2 t k pending seen))

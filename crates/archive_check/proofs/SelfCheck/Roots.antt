@@ -1,0 +1,50 @@
+-- What a check that follows a type alone says of a whole buffer: the root is entered as any region is.
+use Rattle.std.proofs.Common.{◌≡◌, ℕ, refl, sym, inr, ◌<◌, ◌^◌, List, [], length, Option, Contains}
+use Rattle.std.specs.FinMap.{empty}
+use Rattle.archive_check.specs.declared.format.error.Error.{Error}
+use Rattle.archive_check.specs.Shape.{Name, Shape}
+use Rattle.archive_check.specs.Reads.{Schema}
+use Rattle.archive_check.specs.Tour.{root_pointer, Seen}
+use Rattle.archive_check.specs.Trail.{Fault, TripsEnter, RootTrips}
+use Rattle.archive_check.specs.Walk.{Enter, enter, RootWalk}
+use Rattle.archive_check.specs.Ranges.{RangeState}
+use Rattle.archive_check.specs.PositionStates.{Positions}
+use Rattle.archive_check.specs.FreshContexts.{IsFresh, IsWhole}
+use Rattle.archive_check.specs.Definitions.{Definitions, listed}
+use Rattle.archive_check.specs.Defined.{Reaches, WellFormed}
+use Rattle.archive_check.specs.Archives.{IsArchiveWithin, IsRefusal, ExplainsNoArchive}
+use Rattle.archive_check.specs.check.LoopInvariant.{HasLevels}
+use Rattle.archive_check.specs.SelfCheck.Ways.{Goes, Halts, enter_way}
+use Rattle.archive_check.proofs.ReadingUnique.{pos_one}
+use Rattle.archive_check.proofs.AcceptedWalks.{walked}
+use Rattle.archive_check.proofs.Archives.{some_knows, refusal_no_archive}
+
+-- the root is entered where it is said to lie
+entered_root : (s : Schema) (bytes : List ℕ) (limit : Option ℕ) (root : ℕ) (X : Shape) {t : ℕ} {last : Seen} {later : ℕ} → Enter s bytes [] limit (length bytes) (root_pointer root X) t 0 empty later last → RootWalk s bytes limit root X
+entered_root s bytes limit root X (enter {t = t} target above below aligned allowed w) =
+    let same : t ≡ root = sym (pos_one target) in
+    record { later = _; last = _; walk = enter {t = root} refl (rw same at above) (rw same at below) (rw same at aligned) allowed (rw same at w) }
+
+fresh_levels : (s : RangeState) (met : Positions) → IsFresh s met → HasLevels s.depth
+fresh_levels s met fresh = record { levels = fresh.levels; few = fresh.few }
+
+root_trips : (t : Schema) (bytes : List ℕ) (root : ℕ) (X : Shape) (s : RangeState) (met : Positions) → IsWhole s met bytes → (f : Fault) → TripsEnter t bytes [] s.depth s.end (root_pointer root X) s.start empty f → RootTrips t bytes s.depth root X f
+root_trips t bytes root X s met whole f w = rw (whole.start, whole.end) at w
+
+module _ (D : Definitions) (X : Shape) (bytes : List ℕ) (root : ℕ) (s : RangeState) (met : Positions) (well : WellFormed (listed D) X) where
+  pub whole_archive : ((name : Name) (Y : Shape) → Contains (listed D) (name, Y) → Reaches (listed D) name X) → (s' : RangeState) → Goes D (enter_way bytes (root_pointer root X)) s s' → IsWhole s met bytes → IsArchiveWithin D bytes s.depth root X
+  whole_archive no_others s' goes whole = record {
+    well_formed = well;
+    known = ∣ some_knows D X well no_others ∣₁;
+    accepted = λ t k.
+        let w = rw (whole.start, whole.end) at (goes.runs (fresh_levels s met whole.fresh) t k [] empty) in
+        ∣ walked t bytes s.depth root X (entered_root t bytes s.depth root X w.1) ∣₁;
+  }
+
+  pub whole_refusal : (e : Error) → Halts D (enter_way bytes (root_pointer root X)) s e → IsWhole s met bytes → IsRefusal D bytes s.depth root X e
+  whole_refusal e halts whole =
+      let f = halts (fresh_levels s met whole.fresh) in
+      inr (record { well_formed = well; fault = f.0; said = f.1; trips = λ t k. ∣ root_trips t bytes root X s met whole f.0 (f.2 t k [] empty) ∣₁ })
+
+  pub whole_exact : (e : Error) → length bytes < 2 ^ 64 → Halts D (enter_way bytes (root_pointer root X)) s e → IsWhole s met bytes → ExplainsNoArchive D bytes s.depth root X e
+  whole_exact e small halts whole = refusal_no_archive D bytes s.depth root X e small (whole_refusal e halts whole)

@@ -1,0 +1,5 @@
+-- Types that check themselves.
+pub mod Ways
+pub mod Laws
+pub mod Orders
+pub mod Regions

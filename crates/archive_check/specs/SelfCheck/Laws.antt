@@ -1,0 +1,85 @@
+-- When a check of one shape is a check of a type, and the laws of those that stand here.
+use Rattle.std.specs.Prelude.{◌≡◌, ℕ, List, [], Option, Some, None, true, false, IsTrue, nat_le}
+use Rattle.std.proofs.Common.{refl, arith}
+use Rattle.std.proofs.lemmas.Bool.Decides.{nat_tests}
+use Rattle.std.specs.Int.{w8, w16, w32, w64, w128}
+use Rattle.archive_check.specs.Shape.{Name, Kind, unit, bool, char, number, non_zero, raw_rel, Shape, leaf, named, Table, definition}
+use Rattle.archive_check.specs.Layout.{kind_size}
+use Rattle.archive_check.specs.Reads.{Schema}
+use Rattle.archive_check.specs.Tour.{Seen}
+use Rattle.archive_check.specs.check.Runs.{Outcome, done, refused}
+use Rattle.archive_check.specs.Walk.{walk_named}
+use Rattle.archive_check.specs.Trail.{trips_named}
+use Rattle.archive_check.specs.plan.BoundedSizes.{fits}
+use Rattle.archive_check.specs.Definitions.{Definitions, no_definition, Has, Knows}
+use Rattle.archive_check.specs.SelfCheck.Ways.{shape_way}
+use Rattle.archive_check.specs.plan.Names.{missing}
+use Rattle.archive_check.specs.SelfCheck.Orders.{IsOrder}
+
+-- under the schema, what comes of a Y comes of the X in its place
+abbrev pub Leads : Schema → Shape → Shape → Type 0
+Leads t Y X = (bytes : List ℕ) (p : ℕ) (pending : List ℕ) (depth : Option ℕ) (stop start : ℕ) (seen : Seen) (o : Outcome) → shape_way bytes p Y t pending depth stop start seen o → shape_way bytes p X t pending depth stop start seen o
+
+-- A check of a Y, in n bytes and with the definitions E, is one of an X of `size` bytes, whose definitions D give it a meaning.
+pub record IsCheckOf (D : Definitions) (X : Shape) (size : ℕ) (E : Definitions) (Y : Shape) (n : ℕ) : Type 0 where
+  pub within : nat_le n size ≡ true
+  pub small : fits size ≡ Some size
+  pub order : Table
+  pub ordered : IsOrder D X order
+  pub known : (t : Schema) → Knows t D → Knows t E
+  pub leads : (t : Schema) → Knows t D → Leads t Y X
+
+-- a type that says no has no law to show
+pub by_schema : {A : Type 0} → IsTrue false → A
+by_schema says = absurd (let none : IsTrue false = says in cc)
+
+no_more : (n : ℕ) → nat_le n n ≡ true
+no_more n = grind (arith, nat_tests)
+
+-- the check of a type's own shape
+pub own_check : (D : Definitions) (X : Shape) (size : ℕ) (order : Table) → fits size ≡ Some size → IsOrder D X order → IsCheckOf D X size D X size
+own_check D X size order small ordered = record { within = no_more size; small = small; order = order; ordered = ordered; known = λ t k. k; leads = λ t k bytes p pending depth stop start seen o w. w }
+
+-- so is that of a type which holds no name
+pub plain_check : (X : Shape) (size : ℕ) → fits size ≡ Some size → missing true [] X ≡ None → IsCheckOf no_definition X size no_definition X size
+plain_check X size small none = own_check no_definition X size [] small (record { has = tt; only = tt; once = tt; root = none; closed = tt; placed = tt })
+
+-- the check of a type that holds no name, by its parts: their definitions E are none
+pub parts_check : (X : Shape) (size : ℕ) (E : Definitions) (n : ℕ) → nat_le n size ≡ true → fits size ≡ Some size → missing true [] X ≡ None → ((t : Schema) → Has t E) → IsCheckOf no_definition X size E X n
+parts_check X size E n within small none has = record {
+  within = within;
+  small = small;
+  order = [];
+  ordered = record { has = tt; only = tt; once = tt; root = none; closed = tt; placed = tt };
+  known = λ t k. record { has = has t; laid_out = k.laid_out };
+  leads = λ t k bytes p pending depth stop start seen o w. w;
+}
+
+leaf_fits : (kind : Kind) → fits (kind_size kind) ≡ Some (kind_size kind)
+leaf_fits unit = refl
+leaf_fits bool = refl
+leaf_fits char = refl
+leaf_fits (number sign w8) = refl
+leaf_fits (number sign w16) = refl
+leaf_fits (number sign w32) = refl
+leaf_fits (number sign w64) = refl
+leaf_fits (number sign w128) = refl
+leaf_fits (non_zero sign w8) = refl
+leaf_fits (non_zero sign w16) = refl
+leaf_fits (non_zero sign w32) = refl
+leaf_fits (non_zero sign w64) = refl
+leaf_fits (non_zero sign w128) = refl
+leaf_fits (raw_rel sign w8) = refl
+leaf_fits (raw_rel sign w16) = refl
+leaf_fits (raw_rel sign w32) = refl
+leaf_fits (raw_rel sign w64) = refl
+leaf_fits (raw_rel sign w128) = refl
+
+-- the check of a leaf
+pub leaf_check : (kind : Kind) → IsCheckOf no_definition (leaf kind) (kind_size kind) no_definition (leaf kind) (kind_size kind)
+leaf_check kind = plain_check (leaf kind) (kind_size kind) (leaf_fits kind) refl
+
+-- what comes of a name's definition comes of the name
+pub named_leads : (t : Schema) (name : Name) (X : Shape) → definition t.table name ≡ Some X → Leads t X (named name)
+named_leads t name X d bytes p pending depth stop start seen (done l k) w = walk_named d w
+named_leads t name X d bytes p pending depth stop start seen (refused f) w = trips_named d w

@@ -1,0 +1,88 @@
+//! Types that check themselves: with no schema, no list and no memory. A type names its check; one whose values share something or hold themselves
+//! names `BySchema`.
+
+ghost use Rattle.std.specs.Prelude.{Bool, ◌≡◌, ◌+◌, ◌≤◌, ℕ, length, OnSome, IfNone, false, IsTrue};
+ghost use Rattle.std.specs.Int.{w8};
+ghost use Rattle.archive_check.specs.Shape.{Shape, leaf, unit};
+ghost use Rattle.archive_check.specs.Definitions.{Definitions, no_definition};
+ghost use Rattle.archive_check.specs.SelfCheck.Ways.{Goes, Halts, shape_way};
+
+use crate::format::error::Error;
+use crate::context::ArchiveContext;
+
+mod elements;
+mod leaves;
+mod parts;
+mod refusals;
+mod regions;
+mod roots;
+mod texts;
+mod values;
+mod variants;
+
+pub use elements::VecCheck;
+pub use leaves::check_leaf;
+pub use parts::{CheckedParts, RecordCheck};
+pub use roots::check_root;
+pub use texts::StringCheck;
+pub use values::BoxCheck;
+pub use variants::{CheckedVariants, check_choice};
+
+/// What checks values where they lie. A type that checks itself names one for its own shape.
+pub trait SelfCheck {
+    // What is checked.
+    ghost shape: { Shape };
+
+    // The definitions of the names in it.
+    ghost definitions: { Definitions };
+
+    // How many bytes are looked at in place.
+    ghost span: { ℕ };
+
+    // Whether it is checked, and no schema is needed: nothing is shared, and nothing holds itself.
+    ghost direct: { Bool };
+
+    /// Whether no schema is needed.
+    fn is_direct() -> bool
+        ensures { result ≡ direct };
+
+    /// Checks the value at `at`, in bytes from the first one. `None` where the check stops, and `refusal` is why: the first fault, in the order that
+    /// docs/FORMAT.md gives. Our own choice in place of rkyv's `CheckBytes`.
+    fn check_at<C: ArchiveContext>(
+        bytes: &[u8],
+        at: usize,
+        refusal: &mut Error,
+        context: &mut C,
+    ) -> Option<()>
+        requires fits { at + span ≤ length bytes.now }
+        requires below { (C.state context.old).end ≤ length bytes.now }
+        ensures through { OnSome result (Goes definitions (shape_way bytes.now at shape) (C.state context.old) (C.state context.new)) }
+        ensures stops { IsTrue direct → IfNone result (Halts definitions (shape_way bytes.now at shape) (C.state context.old) refusal.new) }
+        ensures positions { OnSome result (C.positions context.new ≡ C.positions context.old) };
+}
+
+/// The check of a type that doesn't check itself: it goes by its schema.
+pub struct BySchema;
+
+impl SelfCheck for BySchema {
+    ghost shape = { leaf unit };
+
+    ghost definitions = { no_definition };
+
+    ghost span = { 0 };
+
+    ghost direct = { false };
+
+    fn is_direct() -> bool {
+        false
+    }
+
+    fn check_at<C: ArchiveContext>(
+        _bytes: &[u8],
+        _at: usize,
+        _refusal: &mut Error,
+        _context: &mut C,
+    ) -> Option<()> {
+        None
+    }
+}

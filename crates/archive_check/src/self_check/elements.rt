@@ -1,0 +1,115 @@
+// Values one behind another: where they lie, in a region of their own, and behind a pointer with their number.
+
+ghost use Rattle.std.specs.Prelude.{◌≡◌, ◌+◌, ◌*◌, ◌≤◌, length, OnSome, IfNone, None, IsTrue};
+ghost use Rattle.archive_check.specs.Shape.{run, vec};
+ghost use Rattle.archive_check.specs.SelfCheck.Ways.{Goes, Halts, shape_way, run_way, enter_way};
+
+use super::SelfCheck;
+use super::regions::{enter, leave};
+use super::values::{check_value, whole_size};
+use crate::format::bytes::{read_position, read_u32};
+use crate::format::error::Error;
+use crate::plan::extents::times;
+use crate::format::traits::Portable;
+use crate::context::ArchiveContext;
+use std::marker::PhantomData;
+
+// Checks so many of `T` that take no bytes: the first stands for all.
+fn check_no_bytes<T: Portable, C: ArchiveContext>(
+    bytes: &[u8],
+    at: usize,
+    count: usize,
+    refusal: &mut Error,
+    context: &mut C,
+) -> Option<()>
+    requires empty { T.layout.size ≡ 0 }
+    requires fits { at ≤ length bytes.now }
+    requires below { (C.state context.old).end ≤ length bytes.now }
+    ensures through { OnSome result (Goes T.definitions (run_way bytes.now at count T.shape) (C.state context.old) (C.state context.new)) }
+    ensures stops { IsTrue T.Check.direct → IfNone result (Halts T.definitions (run_way bytes.now at count T.shape) (C.state context.old) refusal.new) }
+    ensures positions { OnSome result (C.positions context.new ≡ C.positions context.old) }
+{
+    if count == 0 {
+        return Some(());
+    }
+    check_value::<T, C>(bytes, at, refusal, context)
+}
+
+// Checks so many of `T`, one behind another from `at` on.
+#[inline(always)]
+fn check_elements<T: Portable, C: ArchiveContext>(
+    bytes: &[u8],
+    at: usize,
+    count: usize,
+    refusal: &mut Error,
+    context: &mut C,
+) -> Option<()>
+    requires fits { at + count * T.layout.size ≤ length bytes.now }
+    requires below { (C.state context.old).end ≤ length bytes.now }
+    ensures through { OnSome result (Goes T.definitions (run_way bytes.now at count T.shape) (C.state context.old) (C.state context.new)) }
+    ensures stops { IsTrue T.Check.direct → IfNone result (Halts T.definitions (run_way bytes.now at count T.shape) (C.state context.old) refusal.new) }
+    ensures positions { OnSome result (C.positions context.new ≡ C.positions context.old) }
+{
+    prove!(bytes.len() <= usize::MAX);
+    let size = T::size();
+    if size == 0 {
+        return check_no_bytes::<T, C>(bytes, at, count, refusal, context);
+    }
+    for index in 0..count {
+        check_value::<T, C>(bytes, at + index * size, refusal, context)?;
+    }
+    Some(())
+}
+
+// Checks the region of so many of `T` at `position`.
+#[inline(always)]
+pub fn check_run<T: Portable, C: ArchiveContext>(
+    bytes: &[u8],
+    position: i128,
+    count: usize,
+    refusal: &mut Error,
+    context: &mut C,
+) -> Option<()>
+    requires below { (C.state context.old).end ≤ length bytes.now }
+    ensures through { OnSome result (Goes T.definitions (enter_way bytes.now (record { target = position; sharing = None; pointee = run T.shape; length = count })) (C.state context.old) (C.state context.new)) }
+    ensures stops { IsTrue T.Check.direct → IfNone result (Halts T.definitions (enter_way bytes.now (record { target = position; sharing = None; pointee = run T.shape; length = count })) (C.state context.old) refusal.new) }
+    ensures positions { OnSome result (C.positions context.new ≡ C.positions context.old) }
+{
+    if !T::Check::is_direct() {
+        return None;
+    }
+    let whole = times(whole_size::<T>(), count);
+    let region = enter(whole, T::align(), position, refusal, context)?;
+    check_elements::<T, C>(bytes, region.begin, count, refusal, context)?;
+    leave(region.outer_start, region.outer_end, refusal, context)
+}
+
+/// The check of a vector: its offset and its length, of four bytes each, and the elements that they lead to.
+pub struct VecCheck<T> {
+    of: PhantomData<T>,
+}
+
+impl<T: Portable> SelfCheck for VecCheck<T> {
+    ghost shape = { vec T.shape };
+
+    ghost definitions = { T.definitions };
+
+    ghost span = { 8 };
+
+    ghost direct = { T.Check.direct };
+
+    fn is_direct() -> bool {
+        T::Check::is_direct()
+    }
+
+    #[inline(always)]
+    fn check_at<C: ArchiveContext>(
+        bytes: &[u8],
+        at: usize,
+        refusal: &mut Error,
+        context: &mut C,
+    ) -> Option<()> {
+        let count = read_u32(bytes, at + 4) as usize;
+        check_run::<T, C>(bytes, read_position(bytes, at, at), count, refusal, context)
+    }
+}

@@ -1,0 +1,132 @@
+// Leaves, and the types of the machine that are leaves.
+
+ghost use Rattle.std.specs.Prelude.{◌≡◌, ◌+◌, ◌≤◌, length, OnSome, IfNone, true};
+ghost use Rattle.std.specs.Int.{w8};
+ghost use Rattle.archive_check.specs.Shape.{leaf, unit, bool, number, unsigned, signed};
+ghost use Rattle.archive_check.specs.Layout.{kind_size};
+ghost use Rattle.archive_check.specs.Expressions.{kind_of};
+ghost use Rattle.archive_check.specs.Definitions.{no_definition};
+ghost use Rattle.archive_check.specs.SelfCheck.Ways.{Goes, Halts, shape_way};
+
+use super::SelfCheck;
+use super::refusals::refuse;
+use crate::format::error::Error;
+use crate::format::expr::{IntegerKind, Kind};
+use crate::format::leaf::{illegal, is_legal};
+use crate::context::ArchiveContext;
+
+/// Checks the leaf of this kind at `at`. `None` where the check stops, and `refusal` is why: 25 at a bool, 26 at a char, 27 at a number that is 0.
+#[inline(always)]
+pub fn check_leaf<C: ArchiveContext>(
+    kind: Kind,
+    bytes: &[u8],
+    at: usize,
+    refusal: &mut Error,
+    _context: &mut C,
+) -> Option<()>
+    requires { at + kind_size (kind_of kind) ≤ length bytes.now }
+    ensures through { OnSome result (Goes no_definition (shape_way bytes.now at (leaf (kind_of kind))) (C.state _context.old) (C.state _context.new)) }
+    ensures stops { IfNone result (Halts no_definition (shape_way bytes.now at (leaf (kind_of kind))) (C.state _context.old) refusal.new) }
+    ensures positions { OnSome result (C.positions _context.new ≡ C.positions _context.old) }
+{
+    if !is_legal(kind, bytes, at) {
+        return refuse(refusal, illegal(kind));
+    }
+    Some(())
+}
+
+impl SelfCheck for () {
+    ghost shape = { leaf unit };
+
+    ghost definitions = { no_definition };
+
+    ghost span = { 0 };
+
+    ghost direct = { true };
+
+    fn is_direct() -> bool {
+        true
+    }
+
+    #[inline(always)]
+    fn check_at<C: ArchiveContext>(
+        bytes: &[u8],
+        at: usize,
+        refusal: &mut Error,
+        context: &mut C,
+    ) -> Option<()> {
+        check_leaf(Kind::Unit, bytes, at, refusal, context)
+    }
+}
+
+impl SelfCheck for bool {
+    ghost shape = { leaf bool };
+
+    ghost definitions = { no_definition };
+
+    ghost span = { 1 };
+
+    ghost direct = { true };
+
+    fn is_direct() -> bool {
+        true
+    }
+
+    #[inline(always)]
+    fn check_at<C: ArchiveContext>(
+        bytes: &[u8],
+        at: usize,
+        refusal: &mut Error,
+        context: &mut C,
+    ) -> Option<()> {
+        check_leaf(Kind::Bool, bytes, at, refusal, context)
+    }
+}
+
+impl SelfCheck for u8 {
+    ghost shape = { leaf (number unsigned w8) };
+
+    ghost definitions = { no_definition };
+
+    ghost span = { 1 };
+
+    ghost direct = { true };
+
+    fn is_direct() -> bool {
+        true
+    }
+
+    #[inline(always)]
+    fn check_at<C: ArchiveContext>(
+        bytes: &[u8],
+        at: usize,
+        refusal: &mut Error,
+        context: &mut C,
+    ) -> Option<()> {
+        check_leaf(Kind::Number(IntegerKind::U8), bytes, at, refusal, context)
+    }
+}
+
+impl SelfCheck for i8 {
+    ghost shape = { leaf (number signed w8) };
+
+    ghost definitions = { no_definition };
+
+    ghost span = { 1 };
+
+    ghost direct = { true };
+
+    fn is_direct() -> bool {
+        true
+    }
+
+    #[inline(always)]
+    fn check_at<C: ArchiveContext>(
+        bytes: &[u8],
+        at: usize,
+        refusal: &mut Error,
+        context: &mut C,
+    ) -> Option<()> {
+        check_leaf(Kind::Number(IntegerKind::I8), bytes, at, refusal, context)
+    }
+}

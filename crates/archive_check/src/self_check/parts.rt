@@ -1,0 +1,140 @@
+// Parts laid out one behind another.
+
+ghost use Rattle.std.specs.Prelude.{Bool, ◌&&◌, ◌≡◌, ◌+◌, ◌≤◌, ℕ, length, OnSome, IfNone, true, IsTrue};
+ghost use Rattle.std.proofs.Common.{rules};
+ghost use Rattle.archive_check.specs.Shape.{Parts, part, no_part, parts};
+ghost use Rattle.archive_check.specs.Layout.{up};
+ghost use Rattle.archive_check.specs.Definitions.{Definitions, both, no_definition};
+ghost use Rattle.archive_check.specs.SelfCheck.Ways.{Goes, Halts, parts_way};
+ghost use Rattle.archive_check.specs.SelfCheck.Regions.{rises_over};
+
+use super::SelfCheck;
+use super::values::check_value;
+use crate::format::error::Error;
+use crate::plan::extents::offset_of;
+use crate::format::traits::Portable;
+use crate::context::ArchiveContext;
+use std::marker::PhantomData;
+
+/// Parts that are checked one behind another: `()`, or `(A, R)` for an `A` and then the parts of `R`.
+pub trait CheckedParts {
+    // What they are.
+    ghost parts: { Parts };
+
+    // The definitions of the names in them.
+    ghost definitions: { Definitions };
+
+    // Where they end, from an offset on.
+    ghost end: { ℕ → ℕ };
+
+    // Whether each checks itself.
+    ghost direct: { Bool };
+
+    /// Whether each checks itself.
+    fn are_direct() -> bool
+        ensures { result ≡ direct };
+
+    /// Checks the parts from the offset `start` on, of what begins at `base`. `None` where the check stops, and `refusal` is why.
+    fn check_parts<C: ArchiveContext>(
+        bytes: &[u8],
+        base: usize,
+        start: usize,
+        refusal: &mut Error,
+        context: &mut C,
+    ) -> Option<()>
+        requires fits { base + end start ≤ length bytes.now }
+        requires below { (C.state context.old).end ≤ length bytes.now }
+        ensures through { OnSome result (Goes definitions (parts_way bytes.now base start parts) (C.state context.old) (C.state context.new)) }
+        ensures stops { IsTrue direct → IfNone result (Halts definitions (parts_way bytes.now base start parts) (C.state context.old) refusal.new) }
+        ensures positions { OnSome result (C.positions context.new ≡ C.positions context.old) };
+
+    ghost rises: { (n : ℕ) → n ≤ end n };
+}
+
+impl CheckedParts for () {
+    ghost parts = { no_part };
+
+    ghost definitions = { no_definition };
+
+    ghost end = { λ n. n };
+
+    ghost direct = { true };
+
+    ghost rises = { λ n. Prim.search rules };
+
+    fn are_direct() -> bool {
+        true
+    }
+
+    #[inline(always)]
+    fn check_parts<C: ArchiveContext>(
+        _bytes: &[u8],
+        _base: usize,
+        _start: usize,
+        _refusal: &mut Error,
+        _context: &mut C,
+    ) -> Option<()> {
+        Some(())
+    }
+}
+
+impl<A: Portable, R: CheckedParts> CheckedParts for (A, R) {
+    ghost parts = { part A.shape R.parts };
+
+    ghost definitions = { both A.definitions R.definitions };
+
+    ghost end = { λ n. R.end (up n A.layout.align + A.layout.size) };
+
+    ghost direct = { A.Check.direct && R.direct };
+
+    ghost rises = { λ n. rises_over n A.layout.align A.layout.size A.is_align R.end R.rises };
+
+    fn are_direct() -> bool {
+        A::Check::is_direct() && R::are_direct()
+    }
+
+    #[inline(always)]
+    fn check_parts<C: ArchiveContext>(
+        bytes: &[u8],
+        base: usize,
+        start: usize,
+        refusal: &mut Error,
+        context: &mut C,
+    ) -> Option<()> {
+        prove!(bytes.len() <= usize::MAX);
+        let Some(offset) = offset_of(Some(start), A::align()) else {
+            unreachable!();
+        };
+        check_value::<A, C>(bytes, base + offset, refusal, context)?;
+        R::check_parts(bytes, base, offset + A::size(), refusal, context)
+    }
+}
+
+/// The check of a record: its parts, as `CheckedParts` lists them.
+pub struct RecordCheck<P> {
+    of: PhantomData<P>,
+}
+
+impl<P: CheckedParts> SelfCheck for RecordCheck<P> {
+    ghost shape = { parts P.parts };
+
+    ghost definitions = { P.definitions };
+
+    ghost span = { P.end 0 };
+
+    ghost direct = { P.direct };
+
+    fn is_direct() -> bool {
+        P::are_direct()
+    }
+
+    #[inline(always)]
+    fn check_at<C: ArchiveContext>(
+        bytes: &[u8],
+        at: usize,
+        refusal: &mut Error,
+        context: &mut C,
+    ) -> Option<()> {
+        P::check_parts(bytes, at, 0, refusal, context)
+    }
+}

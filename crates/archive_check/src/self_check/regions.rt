@@ -1,0 +1,104 @@
+// Regions are entered and left.
+
+ghost use Rattle.std.specs.Prelude.{◌≡◌, ◌<◌, ℕ, pos, OnSome, IfSome, IfNone, Some, Err, is_err, true};
+ghost use Rattle.archive_check.specs.Ranges.{subtree_answer, pop_answer, popped};
+ghost use Rattle.archive_check.specs.SelfCheck.Regions.{Begun, EntersNot};
+
+use super::refusals::{keep, refuse};
+use crate::check::Region;
+use crate::format::error::Error;
+use crate::format::layout::Layout;
+use crate::context::ArchiveContext;
+use std::ops::Range;
+
+// The position as an index.
+fn place(position: i128) -> usize
+    requires { (t : ℕ) × (position ≡ pos t) × (t < 18446744073709551616) }
+    ensures { position ≡ pos result }
+{
+    position as usize
+}
+
+// Stops the check at a region that is refused. The context is asked once more for the reason.
+#[cold]
+#[inline(never)]
+fn refuse_region<C: ArchiveContext>(
+    position: i128,
+    layout: &Layout,
+    refusal: &mut Error,
+    context: &mut C,
+)
+    requires { is_err (subtree_answer (C.state context.old) position layout.now.size layout.now.align) ≡ true }
+    ensures { subtree_answer (C.state context.old) position layout.now.size layout.now.align ≡ Err refusal.new }
+{
+    match context.check_subtree_ptr(position, layout) {
+        Err(error) => keep(refusal, error),
+        Ok(()) => unreachable!(),
+    }
+}
+
+// Stops the check at a range that isn't taken back, likewise.
+#[cold]
+#[inline(never)]
+fn refuse_range<C: ArchiveContext>(start: usize, end: usize, refusal: &mut Error, context: &mut C)
+    requires { is_err (pop_answer (C.state context.old) start) ≡ true }
+    ensures { pop_answer (C.state context.old) start ≡ Err refusal.new }
+{
+    match context.pop_subtree_range(Range { start, end }) {
+        Err(error) => keep(refusal, error),
+        Ok(()) => unreachable!(),
+    }
+}
+
+// Leaves a region: the range is the one from `start` to `end` again.
+#[inline(always)]
+pub fn leave<C: ArchiveContext>(
+    start: usize,
+    end: usize,
+    refusal: &mut Error,
+    context: &mut C,
+) -> Option<()>
+    ensures left { OnSome result (C.state context.new ≡ popped (C.state context.old) start end) }
+    ensures refused { IfNone result (pop_answer (C.state context.old) start ≡ Err refusal.new) }
+    ensures positions { OnSome result (C.positions context.new ≡ C.positions context.old) }
+{
+    if context.pop_subtree_range(Range { start, end }).is_err() {
+        refuse_range(start, end, refusal, context);
+        return None;
+    }
+    Some(())
+}
+
+// Enters a region of this size and alignment at `position`.
+#[inline(always)]
+pub fn enter<C: ArchiveContext>(
+    whole: Option<usize>,
+    align: usize,
+    position: i128,
+    refusal: &mut Error,
+    context: &mut C,
+) -> Option<Region>
+    requires { 0 < align }
+    ensures entered { IfSome result (λ r. (whole ≡ Some r.size) × Begun (C.state context.old) (C.state context.new) position align r) }
+    ensures stops { IfNone result (EntersNot (C.state context.old) position align whole refusal.new) }
+    ensures positions { OnSome result (C.positions context.new ≡ C.positions context.old) }
+{
+    let Some(size) = whole else {
+        return refuse(refusal, Error::LayoutTooLarge);
+    };
+    let layout = Layout { size, align };
+    if context.check_subtree_ptr(position, &layout).is_err() {
+        refuse_region(position, &layout, refusal, context);
+        return None;
+    }
+    let begin = place(position);
+    let Ok(Range { start, end }) = context.push_subtree_range(begin, begin + size) else {
+        return refuse(refusal, Error::ExceededMaximumSubtreeDepth);
+    };
+    Some(Region {
+        begin,
+        size,
+        outer_start: start,
+        outer_end: end,
+    })
+}

@@ -1,0 +1,34 @@
+// Whole archives.
+
+ghost use Rattle.std.specs.Prelude.{◌≡◌, ◌⊎◌, ◌≤◌, length, OnOk, IfErr, IsTrue};
+ghost use Rattle.archive_check.specs.Definitions.{listed};
+ghost use Rattle.archive_check.specs.Defined.{WellFormed};
+ghost use Rattle.archive_check.specs.FreshContexts.{IsWhole};
+ghost use Rattle.archive_check.specs.Archives.{IsArchiveWithin, IsRefusal, ExplainsNoArchive};
+
+use super::values::check_one;
+use crate::format::error::Error;
+use crate::format::traits::Portable;
+use crate::context::ArchiveContext;
+
+/// Checks that `bytes` are an archive whose root, a `T`, lies at `pos`, where `T` checks itself. In a context for these bytes that met nothing yet the
+/// answer is exact: Ok where they are one with no region too deep, else the refusal of the first test that is false, in the order that docs/FORMAT.md
+/// gives. It takes no memory and is never refused with 30 or 31: such a type has a meaning.
+pub fn check_root<T: Portable, C: ArchiveContext>(
+    bytes: &[u8],
+    pos: usize,
+    context: &mut C,
+) -> Result<(), Error>
+    requires { (C.state context.old).end ≤ length bytes.now }
+    ensures accepted { IsTrue T.Check.direct → OnOk result (IsWhole (C.state context.old) (C.positions context.old) bytes.now → IsArchiveWithin T.definitions bytes.now (C.state context.old).depth pos T.shape) }
+    ensures meaning { IsTrue T.Check.direct → WellFormed (listed T.definitions) T.shape }
+    ensures refused { IsTrue T.Check.direct → IfErr result (λ e. IsWhole (C.state context.old) (C.positions context.old) bytes.now → IsRefusal T.definitions bytes.now (C.state context.old).depth pos T.shape e) }
+    ensures exact { IsTrue T.Check.direct → IfErr result (λ e. IsWhole (C.state context.old) (C.positions context.old) bytes.now → ExplainsNoArchive T.definitions bytes.now (C.state context.old).depth pos T.shape e) }
+{
+    prove!(bytes.len() <= usize::MAX);
+    let mut refusal = Error::OutOfMemory;
+    match check_one::<T, C>(bytes, pos as i128, &mut refusal, context) {
+        Some(()) => Ok(()),
+        None => Err(refusal),
+    }
+}

@@ -1,0 +1,73 @@
+// Texts and strings.
+
+ghost use Rattle.std.specs.Prelude.{◌≡◌, ◌≤◌, length, OnSome, IfNone, None, true};
+ghost use Rattle.archive_check.specs.Shape.{text, str};
+ghost use Rattle.archive_check.specs.Definitions.{no_definition};
+ghost use Rattle.archive_check.specs.SelfCheck.Ways.{Goes, Halts, enter_way};
+
+use super::SelfCheck;
+use super::refusals::refuse;
+use super::regions::{enter, leave};
+use crate::format::bytes::{inline_length, is_out_of_line, is_text, read_coded_length, read_position};
+use crate::format::error::Error;
+use crate::context::ArchiveContext;
+
+// Checks the region of a text of so many bytes at `position`.
+#[inline(always)]
+fn check_text<C: ArchiveContext>(
+    bytes: &[u8],
+    position: i128,
+    count: usize,
+    refusal: &mut Error,
+    context: &mut C,
+) -> Option<()>
+    requires { (C.state context.old).end ≤ length bytes.now }
+    ensures through { OnSome result (Goes no_definition (enter_way bytes.now (record { target = position; sharing = None; pointee = text; length = count })) (C.state context.old) (C.state context.new)) }
+    ensures stops { IfNone result (Halts no_definition (enter_way bytes.now (record { target = position; sharing = None; pointee = text; length = count })) (C.state context.old) refusal.new) }
+    ensures positions { OnSome result (C.positions context.new ≡ C.positions context.old) }
+{
+    let region = enter(Some(count), 1, position, refusal, context)?;
+    if !is_text(bytes, region.begin, region.size) {
+        return refuse(refusal, Error::InvalidUtf8);
+    }
+    leave(region.outer_start, region.outer_end, refusal, context)
+}
+
+/// The check of a string: eight bytes, which hold a text or lead to one.
+pub struct StringCheck;
+
+impl SelfCheck for StringCheck {
+    ghost shape = { str };
+
+    ghost definitions = { no_definition };
+
+    ghost span = { 8 };
+
+    ghost direct = { true };
+
+    fn is_direct() -> bool {
+        true
+    }
+
+    #[inline(always)]
+    fn check_at<C: ArchiveContext>(
+        bytes: &[u8],
+        at: usize,
+        refusal: &mut Error,
+        context: &mut C,
+    ) -> Option<()> {
+        if is_out_of_line(bytes, at) {
+            let length = read_coded_length(bytes, at);
+            if length <= 8 {
+                return refuse(refusal, Error::InvalidStringRepr);
+            }
+            let position = read_position(bytes, at, at + 4);
+            return check_text(bytes, position, length, refusal, context);
+        }
+        let length = inline_length(bytes, at);
+        if !is_text(bytes, at, length) {
+            return refuse(refusal, Error::InvalidUtf8);
+        }
+        Some(())
+    }
+}

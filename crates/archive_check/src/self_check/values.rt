@@ -1,0 +1,92 @@
+// One value: where it lies, in a region of its own, and behind a pointer.
+
+ghost use Rattle.std.specs.Prelude.{◌≡◌, ◌+◌, ◌≤◌, length, OnSome, IfNone, None, IsTrue};
+ghost use Rattle.archive_check.specs.Shape.{one, boxed};
+ghost use Rattle.archive_check.specs.plan.BoundedSizes.{fits};
+ghost use Rattle.archive_check.specs.SelfCheck.Ways.{Goes, Halts, shape_way, enter_way};
+
+use super::SelfCheck;
+use super::regions::{enter, leave};
+use crate::format::bytes::read_position;
+use crate::format::error::Error;
+use crate::format::traits::Portable;
+use crate::context::ArchiveContext;
+use std::marker::PhantomData;
+
+// Checks the `T` at `at`.
+#[inline(always)]
+pub fn check_value<T: Portable, C: ArchiveContext>(
+    bytes: &[u8],
+    at: usize,
+    refusal: &mut Error,
+    context: &mut C,
+) -> Option<()>
+    requires fits { at + T.layout.size ≤ length bytes.now }
+    requires below { (C.state context.old).end ≤ length bytes.now }
+    ensures through { OnSome result (Goes T.definitions (shape_way bytes.now at T.shape) (C.state context.old) (C.state context.new)) }
+    ensures stops { IsTrue T.Check.direct → IfNone result (Halts T.definitions (shape_way bytes.now at T.shape) (C.state context.old) refusal.new) }
+    ensures positions { OnSome result (C.positions context.new ≡ C.positions context.old) }
+{
+    if !T::Check::is_direct() {
+        return None;
+    }
+    T::Check::check_at(bytes, at, refusal, context)
+}
+
+// The size of a type that checks itself, in bytes.
+#[inline(always)]
+pub fn whole_size<T: Portable>() -> Option<usize>
+    ensures { IsTrue T.Check.direct → result ≡ fits T.layout.size }
+{
+    Some(T::size())
+}
+
+// Checks the region of one `T` at `position`.
+#[inline(always)]
+pub fn check_one<T: Portable, C: ArchiveContext>(
+    bytes: &[u8],
+    position: i128,
+    refusal: &mut Error,
+    context: &mut C,
+) -> Option<()>
+    requires below { (C.state context.old).end ≤ length bytes.now }
+    ensures through { OnSome result (Goes T.definitions (enter_way bytes.now (record { target = position; sharing = None; pointee = one T.shape; length = 0 })) (C.state context.old) (C.state context.new)) }
+    ensures stops { IsTrue T.Check.direct → IfNone result (Halts T.definitions (enter_way bytes.now (record { target = position; sharing = None; pointee = one T.shape; length = 0 })) (C.state context.old) refusal.new) }
+    ensures positions { OnSome result (C.positions context.new ≡ C.positions context.old) }
+{
+    if !T::Check::is_direct() {
+        return None;
+    }
+    let region = enter(whole_size::<T>(), T::align(), position, refusal, context)?;
+    check_value::<T, C>(bytes, region.begin, refusal, context)?;
+    leave(region.outer_start, region.outer_end, refusal, context)
+}
+
+/// The check of a box: its offset, of four bytes, and the `T` that it leads to.
+pub struct BoxCheck<T> {
+    of: PhantomData<T>,
+}
+
+impl<T: Portable> SelfCheck for BoxCheck<T> {
+    ghost shape = { boxed (one T.shape) };
+
+    ghost definitions = { T.definitions };
+
+    ghost span = { 4 };
+
+    ghost direct = { T.Check.direct };
+
+    fn is_direct() -> bool {
+        T::Check::is_direct()
+    }
+
+    #[inline(always)]
+    fn check_at<C: ArchiveContext>(
+        bytes: &[u8],
+        at: usize,
+        refusal: &mut Error,
+        context: &mut C,
+    ) -> Option<()> {
+        check_one::<T, C>(bytes, read_position(bytes, at, at), refusal, context)
+    }
+}

@@ -1,0 +1,123 @@
+// Variants behind a tag.
+
+ghost use Rattle.std.specs.Prelude.{Bool, ◌&&◌, ◌≡◌, ◌+◌, ◌<◌, ◌≤◌, ℕ, length, max, OnSome, IfSome, IfNone, None, true, false, IsTrue};
+ghost use Rattle.archive_check.specs.Shape.{choice, Variants, no_variant, variant, variant_at};
+ghost use Rattle.archive_check.specs.Definitions.{Definitions, both, no_definition};
+ghost use Rattle.archive_check.specs.SelfCheck.Ways.{Goes, Halts, shape_way, VariantGoes, VariantHalts};
+
+use super::parts::CheckedParts;
+use super::refusals::refuse;
+use crate::format::error::Error;
+use crate::context::ArchiveContext;
+
+/// Variants that are checked by their tags: `()`, or `(P, V)` for the parts `P` with the tag 0 and then the variants of `V`.
+pub trait CheckedVariants {
+    // What they are.
+    ghost variants: { Variants };
+
+    // The definitions of the names in them.
+    ghost definitions: { Definitions };
+
+    // The greatest end of one.
+    ghost end: { ℕ };
+
+    // Whether each checks itself.
+    ghost direct: { Bool };
+
+    /// Whether each checks itself.
+    fn are_direct() -> bool
+        ensures { result ≡ direct };
+
+    /// Checks the variant of this tag, of what begins at `base`, and answers whether there is one. `None` where the check stops, and `refusal` is why.
+    fn check_variant<C: ArchiveContext>(
+        bytes: &[u8],
+        base: usize,
+        tag: usize,
+        refusal: &mut Error,
+        context: &mut C,
+    ) -> Option<bool>
+        requires fits { base + end ≤ length bytes.now }
+        requires below { (C.state context.old).end ≤ length bytes.now }
+        ensures through { IfSome result (λ known. IsTrue known → VariantGoes definitions bytes.now base variants tag (C.state context.old) (C.state context.new)) }
+        ensures unknown { IfSome result (λ known. known ≡ false → variant_at variants tag ≡ None) }
+        ensures stops { IsTrue direct → IfNone result (VariantHalts definitions bytes.now base variants tag (C.state context.old) refusal.new) }
+        ensures positions { OnSome result (C.positions context.new ≡ C.positions context.old) };
+}
+
+impl CheckedVariants for () {
+    ghost variants = { no_variant };
+
+    ghost definitions = { no_definition };
+
+    ghost end = { 1 };
+
+    ghost direct = { true };
+
+    fn are_direct() -> bool {
+        true
+    }
+
+    #[inline(always)]
+    fn check_variant<C: ArchiveContext>(
+        _bytes: &[u8],
+        _base: usize,
+        _tag: usize,
+        _refusal: &mut Error,
+        _context: &mut C,
+    ) -> Option<bool> {
+        Some(false)
+    }
+}
+
+impl<P: CheckedParts, V: CheckedVariants> CheckedVariants for (P, V) {
+    ghost variants = { variant P.parts V.variants };
+
+    ghost definitions = { both P.definitions V.definitions };
+
+    ghost end = { max (P.end 1) V.end };
+
+    ghost direct = { P.direct && V.direct };
+
+    fn are_direct() -> bool {
+        P::are_direct() && V::are_direct()
+    }
+
+    #[inline(always)]
+    fn check_variant<C: ArchiveContext>(
+        bytes: &[u8],
+        base: usize,
+        tag: usize,
+        refusal: &mut Error,
+        context: &mut C,
+    ) -> Option<bool> {
+        if tag == 0 {
+            P::check_parts(bytes, base, 1, refusal, context)?;
+            return Some(true);
+        }
+        V::check_variant(bytes, base, tag - 1, refusal, context)
+    }
+}
+
+/// Checks the choice of this name at `at`: the tag, and then the variant that it names. `None` where the check stops, and `refusal` is why: 24 where
+/// no variant has the tag.
+#[inline(always)]
+pub fn check_choice<V: CheckedVariants, C: ArchiveContext>(
+    name: &'static str,
+    bytes: &[u8],
+    at: usize,
+    refusal: &mut Error,
+    context: &mut C,
+) -> Option<()>
+    requires tag { at < length bytes.now }
+    requires fits { at + V.end ≤ length bytes.now }
+    requires below { (C.state context.old).end ≤ length bytes.now }
+    ensures through { OnSome result (Goes V.definitions (shape_way bytes.now at (choice name.now V.variants)) (C.state context.old) (C.state context.new)) }
+    ensures stops { IsTrue V.direct → IfNone result (Halts V.definitions (shape_way bytes.now at (choice name.now V.variants)) (C.state context.old) refusal.new) }
+    ensures positions { OnSome result (C.positions context.new ≡ C.positions context.old) }
+{
+    let value = bytes[at];
+    if !V::check_variant(bytes, at, value as usize, refusal, context)? {
+        return refuse(refusal, Error::InvalidDiscriminant { name, value });
+    }
+    Some(())
+}

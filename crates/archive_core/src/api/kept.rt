@@ -1,0 +1,130 @@
+// A check that is made once.
+
+ghost use Rattle.std.specs.Prelude.{◌≡◌, ◌⊎◌, ◌≤◌, ◌-◌, length, IsTrue, IsOk, IfSome, IfNone, IfOk, OnOk, IfErr};
+ghost use Rattle.std.proofs.Props.{props};
+ghost use Rattle.archive_check.specs.Archives.{IsArchiveWithin, IsArchive, IsValueOf, IsRefusal, ExplainsNoArchive};
+ghost use Rattle.archive_check.specs.Defined.{WellFormed};
+ghost use Rattle.archive_check.specs.Definitions.{listed};
+ghost use Rattle.archive_check.specs.Entries.{NoEntries, KeepsEntries, IsCyclic};
+ghost use Rattle.archive_check.specs.FreshContexts.{IsWhole};
+ghost use Rattle.archive_check.specs.OneSchema.{IsSchemaOf-prop};
+ghost use Rattle.archive_check.specs.Schemas.{IsSchemaOf, ExplainsNoSchema};
+ghost use Rattle.archive_check.specs.Unshared.{IsUnshared};
+ghost use Rattle.archive_check.specs.declared.format.error.Error.TheVariants.{CyclicDeserialize};
+
+use crate::context::HighValidator;
+use crate::traits::{Archive, Deserialize, Entries, Portable};
+use crate::view::{Part, Ref};
+use archive_check::format::error::Error;
+use archive_check::self_check::{SelfCheck, check_root};
+use archive_check::shape::Schema;
+use archive_check::context::{ArchiveContext, SharedContext};
+use std::alloc::Global;
+use std::marker::PhantomData;
+
+/// What accesses archives whose root is a `T`. It is made once, and keeps what the check of one takes: the schema of `T`, where `T` doesn't check
+/// itself, and else nothing. It answers views of any number of buffers, and each call promises what the call of that name in `api` does.
+#[derive(Drop)]
+pub struct Access<T: Portable> {
+    alloc: Global,
+    // None where the type checks itself.
+    schema: Option<Schema>,
+    of: PhantomData<T>,
+    ghost made: { IfSome schema (λ s. IsSchemaOf s T.shape T.definitions) } by { Prim.hlevel (IsSchemaOf-prop, props) },
+    ghost needed: { IfNone schema (IsTrue T.Check.direct) } by { Prim.hlevel props },
+}
+
+impl<T: Portable> Access<T> {
+    /// Makes what a check takes; where `T` checks itself, nothing. Memory comes from `alloc`, also that which a check takes. Refused with 1 where it is
+    /// refused, and with 30 or 31 where the definitions of `T` have no meaning.
+    pub fn new(alloc: Global) -> Result<Access<T>, Error>
+        ensures meaning { OnOk result (WellFormed (listed T.definitions) T.shape) }
+        ensures refused { IfErr result (λ e. ExplainsNoSchema T.shape T.definitions e) }
+        ensures free { IsTrue T.Check.direct → IsOk result }
+    {
+        if T::Check::is_direct() {
+            return Ok(Access {
+                alloc,
+                schema: None,
+                of: PhantomData,
+            });
+        }
+        let schema = Schema::of::<T>(alloc)?;
+        Ok(Access {
+            alloc,
+            schema: Some(schema),
+            of: PhantomData,
+        })
+    }
+
+    /// Checks that `bytes` are an archive whose root lies at `pos`. In a context for these bytes that met nothing yet the answer is exact: refused
+    /// with 1 where memory is refused, else with the first fault of the bytes, in the order that docs/FORMAT.md gives.
+    pub fn check_pos_with_context<C: ArchiveContext + SharedContext>(
+        &self,
+        bytes: &[u8],
+        pos: usize,
+        context: &mut C,
+    ) -> Result<(), Error>
+        requires { (C.state context.old).end ≤ length bytes.now }
+        ensures accepted { OnOk result (IsWhole (C.state context.old) (C.positions context.old) bytes.now → IsArchiveWithin T.definitions bytes.now (C.state context.old).depth pos T.shape) }
+        ensures refused { IfErr result (λ e. IsWhole (C.state context.old) (C.positions context.old) bytes.now → IsRefusal T.definitions bytes.now (C.state context.old).depth pos T.shape e) }
+        ensures exact { IfErr result (λ e. IsWhole (C.state context.old) (C.positions context.old) bytes.now → ExplainsNoArchive T.definitions bytes.now (C.state context.old).depth pos T.shape e) }
+    {
+        prove!(bytes.len() <= usize::MAX);
+        match &self.schema {
+            None => check_root::<T, C>(bytes, pos, context),
+            Some(schema) => schema.check(bytes, pos, context),
+        }
+    }
+
+    /// Checks that `bytes` are an archive whose root lies at `pos`, and answers the root's view. Refused with 1 where memory is refused, else with the
+    /// first fault of the bytes, in the order that docs/FORMAT.md gives.
+    pub fn access_pos<'a>(&self, bytes: &'a [u8], pos: usize) -> Result<Ref<'a, T>, Error>
+        ensures accepted { OnOk result (IsArchive T.definitions bytes.now pos T.shape) }
+        ensures refused { IfErr result (IsRefusal T.definitions bytes.now None pos T.shape) }
+        ensures exact { IfErr result (ExplainsNoArchive T.definitions bytes.now None pos T.shape) }
+        ensures buffer { IfOk result (λ r. r.bytes.now ≡ bytes.now) }
+        ensures position { IfOk result (λ r. r.pos ≡ pos) }
+        ensures whole { IfOk result (λ r. r.len ≡ 0) }
+    {
+        let mut context = HighValidator::new(self.alloc, bytes);
+        if let Err(error) = self.check_pos_with_context(bytes, pos, &mut context) {
+            return Err(error);
+        }
+        Ok(Ref::at(Part { bytes, pos, len: 0 }))
+    }
+
+    /// Checks that `bytes` are an archive whose root lies at the end, and answers the root's view. Refused as by `access_pos`.
+    pub fn access<'a>(&self, bytes: &'a [u8]) -> Result<Ref<'a, T>, Error>
+        ensures accepted { OnOk result (IsArchive T.definitions bytes.now (length bytes.now - T.layout.size) T.shape) }
+        ensures refused { IfErr result (IsRefusal T.definitions bytes.now None (length bytes.now - T.layout.size) T.shape) }
+        ensures exact { IfErr result (ExplainsNoArchive T.definitions bytes.now None (length bytes.now - T.layout.size) T.shape) }
+        ensures buffer { IfOk result (λ r. r.bytes.now ≡ bytes.now) }
+        ensures position { IfOk result (λ r. r.pos ≡ length bytes.now - T.layout.size) }
+        ensures whole { IfOk result (λ r. r.len ≡ 0) }
+    {
+        self.access_pos(bytes, super::root_position::<T>(bytes.len()))
+    }
+
+    /// Checks that `bytes` are an archive of a `U`, its root at the end, and reads it back: the answer means what the archive denotes, its shared values
+    /// named by their positions. `deserializer` is empty; `()` where nothing is shared. Refused as by `access`, and with 13 where a shared value holds
+    /// itself, so never where the type shares nothing.
+    pub fn from_bytes<U: Archive<Archived = T>, D: Entries>(
+        &self,
+        bytes: &[u8],
+        deserializer: &mut D,
+    ) -> Result<U, Error>
+    where
+        T: Deserialize<U, D>,
+        ensures accepted { OnOk result (IsArchive T.definitions bytes.now (length bytes.now - T.layout.size) T.shape) }
+        ensures value { IfOk result (λ t. NoEntries (D.entry_of deserializer.old) → IsValueOf T.definitions bytes.now (length bytes.now - T.layout.size) T.shape (U.meaning t)) }
+        ensures entries { OnOk result (KeepsEntries (D.entry_of deserializer.old) (D.entry_of deserializer.new)) }
+        ensures refused { IfErr result (λ e. IsRefusal T.definitions bytes.now None (length bytes.now - T.layout.size) T.shape e
+            ⊎ ((e ≡ CyclicDeserialize) × IsCyclic T.definitions bytes.now (D.entry_of deserializer.old) (length bytes.now - T.layout.size) T.pointee 0)) }
+        ensures unshared { IsUnshared T.definitions T.shape → IfErr result (IsRefusal T.definitions bytes.now None (length bytes.now - T.layout.size) T.shape) }
+        ensures exact { IsUnshared T.definitions T.shape → IfErr result (ExplainsNoArchive T.definitions bytes.now None (length bytes.now - T.layout.size) T.shape) }
+    {
+        let root = self.access(bytes)?;
+        <T as Deserialize<U, D>>::deserialize(self.alloc, root, deserializer)
+    }
+}
