@@ -7,8 +7,8 @@ ghost use Rattle.archive_check.specs.Shape.{Shape, leaf, unit};
 ghost use Rattle.archive_check.specs.Definitions.{Definitions, no_definition};
 ghost use Rattle.archive_check.specs.SelfCheck.Ways.{Goes, Halts, shape_way};
 
-use crate::format::error::Error;
 use crate::context::ArchiveContext;
+use crate::format::error::Error;
 
 mod elements;
 mod leaves;

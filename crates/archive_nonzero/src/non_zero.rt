@@ -9,11 +9,11 @@ ghost use Rattle.archive_check.specs.SelfCheck.Laws.{leaf_check};
 ghost use Rattle.archive_check.specs.Expressions.{kind_of};
 ghost use Rattle.archive_num.specs.Digits.{is_zero};
 
+use archive_check::context::ArchiveContext;
 use archive_check::format::error::Error;
 use archive_check::format::expr::{Defs, Expr, Kind};
-use archive_check::self_check::{SelfCheck, check_leaf};
 use archive_check::format::traits::{ArchivePointee, Portable};
-use archive_check::context::ArchiveContext;
+use archive_check::self_check::{SelfCheck, check_leaf};
 use archive_num::Integer;
 use std::alloc::{AllocError, Global};
 use std::cmp::Ordering;

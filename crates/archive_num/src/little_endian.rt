@@ -8,11 +8,11 @@ ghost use Rattle.archive_check.specs.LeafLayout.{leaf_layout, leaf_align, leaf_h
 ghost use Rattle.archive_check.specs.SelfCheck.Laws.{leaf_check};
 
 use crate::Native;
+use archive_check::context::ArchiveContext;
 use archive_check::format::error::Error;
 use archive_check::format::expr::{Defs, Expr};
-use archive_check::self_check::{SelfCheck, check_leaf};
 use archive_check::format::traits::{ArchivePointee, Portable};
-use archive_check::context::ArchiveContext;
+use archive_check::self_check::{SelfCheck, check_leaf};
 use std::alloc::{AllocError, Global};
 use std::cmp::Ordering;
 use std::fmt;

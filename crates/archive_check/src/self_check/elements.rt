@@ -7,11 +7,11 @@ ghost use Rattle.archive_check.specs.SelfCheck.Ways.{Goes, Halts, shape_way, run
 use super::SelfCheck;
 use super::regions::{enter, leave};
 use super::values::{check_value, whole_size};
+use crate::context::ArchiveContext;
 use crate::format::bytes::{read_position, read_u32};
 use crate::format::error::Error;
-use crate::plan::extents::times;
 use crate::format::traits::Portable;
-use crate::context::ArchiveContext;
+use crate::plan::extents::times;
 use std::marker::PhantomData;
 
 // Checks so many of `T` that take no bytes: the first stands for all.

@@ -10,10 +10,10 @@ ghost use Rattle.archive_check.specs.SelfCheck.Ways.{Goes, Halts, shape_way};
 
 use super::SelfCheck;
 use super::refusals::refuse;
+use crate::context::ArchiveContext;
 use crate::format::error::Error;
 use crate::format::expr::{IntegerKind, Kind};
 use crate::format::leaf::{illegal, is_legal};
-use crate::context::ArchiveContext;
 
 /// Checks the leaf of this kind at `at`. `None` where the check stops, and `refusal` is why: 25 at a bool, 26 at a char, 27 at a number that is 0.
 #[inline(always)]

@@ -10,10 +10,10 @@ ghost use Rattle.archive_check.specs.SelfCheck.Regions.{rises_over};
 
 use super::SelfCheck;
 use super::values::check_value;
-use crate::format::error::Error;
-use crate::plan::extents::offset_of;
-use crate::format::traits::Portable;
 use crate::context::ArchiveContext;
+use crate::format::error::Error;
+use crate::format::traits::Portable;
+use crate::plan::extents::offset_of;
 use std::marker::PhantomData;
 
 /// Parts that are checked one behind another: `()`, or `(A, R)` for an `A` and then the parts of `R`.

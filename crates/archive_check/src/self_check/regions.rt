@@ -6,9 +6,9 @@ ghost use Rattle.archive_check.specs.SelfCheck.Regions.{Begun, EntersNot};
 
 use super::refusals::{keep, refuse};
 use crate::check::Region;
+use crate::context::ArchiveContext;
 use crate::format::error::Error;
 use crate::format::layout::Layout;
-use crate::context::ArchiveContext;
 use std::ops::Range;
 
 // The position as an index.

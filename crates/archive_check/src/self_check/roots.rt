@@ -7,9 +7,9 @@ ghost use Rattle.archive_check.specs.FreshContexts.{IsWhole};
 ghost use Rattle.archive_check.specs.Archives.{IsArchiveWithin, IsRefusal, ExplainsNoArchive};
 
 use super::values::check_one;
+use crate::context::ArchiveContext;
 use crate::format::error::Error;
 use crate::format::traits::Portable;
-use crate::context::ArchiveContext;
 
 /// Checks that `bytes` are an archive whose root, a `T`, lies at `pos`, where `T` checks itself. In a context for these bytes that met nothing yet the
 /// answer is exact: Ok where they are one with no region too deep, else the refusal of the first test that is false, in the order that docs/FORMAT.md

@@ -8,9 +8,11 @@ ghost use Rattle.archive_check.specs.SelfCheck.Ways.{Goes, Halts, enter_way};
 use super::SelfCheck;
 use super::refusals::refuse;
 use super::regions::{enter, leave};
-use crate::format::bytes::{inline_length, is_out_of_line, is_text, read_coded_length, read_position};
-use crate::format::error::Error;
 use crate::context::ArchiveContext;
+use crate::format::bytes::{
+    inline_length, is_out_of_line, is_text, read_coded_length, read_position,
+};
+use crate::format::error::Error;
 
 // Checks the region of a text of so many bytes at `position`.
 #[inline(always)]

@@ -7,10 +7,10 @@ ghost use Rattle.archive_check.specs.SelfCheck.Ways.{Goes, Halts, shape_way, ent
 
 use super::SelfCheck;
 use super::regions::{enter, leave};
+use crate::context::ArchiveContext;
 use crate::format::bytes::read_position;
 use crate::format::error::Error;
 use crate::format::traits::Portable;
-use crate::context::ArchiveContext;
 use std::marker::PhantomData;
 
 // Checks the `T` at `at`.

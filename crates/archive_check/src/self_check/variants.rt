@@ -7,8 +7,8 @@ ghost use Rattle.archive_check.specs.SelfCheck.Ways.{Goes, Halts, shape_way, Var
 
 use super::parts::CheckedParts;
 use super::refusals::refuse;
-use crate::format::error::Error;
 use crate::context::ArchiveContext;
+use crate::format::error::Error;
 
 /// Variants that are checked by their tags: `()`, or `(P, V)` for the parts `P` with the tag 0 and then the variants of `V`.
 pub trait CheckedVariants {

@@ -15,10 +15,10 @@ ghost use Rattle.archive_check.specs.declared.format.error.Error.TheVariants.{Cy
 use crate::context::HighValidator;
 use crate::traits::{Archive, Deserialize, Entries, Portable};
 use crate::view::{Part, Ref};
+use archive_check::context::{ArchiveContext, SharedContext};
 use archive_check::format::error::Error;
 use archive_check::self_check::{SelfCheck, check_root};
 use archive_check::shape::Schema;
-use archive_check::context::{ArchiveContext, SharedContext};
 use std::alloc::Global;
 use std::marker::PhantomData;
 

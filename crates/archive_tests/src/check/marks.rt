@@ -13,11 +13,11 @@ ghost use Rattle.archive_check.specs.NamedLayout.{name_has_layout, name_reached}
 ghost use Rattle.archive_tests.specs.Forms.{rc, reaches_around};
 ghost use Rattle.archive_check.specs.SelfCheck.Laws.{by_schema};
 
-use archive_check::self_check::BySchema;
 use archive_check::format::error::Error;
 use archive_check::format::expr::{Defs, Expr, FlavorInfo, Pointee};
 use archive_check::format::layout::Layout;
 use archive_check::format::traits::{ArchivePointee, Portable};
+use archive_check::self_check::BySchema;
 use std::alloc::Global;
 use std::marker::PhantomData;
 

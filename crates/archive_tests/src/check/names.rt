@@ -8,15 +8,14 @@ ghost use Rattle.archive_check.specs.Defined.{mentions_parts, mentions_first, me
 ghost use Rattle.archive_check.specs.Definitions.{defines};
 ghost use Rattle.archive_check.specs.NamedLayout.{name_reached};
 ghost use Rattle.archive_tests.specs.Forms.{u64 as number64, tagged, itself, reaches_around};
+ghost use Rattle.archive_check.specs.SelfCheck.Laws.{by_schema};
 
 use super::forms::{Id, pair_of};
 use super::marks::Named;
-ghost use Rattle.archive_check.specs.SelfCheck.Laws.{by_schema};
-
-use archive_check::self_check::BySchema;
 use archive_check::format::error::Error;
 use archive_check::format::expr::{Defs, Expr, Pointee};
 use archive_check::format::traits::{ArchivePointee, Portable};
+use archive_check::self_check::BySchema;
 use std::alloc::Global;
 
 /// A record of a `u8` and the name `ArchivedId`, which is a `u64`.
