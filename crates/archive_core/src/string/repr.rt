@@ -1,4 +1,4 @@
-//! The eight bytes of a string.
+//! The eight bytes of a string, as rkyv 0.8.18 has them.
 
 ghost use Rattle.std.specs.Prelude.{◌≡◌, ◌<◌, ◌≤◌, MatchResult, FitsSigned, length};
 ghost use Rattle.std.specs.Int.{w32};
@@ -8,13 +8,14 @@ ghost use Rattle.archive_core.specs.Strings.{inline_bytes, out_of_line_bytes, co
 use crate::rel_ptr::signed_offset;
 use archive_check::format::error::Error;
 
-/// A text of at most so many bytes stands in the string itself.
+/// A text of at most so many bytes stands in the string itself. As in rkyv 0.8.18.
 pub const INLINE_CAPACITY: usize = 8;
 
-/// A text of more bytes than these can't be archived.
+/// A string's text of more bytes than these can't be archived. As in rkyv 0.8.18.
 pub const OUT_OF_LINE_CAPACITY: usize = 1_073_741_823;
 
-/// Writes a short text over the string's bytes, and 0xff over those that it leaves.
+/// Writes a short text over the string's bytes, and 0xff over those that it leaves. Asks for a text of at most `INLINE_CAPACITY` bytes and for the
+/// eight bytes of the string; it is never refused.
 pub fn emplace_inline(value: &str, out: &mut [u8])
     requires short { length value.now ≤ 8 }
     requires sized { length out.old ≡ 8 }
@@ -34,8 +35,10 @@ fn coded(len: usize) -> u32
     ((len & 0x3f) | 0x80 | ((len & !0x3f) << 2)) as u32
 }
 
-/// Writes over the bytes of the string at `pos` that its text stands at `target`. Refused with 2 exactly where the offset doesn't fit `isize`,
-/// and else with 3 exactly where it doesn't fit 32 bits; the bytes are then unchanged.
+/// Writes over the bytes of the string at `pos` that its text stands at `target`, both in bytes from the buffer's first one. Asks for a text of more
+/// than `INLINE_CAPACITY` and at most `OUT_OF_LINE_CAPACITY` bytes, and for the eight bytes of the string. Refused with `IsizeOverflow`, 2, exactly
+/// where the offset doesn't fit `isize`, and else with `OffsetOverflow`, 3, exactly where it doesn't fit 32 bits; the bytes are then unchanged,
+/// where rkyv 0.8.18 has written the length.
 pub fn try_emplace_out_of_line(
     value: &str,
     pos: usize,
