@@ -1,8 +1,7 @@
 -- That a schema is one of a shape is a fact: it has one proof at most, so that a struct may keep it.
-use Rattle.std.proofs.Common.{◌≡◌, refl, sym, ap, ◌∙◌, Bool, true, false, Option, Some, None, Contains}
+use Rattle.std.proofs.Common.{◌≡◌, refl, sym, ap, ◌∙◌, Bool, true, false, Option, Some, None, is_some, Contains}
 use mathlib.Core.HLevel.{Stable-paths→set, Π_prop, →_prop, is_prop→PathP, ⊥_prop}
 use mathlib.Core.Bool.{true≢false}
-use Rattle.std.proofs.Props.{props}
 use Rattle.archive_check.specs.declared.shape.Schema.{Schema as RustSchema}
 use Rattle.archive_check.specs.Shape.{Name, Shape, Table, definition}
 use Rattle.archive_check.specs.Equality.{same_shape, same_shape-Decides}
@@ -10,19 +9,30 @@ use Rattle.archive_check.specs.Defined.{AllDefined, WellFormed}
 use Rattle.archive_check.specs.Definitions.{Definitions, listed}
 use Rattle.archive_check.specs.Schemas.{IsSchemaOf}
 
--- two shapes are the same in one way at most, since a test tells them apart
-pub Shape-set : IsSet Shape
-Shape-set = Stable-paths→set (λ x y h. by_test x y (same_shape x y) refl h)
-  where
-    by_test : (x y : Shape) (b : Bool) → same_shape x y ≡ b → ((x ≡ y → ⊥) → ⊥) → x ≡ y
-    by_test x y true e h = (same_shape-Decides x y).0 e
-    by_test x y false e h = absurd (h (λ p. true≢false (sym ((same_shape-Decides x y).1 p) ∙ e)))
+-- what can't differ is the same, since a test tells shapes apart
+same_by : (x y : Shape) (b : Bool) → same_shape x y ≡ b → ((x ≡ y → ⊥) → ⊥) → x ≡ y
+same_by x y true e h = (same_shape-Decides x y).0 e
+same_by x y false e h = absurd (h (λ p. true≢false (sym ((same_shape-Decides x y).1 p) ∙ e)))
 
-found-set : IsSet (Option Shape)
-found-set = Prim.hlevel (props, Shape-set)
+-- so two shapes are the same in one way at most
+pub Shape-set : IsSet Shape
+Shape-set = Stable-paths→set (λ x y h. same_by x y (same_shape x y) refl h)
+
+abbrev or_this : Shape → Option Shape → Shape
+or_this X None = X
+or_this X (Some Y) = Y
 
 some_same : (X Y : Shape) → Some X ≡ Some Y → X ≡ Y
-some_same X Y e = cc
+some_same X Y e = ap (or_this X) e
+
+found_by : (a b : Option Shape) → ((a ≡ b → ⊥) → ⊥) → a ≡ b
+found_by None None h = refl
+found_by (Some X) (Some Y) h = ap Some (same_by X Y (same_shape X Y) refl (λ n. h (λ p. n (some_same X Y p))))
+found_by (Some X) None h = absurd (h (λ p. true≢false (ap is_some p)))
+found_by None (Some Y) h = absurd (h (λ p. true≢false (sym (ap is_some p))))
+
+found-set : IsSet (Option Shape)
+found-set = Stable-paths→set found_by
 
 AllDefined-prop : (table : Table) (X : Shape) → IsProp (AllDefined table X)
 AllDefined-prop table X = Π_prop (λ name. →_prop (one name))

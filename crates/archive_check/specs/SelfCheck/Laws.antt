@@ -1,6 +1,7 @@
 -- When a check of one shape is a check of a type, and the laws of those that stand here.
 use Rattle.std.specs.Prelude.{◌≡◌, ℕ, List, [], Option, Some, None, true, false, IsTrue, nat_le}
-use Rattle.std.proofs.Common.{refl, arith}
+use mathlib.Core.Bool.{true≢false}
+use Rattle.std.proofs.Common.{refl, sym, arith}
 use Rattle.std.proofs.lemmas.Bool.Decides.{nat_tests}
 use Rattle.std.specs.Int.{w8, w16, w32, w64, w128}
 use Rattle.archive_check.specs.Shape.{Name, Kind, unit, bool, char, number, non_zero, raw_rel, Shape, leaf, named, Table, definition}
@@ -31,7 +32,7 @@ pub record IsCheckOf (D : Definitions) (X : Shape) (size : ℕ) (E : Definitions
 
 -- a type that says no has no law to show
 pub by_schema : {A : Type 0} → IsTrue false → A
-by_schema says = absurd (let none : IsTrue false = says in cc)
+by_schema says = absurd (true≢false (sym says))
 
 no_more : (n : ℕ) → nat_le n n ≡ true
 no_more n = grind (arith, nat_tests)

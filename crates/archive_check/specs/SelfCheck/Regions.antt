@@ -60,3 +60,7 @@ align_some a (inr (inr (inr (inr (inr e))))) = omega arith
 -- parts end no lower behind one part more
 pub rises_over : (n a z : ℕ) → IsAlign a → (end : ℕ → ℕ) → ((m : ℕ) → m ≤ end m) → n ≤ end (up n a + z)
 rises_over n a z is end rises = omega (arith, align_some a is, rises (up n a + z))
+
+-- nothing ends below itself
+pub no_lower : (n : ℕ) → n ≤ n
+no_lower n = omega arith

@@ -1,12 +1,11 @@
 // Parts laid out one behind another.
 
 ghost use Rattle.std.specs.Prelude.{Bool, ◌&&◌, ◌≡◌, ◌+◌, ◌≤◌, ℕ, length, OnSome, IfNone, true, IsTrue};
-ghost use Rattle.std.proofs.Common.{rules};
 ghost use Rattle.archive_check.specs.Shape.{Parts, part, no_part, parts};
 ghost use Rattle.archive_check.specs.Layout.{up};
 ghost use Rattle.archive_check.specs.Definitions.{Definitions, both, no_definition};
 ghost use Rattle.archive_check.specs.SelfCheck.Ways.{Goes, Halts, parts_way};
-ghost use Rattle.archive_check.specs.SelfCheck.Regions.{rises_over};
+ghost use Rattle.archive_check.specs.SelfCheck.Regions.{no_lower, rises_over};
 
 use super::SelfCheck;
 use super::values::check_value;
@@ -60,7 +59,7 @@ impl CheckedParts for () {
 
     ghost direct = { true };
 
-    ghost rises = { λ n. Prim.search rules };
+    ghost rises = { no_lower };
 
     fn are_direct() -> bool {
         true

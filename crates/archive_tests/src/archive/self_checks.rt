@@ -1,0 +1,244 @@
+// Types that check themselves answer as their schemas do; and a kept check answers views.
+
+ghost use Rattle.std.specs.Prelude.{◌≢◌, refl, Some};
+ghost use Rattle.std.specs.Int.{w16, w32};
+ghost use Rattle.std.proofs.Common.{inl, inr};
+ghost use Rattle.archive_check.specs.Shape.{array, boxed, leaf, non_zero, number, one, unsigned};
+ghost use Rattle.archive_check.specs.Definitions.{no_definition};
+ghost use Rattle.archive_check.specs.LeafLayout.{no_definition_reached};
+ghost use Rattle.archive_check.specs.SelfCheck.Laws.{by_schema, plain_check};
+
+use crate::archive::HELLO_WORLD;
+use archive_core::api::{Access, HighValidator, check_pos_with_context};
+use archive_core::error::Error;
+use archive_core::primitive::{
+    ArchivedChar, ArchivedNonZeroU16, ArchivedU16, ArchivedU32, ArchivedU128,
+};
+use archive_core::self_check::{BoxCheck, BySchema};
+use archive_core::shape::{Defs, Expr, Pointee, Schema};
+use archive_core::string::ArchivedString;
+use archive_core::traits::{ArchivePointee, Portable};
+use std::alloc::{AllocError, Global};
+use std::test::Fail;
+
+// A box of a number that isn't 0: it checks itself.
+struct ArchivedBoxed;
+
+impl ArchivePointee for ArchivedBoxed {
+    type ArchivedMetadata = ();
+
+    ghost pointee = { one (boxed (one (leaf (non_zero unsigned w16)))) };
+
+    ghost definitions = { no_definition };
+
+    ghost metadata_length = { λ _. 0 };
+
+    fn pointer_metadata(_metadata: &()) -> usize {
+        0
+    }
+}
+
+impl Portable for ArchivedBoxed {
+    ghost shape = { boxed (one (leaf (non_zero unsigned w16))) };
+
+    ghost layout = { record { size = 4; align = 4 } };
+
+    type Check = BoxCheck<ArchivedNonZeroU16>;
+
+    ghost is_one = { refl };
+
+    ghost is_align = { inr (inr (inl refl)) };
+
+    ghost has_layout = { record { solved = λ s k. refl } };
+
+    ghost no_others = { no_definition_reached (boxed (one (leaf (non_zero unsigned w16)))) };
+
+    ghost checks = { λ direct. plain_check (boxed (one (leaf (non_zero unsigned w16)))) 4 refl refl };
+
+    fn size() -> usize {
+        4
+    }
+
+    fn align() -> usize {
+        4
+    }
+
+    fn expr(alloc: Global) -> Result<Expr, Error> {
+        let pointee = Pointee::One(ArchivedNonZeroU16::expr(alloc)?);
+        Ok(Expr::Box(Box::new(alloc, pointee)?))
+    }
+
+    fn define(_alloc: Global, _defs: &mut Defs) -> Result<(), Error> {
+        Ok(())
+    }
+}
+
+// Two numbers, which their schema checks.
+struct ArchivedTwo;
+
+impl ArchivePointee for ArchivedTwo {
+    type ArchivedMetadata = ();
+
+    ghost pointee = { one (array 2 (leaf (number unsigned w32))) };
+
+    ghost definitions = { no_definition };
+
+    ghost metadata_length = { λ _. 0 };
+
+    fn pointer_metadata(_metadata: &()) -> usize {
+        0
+    }
+}
+
+impl Portable for ArchivedTwo {
+    ghost shape = { array 2 (leaf (number unsigned w32)) };
+
+    ghost layout = { record { size = 8; align = 4 } };
+
+    type Check = BySchema;
+
+    ghost is_one = { refl };
+
+    ghost is_align = { inr (inr (inl refl)) };
+
+    ghost has_layout = { record { solved = λ s k. refl } };
+
+    ghost no_others = { no_definition_reached (array 2 (leaf (number unsigned w32))) };
+
+    ghost checks = { λ direct. by_schema direct };
+
+    fn size() -> usize {
+        8
+    }
+
+    fn align() -> usize {
+        4
+    }
+
+    fn expr(alloc: Global) -> Result<Expr, Error> {
+        Ok(Expr::Array(2, Box::new(alloc, ArchivedU32::expr(alloc)?)?))
+    }
+
+    fn define(_alloc: Global, _defs: &mut Defs) -> Result<(), Error> {
+        Ok(())
+    }
+}
+
+// Whether a check and one by the schema accept with as many regions entered, or refuse alike; with so many levels.
+fn answers_alike<T: Portable>(
+    alloc: Global,
+    schema: &Schema,
+    bytes: &[u8],
+    pos: usize,
+    levels: Option<usize>,
+) -> bool
+    requires { levels ≢ Some 0 }
+{
+    let mut own = HighValidator::with_max_depth(alloc, bytes, levels);
+    let mut other = HighValidator::with_max_depth(alloc, bytes, levels);
+    let answer = check_pos_with_context::<T, HighValidator<'_>>(alloc, bytes, pos, &mut own);
+    if answer != schema.check(bytes, pos, &mut other) {
+        return false;
+    }
+    answer.is_err() || own.subtrees() == other.subtrees()
+}
+
+// The same at each position, with any number of levels, and with three, two and one.
+fn agrees<T: Portable>(alloc: Global, schema: &Schema, bytes: &[u8]) -> bool {
+    let levels = [None, Some(3), Some(2), Some(1)];
+    (0..bytes.len().saturating_add(2)).all(|pos| {
+        levels
+            .iter()
+            .all(|level| answers_alike::<T>(alloc, schema, bytes, pos, *level))
+    })
+}
+
+// The archive with another byte at an index.
+fn edited(
+    alloc: Global,
+    archive: &[u8],
+    index: usize,
+    value: u8,
+) -> Result<Vec<u8>, AllocError> {
+    let mut bytes = Vec::new(alloc);
+    bytes.extend_from_slice(archive)?;
+    if let Some(byte) = bytes.get_mut(index) {
+        *byte = value;
+    }
+    Ok(bytes)
+}
+
+// The same for the archive, for each beginning of it, and with each byte in turn made another one.
+fn agrees_when_edited<T: Portable>(alloc: Global, archive: &[u8]) -> Result<bool, Error> {
+    let schema = Schema::of::<T>(alloc)?;
+    for index in 0..archive.len() {
+        if !agrees::<T>(alloc, &schema, &archive[..index]) {
+            return Ok(false);
+        }
+        for value in [0, 1, 2, 0x7f, 0x80, 0xc3, 0xd8, 0xf0, 0xff] {
+            let bytes = edited(alloc, archive, index, value)?;
+            if !agrees::<T>(alloc, &schema, &bytes) {
+                return Ok(false);
+            }
+        }
+    }
+    Ok(agrees::<T>(alloc, &schema, archive))
+}
+
+#[test]
+fn leaves_check_themselves_as_their_schemas_do(rt: HostRuntime) -> Result<(), Fail> {
+    let alloc = rt.alloc();
+    assert!(rt; agrees_when_edited::<()>(alloc, b"\x01")?);
+    assert!(rt; agrees_when_edited::<bool>(alloc, b"\x01\0\x02")?);
+    assert!(rt; agrees_when_edited::<u8>(alloc, b"\x01\xff")?);
+    assert!(rt; agrees_when_edited::<i8>(alloc, b"\x01\xff")?);
+    assert!(rt; agrees_when_edited::<ArchivedU16>(alloc, b"\x01\0\x02\0")?);
+    assert!(rt; agrees_when_edited::<ArchivedU32>(alloc, b"\x01\0\0\0\x02\0\0\0")?);
+    assert!(rt; agrees_when_edited::<ArchivedU128>(alloc, HELLO_WORLD)?);
+    assert!(rt; agrees_when_edited::<ArchivedChar>(alloc, b"\x41\0\0\0\xff\xd7\0\0")?);
+    assert!(rt; agrees_when_edited::<ArchivedNonZeroU16>(alloc, b"\x01\0\0\x01")?);
+    Ok(())
+}
+
+#[test]
+fn strings_and_boxes_check_themselves_as_their_schemas_do(rt: HostRuntime) -> Result<(), Fail> {
+    let alloc = rt.alloc();
+    assert!(rt; agrees_when_edited::<ArchivedString>(alloc, HELLO_WORLD)?);
+    assert!(rt; agrees_when_edited::<ArchivedString>(alloc, b"hi\xff\xff\xff\xff\xff\xff")?);
+    assert!(rt; agrees_when_edited::<ArchivedString>(alloc, "héé\u{20ac}".as_bytes())?);
+    assert!(rt; agrees_when_edited::<ArchivedBoxed>(alloc, b"\x07\0\0\0\xfc\xff\xff\xff")?);
+    Ok(())
+}
+
+#[test]
+fn a_kept_check_answers_views(rt: HostRuntime) -> Result<(), Fail> {
+    let strings: Access<ArchivedString> = Access::new(rt.alloc())?;
+    let view = strings.access(HELLO_WORLD)?;
+    assert_eq!(rt; view.as_str(), "hello world");
+    assert_eq!(rt; strings.access_pos(HELLO_WORLD, 12)?.pos(), 12);
+    let back: String = strings.from_bytes(HELLO_WORLD, &mut ())?;
+    assert_eq!(rt; back.as_str(), "hello world");
+    assert_eq!(rt;
+        strings.access(b"\xc0\x80\xff\xff\xff\xff\xff\xff").err(),
+        Some(Error::InvalidUtf8)
+    );
+    Ok(())
+}
+
+#[test]
+fn a_kept_schema_answers_views(rt: HostRuntime) -> Result<(), Fail> {
+    let numbers: Access<ArchivedTwo> = Access::new(rt.alloc())?;
+    let bytes = b"\0\0\0\0\x01\0\0\0\x02\0\0\0";
+    assert_eq!(rt; numbers.access(bytes)?.pos(), 4);
+    assert_eq!(rt; numbers.access_pos(bytes, 0)?.pos(), 0);
+    assert_eq!(rt;
+        numbers.access_pos(bytes, 8).err(),
+        Some(Error::InvalidSubtreePointer {
+            position: 8,
+            size: 8,
+            start: 0,
+            end: 12,
+        })
+    );
+    Ok(())
+}
