@@ -20,13 +20,14 @@ use Rattle.archive_write.specs.Written.{GoesOn, padding, ExplainsRefusal}
 use Rattle.archive_write.proofs.Padding.{padded}
 use Rattle.archive_core.specs.Offsets.{distance, IsTooFar}
 use Rattle.archive_core.specs.Strings.{to_text, string_flat}
+use Rattle.archive_core.specs.Planned.{text_region}
 use Rattle.archive_core.specs.TextPlans.{HindersStringAt}
 use Rattle.archive_core.specs.Writing.{NameMap, Naming, AreNamed, Puts}
 use Rattle.archive_core.specs.Plans.{Cursor, cursor, IsAt, Step, lays, Plans, plans_leaf, plans_inline, plans_out_of_line, plans_one, plans_text, plans_region, PlansRegion, PlanOf, RegionPlan, Serialized, serialized, SerializedRegion, serialized_region}
 use Rattle.archive_core.specs.Causes.{Explains, own_cause, of_isize, of_offset, of_position, of_length, of_number, of_string, of_layout, IsOwnCause, PartOf, HindersPartAt, part_itself, part_of_one, owner_string, IsTooWide, stands_too_far, too_wide, text_too_long, anywhere, too_far_from_here, part_hinders, length_hinders, end_hinders, Hinders, HindersRegion, HindersAt, HindersRegionAt, Reaches, RegionReaches, IsRefused, IsRegionRefused}
 use Rattle.archive_core.proofs.Appending.{size_is, align_is, writes_number, lays_one}
 use Rattle.archive_core.proofs.Causes.{explains_write, explains_sooner, explains_later}
-use Rattle.archive_core.proofs.StringsWritten.{up_one, flat_inline, flat_out_of_line, writes_inline, lays_text, writes_out_of_line}
+use Rattle.archive_core.proofs.StringsWritten.{flat_inline, flat_out_of_line, writes_inline, lays_text, writes_out_of_line}
 
 pub is_here : (w : WriterState) → IsAt (cursor w) w
 is_here w = record { place = refl; keys = λ k. refl }
@@ -53,17 +54,6 @@ pub isize_refused : (D : Definitions) (z : ℤ) (old new : WriterState) → (Fit
 isize_refused D z old new h = number_refused D (number_kind signed w32) z old new h
 
 -- texts
-
-text_region : (s : Schema) (names : NameMap) (bs : List ℕ) (a : Cursor) (holds : ℕ → List Step → Cursor → Type 0)
-    → holds a.place (lays (region_at s a.place text (length bs) false) (text_value bs) ∷ []) (record { place = a.place + length bs; states = a.states })
-    → RegionPlan s names text (length bs) (text_value bs) a holds
-text_region s names bs a holds h = record {
-  begin = a.place;
-  steps = lays (region_at s a.place text (length bs) false) (text_value bs) ∷ [];
-  stop = record { place = a.place + length bs; states = a.states };
-  plans = plans_region plans_text (sym (up_one a.place));
-  such = h;
-}
 
 pub serialized_text : (D : Definitions) (old new : WriterState) (bs : List ℕ) (t : ℕ) → IsUtf8 bs → new.bytes ≡ old.bytes ++ bs → t ≡ length old.bytes
     → KeepsKeys old.states new.states → SerializedRegion D text (length bs) [] (text_value bs) t old new

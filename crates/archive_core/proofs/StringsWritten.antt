@@ -18,6 +18,7 @@ use Rattle.archive_check.specs.WriterState.{WriterState, KeepsKeys}
 use Rattle.archive_check.proofs.StandingBytes.{stands_front, stands_back, stands_bytes, stands_index, zeroed_none}
 use Rattle.archive_check.proofs.Texts.{text_no_end, text_inline, text_before}
 use Rattle.archive_core.specs.Offsets.{distance}
+use Rattle.archive_core.specs.Planned.{up_one}
 use Rattle.archive_core.specs.Strings.{coded_length, inline_bytes, out_of_line_bytes, to_text, string_flat}
 use Rattle.archive_core.specs.Writing.{Resolves, Writes, LaysOut}
 use Rattle.archive_core.proofs.ShortTexts.{if_short, if_long}
@@ -110,9 +111,6 @@ resolves_out_of_line D p t n z a long few small there e =
     }
 
 -- what is written
-
-pub up_one : (n : ℕ) → up n 1 ≡ n
-up_one n = omega arith
 
 pub flat_inline : (bs : List ℕ) (t : ℕ) → length bs ≤ 8 → string_flat bs t ≡ text_value bs
 flat_inline bs t h = if_short (length bs) (hole (to_text t (length bs))) (text_value bs) h

@@ -151,6 +151,13 @@ pub record RegionPlan (s : Schema) (names : NameMap) (P : Pointee) (n : ℕ) (v 
   pub plans : PlansRegion s names false P n v a begin steps stop
   pub such : holds begin steps stop
 
+-- there is a plan, from wherever a writer stands
+abbrev pub HasPlan : Definitions → Shape → List Naming → Value → Type 0
+HasPlan D X keys v = (a : Cursor) → Whatever D keys (λ s names. PlanOf s names X v a (λ w C b. Unit {0}))
+
+abbrev pub HasRegionPlan : Definitions → Pointee → ℕ → List Naming → Value → Type 0
+HasRegionPlan D P n keys v = (a : Cursor) → Whatever D keys (λ s names. RegionPlan s names P n v a (λ t C b. Unit {0}))
+
 -- It went from a as planned: `flat` is what will be read, and the writer stands where the plan ends.
 abbrev pub GoesAsPlanned : Definitions → Shape → List Naming → Value → Cursor → Value → WriterState → Type 0
 GoesAsPlanned D X keys v a flat new = Whatever D keys (λ s names. PlanOf s names X v a (λ w C b. (w ≡ flat) × IsAt b new))

@@ -14,11 +14,12 @@ ghost use Rattle.archive_check.specs.Shape.{one};
 ghost use Rattle.archive_core.specs.Causes.{HindersRegion, IsRegionRefused};
 ghost use Rattle.archive_core.specs.Plans.{at_start, unshared};
 ghost use Rattle.archive_core.specs.Writing.{Archives};
+ghost use Rattle.archive_write.specs.Sharing.{KnowsNone};
 ghost use Rattle.archive_write.specs.Written.{GoesOn};
 
 mod kept;
 
-use crate::ser::{Serializer, Writer, serialize_one};
+use crate::ser::{Serializer, Writer, serialize_one, serialize_with};
 use crate::traits::{Archive, Deserialize, Entries, Keys, Portable, Serialize};
 use crate::view::{Part, Ref};
 pub use archive_check::context::HighValidator;
@@ -70,6 +71,24 @@ pub fn to_bytes_in<W: Writer + Drop, T: Serialize<Serializer<W, Global, ()>>>(
     let (writer, root) = serialize_whole(alloc, value, writer);
     root?;
     Ok(writer)
+}
+
+/// Appends an archive of `value` to what `writer` holds, its root at the end, and answers the root's position, in bytes from the first one. The
+/// writer knows no shared key yet; a value that shares, or takes memory for resolvers, has a `Serializer` as its writer. Memory for a large root
+/// comes from `alloc`. Refused with what the value's parts or the writer refuse with, with 23 where the root would end above `usize::MAX`, or with 1
+/// where memory is refused; `writer` then holds what was written of the archive.
+pub fn to_bytes_into<W: Writer, T: Serialize<W>>(
+    alloc: Global,
+    value: &T,
+    writer: &mut W,
+) -> Result<usize, Error>
+    ensures archived { KnowsNone (W.state writer.old).states → IfOk result (λ root. Archives T.Archived.definitions (W.state writer.old).bytes
+        (W.state writer.new).bytes root T.Archived.shape T.Archived.layout.size (T.keys value.now) (T.meaning value.now)) }
+    ensures goes_on { GoesOn (W.state writer.old) (W.state writer.new) }
+    ensures refused { IfErr result (IsRegionRefused T.Archived.definitions (one T.Archived.shape) 0 (T.keys value.now) (T.meaning value.now)
+        (W.state writer.old) (W.state writer.new)) }
+{
+    serialize_with(alloc, value, writer)
 }
 
 /// An archive of `value`, its root at the end. Memory comes from `alloc`. Refused with what the value's parts refuse with, with 23 where the root

@@ -1,7 +1,7 @@
 //! Numbers, bools, chars and `()`: their formats, and how they are archived and read back, as in rkyv 0.8.18. None of them is ever refused but a
 //! `usize` or `isize` that doesn't fit 32 bits: `NumberTooLarge`, 6.
 
-ghost use Rattle.std.specs.Prelude.{◌≡◌, ⊤, ℕ, [], length, IfOk, OnOk, IfErr, IsOk};
+ghost use Rattle.std.specs.Prelude.{◌≡◌, ⊤, ℕ, [], length, refl, IfOk, OnOk, IfErr, IsOk};
 ghost use Rattle.archive_check.specs.Shape.{leaf, one};
 ghost use Rattle.archive_check.specs.Reads.{bytes_at, IsLegal};
 ghost use Rattle.archive_check.specs.Definitions.{no_definition, Definitions};
@@ -10,6 +10,7 @@ ghost use Rattle.archive_check.specs.Viewed.{Viewed, Says};
 ghost use Rattle.archive_check.specs.Layout.{kind_size};
 ghost use Rattle.archive_core.specs.Keyed.{number_keyed};
 ghost use Rattle.archive_core.specs.Causes.{HindersAt, IsRefused};
+ghost use Rattle.archive_core.specs.Planned.{leaf_planned};
 ghost use Rattle.archive_core.specs.Plans.{Serialized};
 ghost use Rattle.archive_core.specs.Writing.{Fresh, Resolves};
 ghost use Rattle.archive_write.specs.Written.{GoesOn};
@@ -79,6 +80,8 @@ impl<N: Source> Archive for N {
 
     ghost keyed = { λ n. number_keyed (N.value_of n) };
 
+    ghost planned = { λ n. leaf_planned N.Format.definitions N.Format.shape N.kind [] (N.value_of n) N.same_shape };
+
     fn resolve(&self, _resolver: (), place: Place<'_, N::Format>) -> Result<(), Error>
         requires fresh { Fresh (N.Format.layout.size) place.pos place.bytes.now }
         requires same_value { ⊤ }
@@ -122,6 +125,8 @@ impl<N: Native> Archive for LittleEndian<N> {
     ghost belongs = { λ _ _. ⊤ };
 
     ghost keyed = { λ n. number_keyed (N.value_of n) };
+
+    ghost planned = { λ n. leaf_planned no_definition (leaf N.kind) N.kind [] (N.value_of n) refl };
 
     fn resolve(&self, _resolver: (), place: Place<'_, LittleEndian<N>>) -> Result<(), Error>
         requires fresh { Fresh (kind_size N.kind) place.pos place.bytes.now }

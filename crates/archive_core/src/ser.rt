@@ -9,7 +9,7 @@ ghost use Rattle.archive_core.specs.Writing.{Fresh, Resolves, Puts};
 ghost use Rattle.archive_write.specs.Written.{GoesOn};
 
 use crate::place::Place;
-use crate::traits::{Archive, Keys, Portable, Serialize};
+use crate::traits::{Archive, Portable, Serialize};
 use archive_check::format::error::Error;
 pub use archive_write::ser::{Buffer, Positional, ResolverAlloc, Serializer, Writer, WriterExt};
 use std::alloc::Allocator;
@@ -99,13 +99,9 @@ pub trait ResolveExt: Writer {
 
 impl<W: Writer> ResolveExt for W {}
 
-/// Writes what `value` owns and then the value as a region of its own, at the next multiple of its alignment, and answers the region's position, in
-/// bytes from the first one. It asks nothing. Refused as the value's serialization or its resolving refuses, with `LayoutTooLarge`, 23, where the
-/// region would end above `usize::MAX`, with `OutOfMemory`, 1, where memory is refused, or as the writer refuses (`BufferOverflow`, 8;
-/// `WriterFailed`, 9). After a refusal, too, the bytes from before are a beginning of those that `serializer` holds, and known keys keep their
-/// states. Our own: rkyv 0.8.18 has it as `SerializeUnsized` of a value.
-#[tactic(auto, using(crate::proofs::Planned::serialized_one))]
-pub fn serialize_one<S: Writer + Keys + ResolverAlloc, T: Serialize<S>>(
+// Writes what a value owns and then the value as a region of its own. Memory for a large region comes from `alloc`.
+pub(crate) fn serialize_with<A: Allocator + Drop, S: Writer, T: Serialize<S>>(
+    alloc: A,
     value: &T,
     serializer: &mut S,
 ) -> Result<usize, Error>
@@ -118,6 +114,25 @@ pub fn serialize_one<S: Writer + Keys + ResolverAlloc, T: Serialize<S>>(
 {
     let resolver = value.serialize(serializer)?;
     serializer.align_for::<T::Archived>()?;
-    let alloc = serializer.resolver_alloc();
     serializer.resolve_aligned(alloc, value, resolver)
+}
+
+/// Writes what `value` owns and then the value as a region of its own, at the next multiple of its alignment, and answers the region's position, in
+/// bytes from the first one. It asks nothing. Refused as the value's serialization or its resolving refuses, with `LayoutTooLarge`, 23, where the
+/// region would end above `usize::MAX`, with `OutOfMemory`, 1, where memory is refused, or as the writer refuses (`BufferOverflow`, 8;
+/// `WriterFailed`, 9). After a refusal, too, the bytes from before are a beginning of those that `serializer` holds, and known keys keep their
+/// states. Our own: rkyv 0.8.18 has it as `SerializeUnsized` of a value.
+pub fn serialize_one<S: Writer + ResolverAlloc, T: Serialize<S>>(
+    value: &T,
+    serializer: &mut S,
+) -> Result<usize, Error>
+    ensures serialized { IfOk result (λ p. SerializedRegion T.Archived.definitions (one T.Archived.shape) 0 (T.keys value.now) (T.meaning value.now) p
+        (S.state serializer.old) (S.state serializer.new)) }
+    ensures ends { IfOk result (λ p. p + T.Archived.layout.size ≡ length (S.state serializer.new).bytes) }
+    ensures goes_on { GoesOn (S.state serializer.old) (S.state serializer.new) }
+    ensures refused { IfErr result (IsRegionRefused T.Archived.definitions (one T.Archived.shape) 0 (T.keys value.now) (T.meaning value.now)
+        (S.state serializer.old) (S.state serializer.new)) }
+{
+    let alloc = serializer.resolver_alloc();
+    serialize_with(alloc, value, serializer)
 }

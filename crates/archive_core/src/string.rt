@@ -17,6 +17,7 @@ ghost use Rattle.archive_write.specs.Written.{GoesOn};
 ghost use Rattle.archive_core.specs.Causes.{HindersAt, IsRefused, IsRegionRefused};
 ghost use Rattle.archive_core.specs.Keyed.{text_keyed};
 ghost use Rattle.archive_core.specs.Offsets.{distance, IsTooFar};
+ghost use Rattle.archive_core.specs.Planned.{string_planned, text_planned};
 ghost use Rattle.archive_core.specs.Plans.{Serialized, SerializedRegion};
 ghost use Rattle.archive_core.specs.Strings.{string_form, string_flat};
 ghost use Rattle.archive_core.specs.TextPlans.{HindersStringAt, ExplainsTextRefusal, ExplainsStringRefusal};
@@ -147,6 +148,8 @@ impl<'a> ArchiveUnsized for Text<'a> {
 
     ghost keyed = { λ t. text_keyed t.text.now };
 
+    ghost planned = { λ t. text_planned no_definition [] t.text.now };
+
     fn archived_metadata(&self) -> Result<ArchivedUsize, Error> {
         let Ok(len) = u32::try_from(self.text.len()) else {
             return Err(Error::LengthTooLarge);
@@ -265,6 +268,8 @@ impl Archive for String {
     ghost belongs = { λ s _. length (string_bytes s) ≤ 1073741823 };
 
     ghost keyed = { λ s. text_keyed (string_bytes s) };
+
+    ghost planned = { λ s. string_planned no_definition [] (string_bytes s) };
 
     fn resolve(
         &self,

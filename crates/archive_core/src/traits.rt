@@ -6,7 +6,7 @@ ghost use Rattle.archive_check.specs.Value.{Value};
 ghost use Rattle.archive_check.specs.Viewed.{Viewed, Says};
 ghost use Rattle.archive_check.specs.declared.format.error.Error.TheVariants.{OutOfMemory, CyclicDeserialize, LengthTooLarge};
 ghost use Rattle.archive_core.specs.Causes.{HindersAt, IsRefused, IsRegionRefused};
-ghost use Rattle.archive_core.specs.Plans.{Serialized, SerializedRegion};
+ghost use Rattle.archive_core.specs.Plans.{HasPlan, HasRegionPlan, Serialized, SerializedRegion};
 ghost use Rattle.archive_core.specs.Writing.{Naming, IsKeyed, Fresh, Resolves};
 ghost use Rattle.archive_write.specs.Written.{GoesOn};
 
@@ -59,6 +59,9 @@ pub trait Archive {
 
     // Its keys are those that its meaning leads to.
     ghost keyed: { (v : Self) → IsKeyed (keys v) (meaning v) };
+
+    // There is a plan of what it owns.
+    ghost planned: { (v : Self) → HasPlan Self.Archived.definitions Self.Archived.shape (keys v) (meaning v) };
 }
 
 /// A source that can be serialized to an `S`.
@@ -122,6 +125,9 @@ pub trait ArchiveUnsized {
 
     // Its keys are those that its meaning leads to.
     ghost keyed: { (v : Self) → IsKeyed (keys v) (meaning v) };
+
+    // There is a plan of it, with its region.
+    ghost planned: { (v : Self) → HasRegionPlan Self.Archived.definitions Self.Archived.pointee (source_length v) (keys v) (meaning v) };
 }
 
 /// A source that can be serialized to an `S` as a region of its own.

@@ -2,8 +2,12 @@
 use Rattle.std.proofs.Common.{ℕ, ℤ, zero, suc, List, [], ◌++◌}
 use Rattle.archive_check.specs.Value.{Value, Values, no_value, value, number, list}
 use Rattle.archive_check.specs.Reached.{Names, names_list, NamesAmong, names_first, names_later}
+use Rattle.archive_check.specs.Shape.{Kind, leaf, array}
+use Rattle.archive_check.specs.Definitions.{Definitions}
+use Rattle.archive_check.specs.Reads.{Schema}
 use Rattle.archive_core.specs.Keyed.{keyed_by_none}
-use Rattle.archive_core.specs.Writing.{IsKeyed}
+use Rattle.archive_core.specs.Plans.{Cursor, plans_leaf, plans_array, PlansRun, plans_none, plans_element, HasPlan}
+use Rattle.archive_core.specs.Writing.{IsKeyed, NameMap, Naming}
 
 abbrev pub repeated : ℕ → Value → Values
 repeated zero v = no_value
@@ -23,3 +27,12 @@ unnamed n k z (names_list h) = named_once n k z h
 
 pub numbers_keyed : (n : ℕ) (z : ℤ) → IsKeyed [] (list (repeated n (number z)))
 numbers_keyed n z = keyed_by_none (list (repeated n (number z))) (λ k h. absurd (unnamed n k z h))
+
+-- an array of one number owns nothing
+run_planned : (s : Schema) (names : NameMap) (kind : Kind) (z : ℤ) (a : Cursor) (n : ℕ) → PlansRun s names n (leaf kind) (repeated n (number z)) a (repeated n (number z)) [] a
+run_planned s names kind z a zero = plans_none
+run_planned s names kind z a (suc n) = plans_element plans_leaf (run_planned s names kind z a n)
+
+pub leaves_planned : (D : Definitions) (kind : Kind) (keys : List Naming) (n : ℕ) (z : ℤ) → HasPlan D (array n (leaf kind)) keys (list (repeated n (number z)))
+leaves_planned D kind keys n z a s names k m =
+    record { flat = list (repeated n (number z)); steps = []; stop = a; plans = plans_array (run_planned s names kind z a n); such = tt }

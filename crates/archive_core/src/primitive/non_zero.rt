@@ -1,6 +1,6 @@
 // Numbers that aren't 0 archive as themselves.
 
-ghost use Rattle.std.specs.Prelude.{◌≡◌, ⊤, [], length, IfOk, OnOk, IfErr, IsOk};
+ghost use Rattle.std.specs.Prelude.{◌≡◌, ⊤, [], length, refl, IfOk, OnOk, IfErr, IsOk};
 ghost use Rattle.archive_check.specs.Definitions.{no_definition};
 ghost use Rattle.archive_check.specs.Layout.{kind_size};
 ghost use Rattle.archive_check.specs.Shape.{leaf, one, non_zero};
@@ -9,6 +9,7 @@ ghost use Rattle.archive_check.specs.Value.{number};
 ghost use Rattle.archive_check.specs.Viewed.{Viewed, Says};
 ghost use Rattle.archive_core.specs.Keyed.{number_keyed};
 ghost use Rattle.archive_core.specs.Causes.{HindersAt, IsRefused};
+ghost use Rattle.archive_core.specs.Planned.{leaf_planned};
 ghost use Rattle.archive_core.specs.Plans.{Serialized};
 ghost use Rattle.archive_core.specs.Writing.{Fresh, Resolves};
 ghost use Rattle.archive_write.specs.Written.{GoesOn};
@@ -37,6 +38,8 @@ impl<N: Integer> Archive for NonZero<N> {
     ghost belongs = { λ _ _. ⊤ };
 
     ghost keyed = { λ n. number_keyed (N.value_of n) };
+
+    ghost planned = { λ n. leaf_planned no_definition (leaf (non_zero N.sign N.width)) (non_zero N.sign N.width) [] (N.value_of n) refl };
 
     fn resolve(&self, _resolver: (), place: Place<'_, NonZero<N>>) -> Result<(), Error>
         requires fresh { Fresh (kind_size (non_zero N.sign N.width)) place.pos place.bytes.now }

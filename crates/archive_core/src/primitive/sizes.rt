@@ -1,6 +1,6 @@
 // `usize` and `isize` as sources: 32 bits, and refused where they need more.
 
-ghost use Rattle.std.specs.Prelude.{◌≡◌, ◌<◌, ◌^◌, pos, length, IfOk, IfErr, IsOk, ⊤, [], OnOk};
+ghost use Rattle.std.specs.Prelude.{◌≡◌, ◌<◌, ◌^◌, pos, length, refl, IfOk, IfErr, IsOk, ⊤, [], OnOk};
 ghost use Rattle.std.specs.Int.{w32, cast_signed, cast_unsigned};
 ghost use Rattle.std.specs.Int.RustNames.{FitsSigned};
 ghost use Rattle.archive_check.specs.Shape.{leaf, one, number, signed, unsigned};
@@ -12,6 +12,7 @@ ghost use Rattle.archive_check.specs.declared.format.error.Error.TheVariants.{Nu
 ghost use Rattle.archive_check.specs.LittleEndian.{little_bytes, little_number};
 ghost use Rattle.archive_core.specs.Keyed.{number_keyed};
 ghost use Rattle.archive_core.specs.Causes.{HindersAt, IsRefused};
+ghost use Rattle.archive_core.specs.Planned.{leaf_planned};
 ghost use Rattle.archive_core.specs.Plans.{Serialized};
 ghost use Rattle.archive_core.specs.Writing.{Fresh, Resolves};
 ghost use Rattle.archive_write.specs.Written.{GoesOn};
@@ -38,6 +39,8 @@ impl Archive for usize {
     ghost belongs = { λ n _. n < 2 ^ 32 };
 
     ghost keyed = { λ n. number_keyed (pos n) };
+
+    ghost planned = { λ n. leaf_planned no_definition (leaf (number unsigned w32)) (number unsigned w32) [] (pos n) refl };
 
     #[tactic(auto, using(crate::proofs::Resolving::resolves_usize))]
     fn resolve(&self, _resolver: (), place: Place<'_, ArchivedUsize>) -> Result<(), Error>
@@ -104,6 +107,8 @@ impl Archive for isize {
     ghost belongs = { λ n _. FitsSigned w32 n };
 
     ghost keyed = { λ n. number_keyed n };
+
+    ghost planned = { λ n. leaf_planned no_definition (leaf (number signed w32)) (number signed w32) [] n refl };
 
     #[tactic(auto, using(crate::proofs::Resolving::resolves_isize))]
     fn resolve(&self, _resolver: (), place: Place<'_, ArchivedIsize>) -> Result<(), Error>

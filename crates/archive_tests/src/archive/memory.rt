@@ -9,7 +9,7 @@ ghost use Rattle.archive_check.specs.LeafLayout.{no_definition_reached};
 ghost use Rattle.archive_check.specs.Value.{list, number as number_value};
 ghost use Rattle.archive_core.specs.Causes.{HindersAt};
 ghost use Rattle.archive_core.specs.Writing.{Fresh, Resolves};
-ghost use Rattle.archive_tests.specs.Repeated.{numbers_keyed, repeated};
+ghost use Rattle.archive_tests.specs.Repeated.{leaves_planned, numbers_keyed, repeated};
 ghost use Rattle.archive_check.specs.SelfCheck.Laws.{by_schema};
 
 use archive_check::self_check::BySchema;
@@ -91,6 +91,8 @@ impl Archive for Sevens {
     ghost belongs = { λ _ _. ⊤ };
 
     ghost keyed = { λ _. numbers_keyed 25 (pos 117901063) };
+
+    ghost planned = { λ _. leaves_planned no_definition (number unsigned w32) [] 25 (pos 117901063) };
 
     #[tactic(auto, using(crate::proofs::Repeated::resolves_sevens))]
     fn resolve(&self, _resolver: (), place: Place<'_, ArchivedSevens>) -> Result<(), Error>

@@ -1,6 +1,6 @@
 use Rattle.archive_core.proofs.Causes.{err_by, err_from, goes_both, goes_written, goes_refused}
 use Rattle.archive_core.proofs.Planned.{one_owned, one_padded, one_hindered, serialized_if}
-use Rattle.archive_core.proofs.ser.serialize_one.Goals as goal
+use Rattle.archive_core.proofs.ser.serialize_with.Goals as goal
 
 pub returns-in_err-resolver-clause-refused : goal.returns-in_err-resolver-clause-refused
 returns-in_err-resolver-clause-refused g c = err_by c.from_residual.result c.in_err-resolver.field-0.0 _ c.from_residual.ensures.1
