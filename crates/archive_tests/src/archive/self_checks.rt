@@ -147,19 +147,12 @@ fn answers_alike<T: Portable>(
 fn agrees<T: Portable>(alloc: Global, schema: &Schema, bytes: &[u8]) -> bool {
     let levels = [None, Some(3), Some(2), Some(1)];
     (0..bytes.len().saturating_add(2)).all(|pos| {
-        levels
-            .iter()
-            .all(|level| answers_alike::<T>(alloc, schema, bytes, pos, *level))
+        levels.iter().all(|level| answers_alike::<T>(alloc, schema, bytes, pos, *level))
     })
 }
 
 // The archive with another byte at an index.
-fn edited(
-    alloc: Global,
-    archive: &[u8],
-    index: usize,
-    value: u8,
-) -> Result<Vec<u8>, AllocError> {
+fn edited(alloc: Global, archive: &[u8], index: usize, value: u8) -> Result<Vec<u8>, AllocError> {
     let mut bytes = Vec::new(alloc);
     bytes.extend_from_slice(archive)?;
     if let Some(byte) = bytes.get_mut(index) {
