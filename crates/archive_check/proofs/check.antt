@@ -2,6 +2,7 @@
 pub mod AtOnce
 pub mod ContextAgrees
 pub mod EnteredRegions
+pub mod Entries
 pub mod FollowedPointers
 pub mod LegalElements
 pub mod LegalParts
@@ -9,4 +10,5 @@ pub mod RootLoop
 pub mod RootRuns
 pub mod TurnInvariants
 pub mod TurnRules
+pub mod TurnExits
 pub mod TurnsEnd

@@ -5,3 +5,4 @@ pub mod LoopInvariant
 pub mod PlanChecks
 pub mod Runs
 pub mod Through
+pub mod Turns

@@ -1,7 +1,9 @@
 -- What is checked at once: what a shallow node holds is shallow, and what comes of its parts and elements.
-use Rattle.std.proofs.Common.{inr, ◌≡◌, ℕ, zero, suc, refl, ap, ◌∙◌, ◌+◌, ◌-◌, ◌*◌, ◌<◌, ◌≤◌, arith, Bool, true, false, List, [], ◌∷◌, length, slice_index_or, Option, Some, None, IsTrue, OnSome, IfNone}
+use Rattle.std.proofs.Common.{inr, ◌≡◌, ◌≢◌, ℕ, zero, suc, refl, ap, ◌∙◌, ◌+◌, ◌-◌, ◌*◌, ◌<◌, ◌≤◌, arith, Bool, true, false, List, [], ◌∷◌, length, slice_index, slice_index_or, Bor, Option, Some, None, IsTrue}
 use Rattle.archive_check.specs.declared.format.error.Error.{Error}
-use Rattle.archive_check.specs.declared.plan.NodeKind.TheVariants.{Free}
+use Rattle.archive_check.specs.declared.plan.NodeKind.TheVariants.{Free, Record, Choice, Array, Pointer as PointerNode}
+use Rattle.archive_check.specs.declared.plan.PointeeKind.{PointeeKind}
+use Rattle.archive_check.specs.declared.plan.PointeeKind.TheVariants.{One, Run, Text}
 use Rattle.archive_check.specs.declared.plan.Node.{Node}
 use Rattle.archive_check.specs.declared.plan.Part.{Part}
 use Rattle.archive_check.specs.declared.plan.Span.{Span}
@@ -11,18 +13,19 @@ use Rattle.archive_check.specs.declared.check.worklist.Work.TheVariants.{Part as
 use Rattle.archive_check.specs.Ranges.{RangeState}
 use Rattle.archive_check.specs.PositionStates.{Positions}
 use Rattle.archive_check.specs.Tour.{Seen}
-use Rattle.archive_check.specs.Trail.{Fault}
-use Rattle.archive_check.specs.check.Runs.{Outcome, done, refused, IsAt, IsNode, Takes, RegionIs, ElementsRun, parts_end, parts_next, parts_stop, elements_end, elements_next, elements_stop, list_part, list_part_stop}
-use Rattle.archive_check.specs.plan.SoundPlans.{span, SpanFits, ArrayFits}
-use Rattle.archive_check.specs.plan.Shallow.{marked, free_at, parts_shallow, variants_shallow}
-use Rattle.archive_check.specs.check.LoopInvariant.{IsLegalHere, PartFits, PartsFit, ElementsFit, stage, pending_in, Listing, Keeps, HasLevels, cost, rank}
-use Rattle.archive_check.specs.check.Through.{Rule, Through, Stops, node_rule, parts_rule, elements_rule}
+use Rattle.archive_check.specs.Trail.{Fault, no_such_variant}
+use Rattle.archive_check.specs.check.Runs.{Outcome, done, refused, IsAt, IsNode, IsVariant, IsNoVariant, Takes, run_tag, run_choice, RegionIs, ElementsRun, parts_end, parts_next, parts_stop, elements_end, elements_next, elements_stop, list_part, list_part_stop}
+use Rattle.archive_check.specs.plan.SoundPlans.{span, SpanFits, ArrayFits, IsSound}
+use Rattle.archive_check.specs.plan.Shallow.{marked, free_at, parts_shallow, variants_shallow, IsShallow}
+use Rattle.archive_check.specs.check.LoopInvariant.{IsLegalHere, PartFits, PartsFit, ElementsFit, Stage, stage, pending_in, Ready, Listing, HasLevels, cost, rank}
+use Rattle.archive_check.specs.check.Through.{Rule, Stops, Passed, PassesFrom, TestsFrom, node_rule, parts_rule, span_rule, elements_rule}
+use Rattle.archive_check.specs.check.Turns.{TurnsFrom}
 use Rattle.std.proofs.lemmas.Bool.{and_parts}
 use Rattle.archive_check.proofs.Elements.{same_at, at_default, at_span}
 use Rattle.archive_check.proofs.plan.ShallowMarks.{kind_free}
-use Rattle.archive_check.proofs.check.TurnInvariants.{some_map, here_from}
+use Rattle.archive_check.proofs.check.TurnInvariants.{here_from, node_fits}
 use Rattle.archive_check.proofs.check.TurnsEnd.{falls_none}
-use Rattle.archive_check.proofs.check.EnteredRegions.{has_levels, times_size}
+use Rattle.archive_check.proofs.check.EnteredRegions.{has_levels, times_size, through_same}
 
 -- what is shallow
 
@@ -53,90 +56,175 @@ each_below [] k x at = absurd (omega (arith, at.below))
 each_below (y ∷ ys) zero x at = rw at.is (omega arith)
 each_below (y ∷ ys) (suc k) x at = omega (arith, each_below ys k x (record { below = omega (arith, at.below); is = at.is }))
 
+-- what a shallow pointer leads to is a text, or may be any bytes
+pub pointer_shallow : {m : Checker} {i j : ℕ} {target : PointeeKind} → IsShallow m i → IsNode m i (PointerNode target j) → target ≢ Text → IsTrue (free_at m.nodes.now j)
+pointer_shallow {target = One} shallow is other = let h = shallow is.node is.at in rw is.kind_is at h
+pointer_shallow {target = Run} shallow is other = let h = shallow is.node is.at in rw is.kind_is at h
+pointer_shallow {target = Text} shallow is other = absurd (other refl)
+
 -- the same of a span
 pub part_marked : (marks : List Bool) (parts : List Part) (b : ℕ) (n a k : ℕ) (x : Part) → k ≡ a + n → k < b → b ≤ length parts → IsTrue (parts_shallow marks (span parts a b)) → IsAt parts k x → IsTrue (marked marks x.node)
 part_marked marks parts b n a k x e lt le h at = each_marked marks (span parts a b) n x h (at_span parts a b n x (omega arith) (rw e at at))
 
-pub variant_shallow : (marks : List Bool) (parts : List Part) (variants : List Span) (b : ℕ) (n a k : ℕ) (x : Span) → k ≡ a + n → k < b → b ≤ length variants → IsTrue (variants_shallow marks parts (span variants a b)) → IsAt variants k x → IsTrue (parts_shallow marks (span parts x.first x.last))
+variant_shallow : (marks : List Bool) (parts : List Part) (variants : List Span) (b : ℕ) (n a k : ℕ) (x : Span) → k ≡ a + n → k < b → b ≤ length variants → IsTrue (variants_shallow marks parts (span variants a b)) → IsAt variants k x → IsTrue (parts_shallow marks (span parts x.first x.last))
 variant_shallow marks parts variants b n a k x e lt le h at = each_shallow marks parts (span variants a b) n x h (at_span variants a b n x (omega arith) (rw e at at))
 
 pub part_below : (parts : List Part) (b n a k : ℕ) (x : Part) → k ≡ a + n → k < b → b ≤ length parts → IsAt parts k x → x.node < rank (span parts a b)
 part_below parts b n a k x e lt le at = each_below (span parts a b) n x (at_span parts a b n x (omega arith) (rw e at at))
 
+-- what a node holds is shallow where the node is
+pub record_shallow : {m : Checker} {i a b : ℕ} → IsShallow m i → IsNode m i (Record a b) → IsTrue (parts_shallow m.shallow.now (span m.parts.now a b))
+record_shallow shallow is = let h = shallow is.node is.at in rw is.kind_is at h
+
+pub array_shallow : {m : Checker} {i n j : ℕ} → IsShallow m i → IsNode m i (Array n j) → IsTrue (marked m.shallow.now j)
+array_shallow shallow is = let h = shallow is.node is.at in rw is.kind_is at h
+
+pub choice_shallow : {m : Checker} {i p a b : ℕ} {name : Bor (List ℕ)} {x : Span} → IsSound m → PartFits m i p → IsShallow m i → IsNode m i (Choice name a b) → IsVariant m a b p x → IsTrue (parts_shallow m.shallow.now (span m.parts.now x.first x.last))
+choice_shallow {m = m} {p = p} {a = a} {b = b} {x = x} sound fits shallow is variant =
+    let h = shallow is.node is.at in
+    let tag = slice_index m.bytes.now p in
+    variant_shallow m.shallow.now m.parts.now m.variants.now b tag a (a + tag) x refl variant.0 (node_fits sound is fits).last (rw is.kind_is at h) variant.1
+
 -- what comes of rules
 
+-- nothing changes
+pub passed_same : {R : Rule} {x : Stage} → ((pending : List ℕ) (seen : Seen) → R pending x.range.depth x.range.end x.range.start seen (done x.range.start seen)) → Passed R x x
+passed_same {R = R} {x = x} runs = record { through = through_same R x.range runs; list = refl; positions = refl }
+
+pub passes_same : {R : Rule} {x : Stage} {u : Unit {0}} {fault : Error} → ((pending : List ℕ) (seen : Seen) → R pending x.range.depth x.range.end x.range.start seen (done x.range.start seen)) → PassesFrom R x x (Some u) fault
+passes_same runs = record { some = passed_same runs; none = tt }
+
+-- a refusal
+pub passes_refused : {R : Rule} {x y : Stage} {r : Option (Unit {0})} {fault e : Error} → r ≡ None → fault ≡ e → Stops R x.range e → PassesFrom R x y r fault
+passes_refused {r = Some u} none is h = absurd (let clash = none in cc)
+passes_refused {r = None} none is h = record { some = tt; none = rw is h }
+
+pub passes_stopped : {R : Rule} {x y : Stage} {r : Option (Unit {0})} {fault : Error} → r ≡ None → Stops R x.range fault → PassesFrom R x y r fault
+passes_stopped none h = passes_refused none refl h
+
+pub passes_known : {R : Rule} {x y : Stage} {u : Unit {0}} {fault : Error} → Passed R x y → PassesFrom R x y (Some u) fault
+passes_known h = record { some = h; none = tt }
+
 -- what comes of one rule comes of another
-pub through_from : (R Q : Rule) (s s' : RangeState) → ((pending : List ℕ) (seen : Seen) (o : Outcome) → R pending s.depth s.end s.start seen o → Q pending s.depth s.end s.start seen o) → Through R s s' → Through Q s s'
-through_from R Q s s' to t = record { end = t.end; depth = t.depth; runs = λ some pending seen. to pending seen (done s'.start seen) (t.runs some pending seen) }
-
-pub through_by : (R Q : Rule) (s s' : RangeState) (r : Option (Unit {0})) → ((pending : List ℕ) (seen : Seen) (o : Outcome) → R pending s.depth s.end s.start seen o → Q pending s.depth s.end s.start seen o) → OnSome r (Through R s s') → OnSome r (Through Q s s')
-through_by R Q s s' r to = some_map r (through_from R Q s s' to)
-
-pub stops_by : (R Q : Rule) (s : RangeState) (e : Error) → ((pending : List ℕ) (seen : Seen) (o : Outcome) → R pending s.depth s.end s.start seen o → Q pending s.depth s.end s.start seen o) → Stops R s e → Stops Q s e
-stops_by R Q s e to stops some = let f = stops some in (f.0, f.1, λ pending seen. to pending seen (refused f.0) (f.2 pending seen))
-
--- a rule comes to whatever another one comes to, from the range s to s'
-pub record Towards (R Q : Rule) (s s' : RangeState) : Type 0 where
-  pub end : s'.end ≡ s.end
-  pub depth : HasLevels s.depth → s'.depth ≡ s.depth
-  pub leads : HasLevels s.depth → (pending : List ℕ) (seen : Seen) (o : Outcome) → Q pending s.depth s.end s'.start seen o → R pending s.depth s.end s.start seen o
-
-module _ (R Q N : Rule) (s s1 : RangeState) (towards : Towards R Q s s1) where
-  pub towards_then : (Q2 : Rule) (s2 : RangeState) → ((pending : List ℕ) (seen : Seen) (o : Outcome) → N pending s.depth s.end s1.start seen (done s2.start seen) → Q2 pending s.depth s.end s2.start seen o → Q pending s.depth s.end s1.start seen o) → Through N s1 s2 → Towards R Q2 s s2
-  towards_then Q2 s2 to through =
-      let within : HasLevels s.depth → HasLevels s1.depth = λ some. rw (towards.depth some) some in
-      record {
-        end = through.end ∙ towards.end;
-        depth = λ some. through.depth (within some) ∙ towards.depth some;
-        leads = λ some pending seen o q. towards.leads some pending seen o (to pending seen o (rw (towards.depth some, towards.end) at (through.runs (within some) pending seen)) q);
-      }
-
-  pub towards_stops : (e : Error) → ((pending : List ℕ) (seen : Seen) (f : Fault) → N pending s.depth s.end s1.start seen (refused f) → Q pending s.depth s.end s1.start seen (refused f)) → Stops N s1 e → Stops R s e
-  towards_stops e to stops some =
-      let f = stops (rw (towards.depth some) some) in
-      (f.0, f.1, λ pending seen. towards.leads some pending seen (refused f.0) (to pending seen f.0 (rw (towards.depth some, towards.end) at (f.2 pending seen))))
-
--- nothing is left of the other one
-pub towards_end : (R Q : Rule) (s s' : RangeState) → Towards R Q s s' → ((pending : List ℕ) (seen : Seen) → Q pending s.depth s.end s'.start seen (done s'.start seen)) → Through R s s'
-towards_end R Q s s' towards over = record {
-  end = towards.end;
-  depth = towards.depth;
-  runs = λ some pending seen. towards.leads some pending seen (done s'.start seen) (over pending seen);
+pub passed_by : {R Q : Rule} {x y : Stage} → Passed R x y → ((pending : List ℕ) (seen : Seen) (o : Outcome) → R pending x.range.depth x.range.end x.range.start seen o → Q pending x.range.depth x.range.end x.range.start seen o) → Passed Q x y
+passed_by {y = y} h to = record {
+  through = record { end = h.through.end; depth = h.through.depth; runs = λ some pending seen. to pending seen (done y.range.start seen) (h.through.runs some pending seen) };
+  list = h.list;
+  positions = h.positions;
 }
 
--- a node that is legal as it lies is gone through
-pub through_stays : (m : Checker) (i p : ℕ) (s : RangeState) → IsLegalHere m i p → Through (node_rule m i p) s s
-through_stays m i p s stays = record { end = refl; depth = λ some. refl; runs = λ some pending seen. stays pending s.depth s.end s.start seen }
+stops_by : (R Q : Rule) (s : RangeState) (e : Error) → Stops R s e → ((pending : List ℕ) (seen : Seen) (o : Outcome) → R pending s.depth s.end s.start seen o → Q pending s.depth s.end s.start seen o) → Stops Q s e
+stops_by R Q s e stops to some = let f = stops some in (f.0, f.1, λ pending seen. to pending seen (refused f.0) (f.2 pending seen))
+
+pub passes_by : {R Q : Rule} {x y : Stage} {r : Option (Unit {0})} {fault : Error} → PassesFrom R x y r fault → ((pending : List ℕ) (seen : Seen) (o : Outcome) → R pending x.range.depth x.range.end x.range.start seen o → Q pending x.range.depth x.range.end x.range.start seen o) → PassesFrom Q x y r fault
+passes_by {r = Some u} h to = record { some = passed_by h.some to; none = tt }
+passes_by {R = R} {Q = Q} {x = x} {r = None} {fault = fault} h to = record { some = tt; none = stops_by R Q x.range fault h.none to }
+
+-- where nothing changed before
+pub passes_from : {R : Rule} {x x' y : Stage} {r : Option (Unit {0})} {fault : Error} → x' ≡ x → PassesFrom R x' y r fault → PassesFrom R x y r fault
+passes_from same h = rw same at h
+
+pub passes_behind : {R : Rule} {s : RangeState} {met : Positions} {w w' : List Work} {y : Stage} {r : Option (Unit {0})} {fault : Error} → w' ≡ w → PassesFrom R (stage s met w') y r fault → PassesFrom R (stage s met w) y r fault
+passes_behind same h = rw same at h
+
+-- a choice: its tag names no variant, or what its variant has is gone through
+pub no_variant : {m : Checker} {i p a b : ℕ} {name : Bor (List ℕ)} {x y : Stage} {e : Error} → IsNode m i (Choice name a b) → IsNoVariant m name a b p e → PassesFrom (node_rule m i p) x y None e
+no_variant {m = m} {p = p} {name = name} is none = record {
+  some = tt;
+  none = rw none.1 (λ some. (no_such_variant name.now (slice_index m.bytes.now p), (name, refl, refl), λ pending seen. run_tag is none.0));
+}
+
+pub variant_passed : {m : Checker} {i p a b : ℕ} {name : Bor (List ℕ)} {q : Span} {x y : Stage} {r : Option (Unit {0})} {fault : Error} → IsNode m i (Choice name a b) → IsVariant m a b p q → PassesFrom (span_rule m q p) x y r fault → PassesFrom (node_rule m i p) x y r fault
+variant_passed is variant h = passes_by h (λ pending seen o v. run_choice is variant.0 variant.1 v)
+
+-- a test: what it knows, what it leaves, and what is refused
+pub test_known : {R : Rule} {Other : Type 0} {x y : Stage} {fault : Error} → Passed R x y → TestsFrom R Other x y (Some true) fault
+test_known h = record { known = λ yes. h; other = λ no. cc; none = tt }
+
+pub test_other : {R : Rule} {Other : Type 0} {x y : Stage} {fault : Error} → Other → y ≡ x → TestsFrom R Other x y (Some false) fault
+test_other h same = record { known = λ yes. absurd (let no : IsTrue false = yes in cc); other = λ no. (h, same); none = tt }
+
+pub test_refused : {R : Rule} {Other : Type 0} {x y : Stage} {r : Option Bool} {fault e : Error} → r ≡ None → fault ≡ e → Stops R x.range e → TestsFrom R Other x y r fault
+test_refused {r = Some u} none is h = absurd (let clash = none in cc)
+test_refused {r = None} none is h = record { known = tt; other = tt; none = rw is h }
+
+-- what it looks at is refused
+pub test_stopped : {R : Rule} {Other : Type 0} {x y : Stage} {r : Option Bool} {fault : Error} → r ≡ None → Stops R x.range fault → TestsFrom R Other x y r fault
+test_stopped none h = test_refused none refl h
+
+-- likewise by a rule of which it comes
+pub test_fails : {R Q : Rule} {Other : Type 0} {x y : Stage} {fault : Error} → PassesFrom R x y None fault → ((pending : List ℕ) (seen : Seen) (o : Outcome) → R pending x.range.depth x.range.end x.range.start seen o → Q pending x.range.depth x.range.end x.range.start seen o) → TestsFrom Q Other x y None fault
+test_fails {R = R} {Q = Q} {x = x} {fault = fault} h to = record { known = tt; other = tt; none = stops_by R Q x.range fault h.none to }
+
+test_by : {R Q : Rule} {Other : Type 0} {x y : Stage} {r : Option Bool} {fault : Error} → TestsFrom R Other x y r fault → ((y : Stage) → Passed R x y → Passed Q x y) → (Stops R x.range fault → Stops Q x.range fault) → TestsFrom Q Other x y r fault
+test_by {y = y} {r = Some b} h passed stopped = record { known = λ yes. passed y (h.known yes); other = h.other; none = tt }
+test_by {r = None} h passed stopped = record { known = tt; other = tt; none = stopped h.none }
+
+-- a rule comes to whatever another one comes to, from one stage to the next
+pub record Towards (R Q : Rule) (x y : Stage) : Type 0 where
+  pub end : y.range.end ≡ x.range.end
+  pub depth : HasLevels x.range.depth → y.range.depth ≡ x.range.depth
+  pub leads : HasLevels x.range.depth → (pending : List ℕ) (seen : Seen) (o : Outcome) → Q pending x.range.depth x.range.end y.range.start seen o → R pending x.range.depth x.range.end x.range.start seen o
+  pub list : y.work ≡ x.work
+  pub positions : y.met ≡ x.met
+
+pub towards_same : {R : Rule} {x : Stage} → Towards R R x x
+towards_same = record { end = refl; depth = λ some. refl; leads = λ some pending seen o q. q; list = refl; positions = refl }
+
+towards_then : {R Q N Q2 : Rule} {x y z : Stage} → Towards R Q x y → Passed N y z → ((pending : List ℕ) (seen : Seen) (o : Outcome) → N pending x.range.depth x.range.end y.range.start seen (done z.range.start seen) → Q2 pending x.range.depth x.range.end z.range.start seen o → Q pending x.range.depth x.range.end y.range.start seen o) → Towards R Q2 x z
+towards_then {x = x} {y = y} towards passed to =
+    let within : HasLevels x.range.depth → HasLevels y.range.depth = λ some. rw (towards.depth some) some in
+    record {
+      end = passed.through.end ∙ towards.end;
+      depth = λ some. passed.through.depth (within some) ∙ towards.depth some;
+      leads = λ some pending seen o q. towards.leads some pending seen o (to pending seen o (rw (towards.depth some, towards.end) at (passed.through.runs (within some) pending seen)) q);
+      list = passed.list ∙ towards.list;
+      positions = passed.positions ∙ towards.positions;
+    }
+
+towards_stops : {R Q : Rule} {x y : Stage} (N : Rule) (e : Error) → Towards R Q x y → Stops N y.range e → ((pending : List ℕ) (seen : Seen) (f : Fault) → N pending x.range.depth x.range.end y.range.start seen (refused f) → Q pending x.range.depth x.range.end y.range.start seen (refused f)) → Stops R x.range e
+towards_stops N e towards stops to some =
+    let f = stops (rw (towards.depth some) some) in
+    (f.0, f.1, λ pending seen. towards.leads some pending seen (refused f.0) (to pending seen f.0 (rw (towards.depth some, towards.end) at (f.2 pending seen))))
+
+-- nothing is left of the other one
+towards_end : {R Q : Rule} {x y : Stage} → Towards R Q x y → ((pending : List ℕ) (seen : Seen) → Q pending x.range.depth x.range.end y.range.start seen (done y.range.start seen)) → Passed R x y
+towards_end {y = y} towards over = record {
+  through = record { end = towards.end; depth = towards.depth; runs = λ some pending seen. towards.leads some pending seen (done y.range.start seen) (over pending seen) };
+  list = towards.list;
+  positions = towards.positions;
+}
 
 -- the node that is checked at once is taken off the list
-module _ (m : Checker) (s s' : RangeState) (met met' : Positions) (old new : List Work) (i p : ℕ) where
-  pub once_keeps : (r : Option (Unit {0})) (fault : Error) → OnSome r (Through (node_rule m i p) s s') → OnSome r (new ≡ old) → OnSome r (met' ≡ met) → IfNone r (Stops (node_rule m i p) s fault)
-      → Keeps m (Listing m) (stage s met (PartWork i p ∷ old)) (stage s' met' new) r fault
-  once_keeps (Some u) fault through list same stops = (
-    λ seen a.
-        let some = has_levels s met (PartWork i p ∷ old) seen a in
-        let back = through.depth some in (
-          seen,
-          rw (back, same, list) a,
-          λ o q. list_part (through.runs some (pending_in old) seen) (rw (back, through.end, list) at q),
-        ),
-    tt,
-  )
-  once_keeps None fault through list same stops = (
-    tt,
-    inr (λ seen a. let f = stops (has_levels s met (PartWork i p ∷ old) seen a) in (f.0, f.1, list_part_stop (f.2 (pending_in old) seen))),
-  )
-
-  pub once_ends : (r : Option (Unit {0})) → OnSome r (Through (node_rule m i p) s s') → OnSome r (new ≡ old) → OnSome r (cost m s'.end new < cost m s.end (PartWork i p ∷ old))
-  once_ends (Some u) through list = rw (through.end, list) (falls_none _ _)
-  once_ends None through list = tt
+pub once_turns : {m : Checker} {x y : Stage} {i p : ℕ} {r : Option (Unit {0})} {fault : Error} → PassesFrom (node_rule m i p) x y r fault → Ready m x.range (PartWork i p ∷ x.work)
+    → TurnsFrom m (Listing m) (cost m x.range.end (PartWork i p ∷ x.work)) (stage x.range x.met (PartWork i p ∷ x.work)) y r fault
+once_turns {m = m} {x = x} {y = y} {i = i} {p = p} {r = Some u} h ready =
+    let through = h.some.through in
+    record {
+      some = record {
+        ready = rw (through.end, h.some.list) (record { below = ready.below; fits = ready.fits.1 });
+        leads = λ seen a.
+            let some = has_levels x.range x.met (PartWork i p ∷ x.work) seen a in
+            let back = through.depth some in (
+              seen,
+              rw (back, h.some.positions, h.some.list) a,
+              λ o q. list_part (through.runs some (pending_in x.work) seen) (rw (back, through.end, h.some.list) at q),
+            );
+        ends = rw (through.end, h.some.list) (falls_none _ _);
+      };
+      none = tt;
+    }
+once_turns {x = x} {i = i} {p = p} {r = None} h ready = record {
+  some = tt;
+  none = inr (λ seen a. let f = h.none (has_levels x.range x.met (PartWork i p ∷ x.work) seen a) in (f.0, f.1, list_part_stop (f.2 (pending_in x.work) seen)));
+}
 
 -- the parts of a node lie in the bytes where it does, and so do its elements
-pub parts_here : (m : Checker) (i p z a b : ℕ) → SpanFits m i z a b → p + z ≤ length m.bytes.now → PartsFit m a b p
-parts_here m i p z a b fits room = record { last = fits.last; few = fits.few; here = here_from m i p z (span m.parts.now a b) fits.within room }
+pub parts_here : {m : Checker} {i p z a b : ℕ} → SpanFits m i z a b → p + z ≤ length m.bytes.now → PartsFit m a b p
+parts_here {m = m} {i = i} {p = p} {z = z} {a = a} {b = b} fits room = record { last = fits.last; few = fits.few; here = here_from m i p z (span m.parts.now a b) fits.within room }
 
-pub elements_here : (m : Checker) (i p z n j : ℕ) → ArrayFits m i z n j → p + z ≤ length m.bytes.now → ElementsFit m j n p
-elements_here m i p z n j fits room = record { size = fits.element; few = fits.few; takes = fits.takes; fits = omega (arith, fits.within, room) }
+pub elements_here : {m : Checker} {i p z n j : ℕ} → ArrayFits m i z n j → p + z ≤ length m.bytes.now → ElementsFit m j n p
+elements_here fits room = record { size = fits.element; few = fits.few; takes = fits.takes; fits = omega (arith, fits.within, room) }
 
 -- elements that are legal as they lie are gone through
 module _ (m : Checker) (j z : ℕ) (takes : Takes m j z) where
@@ -150,43 +238,41 @@ module _ (m : Checker) (j z : ℕ) (takes : Takes m j z) where
       elements_next (omega arith) takes (first pending depth stop start seen)
       (elements_pass c (n - 1) (p + z) (omega arith) (λ k lt. let there : p + (k + 1) * z ≡ p + z + k * z = omega arith in rw there at (stays (k + 1) (omega arith))) (rw (count, there) at r))
 
-  pub towards_passed : (s : RangeState) (n p c : ℕ) → c ≤ n → ((k : ℕ) → k < c → IsLegalHere m j (p + k * z)) → Towards (elements_rule m j n p) (elements_rule m j (n - c) (p + c * z)) s s
-  towards_passed s n p c le stays = record { end = refl; depth = λ some. refl; leads = λ some pending seen o q. elements_pass c n p le stays q }
+  pub towards_passed : {x : Stage} {n p c : ℕ} → c ≤ n → ((k : ℕ) → k < c → IsLegalHere m j (p + k * z)) → Towards (elements_rule m j n p) (elements_rule m j (n - c) (p + c * z)) x x
+  towards_passed {n = n} {p = p} {c = c} le stays = record { end = refl; depth = λ some. refl; leads = λ some pending seen o q. elements_pass c n p le stays q; list = refl; positions = refl }
 
   -- one element more
-  pub towards_element : (s s1 s2 : RangeState) (n p k : ℕ) → k < n → Towards (elements_rule m j n p) (elements_rule m j (n - k) (p + k * z)) s s1 → Through (node_rule m j (p + k * z)) s1 s2 → Towards (elements_rule m j n p) (elements_rule m j (n - (k + 1)) (p + (k + 1) * z)) s s2
-  towards_element s s1 s2 n p k lt towards through =
+  pub towards_element : {x y w : Stage} {n p k : ℕ} → k < n → Towards (elements_rule m j n p) (elements_rule m j (n - k) (p + k * z)) x y → Passed (node_rule m j (p + k * z)) y w → Towards (elements_rule m j n p) (elements_rule m j (n - (k + 1)) (p + (k + 1) * z)) x w
+  towards_element {n = n} {p = p} {k = k} lt towards passed =
       let count : n - (k + 1) ≡ n - k - 1 = omega arith in
       let there : p + (k + 1) * z ≡ p + k * z + z = omega arith in
-      towards_then (elements_rule m j n p) (elements_rule m j (n - k) (p + k * z)) (node_rule m j (p + k * z)) s s1 towards (elements_rule m j (n - (k + 1)) (p + (k + 1) * z)) s2 (λ pending seen o n q. elements_next (omega arith) takes n (rw (count, there) at q)) through
+      towards_then {Q2 = elements_rule m j (n - (k + 1)) (p + (k + 1) * z)} towards passed (λ pending seen o v q. elements_next (omega arith) takes v (rw (count, there) at q))
 
-  pub element_stops : (s s1 : RangeState) (n p k : ℕ) (e : Error) → k < n → Towards (elements_rule m j n p) (elements_rule m j (n - k) (p + k * z)) s s1 → Stops (node_rule m j (p + k * z)) s1 e → Stops (elements_rule m j n p) s e
-  element_stops s s1 n p k e lt towards = towards_stops (elements_rule m j n p) (elements_rule m j (n - k) (p + k * z)) (node_rule m j (p + k * z)) s s1 towards e (λ pending seen f r. elements_stop (omega arith) r)
+-- the next element is refused
+pub element_stops : {m : Checker} {j n p k : ℕ} {x y w : Stage} {e : Error} (z : ℕ) → k < n → Towards (elements_rule m j n p) (elements_rule m j (n - k) (p + k * z)) x y → PassesFrom (node_rule m j (p + k * z)) y w None e → PassesFrom (elements_rule m j n p) x w None e
+element_stops {m = m} {j = j} {n = n} {p = p} {k = k} {e = e} z lt towards h =
+    record { some = tt; none = towards_stops (node_rule m j (p + k * z)) e towards h.none (λ pending seen f r. elements_stop (omega arith) r) }
 
-  pub elements_over : (s s1 : RangeState) (n p k : ℕ) → n ≤ k → Towards (elements_rule m j n p) (elements_rule m j (n - k) (p + k * z)) s s1 → Through (elements_rule m j n p) s s1
-  elements_over s s1 n p k ge towards = towards_end (elements_rule m j n p) (elements_rule m j (n - k) (p + k * z)) s s1 towards (λ pending seen. elements_end (omega arith))
+pub elements_over : {m : Checker} {j n p k : ℕ} {x y : Stage} {u : Unit {0}} {fault : Error} (z : ℕ) → n ≤ k → Towards (elements_rule m j n p) (elements_rule m j (n - k) (p + k * z)) x y → PassesFrom (elements_rule m j n p) x y (Some u) fault
+elements_over z ge towards = record { some = towards_end towards (λ pending seen. elements_end (omega arith)); none = tt }
 
 -- one part more
-module _ (m : Checker) (a b p k : ℕ) (x : Part) (lt : k < b) (at : IsAt m.parts.now k x) (s s1 : RangeState) (towards : Towards (parts_rule m a b p) (parts_rule m k b p) s s1) where
-  pub towards_part : (s2 : RangeState) → Through (node_rule m x.node (p + x.offset)) s1 s2 → Towards (parts_rule m a b p) (parts_rule m (k + 1) b p) s s2
-  towards_part s2 = towards_then (parts_rule m a b p) (parts_rule m k b p) (node_rule m x.node (p + x.offset)) s s1 towards (parts_rule m (k + 1) b p) s2 (λ pending seen o n q. parts_next lt at n q)
+pub towards_part : {m : Checker} {a b p k : ℕ} {q : Part} {x y w : Stage} → k < b → IsAt m.parts.now k q → Towards (parts_rule m a b p) (parts_rule m k b p) x y → Passed (node_rule m q.node (p + q.offset)) y w → Towards (parts_rule m a b p) (parts_rule m (k + 1) b p) x w
+towards_part {m = m} {b = b} {p = p} {k = k} lt at towards passed = towards_then {Q2 = parts_rule m (k + 1) b p} towards passed (λ pending seen o v r. parts_next lt at v r)
 
-  pub part_stops : (e : Error) → Stops (node_rule m x.node (p + x.offset)) s1 e → Stops (parts_rule m a b p) s e
-  part_stops e = towards_stops (parts_rule m a b p) (parts_rule m k b p) (node_rule m x.node (p + x.offset)) s s1 towards e (λ pending seen f r. parts_stop lt at r)
+-- the next part is refused
+pub part_stops : {m : Checker} {a b p k : ℕ} {q : Part} {x y w : Stage} {e : Error} → k < b → IsAt m.parts.now k q → Towards (parts_rule m a b p) (parts_rule m k b p) x y → PassesFrom (node_rule m q.node (p + q.offset)) y w None e → PassesFrom (parts_rule m a b p) x w None e
+part_stops {m = m} {p = p} {q = q} {e = e} lt at towards h = record { some = tt; none = towards_stops (node_rule m q.node (p + q.offset)) e towards h.none (λ pending seen f r. parts_stop lt at r) }
 
-pub parts_over : (m : Checker) (a b p k : ℕ) (s s1 : RangeState) → b ≤ k → Towards (parts_rule m a b p) (parts_rule m k b p) s s1 → Through (parts_rule m a b p) s s1
-parts_over m a b p k s s1 ge towards = towards_end (parts_rule m a b p) (parts_rule m k b p) s s1 towards (λ pending seen. parts_end ge)
+pub parts_over : {m : Checker} {a b p k : ℕ} {x y : Stage} {u : Unit {0}} {fault : Error} → b ≤ k → Towards (parts_rule m a b p) (parts_rule m k b p) x y → PassesFrom (parts_rule m a b p) x y (Some u) fault
+parts_over ge towards = record { some = towards_end towards (λ pending seen. parts_end ge); none = tt }
 
 -- a part that stands alone
-module _ (m : Checker) (a b p : ℕ) (x : Part) (alone : b - a ≡ 1) (at : IsAt m.parts.now a x) (s : RangeState) where
-  none_yet : Towards (parts_rule m a b p) (parts_rule m a b p) s s
-  none_yet = record { end = refl; depth = λ some. refl; leads = λ some pending seen o q. q }
-
-  pub alone_through : (s' : RangeState) → Through (node_rule m x.node (p + x.offset)) s s' → Through (parts_rule m a b p) s s'
-  alone_through s' through = parts_over m a b p (a + 1) s s' (omega arith) (towards_part m a b p a x (omega arith) at s s none_yet s' through)
-
-  pub alone_stops : (e : Error) → Stops (node_rule m x.node (p + x.offset)) s e → Stops (parts_rule m a b p) s e
-  alone_stops e = part_stops m a b p a x (omega arith) at s s none_yet e
+pub alone : {m : Checker} {a b p : ℕ} {q : Part} {x y : Stage} {r : Option Bool} {fault : Error} → b - a ≡ 1 → IsAt m.parts.now a q → TestsFrom (node_rule m q.node (p + q.offset)) (Unit {0}) x y r fault → TestsFrom (parts_rule m a b p) (Unit {0}) x y r fault
+alone {m = m} {a = a} {b = b} {p = p} {q = q} {x = x} {fault = fault} one at h =
+    let lt : a < b = omega arith in
+    test_by h (λ y passed. towards_end (towards_part {m = m} {a = a} {b = b} {p = p} {k = a} {q = q} {x = x} {y = x} {w = y} lt at towards_same passed) (λ pending seen. parts_end (omega arith)))
+    (λ stops. towards_stops {R = parts_rule m a b p} {Q = parts_rule m a b p} {x = x} {y = x} (node_rule m q.node (p + q.offset)) fault towards_same stops (λ pending seen f r. parts_stop lt at r))
 
 -- what a region holds lies in it
 module _ (m : Checker) (j n z p align : ℕ) (region : RegionIs m j n (Some z) align) (lt : 0 < z) (room : p + z ≤ length m.bytes.now) where

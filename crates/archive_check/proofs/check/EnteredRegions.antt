@@ -18,7 +18,7 @@ use Rattle.archive_check.specs.Tour.{Seen}
 use Rattle.archive_check.specs.Trail.{Fault, outside, unaligned, too_deep}
 use Rattle.archive_check.specs.check.Runs.{times, Outcome, done, refused, Takes, RegionIs, EnterRuns, enter_outside, enter_unaligned, enter_too_deep, enter_stop, contents_text, contents_empty, contents_one, contents_run, run_free, elements_free, IsNode, enter_within, ListRuns}
 use Rattle.archive_check.specs.Faults.{IsFor}
-use Rattle.archive_check.specs.declared.check.Region.{Region}
+use Rattle.archive_check.specs.declared.check.regions.Region.{Region}
 use Rattle.archive_check.specs.check.Entered.{Lands, Entered}
 use Rattle.archive_check.specs.check.Through.{Rule, Through, Stops, region_rule, contents_rule}
 use Rattle.archive_check.specs.check.LoopInvariant.{and_then, RegionIsLegalHere, Ready, stage, pending_in, regions_in, Agreeing, Listing, Entering, TurnLeads, HasLevels, power, level, cost}
@@ -202,7 +202,7 @@ module _ (m : Checker) (j n : ℕ) (z : ℤ) (s s' : RangeState) (met met' : Pos
   listed : mid ≡ Leave (r.begin + r.size) s.end ∷ old
   listed = list ∙ ap₂ (λ a b. Leave a b ∷ old) h.outer_start h.outer_end
 
-  pub entered_ready : Ready m s old → Ready m s' mid
+  entered_ready : Ready m s old → Ready m s' mid
   entered_ready r = record {
     below = omega (arith, h.end, h.lands.below, r.below);
     fits = rw listed (omega (arith, h.end), r.below, r.fits);

@@ -1,6 +1,6 @@
 -- A shared pointer is followed: what the context answers, and what is left to do.
-use Rattle.std.proofs.Common.{◌≡◌, ◌⊎◌, inl, inr, ℕ, ℤ, pos, negsuc, ◌+ℤ◌, refl, sym, ap, ◌∙◌, ◌<◌, Bool, true, false, IsTrue, List, ◌∷◌, Option, Some, None, Result, Err, OnSome, IfNone}
-use Rattle.std.proofs.Common.{◌≤ℤ◌, nat_abs, arith}
+use Rattle.std.proofs.Common.{◌≡◌, ◌⊎◌, inl, inr, ℕ, ℤ, pos, negsuc, ◌+ℤ◌, refl, sym, ap, ◌∙◌, ◌<◌, Bool, true, false, IsTrue, List, ◌∷◌, Option, Some, None, Result, Err}
+use Rattle.std.proofs.Common.{◌≤ℤ◌, nat_abs, arith, length, slice_index_or}
 use Rattle.std.proofs.lemmas.Int.{ints}
 use Rattle.std.specs.Int.{FitsUnsigned}
 use Rattle.archive_check.specs.declared.context.ValidationState.{ValidationState}
@@ -19,9 +19,12 @@ use Rattle.archive_check.specs.Reads.{i32_at}
 use Rattle.archive_check.specs.Tour.{Seen, Entry}
 use Rattle.archive_check.specs.Trail.{Fault, cyclic, other_type, other_length}
 use Rattle.archive_check.specs.check.Runs.{Outcome, refused, IsAt, pointee_count, pointee_length, entry_for, EnterRuns, FollowRuns, follow_before, follow_new, follow_again, follow_type, follow_length, follow_cycle}
-use Rattle.archive_check.specs.check.LoopInvariant.{Stage, stage, pending_in, Agreeing, Then, and_then, stops, Entering, Following, TurnLeads, TurnRefuses, Keeps, IsStopped}
+use Rattle.archive_check.specs.check.LoopInvariant.{Stage, stage, pending_in, Ready, Agreeing, Then, and_then, stops, Entering, Following, TurnLeads, TurnRefuses, IsStopped}
+use Rattle.archive_check.specs.check.Turns.{ComesInto}
 use Rattle.archive_check.proofs.check.ContextAgrees.{levels_of, agrees_same, SeenAs, seen_as, met_none, agrees_new, started_again}
 use Rattle.archive_check.proofs.check.TurnRules.{turn_new}
+use Rattle.archive_check.proofs.check.TurnExits.{turn_refused, turn_taken, FollowsThere}
+use Rattle.archive_check.proofs.Elements.{at_default}
 
 module _ (m : Checker) (s : RangeState) (met : Positions) (old : List Work) (k j p n l : ℕ) (target : PointeeKind) (z : ℤ) (shared_type : SharedType)
     (at : IsAt m.shared_types.now k shared_type) (n_is : n ≡ pointee_count m.bytes.now p target) (l_is : l ≡ pointee_length m.bytes.now p target) (z_is : z ≡ pos p +ℤ i32_at m.bytes.now p) where
@@ -44,7 +47,7 @@ module _ (m : Checker) (s : RangeState) (met : Positions) (old : List Work) (k j
       seen_at_by (pos t) same = record { t = t; target_is = same; seen_is = seen_as a t e over (ap met (sym same) ∙ is) }
       seen_at_by (negsuc t) same = absurd (let none = a.before t in let some = ap met (sym same) ∙ is in cc)
 
-  pub follow_refuses : (e : Error) → IsStartAnswer (met z) here (Err e) → TurnRefuses (Following m k target j p) (stage s met old) e
+  follow_refuses : (e : Error) → IsStartAnswer (met z) here (Err e) → TurnRefuses (Following m k target j p) (stage s met old) e
   follow_refuses e h = answered (met z) refl e h
     where
       answered : (o : Option PositionState) → met z ≡ o → (e : Error) → IsStartAnswer o here (Err e) → TurnRefuses (Following m k target j p) (stage s met old) e
@@ -57,13 +60,13 @@ module _ (m : Checker) (s : RangeState) (met : Positions) (old : List Work) (k j
           (other_length, refl, following (stops (follow_length at at_t.target_is at_t.seen_is.is h.0 h.1))))
       answered (Some was) is e h = absurd h
 
-  pub follow_cyclic : met z ≡ Some (record { entry = here; finished = false }) → shared_type.flavor.cycles ≡ false → TurnRefuses (Following m k target j p) (stage s met old) CyclicValidate
+  follow_cyclic : met z ≡ Some (record { entry = here; finished = false }) → shared_type.flavor.cycles ≡ false → TurnRefuses (Following m k target j p) (stage s met old) CyclicValidate
   follow_cyclic is none = inr (λ seen a.
       let at_t = seen_at seen here false a is in
       (cyclic, refl, following (stops (follow_cycle at at_t.target_is at_t.seen_is.is (at_t.seen_is.here refl) none))))
 
   module _ (s1 : RangeState) (met1 : Positions) (same : s1 ≡ s) (starts : met1 ≡ started met z here) where
-    pub follow_known : (over : Bool) → met z ≡ Some (record { entry = here; finished = over }) → (over ≡ false → IsTrue shared_type.flavor.cycles) → TurnLeads m (Following m k target j p) (stage s met old) (stage s1 met1 old)
+    follow_known : (over : Bool) → met z ≡ Some (record { entry = here; finished = over }) → (over ≡ false → IsTrue shared_type.flavor.cycles) → TurnLeads m (Following m k target j p) (stage s met old) (stage s1 met1 old)
     follow_known over is free seen a =
         let at_t = seen_at seen here over a is in
         let again : Agreeing (stage s1 met1 old) seen = rw (same, starts) (agrees_same (started_again a z here _ is) a) in
@@ -79,16 +82,11 @@ module _ (m : Checker) (s : RangeState) (met : Positions) (old : List Work) (k j
       refused_by runs seen a (negsuc q) is = follow_before (λ t e. let clash : negsuc q ≡ pos t = sym is ∙ e in cc) (runs (pending_in old) seen)
 
       -- a region that isn't entered, wherever its position is
-      pub refuses_new : (e : Error) → IsStopped m target j n z s1 e → TurnRefuses (Following m k target j p) (stage s met old) e
+      refuses_new : (e : Error) → IsStopped m target j n z s1 e → TurnRefuses (Following m k target j p) (stage s met old) e
       refuses_new e (inl memory) = inl memory
       refuses_new e (inr stopped) = inr (λ seen a.
           let f = (rw same at stopped) (levels_of a) in
           (f.0, f.1, following (stops (refused_by f.2 seen a z refl))))
-
-      -- no region is entered behind a position that isn't one of the buffer's
-      pub follow_nowhere : (x : Stage) (fault : Error) (result : Option (Unit {0})) → (OnSome result ⊥) → IfNone result (IsStopped m target j n z s1 fault) → Keeps m (Following m k target j p) (stage s met old) x result fault
-      follow_nowhere x fault (Some u) never stopped = absurd never
-      follow_nowhere x fault None never stopped = (tt, refuses_new fault stopped)
 
       module _ (t : ℕ) (target_is : z ≡ pos t) (mid : List Work) (list : mid ≡ Finish k t ∷ old) where
         entered_leads : (x : Stage) → TurnLeads m (Entering m target j n z) (stage s1 met1 mid) x → TurnLeads m (Following m k target j p) (stage s met old) x
@@ -99,13 +97,6 @@ module _ (m : Checker) (s : RangeState) (met : Positions) (old : List Work) (k j
             let go = leads (insert seen t here) more in
             (go.0, go.1, λ o r. following (turn_new m at target_is none (rw (same, list) at (go.2 o r))))
 
-        pub follow_started : (x : Stage) (fault : Error) (result : Option (Unit {0})) → OnSome result (TurnLeads m (Entering m target j n z) (stage s1 met1 mid) x) → IfNone result (IsStopped m target j n z s1 fault) → Keeps m (Following m k target j p) (stage s met old) x result fault
-        follow_started x fault (Some u) leads stopped = (entered_leads x leads, tt)
-        follow_started x fault None leads stopped = (tt, refuses_new fault stopped)
-
-pub answer_of : (o : Option PositionState) (e : Entry) {r r' : Result ValidationState Error} → r ≡ r' → IsStartAnswer o e r → IsStartAnswer o e r'
-answer_of o e is h = rw is at h
-
 -- positions as indices
 
 pub index_of : (z : ℤ) (b : ℕ) → pos 0 ≤ℤ z → b ≡ nat_abs z → z ≡ pos b
@@ -115,6 +106,55 @@ index_of (negsuc t) b least is = absurd (omega (arith, ints))
 fits_index : (z : ℤ) (t : ℕ) → z ≡ pos t → t < 18446744073709551616 → FitsUnsigned w64 z
 fits_index z t is small = rw is (omega (arith, ints), omega (arith, ints))
 
-pub nowhere : (r : Option (Unit {0})) (z : ℤ) → (FitsUnsigned w64 z → ⊥) → OnSome r ((t : ℕ) × (z ≡ pos t) × (t < 18446744073709551616)) → OnSome r ⊥
-nowhere (Some u) z not (t, is, small) = not (fits_index z t is small)
-nowhere None z not h = tt
+-- what is read where a shared pointer lies: its type, how many there are behind it, the length, and where it points
+pub record SharedAt (m : Checker) (k p : ℕ) (target : PointeeKind) (n l : ℕ) (z : ℤ) (x : SharedType) : Type 0 where
+  pub type_is : IsAt m.shared_types.now k x
+  pub count_is : n ≡ pointee_count m.bytes.now p target
+  pub length_is : l ≡ pointee_length m.bytes.now p target
+  pub position_is : z ≡ pos p +ℤ i32_at m.bytes.now p
+
+pub shared_at : (m : Checker) (q : SharedType) {k p n l : ℕ} {target : PointeeKind} {z : ℤ} → k < length m.shared_types.now → n ≡ pointee_count m.bytes.now p target → l ≡ pointee_length m.bytes.now p target → z ≡ pos p +ℤ i32_at m.bytes.now p
+    → SharedAt m k p target n l z (slice_index_or m.shared_types.now k q)
+shared_at m q {k = k} below count_is length_is position_is = record { type_is = at_default m.shared_types.now k q below; count_is = count_is; length_is = length_is; position_is = position_is }
+
+-- the context refuses
+pub follows_no_start : {m : Checker} {s : RangeState} {met : Positions} {old : List Work} {k j p n l : ℕ} {target : PointeeKind} {z : ℤ} {x : SharedType} {y : Stage} {result : Option (Unit {0})} {fault e : Error}
+    → SharedAt m k p target n l z x → result ≡ None → fault ≡ e → IsStartAnswer (met z) (entry_for x l) (Err e) → FollowsThere m s met old k target j p y result fault
+follows_no_start {m = m} {s = s} {met = met} {old = old} {k = k} {j = j} {p = p} {n = n} {l = l} {target = target} {z = z} {x = x} {e = e} r none is answer =
+    turn_refused none is (follow_refuses m s met old k j p n l target z x r.type_is r.count_is r.length_is r.position_is e answer)
+
+-- the position is pending, and the flavor allows no cycle
+pub follows_no_cycle : {m : Checker} {s : RangeState} {met : Positions} {old : List Work} {k j p n l : ℕ} {target : PointeeKind} {z : ℤ} {x : SharedType} {y : Stage} {result : Option (Unit {0})} {fault : Error}
+    → SharedAt m k p target n l z x → result ≡ None → fault ≡ CyclicValidate → met z ≡ Some (record { entry = entry_for x l; finished = false }) → x.flavor.cycles ≡ false → FollowsThere m s met old k target j p y result fault
+follows_no_cycle {m = m} {s = s} {met = met} {old = old} {k = k} {j = j} {p = p} {n = n} {l = l} {target = target} {z = z} {x = x} r none is pending cycles =
+    turn_refused none is (follow_cyclic m s met old k j p n l target z x r.type_is r.count_is r.length_is r.position_is pending cycles)
+
+-- the position was met before
+pub follows_known : {m : Checker} {s : RangeState} {met : Positions} {old : List Work} {k j p n l : ℕ} {target : PointeeKind} {z : ℤ} {x : SharedType} {s1 : RangeState} {met1 : Positions} {over : Bool} {u : Unit {0}} {fault : Error}
+    → SharedAt m k p target n l z x → Ready m s old → s1 ≡ s → met1 ≡ started met z (entry_for x l) → met z ≡ Some (record { entry = entry_for x l; finished = over }) → (over ≡ false → IsTrue x.flavor.cycles) → FollowsThere m s met old k target j p (stage s1 met1 old) (Some u) fault
+follows_known {m = m} {s = s} {met = met} {old = old} {k = k} {j = j} {p = p} {n = n} {l = l} {target = target} {z = z} {x = x} {s1 = s1} {met1 = met1} {over = over} r ready same starts is free = turn_taken (record {
+  ready = rw same ready;
+  leads = follow_known m s met old k j p n l target z x r.type_is r.count_is r.length_is r.position_is s1 met1 same starts over is free;
+  ends = rw same (omega arith);
+})
+
+-- the position isn't one of the buffer's, so no region is entered
+pub follows_nowhere : {m : Checker} {s : RangeState} {met : Positions} {old : List Work} {k j p n l : ℕ} {target : PointeeKind} {z : ℤ} {x : SharedType} {s1 : RangeState} {met1 : Positions} {y : Stage} {result : Option (Unit {0})} {fault : Error}
+    → SharedAt m k p target n l z x → s1 ≡ s → met1 ≡ started met z (entry_for x l) → met z ≡ None → (FitsUnsigned w64 z → ⊥) → ComesInto m target j n z (stage s1 met1 old) y result fault → FollowsThere m s met old k target j p y result fault
+follows_nowhere {result = Some u} r same starts new not h = absurd (let in_buffer = h.inside in not (fits_index _ in_buffer.0 in_buffer.1 in_buffer.2))
+follows_nowhere {m = m} {s = s} {met = met} {old = old} {k = k} {j = j} {p = p} {n = n} {l = l} {target = target} {z = z} {x = x} {s1 = s1} {met1 = met1} {result = None} {fault = fault} r same starts new not h =
+    record { some = tt; none = refuses_new m s met old k j p n l target z x r.type_is r.count_is r.length_is r.position_is s1 met1 same starts new fault h.none }
+
+-- the region is entered, and the position is finished behind it
+pub follows_started : {m : Checker} {s : RangeState} {met : Positions} {old : List Work} {k j p n l : ℕ} {target : PointeeKind} {z : ℤ} {x : SharedType} {s1 : RangeState} {met1 : Positions} {t : ℕ} {mid : List Work} {y : Stage} {result : Option (Unit {0})} {fault : Error}
+    → SharedAt m k p target n l z x → s1 ≡ s → met1 ≡ started met z (entry_for x l) → met z ≡ None → z ≡ pos t → mid ≡ Finish k t ∷ old → ComesInto m target j n z (stage s1 met1 mid) y result fault → FollowsThere m s met old k target j p y result fault
+follows_started {m = m} {s = s} {met = met} {old = old} {k = k} {j = j} {p = p} {n = n} {l = l} {target = target} {z = z} {x = x} {s1 = s1} {met1 = met1} {t = t} {mid = mid} {y = y} {result = Some u} r same starts new at list h = turn_taken (record {
+  ready = h.some.ready;
+  leads = entered_leads m s met old k j p n l target z x r.type_is r.count_is r.length_is r.position_is s1 met1 same starts new t at mid list y h.some.leads;
+  ends = let least = rw (same, list) at h.some.ends in omega (arith, least);
+})
+follows_started {m = m} {s = s} {met = met} {old = old} {k = k} {j = j} {p = p} {n = n} {l = l} {target = target} {z = z} {x = x} {s1 = s1} {met1 = met1} {result = None} {fault = fault} r same starts new at list h =
+    record { some = tt; none = refuses_new m s met old k j p n l target z x r.type_is r.count_is r.length_is r.position_is s1 met1 same starts new fault h.none }
+
+pub answer_of : (o : Option PositionState) (e : Entry) {r r' : Result ValidationState Error} → r ≡ r' → IsStartAnswer o e r → IsStartAnswer o e r'
+answer_of o e is h = rw is at h

@@ -1,5 +1,5 @@
 -- Elements that are passed over.
-use Rattle.std.proofs.Common.{◌≡◌, ◌≢◌, ℕ, zero, suc, refl, sym, ap, ◌∙◌, ◌+◌, ◌-◌, ◌*◌, ◌<◌, ◌≤◌, arith, List, ◌∷◌, length, Bool, true, false, nat_eq, Option, Some}
+use Rattle.std.proofs.Common.{◌≡◌, ◌≢◌, ℕ, zero, suc, refl, sym, ap, ◌∙◌, ◌+◌, ◌-◌, ◌*◌, ◌<◌, ◌≤◌, arith, List, ◌∷◌, length, Bool, true, false, nat_eq, Option, Some, slice_index_or, unwrap_or}
 use Rattle.std.proofs.lemmas.Bool.Decides.{nat_tests}
 use Rattle.std.proofs.Math.Nat.{mul-le-mul_right}
 use Rattle.archive_check.specs.declared.format.expr.Kind.{Kind as KindExpr}
@@ -22,10 +22,15 @@ use Rattle.archive_check.proofs.Elements.{same_at}
 use Rattle.archive_check.proofs.plan.PlanSizes.{take_same}
 
 -- the size that the node has
-pub takes_size : (m : Checker) (j z : ℕ) (x : Node) {y : ℕ} → IsAt m.nodes.now j x → Takes m j y → ((y : ℕ) → x.size ≡ Some y → z ≡ y) → Takes m j z
+takes_size : (m : Checker) (j z : ℕ) (x : Node) {y : ℕ} → IsAt m.nodes.now j x → Takes m j y → ((y : ℕ) → x.size ≡ Some y → z ≡ y) → Takes m j z
 takes_size m j z x {y = y} at t size =
     let is : x.size ≡ Some y = ap (λ q. q.size) (same_at at t.at) ∙ t.size_is in
     record { node = x; at = at; size_is = is ∙ ap Some (sym (size y is)) }
+
+-- the size that was read of the node
+pub node_takes : {m : Checker} {j n p z : ℕ} {x : Node} → ElementsFit m j n p → x ≡ slice_index_or m.nodes.now j x → z ≡ unwrap_or (slice_index_or m.nodes.now j x).size 0 → Takes m j z
+node_takes {m = m} {j = j} {z = z} {x = x} f is e =
+    takes_size m j z x (record { below = f.takes.at.below; is = is }) f.takes (λ y q. e ∙ ap (λ v. unwrap_or v.size 0) (sym is) ∙ ap (λ v. unwrap_or v 0) q)
 
 module _ (m : Checker) (j z : ℕ) (takes : Takes m j z) where
   -- k elements and one more take no more than n

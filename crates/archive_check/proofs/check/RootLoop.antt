@@ -1,33 +1,24 @@
 -- The loop of a check, from the root to the end of its list.
-use Rattle.std.proofs.Common.{◌≡◌, ◌⊎◌, inl, inr, ℕ, ℤ, pos, List, [], ◌∷◌}
+use Rattle.std.proofs.Common.{◌≡◌, inl, inr, ℕ, ℤ, pos, List, [], ◌∷◌}
 use Rattle.std.specs.FinMap.{empty}
 use Rattle.archive_check.specs.declared.format.error.Error.{Error}
-use Rattle.archive_check.specs.declared.format.error.Error.TheVariants.{OutOfMemory}
 use Rattle.archive_check.specs.declared.plan.PointeeKind.TheVariants.{One}
 use Rattle.archive_check.specs.declared.check.Checker.{Checker}
 use Rattle.archive_check.specs.declared.check.worklist.Work.{Work}
 use Rattle.archive_check.specs.Ranges.{RangeState}
 use Rattle.archive_check.specs.PositionStates.{Positions}
 use Rattle.archive_check.specs.Tour.{Seen}
-use Rattle.archive_check.specs.Trail.{Fault}
-use Rattle.archive_check.specs.Faults.{IsFor}
 use Rattle.archive_check.specs.FreshContexts.{IsFresh}
-use Rattle.archive_check.specs.check.Runs.{Outcome, done, refused, EnterRuns, list_end}
+use Rattle.archive_check.specs.check.Runs.{Outcome, done, refused, list_end}
 use Rattle.archive_check.specs.check.LoopInvariant.{Stage, stage, Agreeing, Listing, Entering, TurnLeads, TurnRefuses, IsStopped}
+use Rattle.archive_check.specs.check.Turns.{RootRuns, RootPasses, RootStops}
 use Rattle.archive_check.proofs.check.ContextAgrees.{agrees_fresh}
 use Rattle.archive_check.proofs.check.TurnRules.{then_end}
 
 module _ (m : Checker) (s : RangeState) (met : Positions) (root at : ℕ) where
-  -- what comes of the root
-  abbrev pub Rooted : Outcome → Type 0
-  Rooted o = EnterRuns m [] s.depth s.end One root 1 (pos at) s.start empty o
-
   -- what comes of the list that is left comes of the root, where the check was fresh
   abbrev pub LeadsBack : Stage → Type 0
-  LeadsBack x = IsFresh s met → (seen : Seen) × Agreeing x seen × ((o : Outcome) → Listing m x seen o → Rooted o)
-
-  abbrev pub RefusesRoot : Error → Type 0
-  RefusesRoot e = (e ≡ OutOfMemory) ⊎ (IsFresh s met → (f : Fault) × IsFor f e × Rooted (refused f))
+  LeadsBack x = IsFresh s met → (seen : Seen) × Agreeing x seen × ((o : Outcome) → Listing m x seen o → RootRuns m root at s o)
 
   module _ (z : ℤ) (same : z ≡ pos at) where
     pub root_leads : (first : List Work) (x : Stage) → first ≡ [] → TurnLeads m (Entering m One root 1 z) (stage s met first) x → LeadsBack x
@@ -35,12 +26,12 @@ module _ (m : Checker) (s : RangeState) (met : Positions) (root at : ℕ) where
         let go = leads empty (rw none (agrees_fresh s met fresh)) in
         (go.0, go.1, λ o r. then_end m (rw (none, same) at (go.2 o r)))
 
-    pub root_refuses : (e : Error) → IsStopped m One root 1 z s e → RefusesRoot e
+    pub root_refuses : (e : Error) → IsStopped m One root 1 z s e → RootStops m root at s met e
     root_refuses e (inl memory) = inl memory
     root_refuses e (inr stopped) = inr (λ fresh. let f = stopped (record { levels = fresh.levels; few = fresh.few }) in (f.0, f.1, rw same at (f.2 [] empty)))
 
   module _ (s' : RangeState) (met' : Positions) (work : List Work) (h : LeadsBack (stage s' met' work)) where
-    pub root_ends : work ≡ [] → IsFresh s met → (last : ℕ) × (known : Seen) × Rooted (done last known)
+    pub root_ends : work ≡ [] → RootPasses m root at s met
     root_ends none fresh = let a = h fresh in (s'.start, a.0, a.2 (done s'.start a.0) (rw none list_end))
 
     module _ (entry : Work) (rest : List Work) (work_is : work ≡ entry ∷ rest) where
@@ -50,7 +41,7 @@ module _ (m : Checker) (s : RangeState) (met : Positions) (root at : ℕ) where
           let go = leads a.0 (rw work_is at a.1) in
           (go.0, go.1, λ o r. a.2 o (rw work_is (go.2 o r)))
 
-      pub turn_refuses : (e : Error) → TurnRefuses (Listing m) (stage s' met' (entry ∷ rest)) e → RefusesRoot e
+      pub turn_refuses : (e : Error) → TurnRefuses (Listing m) (stage s' met' (entry ∷ rest)) e → RootStops m root at s met e
       turn_refuses e (inl memory) = inl memory
       turn_refuses e (inr stopped) = inr (λ fresh.
           let a = h fresh in

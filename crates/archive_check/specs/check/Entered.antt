@@ -1,10 +1,16 @@
--- A region that is entered.
-use Rattle.std.specs.Prelude.{◌≡◌, ℕ, ◌+◌, ◌%◌, ◌≤◌, ℤ, pos, Some}
+-- A region that is entered, and one that is left.
+use Rattle.std.specs.Prelude.{◌≡◌, ℕ, ◌+◌, ◌%◌, ◌≤◌, ℤ, pos, Option, Some, Ok, Err, OnSome, IfSome, IfNone}
+use Rattle.archive_check.specs.declared.format.error.Error.{Error}
+use Rattle.archive_check.specs.declared.plan.PointeeKind.{PointeeKind}
 use Rattle.archive_check.specs.declared.check.Checker.{Checker}
-use Rattle.archive_check.specs.declared.check.Region.{Region}
+use Rattle.archive_check.specs.declared.check.regions.Region.{Region}
+use Rattle.archive_check.specs.declared.check.worklist.Worklist.{Worklist}
 use Rattle.archive_check.specs.Depth.{inside}
-use Rattle.archive_check.specs.Ranges.{RangeState}
+use Rattle.archive_check.specs.Ranges.{RangeState, pop_answer, popped}
+use Rattle.archive_check.specs.PositionStates.{Positions}
 use Rattle.archive_check.specs.check.Runs.{RegionIs}
+use Rattle.archive_check.specs.check.LoopInvariant.{Stage}
+use Rattle.archive_check.specs.check.Through.{Stops, region_rule, stage_of}
 
 -- a region of this size and alignment lies at t, within the range
 pub record Lands (s : RangeState) (z : ℤ) (size align t : ℕ) : Type 0 where
@@ -24,3 +30,26 @@ pub record Entered (m : Checker) (j n : ℕ) (z : ℤ) (s s' : RangeState) (r : 
   pub deep : s.depth ≡ Some 1 → ⊥
   pub outer_start : r.outer_start ≡ r.begin + r.size
   pub outer_end : r.outer_end ≡ s.end
+
+-- the region is entered, or (None) it is refused, whatever kind of pointer leads there
+pub record EntersFrom (m : Checker) (j n : ℕ) (z : ℤ) (x y : Stage) (result : Option Region) (fault : Error) : Type 0 where
+  pub entered : IfSome result (λ r. Entered m j n z x.range y.range r)
+  pub list : OnSome result (y.work ≡ x.work)
+  pub positions : OnSome result (y.met ≡ x.met)
+  pub none : IfNone result ((target : PointeeKind) → Stops (region_rule m target j n z) x.range fault)
+
+-- the range is the one from start to end again, or (None) it isn't taken back
+pub record LeavesFrom (start end : ℕ) (x y : Stage) (result : Option (Unit {0})) (fault : Error) : Type 0 where
+  pub range : OnSome result (y.range ≡ popped x.range start end)
+  pub taken : OnSome result (pop_answer x.range start ≡ Ok tt)
+  pub list : OnSome result (y.work ≡ x.work)
+  pub positions : OnSome result (y.met ≡ x.met)
+  pub none : IfNone result (pop_answer x.range start ≡ Err fault)
+
+-- a call enters the region, from one context and list to the next
+abbrev pub EntersRegion : {A : Type 0} → (A → RangeState) → (A → Positions) → Checker → ℕ → ℕ → ℤ → A → A → Worklist → Worklist → Option Region → Type 0
+EntersRegion range met m j n z c c' work work' result = EntersFrom m j n z (stage_of range met c work) (stage_of range met c' work') result work'.fault
+
+-- a call leaves a region
+abbrev pub LeavesRegion : {A : Type 0} → (A → RangeState) → (A → Positions) → ℕ → ℕ → A → A → Worklist → Worklist → Option (Unit {0}) → Type 0
+LeavesRegion range met start end c c' work work' result = LeavesFrom start end (stage_of range met c work) (stage_of range met c' work') result work'.fault

@@ -1,5 +1,5 @@
 -- What each turn of the check keeps, and why the turns end.
-use Rattle.std.specs.Prelude.{◌≡◌, ◌≢◌, ◌⊎◌, ℕ, zero, suc, ◌+◌, ◌-◌, ◌*◌, ◌<◌, ◌≤◌, max, ℤ, pos, negsuc, ◌+ℤ◌, List, [], ◌∷◌, length, Option, Some, None, OnSome, IfNone, Contains, true, false}
+use Rattle.std.specs.Prelude.{◌≡◌, ◌≢◌, ◌⊎◌, ℕ, zero, suc, ◌+◌, ◌-◌, ◌*◌, ◌<◌, ◌≤◌, max, ℤ, pos, negsuc, ◌+ℤ◌, List, [], ◌∷◌, length, Option, Some, None, Contains, true, false}
 use Rattle.std.specs.FinMap.{get}
 use Rattle.archive_check.specs.declared.format.error.Error.{Error}
 use Rattle.archive_check.specs.declared.format.error.Error.TheVariants.{OutOfMemory}
@@ -143,10 +143,6 @@ TurnLeads m Before x y = (seen : Seen) → Agreeing x seen → (last : Seen) × 
 -- the refusal is what comes of what was before, where the context agrees
 abbrev pub TurnRefuses : (Stage → Seen → Outcome → Type 0) → Stage → Error → Type 0
 TurnRefuses Before x e = (e ≡ OutOfMemory) ⊎ ((seen : Seen) → Agreeing x seen → (f : Fault) × IsFor f e × Before x seen (refused f))
-
--- a turn from one stage to the next, or (None) to a refusal
-abbrev pub Keeps : Checker → (Stage → Seen → Outcome → Type 0) → Stage → Stage → Option (Unit {0}) → Error → Type 0
-Keeps m Before x y result fault = OnSome result (TurnLeads m Before x y) × IfNone result (TurnRefuses Before x fault)
 
 -- levels are left, and no more than a number holds
 pub record HasLevels (depth : Option ℕ) : Type 0 where

@@ -1,6 +1,8 @@
 -- How a check goes over a plan: one rule for each thing that it finds.
 use Rattle.std.specs.Prelude.{◌≡◌, ◌≢◌, ◌⊎◌, ℕ, ◌+◌, ◌-◌, ◌*◌, ◌%◌, ◌<◌, ◌≤◌, ℤ, pos, ◌+ℤ◌, List, [], ◌∷◌, length, slice_index, slice_index_or, Option, Some, None, IsUtf8, Contains, IsTrue, false, cond, nat_eq, nat_lt, if◌then◌else◌}
 use Rattle.std.specs.FinMap.{get, insert}
+use Rattle.archive_check.specs.declared.format.error.Error.{Error}
+use Rattle.archive_check.specs.declared.format.error.Error.TheVariants.{InvalidDiscriminant}
 use Rattle.archive_check.specs.declared.format.expr.Kind.{Kind as KindExpr}
 use Rattle.archive_check.specs.declared.plan.PointeeKind.{PointeeKind}
 use Rattle.archive_check.specs.declared.plan.PointeeKind.TheVariants.{One, Run, Text}
@@ -74,6 +76,14 @@ pointee_length bytes p Text = u32_at bytes (p + 4)
 -- how a pointer of the shared type and of this length is met
 abbrev pub entry_for : SharedType → ℕ → Entry
 entry_for shared_type l = record { flavor = flavor_of shared_type.flavor; pointee = pointee_of shared_type.pointee; length = l }
+
+-- the tag at p names the variant x, of those from a up to b
+abbrev pub IsVariant : Checker → ℕ → ℕ → ℕ → Span → Type 0
+IsVariant m a b p x = (a + slice_index m.bytes.now p < b) × IsAt m.variants.now (a + slice_index m.bytes.now p) x
+
+-- it names none, which is refused
+abbrev pub IsNoVariant : Checker → Bor (List ℕ) → ℕ → ℕ → ℕ → Error → Type 0
+IsNoVariant m name a b p e = (b ≤ a + slice_index m.bytes.now p) × (e ≡ InvalidDiscriminant name (slice_index m.bytes.now p))
 
 -- pending, depth, stop, what, where, start, seen, outcome
 mutual

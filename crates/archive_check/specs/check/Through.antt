@@ -1,14 +1,19 @@
 -- What is checked at once, with nothing listed: what comes of it, whatever is seen and pending.
-use Rattle.std.specs.Prelude.{◌≡◌, ℕ, ℤ, List, Option}
+use Rattle.std.specs.Prelude.{◌≡◌, ◌≢◌, ℕ, ◌<◌, ℤ, List, Option, OnSome, IfSome, IfNone, Bool, IsTrue, false}
 use Rattle.archive_check.specs.declared.format.error.Error.{Error}
 use Rattle.archive_check.specs.declared.plan.PointeeKind.{PointeeKind}
+use Rattle.archive_check.specs.declared.plan.Span.{Span}
+use Rattle.archive_check.specs.declared.plan.PointeeKind.TheVariants.{Text}
 use Rattle.archive_check.specs.declared.check.Checker.{Checker}
+use Rattle.archive_check.specs.declared.check.worklist.Worklist.{Worklist}
 use Rattle.archive_check.specs.Ranges.{RangeState}
+use Rattle.archive_check.specs.PositionStates.{Positions}
 use Rattle.archive_check.specs.Tour.{Seen}
 use Rattle.archive_check.specs.Trail.{Fault}
 use Rattle.archive_check.specs.Faults.{IsFor}
 use Rattle.archive_check.specs.check.Runs.{Outcome, done, refused, NodeRuns, PartsRun, ElementsRun, EnterRuns, ContentsRun}
-use Rattle.archive_check.specs.check.LoopInvariant.{HasLevels}
+use Rattle.archive_check.specs.check.Lists.{list_of}
+use Rattle.archive_check.specs.check.LoopInvariant.{HasLevels, Stage, stage}
 
 -- a rule of the check, by what is pending, the levels left, the range's end and start, what is seen, and the outcome
 abbrev pub Rule : Type 1
@@ -21,6 +26,10 @@ node_rule m i p pending depth stop start seen o = NodeRuns m pending depth stop 
 -- the parts from a up to b, of what begins at p
 abbrev pub parts_rule : Checker → ℕ → ℕ → ℕ → Rule
 parts_rule m a b p pending depth stop start seen o = PartsRun m pending depth stop a b p start seen o
+
+-- the parts of a variant, of what begins at p
+abbrev pub span_rule : Checker → Span → ℕ → Rule
+span_rule m x p = parts_rule m x.first x.last p
 
 -- n of the node j, the first at p
 abbrev pub elements_rule : Checker → ℕ → ℕ → ℕ → Rule
@@ -43,3 +52,41 @@ pub record Through (R : Rule) (s s' : RangeState) : Type 0 where
 -- the rule comes to this refusal
 abbrev pub Stops : Rule → RangeState → Error → Type 0
 Stops R s e = HasLevels s.depth → (f : Fault) × IsFor f e × ((pending : List ℕ) (seen : Seen) → R pending s.depth s.end s.start seen (refused f))
+
+-- the rule is gone through, and no entry is left and no position met
+pub record Passed (R : Rule) (x y : Stage) : Type 0 where
+  pub through : Through R x.range y.range
+  pub list : y.work ≡ x.work
+  pub positions : y.met ≡ x.met
+
+-- so it is, or (None) the rule comes to a refusal
+pub record PassesFrom (R : Rule) (x y : Stage) (result : Option (Unit {0})) (fault : Error) : Type 0 where
+  pub some : OnSome result (Passed R x y)
+  pub none : IfNone result (Stops R x.range fault)
+
+-- it is where it is one of those that the call knows (true), and else nothing changed
+pub record TestsFrom (R : Rule) (Other : Type 0) (x y : Stage) (result : Option Bool) (fault : Error) : Type 0 where
+  pub known : IfSome result (λ known. IsTrue known → Passed R x y)
+  pub other : IfSome result (λ known. known ≡ false → Other × (y ≡ x))
+  pub none : IfNone result (Stops R x.range fault)
+
+-- what a check is at, by its context and its list
+abbrev pub stage_of : {A : Type 0} → (A → RangeState) → (A → Positions) → A → Worklist → Stage
+stage_of range met context work = stage (range context) (met context) (list_of work)
+
+-- a call goes through a rule, from one context and list to the next
+abbrev pub Passes : {A : Type 0} → (A → RangeState) → (A → Positions) → Rule → A → A → Worklist → Worklist → Option (Unit {0}) → Type 0
+Passes range met R c c' work work' result = PassesFrom R (stage_of range met c work) (stage_of range met c' work') result work'.fault
+
+-- likewise where it knows the rule
+abbrev pub PassesIf : {A : Type 0} → (A → RangeState) → (A → Positions) → Rule → A → A → Worklist → Worklist → Option Bool → Type 0
+PassesIf range met R c c' work work' result = TestsFrom R (Unit {0}) (stage_of range met c work) (stage_of range met c' work') result work'.fault
+
+-- a call goes through a region that a pointer leads to
+abbrev pub PassesRegion : {A : Type 0} → (A → RangeState) → (A → Positions) → Checker → PointeeKind → ℕ → ℕ → ℤ → A → A → Worklist → Worklist → Option (Unit {0}) → Type 0
+PassesRegion range met m target j n where_to c c' work work' result = Passes range met (region_rule m target j n where_to) c c' work work' result
+
+-- a call goes through what a region holds, z bytes at t, where that is shallow; else there are bytes, and they are no text
+abbrev pub PassesHeld : {A : Type 0} → (A → RangeState) → (A → Positions) → Checker → PointeeKind → ℕ → ℕ → ℕ → ℕ → A → A → Worklist → Worklist → Option Bool → Type 0
+PassesHeld range met m target j n t z c c' work work' result =
+    TestsFrom (contents_rule m target j n z t) ((0 < z) × (target ≢ Text)) (stage_of range met c work) (stage_of range met c' work') result work'.fault

@@ -86,3 +86,7 @@ AreAllMarked nodes parts variants marks = (i : ℕ) (x : Node) → i < length ma
 pub record IsMarked (m : Checker) : Type 0 where
   pub shallow : AreShallow m.nodes.now m.parts.now m.variants.now m.shallow.now
   pub all : length m.shallow.now ≡ length m.nodes.now
+
+-- the node i is shallow
+abbrev pub IsShallow : Checker → ℕ → Type 0
+IsShallow m i = (x : Node) → IsAt m.nodes.now i x → IsTrue (kind_shallow m.nodes.now m.parts.now m.variants.now m.shallow.now x.kind)

@@ -1,25 +1,25 @@
 //! The check of shallow nodes. They lead to nothing that has to be listed, so the calls nest as deep as the shape does, and no deeper.
 
-ghost use Rattle.std.specs.Prelude.{◌≡◌, ◌≢◌, ◌<◌, ◌≤◌, length, OnSome, IfSome, IfNone, IsTrue, false};
-ghost use Rattle.archive_check.specs.declared.plan.NodeKind.TheVariants.{Str};
+ghost use Rattle.std.specs.Prelude.{◌≡◌, ◌≢◌, ◌+◌, ◌≤◌, ℕ, length, IsTrue};
+ghost use Rattle.archive_check.specs.declared.plan.NodeKind.TheVariants.{Str, Pointer as PointerNode};
 ghost use Rattle.archive_check.specs.declared.plan.PointeeKind.TheVariants.{Text};
-ghost use Rattle.archive_check.specs.declared.plan.Node.{Node};
-ghost use Rattle.archive_check.specs.check.Runs.{IsAt, IsNode};
-ghost use Rattle.archive_check.specs.check.Lists.{list_of};
+ghost use Rattle.archive_check.specs.check.Runs.{IsNode};
 ghost use Rattle.archive_check.specs.plan.SoundPlans.{IsSound, span};
-ghost use Rattle.archive_check.specs.plan.Shallow.{IsMarked, marked, free_at, parts_shallow, kind_shallow};
+ghost use Rattle.archive_check.specs.plan.Shallow.{marked, free_at, parts_shallow, IsShallow};
 ghost use Rattle.archive_check.specs.check.LoopInvariant.{PointeeFits, PartFits, PartsFit, ElementsFit};
-ghost use Rattle.archive_check.specs.check.Through.{Through, Stops, node_rule, parts_rule, elements_rule, region_rule};
+ghost use Rattle.archive_check.specs.check.Through.{Passes, PassesIf, PassesRegion, node_rule, parts_rule, span_rule, elements_rule};
+ghost use Rattle.archive_check.specs.check.Turns.{IsCheckable};
 
+use crate::check::Checker;
+use crate::check::regions::leave_region;
 use crate::check::worklist::Worklist;
-use crate::check::{Checker, leave_region};
 use crate::context::ArchiveContext;
 use crate::format::bytes::{
     inline_length, is_out_of_line, is_text, read_coded_length, read_position,
 };
 use crate::format::error::Error;
 use crate::format::leaf::{illegal, is_legal};
-use crate::plan::{NodeKind, PointeeKind};
+use crate::plan::{NodeKind, PointeeKind, Span};
 
 impl Checker<'_> {
     /// Checks a region of so many of the pointee: a text, or bytes that are legal whatever they are.
@@ -36,10 +36,7 @@ impl Checker<'_> {
         requires pointee { PointeeFits self.now target pointee count }
         requires shallow { target ≢ Text → IsTrue (free_at self.now.nodes.now pointee) }
         requires below { (C.state context.old).end ≤ length self.now.bytes.now }
-        ensures through { OnSome result (Through (region_rule self.now target pointee count position) (C.state context.old) (C.state context.new)) }
-        ensures stops { IfNone result (Stops (region_rule self.now target pointee count position) (C.state context.old) work.new.fault) }
-        ensures list { OnSome result (list_of work.new ≡ list_of work.old) }
-        ensures positions { OnSome result (C.positions context.new ≡ C.positions context.old) }
+        ensures { PassesRegion C.state C.positions self.now target pointee count position context.old context.new work.old work.new result }
     {
         let region = self.enter_region(pointee, count, position, work, context)?;
         if let PointeeKind::Text = target {
@@ -48,6 +45,29 @@ impl Checker<'_> {
             }
         }
         leave_region(region.outer_start, region.outer_end, work, context)
+    }
+
+    /// Checks the pointer at `at`, whose node this is.
+    #[inline(always)]
+    fn check_pointer<C: ArchiveContext>(
+        &self,
+        node: usize,
+        at: usize,
+        target: PointeeKind,
+        pointee: usize,
+        work: &mut Worklist,
+        context: &mut C,
+    ) -> Option<()>
+        requires sound { IsSound self.now }
+        requires kind { IsNode self.now node (PointerNode target pointee) }
+        requires shallow { target ≢ Text → IsTrue (free_at self.now.nodes.now pointee) }
+        requires fits { PartFits self.now node at }
+        requires below { (C.state context.old).end ≤ length self.now.bytes.now }
+        ensures { Passes C.state C.positions (node_rule self.now node at) context.old context.new work.old work.new result }
+    {
+        let count = self.count(target, at);
+        let position = read_position(self.bytes, at, at);
+        self.check_shallow_region(target, pointee, count, position, work, context)
     }
 
     /// Checks the string at `at`, whose node this is.
@@ -64,10 +84,7 @@ impl Checker<'_> {
         requires kind { IsNode self.now node (Str pointee) }
         requires fits { PartFits self.now node at }
         requires below { (C.state context.old).end ≤ length self.now.bytes.now }
-        ensures through { OnSome result (Through (node_rule self.now node at) (C.state context.old) (C.state context.new)) }
-        ensures stops { IfNone result (Stops (node_rule self.now node at) (C.state context.old) work.new.fault) }
-        ensures list { OnSome result (list_of work.new ≡ list_of work.old) }
-        ensures positions { OnSome result (C.positions context.new ≡ C.positions context.old) }
+        ensures { Passes C.state C.positions (node_rule self.now node at) context.old context.new work.old work.new result }
     {
         if is_out_of_line(self.bytes, at) {
             let length = read_coded_length(self.bytes, at);
@@ -101,21 +118,15 @@ impl Checker<'_> {
         context: &mut C,
     ) -> Option<bool>
         requires sound { IsSound self.now }
-        requires shallow { (x : Node) → IsAt self.now.nodes.now node x → IsTrue (kind_shallow self.now.nodes.now self.now.parts.now self.now.variants.now self.now.shallow.now x.kind) }
+        requires shallow { IsShallow self.now node }
         requires fits { PartFits self.now node at }
         requires below { (C.state context.old).end ≤ length self.now.bytes.now }
-        ensures through { IfSome result (λ known. IsTrue known → Through (node_rule self.now node at) (C.state context.old) (C.state context.new)) }
-        ensures others { IfSome result (λ known. known ≡ false → C.state context.new ≡ C.state context.old) }
-        ensures stops { IfNone result (Stops (node_rule self.now node at) (C.state context.old) work.new.fault) }
-        ensures list { OnSome result (list_of work.new ≡ list_of work.old) }
-        ensures positions { OnSome result (C.positions context.new ≡ C.positions context.old) }
+        ensures { PassesIf C.state C.positions (node_rule self.now node at) context.old context.new work.old work.new result }
     {
         let here = self.nodes[node];
         match here.kind {
             NodeKind::Pointer { target, pointee } => {
-                let count = self.count(target, at);
-                let position = read_position(self.bytes, at, at);
-                self.check_shallow_region(target, pointee, count, position, work, context)?;
+                self.check_pointer(node, at, target, pointee, work, context)?;
                 Some(true)
             }
             NodeKind::Str { pointee } => {
@@ -124,6 +135,29 @@ impl Checker<'_> {
             }
             _ => Some(false),
         }
+    }
+
+    /// Checks a variant's part at its place in what begins at `at`, where the part stands alone and is a string or a pointer. Answers whether
+    /// it is so.
+    #[inline(always)]
+    fn check_alone<C: ArchiveContext>(
+        &self,
+        variant: Span,
+        at: usize,
+        work: &mut Worklist,
+        context: &mut C,
+    ) -> Option<bool>
+        requires plan { IsCheckable self.now }
+        requires shallow { IsTrue (parts_shallow self.now.shallow.now (span self.now.parts.now variant.first variant.last)) }
+        requires fits { PartsFit self.now variant.first variant.last at }
+        requires below { (C.state context.old).end ≤ length self.now.bytes.now }
+        ensures { PassesIf C.state C.positions (span_rule self.now variant at) context.old context.new work.old work.new result }
+    {
+        if variant.last.saturating_sub(variant.first) == 1 {
+            let part = self.parts[variant.first];
+            return self.check_single(part.node, at + part.offset, work, context);
+        }
+        Some(false)
     }
 
     /// Checks a shallow node at `at`.
@@ -136,15 +170,11 @@ impl Checker<'_> {
         work: &mut Worklist,
         context: &mut C,
     ) -> Option<()>
-        requires sound { IsSound self.now }
-        requires marked { IsMarked self.now }
-        requires shallow { (x : Node) → IsAt self.now.nodes.now node x → IsTrue (kind_shallow self.now.nodes.now self.now.parts.now self.now.variants.now self.now.shallow.now x.kind) }
+        requires plan { IsCheckable self.now }
+        requires shallow { IsShallow self.now node }
         requires fits { PartFits self.now node at }
         requires below { (C.state context.old).end ≤ length self.now.bytes.now }
-        ensures through { OnSome result (Through (node_rule self.now node at) (C.state context.old) (C.state context.new)) }
-        ensures stops { IfNone result (Stops (node_rule self.now node at) (C.state context.old) work.new.fault) }
-        ensures list { OnSome result (list_of work.new ≡ list_of work.old) }
-        ensures positions { OnSome result (C.positions context.new ≡ C.positions context.old) }
+        ensures { Passes C.state C.positions (node_rule self.now node at) context.old context.new work.old work.new result }
     {
         let here = self.nodes[node];
         match here.kind {
@@ -159,26 +189,18 @@ impl Checker<'_> {
                 first, last, at, work, context,
             ),
             NodeKind::Choice { name, first, last } => {
-                let Some(variant) = self.variant(first, last, at) else {
-                    let value = self.bytes[at];
-                    return work.refuse(Error::InvalidDiscriminant { name, value });
-                };
-                if variant.last.saturating_sub(variant.first) == 1 {
-                    let part = self.parts[variant.first];
-                    if self.check_single(part.node, at + part.offset, work, context)? {
-                        return Some(());
-                    }
+                let variant = self.chosen(name, first, last, at, work)?;
+                if self.check_alone(variant, at, work, context)? {
+                    return Some(());
                 }
                 self.check_shallow_parts(variant.first, variant.last, at, work, context)
             }
             NodeKind::Array { count, element } => self.check_shallow_elements(
                 element, count, at, work, context,
             ),
-            NodeKind::Pointer { target, pointee } => {
-                let count = self.count(target, at);
-                let position = read_position(self.bytes, at, at);
-                self.check_shallow_region(target, pointee, count, position, work, context)
-            }
+            NodeKind::Pointer { target, pointee } => self.check_pointer(
+                node, at, target, pointee, work, context,
+            ),
             NodeKind::Str { pointee } => self.check_text(node, at, pointee, work, context),
             NodeKind::Shared { .. } | NodeKind::Weak { .. } => unreachable!(),
         }
@@ -194,15 +216,11 @@ impl Checker<'_> {
         work: &mut Worklist,
         context: &mut C,
     ) -> Option<()>
-        requires sound { IsSound self.now }
-        requires marked { IsMarked self.now }
+        requires plan { IsCheckable self.now }
         requires shallow { IsTrue (parts_shallow self.now.shallow.now (span self.now.parts.now first last)) }
         requires fits { PartsFit self.now first last base }
         requires below { (C.state context.old).end ≤ length self.now.bytes.now }
-        ensures through { OnSome result (Through (parts_rule self.now first last base) (C.state context.old) (C.state context.new)) }
-        ensures stops { IfNone result (Stops (parts_rule self.now first last base) (C.state context.old) work.new.fault) }
-        ensures list { OnSome result (list_of work.new ≡ list_of work.old) }
-        ensures positions { OnSome result (C.positions context.new ≡ C.positions context.old) }
+        ensures { Passes C.state C.positions (parts_rule self.now first last base) context.old context.new work.old work.new result }
     {
         for index in first..last {
             let part = self.parts[index];
@@ -222,15 +240,11 @@ impl Checker<'_> {
         work: &mut Worklist,
         context: &mut C,
     ) -> Option<()>
-        requires sound { IsSound self.now }
-        requires marked { IsMarked self.now }
+        requires plan { IsCheckable self.now }
         requires shallow { IsTrue (marked self.now.shallow.now node) }
         requires fits { ElementsFit self.now node count at }
         requires below { (C.state context.old).end ≤ length self.now.bytes.now }
-        ensures through { OnSome result (Through (elements_rule self.now node count at) (C.state context.old) (C.state context.new)) }
-        ensures stops { IfNone result (Stops (elements_rule self.now node count at) (C.state context.old) work.new.fault) }
-        ensures list { OnSome result (list_of work.new ≡ list_of work.old) }
-        ensures positions { OnSome result (C.positions context.new ≡ C.positions context.old) }
+        ensures { Passes C.state C.positions (elements_rule self.now node count at) context.old context.new work.old work.new result }
     {
         let size = self.nodes[node].size.unwrap_or(0);
         let passed = self.count_legal(node, count, at, size);

@@ -1,11 +1,9 @@
 //! The check of a whole archive against a plan.
 
-ghost use Rattle.std.specs.Prelude.{◌≡◌, ◌⊎◌, ◌<◌, ◌≤◌, length, OnOk, IfErr};
-ghost use Rattle.archive_check.specs.declared.format.error.Error.TheVariants.{OutOfMemory};
+ghost use Rattle.std.specs.Prelude.{◌<◌, ◌≤◌, length, OnOk, IfErr};
 ghost use Rattle.archive_check.specs.plan.SoundPlans.{IsSound};
 ghost use Rattle.archive_check.specs.plan.Shallow.{IsMarked};
-ghost use Rattle.archive_check.specs.FreshContexts.{IsWhole};
-ghost use Rattle.archive_check.specs.check.PlanChecks.{PlanAccepts, PlanRefuses, PlanIsExact};
+ghost use Rattle.archive_check.specs.check.PlanChecks.{WholeAccepts, WholeRefuses, WholeIsExact};
 
 use crate::check::Checker;
 use crate::check::worklist::Worklist;
@@ -28,9 +26,9 @@ impl Checker<'_> {
         requires marked { IsMarked self.now }
         requires below { (C.state context.old).end ≤ length self.now.bytes.now }
         requires known { root < length self.now.nodes.now }
-        ensures ok { OnOk result (IsWhole (C.state context.old) (C.positions context.old) self.now.bytes.now → PlanAccepts self.now root (C.state context.old).depth at) }
-        ensures err { IfErr result (λ e. (e ≡ OutOfMemory) ⊎ (IsWhole (C.state context.old) (C.positions context.old) self.now.bytes.now → PlanRefuses self.now root (C.state context.old).depth at e)) }
-        ensures exact { IsWhole (C.state context.old) (C.positions context.old) self.now.bytes.now → PlanIsExact self.now root (C.state context.old).depth at result }
+        ensures ok { OnOk result (WholeAccepts self.now root at (C.state context.old) (C.positions context.old)) }
+        ensures err { IfErr result (λ e. WholeRefuses self.now root at (C.state context.old) (C.positions context.old) e) }
+        ensures exact { WholeIsExact self.now root at (C.state context.old) (C.positions context.old) result }
     {
         prove!(self.bytes.len() <= usize::MAX);
         let mut work = Worklist::new(alloc);

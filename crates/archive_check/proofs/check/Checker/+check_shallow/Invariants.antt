@@ -1,8 +1,7 @@
-use Rattle.std.proofs.Common.{◌≡◌, ◌+◌, ◌-◌, ◌*◌}
-use Rattle.archive_check.specs.check.Lists.{list_of}
+use Rattle.std.proofs.Common.{◌+◌, ◌-◌, ◌*◌}
 use Rattle.archive_check.specs.plan.SoundPlans.{span}
 use Rattle.archive_check.specs.check.LoopInvariant.{rank}
-use Rattle.archive_check.specs.check.Through.{parts_rule, elements_rule}
+use Rattle.archive_check.specs.check.Through.{parts_rule, elements_rule, stage_of}
 use Rattle.archive_check.proofs.check.AtOnce.{Towards}
 use Rattle.archive_check.proofs.check.Checker.+check_shallow.Given as goal
 
@@ -17,12 +16,10 @@ decreases-check_shallow_elements g l = l.node * 2 + 2
 
 abbrev pub invariant-check_shallow_parts-loop-index : goal.invariant-check_shallow_parts-loop-index
 invariant-check_shallow_parts-loop-index g l =
-    (list_of l.work ≡ list_of l.fn.work)
-    × (g.C.Context.positions l.context ≡ g.C.Context.positions l.fn.context)
-    × Towards (parts_rule l.self l.first l.last l.base) (parts_rule l.self l.index l.last l.base) (g.C.Context.state l.fn.context) (g.C.Context.state l.context)
+    let at = stage_of g.C.Context.state g.C.Context.positions in
+    Towards (parts_rule l.self l.first l.last l.base) (parts_rule l.self l.index l.last l.base) (at l.fn.context l.fn.work) (at l.context l.work)
 
 abbrev pub invariant-check_shallow_elements-loop-index : goal.invariant-check_shallow_elements-loop-index
 invariant-check_shallow_elements-loop-index g l =
-    (list_of l.work ≡ list_of l.fn.work)
-    × (g.C.Context.positions l.context ≡ g.C.Context.positions l.fn.context)
-    × Towards (elements_rule l.self l.node l.count l.at) (elements_rule l.self l.node (l.count - l.index) (l.at + l.index * l.size)) (g.C.Context.state l.fn.context) (g.C.Context.state l.context)
+    let at = stage_of g.C.Context.state g.C.Context.positions in
+    Towards (elements_rule l.self l.node l.count l.at) (elements_rule l.self l.node (l.count - l.index) (l.at + l.index * l.size)) (at l.fn.context l.fn.work) (at l.context l.work)

@@ -12,7 +12,7 @@ returns-in_err-enter_here-clause-err g c =
     let st = g.C.Context.state in
     let met = g.C.Context.positions in
     let at : to_z w128 c.args.at ≡ pos c.args.at = to_z_pos w128 c.args.at (omega (arith, c.ranges.at.fits)) in
-    rw c.from_residual.ensures (root_refuses m (st c.args.context.now) (met c.args.context.now) c.args.root c.args.at (to_z w128 c.args.at) at c.enter_here.new.work.fault c.in_err-enter_here.ensures.stopped)
+    rw c.from_residual.ensures (root_refuses m (st c.args.context.now) (met c.args.context.now) c.args.root c.args.at (to_z w128 c.args.at) at c.enter_here.new.work.fault c.in_err-enter_here.ensures.none)
 
 pub loop-entry-init : goal.loop-entry-init
 loop-entry-init g c =
@@ -20,8 +20,8 @@ loop-entry-init g c =
     let st = g.C.Context.state in
     let met = g.C.Context.positions in
     let at : to_z w128 c.args.at ≡ pos c.args.at = to_z_pos w128 c.args.at (omega (arith, c.ranges.at.fits)) in (
-      c.in_ok-enter_here.ensures.ready,
-      root_leads m (st c.args.context.now) (met c.args.context.now) c.args.root c.args.at (to_z w128 c.args.at) at (list_of c.args.work.now) (stage (st c.enter_here.new.context) (met c.enter_here.new.context) (list_of c.enter_here.new.work)) c.requires.none_left c.in_ok-enter_here.ensures.runs,
+      c.in_ok-enter_here.ensures.some.ready,
+      root_leads m (st c.args.context.now) (met c.args.context.now) c.args.root c.args.at (to_z w128 c.args.at) at (list_of c.args.work.now) (stage (st c.enter_here.new.context) (met c.enter_here.new.context) (list_of c.enter_here.new.work)) c.requires.none_left c.in_ok-enter_here.ensures.some.leads,
     )
 
 pub loop-entry-preserved : goal.loop-entry-preserved
@@ -29,8 +29,8 @@ loop-entry-preserved g c =
     let m = c.args.self.now in
     let st = g.C.Context.state in
     let met = g.C.Context.positions in (
-      c.in_ok-step.ensures.ready,
-      turn_leads m (st c.args.context.now) (met c.args.context.now) c.args.root c.args.at (st c.loop-entry.context) (met c.loop-entry.context) (list_of c.loop-entry.work) c.loop-entry.invariant.1 c.in-Some.entry (list_of c.pop.new.self) c.in-Some.ensures.next (stage (st c.step.new.context) (met c.step.new.context) (list_of c.step.new.work)) c.in_ok-step.ensures.runs.0,
+      c.in_ok-step.ensures.some.ready,
+      turn_leads m (st c.args.context.now) (met c.args.context.now) c.args.root c.args.at (st c.loop-entry.context) (met c.loop-entry.context) (list_of c.loop-entry.work) c.loop-entry.invariant.1 c.in-Some.entry (list_of c.pop.new.self) c.in-Some.ensures.next (stage (st c.step.new.context) (met c.step.new.context) (list_of c.step.new.work)) c.in_ok-step.ensures.some.leads,
     )
 
 pub returns-in_err-step-clause-err : goal.returns-in_err-step-clause-err
@@ -38,7 +38,7 @@ returns-in_err-step-clause-err g c =
     let m = c.args.self.now in
     let st = g.C.Context.state in
     let met = g.C.Context.positions in
-    rw c.from_residual-in_err-step.ensures (turn_refuses m (st c.args.context.now) (met c.args.context.now) c.args.root c.args.at (st c.loop-entry.context) (met c.loop-entry.context) (list_of c.loop-entry.work) c.loop-entry.invariant.1 c.in-Some.entry (list_of c.pop.new.self) c.in-Some.ensures.next c.step.new.work.fault c.in_err-step.ensures.runs.1)
+    rw c.from_residual-in_err-step.ensures (turn_refuses m (st c.args.context.now) (met c.args.context.now) c.args.root c.args.at (st c.loop-entry.context) (met c.loop-entry.context) (list_of c.loop-entry.work) c.loop-entry.invariant.1 c.in-Some.entry (list_of c.pop.new.self) c.in-Some.ensures.next c.step.new.work.fault c.in_err-step.ensures.none)
 
 pub returns-clause-ok : goal.returns-clause-ok
 returns-clause-ok g c =
