@@ -5,6 +5,7 @@ mod numbers;
 mod positions;
 mod reading;
 mod readme;
+mod rel_ptr;
 mod shared;
 mod strings;
 mod writing;
