@@ -13,3 +13,4 @@ pub mod Shared
 pub mod SharedCauses
 pub mod KeyStates
 pub mod ShortTexts
+pub mod Pointers

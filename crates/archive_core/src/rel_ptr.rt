@@ -1,4 +1,4 @@
-//! Offsets between positions.
+//! Relative pointers: offsets from where they stand to what they lead to. As in rkyv 0.8.18.
 
 ghost use Rattle.std.specs.Prelude.{◌≡◌, MatchResult, FitsSigned};
 ghost use Rattle.std.specs.Int.{w64};
@@ -6,6 +6,15 @@ ghost use Rattle.archive_core.specs.Offsets.{distance};
 ghost use Rattle.archive_check.specs.declared.format.error.Error.TheVariants.{IsizeOverflow};
 
 use archive_check::format::error::Error;
+
+mod offset;
+mod raw;
+
+pub use offset::{Offset, OffsetNumber};
+pub use raw::{
+    RawRelPtr, RawRelPtrI8, RawRelPtrI16, RawRelPtrI32, RawRelPtrI64, RawRelPtrU8, RawRelPtrU16,
+    RawRelPtrU32, RawRelPtrU64,
+};
 
 /// How far it is from one position to another, in bytes. Refused with `IsizeOverflow`, 2, exactly where the difference doesn't fit `isize`. As in rkyv
 /// 0.8.18.

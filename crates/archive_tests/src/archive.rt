@@ -5,6 +5,7 @@ mod numbers;
 mod positions;
 mod reading;
 mod readme;
+mod rel_ptr;
 mod self_checks;
 mod shared;
 mod strings;
