@@ -1,11 +1,13 @@
 //! Relative pointers that don't say what they lead to.
 
-ghost use Rattle.std.specs.Prelude.{◌≡◌, ◌+◌, ◌≤◌, MatchResult, IsOk, length, pos, ◌+ℤ◌, refl};
+ghost use Rattle.std.specs.Prelude.{◌≡◌, ◌+◌, ◌≤◌, MatchResult, IsOk, length, pos, ◌+ℤ◌, refl, true};
 ghost use Rattle.std.specs.Int.{byte_len};
 ghost use Rattle.std.specs.Ordering.{int_eq};
 ghost use Rattle.archive_check.specs.Shape.{leaf, one, raw_rel};
 ghost use Rattle.archive_check.specs.Definitions.{no_definition};
 ghost use Rattle.archive_check.specs.Expressions.{kind_of};
+ghost use Rattle.archive_check.specs.Layout.{kind_size};
+ghost use Rattle.archive_check.specs.SelfCheck.Laws.{leaf_check};
 ghost use Rattle.archive_check.specs.LeafLayout.{leaf_layout, leaf_align, leaf_has_layout, no_definition_reached};
 ghost use Rattle.archive_check.specs.declared.format.error.Error.TheVariants.{OffsetOverflow};
 ghost use Rattle.archive_core.specs.Offsets.{distance, Fits, IsBeyond, offset_bytes, offset_at};
@@ -14,9 +16,11 @@ use super::offset::{Offset, OffsetNumber};
 use super::signed_offset;
 use crate::place::Place;
 use crate::view::{Part, Ref};
+use archive_check::context::ArchiveContext;
 use archive_check::format::error::Error;
 use archive_check::format::expr::{Defs, Expr, Kind};
 use archive_check::format::traits::{ArchivePointee, Portable};
+use archive_check::self_check::{SelfCheck, check_leaf};
 use archive_num::{
     ArchivedI16, ArchivedI32, ArchivedI64, ArchivedU16, ArchivedU32, ArchivedU64, Integer, Native,
 };
@@ -105,6 +109,8 @@ impl<O: Offset> Portable for RawRelPtr<O> {
 
     ghost layout = { leaf_layout (raw_rel O.Number.sign O.Number.width) };
 
+    type Check = RawRelPtr<O>;
+
     ghost is_one = { refl };
 
     ghost is_align = { leaf_align (raw_rel O.Number.sign O.Number.width) };
@@ -112,6 +118,8 @@ impl<O: Offset> Portable for RawRelPtr<O> {
     ghost has_layout = { leaf_has_layout (raw_rel O.Number.sign O.Number.width) };
 
     ghost no_others = { no_definition_reached (leaf (raw_rel O.Number.sign O.Number.width)) };
+
+    ghost checks = { λ direct. leaf_check (raw_rel O.Number.sign O.Number.width) };
 
     fn size() -> usize {
         raw_kind::<O::Number>().size()
@@ -127,6 +135,30 @@ impl<O: Offset> Portable for RawRelPtr<O> {
 
     fn define(_alloc: Global, _defs: &mut Defs) -> Result<(), Error> {
         Ok(())
+    }
+}
+
+impl<O: Offset> SelfCheck for RawRelPtr<O> {
+    ghost shape = { leaf (raw_rel O.Number.sign O.Number.width) };
+
+    ghost definitions = { no_definition };
+
+    ghost span = { kind_size (raw_rel O.Number.sign O.Number.width) };
+
+    ghost direct = { true };
+
+    fn is_direct() -> bool {
+        true
+    }
+
+    #[inline(always)]
+    fn check_at<C: ArchiveContext>(
+        bytes: &[u8],
+        at: usize,
+        refusal: &mut Error,
+        context: &mut C,
+    ) -> Option<()> {
+        check_leaf(raw_kind::<O::Number>(), bytes, at, refusal, context)
     }
 }
 
