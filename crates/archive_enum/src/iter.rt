@@ -1,8 +1,9 @@
 // The iterator over one item or none.
 
-ghost use Rattle.std.specs.Prelude.{◌≡◌, None};
+ghost use Rattle.std.specs.Prelude.{◌≡◌};
 ghost use Rattle.std.specs.Option.{option_len};
 ghost use Rattle.std.specs.Iterator.{at_most};
+ghost use Rattle.archive_enum.specs.Items.{GivesWhatIsLeft, YieldsItsItem};
 
 use std::iter::FusedIterator;
 use std::marker::Model;
@@ -23,8 +24,10 @@ impl<P> Model for Iter<P> {
 
 impl<P> Iter<P> {
     /// An iterator over what `inner` holds.
+    #[tactic(auto, using(crate::proofs::Items::yields_its_item))]
     pub fn new(inner: Option<P>) -> Iter<P>
-        ensures { result ≡ inner }
+        ensures item { result ≡ inner }
+        ensures runs { YieldsItsItem P }
     {
         Iter { item: inner }
     }
@@ -33,7 +36,7 @@ impl<P> Iter<P> {
 impl<P: Drop> Iterator for Iter<P> {
     type Item = P;
 
-    ghost next_gives = { λ before item after. (item ≡ before) × (after ≡ None) };
+    ghost next_gives = { GivesWhatIsLeft };
 
     ghost remaining = { λ it. at_most (option_len it) };
 
@@ -48,7 +51,7 @@ impl<P: Drop> Iterator for Iter<P> {
 }
 
 impl<P: Drop> DoubleEndedIterator for Iter<P> {
-    ghost next_back_gives = { λ before item after. (item ≡ before) × (after ≡ None) };
+    ghost next_back_gives = { GivesWhatIsLeft };
 
     fn next_back(&mut self) -> Option<P> {
         self.item.take()

@@ -4,6 +4,7 @@ ghost use Rattle.std.specs.Borrow.{sem};
 ghost use Rattle.std.specs.Prelude.{◌≡◌, not, is_some, IsSome, MatchOption, Some as OfSome};
 ghost use Rattle.std.specs.Option.{ok_or, unwrap_or, option_copied, option_copied_mut, ForNone};
 ghost use Rattle.archive_enum.specs.StandsFor.{option_of};
+ghost use Rattle.archive_enum.specs.Items.{YieldsItsValue, YieldsItsValueMut};
 ghost use Rattle.archive_enum.specs.Lending.{LendsValue, LendsValueIfAny};
 
 pub use crate::iter::Iter;
@@ -100,15 +101,19 @@ impl<T> ArchivedOption<T> {
     }
 
     /// An iterator over the value where it lies; as `Option::iter`.
+    #[tactic(auto, using(crate::proofs::Items::yields_its_value))]
     pub fn iter(&self) -> Iter<&T>
-        ensures { option_copied result ≡ option_of self.now }
+        ensures item { option_copied result ≡ option_of self.now }
+        ensures runs { YieldsItsValue T }
     {
         Iter::new(self.as_ref())
     }
 
     /// An iterator over the value where it lies, to be changed there; as `Option::iter_mut`.
+    #[tactic(auto, using(crate::proofs::Items::yields_its_value_mut))]
     pub fn iter_mut(&mut self) -> Iter<&mut T>
-        ensures { option_copied_mut result ≡ option_of self.old }
+        ensures item { option_copied_mut result ≡ option_of self.old }
+        ensures runs { YieldsItsValueMut T }
     {
         Iter::new(self.as_mut())
     }
@@ -156,7 +161,7 @@ impl<'a, T> IntoIterator for &'a ArchivedOption<T> {
 
     type IntoIter = Iter<&'a T>;
 
-    ghost into_iter_gives = { λ s it. option_copied it ≡ option_of s.now };
+    ghost into_iter_gives = { λ s it. (option_copied it ≡ option_of s.now) × YieldsItsValue T };
 
     fn into_iter(self) -> Iter<&'a T> {
         self.iter()
@@ -168,7 +173,7 @@ impl<'a, T> IntoIterator for &'a mut ArchivedOption<T> {
 
     type IntoIter = Iter<&'a mut T>;
 
-    ghost into_iter_gives = { λ s it. option_copied_mut it ≡ option_of s.now };
+    ghost into_iter_gives = { λ s it. (option_copied_mut it ≡ option_of s.now) × YieldsItsValueMut T };
 
     fn into_iter(self) -> Iter<&'a mut T> {
         self.iter_mut()

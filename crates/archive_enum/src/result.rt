@@ -4,6 +4,7 @@ ghost use Rattle.std.specs.Prelude.{◌≡◌, is_ok, is_err, IsOk, MatchResult,
 ghost use Rattle.std.specs.Option.{option_copied, option_copied_mut};
 ghost use Rattle.std.specs.Result.{result_ok, result_copied, result_copied_mut, ForErr};
 ghost use Rattle.archive_enum.specs.StandsFor.{result_of};
+ghost use Rattle.archive_enum.specs.Items.{YieldsItsValue, YieldsItsValueMut};
 
 /// An iterator over the value of an `Ok`. From rkyv 0.8.18.
 pub type Iter<P> = crate::iter::Iter<P>;
@@ -87,15 +88,19 @@ impl<T, E> ArchivedResult<T, E> {
     }
 
     /// An iterator over the value where it lies, if it is an `Ok`; as `Result::iter`.
+    #[tactic(auto, using(crate::proofs::Items::yields_its_value))]
     pub fn iter(&self) -> Iter<&T>
-        ensures { option_copied result ≡ result_ok (result_of self.now) }
+        ensures item { option_copied result ≡ result_ok (result_of self.now) }
+        ensures runs { YieldsItsValue T }
     {
         Iter::new(self.as_ref().ok())
     }
 
     /// An iterator over the value where it lies, to be changed there, if it is an `Ok`; as `Result::iter_mut`.
+    #[tactic(auto, using(crate::proofs::Items::yields_its_value_mut))]
     pub fn iter_mut(&mut self) -> Iter<&mut T>
-        ensures { option_copied_mut result ≡ result_ok (result_of self.old) }
+        ensures item { option_copied_mut result ≡ result_ok (result_of self.old) }
+        ensures runs { YieldsItsValueMut T }
     {
         match self {
             ArchivedResult::Ok(value) => Iter::new(Some(value)),
