@@ -54,7 +54,7 @@ impl<P: Drop> DoubleEndedIterator for Iter<P> {
     ghost next_back_gives = { GivesWhatIsLeft };
 
     fn next_back(&mut self) -> Option<P> {
-        self.item.take()
+        self.next()
     }
 }
 

@@ -26,8 +26,8 @@ impl<T> ArchivedOption<T> {
         ensures { result ≡ ok_or (option_of self) err }
     {
         match self {
-            ArchivedOption::Some(value) => Ok(value),
             ArchivedOption::None => Err(err),
+            ArchivedOption::Some(value) => Ok(value),
         }
     }
 
@@ -37,8 +37,8 @@ impl<T> ArchivedOption<T> {
         ensures { option_of self ≡ OfSome result }
     {
         match self {
-            ArchivedOption::Some(value) => value,
             ArchivedOption::None => unreachable!(),
+            ArchivedOption::Some(value) => value,
         }
     }
 
@@ -49,8 +49,8 @@ impl<T> ArchivedOption<T> {
         ensures { result ≡ unwrap_or (option_of self) default }
     {
         match self {
-            ArchivedOption::Some(value) => value,
             ArchivedOption::None => default,
+            ArchivedOption::Some(value) => value,
         }
     }
 
@@ -60,8 +60,8 @@ impl<T> ArchivedOption<T> {
         ensures { MatchOption (option_of self) (F.post f result) (λ x. result ≡ x) }
     {
         match self {
-            ArchivedOption::Some(value) => value,
             ArchivedOption::None => f(),
+            ArchivedOption::Some(value) => value,
         }
     }
 
@@ -84,8 +84,8 @@ impl<T> ArchivedOption<T> {
         ensures { option_copied result ≡ option_of self.now }
     {
         match self {
-            ArchivedOption::Some(value) => Some(value),
             ArchivedOption::None => None,
+            ArchivedOption::Some(value) => Some(value),
         }
     }
 
@@ -95,8 +95,8 @@ impl<T> ArchivedOption<T> {
         ensures value { option_copied_mut result ≡ option_of self.old }
     {
         match self {
-            ArchivedOption::Some(value) => Some(value),
             ArchivedOption::None => None,
+            ArchivedOption::Some(value) => Some(value),
         }
     }
 
@@ -141,8 +141,8 @@ impl<T> ArchivedOption<T> {
             *self = ArchivedOption::Some(f());
         }
         match self {
-            ArchivedOption::Some(value) => value,
             ArchivedOption::None => unreachable!(),
+            ArchivedOption::Some(value) => value,
         }
     }
 }
