@@ -6,6 +6,8 @@ mod archive;
 #[cfg(test)]
 mod check;
 #[cfg(test)]
+mod enums;
+#[cfg(test)]
 mod num;
 #[cfg(test)]
 mod write;

@@ -1,0 +1,4 @@
+// Options and results, as archives hold them.
+
+mod options;
+mod results;
