@@ -1,6 +1,7 @@
 -- An archive stays one where a leaf is written over.
-use Rattle.std.proofs.Common.{◌≡◌, ℕ, suc, ◌+◌, ◌-◌, ◌*◌, ◌≤◌, List, [], ◌∷◌, ◌++◌, length, drop, slice_index, All, IsUtf8, arith, sym, ap, ap₂, subst, ◌∙◌, refl}
+use Rattle.std.proofs.Common.{◌≡◌, ⊎_elim, ℕ, suc, ◌+◌, ◌-◌, ◌*◌, ◌≤◌, List, [], ◌∷◌, ◌++◌, length, drop, slice_index, All, Contains, IsUtf8, arith, sym, ap, ap₂, subst, ◌∙◌, refl}
 use Rattle.std.proofs.lemmas.List.Elements.{All-append}
+use Rattle.archive_check.proofs.Elements.{contains_cases}
 use Rattle.std.specs.FinMap.{empty}
 use Rattle.archive_check.specs.Shape.{Kind, Shape, leaf, choice, str, Parts, part, Pointee, text}
 use Rattle.archive_check.specs.Layout.{up, kind_size, align_of, size_of, parts_end}
@@ -312,3 +313,11 @@ module _ (s : Schema) (laid : LaidOut s) (bytes : List ℕ) where
 
   pub edit_accepted : {root : ℕ} {X : Shape} (a : Accepted s bytes root X) {b : List ℕ} {x y : Leaf} {ms : List Leaf} → Replaced x y (leaves_of a) ms → Overwrites b x y → StillAccepted s bytes (edit bytes (leaf_begin x) b) root X a ms
   edit_accepted a {b} {x} k o = accepted_renewed s laid bytes (edit bytes (leaf_begin x) b) b a k o (edit_edits bytes (leaf_begin x) b (omega (arith, leaf_fits a k, overwrites_size o)))
+
+-- a leaf that stands in a list can be replaced there
+pub replaced_one : (x y : Leaf) (xs : List Leaf) → Contains xs x → (ys : List Leaf) × Replaced x y xs ys
+replaced_one x y [] c = absurd (omega (arith, c.1))
+replaced_one x y (z ∷ xs) c = ⊎_elim
+    (λ same. rw same (y ∷ xs, replaced_here))
+    (λ later. let (ys, h) = replaced_one x y xs later in (z ∷ ys, replaced_later h))
+    (contains_cases z xs x c)

@@ -40,6 +40,10 @@ pub mod ReachedNames
 pub mod Rounds
 pub mod Viewed
 pub mod ViewedValues
+pub mod ReadBack
+pub mod ReadOwners
+pub mod CalmArchives
+pub mod SharedKnown
 pub mod SuitableSchemas
 pub mod Archives
 pub mod Unshared

@@ -41,7 +41,7 @@ module _ (s : Schema) (bytes : List ℕ) where
     pub fills : Fills s bytes read filled
     pub known : get shared t ≡ Some (e, filled)
 
-  says_at : (shared : Shared) (t : ℕ) (e : Entry) (seen : Option Entry) → IsSharedValue s bytes t seen (get shared t) → seen ≡ Some e → Says shared t e
+  pub says_at : (shared : Shared) (t : ℕ) (e : Entry) (seen : Option Entry) → IsSharedValue s bytes t seen (get shared t) → seen ≡ Some e → Says shared t e
   says_at shared t e None k is = let never : ⊥ = cc in absurd never
   says_at shared t e (Some f) (v, w, c, g, k) is = let same : f ≡ e = cc in rw (← same) (record { read = v; filled = w; contents = c; fills = g; known = k })
 

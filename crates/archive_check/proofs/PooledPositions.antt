@@ -3,8 +3,7 @@ use Rattle.std.proofs.Common.{◌≡◌, ℕ, Bool, true, false, cond, Option, S
 use Rattle.std.specs.Map.{update}
 use Rattle.std.proofs.lemmas.Bool.{eqb-true}
 use Rattle.archive_check.specs.declared.format.error.Error.{Error}
-use Rattle.archive_check.specs.Value.{Value}
-use Rattle.archive_check.specs.Pooled.{EntryState, Entries, finish_answer, given, after_finish}
+use Rattle.archive_check.specs.Pooled.{Kept, EntryState, Entries, finish_answer, given, after_finish}
 
 -- where nothing is put in place of what is there, nothing changes
 pub same_update : {K X : Type 0} (e : K → K → Bool) (same : (a b : K) → e a b ≡ true → a ≡ b) (f : K → Option X) (k : K) (w : Option X) → w ≡ f k → (q : K) → update e f k w q ≡ f q
@@ -17,7 +16,7 @@ same_update e same f k w is q = by_test (e k q) refl
 same_nat : (a b : ℕ) → nat_eq a b ≡ true → a ≡ b
 same_nat a b h = eqb-true a b h
 
-pub refused_pool_finish : (entries : Entries) (t : ℕ) (v : Value) (e : Error) → finish_answer (entries t) ≡ Err e → (q : ℕ) → after_finish entries t v q ≡ entries q
+pub refused_pool_finish : (entries : Entries) (t : ℕ) (v : Kept) (e : Error) → finish_answer (entries t) ≡ Err e → (q : ℕ) → after_finish entries t v q ≡ entries q
 refused_pool_finish entries t v e h q = same_update nat_eq same_nat entries t (given v (entries t)) (is_given (entries t) h) q
   where
     is_given : (k : EntryState) → finish_answer k ≡ Err e → given v k ≡ k

@@ -54,7 +54,7 @@ module _ (s : Schema) (bytes : List ℕ) where
   pub lies_reached : {q n : ℕ} {P : Pointee} (l : Lies s bytes q P n) → (w : Value) × Reached s bytes l.root l.shape q P n w
   lies_reached l = part_reached s bytes l.accepted l.part
 
-  pub reached_lies : {root : ℕ} {X : Shape} {q n : ℕ} {P : Pointee} {w : Value} → Reached s bytes root X q P n w → Lies s bytes q P n
+  unfoldable pub reached_lies : {root : ℕ} {X : Shape} {q n : ℕ} {P : Pointee} {w : Value} → Reached s bytes root X q P n w → Lies s bytes q P n
   reached_lies {root = root} {X = X} r = record { root = root; shape = X; accepted = r.accepted; part = r.part }
 
   pub lies_reads : {q n : ℕ} {P : Pointee} → Lies s bytes q P n → (v : Value) × Contents s bytes q P n v
@@ -68,7 +68,7 @@ module _ (s : Schema) (bytes : List ℕ) where
       let (t, e, u, k) = pointer_reached s bytes r p (rw same at h) in
       (t, e, reached_lies k)
 
-  pub root_lies : {root : ℕ} {X : Shape} → Accepted s bytes root X → Lies s bytes root (one X) 0
+  unfoldable pub root_lies : {root : ℕ} {X : Shape} → Accepted s bytes root X → Lies s bytes root (one X) 0
   root_lies {root = root} {X = X} a = record { root = root; shape = X; accepted = a; part = (root_region s root X, Contains-push a.regions (root_region s root X), whole_region) }
 
 -- of views

@@ -1,14 +1,19 @@
 -- When a buffer is an archive of a type, what it denotes, and why it is refused.
-use Rattle.std.specs.Prelude.{◌≡◌, ◌⊎◌, ℕ, List, Option, None}
+use Rattle.std.specs.Prelude.{◌≡◌, ◌⊎◌, ◌-◌, ℕ, List, length, Option, Some, None, Contains, Result, OnOk, IfErr}
+use Rattle.std.specs.FinMap.{get}
 use Rattle.archive_check.specs.declared.format.error.Error.{Error}
-use Rattle.archive_check.specs.declared.format.error.Error.TheVariants.{OutOfMemory}
-use Rattle.archive_check.specs.Shape.{Shape}
+use Rattle.archive_check.specs.declared.format.error.Error.TheVariants.{OutOfMemory, CyclicDeserialize}
+use Rattle.archive_check.specs.Shape.{Shape, one}
+use Rattle.archive_check.specs.Layout.{Layout}
 use Rattle.archive_check.specs.Value.{Value}
 use Rattle.archive_check.specs.Reads.{Schema}
 use Rattle.archive_check.specs.Depth.{AcceptedWithin}
-use Rattle.archive_check.specs.Denotes.{Meaning, Denotes}
+use Rattle.archive_check.specs.Tour.{Entry}
+use Rattle.archive_check.specs.Denotes.{Meaning, Naming, Denotes}
+use Rattle.archive_check.specs.Entries.{NoEntries, KeepsEntries, AreShared, AreRight, IsCyclic}
 use Rattle.archive_check.specs.Defined.{WellFormed}
 use Rattle.archive_check.specs.Definitions.{Definitions, listed, Knows}
+use Rattle.archive_check.specs.Pooled.{Entries}
 use Rattle.archive_check.specs.Schemas.{ExplainsNoSchema}
 use Rattle.archive_check.specs.Trail.{Fault, RootTrips}
 use Rattle.archive_check.specs.Faults.{IsFor}
@@ -24,10 +29,21 @@ pub record IsArchiveWithin (D : Definitions) (bytes : List ℕ) (limit : Option 
 abbrev pub IsArchive : Definitions → List ℕ → ℕ → Shape → Type 0
 IsArchive D bytes root X = IsArchiveWithin D bytes None root X
 
--- The buffer is an archive of an X at root, and denotes w under each schema that knows the definitions.
-pub record IsValueOf (D : Definitions) (bytes : List ℕ) (root : ℕ) (X : Shape) (w : Value) : Type 0 where
+-- The buffer is an archive of an X at root, and under each schema that knows the definitions it denotes w, with just these shared values.
+pub record IsValueOf (D : Definitions) (bytes : List ℕ) (root : ℕ) (X : Shape) (w : Value) (keys : List Naming) : Type 0 where
   pub archive : IsArchive D bytes root X
   pub denoted : (s : Schema) (m : Meaning) → Knows s D → Denotes s bytes root X m → m.value ≡ w
+  pub shared : (s : Schema) (m : Meaning) → Knows s D → Denotes s bytes root X m → AreShared m.shared keys
+  pub whole : (s : Schema) (m : Meaning) → Knows s D → Denotes s bytes root X m
+      → (t : ℕ) (e : Entry) (v : Value) → get m.shared t ≡ Some (e, v) → (f : Entry) × Contains keys (t, (f, v))
+
+-- The root was read back as w, with these keys. Where nothing was told of shared values before, this is what the buffer denotes, and what is told of
+-- them now is right. No open position was met.
+pub record ReadsWhole (D : Definitions) (bytes : List ℕ) (root : ℕ) (X : Shape) (old new : Entries) (w : Value) (keys : List Naming) : Type 0 where
+  pub kept : KeepsEntries old new
+  pub value : NoEntries old → IsValueOf D bytes root X w keys
+  pub right : NoEntries old → (s : Schema) (m : Meaning) → Knows s D → Denotes s bytes root X m → AreRight m.shared new
+  pub unmet : IsCyclic D bytes old root (one X) 0 → ⊥
 
 -- the definitions give X a meaning, and under each schema that knows them a check finds this fault first
 pub record IsFaulty (D : Definitions) (bytes : List ℕ) (limit : Option ℕ) (root : ℕ) (X : Shape) (error : Error) : Type 0 where
@@ -43,3 +59,22 @@ IsRefusal D bytes limit root X error = ExplainsNoSchema X D error ⊎ IsFaulty D
 -- memory was refused, or the buffer is no archive
 abbrev pub ExplainsNoArchive : Definitions → List ℕ → Option ℕ → ℕ → Shape → Error → Type 0
 ExplainsNoArchive D bytes limit root X error = (error ≡ OutOfMemory) ⊎ (IsArchiveWithin D bytes limit root X → ⊥)
+
+-- What a check of a buffer answers: Ok for archives alone, or why it is refused, which is no archive then, want of memory aside.
+pub record Answers {A : Type 0} (D : Definitions) (bytes : List ℕ) (limit : Option ℕ) (root : ℕ) (X : Shape) (answer : Result A Error) : Type 0 where
+  pub accepted : OnOk answer (IsArchiveWithin D bytes limit root X)
+  pub refused : IfErr answer (IsRefusal D bytes limit root X)
+  pub exact : IfErr answer (ExplainsNoArchive D bytes limit root X)
+
+-- where the root of an archive lies: so many bytes before the end as it takes, or at 0 where there are fewer
+abbrev pub root_in : List ℕ → Layout → ℕ
+root_in bytes layout = length bytes - layout.size
+
+-- why reading back a whole buffer is refused: as its check is, or, of an archive, because an open position is met
+abbrev pub RefusesWhole : Definitions → List ℕ → ℕ → Shape → Entries → Error → Type 0
+RefusesWhole D bytes root X told e = IsRefusal D bytes None root X e ⊎ ((e ≡ CyclicDeserialize) × IsArchive D bytes root X × IsCyclic D bytes told root (one X) 0)
+
+-- and where no reading can meet an open position, as its check is
+pub record RefusesAsCheck (D : Definitions) (bytes : List ℕ) (root : ℕ) (X : Shape) (e : Error) : Type 0 where
+  pub refused : IsRefusal D bytes None root X e
+  pub exact : ExplainsNoArchive D bytes None root X e

@@ -2,6 +2,7 @@
 use Rattle.std.specs.Prelude.{◌≡◌, ◌≢◌, ◌⊎◌, ℕ, [], ◌∷◌, ◌++◌, Some, Contains}
 use Rattle.archive_check.specs.Shape.{Name, Shape, Table, definition}
 use Rattle.archive_check.specs.Layout.{Layout, layout}
+use Rattle.archive_check.specs.Defined.{HeldIn}
 use Rattle.archive_check.specs.Reads.{Schema, LaidOut}
 
 pub data Definitions : Type 0 where
@@ -36,9 +37,11 @@ Has s no_definition = Unit {0}
 Has s (defines name X) = definition s.table name ≡ Some X
 Has s (both D E) = Has s D × Has s E
 
--- a schema that has them, and whose layouts are those of its definitions
+-- A schema that has them, in which none of them holds itself, and whose layouts are those of its definitions. There is none where they give no
+-- meaning: where one name has two, or where one holds itself.
 pub record Knows (s : Schema) (D : Definitions) : Type 0 where
   pub has : Has s D
+  pub finite : (name : Name) (X : Shape) → Contains (listed D) (name, X) → HeldIn s.table name X → ⊥
   pub laid_out : LaidOut s
 
 -- under each schema that knows D, X has this layout

@@ -1,12 +1,17 @@
--- What a deserializer tells of shared positions, and what a reading may change in it.
+-- What a deserializer tells of shared positions, and what a reading answers and leaves.
 use Rattle.std.specs.Prelude.{◌≡◌, ◌⊎◌, ◌↔◌, ℕ, pos, List, [], ◌∷◌, Some, None, Contains}
+use Rattle.std.specs.Ordering.{nat_cmp}
+use Rattle.std.specs.FinMap.{FinMap, get}
+use Rattle.archive_check.specs.declared.format.error.Error.{Error}
+use Rattle.archive_check.specs.declared.format.error.Error.TheVariants.{OutOfMemory, CyclicDeserialize}
 use Rattle.archive_check.specs.Shape.{Flavor, Pointee}
-use Rattle.archive_check.specs.Value.{Pointer, Value, shared_value, pointers}
+use Rattle.archive_check.specs.Value.{Pointer, Value, pointers}
 use Rattle.archive_check.specs.Reads.{Schema}
-use Rattle.archive_check.specs.Tour.{Contents}
+use Rattle.archive_check.specs.Tour.{Entry, Contents}
+use Rattle.archive_check.specs.Denotes.{Meaning, Naming, Denotes}
 use Rattle.archive_check.specs.Definitions.{Definitions, Knows}
-use Rattle.archive_check.specs.Pooled.{Entries}
-use Rattle.archive_check.specs.Viewed.{Lies}
+use Rattle.archive_check.specs.Pooled.{Kept, Entries}
+use Rattle.archive_check.specs.Viewed.{Lies, Says}
 
 -- nothing is told
 abbrev pub NoEntries : Entries → Type 0
@@ -14,19 +19,32 @@ NoEntries told = (t : ℕ) → told t ≡ None
 
 -- each finished position has a shared value whose name is that position
 abbrev pub AreNamedByPosition : Entries → Type 0
-AreNamedByPosition told = (t : ℕ) (v : Value) → told t ≡ Some (Some v) → v ≡ shared_value t
+AreNamedByPosition told = (t : ℕ) (k : Kept) → told t ≡ Some (Some k) → k.name ≡ t
 
--- finished positions stay so, with their values, and the pending ones are those from before
+-- finished positions stay so, with what is kept of them, and the pending ones are those from before
 pub record KeepsEntries (old new : Entries) : Type 0 where
-  pub finished : (t : ℕ) (v : Value) → old t ≡ Some (Some v) → new t ≡ Some (Some v)
+  pub finished : (t : ℕ) (k : Kept) → old t ≡ Some (Some k) → new t ≡ Some (Some k)
   pub pending : (t : ℕ) → new t ≡ Some None ↔ old t ≡ Some None
   pub named : AreNamedByPosition old → AreNamedByPosition new
+
+-- the map has this value at the name, with this pointee and length; its flavor is that of the map
+pub record Shares (shared : FinMap nat_cmp (Entry × Value)) (name : ℕ) (e : Entry) (v : Value) : Type 0 where
+  pub flavor : Flavor
+  pub known : get shared name ≡ Some (record { flavor = flavor; pointee = e.pointee; length = e.length }, v)
+
+-- it has each of these
+abbrev pub AreShared : FinMap nat_cmp (Entry × Value) → List Naming → Type 0
+AreShared shared keys = (k : Naming) → Contains keys k → Shares shared k.0 k.1.0 k.1.1
+
+-- each finished position holds what the map says, and so does all that it leads to
+abbrev pub AreRight : FinMap nat_cmp (Entry × Value) → Entries → Type 0
+AreRight shared told = (t : ℕ) (k : Kept) → told t ≡ Some (Some k) → Shares shared t k.entry k.value × AreShared shared k.keys
 
 -- the position is pending, or one of those within whose values the reading is
 abbrev pub IsOpen : Entries → List ℕ → ℕ → Type 0
 IsOpen told within t = (told t ≡ Some None) ⊎ Contains within t
 
--- Following P at q, and what it leads to, a pointer to an open shared position is met.
+-- Following P at q, and what it leads to, a pointer to an open shared position is met. What is finished isn't followed.
 pub data MeetsOpen (s : Schema) (bytes : List ℕ) (told : Entries) : List ℕ → ℕ → Pointee → ℕ → Type 0 where
   meets_open : {within : List ℕ} {q n t : ℕ} {P : Pointee} {v : Value} {p : Pointer} {flavor : Flavor}
       → Contents s bytes q P n v
@@ -47,9 +65,24 @@ pub data MeetsOpen (s : Schema) (bytes : List ℕ) (told : Entries) : List ℕ �
       → Contains (pointers v) p
       → p.sharing ≡ Some flavor
       → p.target ≡ pos t
+      → told t ≡ None
       → MeetsOpen s bytes told (t ∷ within) t p.pointee p.length
       → MeetsOpen s bytes told within q P n
 
 -- under each schema that knows the definitions and in which P lies at q, the reading of it meets an open position
 pub record IsCyclic (D : Definitions) (bytes : List ℕ) (told : Entries) (q : ℕ) (P : Pointee) (n : ℕ) : Type 0 where
   pub meets : (s : Schema) → Knows s D → Lies s bytes q P n → MeetsOpen s bytes told [] q P n
+
+-- P at q was read back as w, its shared values named by their positions, and these are what the names in w lead to: under each schema that knows
+-- the definitions, and under each root under which it lies so, what the archive means. What was told of finished positions before is as right as
+-- it was; what is told of them now is. No open position was met.
+pub record ReadsBack (D : Definitions) (bytes : List ℕ) (q : ℕ) (P : Pointee) (n : ℕ) (old new : Entries) (w : Value) (keys : List Naming) : Type 0 where
+  pub kept : KeepsEntries old new
+  pub value : AreNamedByPosition old → Says D bytes q P n w
+  pub shared : AreNamedByPosition old → (s : Schema) (m : Meaning) → Knows s D → (l : Lies s bytes q P n) → Denotes s bytes l.root l.shape m
+      → AreRight m.shared old → AreShared m.shared keys × AreRight m.shared new
+  pub unmet : (s : Schema) → Knows s D → Lies s bytes q P n → MeetsOpen s bytes old [] q P n → ⊥
+
+-- it was refused: memory was, or an open position is met
+abbrev pub RefusesReading : Definitions → List ℕ → ℕ → Pointee → ℕ → Entries → Error → Type 0
+RefusesReading D bytes q P n told e = (e ≡ OutOfMemory) ⊎ ((e ≡ CyclicDeserialize) × IsCyclic D bytes told q P n)

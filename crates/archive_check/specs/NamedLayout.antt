@@ -1,10 +1,10 @@
 -- A name with its definition, and its laws.
-use Rattle.std.proofs.Common.{◌≡◌, ◌∙◌, ap, subst, zero, suc, arith, Contains}
-use Rattle.archive_check.specs.Shape.{Name, Shape, named}
+use Rattle.std.proofs.Common.{◌≡◌, ◌≢◌, ◌∙◌, ap, subst, refl, zero, suc, arith, Contains}
+use Rattle.archive_check.specs.Shape.{Name, unit, Shape, leaf, named, bool}
 use Rattle.archive_check.specs.Layout.{Layout, layout}
 use Rattle.archive_check.specs.Reads.{Schema}
-use Rattle.archive_check.specs.Defined.{Reaches, reaches, mentions_held, holds_name}
-use Rattle.archive_check.specs.Definitions.{defines, listed, Knows, HasLayout}
+use Rattle.archive_check.specs.Defined.{Holds, held, Reaches, reaches, mentions_held, holds_name}
+use Rattle.archive_check.specs.Definitions.{defines, both, listed, Knows, HasLayout}
 
 -- the name has the layout of its definition
 pub name_has_layout : (name : Name) (X : Shape) (L : Layout) → ((s : Schema) → Knows s (defines name X) → layout s.layouts X ≡ L) → HasLayout (defines name X) (named name) L
@@ -14,3 +14,21 @@ name_has_layout name X L h = record { solved = λ s k. k.laid_out.solves name X 
 pub name_reached : (name : Name) (X : Shape) (n : Name) (Y : Shape) → Contains (listed (defines name X)) (n, Y) → Reaches (listed (defines name X)) n (named name)
 name_reached name X n Y (zero, l, e) = subst (λ m. Reaches (listed (defines name X)) m (named name)) (ap (λ (p : Name × Shape). p.0) e) (reaches (mentions_held holds_name))
 name_reached name X n Y (suc k, l, e) = absurd (omega (arith, l))
+
+-- No schema knows a name that holds itself, so any layout may be told of it.
+pub held_has_layout : (name : Name) (X : Shape) (L : Layout) → Holds name X → HasLayout (defines name X) (named name) L
+held_has_layout name X L h = record { solved = λ s k. absurd (k.finite name X (zero, omega arith, refl) (held h)) }
+
+-- Nor does one know a name with two definitions.
+pub twice_has_layout : (name : Name) (X Y : Shape) (L : Layout) → X ≢ Y → HasLayout (both (defines name X) (defines name Y)) (named name) L
+twice_has_layout name X Y L n = record { solved = λ s k. absurd (n (cc (k.has.0, k.has.1))) }
+
+-- and both are reached
+pub twice_reached : (name : Name) (X Y : Shape) (n : Name) (Z : Shape) → Contains (listed (both (defines name X) (defines name Y))) (n, Z) → Reaches (listed (both (defines name X) (defines name Y))) n (named name)
+twice_reached name X Y n Z (zero, l, e) = subst (λ m. Reaches (listed (both (defines name X) (defines name Y))) m (named name)) (ap (λ (p : Name × Shape). p.0) e) (reaches (mentions_held holds_name))
+twice_reached name X Y n Z (suc zero, l, e) = subst (λ m. Reaches (listed (both (defines name X) (defines name Y))) m (named name)) (ap (λ (p : Name × Shape). p.0) e) (reaches (mentions_held holds_name))
+twice_reached name X Y n Z (suc (suc k), l, e) = absurd (omega (arith, l))
+
+-- nothing is no bool
+pub leaves_differ : leaf unit ≢ leaf bool
+leaves_differ e = cc

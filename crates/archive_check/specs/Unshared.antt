@@ -1,36 +1,49 @@
--- Types in which nothing is shared.
-use Rattle.std.specs.Prelude.{Bool, true, false, ◌&&◌, is_some, IsTrue, Contains}
-use Rattle.archive_check.specs.Shape.{Name, Shape, leaf, parts, choice, array, boxed, vec, str, shared, weak, named, Pointee, one, run, text, Parts, no_part, part, Variants, no_variant, variant, Table, definition}
+-- Types whose flavors are as they should: in which nothing is shared, or nothing may hold itself.
+use Rattle.std.specs.Prelude.{◌≡◌, ◌⊎◌, ℕ, Bool, true, false, not, ◌&&◌, is_some, IsTrue, Some, None, Contains}
+use Rattle.archive_check.specs.Shape.{Name, Flavor, Shape, leaf, parts, choice, array, boxed, vec, str, shared, weak, named, Pointee, one, run, text, Parts, no_part, part, Variants, no_variant, variant, Table, definition}
 use Rattle.archive_check.specs.Definitions.{Definitions, listed}
+use Rattle.archive_check.specs.Pooled.{Entries}
 
--- no shared or weak pointer stands in it, and each name in it is defined
+-- each shared or weak pointer in it has one of these flavors, and each name in it is defined
 abbrev mutual
-  pub is_unshared : Table → Shape → Bool
-  is_unshared table (leaf kind) = true
-  is_unshared table (parts ps) = parts_unshared table ps
-  is_unshared table (choice name vs) = variants_unshared table vs
-  is_unshared table (array n X) = is_unshared table X
-  is_unshared table (boxed P) = pointee_unshared table P
-  is_unshared table (vec X) = is_unshared table X
-  is_unshared table str = true
-  is_unshared table (shared flavor P) = false
-  is_unshared table (weak flavor P) = false
-  is_unshared table (named name) = is_some (definition table name)
+  pub has_flavors : (Flavor → Bool) → Table → Shape → Bool
+  has_flavors right table (leaf kind) = true
+  has_flavors right table (parts ps) = parts_have_flavors right table ps
+  has_flavors right table (choice name vs) = variants_have_flavors right table vs
+  has_flavors right table (array n X) = has_flavors right table X
+  has_flavors right table (boxed P) = pointee_has_flavors right table P
+  has_flavors right table (vec X) = has_flavors right table X
+  has_flavors right table str = true
+  has_flavors right table (shared flavor P) = right flavor && pointee_has_flavors right table P
+  has_flavors right table (weak flavor P) = right flavor && pointee_has_flavors right table P
+  has_flavors right table (named name) = is_some (definition table name)
 
-  pub pointee_unshared : Table → Pointee → Bool
-  pointee_unshared table (one X) = is_unshared table X
-  pointee_unshared table (run X) = is_unshared table X
-  pointee_unshared table text = true
+  pub pointee_has_flavors : (Flavor → Bool) → Table → Pointee → Bool
+  pointee_has_flavors right table (one X) = has_flavors right table X
+  pointee_has_flavors right table (run X) = has_flavors right table X
+  pointee_has_flavors right table text = true
 
-  pub parts_unshared : Table → Parts → Bool
-  parts_unshared table no_part = true
-  parts_unshared table (part X ps) = is_unshared table X && parts_unshared table ps
+  pub parts_have_flavors : (Flavor → Bool) → Table → Parts → Bool
+  parts_have_flavors right table no_part = true
+  parts_have_flavors right table (part X ps) = has_flavors right table X && parts_have_flavors right table ps
 
-  pub variants_unshared : Table → Variants → Bool
-  variants_unshared table no_variant = true
-  variants_unshared table (variant ps vs) = parts_unshared table ps && variants_unshared table vs
+  pub variants_have_flavors : (Flavor → Bool) → Table → Variants → Bool
+  variants_have_flavors right table no_variant = true
+  variants_have_flavors right table (variant ps vs) = parts_have_flavors right table ps && variants_have_flavors right table vs
 
--- nothing is shared in X, nor in what its names are defined as
-pub record IsUnshared (D : Definitions) (X : Shape) : Type 0 where
-  pub shape : IsTrue (is_unshared (listed D) X)
-  pub definitions : (name : Name) (Y : Shape) → Contains (listed D) (name, Y) → IsTrue (is_unshared (listed D) Y)
+-- so it is in X, and in what its names are defined as
+pub record HasFlavors (right : Flavor → Bool) (D : Definitions) (X : Shape) : Type 0 where
+  pub shape : IsTrue (has_flavors right (listed D) X)
+  pub definitions : (name : Name) (Y : Shape) → Contains (listed D) (name, Y) → IsTrue (has_flavors right (listed D) Y)
+
+-- nothing is shared
+abbrev pub IsUnshared : Definitions → Shape → Type 0
+IsUnshared D X = HasFlavors (λ flavor. false) D X
+
+-- no flavor allows cycles
+abbrev pub IsAcyclic : Definitions → Shape → Type 0
+IsAcyclic D X = HasFlavors (λ flavor. not flavor.cycles) D X
+
+-- no reading of an X can meet an open position: nothing is shared, or no flavor allows cycles and no position is pending before
+abbrev pub IsNeverOpen : Definitions → Shape → Entries → Type 0
+IsNeverOpen D X told = IsUnshared D X ⊎ (IsAcyclic D X × ((t : ℕ) → told t ≡ Some None → ⊥))

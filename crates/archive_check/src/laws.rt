@@ -1,8 +1,8 @@
 //! The laws of archives. Each is what a function promises that does nothing, so that the check of this crate proves it. They are laws of our own
 //! definitions, which `specs/Laws.antt` states and docs/DEFINITIONS.md lists.
 
-ghost use Rattle.archive_check.specs.Laws.{MeaningExists, MeaningUnique, AcceptedWhereWalked, FaultyNotWalked, FewSubtrees, RegionsDisjoint, LeavesInRegions, LeafEdited, LeafRevised, EmptyRunWalked, PlainRunWalked, PartsReached, ReachedUnique, RootReached, PointersReached, WithinReached, ElementsReached, EncodingUnique, PartsInside, LayoutsExist, LayoutUnique, ReadingUnique, TourUnique, FaultUnique, RefusedKeepsPooled, SameReflexive, SameSymmetric, SameTransitive, PartsReachedMeaning, ReachedMeaningUnique, NamesKnown, RootReachedMeaning};
-ghost use Rattle.archive_check.specs.Laws.{SaidReached, UniqueBefore};
+ghost use Rattle.archive_check.specs.Laws.{MeaningExists, MeaningUnique, AcceptedWhereWalked, FaultyNotWalked, FewSubtrees, RegionsDisjoint, LeavesInRegions, LeafWritten, EmptyRunWalked, PlainRunWalked, PartsReached, ReachedUnique, RootReached, PointersReached, WithinReached, ElementsReached, EncodingUnique, PartsInside, LayoutsExist, LayoutUnique, ReadingUnique, TourUnique, FaultUnique, RefusedKeepsPooled, SameReflexive, SameSymmetric, SameTransitive, PartsReachedMeaning, ReachedMeaningUnique, NamesKnown, RootReachedMeaning};
+ghost use Rattle.archive_check.specs.Laws.{SaidReached, UniqueBefore, KnownWhereWellFormed, NeverCyclic, SharedKnown};
 
 /// An accepted buffer has a meaning.
 pub fn meaning_exists()
@@ -39,14 +39,9 @@ pub fn leaves_in_regions()
     ensures { LeavesInRegions }
 {}
 
-/// Where legal bytes are written over a leaf, the buffer stays accepted, with the same tour, and that leaf alone is another one.
-pub fn leaf_edited()
-    ensures { LeafEdited }
-{}
-
-/// Where legal bytes are written over a leaf, what the buffer means changes in that leaf alone.
-pub fn leaf_revised()
-    ensures { LeafRevised }
+/// Where legal bytes are written over a leaf, every archive in which it stands stays one, with the same tour, and changes in that leaf alone.
+pub fn leaf_written()
+    ensures { LeafWritten }
 {}
 
 /// Where one element of size zero is walked, so is a run of them, and the walk stays where it was.
@@ -172,4 +167,19 @@ pub fn said_reached()
 /// What a unique pointer leads to ends by its owner's position.
 pub fn unique_before()
     ensures { UniqueBefore }
+{}
+
+/// Where a shape is well formed, each schema that has its definitions, laid out as they are, knows them.
+pub fn known_where_well_formed()
+    ensures { KnownWhereWellFormed }
+{}
+
+/// The reading of an archive meets no open position, where nothing is shared, or no flavor allows cycles and nothing is pending before.
+pub fn never_cyclic()
+    ensures { NeverCyclic }
+{}
+
+/// What a shared pointer leads to, that is read in a part of an archive, is known to its map, with the pointer's flavor, pointee and length.
+pub fn shared_known()
+    ensures { SharedKnown }
 {}

@@ -1,10 +1,11 @@
 -- How what is appended goes together.
 use Rattle.std.proofs.Common.{◌≡◌, inl, inr, ℕ, ℤ, ◌+◌, ◌<◌, ◌≤◌, List, [], ◌∷◌, ◌++◌, length, refl, sym, ap, ◌∙◌, append_assoc, length-append, arith, Option, Some, None}
 use Rattle.std.proofs.lemmas.List.{append-nil}
+use Rattle.std.proofs.lemmas.List.Elements.{Contains-append_left, Contains-append_right}
 use Rattle.std.specs.FinMap.{get}
 use Rattle.archive_check.specs.Shape.{Shape, Pointee, one}
 use Rattle.archive_check.specs.Layout.{Layout, up, size_of, align_of}
-use Rattle.archive_check.specs.Definitions.{Definitions, no_definition, both, Knows, HasLayout}
+use Rattle.archive_check.specs.Definitions.{Definitions, no_definition, both, listed, Knows, HasLayout}
 use Rattle.archive_check.specs.Value.{Pointer, Value, number, Values, value, no_value, product, case, box, hole, pointers}
 use Rattle.archive_check.specs.Reads.{Schema}
 use Rattle.archive_check.specs.Tour.{Region, contents_one, Leads, Entry, Seen, tour_end, tour_unique, pointee_size, pointee_align, region_of}
@@ -29,10 +30,10 @@ align_is h s k = ap (λ l. l.align) (h.solved s k)
 -- definitions and keys of a part
 
 pub knows_left : (s : Schema) (D E : Definitions) → Knows s (both D E) → Knows s D
-knows_left s D E h = record { has = h.has.0; laid_out = h.laid_out }
+knows_left s D E h = record { has = h.has.0; finite = λ n X c. h.finite n X (Contains-append_left (listed D) (listed E) (n, X) c); laid_out = h.laid_out }
 
 pub knows_right : (s : Schema) (D E : Definitions) → Knows s (both D E) → Knows s E
-knows_right s D E h = record { has = h.has.1; laid_out = h.laid_out }
+knows_right s D E h = record { has = h.has.1; finite = λ n X c. h.finite n X (Contains-append_right (listed D) (listed E) (n, X) c); laid_out = h.laid_out }
 
 pub named_left : (names : NameMap) (ks ls : List Naming) → AreNamed names (ks ++ ls) → AreNamed names ks
 named_left names [] ls h = tt

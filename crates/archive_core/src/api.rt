@@ -3,13 +3,12 @@
 ghost use Rattle.std.specs.Prelude.{◌≡◌, ◌⊎◌, ◌≤◌, ◌-◌, None, length, IfOk, OnOk, IfErr, ℕ, []};
 ghost use Rattle.archive_check.specs.FreshContexts.{IsWhole};
 ghost use Rattle.archive_check.specs.Schemas.{ExplainsNoSchema};
-ghost use Rattle.archive_check.specs.Archives.{IsArchiveWithin, IsArchive, IsValueOf, IsRefusal, ExplainsNoArchive};
+ghost use Rattle.archive_check.specs.Archives.{IsArchive, Answers, root_in, ReadsWhole, RefusesWhole, RefusesAsCheck};
 ghost use Rattle.archive_check.specs.Defined.{WellFormed};
 ghost use Rattle.archive_check.specs.Definitions.{listed};
-ghost use Rattle.archive_check.specs.Entries.{NoEntries, AreNamedByPosition, KeepsEntries, IsCyclic};
-ghost use Rattle.archive_check.specs.Unshared.{IsUnshared};
-ghost use Rattle.archive_check.specs.Viewed.{Says};
-ghost use Rattle.archive_check.specs.declared.format.error.Error.TheVariants.{CyclicDeserialize, OutOfMemory};
+ghost use Rattle.archive_check.specs.Entries.{ReadsBack, RefusesReading};
+ghost use Rattle.archive_check.specs.Unshared.{IsNeverOpen};
+ghost use Rattle.archive_check.specs.declared.format.error.Error.TheVariants.{OutOfMemory};
 ghost use Rattle.archive_check.specs.Shape.{one};
 ghost use Rattle.archive_core.specs.Causes.{HindersRegion, IsRegionRefused};
 ghost use Rattle.archive_core.specs.Plans.{at_start, unshared};
@@ -117,10 +116,9 @@ pub fn check_pos_with_context<T: Portable, C: ArchiveContext + SharedContext>(
     context: &mut C,
 ) -> Result<(), Error>
     requires { (C.state context.old).end ≤ length bytes.now }
-    ensures accepted { OnOk result (IsWhole (C.state context.old) (C.positions context.old) bytes.now → IsArchiveWithin T.definitions bytes.now (C.state context.old).depth pos T.shape) }
     ensures meaning { IfErr result (λ e. ExplainsNoSchema T.shape T.definitions e ⊎ WellFormed (listed T.definitions) T.shape) }
-    ensures refused { IfErr result (λ e. IsWhole (C.state context.old) (C.positions context.old) bytes.now → IsRefusal T.definitions bytes.now (C.state context.old).depth pos T.shape e) }
-    ensures exact { IfErr result (λ e. IsWhole (C.state context.old) (C.positions context.old) bytes.now → ExplainsNoArchive T.definitions bytes.now (C.state context.old).depth pos T.shape e) }
+    ensures answer { IsWhole (C.state context.old) (C.positions context.old) bytes.now
+        → Answers T.definitions bytes.now (C.state context.old).depth pos T.shape result }
 {
     prove!(bytes.len() <= usize::MAX);
     if T::Check::is_direct() {
@@ -138,9 +136,7 @@ pub fn access_pos<'a, T: Portable>(
     bytes: &'a [u8],
     pos: usize,
 ) -> Result<Ref<'a, T>, Error>
-    ensures accepted { OnOk result (IsArchive T.definitions bytes.now pos T.shape) }
-    ensures refused { IfErr result (IsRefusal T.definitions bytes.now None pos T.shape) }
-    ensures exact { IfErr result (ExplainsNoArchive T.definitions bytes.now None pos T.shape) }
+    ensures answer { Answers T.definitions bytes.now None pos T.shape result }
     ensures buffer { IfOk result (λ r. r.bytes.now ≡ bytes.now) }
     ensures position { IfOk result (λ r. r.pos ≡ pos) }
     ensures whole { IfOk result (λ r. r.len ≡ 0) }
@@ -156,11 +152,9 @@ pub fn access_pos<'a, T: Portable>(
 /// Checks that `bytes` are an archive whose root, a `T`, lies at the end, and answers the root's view. Memory for the schema and the check comes
 /// from `alloc`. Refused as by `access_pos`.
 pub fn access<'a, T: Portable>(alloc: Global, bytes: &'a [u8]) -> Result<Ref<'a, T>, Error>
-    ensures accepted { OnOk result (IsArchive T.definitions bytes.now (length bytes.now - T.layout.size) T.shape) }
-    ensures refused { IfErr result (IsRefusal T.definitions bytes.now None (length bytes.now - T.layout.size) T.shape) }
-    ensures exact { IfErr result (ExplainsNoArchive T.definitions bytes.now None (length bytes.now - T.layout.size) T.shape) }
+    ensures answer { Answers T.definitions bytes.now None (root_in bytes.now T.layout) T.shape result }
     ensures buffer { IfOk result (λ r. r.bytes.now ≡ bytes.now) }
-    ensures position { IfOk result (λ r. r.pos ≡ length bytes.now - T.layout.size) }
+    ensures position { IfOk result (λ r. r.pos ≡ root_in bytes.now T.layout) }
     ensures whole { IfOk result (λ r. r.len ≡ 0) }
 {
     access_pos(alloc, bytes, root_position::<T>(bytes.len()))
@@ -176,9 +170,7 @@ pub fn access_pos_with_context<'a, T: Portable, C: ArchiveContext + SharedContex
     context: &mut C,
 ) -> Result<Ref<'a, T>, Error>
     requires { IsWhole (C.state context.old) (C.positions context.old) bytes.now }
-    ensures accepted { OnOk result (IsArchiveWithin T.definitions bytes.now (C.state context.old).depth pos T.shape) }
-    ensures refused { IfErr result (IsRefusal T.definitions bytes.now (C.state context.old).depth pos T.shape) }
-    ensures exact { IfErr result (ExplainsNoArchive T.definitions bytes.now (C.state context.old).depth pos T.shape) }
+    ensures answer { Answers T.definitions bytes.now (C.state context.old).depth pos T.shape result }
     ensures buffer { IfOk result (λ r. r.bytes.now ≡ bytes.now) }
     ensures position { IfOk result (λ r. r.pos ≡ pos) }
     ensures whole { IfOk result (λ r. r.len ≡ 0) }
@@ -197,11 +189,9 @@ pub fn access_with_context<'a, T: Portable, C: ArchiveContext + SharedContext>(
     context: &mut C,
 ) -> Result<Ref<'a, T>, Error>
     requires { IsWhole (C.state context.old) (C.positions context.old) bytes.now }
-    ensures accepted { OnOk result (IsArchiveWithin T.definitions bytes.now (C.state context.old).depth (length bytes.now - T.layout.size) T.shape) }
-    ensures refused { IfErr result (IsRefusal T.definitions bytes.now (C.state context.old).depth (length bytes.now - T.layout.size) T.shape) }
-    ensures exact { IfErr result (ExplainsNoArchive T.definitions bytes.now (C.state context.old).depth (length bytes.now - T.layout.size) T.shape) }
+    ensures answer { Answers T.definitions bytes.now (C.state context.old).depth (root_in bytes.now T.layout) T.shape result }
     ensures buffer { IfOk result (λ r. r.bytes.now ≡ bytes.now) }
-    ensures position { IfOk result (λ r. r.pos ≡ length bytes.now - T.layout.size) }
+    ensures position { IfOk result (λ r. r.pos ≡ root_in bytes.now T.layout) }
     ensures whole { IfOk result (λ r. r.len ≡ 0) }
 {
     access_pos_with_context(alloc, bytes, root_position::<T>(bytes.len()), context)
@@ -217,13 +207,12 @@ pub fn from_bytes<T: Archive, D: Entries>(
 ) -> Result<T, Error>
 where
     T::Archived: Deserialize<T, D>,
-    ensures accepted { OnOk result (IsArchive T.Archived.definitions bytes.now (length bytes.now - T.Archived.layout.size) T.Archived.shape) }
-    ensures value { IfOk result (λ t. NoEntries (D.entry_of deserializer.old) → IsValueOf T.Archived.definitions bytes.now (length bytes.now - T.Archived.layout.size) T.Archived.shape (T.meaning t)) }
-    ensures entries { OnOk result (KeepsEntries (D.entry_of deserializer.old) (D.entry_of deserializer.new)) }
-    ensures refused { IfErr result (λ e. IsRefusal T.Archived.definitions bytes.now None (length bytes.now - T.Archived.layout.size) T.Archived.shape e
-        ⊎ ((e ≡ CyclicDeserialize) × IsCyclic T.Archived.definitions bytes.now (D.entry_of deserializer.old) (length bytes.now - T.Archived.layout.size) T.Archived.pointee 0)) }
-    ensures unshared { IsUnshared T.Archived.definitions T.Archived.shape → IfErr result (IsRefusal T.Archived.definitions bytes.now None (length bytes.now - T.Archived.layout.size) T.Archived.shape) }
-    ensures exact { IsUnshared T.Archived.definitions T.Archived.shape → IfErr result (ExplainsNoArchive T.Archived.definitions bytes.now None (length bytes.now - T.Archived.layout.size) T.Archived.shape) }
+    ensures accepted { OnOk result (IsArchive T.Archived.definitions bytes.now (root_in bytes.now T.Archived.layout) T.Archived.shape) }
+    ensures read { IfOk result (λ t. ReadsWhole T.Archived.definitions bytes.now (root_in bytes.now T.Archived.layout) T.Archived.shape
+        (D.entry_of deserializer.old) (D.entry_of deserializer.new) (T.meaning t) (T.keys t)) }
+    ensures refused { IfErr result (RefusesWhole T.Archived.definitions bytes.now (root_in bytes.now T.Archived.layout) T.Archived.shape (D.entry_of deserializer.old)) }
+    ensures never_open { IsNeverOpen T.Archived.definitions T.Archived.shape (D.entry_of deserializer.old)
+        → IfErr result (RefusesAsCheck T.Archived.definitions bytes.now (root_in bytes.now T.Archived.layout) T.Archived.shape) }
 {
     let root = access::<T::Archived>(alloc, bytes)?;
     <T::Archived as Deserialize<T, D>>::deserialize(alloc, root, deserializer)
@@ -237,9 +226,9 @@ pub fn deserialize_using<T: Archive, U: Deserialize<T, D>, D: Entries>(
     view: Ref<'_, U>,
     deserializer: &mut D,
 ) -> Result<T, Error>
-    ensures value { IfOk result (λ t. AreNamedByPosition (D.entry_of deserializer.old) → Says U.definitions view.entry.bytes.now view.entry.pos U.pointee view.entry.len (T.meaning t)) }
-    ensures entries { OnOk result (KeepsEntries (D.entry_of deserializer.old) (D.entry_of deserializer.new)) }
-    ensures refused { IfErr result (λ e. (e ≡ OutOfMemory) ⊎ ((e ≡ CyclicDeserialize) × IsCyclic U.definitions view.entry.bytes.now (D.entry_of deserializer.old) view.entry.pos U.pointee view.entry.len)) }
+    ensures read { IfOk result (λ t. ReadsBack U.definitions view.entry.bytes.now view.entry.pos U.pointee view.entry.len
+        (D.entry_of deserializer.old) (D.entry_of deserializer.new) (T.meaning t) (T.keys t)) }
+    ensures refused { IfErr result (RefusesReading U.definitions view.entry.bytes.now view.entry.pos U.pointee view.entry.len (D.entry_of deserializer.old)) }
 {
     U::deserialize(alloc, view, deserializer)
 }
@@ -251,9 +240,9 @@ pub fn deserialize<T: Archive, U: Deserialize<T, D>, D: Entries>(
     view: Ref<'_, U>,
     deserializer: &mut D,
 ) -> Result<T, Error>
-    ensures value { IfOk result (λ t. NoEntries (D.entry_of deserializer.old) → Says U.definitions view.entry.bytes.now view.entry.pos U.pointee view.entry.len (T.meaning t)) }
-    ensures entries { OnOk result (KeepsEntries (D.entry_of deserializer.old) (D.entry_of deserializer.new)) }
-    ensures refused { IfErr result (λ e. (e ≡ OutOfMemory) ⊎ ((e ≡ CyclicDeserialize) × IsCyclic U.definitions view.entry.bytes.now (D.entry_of deserializer.old) view.entry.pos U.pointee view.entry.len)) }
+    ensures read { IfOk result (λ t. ReadsBack U.definitions view.entry.bytes.now view.entry.pos U.pointee view.entry.len
+        (D.entry_of deserializer.old) (D.entry_of deserializer.new) (T.meaning t) (T.keys t)) }
+    ensures refused { IfErr result (RefusesReading U.definitions view.entry.bytes.now view.entry.pos U.pointee view.entry.len (D.entry_of deserializer.old)) }
 {
     deserialize_using(alloc, view, deserializer)
 }

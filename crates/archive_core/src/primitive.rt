@@ -6,7 +6,8 @@ ghost use Rattle.archive_check.specs.Shape.{leaf, one};
 ghost use Rattle.archive_check.specs.Reads.{bytes_at, IsLegal};
 ghost use Rattle.archive_check.specs.Definitions.{no_definition, Definitions};
 ghost use Rattle.archive_check.specs.Value.{number};
-ghost use Rattle.archive_check.specs.Viewed.{Viewed, Says};
+ghost use Rattle.archive_check.specs.Viewed.{Viewed};
+ghost use Rattle.archive_check.specs.Entries.{ReadsBack};
 ghost use Rattle.archive_check.specs.Layout.{kind_size};
 ghost use Rattle.archive_core.specs.Keyed.{number_keyed};
 ghost use Rattle.archive_core.specs.Causes.{HindersAt, IsRefused};
@@ -160,7 +161,8 @@ impl<N: Native, S: Writer + Keys> Serialize<S> for LittleEndian<N> {
 impl<N: Source, D: Entries> Deserialize<N, D> for LittleEndian<N> {
     fn deserialize_part(_alloc: Global, part: Part<'_>, _deserializer: &mut D) -> Result<N, Error>
         requires { Viewed no_definition part.bytes.now part.pos (one (leaf N.kind)) part.len }
-        ensures value { IfOk result (λ n. Says no_definition part.entry.bytes.now part.entry.pos (one (leaf N.kind)) part.entry.len (number (N.value_of n))) }
+        ensures read { IfOk result (λ n. ReadsBack no_definition part.entry.bytes.now part.entry.pos (one (leaf N.kind)) part.entry.len
+            (D.entry_of _deserializer.old) (D.entry_of _deserializer.new) (number (N.value_of n)) []) }
         ensures number { IfOk result (λ n. n ≡ N.number_of (bytes_at part.entry.bytes.now part.entry.pos N.byte_count)) }
         ensures unchanged { D.entry_of _deserializer.new ≡ D.entry_of _deserializer.old }
         ensures succeeds { IsOk result }
@@ -177,7 +179,8 @@ impl<N: Native, D: Entries> Deserialize<LittleEndian<N>, D> for LittleEndian<N> 
         _deserializer: &mut D,
     ) -> Result<LittleEndian<N>, Error>
         requires { Viewed no_definition part.bytes.now part.pos (one (leaf N.kind)) part.len }
-        ensures value { IfOk result (λ n. Says no_definition part.entry.bytes.now part.entry.pos (one (leaf N.kind)) part.entry.len (number (N.value_of n))) }
+        ensures read { IfOk result (λ n. ReadsBack no_definition part.entry.bytes.now part.entry.pos (one (leaf N.kind)) part.entry.len
+            (D.entry_of _deserializer.old) (D.entry_of _deserializer.new) (number (N.value_of n)) []) }
         ensures number { IfOk result (λ n. n ≡ N.number_of (bytes_at part.entry.bytes.now part.entry.pos N.byte_count)) }
         ensures unchanged { D.entry_of _deserializer.new ≡ D.entry_of _deserializer.old }
         ensures succeeds { IsOk result }
@@ -190,7 +193,8 @@ impl<N: Native, D: Entries> Deserialize<LittleEndian<N>, D> for LittleEndian<N> 
 impl<N: Plain, D: Entries> Deserialize<N, D> for N {
     fn deserialize_part(_alloc: Global, part: Part<'_>, _deserializer: &mut D) -> Result<N, Error>
         requires { Viewed N.definitions part.bytes.now part.pos N.pointee part.len }
-        ensures value { IfOk result (λ n. Says N.definitions part.entry.bytes.now part.entry.pos N.pointee part.entry.len (number (N.value_of n))) }
+        ensures read { IfOk result (λ n. ReadsBack N.definitions part.entry.bytes.now part.entry.pos N.pointee part.entry.len
+            (D.entry_of _deserializer.old) (D.entry_of _deserializer.new) (number (N.value_of n)) []) }
         ensures number { IfOk result (λ n. n ≡ N.number_of (bytes_at part.entry.bytes.now part.entry.pos N.byte_count)) }
         ensures unchanged { D.entry_of _deserializer.new ≡ D.entry_of _deserializer.old }
         ensures succeeds { IsOk result }

@@ -11,6 +11,7 @@ ghost use Rattle.archive_check.specs.Reads.{bytes_at};
 ghost use Rattle.archive_check.specs.Readable.{string_text};
 ghost use Rattle.archive_check.specs.Value.{text_value};
 ghost use Rattle.archive_check.specs.Viewed.{Viewed, Says};
+ghost use Rattle.archive_check.specs.Entries.{ReadsBack};
 ghost use Rattle.archive_check.specs.declared.format.error.Error.TheVariants.{OutOfMemory, LengthTooLarge, StringTooLong};
 ghost use Rattle.archive_check.specs.WriterState.{KeepsKeys};
 ghost use Rattle.archive_write.specs.Written.{GoesOn};
@@ -186,7 +187,8 @@ impl<D: Entries> DeserializeUnsized<String, D> for ArchivedStr {
         _deserializer: &mut D,
     ) -> Result<String, Error>
         requires { Viewed no_definition part.bytes.now part.pos text part.len }
-        ensures value { IfOk result (λ s. Says no_definition part.entry.bytes.now part.entry.pos text part.entry.len (text_value (string_bytes s))) }
+        ensures read { IfOk result (λ s. ReadsBack no_definition part.entry.bytes.now part.entry.pos text part.entry.len
+            (D.entry_of _deserializer.old) (D.entry_of _deserializer.new) (text_value (string_bytes s)) []) }
         ensures text { IfOk result (λ s. string_bytes s ≡ bytes_at part.entry.bytes.now part.entry.pos part.entry.len) }
         ensures unchanged { D.entry_of _deserializer.new ≡ D.entry_of _deserializer.old }
         ensures refused { IfErr result (λ e. e ≡ OutOfMemory) }
@@ -314,7 +316,8 @@ impl<D: Entries> Deserialize<String, D> for ArchivedString {
         _deserializer: &mut D,
     ) -> Result<String, Error>
         requires { Viewed no_definition part.bytes.now part.pos (one str_shape) part.len }
-        ensures value { IfOk result (λ s. Says no_definition part.entry.bytes.now part.entry.pos (one str_shape) part.entry.len (text_value (string_bytes s))) }
+        ensures read { IfOk result (λ s. ReadsBack no_definition part.entry.bytes.now part.entry.pos (one str_shape) part.entry.len
+            (D.entry_of _deserializer.old) (D.entry_of _deserializer.new) (text_value (string_bytes s)) []) }
         ensures text { IfOk result (λ s. string_bytes s ≡ string_text part.entry.bytes.now part.entry.pos) }
         ensures unchanged { D.entry_of _deserializer.new ≡ D.entry_of _deserializer.old }
         ensures refused { IfErr result (λ e. e ≡ OutOfMemory) }

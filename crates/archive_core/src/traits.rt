@@ -1,10 +1,10 @@
 //! What is archived and how, and what is read back.
 
-ghost use Rattle.std.specs.Prelude.{◌≡◌, ◌⊎◌, ◌<◌, ℕ, length, IfOk, OnOk, IfErr, IsErr, List};
-ghost use Rattle.archive_check.specs.Entries.{AreNamedByPosition, KeepsEntries, IsCyclic};
+ghost use Rattle.std.specs.Prelude.{◌≡◌, ◌<◌, ℕ, length, IfOk, OnOk, IfErr, IsErr, List};
+ghost use Rattle.archive_check.specs.Entries.{ReadsBack, RefusesReading};
 ghost use Rattle.archive_check.specs.Value.{Value};
-ghost use Rattle.archive_check.specs.Viewed.{Viewed, Says};
-ghost use Rattle.archive_check.specs.declared.format.error.Error.TheVariants.{OutOfMemory, CyclicDeserialize, LengthTooLarge};
+ghost use Rattle.archive_check.specs.Viewed.{Viewed};
+ghost use Rattle.archive_check.specs.declared.format.error.Error.TheVariants.{LengthTooLarge};
 ghost use Rattle.archive_core.specs.Causes.{HindersAt, IsRefused, IsRegionRefused};
 ghost use Rattle.archive_core.specs.Plans.{HasPlan, HasRegionPlan, Serialized, SerializedRegion};
 ghost use Rattle.archive_core.specs.Writing.{Naming, IsKeyed, Fresh, Resolves};
@@ -83,9 +83,9 @@ pub trait Deserialize<T: Archive, D: Entries>: ArchivePointee {
     /// What implements this trait writes this call, over the part of a view; callers use `deserialize`.
     fn deserialize_part(alloc: Global, part: Part<'_>, deserializer: &mut D) -> Result<T, Error>
         requires { Viewed Self.definitions part.bytes.now part.pos Self.pointee part.len }
-        ensures value { IfOk result (λ t. AreNamedByPosition (D.entry_of deserializer.old) → Says Self.definitions part.entry.bytes.now part.entry.pos Self.pointee part.entry.len (T.meaning t)) }
-        ensures entries { OnOk result (KeepsEntries (D.entry_of deserializer.old) (D.entry_of deserializer.new)) }
-        ensures refused { IfErr result (λ e. (e ≡ OutOfMemory) ⊎ ((e ≡ CyclicDeserialize) × IsCyclic Self.definitions part.entry.bytes.now (D.entry_of deserializer.old) part.entry.pos Self.pointee part.entry.len)) };
+        ensures read { IfOk result (λ t. ReadsBack Self.definitions part.entry.bytes.now part.entry.pos Self.pointee part.entry.len
+            (D.entry_of deserializer.old) (D.entry_of deserializer.new) (T.meaning t) (T.keys t)) }
+        ensures refused { IfErr result (RefusesReading Self.definitions part.entry.bytes.now part.entry.pos Self.pointee part.entry.len (D.entry_of deserializer.old)) };
 
     /// The value that the view shows, each shared value named by its position, as those are that `deserializer` keeps from before; it keeps what it
     /// kept. Memory comes from `alloc`: refused with 1 where it is refused, and with 13 where a shared value holds itself, or one that is still
@@ -95,9 +95,9 @@ pub trait Deserialize<T: Archive, D: Entries>: ArchivePointee {
         view: Ref<'_, Self>,
         deserializer: &mut D,
     ) -> Result<T, Error>
-        ensures value { IfOk result (λ t. AreNamedByPosition (D.entry_of deserializer.old) → Says Self.definitions view.entry.bytes.now view.entry.pos Self.pointee view.entry.len (T.meaning t)) }
-        ensures entries { OnOk result (KeepsEntries (D.entry_of deserializer.old) (D.entry_of deserializer.new)) }
-        ensures refused { IfErr result (λ e. (e ≡ OutOfMemory) ⊎ ((e ≡ CyclicDeserialize) × IsCyclic Self.definitions view.entry.bytes.now (D.entry_of deserializer.old) view.entry.pos Self.pointee view.entry.len)) }
+        ensures read { IfOk result (λ t. ReadsBack Self.definitions view.entry.bytes.now view.entry.pos Self.pointee view.entry.len
+            (D.entry_of deserializer.old) (D.entry_of deserializer.new) (T.meaning t) (T.keys t)) }
+        ensures refused { IfErr result (RefusesReading Self.definitions view.entry.bytes.now view.entry.pos Self.pointee view.entry.len (D.entry_of deserializer.old)) }
     {
         Self::deserialize_part(alloc, view.part(), deserializer)
     }
@@ -152,9 +152,9 @@ pub trait DeserializeUnsized<T: Archive, D: Entries>: ArchivePointee {
         deserializer: &mut D,
     ) -> Result<T, Error>
         requires { Viewed Self.definitions part.bytes.now part.pos Self.pointee part.len }
-        ensures value { IfOk result (λ t. AreNamedByPosition (D.entry_of deserializer.old) → Says Self.definitions part.entry.bytes.now part.entry.pos Self.pointee part.entry.len (T.meaning t)) }
-        ensures entries { OnOk result (KeepsEntries (D.entry_of deserializer.old) (D.entry_of deserializer.new)) }
-        ensures refused { IfErr result (λ e. (e ≡ OutOfMemory) ⊎ ((e ≡ CyclicDeserialize) × IsCyclic Self.definitions part.entry.bytes.now (D.entry_of deserializer.old) part.entry.pos Self.pointee part.entry.len)) };
+        ensures read { IfOk result (λ t. ReadsBack Self.definitions part.entry.bytes.now part.entry.pos Self.pointee part.entry.len
+            (D.entry_of deserializer.old) (D.entry_of deserializer.new) (T.meaning t) (T.keys t)) }
+        ensures refused { IfErr result (RefusesReading Self.definitions part.entry.bytes.now part.entry.pos Self.pointee part.entry.len (D.entry_of deserializer.old)) };
 
     /// What the view shows, as `Deserialize::deserialize` says it. Memory comes from `alloc`: refused with 1 where it is refused, and with 13 where a
     /// shared value holds itself, or one that is still being read.
@@ -163,9 +163,9 @@ pub trait DeserializeUnsized<T: Archive, D: Entries>: ArchivePointee {
         view: Ref<'_, Self>,
         deserializer: &mut D,
     ) -> Result<T, Error>
-        ensures value { IfOk result (λ t. AreNamedByPosition (D.entry_of deserializer.old) → Says Self.definitions view.entry.bytes.now view.entry.pos Self.pointee view.entry.len (T.meaning t)) }
-        ensures entries { OnOk result (KeepsEntries (D.entry_of deserializer.old) (D.entry_of deserializer.new)) }
-        ensures refused { IfErr result (λ e. (e ≡ OutOfMemory) ⊎ ((e ≡ CyclicDeserialize) × IsCyclic Self.definitions view.entry.bytes.now (D.entry_of deserializer.old) view.entry.pos Self.pointee view.entry.len)) }
+        ensures read { IfOk result (λ t. ReadsBack Self.definitions view.entry.bytes.now view.entry.pos Self.pointee view.entry.len
+            (D.entry_of deserializer.old) (D.entry_of deserializer.new) (T.meaning t) (T.keys t)) }
+        ensures refused { IfErr result (RefusesReading Self.definitions view.entry.bytes.now view.entry.pos Self.pointee view.entry.len (D.entry_of deserializer.old)) }
     {
         Self::deserialize_unsized_part(alloc, view.part(), deserializer)
     }

@@ -9,6 +9,7 @@ mod rel_ptr;
 mod self_checks;
 mod shared;
 mod strings;
+mod without_meaning;
 mod writing;
 
 // The archive of the text "hello world": the text, a zero, and at 12 the string that points back at it.

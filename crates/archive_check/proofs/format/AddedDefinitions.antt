@@ -1,12 +1,14 @@
 -- A definition that is put behind others: what is answered, and the table afterwards.
-use Rattle.std.proofs.Common.{◌≡◌, ◌⊎◌, inl, inr, ⊎_elim, [], ◌∷◌, ◌++◌, refl, sym, ap, ◌∙◌, subst, arith, Bool, true, false, Option, Some, None, Ok, Err, if◌then◌else◌, Contains}
+use Rattle.std.proofs.lemmas.List.Elements.{Contains-append_left}
+use Rattle.std.proofs.Common.{◌≡◌, ◌≢◌, ◌⊎◌, inl, inr, ⊎_elim, [], ◌∷◌, ◌++◌, refl, sym, ap, ◌∙◌, subst, arith, Bool, true, false, Option, Some, None, Ok, Err, if◌then◌else◌, Contains}
 use Rattle.archive_check.specs.declared.format.error.Error.{Error}
 use Rattle.archive_check.specs.declared.format.error.Error.TheVariants.{OutOfMemory, ShapeConflict}
 use Rattle.archive_check.specs.Shape.{Name, Shape, Table, definition}
 use Rattle.archive_check.specs.AddAnswer.{IsAddAnswer}
-use Rattle.archive_check.specs.Definitions.{defines, listed, Extended, Conflicts}
+use Rattle.archive_check.specs.Definitions.{defines, both, listed, Extended, Conflicts}
 use Rattle.archive_check.proofs.plan.Named.{definition_here, append_known, append_unknown, push_some}
-use Rattle.archive_check.proofs.Elements.{contains_cases, contains_first}
+use Rattle.archive_check.proofs.Elements.{contains_cases, contains_first, contains_later}
+use Rattle.archive_check.proofs.Seen.{same_some}
 use Rattle.archive_check.proofs.WellFormed.{found_stands}
 
 -- it is the only one of its own
@@ -39,3 +41,34 @@ not_extended old name X e a = by (definition old name) refl a
     by : (o : Option Shape) → definition old name ≡ o → IsAddAnswer o X (Err e) → (e ≡ OutOfMemory) ⊎ ((e ≡ ShapeConflict) × Conflicts old (defines name X))
     by None is h = inl h
     by (Some Y) is h = inr (h.0, record { name = name; shape = X; other = Y; here = contains_first [] (name, X); there = inl is; differ = λ same. h.1 (sym same) })
+
+-- of a name with two definitions, the first one is refused
+pub first_refused : (old : Table) (name : Name) (X Y : Shape) (e : Error) → IsAddAnswer (definition old name) X (Err e) → (e ≡ OutOfMemory) ⊎ ((e ≡ ShapeConflict) × Conflicts old (both (defines name X) (defines name Y)))
+first_refused old name X Y e a = ⊎_elim inl (λ h. inr (
+  h.0,
+  record {
+    name = h.1.name;
+    shape = h.1.shape;
+    other = h.1.other;
+    here = Contains-append_left (listed (defines name X)) (listed (defines name Y)) _ h.1.here;
+    there = ⊎_elim inl (λ c. inr (Contains-append_left (listed (defines name X)) (listed (defines name Y)) _ c)) h.1.there;
+    differ = h.1.differ;
+  },
+)) (not_extended old name X e a)
+
+-- or the other one, behind it
+module _ (old mid : Table) (name : Name) (X Y : Shape) (apart : X ≢ Y) where
+  -- the first definition stands in the table
+  stands : (b : Bool) → IsAddAnswer (definition old name) X (Ok b) → mid ≡ (if b then old ++ (name, X) ∷ [] else old) → definition mid name ≡ Some X
+  stands true a e = ap (λ t. definition t name) e ∙ append_unknown old ((name, X) ∷ []) name a ∙ definition_here name name X [] refl
+  stands false a e = ap (λ t. definition t name) e ∙ a
+
+  pub second_refused : (b : Bool) (e : Error) → IsAddAnswer (definition old name) X (Ok b) → mid ≡ (if b then old ++ (name, X) ∷ [] else old) → IsAddAnswer (definition mid name) Y (Err e)
+      → (e ≡ OutOfMemory) ⊎ ((e ≡ ShapeConflict) × Conflicts old (both (defines name X) (defines name Y)))
+  second_refused b e a f h =
+      let r : IsAddAnswer (Some X) Y (Err e) = rw (stands b a f) at h in
+      inr (r.0, record { name = name; shape = Y; other = X; here = contains_later (name, X) ((name, Y) ∷ []) (name, Y) (contains_first [] (name, Y)); there = inr (contains_first ((name, Y) ∷ []) (name, X)); differ = λ same. apart (sym same) })
+
+  pub second_never : (b c : Bool) → IsAddAnswer (definition old name) X (Ok b) → mid ≡ (if b then old ++ (name, X) ∷ [] else old) → IsAddAnswer (definition mid name) Y (Ok c) → ⊥
+  second_never b true a f h = let none : Some X ≡ None = sym (stands b a f) ∙ h in cc
+  second_never b false a f h = let same : Some X ≡ Some Y = sym (stands b a f) ∙ h in apart (same_some same)

@@ -2,7 +2,7 @@
 use Rattle.std.specs.Prelude.{◌≡◌, ℕ, ◌+◌, ◌%◌, ◌≤◌, ℤ, pos, List, Option, Some, None}
 use Rattle.std.proofs.Common.{inl, inr, arith}
 use Rattle.archive_check.specs.declared.format.error.Error.{Error}
-use Rattle.archive_check.specs.declared.check.Region.{Region}
+use Rattle.archive_check.specs.declared.check.regions.Region.{Region}
 use Rattle.archive_check.specs.Shape.{Pointee}
 use Rattle.archive_check.specs.Value.{Pointer}
 use Rattle.archive_check.specs.Depth.{Allows, inside}

@@ -1,13 +1,14 @@
 //! What archived types, keys and entries tell of themselves.
 
-ghost use Rattle.std.specs.Prelude.{◌≡◌, ◌⊎◌, ℕ, min, Bool, true, IsTrue, Option, None, Contains, OnOk, IfOk, IfErr};
+ghost use Rattle.std.specs.Prelude.{◌≡◌, ◌⊎◌, ℕ, min, Bool, true, false, refl, IsTrue, Option, None, Contains, OnOk, IfOk, IfErr};
 ghost use Rattle.archive_check.specs.Shape.{Name, Shape, Pointee, one};
 ghost use Rattle.archive_check.specs.Layout.{Layout as LayoutOf};
 ghost use Rattle.archive_check.specs.Expressions.{shape_of, table_of};
 ghost use Rattle.archive_check.specs.Definitions.{Definitions, HasLayout, IsAlign, listed, Extended, Conflicts};
 ghost use Rattle.archive_check.specs.Defined.{Reaches};
+ghost use Rattle.archive_check.specs.Entries.{NoEntries};
+ghost use Rattle.archive_check.specs.Pooled.{Kept};
 ghost use Rattle.archive_check.specs.SelfCheck.Laws.{IsCheckOf};
-ghost use Rattle.archive_check.specs.Value.{Value};
 ghost use Rattle.archive_check.specs.WriterState.{WriterState, no_keys, only_keys, only_bytes};
 ghost use Rattle.archive_check.specs.declared.format.error.Error.TheVariants.{OutOfMemory, ShapeConflict};
 
@@ -90,11 +91,15 @@ pub trait Keys {
 
 /// What tells contracts the state of each position that is read, whatever its type. It has no calls. Our own.
 pub trait Entries {
-    // The state of a position: none where it is unknown, then pending, then finished with a value.
-    ghost entry_of: { Self → ℕ → Option (Option Value) };
+    // The state of a position: none where it is unknown, then pending, then finished with what is kept of it: its name, flavor, pointee and length,
+    // what it holds, and what the names in that lead to.
+    ghost entry_of: { Self → ℕ → Option (Option Kept) };
 
     // Whether pending positions are kept.
     ghost keeps: { Bool };
+
+    // What doesn't keep them keeps nothing.
+    ghost keeps_nothing: { (d : Self) → keeps ≡ false → NoEntries (entry_of d) };
 }
 
 impl Keys for () {
@@ -109,6 +114,8 @@ impl Entries for () {
     ghost entry_of = { λ _ _. None };
 
     ghost keeps = { true };
+
+    ghost keeps_nothing = { λ _ _ _. refl };
 }
 
 /// What is borrowed tells what its owner does.

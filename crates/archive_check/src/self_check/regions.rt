@@ -5,7 +5,7 @@ ghost use Rattle.archive_check.specs.Ranges.{subtree_answer, pop_answer, popped}
 ghost use Rattle.archive_check.specs.SelfCheck.Regions.{Begun, EntersNot};
 
 use super::refusals::{keep, refuse};
-use crate::check::Region;
+use crate::check::regions::Region;
 use crate::context::ArchiveContext;
 use crate::format::error::Error;
 use crate::format::layout::Layout;

@@ -1,21 +1,18 @@
 // A check that is made once.
 
-ghost use Rattle.std.specs.Prelude.{◌≡◌, ◌⊎◌, ◌≤◌, ◌-◌, length, IsTrue, IsOk, IfSome, IfNone, IfOk, OnOk, IfErr};
+ghost use Rattle.std.specs.Prelude.{◌≡◌, ◌≤◌, length, IsTrue, IsOk, IfSome, IfNone, IfOk, OnOk, IfErr};
 ghost use Rattle.std.proofs.Props.{props};
-ghost use Rattle.archive_check.specs.Archives.{IsArchiveWithin, IsArchive, IsValueOf, IsRefusal, ExplainsNoArchive};
+ghost use Rattle.archive_check.specs.Archives.{IsArchive, Answers, root_in, ReadsWhole, RefusesWhole, RefusesAsCheck};
 ghost use Rattle.archive_check.specs.Defined.{WellFormed};
 ghost use Rattle.archive_check.specs.Definitions.{listed};
-ghost use Rattle.archive_check.specs.Entries.{NoEntries, KeepsEntries, IsCyclic};
 ghost use Rattle.archive_check.specs.FreshContexts.{IsWhole};
 ghost use Rattle.archive_check.specs.OneSchema.{IsSchemaOf-prop};
 ghost use Rattle.archive_check.specs.Schemas.{IsSchemaOf, ExplainsNoSchema};
-ghost use Rattle.archive_check.specs.Unshared.{IsUnshared};
-ghost use Rattle.archive_check.specs.declared.format.error.Error.TheVariants.{CyclicDeserialize};
+ghost use Rattle.archive_check.specs.Unshared.{IsNeverOpen};
 
-use crate::context::HighValidator;
 use crate::traits::{Archive, Deserialize, Entries, Portable};
 use crate::view::{Part, Ref};
-use archive_check::context::{ArchiveContext, SharedContext};
+use archive_check::context::{ArchiveContext, HighValidator, SharedContext};
 use archive_check::format::error::Error;
 use archive_check::self_check::{SelfCheck, check_root};
 use archive_check::shape::Schema;
@@ -66,9 +63,8 @@ impl<T: Portable> Access<T> {
         context: &mut C,
     ) -> Result<(), Error>
         requires { (C.state context.old).end ≤ length bytes.now }
-        ensures accepted { OnOk result (IsWhole (C.state context.old) (C.positions context.old) bytes.now → IsArchiveWithin T.definitions bytes.now (C.state context.old).depth pos T.shape) }
-        ensures refused { IfErr result (λ e. IsWhole (C.state context.old) (C.positions context.old) bytes.now → IsRefusal T.definitions bytes.now (C.state context.old).depth pos T.shape e) }
-        ensures exact { IfErr result (λ e. IsWhole (C.state context.old) (C.positions context.old) bytes.now → ExplainsNoArchive T.definitions bytes.now (C.state context.old).depth pos T.shape e) }
+        ensures answer { IsWhole (C.state context.old) (C.positions context.old) bytes.now
+            → Answers T.definitions bytes.now (C.state context.old).depth pos T.shape result }
     {
         prove!(bytes.len() <= usize::MAX);
         match &self.schema {
@@ -80,9 +76,7 @@ impl<T: Portable> Access<T> {
     /// Checks that `bytes` are an archive whose root lies at `pos`, and answers the root's view. Refused with 1 where memory is refused, else with the
     /// first fault of the bytes, in the order that docs/FORMAT.md gives.
     pub fn access_pos<'a>(&self, bytes: &'a [u8], pos: usize) -> Result<Ref<'a, T>, Error>
-        ensures accepted { OnOk result (IsArchive T.definitions bytes.now pos T.shape) }
-        ensures refused { IfErr result (IsRefusal T.definitions bytes.now None pos T.shape) }
-        ensures exact { IfErr result (ExplainsNoArchive T.definitions bytes.now None pos T.shape) }
+        ensures answer { Answers T.definitions bytes.now None pos T.shape result }
         ensures buffer { IfOk result (λ r. r.bytes.now ≡ bytes.now) }
         ensures position { IfOk result (λ r. r.pos ≡ pos) }
         ensures whole { IfOk result (λ r. r.len ≡ 0) }
@@ -96,11 +90,9 @@ impl<T: Portable> Access<T> {
 
     /// Checks that `bytes` are an archive whose root lies at the end, and answers the root's view. Refused as by `access_pos`.
     pub fn access<'a>(&self, bytes: &'a [u8]) -> Result<Ref<'a, T>, Error>
-        ensures accepted { OnOk result (IsArchive T.definitions bytes.now (length bytes.now - T.layout.size) T.shape) }
-        ensures refused { IfErr result (IsRefusal T.definitions bytes.now None (length bytes.now - T.layout.size) T.shape) }
-        ensures exact { IfErr result (ExplainsNoArchive T.definitions bytes.now None (length bytes.now - T.layout.size) T.shape) }
+        ensures answer { Answers T.definitions bytes.now None (root_in bytes.now T.layout) T.shape result }
         ensures buffer { IfOk result (λ r. r.bytes.now ≡ bytes.now) }
-        ensures position { IfOk result (λ r. r.pos ≡ length bytes.now - T.layout.size) }
+        ensures position { IfOk result (λ r. r.pos ≡ root_in bytes.now T.layout) }
         ensures whole { IfOk result (λ r. r.len ≡ 0) }
     {
         self.access_pos(bytes, super::root_position::<T>(bytes.len()))
@@ -116,13 +108,12 @@ impl<T: Portable> Access<T> {
     ) -> Result<U, Error>
     where
         T: Deserialize<U, D>,
-        ensures accepted { OnOk result (IsArchive T.definitions bytes.now (length bytes.now - T.layout.size) T.shape) }
-        ensures value { IfOk result (λ t. NoEntries (D.entry_of deserializer.old) → IsValueOf T.definitions bytes.now (length bytes.now - T.layout.size) T.shape (U.meaning t)) }
-        ensures entries { OnOk result (KeepsEntries (D.entry_of deserializer.old) (D.entry_of deserializer.new)) }
-        ensures refused { IfErr result (λ e. IsRefusal T.definitions bytes.now None (length bytes.now - T.layout.size) T.shape e
-            ⊎ ((e ≡ CyclicDeserialize) × IsCyclic T.definitions bytes.now (D.entry_of deserializer.old) (length bytes.now - T.layout.size) T.pointee 0)) }
-        ensures unshared { IsUnshared T.definitions T.shape → IfErr result (IsRefusal T.definitions bytes.now None (length bytes.now - T.layout.size) T.shape) }
-        ensures exact { IsUnshared T.definitions T.shape → IfErr result (ExplainsNoArchive T.definitions bytes.now None (length bytes.now - T.layout.size) T.shape) }
+        ensures accepted { OnOk result (IsArchive T.definitions bytes.now (root_in bytes.now T.layout) T.shape) }
+        ensures read { IfOk result (λ t. ReadsWhole T.definitions bytes.now (root_in bytes.now T.layout) T.shape
+            (D.entry_of deserializer.old) (D.entry_of deserializer.new) (U.meaning t) (U.keys t)) }
+        ensures refused { IfErr result (RefusesWhole T.definitions bytes.now (root_in bytes.now T.layout) T.shape (D.entry_of deserializer.old)) }
+        ensures never_open { IsNeverOpen T.definitions T.shape (D.entry_of deserializer.old)
+            → IfErr result (RefusesAsCheck T.definitions bytes.now (root_in bytes.now T.layout) T.shape) }
     {
         let root = self.access(bytes)?;
         <T as Deserialize<U, D>>::deserialize(self.alloc, root, deserializer)

@@ -6,7 +6,8 @@ ghost use Rattle.archive_check.specs.Layout.{kind_size};
 ghost use Rattle.archive_check.specs.Shape.{leaf, one, non_zero};
 ghost use Rattle.archive_check.specs.Reads.{bytes_at};
 ghost use Rattle.archive_check.specs.Value.{number};
-ghost use Rattle.archive_check.specs.Viewed.{Viewed, Says};
+ghost use Rattle.archive_check.specs.Viewed.{Viewed};
+ghost use Rattle.archive_check.specs.Entries.{ReadsBack};
 ghost use Rattle.archive_core.specs.Keyed.{number_keyed};
 ghost use Rattle.archive_core.specs.Causes.{HindersAt, IsRefused};
 ghost use Rattle.archive_core.specs.Planned.{leaf_planned};
@@ -77,7 +78,8 @@ impl<N: Integer, D: Entries> Deserialize<NonZero<N>, D> for NonZero<N> {
         _deserializer: &mut D,
     ) -> Result<NonZero<N>, Error>
         requires { Viewed no_definition part.bytes.now part.pos (one (leaf (non_zero N.sign N.width))) part.len }
-        ensures value { IfOk result (λ n. Says no_definition part.entry.bytes.now part.entry.pos (one (leaf (non_zero N.sign N.width))) part.entry.len (number (N.value_of n))) }
+        ensures read { IfOk result (λ n. ReadsBack no_definition part.entry.bytes.now part.entry.pos (one (leaf (non_zero N.sign N.width))) part.entry.len
+            (D.entry_of _deserializer.old) (D.entry_of _deserializer.new) (number (N.value_of n)) []) }
         ensures number { IfOk result (λ n. n ≡ N.number_of (bytes_at part.entry.bytes.now part.entry.pos N.byte_count)) }
         ensures unchanged { D.entry_of _deserializer.new ≡ D.entry_of _deserializer.old }
         ensures succeeds { IsOk result }

@@ -7,7 +7,8 @@ ghost use Rattle.archive_check.specs.Shape.{leaf, one, number, signed, unsigned}
 ghost use Rattle.archive_check.specs.Definitions.{no_definition};
 ghost use Rattle.archive_check.specs.Reads.{bytes_at};
 ghost use Rattle.archive_check.specs.Value.{number as number_value};
-ghost use Rattle.archive_check.specs.Viewed.{Viewed, Says};
+ghost use Rattle.archive_check.specs.Viewed.{Viewed};
+ghost use Rattle.archive_check.specs.Entries.{ReadsBack};
 ghost use Rattle.archive_check.specs.declared.format.error.Error.TheVariants.{NumberTooLarge};
 ghost use Rattle.archive_check.specs.LittleEndian.{little_bytes, little_number};
 ghost use Rattle.archive_core.specs.Keyed.{number_keyed};
@@ -83,7 +84,8 @@ impl<D: Entries> Deserialize<usize, D> for ArchivedUsize {
         _deserializer: &mut D,
     ) -> Result<usize, Error>
         requires { Viewed no_definition part.bytes.now part.pos (one (leaf (number unsigned w32))) part.len }
-        ensures value { IfOk result (λ n. Says no_definition part.entry.bytes.now part.entry.pos (one (leaf (number unsigned w32))) part.entry.len (number_value (pos n))) }
+        ensures read { IfOk result (λ n. ReadsBack no_definition part.entry.bytes.now part.entry.pos (one (leaf (number unsigned w32))) part.entry.len
+            (D.entry_of _deserializer.old) (D.entry_of _deserializer.new) (number_value (pos n)) []) }
         ensures number { IfOk result (λ n. n ≡ little_number (bytes_at part.entry.bytes.now part.entry.pos 4)) }
         ensures unchanged { D.entry_of _deserializer.new ≡ D.entry_of _deserializer.old }
         ensures succeeds { IsOk result }
@@ -151,7 +153,8 @@ impl<D: Entries> Deserialize<isize, D> for ArchivedIsize {
         _deserializer: &mut D,
     ) -> Result<isize, Error>
         requires { Viewed no_definition part.bytes.now part.pos (one (leaf (number signed w32))) part.len }
-        ensures value { IfOk result (λ n. Says no_definition part.entry.bytes.now part.entry.pos (one (leaf (number signed w32))) part.entry.len (number_value n)) }
+        ensures read { IfOk result (λ n. ReadsBack no_definition part.entry.bytes.now part.entry.pos (one (leaf (number signed w32))) part.entry.len
+            (D.entry_of _deserializer.old) (D.entry_of _deserializer.new) (number_value n) []) }
         ensures number { IfOk result (λ n. n ≡ cast_signed w32 (little_number (bytes_at part.entry.bytes.now part.entry.pos 4))) }
         ensures unchanged { D.entry_of _deserializer.new ≡ D.entry_of _deserializer.old }
         ensures succeeds { IsOk result }
