@@ -21,7 +21,7 @@ only : (p q : Pointer) → Contains (p ∷ []) q → q ≡ p
 only p q c = ⊎_elim (λ e. sym e) (λ d. absurd (omega (arith, d.1))) (contains_cases p [] q c)
 
 module _ (D : Definitions) (bytes : List ℕ) (q n : ℕ) (P : Pointee) (p : Pointer) (t : ℕ) (around : Value → Value) (unique : p.sharing ≡ None) (there : p.target ≡ pos t)
-  (owns : (s : Schema) (v : Value) → Contents s bytes q P n v → (pointers v ≡ p ∷ []) × ((w : Value) → Fills s bytes (hole p) w → Fills s bytes v (around w))) where
+    (owns : (s : Schema) (v : Value) → Contents s bytes q P n v → (pointers v ≡ p ∷ []) × ((w : Value) → Fills s bytes (hole p) w → Fills s bytes v (around w))) where
   has_pointer : (s : Schema) (v : Value) → Contents s bytes q P n v → Contains (pointers v) p
   has_pointer s v c = rw (owns s v c).0 (contains_first [] p)
 

@@ -35,7 +35,10 @@ fn offsets_of_distances(rt: HostRuntime) {
     assert_eq!(rt; i8::from_isize(128), Err(Error::OffsetOverflow));
     assert_eq!(rt; u8::from_isize(255), Ok(255));
     assert_eq!(rt; u8::from_isize(-1), Err(Error::OffsetOverflow));
-    assert_eq!(rt; ArchivedI16::from_isize(-32768), Ok(ArchivedI16::from_native(-32768)));
+    assert_eq!(rt;
+        ArchivedI16::from_isize(-32768),
+        Ok(ArchivedI16::from_native(-32768))
+    );
     assert_eq!(rt; ArchivedI16::from_isize(-32769), Err(Error::OffsetOverflow));
     assert_eq!(rt; ArchivedI16::from_native(-2).to_isize(), -2);
     assert_eq!(rt; 255u8.to_isize(), 255);
@@ -55,11 +58,23 @@ fn emplaced<const N: usize, O: Offset>(pos: usize, to: usize) -> (Result<(), Err
 #[test]
 fn pointers_as_they_are_written(rt: HostRuntime) {
     assert_eq!(rt; emplaced::<1, i8>(0, 127), (Ok(()), [0x7f]));
-    assert_eq!(rt; emplaced::<1, i8>(0, 128), (Err(Error::OffsetOverflow), [0xee]));
+    assert_eq!(rt;
+        emplaced::<1, i8>(0, 128),
+        (Err(Error::OffsetOverflow), [0xee])
+    );
     assert_eq!(rt; emplaced::<1, i8>(128, 0), (Ok(()), [0x80]));
-    assert_eq!(rt; emplaced::<1, i8>(129, 0), (Err(Error::OffsetOverflow), [0xee]));
-    assert_eq!(rt; emplaced::<1, u8>(1, 0), (Err(Error::OffsetOverflow), [0xee]));
-    assert_eq!(rt; emplaced::<1, u8>(0, usize::MAX), (Err(Error::IsizeOverflow), [0xee]));
+    assert_eq!(rt;
+        emplaced::<1, i8>(129, 0),
+        (Err(Error::OffsetOverflow), [0xee])
+    );
+    assert_eq!(rt;
+        emplaced::<1, u8>(1, 0),
+        (Err(Error::OffsetOverflow), [0xee])
+    );
+    assert_eq!(rt;
+        emplaced::<1, u8>(0, usize::MAX),
+        (Err(Error::IsizeOverflow), [0xee])
+    );
     assert_eq!(rt; emplaced::<2, ArchivedI16>(2, 0), (Ok(()), [0xfe, 0xff]));
 }
 
@@ -93,7 +108,10 @@ fn pointers_as_they_are_read(rt: HostRuntime) -> Result<(), Fail> {
     assert_eq!(rt; access::<RawRelPtrI8>(alloc, &bytes)?.target(), 14);
     bytes = [0; 16];
     bytes[15] = 0x80;
-    assert_eq!(rt; access::<RawRelPtrI64>(alloc, &bytes)?.target(), 8 - 9223372036854775808);
+    assert_eq!(rt;
+        access::<RawRelPtrI64>(alloc, &bytes)?.target(),
+        8 - 9223372036854775808
+    );
     Ok(())
 }
 

@@ -12,8 +12,14 @@ fn an_option_answers_as_rusts(rt: HostRuntime) -> Result<(), Fail> {
     assert_eq!(rt; none.ok_or(5u8), Err(5));
     assert_eq!(rt; some.unwrap(), 1);
     assert_eq!(rt; (some.unwrap_or(2), none.unwrap_or(2)), (1, 2));
-    assert_eq!(rt; (some.unwrap_or_else(|| 3), none.unwrap_or_else(|| 3)), (1, 3));
-    assert_eq!(rt; (some.as_ref().copied(), none.as_ref().copied()), (Some(1), None));
+    assert_eq!(rt;
+        (some.unwrap_or_else(|| 3), none.unwrap_or_else(|| 3)),
+        (1, 3)
+    );
+    assert_eq!(rt;
+        (some.as_ref().copied(), none.as_ref().copied()),
+        (Some(1), None)
+    );
     assert_eq!(rt; ArchivedOption::from(7u32).clone()?.unwrap(), 7);
     Ok(())
 }
