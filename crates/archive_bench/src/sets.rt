@@ -142,7 +142,7 @@ impl Portable for ArchivedRecord {
 
     ghost no_others = { no_definition_reached small_record };
 
-    ghost checks = { λ direct. parts_check small_record 24 _ 24 refl refl refl (λ t. (tt, (tt, (tt, tt)))) };
+    ghost checks = { λ direct. parts_check small_record 24 _ 24 refl refl refl (λ t. (tt, (tt, (tt, tt)))) refl };
 
     fn size() -> usize {
         24

@@ -18,7 +18,7 @@ abbrev bare : Schema
 bare = record { table = []; layouts = λ name. record { size = 0; align = 1 } }
 
 knows_nothing : Knows bare no_definition
-knows_nothing = record { has = tt; laid_out = record { solves = λ name X is. cc; aligned = λ name. omega arith } }
+knows_nothing = record { has = tt; finite = λ name X c. absurd (omega (arith, c.1)); laid_out = record { solves = λ name X is. cc; aligned = λ name. omega arith } }
 
 part_unhindered : (kind : Kind) (z : ℤ) (q : ℕ) (e : Error) → (IsTooWide kind z → ⊥) → HindersPartAt (leaf kind) q (number z) e → ⊥
 part_unhindered kind z q e fits (anywhere (stands_too_far owner at far)) = elim owner [ ]

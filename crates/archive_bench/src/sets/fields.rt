@@ -104,7 +104,7 @@ impl Portable for ArchivedOptionalIntegers {
 
     ghost no_others = { no_definition_reached (optional integers) };
 
-    ghost checks = { λ direct. parts_check (optional integers) 12 _ 12 refl refl refl (λ t. (tt, ((tt, tt), tt))) };
+    ghost checks = { λ direct. parts_check (optional integers) 12 _ 12 refl refl refl (λ t. (tt, ((tt, tt), tt))) refl };
 
     fn size() -> usize {
         12
@@ -179,7 +179,7 @@ impl Portable for ArchivedRow {
 
     ghost no_others = { no_definition_reached row };
 
-    ghost checks = { λ direct. parts_check row 24 _ 24 refl refl refl (λ t. (tt, (tt, (tt, tt)))) };
+    ghost checks = { λ direct. parts_check row 24 _ 24 refl refl refl (λ t. (tt, (tt, (tt, tt)))) refl };
 
     fn size() -> usize {
         24
