@@ -8,6 +8,10 @@ pub mod Whole
 pub mod Causes
 pub mod Planned
 pub mod Unhindered
+pub mod Owners
+pub mod PlansForward
+pub mod PlannedParts
+pub mod SharedPlans
 pub mod Regions
 pub mod Shared
 pub mod SharedCauses

@@ -23,7 +23,7 @@ use Rattle.archive_core.specs.Strings.{to_text, string_flat}
 use Rattle.archive_core.specs.Planned.{text_region}
 use Rattle.archive_core.specs.TextPlans.{HindersStringAt}
 use Rattle.archive_core.specs.Writing.{NameMap, Naming, AreNamed, Puts}
-use Rattle.archive_core.specs.Plans.{Cursor, cursor, IsAt, Step, lays, Plans, plans_leaf, plans_inline, plans_out_of_line, plans_one, plans_text, plans_region, PlansRegion, PlanOf, RegionPlan, Serialized, serialized, SerializedRegion, serialized_region}
+use Rattle.archive_core.specs.Plans.{Cursor, cursor, AreBelow, IsAt, Step, lays, Plans, plans_leaf, plans_inline, plans_out_of_line, plans_one, plans_text, plans_region, PlansRegion, PlanOf, RegionPlan, Serialized, serialized, SerializedRegion, serialized_region}
 use Rattle.archive_core.specs.Causes.{Explains, own_cause, of_isize, of_offset, of_position, of_length, of_number, of_string, of_layout, IsOwnCause, PartOf, HindersPartAt, part_itself, part_of_one, owner_string, IsTooWide, stands_too_far, too_wide, text_too_long, anywhere, too_far_from_here, part_hinders, length_hinders, end_hinders, Hinders, HindersRegion, HindersAt, HindersRegionAt, Reaches, RegionReaches, IsRefused, IsRegionRefused}
 use Rattle.archive_core.proofs.Appending.{size_is, align_is, writes_number, lays_one}
 use Rattle.archive_core.proofs.Causes.{explains_write, explains_sooner, explains_later}
@@ -36,7 +36,7 @@ is_here w = record { place = refl; keys = λ k. refl }
 
 pub serialized_number : (D : Definitions) (kind : Kind) (z : ℤ) (w : WriterState) → Serialized D (leaf kind) [] (number z) (number z) w w
 serialized_number D kind z w = serialized (writes_number D w z)
-    (λ s names k n. record { flat = number z; steps = []; stop = cursor w; plans = plans_leaf; such = (refl, is_here w) })
+    (λ below s names k n. record { flat = number z; steps = []; stop = cursor w; plans = plans_leaf; such = (refl, is_here w) })
 
 pub serialized_leaf : (D : Definitions) (X : Shape) (kind : Kind) (z : ℤ) (w : WriterState) → X ≡ leaf kind → Serialized D X [] (number z) (number z) w w
 serialized_leaf D X kind z w same = rw same (serialized_number D kind z w)
@@ -44,7 +44,7 @@ serialized_leaf D X kind z w same = rw same (serialized_number D kind z w)
 number_refused : (D : Definitions) (kind : Kind) (z : ℤ) (old new : WriterState) → IsTooWide kind z → IsRefused D (leaf kind) [] (number z) old new NumberTooLarge
 number_refused D kind z old new wide = own_cause (record {
   named = of_number;
-  cause = λ s names k n. record { flat = number z; steps = []; stop = cursor old; plans = plans_leaf; such = inr (0, leaf kind, number z, part_itself, too_wide wide) };
+  cause = λ below s names k n. record { flat = number z; steps = []; stop = cursor old; plans = plans_leaf; such = inr (0, leaf kind, number z, part_itself, too_wide wide) };
 })
 
 pub usize_refused : (D : Definitions) (n : ℕ) (old new : WriterState) → (n < 2 ^ 32 → ⊥) → IsRefused D (leaf (number_kind unsigned w32)) [] (number (pos n)) old new NumberTooLarge
@@ -58,24 +58,24 @@ isize_refused D z old new h = number_refused D (number_kind signed w32) z old ne
 pub serialized_text : (D : Definitions) (old new : WriterState) (bs : List ℕ) (t : ℕ) → IsUtf8 bs → new.bytes ≡ old.bytes ++ bs → t ≡ length old.bytes
     → KeepsKeys old.states new.states → SerializedRegion D text (length bs) [] (text_value bs) t old new
 serialized_text D old new bs t u grown here keys = serialized_region (lays_text D old new bs t u grown here keys)
-    (λ s names k n. text_region s names bs (cursor old) _ (sym here, record { place = ap length grown ∙ length-append old.bytes bs; keys = keys }))
+    (λ below s names k n. text_region s names bs (cursor old) _ (sym here, record { place = ap length grown ∙ length-append old.bytes bs; keys = keys }))
 
 pub long_text_refused : (D : Definitions) (old new : WriterState) (bs : List ℕ) → 4294967295 < length bs → IsRegionRefused D text (length bs) [] (text_value bs) old new LengthTooLarge
 long_text_refused D old new bs long = own_cause (record {
   named = of_length;
-  cause = λ s names k n. text_region s names bs (cursor old) _ (lays (region_at s (length old.bytes) text (length bs) false) (text_value bs), contains_first [] _, length_hinders long);
+  cause = λ below s names k n. text_region s names bs (cursor old) _ (lays (region_at s (length old.bytes) text (length bs) false) (text_value bs), contains_first [] _, length_hinders long);
 })
 
 pub text_refused : (D : Definitions) (old new : WriterState) (bs : List ℕ) (place : ℕ) (e : Error) → place ≡ length old.bytes
     → ExplainsRefusal (length bs) place old.room old.failures new.failures e → IsRegionRefused D text (length bs) [] (text_value bs) old new e
 text_refused D old new bs place e here h =
-    explains_write _ _ (length bs) place old new e here (λ s names k n. text_region s names bs (cursor old) _ (omega (arith, here))) h
+    explains_write _ _ (length bs) place old new e here (λ below s names k n. text_region s names bs (cursor old) _ (omega (arith, here))) h
 
 -- strings
 
 pub serialized_inline : (D : Definitions) (w : WriterState) (bs : List ℕ) (t : ℕ) → length bs ≤ 8 → Serialized D str [] (text_value bs) (string_flat bs t) w w
 serialized_inline D w bs t few = serialized (writes_inline D w bs t few)
-    (λ s names k n. record { flat = text_value bs; steps = []; stop = cursor w; plans = plans_inline few; such = (sym (flat_inline bs t few), is_here w) })
+    (λ below s names k n. record { flat = text_value bs; steps = []; stop = cursor w; plans = plans_inline few; such = (sym (flat_inline bs t few), is_here w) })
 
 -- a plan of a string's text is one of the string
 string_plan : (s : Schema) (names : NameMap) (bs : List ℕ) (a : Cursor) (holds : ℕ → List Step → Cursor → Type 0) (such : Value → List Step → Cursor → Type 0) → 8 < length bs
@@ -92,25 +92,25 @@ string_plan s names bs a holds such long f h = record {
 pub serialized_out_of_line : (D : Definitions) (old new : WriterState) (bs : List ℕ) (t : ℕ) → 8 < length bs → SerializedRegion D text (length bs) [] (text_value bs) t old new
     → Serialized D str [] (text_value bs) (string_flat bs t) old new
 serialized_out_of_line D old new bs t long (serialized_region region planned) = serialized (writes_out_of_line D old new bs t long region)
-    (λ s names k n. string_plan s names bs (cursor old) _ _ long (λ q C b x. (ap (λ p. hole (to_text p (length bs))) (x.0) ∙ sym (flat_out_of_line bs t long), x.1)) (planned s names k n))
+    (λ below s names k n. string_plan s names bs (cursor old) _ _ long (λ q C b x. (ap (λ p. hole (to_text p (length bs))) (x.0) ∙ sym (flat_out_of_line bs t long), x.1)) (planned below s names k n))
 
 pub string_refused : (D : Definitions) (old new : WriterState) (bs : List ℕ) (e : Error) → 8 < length bs → IsRegionRefused D text (length bs) [] (text_value bs) old new e
     → IsRefused D str [] (text_value bs) old new e
 string_refused D old new bs e long h = explains_sooner _ _ _ _ old new e
-    (λ x. record { named = x.named; cause = λ s names k n. string_plan s names bs (cursor old) _ _ long (λ t C b y. inl y) (x.cause s names k n) })
-    (λ m x s names k n. string_plan s names bs (cursor old) _ _ long (λ t C b y. y) (x s names k n)) h
+    (λ x. record { named = x.named; cause = λ below s names k n. string_plan s names bs (cursor old) _ _ long (λ t C b y. inl y) (x.cause below s names k n) })
+    (λ m x below s names k n. string_plan s names bs (cursor old) _ _ long (λ t C b y. y) (x below s names k n)) h
 
 pub long_string_refused : (D : Definitions) (old new : WriterState) (bs : List ℕ) → 1073741823 < length bs → IsRefused D str [] (text_value bs) old new StringTooLong
 long_string_refused D old new bs long = own_cause (record {
   named = of_string;
-  cause = λ s names k n. string_plan s names bs (cursor old) (λ t C b. Unit {0}) _ (omega arith)
+  cause = λ below s names k n. string_plan s names bs (cursor old) (λ t C b. Unit {0}) _ (omega arith)
       (λ t C b y. inr (0, str, hole (to_text t (length bs)), part_itself, text_too_long long)) (text_region s names bs (cursor old) _ tt);
 })
 
 pub far_string_refused : (D : Definitions) (old new : WriterState) (bs : List ℕ) → 8 < length bs → 4294967295 < length old.bytes → IsRefused D str [] (text_value bs) old new PositionTooLarge
 far_string_refused D old new bs long far = own_cause (record {
   named = of_position;
-  cause = λ s names k n. string_plan s names bs (cursor old) (λ t C b. 4294967295 < t) _ long
+  cause = λ below s names k n. string_plan s names bs (cursor old) (λ t C b. 4294967295 < t) _ long
       (λ t C b y. inr (0, str, hole (to_text t (length bs)), part_itself, stands_too_far owner_string refl y)) (text_region s names bs (cursor old) _ far);
 })
 
@@ -152,8 +152,8 @@ module _ (D : Definitions) (X : Shape) (ks : List Naming) (v : Value) where
   pub serialized_one : (flat : Value) (L : Layout) (t : ℕ) (old mid low new : WriterState) → Serialized D X ks v flat old mid → Pads L.align mid low → Puts D low new X L flat
       → t ≡ length low.bytes → SerializedRegion D (one X) 0 ks v t old new
   serialized_one flat L t old mid low new (serialized writes planned) pads puts here = serialized_region (lays_one D old mid low new ks flat v X L t writes pads puts here)
-      (λ s names k n. (
-      let q = planned s names k n in
+      (λ below s names k n. (
+      let q = planned below s names k n in
       one_plan s names (cursor old) _ _ q t (here ∙ pads.aligned ∙ ap (λ m. up m L.align) q.such.1.place ∙ ap (up q.stop.place) (sym (align_is puts.layout s k))) (
         refl,
         record {
@@ -172,8 +172,8 @@ module _ (D : Definitions) (X : Shape) (ks : List Naming) (v : Value) where
   one_owned old new e h = explains_sooner _ _ _ _ old new e
       (λ x. record {
         named = x.named;
-        cause = λ s names k n. (
-            let q = x.cause s names k n in
+        cause = λ below s names k n. (
+            let q = x.cause below s names k n in
             let t : ℕ = up q.stop.place (align_of s.layouts X) in
             let last : Step = lays (region_at s t (one X) 0 false) q.flat in
             one_plan s names (cursor old) _ _ q t refl (elim q.such [
@@ -181,16 +181,16 @@ module _ (D : Definitions) (X : Shape) (ks : List Naming) (v : Value) where
               | inr y ↦ (last, in_last q.steps last, part_hinders (part_of_one y.3) (anywhere y.4))
             ]));
       })
-      (λ m x s names k n. (
-      let q = x s names k n in
+      (λ m x below s names k n. (
+      let q = x below s names k n in
       one_plan s names (cursor old) _ _ q (up q.stop.place (align_of s.layouts X)) refl (omega (arith, q.such, up_le q.stop.place (align_of s.layouts X) (align_pos s.layouts k.laid_out.aligned X))))) h
 
   -- nor the zeros behind that
   pub one_padded : (flat : Value) (L : Layout) (place : ℕ) (old mid new : WriterState) (e : Error) → IsAlign L.align → HasLayout D X L → Serialized D X ks v flat old mid → GoesOn old mid → place ≡ length mid.bytes
       → GoesOn mid new → ExplainsRefusal (padding L.align place) place mid.room mid.failures new.failures e → IsRegionRefused D (one X) 0 ks v old new e
   one_padded flat L place old mid new e is layout (serialized writes planned) g here k refused =
-      explains_later (HindersRegion D (one X) 0 ks v (cursor old)) _ (RegionReaches D (one X) 0 ks v (cursor old)) _ old mid new e g k (λ x. x) (λ m x. x) (explains_write _ _ (padding L.align place) place mid new e here (λ s names l n. (
-      let q = planned s names l n in
+      explains_later (HindersRegion D (one X) 0 ks v (cursor old)) _ (RegionReaches D (one X) 0 ks v (cursor old)) _ old mid new e g k (λ x. x) (λ m x. x) (explains_write _ _ (padding L.align place) place mid new e here (λ below s names l n. (
+      let q = planned below s names l n in
       let t : ℕ = up q.stop.place (align_of s.layouts X) in
       let there : up place L.align ≡ t = ap (λ m. up m L.align) (here ∙ q.such.1.place) ∙ ap (up q.stop.place) (sym (align_is layout s l)) in
       one_plan s names (cursor old) _ _ q t refl (omega (arith, padded place L.align is, there)))) refused)
@@ -202,10 +202,10 @@ module _ (D : Definitions) (X : Shape) (ks : List Naming) (v : Value) where
   one_hindered flat L old mid low new e layout (serialized writes planned) pads g k refused =
       explains_later _ _ _ _ old low new e g k
       (λ x. elim x [
-        | inl y ↦ record { named = rw (y.0) of_layout; cause = λ s names l n. plan s names l n _ (λ q t here is. (let ends : 2 ^ 64 ≤ t + size_of s.layouts X = omega (arith, here, y.1, size_is layout s l) in (_, in_last q.steps _, rw (y.0) (end_hinders {r = region_at s t (one X) 0 false} ends)))) }
+        | inl y ↦ record { named = rw (y.0) of_layout; cause = λ below s names l n. plan below s names l n _ (λ q t here is. (let ends : 2 ^ 64 ≤ t + size_of s.layouts X = omega (arith, here, y.1, size_is layout s l) in (_, in_last q.steps _, rw (y.0) (end_hinders {r = region_at s t (one X) 0 false} ends)))) }
         | inr y ↦ record {
           named = y.named;
-          cause = λ s names l n. plan s names l n _ (λ q t here is. (let z = y.cause s l in (
+          cause = λ below s names l n. plan below s names l n _ (λ q t here is. (let z = y.cause s l in (
             _,
             in_last q.steps _,
             part_hinders {r = region_at s t (one X) 0 false} {o = z.0} {Y = z.1} {w = z.2}
@@ -213,14 +213,14 @@ module _ (D : Definitions) (X : Shape) (ks : List Naming) (v : Value) where
           )));
         }
       ])
-      (λ m x s names l n. plan s names l n _ (λ q t here is. omega (arith, here, x, size_is layout s l))) refused
+      (λ m x below s names l n. plan below s names l n _ (λ q t here is. omega (arith, here, x, size_is layout s l))) refused
     where
-      plan : (s : Schema) (names : NameMap) → Knows s D → AreNamed names ks → (such : ℕ → List Step → Cursor → Type 0)
+      plan : AreBelow (cursor old) → (s : Schema) (names : NameMap) → Knows s D → AreNamed names ks → (such : ℕ → List Step → Cursor → Type 0)
           → ((q : PlanOf s names X v (cursor old) (λ w C b. (w ≡ flat) × IsAt b mid)) (t : ℕ) → t ≡ length low.bytes → q.flat ≡ flat
           → such t (q.steps ++ lays (region_at s t (one X) 0 false) q.flat ∷ []) (record { place = t + size_of s.layouts X; states = q.stop.states }))
           → RegionPlan s names (one X) 0 v (cursor old) such
-      plan s names l n such f =
-          let q = planned s names l n in
+      plan below s names l n such f =
+          let q = planned below s names l n in
           let t : ℕ = up q.stop.place (align_of s.layouts X) in
           let here : t ≡ length low.bytes = sym (pads.aligned ∙ ap (λ m. up m L.align) q.such.1.place ∙ ap (up q.stop.place) (sym (align_is layout s l))) in
           one_plan s names (cursor old) _ such q t refl (f q t here q.such.0)

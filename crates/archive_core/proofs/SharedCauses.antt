@@ -81,8 +81,8 @@ module _ (D : Definitions) (P : Pointee) (n : ℕ) (ks : List Naming) (v : Value
             (subst (λ w. LaysOut D mid w ks p P n v) (but_states new low (sym (like.0), sym (like.1), sym (like.2))) lays);
         ends = finish;
       })
-      (λ s names k l. (
-      let q = (subst (λ c. LiesAsPlanned D P n ks v c p (λ b. IsAt b low)) (begun_cursor old mid key unknown same set) planned) s names k l in
+      (λ below s names k l. (
+      let q = (subst (λ c. LiesAsPlanned D P n ks v c p (λ b. IsAt b low)) (begun_cursor old mid key unknown same set) planned) below s names k l in
       record {
         begin = q.begin;
         steps = q.steps;

@@ -45,4 +45,4 @@ plan_unhindered s names n t C b e less (plans_region (plans_one plans_leaf) here
 
 -- no refusal of such a number's is its own
 pub number_unhindered : (n : ℕ) (e : Error) → n < 2 ^ 32 → HindersRegion no_definition (one (leaf (number_kind unsigned w32))) 0 [] (number (pos n)) at_start e → ⊥
-number_unhindered n e less h = let q = h.cause bare empty knows_nothing tt in plan_unhindered bare empty n q.begin q.steps q.stop e less q.plans q.such
+number_unhindered n e less h = let q = h.cause (λ k t is. cc) bare empty knows_nothing tt in plan_unhindered bare empty n q.begin q.steps q.stop e less q.plans q.such

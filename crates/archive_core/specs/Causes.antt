@@ -11,7 +11,7 @@ use Rattle.archive_check.specs.WriterState.{KeyState, WriterState}
 use Rattle.archive_check.specs.declared.format.error.Error.{Error}
 use Rattle.archive_check.specs.declared.format.error.Error.TheVariants.{OutOfMemory, IsizeOverflow, OffsetOverflow, PositionTooLarge, LengthTooLarge, NumberTooLarge, StringTooLong, BufferOverflow, WriterFailed, ItemWrote, CyclicSerialize, LayoutTooLarge}
 use Rattle.archive_core.specs.Offsets.{distance, IsTooFar}
-use Rattle.archive_core.specs.Plans.{Cursor, Step, lays, meets, Whatever, PlanOf, RegionPlan, cursor}
+use Rattle.archive_core.specs.Plans.{Cursor, Step, lays, meets, Foreseen, PlanOf, RegionPlan, cursor}
 use Rattle.archive_core.specs.Writing.{Naming}
 
 -- Of the bytes planned up to an end, the writer was to take `count` at a position and has none left for them: it ends at `cap`.
@@ -138,12 +138,12 @@ HindersSome s C e = (t : Step) × Contains C t × HindersStep s t e
 -- What hinders the writing of what v owns, as an X: a step of its plan, or a part of it, wherever it will lie.
 pub record Hinders (D : Definitions) (X : Shape) (keys : List Naming) (v : Value) (a : Cursor) (e : Error) : Type 0 where
   pub named : IsOwnCause e
-  pub cause : Whatever D keys (λ s names. PlanOf s names X v a (λ flat C b. HindersSome s C e ⊎ ((o : ℕ) × (Y : Shape) × (w : Value) × PartOf s X flat o Y w × HindersPart Y w e)))
+  pub cause : Foreseen D keys a (λ s names. PlanOf s names X v a (λ flat C b. HindersSome s C e ⊎ ((o : ℕ) × (Y : Shape) × (w : Value) × PartOf s X flat o Y w × HindersPart Y w e)))
 
 -- What hinders the writing of a pointee with its region: a step of its plan.
 pub record HindersRegion (D : Definitions) (P : Pointee) (n : ℕ) (keys : List Naming) (v : Value) (a : Cursor) (e : Error) : Type 0 where
   pub named : IsOwnCause e
-  pub cause : Whatever D keys (λ s names. RegionPlan s names P n v a (λ t C b. HindersSome s C e))
+  pub cause : Foreseen D keys a (λ s names. RegionPlan s names P n v a (λ t C b. HindersSome s C e))
 
 -- What hinders the resolving of a value at p, of which `flat` is to be read there: a part of it.
 pub record HindersAt (D : Definitions) (X : Shape) (flat : Value) (p : ℕ) (e : Error) : Type 0 where
@@ -156,10 +156,10 @@ HindersRegionAt D X L flat p e = ((e ≡ LayoutTooLarge) × (2 ^ 64 ≤ p + L.si
 
 -- the plan goes on to n at least
 abbrev pub Reaches : Definitions → Shape → List Naming → Value → Cursor → ℕ → Type 0
-Reaches D X keys v a n = Whatever D keys (λ s names. PlanOf s names X v a (λ flat C b. n ≤ b.place))
+Reaches D X keys v a n = Foreseen D keys a (λ s names. PlanOf s names X v a (λ flat C b. n ≤ b.place))
 
 abbrev pub RegionReaches : Definitions → Pointee → ℕ → List Naming → Value → Cursor → ℕ → Type 0
-RegionReaches D P n keys v a m = Whatever D keys (λ s names. RegionPlan s names P n v a (λ t C b. m ≤ b.place))
+RegionReaches D P n keys v a m = Foreseen D keys a (λ s names. RegionPlan s names P n v a (λ t C b. m ≤ b.place))
 
 -- why what v owns, as an X, wasn't written
 abbrev pub IsRefused : Definitions → Shape → List Naming → Value → WriterState → WriterState → Error → Type 0

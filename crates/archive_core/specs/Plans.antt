@@ -151,6 +151,14 @@ pub record RegionPlan (s : Schema) (names : NameMap) (P : Pointee) (n : ℕ) (v 
   pub plans : PlansRegion s names false P n v a begin steps stop
   pub such : holds begin steps stop
 
+-- each key that is finished stands below the place
+abbrev pub AreBelow : Cursor → Type 0
+AreBelow c = (k t : ℕ) → c.states k ≡ Some (Some t) → t < c.place
+
+-- the same of a plan from a on, where the finished keys stand below
+abbrev pub Foreseen : Definitions → List Naming → Cursor → (Schema → NameMap → Type 0) → Type 0
+Foreseen D keys a f = AreBelow a → Whatever D keys f
+
 -- there is a plan, from wherever a writer stands
 abbrev pub HasPlan : Definitions → Shape → List Naming → Value → Type 0
 HasPlan D X keys v = (a : Cursor) → Whatever D keys (λ s names. PlanOf s names X v a (λ w C b. Unit {0}))
@@ -160,11 +168,11 @@ HasRegionPlan D P n keys v = (a : Cursor) → Whatever D keys (λ s names. Regio
 
 -- It went from a as planned: `flat` is what will be read, and the writer stands where the plan ends.
 abbrev pub GoesAsPlanned : Definitions → Shape → List Naming → Value → Cursor → Value → WriterState → Type 0
-GoesAsPlanned D X keys v a flat new = Whatever D keys (λ s names. PlanOf s names X v a (λ w C b. (w ≡ flat) × IsAt b new))
+GoesAsPlanned D X keys v a flat new = Foreseen D keys a (λ s names. PlanOf s names X v a (λ w C b. (w ≡ flat) × IsAt b new))
 
 -- the same of a pointee with its region, which stands at p
 abbrev pub LiesAsPlanned : Definitions → Pointee → ℕ → List Naming → Value → Cursor → ℕ → (Cursor → Type 0) → Type 0
-LiesAsPlanned D P n keys v a p ends = Whatever D keys (λ s names. RegionPlan s names P n v a (λ t C b. (t ≡ p) × ends b))
+LiesAsPlanned D P n keys v a p ends = Foreseen D keys a (λ s names. RegionPlan s names P n v a (λ t C b. (t ≡ p) × ends b))
 
 -- A serialization: it appended the regions of the value's pointers, and went as planned. `flat` is the value as it will be read.
 pub data Serialized (D : Definitions) (X : Shape) (keys : List Naming) (v flat : Value) (old new : WriterState) : Type 0 where

@@ -8,11 +8,12 @@ ghost use Rattle.archive_check.specs.declared.format.error.Error.TheVariants.{Ou
 ghost use Rattle.archive_core.specs.Writing.{Archives};
 
 use crate::archive::HELLO_WORLD;
-use archive_core::api::{access, to_bytes, to_bytes_in};
+use archive_core::api::{access, to_bytes, to_bytes_in, to_bytes_into};
 use archive_core::error::Error;
 use archive_core::place::Place;
 use archive_core::primitive::ArchivedU32;
 use archive_core::ser::{Buffer, ResolveExt, Serializer, Writer, serialize_one};
+use archive_core::sharing::Share;
 use archive_core::string::ArchivedString;
 use archive_core::traits::Archive;
 use std::alloc::Global;
@@ -30,6 +31,26 @@ fn archive_of_number(alloc: Global, number: u32) -> Result<Vec<u8>, Error>
     ensures { IfErr result (λ e. e ≡ OutOfMemory) }
 {
     to_bytes(alloc, &number)
+}
+
+#[test]
+fn an_archive_is_appended_to_a_lent_writer(rt: HostRuntime) -> Result<(), Fail> {
+    let value = String::from_str(rt.alloc(), "hello world")?;
+    let mut bytes = vec![in rt.alloc(); 0xaa, 0xbb, 0xcc]?;
+    assert_eq!(rt; to_bytes_into(rt.alloc(), &value, &mut bytes)?, 16);
+    assert_eq!(rt;
+        bytes.as_slice(),
+        b"\xaa\xbb\xcchello world\0\0\x8b\0\0\0\xf3\xff\xff\xff".as_slice()
+    );
+    assert_eq!(rt;
+        to_bytes_into(rt.alloc(), &4_294_967_296usize, &mut bytes),
+        Err(Error::NumberTooLarge)
+    );
+    assert_eq!(rt; bytes.len(), 24);
+    let sharing = Share::new(rt.alloc());
+    let mut serializer = Serializer::new(Vec::new(rt.alloc()), rt.alloc(), sharing);
+    assert_eq!(rt; to_bytes_into(rt.alloc(), &value, &mut serializer)?, 12);
+    Ok(())
 }
 
 #[test]
