@@ -1,10 +1,11 @@
 // Types whose definitions have no meaning.
 
-ghost use Rattle.std.specs.Prelude.{refl, codes};
+ghost use Rattle.std.specs.Prelude.{◌≡◌, refl, codes, IfOk};
 ghost use Rattle.std.proofs.Common.{inl};
 ghost use Rattle.archive_check.specs.Shape.{bool, leaf, named, no_part, one, part, parts, unit};
 ghost use Rattle.archive_check.specs.Defined.{holds_first, holds_name, holds_parts};
 ghost use Rattle.archive_check.specs.Definitions.{both, defines};
+ghost use Rattle.archive_check.specs.Expressions.{shape_of};
 ghost use Rattle.archive_check.specs.SelfCheck.Laws.{by_schema};
 ghost use Rattle.archive_check.specs.NamedLayout.{held_has_layout, name_reached, twice_has_layout, twice_reached, leaves_differ};
 
@@ -14,7 +15,7 @@ use archive_core::error::Error;
 use archive_core::self_check::BySchema;
 use archive_core::shape::{Defs, Expr};
 use archive_core::traits::{ArchivePointee, Portable};
-use std::alloc::Global;
+use std::alloc::{AllocError, Global};
 use std::test::Fail;
 
 // A name with two definitions: nothing, and a bool.
@@ -73,6 +74,14 @@ impl Portable for ArchivedTwice {
     }
 }
 
+#[tactic(auto, using(archive_check::proofs::format::Views::views))]
+fn record_of_itself(alloc: Global) -> Result<Expr, AllocError>
+    ensures { IfOk result (λ e. shape_of e ≡ parts (part (named (codes "ArchivedItself")) no_part)) }
+{
+    let parts = vec![in alloc; Expr::Named("ArchivedItself")]?;
+    Ok(Expr::Record(parts))
+}
+
 impl ArchivePointee for ArchivedItself {
     type ArchivedMetadata = ();
 
@@ -116,10 +125,8 @@ impl Portable for ArchivedItself {
         Ok(Expr::Named("ArchivedItself"))
     }
 
-    #[tactic(auto, using(archive_check::proofs::format::AddedDefinitions::not_extended, archive_check::proofs::format::Views::views))]
     fn define(alloc: Global, defs: &mut Defs) -> Result<(), Error> {
-        let itself = Expr::Record(vec![in alloc; Expr::Named("ArchivedItself")]?);
-        defs.add("ArchivedItself", itself)?;
+        defs.add("ArchivedItself", record_of_itself(alloc)?)?;
         Ok(())
     }
 }
