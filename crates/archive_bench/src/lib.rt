@@ -6,6 +6,8 @@
 //! `probe` over its rounds, which the driver compares with archives made by hand.
 #![tactic(auto)]
 
+#[cfg(test)]
+mod agreement;
 pub mod checks;
 pub mod reads;
 mod rounds;

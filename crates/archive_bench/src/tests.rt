@@ -17,14 +17,14 @@ const STRINGS: &[u8] =
     b"hello world\0\x8b\0\0\0\xf4\xff\xff\xffhello there\0\x8b\0\0\0\xf4\xff\xff\xff";
 
 // 42, "hello world" and Some([1, 2, 3, 4]). The tag of the option is the byte at 40.
-const RECORD: &[u8; 52] =
+pub const RECORD: &[u8; 52] =
     b"hello world\0\x01\0\0\0\x02\0\0\0\x03\0\0\0\x04\0\0\0\x2a\0\0\0\x8b\0\0\0\xe0\xff\xff\xff\x01\0\0\0\xe0\xff\xff\xff\x04\0\0\0";
 
 // [1, 2, 3]. The offset to the numbers stands at 12.
-const LIST_OF_NUMBERS: &[u8; 20] = b"\x01\0\0\0\x02\0\0\0\x03\0\0\0\xf4\xff\xff\xff\x03\0\0\0";
+pub const LIST_OF_NUMBERS: &[u8; 20] = b"\x01\0\0\0\x02\0\0\0\x03\0\0\0\xf4\xff\xff\xff\x03\0\0\0";
 
 // [(7, "hello world", [1, 2])]. The text's first byte is the one at 0.
-const ROWS: &[u8; 56] =
+pub const ROWS: &[u8; 56] =
     b"hello world\0\x01\0\0\0\x02\0\0\0\0\0\0\0\x07\0\0\0\0\0\0\0\x8b\0\0\0\xe0\xff\xff\xff\xe4\xff\xff\xff\x02\0\0\0\xe8\xff\xff\xff\x01\0\0\0";
 
 // A node that has a box with an empty one in it. The tag of the inner node is the byte at 0.

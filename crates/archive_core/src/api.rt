@@ -108,7 +108,8 @@ pub fn to_bytes<T: Serialize<Serializer<Vec<u8>, Global, ()>>>(
 
 /// Checks that `bytes` are an archive whose root, a `T`, lies at `pos`. In a context for these bytes that met nothing yet the answer is exact. Memory
 /// for the schema and the check comes from `alloc`: refused with 1 where it is refused, with 30 or 31 where the definitions of `T` have no meaning,
-/// before any byte is looked at, and else with the first fault of the bytes, in the order that docs/FORMAT.md gives.
+/// before any byte is looked at, and else with the first fault of the bytes, in the order that docs/FORMAT.md gives. A type that checks itself takes
+/// no memory.
 pub fn check_pos_with_context<T: Portable, C: ArchiveContext + SharedContext>(
     alloc: Global,
     bytes: &[u8],

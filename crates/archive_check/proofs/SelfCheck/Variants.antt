@@ -1,6 +1,6 @@
 -- The variants of a choice.
 use Rattle.std.proofs.Common.{◌≡◌, ℕ, zero, suc, refl, ◌-◌, ◌<◌, arith, List, slice_index, Option, Some, None}
-use Rattle.archive_check.specs.Shape.{Name, parts, Parts, Variants, variant, variant_at, choice}
+use Rattle.archive_check.specs.Shape.{Name, Parts, Variants, variant, variant_at, choice}
 use Rattle.archive_check.specs.Reads.{Schema}
 use Rattle.archive_check.specs.Tour.{Seen}
 use Rattle.archive_check.specs.Walk.{walk_choice}

@@ -28,7 +28,8 @@ pub trait CheckedVariants {
     fn are_direct() -> bool
         ensures { result ≡ direct };
 
-    /// Checks the variant of this tag, of what begins at `base`, and answers whether there is one. `None` where the check stops, and `refusal` is why.
+    /// Checks the variant of this tag, of what begins at `base`, and answers whether there is one. `None` where the check stops, and `refusal` is
+    /// why.
     fn check_variant<C: ArchiveContext>(
         bytes: &[u8],
         base: usize,

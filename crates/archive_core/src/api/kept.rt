@@ -32,8 +32,8 @@ pub struct Access<T: Portable> {
 }
 
 impl<T: Portable> Access<T> {
-    /// Makes what a check takes; where `T` checks itself, nothing. Memory comes from `alloc`, also that which a check takes. Refused with 1 where it is
-    /// refused, and with 30 or 31 where the definitions of `T` have no meaning.
+    /// Makes what a check takes; where `T` checks itself, nothing. Memory comes from `alloc`, also that which a check takes. Refused with 1 where it
+    /// is refused, and with 30 or 31 where the definitions of `T` have no meaning.
     pub fn new(alloc: Global) -> Result<Access<T>, Error>
         ensures meaning { OnOk result (WellFormed (listed T.definitions) T.shape) }
         ensures refused { IfErr result (λ e. ExplainsNoSchema T.shape T.definitions e) }
@@ -73,8 +73,8 @@ impl<T: Portable> Access<T> {
         }
     }
 
-    /// Checks that `bytes` are an archive whose root lies at `pos`, and answers the root's view. Refused with 1 where memory is refused, else with the
-    /// first fault of the bytes, in the order that docs/FORMAT.md gives.
+    /// Checks that `bytes` are an archive whose root lies at `pos`, and answers the root's view. Refused with 1 where memory is refused, else with
+    /// the first fault of the bytes, in the order that docs/FORMAT.md gives.
     pub fn access_pos<'a>(&self, bytes: &'a [u8], pos: usize) -> Result<Ref<'a, T>, Error>
         ensures answer { Answers T.definitions bytes.now None pos T.shape result }
         ensures buffer { IfOk result (λ r. r.bytes.now ≡ bytes.now) }
@@ -98,9 +98,9 @@ impl<T: Portable> Access<T> {
         self.access_pos(bytes, super::root_position::<T>(bytes.len()))
     }
 
-    /// Checks that `bytes` are an archive of a `U`, its root at the end, and reads it back: the answer means what the archive denotes, its shared values
-    /// named by their positions. `deserializer` is empty; `()` where nothing is shared. Refused as by `access`, and with 13 where a shared value holds
-    /// itself, so never where the type shares nothing.
+    /// Checks that `bytes` are an archive of a `U`, its root at the end, and reads it back: the answer means what the archive denotes, its shared
+    /// values named by their positions. `deserializer` is empty; `()` where nothing is shared. Refused as by `access`, and with 13 where a shared
+    /// value holds itself, so never where the type shares nothing.
     pub fn from_bytes<U: Archive<Archived = T>, D: Entries>(
         &self,
         bytes: &[u8],

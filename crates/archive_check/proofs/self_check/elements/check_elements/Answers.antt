@@ -1,5 +1,4 @@
-use Rattle.std.proofs.Common.{◌≡◌, ◌+◌, ◌*◌, ◌<◌, ◌≤◌, ◌-◌, ℕ, zero, suc, min, arith, refl, ◌∙◌, length}
-use Rattle.std.proofs.Math.Nat.{mul-le-mul_right}
+use Rattle.std.proofs.Common.{◌≡◌, ◌+◌, ◌*◌, ◌<◌, ◌≤◌, ℕ, zero, suc, min, arith, refl, ◌∙◌, length}
 use Rattle.archive_check.proofs.SelfCheck.Elements.{toward_element, element_halts, elements_gone, elements_begin}
 use Rattle.archive_check.proofs.self_check.elements.check_elements.Goals as goal
 

@@ -1,9 +1,9 @@
-use Rattle.std.proofs.Common.{arith, ap, sym, ◌∙◌, ◌*◌, None}
+use Rattle.std.proofs.Common.{ap, sym, ◌∙◌, ◌*◌, None}
 use Rattle.std.proofs.lemmas.Int.{to_z-of_z}
 use mir.Syntax.{w128}
 use Rattle.archive_check.specs.Shape.{run}
 use Rattle.archive_check.specs.Value.{Pointer}
-use Rattle.archive_check.specs.SelfCheck.Ways.{Goes, Halts, run_way}
+use Rattle.archive_check.specs.SelfCheck.Ways.{run_way}
 use Rattle.archive_check.specs.SelfCheck.Regions.{contents_way, align_some}
 use Rattle.archive_check.proofs.check.TurnInvariants.{some_map, none_map}
 use Rattle.archive_check.proofs.SelfCheck.Ways.{goes_from, halts_from}

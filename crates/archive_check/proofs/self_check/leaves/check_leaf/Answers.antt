@@ -1,4 +1,4 @@
-use Rattle.std.proofs.Common.{◌∙◌, refl, sym, arith}
+use Rattle.std.proofs.Common.{◌∙◌, refl, arith}
 use Rattle.archive_check.specs.Shape.{leaf}
 use Rattle.archive_check.specs.Layout.{kind_size}
 use Rattle.archive_check.specs.Reads.{bytes_at}

@@ -1,10 +1,10 @@
-use Rattle.std.proofs.Common.{◌≡◌, refl, ap, sym, ◌∙◌, Some, None, Err, to_z, of_z}
+use Rattle.std.proofs.Common.{◌≡◌, refl, ap, sym, ◌∙◌, Some, Err, to_z, of_z}
 use Rattle.std.proofs.lemmas.Int.{to_z-of_z}
 use mir.Syntax.{w128}
 use Rattle.archive_check.specs.declared.format.error.Error.TheVariants.{LayoutTooLarge, ExceededMaximumSubtreeDepth}
 use Rattle.archive_check.specs.Ranges.{subtree_answer}
 use Rattle.archive_check.specs.Trail.{too_large}
-use Rattle.archive_check.specs.SelfCheck.Regions.{EntersNot, not_sized, Begun}
+use Rattle.archive_check.specs.SelfCheck.Regions.{EntersNot, not_sized}
 use Rattle.archive_check.proofs.check.TurnInvariants.{if_none}
 use Rattle.archive_check.proofs.check.EnteredRegions.{not_err, not_refused}
 use Rattle.archive_check.proofs.SelfCheck.Regions.{lands, astray, stopped_deep, begun}

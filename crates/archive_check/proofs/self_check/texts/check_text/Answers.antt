@@ -7,7 +7,7 @@ use Rattle.archive_check.specs.Value.{Pointer}
 use Rattle.archive_check.specs.Definitions.{no_definition}
 use Rattle.archive_check.specs.Walk.{walk_text}
 use Rattle.archive_check.specs.Trail.{no_text, trips_text}
-use Rattle.archive_check.specs.SelfCheck.Ways.{Goes, Halts, enter_way}
+use Rattle.archive_check.specs.SelfCheck.Ways.{Halts, enter_way}
 use Rattle.archive_check.specs.SelfCheck.Regions.{contents_way}
 use Rattle.archive_check.proofs.plan.BoundedSizes.{fits_some, some_is}
 use Rattle.archive_check.proofs.check.TurnInvariants.{if_none, some_map, none_map}

@@ -1,5 +1,5 @@
 use Rattle.std.proofs.lemmas.Bool.{and_parts}
-use Rattle.std.proofs.Common.{◌≡◌, ◌+◌, ◌≤◌, min, arith, ap, sym, ◌∙◌, Some, length}
+use Rattle.std.proofs.Common.{◌≡◌, ◌+◌, arith, ap, sym, ◌∙◌, Some}
 use Rattle.archive_check.specs.Layout.{up}
 use Rattle.archive_check.specs.plan.BoundedSizes.{rounded}
 use Rattle.archive_check.proofs.check.TurnInvariants.{some_map, none_map}

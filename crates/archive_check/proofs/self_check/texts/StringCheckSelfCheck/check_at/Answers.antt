@@ -1,4 +1,4 @@
-use Rattle.std.proofs.Common.{SFits, arith, refl, ◌∙◌, to_z, of_z, None}
+use Rattle.std.proofs.Common.{SFits, refl, ◌∙◌, to_z, of_z, None}
 use Rattle.std.proofs.lemmas.Int.{to_z-of_z}
 use mir.Syntax.{w128}
 use Rattle.archive_check.specs.declared.format.error.Error.TheVariants.{InvalidUtf8, InvalidStringRepr}
@@ -7,7 +7,7 @@ use Rattle.archive_check.specs.Value.{Pointer}
 use Rattle.archive_check.specs.Definitions.{no_definition}
 use Rattle.archive_check.specs.Walk.{walk_inline}
 use Rattle.archive_check.specs.Trail.{no_text, no_string, trips_short, trips_inline}
-use Rattle.archive_check.specs.SelfCheck.Ways.{Goes, Halts, enter_way, shape_way}
+use Rattle.archive_check.specs.SelfCheck.Ways.{Halts, enter_way, shape_way}
 use Rattle.archive_check.proofs.check.TurnInvariants.{if_none}
 use Rattle.archive_check.proofs.check.EnteredRegions.{not_true, is_true}
 use Rattle.archive_check.proofs.SelfCheck.Ways.{goes_same, goes_by, halts_by}
