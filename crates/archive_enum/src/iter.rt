@@ -1,6 +1,6 @@
 // The iterator over one item or none.
 
-ghost use Rattle.std.specs.Prelude.{◌≡◌};
+ghost use Rattle.std.specs.Prelude.{◌≡◌, Some};
 ghost use Rattle.std.specs.Option.{option_len};
 ghost use Rattle.std.specs.Iterator.{at_most};
 ghost use Rattle.archive_enum.specs.Items.{GivesWhatIsLeft, YieldsItsItem};
@@ -44,7 +44,10 @@ impl<P: Drop> Iterator for Iter<P> {
         self.item.take()
     }
 
-    fn size_hint(&self) -> (usize, Option<usize>) {
+    fn size_hint(&self) -> (usize, Option<usize>)
+        ensures lower { result.0 ≡ option_len self.now }
+        ensures upper { result.1 ≡ Some (option_len self.now) }
+    {
         let left = self.len();
         (left, Some(left))
     }

@@ -156,6 +156,7 @@ impl<T> From<T> for ArchivedOption<T> {
     }
 }
 
+/// Iterates as `iter` does.
 impl<'a, T> IntoIterator for &'a ArchivedOption<T> {
     type Item = &'a T;
 
@@ -168,6 +169,7 @@ impl<'a, T> IntoIterator for &'a ArchivedOption<T> {
     }
 }
 
+/// Iterates as `iter_mut` does.
 impl<'a, T> IntoIterator for &'a mut ArchivedOption<T> {
     type Item = &'a mut T;
 
