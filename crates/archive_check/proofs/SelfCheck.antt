@@ -9,3 +9,4 @@ pub mod Variants
 pub mod Laws
 pub mod Orders
 pub mod Roots
+pub mod Outcomes

@@ -9,7 +9,7 @@ use Rattle.archive_check.specs.Definitions.{Definitions, Knows}
 use Rattle.archive_check.specs.check.Runs.{Outcome, done, refused}
 use Rattle.archive_check.specs.check.LoopInvariant.{HasLevels}
 use Rattle.archive_check.specs.SelfCheck.Ways.{Way, Goes, Halts}
-use Rattle.archive_check.proofs.check.TurnInvariants.{some_map, none_map}
+use Rattle.archive_check.proofs.SelfCheck.Outcomes.{some_map, none_map}
 
 -- what comes of one way comes of another
 module _ (D E : Definitions) (W V : Way) (s : RangeState)

@@ -1,5 +1,5 @@
 use Rattle.archive_check.specs.SelfCheck.Ways.{run_way}
-use Rattle.archive_check.proofs.check.TurnInvariants.{some_map, none_map}
+use Rattle.archive_check.proofs.SelfCheck.Outcomes.{some_map, none_map}
 use Rattle.archive_check.proofs.SelfCheck.Ways.{goes_same}
 use Rattle.archive_check.proofs.SelfCheck.Steps.{none_way}
 use Rattle.archive_check.proofs.SelfCheck.Elements.{empty_goes, empty_halts}

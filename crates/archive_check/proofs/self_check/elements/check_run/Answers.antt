@@ -5,7 +5,7 @@ use Rattle.archive_check.specs.Shape.{run}
 use Rattle.archive_check.specs.Value.{Pointer}
 use Rattle.archive_check.specs.SelfCheck.Ways.{run_way}
 use Rattle.archive_check.specs.SelfCheck.Regions.{contents_way, align_some}
-use Rattle.archive_check.proofs.check.TurnInvariants.{some_map, none_map}
+use Rattle.archive_check.proofs.SelfCheck.Outcomes.{some_map, none_map}
 use Rattle.archive_check.proofs.SelfCheck.Ways.{goes_from, halts_from}
 use Rattle.archive_check.proofs.SelfCheck.Regions.{enters_not, region_goes, region_left, region_halts}
 use Rattle.archive_check.proofs.SelfCheck.Layouts.{its_size, its_align, times_is}

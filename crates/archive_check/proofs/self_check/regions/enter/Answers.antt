@@ -5,7 +5,7 @@ use Rattle.archive_check.specs.declared.format.error.Error.TheVariants.{LayoutTo
 use Rattle.archive_check.specs.Ranges.{subtree_answer}
 use Rattle.archive_check.specs.Trail.{too_large}
 use Rattle.archive_check.specs.SelfCheck.Regions.{EntersNot, not_sized}
-use Rattle.archive_check.proofs.check.TurnInvariants.{if_none}
+use Rattle.archive_check.proofs.SelfCheck.Outcomes.{if_none}
 use Rattle.archive_check.proofs.check.EnteredRegions.{not_err, not_refused}
 use Rattle.archive_check.proofs.SelfCheck.Regions.{lands, astray, stopped_deep, begun}
 use Rattle.archive_check.proofs.self_check.regions.enter.Goals as goal

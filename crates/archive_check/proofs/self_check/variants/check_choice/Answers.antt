@@ -2,7 +2,7 @@ use Rattle.std.proofs.Common.{refl, slice_index}
 use Rattle.archive_check.specs.declared.format.error.Error.TheVariants.{InvalidDiscriminant}
 use Rattle.archive_check.specs.Shape.{choice}
 use Rattle.archive_check.specs.SelfCheck.Ways.{Halts, shape_way}
-use Rattle.archive_check.proofs.check.TurnInvariants.{if_none}
+use Rattle.archive_check.proofs.SelfCheck.Outcomes.{if_none}
 use Rattle.archive_check.proofs.SelfCheck.Variants.{choice_goes, choice_halts, tag_halts}
 use Rattle.archive_check.proofs.self_check.variants.check_choice.Goals as goal
 

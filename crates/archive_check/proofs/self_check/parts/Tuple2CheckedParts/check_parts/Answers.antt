@@ -2,7 +2,7 @@ use Rattle.std.proofs.lemmas.Bool.{and_parts}
 use Rattle.std.proofs.Common.{◌≡◌, ◌+◌, arith, ap, sym, ◌∙◌, Some}
 use Rattle.archive_check.specs.Layout.{up}
 use Rattle.archive_check.specs.plan.BoundedSizes.{rounded}
-use Rattle.archive_check.proofs.check.TurnInvariants.{some_map, none_map}
+use Rattle.archive_check.proofs.SelfCheck.Outcomes.{some_map, none_map}
 use Rattle.archive_check.proofs.plan.BoundedSizes.{some_is}
 use Rattle.archive_check.proofs.SelfCheck.Parts.{part_goes, part_halts, first_halts}
 use Rattle.archive_check.proofs.self_check.parts.Tuple2CheckedParts.check_parts.Goals as goal
