@@ -29,7 +29,7 @@ fn a_result_is_changed_where_it_lies(rt: HostRuntime) -> Result<(), Fail> {
         *at = 4;
     }
     for at in value.iter_mut() {
-        *at += 1;
+        *at = 5;
     }
     assert_eq!(rt; value.ok(), Some(5));
     let mut error = err();
