@@ -14,3 +14,4 @@ pub mod SharedCauses
 pub mod KeyStates
 pub mod ShortTexts
 pub mod Pointers
+pub mod Records

@@ -39,18 +39,3 @@ fn a_root_lies_where_it_is_said_to(rt: HostRuntime) -> Result<(), Fail> {
     }
     Ok(())
 }
-
-#[test]
-fn offsets_between_positions(rt: HostRuntime) {
-    let half = isize::MAX as usize + 1;
-    let rows = [
-        (0, 1, Ok(1)),
-        (1, 0, Ok(-1)),
-        (0, half, Err(Error::IsizeOverflow)),
-        (half, 0, Ok(isize::MIN)),
-        (half + 1, 0, Err(Error::IsizeOverflow)),
-    ];
-    for (from, to, offset) in rows {
-        assert_eq!(rt; signed_offset(from, to), offset, "from {from} to {to}");
-    }
-}
