@@ -3,7 +3,6 @@
 use archive_core::api::{access_pos, root_position};
 use archive_core::error::Error;
 use archive_core::primitive::ArchivedU32;
-use archive_core::rel_ptr::signed_offset;
 use std::test::Fail;
 
 #[test]
