@@ -18,3 +18,4 @@ pub mod SharedCauses
 pub mod KeyStates
 pub mod ShortTexts
 pub mod Pointers
+pub mod Records

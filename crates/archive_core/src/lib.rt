@@ -13,3 +13,6 @@ pub mod view;
 
 pub use archive_check::format::error;
 pub use archive_check::{context as validation, laws, self_check, shape};
+
+/// A relative pointer to a `T` whose offset is of 32 bits. As in rkyv 0.8.18.
+pub type RelPtr<T> = rel_ptr::RelPtr<T, primitive::ArchivedIsize>;

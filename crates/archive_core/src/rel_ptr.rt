@@ -9,12 +9,14 @@ use archive_check::format::error::Error;
 
 mod offset;
 mod raw;
+mod typed;
 
 pub use offset::{Offset, OffsetNumber};
 pub use raw::{
     RawRelPtr, RawRelPtrI8, RawRelPtrI16, RawRelPtrI32, RawRelPtrI64, RawRelPtrU8, RawRelPtrU16,
     RawRelPtrU32, RawRelPtrU64,
 };
+pub use typed::{Metadata, RelPtr};
 
 /// How far it is from one position to another, in bytes. Refused with `IsizeOverflow`, 2, exactly where the difference doesn't fit `isize`. As in rkyv
 /// 0.8.18.

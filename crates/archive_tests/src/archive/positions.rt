@@ -3,7 +3,6 @@
 use archive_core::api::{access_pos, root_position};
 use archive_core::error::Error;
 use archive_core::primitive::ArchivedU32;
-use archive_core::rel_ptr::signed_offset;
 use std::test::Fail;
 
 #[test]
@@ -38,19 +37,4 @@ fn a_root_lies_where_it_is_said_to(rt: HostRuntime) -> Result<(), Fail> {
         assert_eq!(rt; root_position::<ArchivedU32>(len), root);
     }
     Ok(())
-}
-
-#[test]
-fn offsets_between_positions(rt: HostRuntime) {
-    let half = isize::MAX as usize + 1;
-    let rows = [
-        (0, 1, Ok(1)),
-        (1, 0, Ok(-1)),
-        (0, half, Err(Error::IsizeOverflow)),
-        (half, 0, Ok(isize::MIN)),
-        (half + 1, 0, Err(Error::IsizeOverflow)),
-    ];
-    for (from, to, offset) in rows {
-        assert_eq!(rt; signed_offset(from, to), offset, "from {from} to {to}");
-    }
 }

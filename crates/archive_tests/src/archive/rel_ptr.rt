@@ -1,14 +1,16 @@
 // Relative pointers.
 
+use archive_core::RelPtr;
 use archive_core::api::access;
 use archive_core::error::Error;
 use archive_core::place::Place;
-use archive_core::primitive::{ArchivedI16, ArchivedU64};
+use archive_core::primitive::{ArchivedI16, ArchivedI32, ArchivedU32, ArchivedU64, ArchivedUsize};
 use archive_core::rel_ptr::{
-    Offset, RawRelPtr, RawRelPtrI8, RawRelPtrI16, RawRelPtrI32, RawRelPtrI64, RawRelPtrU8,
+    self, Offset, RawRelPtr, RawRelPtrI8, RawRelPtrI16, RawRelPtrI32, RawRelPtrI64, RawRelPtrU8,
     RawRelPtrU16, RawRelPtrU32, RawRelPtrU64, signed_offset,
 };
 use archive_core::shape::{Expr, IntegerKind, Kind};
+use archive_core::string::ArchivedStr;
 use archive_core::traits::Portable;
 use std::alloc::Global;
 use std::test::Fail;
@@ -131,5 +133,59 @@ fn pointers_are_leaves(rt: HostRuntime) -> Result<(), Fail> {
     assert!(rt; is_leaf_of::<RawRelPtrU16>(alloc, IntegerKind::U16, 2)?);
     assert!(rt; is_leaf_of::<RawRelPtrU32>(alloc, IntegerKind::U32, 4)?);
     assert!(rt; is_leaf_of::<RawRelPtrU64>(alloc, IntegerKind::U64, 8)?);
+    Ok(())
+}
+
+#[test]
+fn pointers_to_texts(rt: HostRuntime) -> Result<(), Fail> {
+    let alloc = rt.alloc();
+    let mut bytes = [0; 8];
+    let place: Place<'_, RelPtr<ArchivedStr>> = Place::new(16, &mut bytes);
+    let length = ArchivedUsize::from_native(11);
+    assert_eq!(rt; RelPtr::try_emplace_unsized(0, length, place), Ok(()));
+    assert_eq!(rt; bytes, [0xf0, 0xff, 0xff, 0xff, 0x0b, 0, 0, 0]);
+    let view = access::<RelPtr<ArchivedStr>>(alloc, &bytes)?;
+    assert_eq!(rt; view.offset(), -16);
+    assert_eq!(rt; view.target(), -16);
+    assert_eq!(rt; view.metadata().to_native(), 11);
+    assert!(rt; !view.is_invalid());
+    let place: Place<'_, RelPtr<ArchivedStr>> = Place::new(16, &mut bytes);
+    assert_eq!(rt; RelPtr::try_emplace_invalid(place), Ok(()));
+    assert_eq!(rt; bytes, [1, 0, 0, 0, 0, 0, 0, 0]);
+    assert!(rt; access::<RelPtr<ArchivedStr>>(alloc, &bytes)?.is_invalid());
+    Ok(())
+}
+
+#[test]
+fn pointers_to_one_value(rt: HostRuntime) -> Result<(), Fail> {
+    let mut bytes = [0xee; 4];
+    let place: Place<'_, RelPtr<ArchivedU32>> = Place::new(4, &mut bytes);
+    assert_eq!(rt;
+        RelPtr::try_emplace(1 << 32, place),
+        Err(Error::OffsetOverflow)
+    );
+    assert_eq!(rt; bytes, [0xee; 4]);
+    let place: Place<'_, RelPtr<ArchivedU32>> = Place::new(4, &mut bytes);
+    assert_eq!(rt; RelPtr::try_emplace(0, place), Ok(()));
+    assert_eq!(rt; bytes, [0xfc, 0xff, 0xff, 0xff]);
+    assert_eq!(rt;
+        access::<RelPtr<ArchivedU32>>(rt.alloc(), &bytes)?.metadata(),
+        ()
+    );
+    Ok(())
+}
+
+#[test]
+fn a_length_stands_behind_padding(rt: HostRuntime) -> Result<(), Fail> {
+    let mut bytes = [0; 8];
+    let place: Place<'_, rel_ptr::RelPtr<ArchivedStr, u8>> = Place::new(0, &mut bytes);
+    let length = ArchivedUsize::from_native(3);
+    assert_eq!(rt;
+        rel_ptr::RelPtr::try_emplace_unsized(9, length, place),
+        Ok(())
+    );
+    assert_eq!(rt; bytes, [9, 0, 0, 0, 3, 0, 0, 0]);
+    assert_eq!(rt; rel_ptr::RelPtr::<ArchivedStr, ArchivedU64>::size(), 16);
+    assert_eq!(rt; rel_ptr::RelPtr::<ArchivedU32, ArchivedI32>::size(), 4);
     Ok(())
 }
