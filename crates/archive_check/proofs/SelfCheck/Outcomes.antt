@@ -13,3 +13,7 @@ none_map None f h = f h
 pub if_none : {A : Type 0} (B : Error → Type 0) (r : Option A) (fault e : Error) → fault ≡ e → B e → IfNone r (B fault)
 if_none B (Some u) fault e is h = tt
 if_none B None fault e is h = rw is h
+
+pub stopped_map : {X A B : Type 0} (r : Option X) → (A → B) → IfNone r A → IfNone r B
+stopped_map (Some x) f h = tt
+stopped_map None f h = f h

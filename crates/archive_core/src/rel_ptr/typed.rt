@@ -3,6 +3,7 @@
 ghost use Rattle.std.specs.Prelude.{◌≡◌, ◌+◌, ◌≤◌, ℕ, Bool, true, false, MatchResult, IsOk, IfOk, IfErr, length, pos, ◌+ℤ◌, refl, min};
 ghost use Rattle.std.specs.Int.{byte_len};
 ghost use Rattle.std.specs.Ordering.{int_eq};
+ghost use Rattle.archive_check.specs.SelfCheck.Laws.{by_schema};
 ghost use Rattle.archive_check.specs.Shape.{one, parts};
 ghost use Rattle.archive_check.specs.Definitions.{no_definition};
 ghost use Rattle.archive_check.specs.Expressions.{shape_of};
@@ -23,6 +24,7 @@ use archive_check::format::bytes::read_u32;
 use archive_check::format::error::Error;
 use archive_check::format::expr::{Defs, Expr, IntegerKind, Kind};
 use archive_check::format::traits::{ArchivePointee, Portable};
+use archive_check::self_check::BySchema;
 use archive_num::{ArchivedUsize, FixedUsize, Integer};
 use std::alloc::Global;
 use std::marker::PhantomData;
@@ -170,6 +172,8 @@ where
 
     ghost layout = { rel_layout O.Number.width T.ArchivedMetadata.is_length };
 
+    type Check = BySchema;
+
     ghost is_one = { refl };
 
     ghost is_align = { rel_align O.Number.width T.ArchivedMetadata.is_length };
@@ -177,6 +181,8 @@ where
     ghost has_layout = { rel_has_layout O.Number.sign O.Number.width T.ArchivedMetadata.is_length };
 
     ghost no_others = { no_definition_reached (parts (rel_parts O.Number.sign O.Number.width T.ArchivedMetadata.is_length)) };
+
+    ghost checks = { λ direct. by_schema direct };
 
     fn size() -> usize {
         if T::ArchivedMetadata::is_length() {
