@@ -1,5 +1,8 @@
 // Relative pointers.
 
+ghost use Rattle.std.specs.Prelude.{◌≡◌};
+ghost use Rattle.std.specs.Int.{byte_len};
+
 use archive_core::RelPtr;
 use archive_core::api::access;
 use archive_core::error::Error;

@@ -17,15 +17,20 @@ fn refusals_have_numbers_names_and_texts(rt: HostRuntime) -> Result<(), Fail> {
             },
             17,
             "UnalignedPointer",
-            "a region at 11, no multiple of 4",
+            "a region at 11, which is no multiple of 4",
         ),
         (
             Error::InvalidStringRepr,
             29,
             "InvalidStringRepr",
-            "a short text out of line",
+            "a text of eight bytes or fewer stands outside its string",
         ),
-        (Error::UnsortedKeys, 32, "UnsortedKeys", "unsorted keys"),
+        (
+            Error::UnsortedKeys,
+            32,
+            "UnsortedKeys",
+            "the keys of a sorted map aren't in order",
+        ),
     ];
     for (error, number, name, text) in rows {
         assert_eq!(rt; error.number(), number);
