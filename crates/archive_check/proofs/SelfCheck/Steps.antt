@@ -1,12 +1,12 @@
 -- The ways through each shape, from the ways through what it holds.
-use Rattle.std.proofs.Common.{◌≡◌, ℕ, suc, refl, ◌+◌, ◌<◌, List, Option, Some, None}
-use Rattle.archive_check.specs.Shape.{Name, Shape, parts, boxed, vec, str, named, array, Pointee, one, run, Parts, part, definition}
+use Rattle.std.proofs.Common.{◌≡◌, ℕ, suc, refl, ◌+◌, ◌<◌, List, Option, None}
+use Rattle.archive_check.specs.Shape.{Shape, parts, boxed, vec, str, Pointee, one, run, Parts, part}
 use Rattle.archive_check.specs.Layout.{up, size_of, align_of}
 use Rattle.archive_check.specs.Value.{Pointer}
 use Rattle.archive_check.specs.Reads.{Schema, u32_at, IsOutOfLine, decoded_length, pointer_at, string_at}
 use Rattle.archive_check.specs.Tour.{Seen}
-use Rattle.archive_check.specs.Walk.{walk_parts, walk_boxed, walk_vec, walk_out_of_line, walk_named, walk_array, walk_part, walk_none, walk_element, follow_unique, walk_one, walk_run}
-use Rattle.archive_check.specs.Trail.{Fault, trips_parts, trips_boxed, trips_vec, trips_out_of_line, trips_named, trips_array, trips_first, trips_later, trips_element, trips_later_element, trips_unique, trips_one, trips_run}
+use Rattle.archive_check.specs.Walk.{walk_parts, walk_boxed, walk_vec, walk_out_of_line, walk_part, walk_none, walk_element, follow_unique, walk_one, walk_run}
+use Rattle.archive_check.specs.Trail.{Fault, trips_parts, trips_boxed, trips_vec, trips_out_of_line, trips_first, trips_later, trips_element, trips_later_element, trips_unique, trips_one, trips_run}
 use Rattle.archive_check.specs.check.Runs.{Outcome, done, refused}
 use Rattle.archive_check.specs.SelfCheck.Ways.{shape_way, parts_way, run_way, enter_way}
 use Rattle.archive_check.specs.SelfCheck.Regions.{follow_way, contents_way}
@@ -41,14 +41,6 @@ module _ (bytes : List ℕ) (s : Schema) (pending : List ℕ) (depth : Option �
   pub record_way : (p : ℕ) (ps : Parts) (o : Outcome) → parts_way bytes p 0 ps s pending depth stop start seen o → shape_way bytes p (parts ps) s pending depth stop start seen o
   record_way p ps (done l k) w = walk_parts w
   record_way p ps (refused f) w = trips_parts w
-
-  pub named_way : (p : ℕ) (name : Name) (X : Shape) (o : Outcome) → definition s.table name ≡ Some X → shape_way bytes p X s pending depth stop start seen o → shape_way bytes p (named name) s pending depth stop start seen o
-  named_way p name X (done l k) d w = walk_named d w
-  named_way p name X (refused f) d w = trips_named d w
-
-  pub array_way : (p n : ℕ) (X : Shape) (o : Outcome) → run_way bytes p n X s pending depth stop start seen o → shape_way bytes p (array n X) s pending depth stop start seen o
-  array_way p n X (done l k) w = walk_array w
-  array_way p n X (refused f) w = trips_array w
 
   -- one part more
   pub part_way : (p at q next mid : ℕ) (X : Shape) (ps : Parts) (o : Outcome) → q ≡ p + up at (align_of s.layouts X) → next ≡ up at (align_of s.layouts X) + size_of s.layouts X
