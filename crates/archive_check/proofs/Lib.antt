@@ -42,6 +42,7 @@ pub mod Viewed
 pub mod ViewedValues
 pub mod ReadBack
 pub mod ReadOwners
+pub mod ReadShared
 pub mod CalmArchives
 pub mod SharedKnown
 pub mod SuitableSchemas
