@@ -1,10 +1,12 @@
-use Rattle.std.proofs.Common.{arith}
+use Rattle.std.proofs.Common.{◌≡◌, Bool, false, IsTrue, arith}
 use Rattle.archive_check.specs.Layout.{kind_size}
 use Rattle.archive_check.specs.Reads.{bytes_at}
 use Rattle.archive_check.specs.Expressions.{kind_of}
 use Rattle.archive_check.proofs.EditedBytes.{bytes_long}
-use Rattle.archive_check.proofs.check.EnteredRegions.{not_true}
 use Rattle.archive_tests.proofs.check.leaves.leaf_of.Goals as goal
+
+not_true : (b : Bool) → b ≡ false → IsTrue b → ⊥
+not_true b e h = cc
 
 pub illegal-requires : goal.illegal-requires
 illegal-requires c =
