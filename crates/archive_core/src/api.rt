@@ -1,4 +1,5 @@
-//! Whole archives: written, checked and read back.
+//! Whole archives: written, checked and read back. The calls are those of rkyv 0.8.18, with an allocator handed in. Positions are in bytes from the
+//! buffer's first one.
 
 ghost use Rattle.std.specs.Prelude.{◌≡◌, ◌⊎◌, ◌≤◌, ◌-◌, None, length, IfOk, OnOk, IfErr, ℕ, []};
 ghost use Rattle.archive_check.specs.FreshContexts.{IsWhole};
@@ -54,7 +55,9 @@ fn serialize_whole<W: Writer + Drop, T: Serialize<Serializer<W, Global, ()>>>(
 }
 
 /// Appends an archive of `value` to what `writer` holds, its root at the end, and answers the writer. Memory comes from `alloc`. Refused with what
-/// the value's parts or the writer refuse with, with 23 where the root would end above `usize::MAX`, or with 1 where memory is refused.
+/// the value's parts or the writer refuse with (`BufferOverflow`, 8; `WriterFailed`, 9), with `LayoutTooLarge`, 23, where the root would end above
+/// `usize::MAX`, or with `OutOfMemory`, 1, where memory is refused. It asks nothing. After a refusal the writer is gone, and nothing is said of the
+/// bytes that were written: `serialize_one` over `&mut` keeps those from before.
 pub fn to_bytes_in<W: Writer + Drop, T: Serialize<Serializer<W, Global, ()>>>(
     alloc: Global,
     value: &T,
@@ -90,8 +93,8 @@ pub fn to_bytes_into<W: Writer, T: Serialize<W>>(
     serialize_with(alloc, value, writer)
 }
 
-/// An archive of `value`, its root at the end. Memory comes from `alloc`. Refused with what the value's parts refuse with, with 23 where the root
-/// would end above `usize::MAX`, or with 1 where memory is refused.
+/// An archive of `value`, its root at the end. Memory comes from `alloc`. It asks nothing. Refused with what the value's parts refuse with, with
+/// `LayoutTooLarge`, 23, where the root would end above `usize::MAX`, or with `OutOfMemory`, 1, where memory is refused.
 pub fn to_bytes<T: Serialize<Serializer<Vec<u8>, Global, ()>>>(
     alloc: Global,
     value: &T,
@@ -106,9 +109,10 @@ pub fn to_bytes<T: Serialize<Serializer<Vec<u8>, Global, ()>>>(
     Ok(bytes)
 }
 
-/// Checks that `bytes` are an archive whose root, a `T`, lies at `pos`. In a context for these bytes that met nothing yet the answer is exact. Memory
-/// for the schema and the check comes from `alloc`: refused with 1 where it is refused, with 30 or 31 where the definitions of `T` have no meaning,
-/// before any byte is looked at, and else with the first fault of the bytes, in the order that docs/FORMAT.md gives. A type that checks itself takes
+/// Checks that `bytes` are an archive whose root, a `T`, lies at `pos`. Asks that the context's range ends in the buffer. In a context for these bytes
+/// that met nothing yet the answer is exact. Memory for the schema and the check comes from `alloc`: refused with `OutOfMemory`, 1, where it is
+/// refused, with `ShapeConflict`, 30, or `RecursiveLayout`, 31, where the definitions of `T` have no meaning, before any byte is looked at, and else
+/// with the first fault of the bytes, in the order that docs/FORMAT.md gives. A type that checks itself takes
 /// no memory.
 pub fn check_pos_with_context<T: Portable, C: ArchiveContext + SharedContext>(
     alloc: Global,
@@ -129,9 +133,10 @@ pub fn check_pos_with_context<T: Portable, C: ArchiveContext + SharedContext>(
     schema.check(bytes, pos, context)
 }
 
-/// Checks that `bytes` are an archive whose root, a `T`, lies at `pos`, and answers the root's view. Memory for the schema and the check comes from
-/// `alloc`: refused with 1 where it is refused, with 30 or 31 where the definitions of `T` have no meaning, before any byte is looked at, and
-/// else with the first fault of the bytes, in the order that docs/FORMAT.md gives.
+/// Checks that `bytes` are an archive whose root, a `T`, lies at `pos`, and answers the root's view. It asks nothing. Memory for the schema and the
+/// check comes from `alloc`: refused with `OutOfMemory`, 1, where it is refused, with `ShapeConflict`, 30, or `RecursiveLayout`, 31, where the
+/// definitions of `T` have no meaning, before any byte is looked at, and else with the first fault of the bytes, in the order that docs/FORMAT.md
+/// gives.
 pub fn access_pos<'a, T: Portable>(
     alloc: Global,
     bytes: &'a [u8],
@@ -161,9 +166,9 @@ pub fn access<'a, T: Portable>(alloc: Global, bytes: &'a [u8]) -> Result<Ref<'a,
     access_pos(alloc, bytes, root_position::<T>(bytes.len()))
 }
 
-/// Checks that `bytes` are an archive whose root, a `T`, lies at `pos`, in a context for these bytes that met nothing yet, and answers the root's
-/// view. Memory for the schema and the check comes from `alloc`. Refused as by `access_pos`, and with 18 where a region is deeper than the context
-/// allows.
+/// Checks that `bytes` are an archive whose root, a `T`, lies at `pos`, in a context, and answers the root's view. Asks for a context of these bytes
+/// that met nothing yet. Memory for the schema and the check comes from `alloc`. Refused as by `access_pos`, and with
+/// `ExceededMaximumSubtreeDepth`, 18, where a region is deeper than the context allows.
 pub fn access_pos_with_context<'a, T: Portable, C: ArchiveContext + SharedContext>(
     alloc: Global,
     bytes: &'a [u8],
@@ -182,8 +187,8 @@ pub fn access_pos_with_context<'a, T: Portable, C: ArchiveContext + SharedContex
     Ok(Ref::at(Part { bytes, pos, len: 0 }))
 }
 
-/// Checks that `bytes` are an archive whose root, a `T`, lies at the end, in a context for these bytes that met nothing yet, and answers the root's
-/// view. Memory for the schema and the check comes from `alloc`. Refused as by `access_pos_with_context`.
+/// Checks that `bytes` are an archive whose root, a `T`, lies at the end, in a context, and answers the root's view. Asks for a context of these bytes
+/// that met nothing yet. Memory for the schema and the check comes from `alloc`. Refused as by `access_pos_with_context`.
 pub fn access_with_context<'a, T: Portable, C: ArchiveContext + SharedContext>(
     alloc: Global,
     bytes: &'a [u8],
@@ -199,8 +204,9 @@ pub fn access_with_context<'a, T: Portable, C: ArchiveContext + SharedContext>(
 }
 
 /// Checks that `bytes` are an archive of a `T`, its root at the end, and reads it back: the answer means what the archive denotes, its shared values
-/// named by their positions. `deserializer` is empty; `()` where nothing is shared. Memory comes from `alloc`: refused with 1 where it is refused,
-/// else as `access` refuses, and with 13 where a shared value holds itself, so never where the type shares nothing.
+/// named by their positions, where `deserializer` knows no position yet; it is `()` where nothing is shared. It asks nothing. Memory comes from
+/// `alloc`: refused with `OutOfMemory`, 1, where it is refused, else as `access` refuses, and with `CyclicDeserialize`, 13, only where a shared
+/// position is met that is still being read, so never where the type shares nothing.
 pub fn from_bytes<T: Archive, D: Entries>(
     alloc: Global,
     bytes: &[u8],
@@ -220,8 +226,8 @@ where
 }
 
 /// Reads back what `view` shows, with a `deserializer` that may have met shared positions of this buffer before, each finished one named by its
-/// position, and no pending one: the answer means what the archive says there. Memory comes from `alloc`: refused with 1 where it is refused, and
-/// with 13 where a shared value holds itself.
+/// position: the answer means what the archive says there. It asks nothing. Memory comes from `alloc`: refused with `OutOfMemory`, 1, where it is
+/// refused, and with `CyclicDeserialize`, 13, only where a shared position is met that is still being read, from before this call, too.
 pub fn deserialize_using<T: Archive, U: Deserialize<T, D>, D: Entries>(
     alloc: Global,
     view: Ref<'_, U>,
@@ -234,8 +240,9 @@ pub fn deserialize_using<T: Archive, U: Deserialize<T, D>, D: Entries>(
     U::deserialize(alloc, view, deserializer)
 }
 
-/// Reads back what `view` shows, with an empty `deserializer`, `()` where nothing is shared: the answer means what the archive says there, its shared
-/// values named by their positions. Memory comes from `alloc`: refused with 1 where it is refused, and with 13 where a shared value holds itself.
+/// Reads back what `view` shows, with a `deserializer` that knows no position yet, `()` where nothing is shared: the answer means what the archive says
+/// there, its shared values named by their positions. It asks nothing. Memory comes from `alloc`: refused with `OutOfMemory`, 1, where it is refused,
+/// and with `CyclicDeserialize`, 13, only where a shared position is met that is still being read.
 pub fn deserialize<T: Archive, U: Deserialize<T, D>, D: Entries>(
     alloc: Global,
     view: Ref<'_, U>,

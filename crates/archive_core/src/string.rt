@@ -43,26 +43,27 @@ use archive_write::ser::Writer;
 use std::alloc::Global;
 use std::marker::Model;
 
-/// An archived string: eight bytes at a multiple of four, which hold a text of at most eight bytes or say where a longer one stands.
+/// An archived string: eight bytes at a multiple of four, which hold a text of at most eight bytes or say where a longer one stands. As in rkyv
+/// 0.8.18.
 #[derive(Clone, Copy, Debug)]
 pub struct ArchivedString {
     _private: (),
 }
 
-/// An archived text in a region of its own.
+/// An archived text in a region of its own. It stands where rkyv 0.8.18 has an archived `str`.
 #[derive(Clone, Copy, Debug)]
 pub struct ArchivedStr {
     _private: (),
 }
 
-/// A borrowed text, as a source. It stands where rkyv has `str`.
+/// A borrowed text, as a source. It stands where rkyv 0.8.18 has `str`.
 #[derive(Clone, Copy, Debug)]
 pub struct Text<'a> {
     /// The text.
     pub text: &'a str,
 }
 
-/// Where a long text was written. In a contract it is that position.
+/// Where a long text was written, in bytes from the first one; 0 for a short one. In a contract it is that position. As in rkyv 0.8.18.
 #[derive(Clone, Copy, Debug)]
 pub struct StringResolver {
     pos: u32,
@@ -199,8 +200,10 @@ impl<D: Entries> DeserializeUnsized<String, D> for ArchivedStr {
 }
 
 impl ArchivedString {
-    /// Writes the text, if it is longer than eight bytes, and answers where. Refused with 7 exactly where it is longer than 1,073,741,823 bytes,
-    /// before anything is written, with 4 where it was written above 4,294,967,295, or as the writer refuses.
+    /// Writes the text, if it is longer than eight bytes, and answers where. It asks nothing. Refused with `StringTooLong`, 7, exactly where it is
+    /// longer than 1,073,741,823 bytes, before anything is written, with `PositionTooLarge`, 4, where it was written above position 4,294,967,295, or
+    /// as the writer refuses (`OutOfMemory`, 1; `BufferOverflow`, 8; `WriterFailed`, 9). After a refusal, too, the bytes from before are a beginning
+    /// of those that `serializer` holds. rkyv 0.8.18 cuts such a position off.
     #[tactic(auto, using(crate::proofs::Planned::serialized_inline, crate::proofs::Planned::serialized_out_of_line, crate::proofs::Planned::string_refused, crate::proofs::Planned::long_string_refused, crate::proofs::Planned::far_string_refused, crate::proofs::Causes::goes_nowhere))]
     pub fn serialize_from_str<S: Writer + Keys>(
         value: &str,
@@ -231,7 +234,9 @@ impl ArchivedString {
         Ok(StringResolver { pos })
     }
 
-    /// Writes the string's bytes over those of `place`. Refused with 2 or 3 exactly where the offset to a long text doesn't fit; they are then unchanged.
+    /// Writes the string's bytes over those of `place`. Asks that these are eight, and that `value` has at most 1,073,741,823 bytes; `resolver` should
+    /// be the answer of `serialize_from_str` for it. Refused with `IsizeOverflow`, 2, or `OffsetOverflow`, 3, exactly where the offset to a text of
+    /// more than eight bytes doesn't fit; they are then unchanged. rkyv 0.8.18 panics there.
     #[tactic(auto, using(crate::proofs::StringsWritten::resolves_inline_flat, crate::proofs::StringsWritten::resolves_out_of_line_flat))]
     pub fn resolve_from_str(
         value: &str,

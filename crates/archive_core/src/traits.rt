@@ -1,4 +1,4 @@
-//! What is archived and how, and what is read back.
+//! What is archived and how, and what is read back. The traits are those of rkyv 0.8.18; their laws are our own.
 
 ghost use Rattle.std.specs.Prelude.{◌≡◌, ◌<◌, ℕ, length, IfOk, OnOk, IfErr, IsErr, List};
 ghost use Rattle.archive_check.specs.Entries.{ReadsBack, RefusesReading};
@@ -24,7 +24,7 @@ pub type Archived<T> = <T as Archive>::Archived;
 pub type ArchivedMetadata<T> =
     <<T as ArchiveUnsized>::Archived as ArchivePointee>::ArchivedMetadata;
 
-/// A source: what can be archived.
+/// A source: what can be archived. As in rkyv 0.8.18, where `resolve` can't be refused and panics.
 pub trait Archive {
     /// The archived type.
     type Archived: Portable;
@@ -44,8 +44,9 @@ pub trait Archive {
     // The resolver is one of this value.
     ghost belongs: { Self → Self.Resolver → Type 0 };
 
-    /// Writes the archived value over the bytes of `place`, which are zeros. Refused with 2 or 3 where an offset doesn't fit, else with what the
-    /// value's parts refuse with.
+    /// Writes the archived value over the bytes of `place`. Asks that these are zeros, as many as the archived type has, that their end fits `usize`,
+    /// and that `resolver` is one of this value. Refused with `IsizeOverflow`, 2, or `OffsetOverflow`, 3, where an offset doesn't fit, else with
+    /// what the value's parts refuse with.
     fn resolve(
         &self,
         resolver: Self::Resolver,
@@ -64,11 +65,12 @@ pub trait Archive {
     ghost planned: { (v : Self) → HasPlan Self.Archived.definitions Self.Archived.shape (keys v) (meaning v) };
 }
 
-/// A source that can be serialized to an `S`.
+/// A source that can be serialized to an `S`. As in rkyv 0.8.18.
 pub trait Serialize<S: Writer + Keys>: Archive {
-    /// Writes what the value owns, region by region, and answers what its archived form is resolved with. Refused for a cause of the value's own,
-    /// as the writer refuses, or with 1 where memory is refused; never with 14 or 15. After a refusal, too, the bytes from before are a beginning of
-    /// those that `serializer` holds, and each key that was known keeps its state.
+    /// Writes what the value owns, region by region, and answers what its archived form is resolved with. It asks nothing. Refused for a cause of the
+    /// value's own, as the writer refuses (`BufferOverflow`, 8; `WriterFailed`, 9), or with `OutOfMemory`, 1, where memory is refused; never with
+    /// `NotStarted`, 14, or `AlreadyFinished`, 15. After a refusal, too, the bytes from before are a beginning of those that `serializer` holds, and
+    /// each key that was known keeps its state.
     fn serialize(&self, serializer: &mut S) -> Result<Self::Resolver, Error>
         ensures serialized { IfOk result (λ r. Serialized Self.Archived.definitions Self.Archived.shape (Self.keys self.now) (Self.meaning self.now)
             (Self.flat self.now r) (S.state serializer.old) (S.state serializer.new)) }
@@ -78,9 +80,10 @@ pub trait Serialize<S: Writer + Keys>: Archive {
             (S.state serializer.old) (S.state serializer.new)) };
 }
 
-/// A format that can be read back as a `T`.
+/// A format that can be read back as a `T`. As in rkyv 0.8.18, by views in place of references.
 pub trait Deserialize<T: Archive, D: Entries>: ArchivePointee {
-    /// What implements this trait writes this call, over the part of a view; callers use `deserialize`.
+    /// What implements this trait writes this call, over the part of a view, and callers use `deserialize`. Asks for what a view promises of the part.
+    /// Our own.
     fn deserialize_part(alloc: Global, part: Part<'_>, deserializer: &mut D) -> Result<T, Error>
         requires { Viewed Self.definitions part.bytes.now part.pos Self.pointee part.len }
         ensures read { IfOk result (λ t. ReadsBack Self.definitions part.entry.bytes.now part.entry.pos Self.pointee part.entry.len
@@ -88,8 +91,8 @@ pub trait Deserialize<T: Archive, D: Entries>: ArchivePointee {
         ensures refused { IfErr result (RefusesReading Self.definitions part.entry.bytes.now part.entry.pos Self.pointee part.entry.len (D.entry_of deserializer.old)) };
 
     /// The value that the view shows, each shared value named by its position, as those are that `deserializer` keeps from before; it keeps what it
-    /// kept. Memory comes from `alloc`: refused with 1 where it is refused, and with 13 where a shared value holds itself, or one that is still
-    /// being read.
+    /// kept. Memory comes from `alloc`: refused with `OutOfMemory`, 1, where it is refused, and with `CyclicDeserialize`, 13, only where a shared
+    /// position is met that is still being read.
     final fn deserialize(
         alloc: Global,
         view: Ref<'_, Self>,
@@ -103,7 +106,7 @@ pub trait Deserialize<T: Archive, D: Entries>: ArchivePointee {
     }
 }
 
-/// A source that lies in a region of its own: a value, a slice or a text.
+/// A source that lies in a region of its own: a value, a slice or a text. As in rkyv 0.8.18.
 pub trait ArchiveUnsized {
     /// The archived type.
     type Archived: ArchivePointee;
@@ -117,7 +120,8 @@ pub trait ArchiveUnsized {
     // The keys that it holds, with what each names.
     ghost keys: { Self → List Naming };
 
-    /// What stands in a pointer to it beside the offset. Refused with 5 exactly where its length is above 4,294,967,295.
+    /// What stands in a pointer to it beside the offset. Refused with `LengthTooLarge`, 5, exactly where its length is above 4,294,967,295, where rkyv
+    /// 0.8.18 cuts it off.
     fn archived_metadata(&self) -> Result<ArchivedMetadata<Self>, Error>
         ensures value { IfOk result (λ m. Self.Archived.metadata_length m ≡ source_length self.now) }
         ensures refused { IfErr result (λ e. (e ≡ LengthTooLarge) × (4294967295 < source_length self.now)) }
@@ -130,11 +134,12 @@ pub trait ArchiveUnsized {
     ghost planned: { (v : Self) → HasRegionPlan Self.Archived.definitions Self.Archived.pointee (source_length v) (keys v) (meaning v) };
 }
 
-/// A source that can be serialized to an `S` as a region of its own.
+/// A source that can be serialized to an `S` as a region of its own. As in rkyv 0.8.18.
 pub trait SerializeUnsized<S: Writer + Keys>: ArchiveUnsized {
-    /// Writes what the source owns and then its region, and answers the region's position. Refused for a cause of the source's own, as the writer
-    /// refuses, or with 1 where memory is refused; never with 14 or 15. After a refusal, too, the bytes from before are a beginning of those that
-    /// `serializer` holds, and each key that was known keeps its state.
+    /// Writes what the source owns and then its region, and answers the region's position, in bytes from the first one. It asks nothing. Refused for a
+    /// cause of the source's own, as the writer refuses (`BufferOverflow`, 8; `WriterFailed`, 9), or with `OutOfMemory`, 1, where memory is refused;
+    /// never with `NotStarted`, 14, or `AlreadyFinished`, 15. After a refusal, too, the bytes from before are a beginning of those that `serializer`
+    /// holds, and each key that was known keeps its state.
     fn serialize_unsized(&self, serializer: &mut S) -> Result<usize, Error>
         ensures serialized { IfOk result (λ p. SerializedRegion Self.Archived.definitions Self.Archived.pointee (Self.source_length self.now) (Self.keys self.now)
             (Self.meaning self.now) p (S.state serializer.old) (S.state serializer.new)) }
@@ -143,9 +148,10 @@ pub trait SerializeUnsized<S: Writer + Keys>: ArchiveUnsized {
             (Self.meaning self.now) (S.state serializer.old) (S.state serializer.new)) };
 }
 
-/// A pointee that can be read back as a `T`: the value, a vector of the elements, or a string.
+/// A pointee that can be read back as a `T`: the value, a vector of the elements, or a string. As in rkyv 0.8.18, by views in place of references.
 pub trait DeserializeUnsized<T: Archive, D: Entries>: ArchivePointee {
-    /// What implements this trait writes this call, over the part of a view; callers use `deserialize_unsized`.
+    /// What implements this trait writes this call, over the part of a view, and callers use `deserialize_unsized`. Asks for what a view promises of
+    /// the part. Our own.
     fn deserialize_unsized_part(
         alloc: Global,
         part: Part<'_>,
@@ -156,8 +162,8 @@ pub trait DeserializeUnsized<T: Archive, D: Entries>: ArchivePointee {
             (D.entry_of deserializer.old) (D.entry_of deserializer.new) (T.meaning t) (T.keys t)) }
         ensures refused { IfErr result (RefusesReading Self.definitions part.entry.bytes.now part.entry.pos Self.pointee part.entry.len (D.entry_of deserializer.old)) };
 
-    /// What the view shows, as `Deserialize::deserialize` says it. Memory comes from `alloc`: refused with 1 where it is refused, and with 13 where a
-    /// shared value holds itself, or one that is still being read.
+    /// What the view shows, as `Deserialize::deserialize` says it. Memory comes from `alloc`: refused with `OutOfMemory`, 1, where it is refused, and
+    /// with `CyclicDeserialize`, 13, only where a shared position is met that is still being read.
     final fn deserialize_unsized(
         alloc: Global,
         view: Ref<'_, Self>,

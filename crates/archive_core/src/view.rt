@@ -16,7 +16,8 @@ use archive_num::{Integer, LittleEndian, Native};
 use std::alloc::AllocError;
 use std::marker::PhantomData;
 
-/// A view of an archived value, slice or text: a part of a buffer that was checked. It stands where rkyv has a reference to the archived type.
+/// A view of an archived value, slice or text: a part of a buffer that was checked. It stands where rkyv 0.8.18 has a reference to the archived type.
+/// Its calls are never refused, and take no memory.
 pub struct Ref<'a, T: ArchivePointee> {
     bytes: &'a [u8],
     pos: usize,
@@ -56,7 +57,8 @@ impl<'a, T: ArchivePointee> Ref<'a, T> {
         self.pos
     }
 
-    /// The view of a part of a buffer that was checked.
+    /// The view of a part. Asks that the part lies in a buffer that was checked: it is a region of an accepted archive, or lies in one. The calls of
+    /// `api` answer the root's view, so only what implements `Deserialize` needs this one. Our own.
     pub fn at(part: Part<'a>) -> Ref<'a, T>
         requires { Viewed T.definitions part.bytes.now part.pos T.pointee part.len }
         ensures buffer { result.bytes.now ≡ part.entry.bytes.now }
@@ -71,7 +73,7 @@ impl<'a, T: ArchivePointee> Ref<'a, T> {
         }
     }
 
-    /// The part that it shows.
+    /// The part that it shows: the whole buffer, the position and the length. Our own.
     pub fn part(self) -> Part<'a>
         ensures buffer { result.bytes.now ≡ self.entry.bytes.now }
         ensures position { result.pos ≡ self.entry.pos }
