@@ -17,7 +17,7 @@ use Rattle.archive_check.specs.WriterState.{KeyStates, WriterState, Pads}
 use Rattle.archive_check.proofs.JoinedTours.{tour_append}
 use Rattle.archive_check.proofs.StandingBytes.{stands_fits, stands_zero, zero_nowhere, stands_begun}
 use Rattle.archive_check.proofs.Tightness.{tight_append, clean_regions_append}
-use Rattle.archive_core.specs.Writing.{NameMap, Naming, AreNamed, World, Holds, Known, Unseen, Found, Appends, Finishes, AreFinished, AllFinished, Writes, WritesAll, Puts, LaysOut, to_pointee}
+use Rattle.archive_core.specs.Writing.{NameMap, Naming, AreNamed, World, Covers, Known, Unseen, Found, Appends, Finishes, AreFinished, AllFinished, Writes, WritesAll, Puts, LaysOut, to_pointee}
 
 -- the layout, in a schema that knows the definitions
 
@@ -45,7 +45,7 @@ named_right names (k ∷ ks) ls h = named_right names ks ls h.1
 
 -- a world that holds what is written later holds what was written before
 pub holds_before : (w : World) (D : Definitions) (mid new added : List ℕ) (s t : KeyStates) (ks : List Naming)
-    → new ≡ mid ++ added → ((k : ℕ) (x : Option ℕ) → s k ≡ Some x → t k ≡ Some x) → Holds w D new t ks → Holds w D mid s ks
+    → new ≡ mid ++ added → ((k : ℕ) (x : Option ℕ) → s k ≡ Some x → t k ≡ Some x) → Covers w D new t ks → Covers w D mid s ks
 holds_before w D mid new added s t ks e kept h = record {
   knows = h.knows;
   rest = added ++ h.rest;
@@ -54,10 +54,10 @@ holds_before w D mid new added s t ks e kept h = record {
   named = h.named;
 }
 
-pub holds_left : (w : World) (D E : Definitions) (new : List ℕ) (t : KeyStates) (ks ls : List Naming) → Holds w (both D E) new t (ks ++ ls) → Holds w D new t ks
+pub holds_left : (w : World) (D E : Definitions) (new : List ℕ) (t : KeyStates) (ks ls : List Naming) → Covers w (both D E) new t (ks ++ ls) → Covers w D new t ks
 holds_left w D E new t ks ls h = record { knows = knows_left _ D E h.knows; rest = h.rest; begins = h.begins; placed = h.placed; named = named_left _ ks ls h.named }
 
-pub holds_right : (w : World) (D E : Definitions) (new : List ℕ) (t : KeyStates) (ks ls : List Naming) → Holds w (both D E) new t (ks ++ ls) → Holds w E new t ls
+pub holds_right : (w : World) (D E : Definitions) (new : List ℕ) (t : KeyStates) (ks ls : List Naming) → Covers w (both D E) new t (ks ++ ls) → Covers w E new t ls
 holds_right w D E new t ks ls h = record { knows = knows_right _ D E h.knows; rest = h.rest; begins = h.begins; placed = h.placed; named = named_right _ ks ls h.named }
 
 -- states
@@ -211,7 +211,7 @@ pub writes_cons : (D E : Definitions) (old mid new : WriterState) (ks ls : List 
 writes_cons D E old mid new ks ls v x vs xs h i =
     let le : length old.bytes ≤ length mid.bytes = longer _ _ _ h.grown in
     let ge : length mid.bytes ≤ length new.bytes = longer _ _ _ i.grown in
-    let early : (w : World) → Holds w (both D E) new.bytes new.states (ks ++ ls) → Holds w D mid.bytes mid.states ks
+    let early : (w : World) → Covers w (both D E) new.bytes new.states (ks ++ ls) → Covers w D mid.bytes mid.states ks
     = λ w n. holds_before w D _ _ _ _ _ ks i.grown i.states.kept (holds_left w D E _ _ ks ls n) in
     record {
       added = h.added ++ i.added;
@@ -235,13 +235,13 @@ writes_laid D old new ks p P n x h =
     let le : length old.bytes ≤ length h.mid.bytes = longer _ _ _ m.grown in
     let ge : length h.mid.bytes ≤ length new.bytes = longer _ _ _ h.grown in
     let ends : length new.bytes ≡ p + length h.region = omega (arith, ap length h.grown, length-append h.mid.bytes (h.zeros ++ h.region), length-append h.zeros h.region, h.at) in
-    let early : (w : World) → Holds w D new.bytes new.states ks → Holds w D h.mid.bytes h.mid.states ks
+    let early : (w : World) → Covers w D new.bytes new.states ks → Covers w D h.mid.bytes h.mid.states ks
     = λ w k. holds_before w D _ _ _ _ _ ks h.grown (λ key y is. rw h.states is) k in
-    let begins : (w : World) → Holds w D new.bytes new.states ks → w.bytes ≡ (h.mid.bytes ++ h.zeros) ++ (h.region ++ _)
+    let begins : (w : World) → Covers w D new.bytes new.states ks → w.bytes ≡ (h.mid.bytes ++ h.zeros) ++ (h.region ++ _)
     = λ w k. k.begins ∙ ap (λ z. z ++ k.rest) (h.grown ∙ sym (append_assoc h.mid.bytes h.zeros h.region)) ∙ append_assoc (h.mid.bytes ++ h.zeros) h.region k.rest in
-    let stands : (w : World) → Holds w D new.bytes new.states ks → Occurs w.bytes p h.region
+    let stands : (w : World) → Covers w D new.bytes new.states ks → Occurs w.bytes p h.region
     = λ w k. record { before = h.mid.bytes ++ h.zeros; behind = k.rest; is = begins w k; at = length-append h.mid.bytes h.zeros ∙ sym h.at } in
-    let leads : (w : World) → Holds w D new.bytes new.states ks → Leads w.schema w.bytes (to_pointee p P n) p h.flat
+    let leads : (w : World) → Covers w D new.bytes new.states ks → Leads w.schema w.bytes (to_pointee p P n) p h.flat
     = λ w k. record { target = refl; fits = omega (arith, h.sized w.schema k.knows, stands_fits _ _ _ (stands w k)); contents = h.contents w.schema w.bytes k.knows (stands w k) } in
     record {
       added = m.added ++ (h.zeros ++ h.region);

@@ -16,7 +16,7 @@ use Rattle.archive_check.proofs.StandingBytes.{stands_fits, stands_zero, stands_
 use Rattle.archive_check.proofs.Tightness.{tight_append, clean_regions_append}
 use Rattle.archive_check.proofs.Elements.{contains_cases, contains_later}
 use Rattle.archive_check.proofs.Seen.{same_some, inserted_has, inserted_apart}
-use Rattle.archive_core.specs.Writing.{Naming, World, Holds, Known, Unseen, Found, Appends, Finishes, AreFinished, Writes, LaysOutShared, to_shared}
+use Rattle.archive_core.specs.Writing.{Naming, World, Covers, Known, Unseen, Found, Appends, Finishes, AreFinished, Writes, LaysOutShared, to_shared}
 use Rattle.archive_core.proofs.KeyStates.{set_here, set_other}
 use Rattle.archive_core.proofs.Appending.{longer, finishes_nothing, finishes_wider}
 use Rattle.archive_core.proofs.Denoting.{one_value, one_entry}
@@ -183,7 +183,7 @@ writes_shared_new D old mid new ks x P n flavor t key tail s more tailz taill sa
     let pending_mid : m.states key ≡ Some None = o.states.kept key None (set_here old.states s.begun key (Some None) s.begins) in
     let kept_finished : (k q : ℕ) → m.states k ≡ Some (Some q) → new.states k ≡ Some (Some q)
     = finished_middle (length old.bytes) (length m.bytes) (length new.bytes) t key old.states s.begun m.states m.states new.states s.unknown s.begins o.states refl finish le lower inside in
-    let early : (w : World) → Holds w D new.bytes new.states ((key, (e, x)) ∷ ks) → Holds w D m.bytes m.states ks
+    let early : (w : World) → Covers w D new.bytes new.states ((key, (e, x)) ∷ ks) → Covers w D m.bytes m.states ks
     = λ w k. record {
       knows = k.knows;
       rest = ((h.zeros ++ h.region) ++ tail) ++ k.rest;
@@ -191,12 +191,12 @@ writes_shared_new D old mid new ks x P n flavor t key tail s more tailz taill sa
       placed = λ l q is. k.placed l q (kept_finished l q is);
       named = k.named.1;
     } in
-    let apart : (w : World) → (k : Holds w D new.bytes new.states ((key, (e, x)) ∷ ks)) → w.bytes ≡ (m.bytes ++ h.zeros) ++ (h.region ++ (tail ++ k.rest))
+    let apart : (w : World) → (k : Covers w D new.bytes new.states ((key, (e, x)) ∷ ks)) → w.bytes ≡ (m.bytes ++ h.zeros) ++ (h.region ++ (tail ++ k.rest))
     = λ w k. k.begins ∙ ap (λ z. z ++ k.rest) (more ∙ ap (λ z. z ++ tail) (h.grown ∙ sym (append_assoc m.bytes h.zeros h.region))) ∙ append_assoc (((m.bytes ++ h.zeros) ++ h.region)) tail k.rest
     ∙ append_assoc (m.bytes ++ h.zeros) h.region (tail ++ k.rest) in
-    let stands : (w : World) → Holds w D new.bytes new.states ((key, (e, x)) ∷ ks) → Occurs w.bytes t h.region
+    let stands : (w : World) → Covers w D new.bytes new.states ((key, (e, x)) ∷ ks) → Occurs w.bytes t h.region
     = λ w k. record { before = m.bytes ++ h.zeros; behind = tail ++ k.rest; is = apart w k; at = length-append m.bytes h.zeros ∙ sym h.at } in
-    let leads : (w : World) → Holds w D new.bytes new.states ((key, (e, x)) ∷ ks) → Leads w.schema w.bytes (to_shared t flavor P n) t v
+    let leads : (w : World) → Covers w D new.bytes new.states ((key, (e, x)) ∷ ks) → Leads w.schema w.bytes (to_shared t flavor P n) t v
     = λ w k. record { target = refl; fits = omega (arith, h.sized w.schema k.knows, stands_fits _ _ _ (stands w k)); contents = h.contents w.schema w.bytes k.knows (stands w k) } in
     record {
       added = o.added ++ ((h.zeros ++ h.region) ++ tail);

@@ -22,7 +22,7 @@ use Rattle.archive_check.proofs.StandingBytes.{stands_zero, zero_nowhere, stands
 use Rattle.archive_check.proofs.CleanRegions.{regions_clean}
 use Rattle.archive_check.proofs.Tightness.{tight_append, clean_regions_append, ArePositive, positive_append, sized_append, tour_positive, tour_sized, rising_lower, tight_rises}
 use Rattle.archive_check.proofs.AcceptedWalks.{reads_of}
-use Rattle.archive_core.specs.Writing.{Naming, IsKeyed, World, Holds, Known as KnownKeys, Unseen, Found, Appends, LaysOut, Archives}
+use Rattle.archive_core.specs.Writing.{Naming, IsKeyed, World, Covers, Known as KnownKeys, Unseen, Found, Appends, LaysOut, Archives}
 use Rattle.archive_core.proofs.Denoting.{InTheEnd, same_in_the_end, rename_plain}
 
 abbrev position_in : Option (Option ℕ) → ℕ
@@ -45,7 +45,7 @@ archives D old new ks x X size root fresh keyed h end =
       archived = λ s names knows keys. (
           let position : ℕ → ℕ = λ k. position_in (mid.states k) in
           let w : World = record { schema = s; bytes = new.bytes; position = position; names = names } in
-          let holds : Holds w D mid.bytes mid.states ks = record { knows = knows; rest = h.zeros ++ h.region; begins = h.grown; placed = λ k t is. ap position_in is; named = keys.named } in
+          let holds : Covers w D mid.bytes mid.states ks = record { knows = knows; rest = h.zeros ++ h.region; begins = h.grown; placed = λ k t is. ap position_in is; named = keys.named } in
           let known : KnownKeys w old.states (length old.bytes) empty [] = record { typed = λ k t e y is names. (let no = fresh k in cc); inner = λ k t e y is names. (let no = fresh k in cc); closed = λ k t is. (let no = fresh k in cc); below = λ k t is. (let no = fresh k in cc); opened = λ t is. absurd (omega (arith, is.1)) } in
           let unseen : Unseen empty (length old.bytes) (length mid.bytes) = record { unseen = λ t a b. get-empty {X = Entry} nat_cmp t } in
           let first : Appends w (length old.bytes) (length mid.bytes) mid.states [] empty (pointers v) = o.appends w [] empty holds known unseen in

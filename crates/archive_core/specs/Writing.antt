@@ -55,7 +55,7 @@ pub record World : Type 0 where
   pub names : NameMap
 
 -- the world knows these definitions, begins with these bytes, and puts each finished key where the states have it
-pub record Holds (w : World) (definitions : Definitions) (told : List ℕ) (states : KeyStates) (keys : List Naming) : Type 0 where
+pub record Covers (w : World) (definitions : Definitions) (told : List ℕ) (states : KeyStates) (keys : List Naming) : Type 0 where
   pub knows : Knows w.schema definitions
   pub rest : List ℕ
   pub begins : w.bytes ≡ told ++ rest
@@ -116,10 +116,10 @@ pub record Writes (definitions : Definitions) (old new : WriterState) (keys : Li
   pub grown : new.bytes ≡ old.bytes ++ added
   pub states : Finishes (length old.bytes) (length new.bytes) old.states new.states
   pub finished : AreFinished new.states value
-  pub appends : (w : World) (pending : List ℕ) (seen : Seen) → Holds w definitions new.bytes new.states keys
+  pub appends : (w : World) (pending : List ℕ) (seen : Seen) → Covers w definitions new.bytes new.states keys
       → Known w old.states (length old.bytes) seen pending → Unseen seen (length old.bytes) (length new.bytes)
       → Appends w (length old.bytes) (length new.bytes) new.states pending seen (pointers flat)
-  pub fills : (w : World) → Holds w definitions new.bytes new.states keys → Fills w.schema w.bytes flat (rename w.position value)
+  pub fills : (w : World) → Covers w definitions new.bytes new.states keys → Fills w.schema w.bytes flat (rename w.position value)
 
 -- the same for values one after another
 pub record WritesAll (definitions : Definitions) (old new : WriterState) (keys : List Naming) (flats values : Values) : Type 0 where
@@ -127,10 +127,10 @@ pub record WritesAll (definitions : Definitions) (old new : WriterState) (keys :
   pub grown : new.bytes ≡ old.bytes ++ added
   pub states : Finishes (length old.bytes) (length new.bytes) old.states new.states
   pub finished : AllFinished new.states values
-  pub appends : (w : World) (pending : List ℕ) (seen : Seen) → Holds w definitions new.bytes new.states keys
+  pub appends : (w : World) (pending : List ℕ) (seen : Seen) → Covers w definitions new.bytes new.states keys
       → Known w old.states (length old.bytes) seen pending → Unseen seen (length old.bytes) (length new.bytes)
       → Appends w (length old.bytes) (length new.bytes) new.states pending seen (all_pointers flats)
-  pub fills : (w : World) → Holds w definitions new.bytes new.states keys → FillsAll w.schema w.bytes flats (rename_all w.position values)
+  pub fills : (w : World) → Covers w definitions new.bytes new.states keys → FillsAll w.schema w.bytes flats (rename_all w.position values)
 
 -- these bytes, at p, are clean and read as the value, with its pointers
 pub record Resolves (definitions : Definitions) (p : ℕ) (a : List ℕ) (X : Shape) (flat : Value) : Type 0 where

@@ -21,7 +21,7 @@ mod kept;
 
 use crate::ser::{Serializer, Writer, serialize_one, serialize_with};
 use crate::traits::{Archive, Deserialize, Entries, Keys, Portable, Serialize};
-use crate::view::{Part, Ref};
+use crate::view::{RawView, Ref};
 pub use archive_check::context::HighValidator;
 use archive_check::context::{ArchiveContext, SharedContext};
 use archive_check::format::error::Error;
@@ -152,7 +152,7 @@ pub fn access_pos<'a, T: Portable>(
     if let Err(error) = checked {
         return Err(error);
     }
-    Ok(Ref::at(Part { bytes, pos, len: 0 }))
+    Ok(Ref::at(RawView { bytes, pos, len: 0 }))
 }
 
 /// Checks that `bytes` are an archive whose root, a `T`, lies at the end, and answers the root's view. Memory for the schema and the check comes
@@ -184,7 +184,7 @@ pub fn access_pos_with_context<'a, T: Portable, C: ArchiveContext + SharedContex
     if let Err(error) = check_pos_with_context::<T, C>(alloc, bytes, pos, context) {
         return Err(error);
     }
-    Ok(Ref::at(Part { bytes, pos, len: 0 }))
+    Ok(Ref::at(RawView { bytes, pos, len: 0 }))
 }
 
 /// Checks that `bytes` are an archive whose root, a `T`, lies at the end, in a context, and answers the root's view. Asks for a context of these bytes

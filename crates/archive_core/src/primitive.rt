@@ -18,7 +18,7 @@ ghost use Rattle.archive_write.specs.Written.{GoesOn};
 
 use crate::place::Place;
 use crate::traits::{Archive, Deserialize, Entries, Keys, Portable, Serialize};
-use crate::view::{Part, Ref};
+use crate::view::{RawView, Ref};
 use archive_check::format::error::Error;
 pub use archive_nonzero::{
     ArchivedNonZeroI8, ArchivedNonZeroI16, ArchivedNonZeroI32, ArchivedNonZeroI64,
@@ -159,7 +159,11 @@ impl<N: Native, S: Writer + Keys> Serialize<S> for LittleEndian<N> {
 }
 
 impl<N: Source, D: Entries> Deserialize<N, D> for LittleEndian<N> {
-    fn deserialize_part(_alloc: Global, part: Part<'_>, _deserializer: &mut D) -> Result<N, Error>
+    fn deserialize_part(
+        _alloc: Global,
+        part: RawView<'_>,
+        _deserializer: &mut D,
+    ) -> Result<N, Error>
         requires { Viewed no_definition part.bytes.now part.pos (one (leaf N.kind)) part.len }
         ensures read { IfOk result (λ n. ReadsBack no_definition part.entry.bytes.now part.entry.pos (one (leaf N.kind)) part.entry.len
             (D.entry_of _deserializer.old) (D.entry_of _deserializer.new) (number (N.value_of n)) []) }
@@ -175,7 +179,7 @@ impl<N: Source, D: Entries> Deserialize<N, D> for LittleEndian<N> {
 impl<N: Native, D: Entries> Deserialize<LittleEndian<N>, D> for LittleEndian<N> {
     fn deserialize_part(
         _alloc: Global,
-        part: Part<'_>,
+        part: RawView<'_>,
         _deserializer: &mut D,
     ) -> Result<LittleEndian<N>, Error>
         requires { Viewed no_definition part.bytes.now part.pos (one (leaf N.kind)) part.len }
@@ -191,7 +195,11 @@ impl<N: Native, D: Entries> Deserialize<LittleEndian<N>, D> for LittleEndian<N> 
 }
 
 impl<N: Plain, D: Entries> Deserialize<N, D> for N {
-    fn deserialize_part(_alloc: Global, part: Part<'_>, _deserializer: &mut D) -> Result<N, Error>
+    fn deserialize_part(
+        _alloc: Global,
+        part: RawView<'_>,
+        _deserializer: &mut D,
+    ) -> Result<N, Error>
         requires { Viewed N.definitions part.bytes.now part.pos N.pointee part.len }
         ensures read { IfOk result (λ n. ReadsBack N.definitions part.entry.bytes.now part.entry.pos N.pointee part.entry.len
             (D.entry_of _deserializer.old) (D.entry_of _deserializer.new) (number (N.value_of n)) []) }

@@ -32,7 +32,7 @@ use crate::traits::{
     Archive, ArchivePointee, ArchiveUnsized, Deserialize, DeserializeUnsized, Entries, Keys,
     Portable, Serialize, SerializeUnsized,
 };
-use crate::view::{Part, Ref};
+use crate::view::{RawView, Ref};
 use archive_check::format::bytes::{
     inline_length, is_out_of_line, read_coded_length, read_target, read_text,
 };
@@ -184,7 +184,7 @@ impl<'a, S: Writer + Keys> SerializeUnsized<S> for Text<'a> {
 impl<D: Entries> DeserializeUnsized<String, D> for ArchivedStr {
     fn deserialize_unsized_part(
         alloc: Global,
-        part: Part<'_>,
+        part: RawView<'_>,
         _deserializer: &mut D,
     ) -> Result<String, Error>
         requires { Viewed no_definition part.bytes.now part.pos text part.len }
@@ -317,7 +317,7 @@ impl<S: Writer + Keys> Serialize<S> for String {
 impl<D: Entries> Deserialize<String, D> for ArchivedString {
     fn deserialize_part(
         alloc: Global,
-        part: Part<'_>,
+        part: RawView<'_>,
         _deserializer: &mut D,
     ) -> Result<String, Error>
         requires { Viewed no_definition part.bytes.now part.pos (one str_shape) part.len }
@@ -338,7 +338,7 @@ impl<'a> Ref<'a, ArchivedStr> {
         ensures text { result.now ≡ bytes_at self.entry.bytes.now self.entry.pos self.entry.len }
         ensures says { Says no_definition self.entry.bytes.now self.entry.pos text self.entry.len (text_value result.now) }
     {
-        let Part { bytes, pos, len } = self.part();
+        let RawView { bytes, pos, len } = self.part();
         read_text(bytes, pos, len)
     }
 
@@ -356,7 +356,7 @@ impl<'a> Ref<'a, ArchivedString> {
         ensures text { result.now ≡ string_text self.entry.bytes.now self.entry.pos }
         ensures says { Says no_definition self.entry.bytes.now self.entry.pos (one str_shape) self.entry.len (text_value result.now) }
     {
-        let Part { bytes, pos, .. } = self.part();
+        let RawView { bytes, pos, .. } = self.part();
         if is_out_of_line(bytes, pos) {
             return read_text(
                 bytes,

@@ -11,9 +11,11 @@ ghost use Rattle.archive_core.specs.Writing.{Naming, IsKeyed, Fresh, Resolves};
 ghost use Rattle.archive_write.specs.Written.{GoesOn};
 
 use crate::place::Place;
-use crate::view::{Part, Ref};
+use crate::view::{RawView, Ref};
 use archive_check::format::error::Error;
-pub use archive_check::format::traits::{ArchivePointee, Entries, Keys, Portable};
+pub use archive_check::format::traits::{
+    ArchivePointee, Entries, Keys, LayoutRaw, Portable, layout_of_run,
+};
 use archive_write::ser::Writer;
 use std::alloc::Global;
 
@@ -84,7 +86,7 @@ pub trait Serialize<S: Writer + Keys>: Archive {
 pub trait Deserialize<T: Archive, D: Entries>: ArchivePointee {
     /// What implements this trait writes this call, over the part of a view, and callers use `deserialize`. Asks for what a view promises of the part.
     /// Our own.
-    fn deserialize_part(alloc: Global, part: Part<'_>, deserializer: &mut D) -> Result<T, Error>
+    fn deserialize_part(alloc: Global, part: RawView<'_>, deserializer: &mut D) -> Result<T, Error>
         requires { Viewed Self.definitions part.bytes.now part.pos Self.pointee part.len }
         ensures read { IfOk result (λ t. ReadsBack Self.definitions part.entry.bytes.now part.entry.pos Self.pointee part.entry.len
             (D.entry_of deserializer.old) (D.entry_of deserializer.new) (T.meaning t) (T.keys t)) }
@@ -154,7 +156,7 @@ pub trait DeserializeUnsized<T: Archive, D: Entries>: ArchivePointee {
     /// the part. Our own.
     fn deserialize_unsized_part(
         alloc: Global,
-        part: Part<'_>,
+        part: RawView<'_>,
         deserializer: &mut D,
     ) -> Result<T, Error>
         requires { Viewed Self.definitions part.bytes.now part.pos Self.pointee part.len }

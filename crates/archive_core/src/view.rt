@@ -40,7 +40,7 @@ impl<'a, T: ArchivePointee> Copy for Ref<'a, T> {}
 
 /// Bytes, a position in them and a length, of which nothing is known: a view without its promise.
 #[derive(Clone, Copy, Debug)]
-pub struct Part<'a> {
+pub struct RawView<'a> {
     /// The whole buffer.
     pub bytes: &'a [u8],
     /// Where the part begins, in bytes from the buffer's first one.
@@ -59,7 +59,7 @@ impl<'a, T: ArchivePointee> Ref<'a, T> {
 
     /// The view of a part. Asks that the part lies in a buffer that was checked: it is a region of an accepted archive, or lies in one. The calls of
     /// `api` answer the root's view, so only what implements `Deserialize` needs this one. Our own.
-    pub fn at(part: Part<'a>) -> Ref<'a, T>
+    pub fn at(part: RawView<'a>) -> Ref<'a, T>
         requires { Viewed T.definitions part.bytes.now part.pos T.pointee part.len }
         ensures buffer { result.bytes.now ≡ part.entry.bytes.now }
         ensures position { result.pos ≡ part.entry.pos }
@@ -74,13 +74,13 @@ impl<'a, T: ArchivePointee> Ref<'a, T> {
     }
 
     /// The part that it shows: the whole buffer, the position and the length. Our own.
-    pub fn part(self) -> Part<'a>
+    pub fn part(self) -> RawView<'a>
         ensures buffer { result.bytes.now ≡ self.entry.bytes.now }
         ensures position { result.pos ≡ self.entry.pos }
         ensures length { result.len ≡ self.entry.len }
         ensures viewed { Viewed T.definitions result.bytes.now result.pos T.pointee result.len }
     {
-        Part {
+        RawView {
             bytes: self.bytes,
             pos: self.pos,
             len: self.len,
@@ -89,11 +89,11 @@ impl<'a, T: ArchivePointee> Ref<'a, T> {
 }
 
 // The value in the bytes of a leaf.
-fn read_leaf<N: Native>(part: Part<'_>) -> N
+fn read_leaf<N: Native>(part: RawView<'_>) -> N
     requires { ∥ Readable part.bytes.now part.pos (one (leaf N.kind)) part.len ∥₁ }
     ensures { result ≡ N.number_of (bytes_at part.entry.bytes.now part.entry.pos N.byte_count) }
 {
-    let Part { bytes, pos, .. } = part;
+    let RawView { bytes, pos, .. } = part;
     N::read_from(&bytes[pos..pos + N::byte_count()])
 }
 

@@ -11,7 +11,7 @@ ghost use Rattle.archive_check.specs.Schemas.{IsSchemaOf, ExplainsNoSchema};
 ghost use Rattle.archive_check.specs.Unshared.{IsNeverOpen};
 
 use crate::traits::{Archive, Deserialize, Entries, Portable};
-use crate::view::{Part, Ref};
+use crate::view::{RawView, Ref};
 use archive_check::context::{ArchiveContext, HighValidator, SharedContext};
 use archive_check::format::error::Error;
 use archive_check::self_check::{SelfCheck, check_root};
@@ -85,7 +85,7 @@ impl<T: Portable> Access<T> {
         if let Err(error) = self.check_pos_with_context(bytes, pos, &mut context) {
             return Err(error);
         }
-        Ok(Ref::at(Part { bytes, pos, len: 0 }))
+        Ok(Ref::at(RawView { bytes, pos, len: 0 }))
     }
 
     /// Checks that `bytes` are an archive whose root lies at the end, and answers the root's view. Refused as by `access_pos`.

@@ -18,7 +18,7 @@ ghost use Rattle.archive_write.specs.Written.{GoesOn};
 use super::write_leaf;
 use crate::place::Place;
 use crate::traits::{Archive, Deserialize, Entries, Keys, Serialize};
-use crate::view::{Part, Ref};
+use crate::view::{RawView, Ref};
 use archive_check::format::error::Error;
 use archive_nonzero::NonZero;
 use archive_num::Integer;
@@ -74,7 +74,7 @@ impl<N: Integer, S: Writer + Keys> Serialize<S> for NonZero<N> {
 impl<N: Integer, D: Entries> Deserialize<NonZero<N>, D> for NonZero<N> {
     fn deserialize_part(
         _alloc: Global,
-        part: Part<'_>,
+        part: RawView<'_>,
         _deserializer: &mut D,
     ) -> Result<NonZero<N>, Error>
         requires { Viewed no_definition part.bytes.now part.pos (one (leaf (non_zero N.sign N.width))) part.len }

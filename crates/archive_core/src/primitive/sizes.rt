@@ -20,7 +20,7 @@ ghost use Rattle.archive_write.specs.Written.{GoesOn};
 
 use crate::place::Place;
 use crate::traits::{Archive, Deserialize, Entries, Keys, Serialize};
-use crate::view::{Part, Ref};
+use crate::view::{RawView, Ref};
 use archive_check::format::error::Error;
 use archive_num::{ArchivedIsize, ArchivedUsize, FixedIsize, FixedUsize, Native};
 use archive_write::ser::Writer;
@@ -80,7 +80,7 @@ impl<S: Writer + Keys> Serialize<S> for usize {
 impl<D: Entries> Deserialize<usize, D> for ArchivedUsize {
     fn deserialize_part(
         _alloc: Global,
-        part: Part<'_>,
+        part: RawView<'_>,
         _deserializer: &mut D,
     ) -> Result<usize, Error>
         requires { Viewed no_definition part.bytes.now part.pos (one (leaf (number unsigned w32))) part.len }
@@ -149,7 +149,7 @@ impl<S: Writer + Keys> Serialize<S> for isize {
 impl<D: Entries> Deserialize<isize, D> for ArchivedIsize {
     fn deserialize_part(
         _alloc: Global,
-        part: Part<'_>,
+        part: RawView<'_>,
         _deserializer: &mut D,
     ) -> Result<isize, Error>
         requires { Viewed no_definition part.bytes.now part.pos (one (leaf (number signed w32))) part.len }

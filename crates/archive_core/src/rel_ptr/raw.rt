@@ -15,7 +15,7 @@ ghost use Rattle.archive_core.specs.Offsets.{distance, Fits, IsBeyond, offset_by
 use super::offset::{Offset, OffsetNumber};
 use super::signed_offset;
 use crate::place::Place;
-use crate::view::{Part, Ref};
+use crate::view::{RawView, Ref};
 use archive_check::context::ArchiveContext;
 use archive_check::format::error::Error;
 use archive_check::format::expr::{Defs, Expr, Kind};
@@ -193,7 +193,7 @@ impl<'a, O: Offset> Ref<'a, RawRelPtr<O>> {
     pub fn offset(self) -> isize
         ensures { result ≡ offset_at O.Number.sign O.Number.width self.entry.bytes.now self.entry.pos }
     {
-        let Part { bytes, pos, .. } = self.part();
+        let RawView { bytes, pos, .. } = self.part();
         read_offset::<O::Number>(bytes, pos)
     }
 

@@ -19,7 +19,7 @@ use super::offset::{Offset, OffsetNumber};
 use super::raw::{raw_kind, read_offset, write_offset};
 use super::signed_offset;
 use crate::place::Place;
-use crate::view::{Part, Ref};
+use crate::view::{RawView, Ref};
 use archive_check::format::bytes::read_u32;
 use archive_check::format::error::Error;
 use archive_check::format::expr::{Defs, Expr, IntegerKind, Kind};
@@ -268,7 +268,7 @@ where
     pub fn offset(self) -> isize
         ensures { result ≡ offset_at O.Number.sign O.Number.width self.entry.bytes.now self.entry.pos }
     {
-        let Part { bytes, pos, .. } = self.part();
+        let RawView { bytes, pos, .. } = self.part();
         read_offset::<O::Number>(bytes, pos)
     }
 
@@ -286,7 +286,7 @@ where
         if !T::ArchivedMetadata::is_length() {
             return T::ArchivedMetadata::from_length(0);
         }
-        let Part { bytes, pos, .. } = self.part();
+        let RawView { bytes, pos, .. } = self.part();
         T::ArchivedMetadata::from_length(read_u32(bytes, pos + length_begin::<O::Number>()))
     }
 

@@ -7,7 +7,7 @@ use archive_core::primitive::ArchivedUsize;
 use archive_core::ser::{Positional, Serializer};
 use archive_core::string::{ArchivedStr, ArchivedString, Text, repr};
 use archive_core::traits::{ArchivePointee, ArchiveUnsized, DeserializeUnsized, SerializeUnsized};
-use archive_core::view::{Part, Ref};
+use archive_core::view::{RawView, Ref};
 use std::test::Fail;
 
 #[test]
@@ -97,7 +97,7 @@ fn a_text_of_its_own_is_read(rt: HostRuntime) -> Result<(), Fail> {
     let bytes = b"hello world\0\x8b\0\0\0\xf4\xff\xff\xff";
     let string = access_pos::<ArchivedString>(rt.alloc(), bytes, 12)?;
     assert_eq!(rt; string.as_str(), "hello world");
-    let view: Ref<'_, ArchivedStr> = Ref::at(Part {
+    let view: Ref<'_, ArchivedStr> = Ref::at(RawView {
         bytes,
         pos: 0,
         len: 11,
