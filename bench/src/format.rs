@@ -99,7 +99,7 @@ impl Operation {
             Operation::WriteNew => "Write a value into new memory",
             Operation::WriteReused => "Write a value into memory that is used again",
             Operation::Check => "Check bytes for access where they lie (archive-core: with a schema that is kept)",
-            Operation::Access => "Check bytes for access where they lie (archive-core: with a schema made for the call)",
+            Operation::Access => "Check bytes for access where they lie (archive-core: by access)",
             Operation::Read => "Check bytes and read the value back",
         }
     }
