@@ -3,3 +3,4 @@ pub mod Ways
 pub mod Laws
 pub mod Orders
 pub mod Regions
+pub mod Owners

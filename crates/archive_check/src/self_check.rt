@@ -24,7 +24,7 @@ pub use elements::VecCheck;
 pub use leaves::check_leaf;
 pub use parts::{CheckedParts, RecordCheck};
 pub use roots::check_root;
-pub use texts::StringCheck;
+pub use texts::{BoxStrCheck, StringCheck};
 pub use values::BoxCheck;
 pub use variants::{CheckedVariants, check_choice};
 

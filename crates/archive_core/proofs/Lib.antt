@@ -19,3 +19,4 @@ pub mod KeyStates
 pub mod ShortTexts
 pub mod Pointers
 pub mod Records
+pub mod Owned

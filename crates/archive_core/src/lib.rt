@@ -2,13 +2,16 @@
 #![tactic(auto)]
 
 pub mod api;
+pub mod boxed;
 pub mod place;
 pub mod primitive;
 pub mod rel_ptr;
 pub mod ser;
 pub mod sharing;
+pub mod slice;
 pub mod string;
 pub mod traits;
+pub mod vec;
 pub mod view;
 
 pub use archive_check::format::error;

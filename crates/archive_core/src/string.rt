@@ -3,10 +3,11 @@
 ghost use Rattle.std.specs.Prelude.{◌≡◌, ◌++◌, ◌<◌, ◌≤◌, ℕ, [], OnOk, IfOk, IfErr, IsOk, IsErrOf, FitsSigned, length, refl, string_bytes};
 ghost use Rattle.std.specs.Int.{w32};
 ghost use Rattle.std.proofs.Common.{inl, inr};
-ghost use Rattle.archive_check.specs.Shape.{str as str_shape, one, text};
+ghost use Rattle.archive_check.specs.Shape.{str as str_shape, boxed, one, text};
 ghost use Rattle.archive_check.specs.Definitions.{no_definition};
 ghost use Rattle.archive_check.specs.LeafLayout.{no_definition_reached};
 ghost use Rattle.archive_check.specs.SelfCheck.Laws.{plain_check};
+ghost use Rattle.archive_check.specs.SelfCheck.Owners.{text_check};
 ghost use Rattle.archive_check.specs.Reads.{bytes_at};
 ghost use Rattle.archive_check.specs.Readable.{string_text};
 ghost use Rattle.archive_check.specs.Value.{text_value};
@@ -30,15 +31,16 @@ use crate::place::Place;
 use crate::primitive::ArchivedUsize;
 use crate::traits::{
     Archive, ArchivePointee, ArchiveUnsized, Deserialize, DeserializeUnsized, Entries, Keys,
-    Portable, Serialize, SerializeUnsized,
+    LayoutRaw, Portable, PortablePointee, Serialize, SerializeUnsized,
 };
 use crate::view::{RawView, Ref};
 use archive_check::format::bytes::{
     inline_length, is_out_of_line, read_coded_length, read_target, read_text,
 };
 use archive_check::format::error::Error;
-use archive_check::self_check::StringCheck;
-use archive_check::shape::{Defs, Expr};
+use archive_check::format::layout::Layout;
+use archive_check::self_check::{BoxStrCheck, StringCheck};
+use archive_check::shape::{Defs, Expr, Pointee};
 use archive_write::ser::Writer;
 use std::alloc::Global;
 use std::marker::Model;
@@ -136,6 +138,35 @@ impl ArchivePointee for ArchivedStr {
 
     fn pointer_metadata(metadata: &ArchivedUsize) -> usize {
         metadata.to_native() as usize
+    }
+}
+
+impl PortablePointee for ArchivedStr {
+    type BoxCheck = BoxStrCheck;
+
+    ghost box_reaches = { no_definition_reached (boxed text) };
+
+    ghost box_checks = { λ direct. text_check };
+
+    fn has_length() -> bool {
+        true
+    }
+
+    fn pointee_expr(_alloc: Global) -> Result<Pointee, Error> {
+        Ok(Pointee::Text)
+    }
+
+    fn define_pointee(_alloc: Global, _defs: &mut Defs) -> Result<(), Error> {
+        Ok(())
+    }
+}
+
+impl LayoutRaw for ArchivedStr {
+    fn layout_raw(length: usize) -> Result<Layout, Error> {
+        Ok(Layout {
+            size: length,
+            align: 1,
+        })
     }
 }
 

@@ -14,7 +14,7 @@ use crate::place::Place;
 use crate::view::{RawView, Ref};
 use archive_check::format::error::Error;
 pub use archive_check::format::traits::{
-    ArchivePointee, Entries, Keys, LayoutRaw, Portable, layout_of_run,
+    ArchivePointee, Entries, Keys, LayoutRaw, Portable, PortablePointee, layout_of_run,
 };
 use archive_write::ser::Writer;
 use std::alloc::Global;

@@ -34,7 +34,7 @@ pub record IsCheckOf (D : Definitions) (X : Shape) (size : ℕ) (E : Definitions
 pub by_schema : {A : Type 0} → IsTrue false → A
 by_schema says = absurd (true≢false (sym says))
 
-no_more : (n : ℕ) → nat_le n n ≡ true
+pub no_more : (n : ℕ) → nat_le n n ≡ true
 no_more n = grind (arith, nat_tests)
 
 -- the check of a type's own shape

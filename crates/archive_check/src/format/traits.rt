@@ -19,8 +19,10 @@ use std::alloc::{Allocator, Global};
 
 mod layouts;
 mod leaves;
+mod pointees;
 
 pub use layouts::{LayoutRaw, layout_of_run};
+pub use pointees::PortablePointee;
 
 /// What a pointer may lead to: an archived value, a slice or a text. As in rkyv 0.8.18, with a length in place of a pointer's metadata.
 pub trait ArchivePointee {

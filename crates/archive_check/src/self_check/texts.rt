@@ -1,7 +1,7 @@
 // Texts and strings.
 
 ghost use Rattle.std.specs.Prelude.{◌≡◌, ◌≤◌, length, OnSome, IfNone, None, true};
-ghost use Rattle.archive_check.specs.Shape.{text, str};
+ghost use Rattle.archive_check.specs.Shape.{text, str, boxed};
 ghost use Rattle.archive_check.specs.Definitions.{no_definition};
 ghost use Rattle.archive_check.specs.SelfCheck.Ways.{Goes, Halts, enter_way};
 
@@ -10,7 +10,7 @@ use super::refusals::refuse;
 use super::regions::{enter, leave};
 use crate::context::ArchiveContext;
 use crate::format::bytes::{
-    inline_length, is_out_of_line, is_text, read_coded_length, read_position,
+    inline_length, is_out_of_line, is_text, read_coded_length, read_position, read_u32,
 };
 use crate::format::error::Error;
 
@@ -71,5 +71,33 @@ impl SelfCheck for StringCheck {
             return refuse(refusal, Error::InvalidUtf8);
         }
         Some(())
+    }
+}
+
+/// The check of a box with a text: its offset and its length, of four bytes each, and the text that they lead to.
+pub struct BoxStrCheck;
+
+impl SelfCheck for BoxStrCheck {
+    ghost shape = { boxed text };
+
+    ghost definitions = { no_definition };
+
+    ghost span = { 8 };
+
+    ghost direct = { true };
+
+    fn is_direct() -> bool {
+        true
+    }
+
+    #[inline(always)]
+    fn check_at<C: ArchiveContext>(
+        bytes: &[u8],
+        at: usize,
+        refusal: &mut Error,
+        context: &mut C,
+    ) -> Option<()> {
+        let count = read_u32(bytes, at + 4) as usize;
+        check_text(bytes, read_position(bytes, at, at), count, refusal, context)
     }
 }

@@ -1,0 +1,64 @@
+-- The checks of what owns a region, as boxes and vectors do: the laws of their types, from those of what lies there.
+use Rattle.std.specs.Prelude.{◌≡◌, ℕ, Contains, true}
+use Rattle.std.proofs.Common.{refl, ◌∙◌}
+use Rattle.archive_check.specs.Shape.{Name, Shape, boxed, vec, Pointee, one, run, text, Table}
+use Rattle.archive_check.specs.Layout.{pointer_size}
+use Rattle.archive_check.specs.Reads.{Schema}
+use Rattle.archive_check.specs.Walk.{walk_boxed, walk_vec}
+use Rattle.archive_check.specs.Trail.{trips_boxed, trips_vec}
+use Rattle.archive_check.specs.check.Runs.{done, refused}
+use Rattle.archive_check.specs.Defined.{Mentions, mentions_boxed, mentions_vec, mentions_one, mentions_run, Reaches, reaches, reaches_through}
+use Rattle.archive_check.specs.Definitions.{Definitions, no_definition, listed}
+use Rattle.archive_check.specs.SelfCheck.Orders.{IsOrder}
+use Rattle.archive_check.specs.SelfCheck.Laws.{IsCheckOf, Leads, own_check, plain_check, no_more}
+use Rattle.archive_check.specs.plan.Names.{missing}
+
+-- an order of what lies there is one of the owner, which mentions the same names
+owned_order : (D : Definitions) (X Y : Shape) (order : Table) → missing true order Y ≡ missing true order X → IsOrder D X order → IsOrder D Y order
+owned_order D X Y order same o = record { has = o.has; only = o.only; once = o.once; root = same ∙ o.root; closed = o.closed; placed = o.placed }
+
+-- from the law of an X, with definitions E, shape Y and n bytes for its check
+module _ (D : Definitions) (X : Shape) (size : ℕ) (E : Definitions) (Y : Shape) (n : ℕ) where
+  -- a vector of them
+  pub vec_check : IsCheckOf D X size E Y n → IsCheckOf D (vec X) 8 D (vec X) 8
+  vec_check c = own_check D (vec X) 8 c.order refl (owned_order D X (vec X) c.order refl c.ordered)
+
+  -- a box of one
+  pub one_check : (P : Pointee) → P ≡ one X → IsCheckOf D X size E Y n → IsCheckOf D (boxed P) (pointer_size P) D (boxed (one X)) 4
+  one_check P is c = rw is (own_check D (boxed (one X)) 4 c.order refl (owned_order D X (boxed (one X)) c.order refl c.ordered))
+
+  -- what comes of a vector comes of a box of a slice
+  vec_leads : (t : Schema) → Leads t (vec X) (boxed (run X))
+  vec_leads t bytes p pending depth stop start seen (done l k) (walk_vec w) = walk_boxed w
+  vec_leads t bytes p pending depth stop start seen (refused f) (trips_vec w) = trips_boxed w
+
+  -- so it is checked as a vector
+  pub run_check : IsCheckOf D X size E Y n → IsCheckOf D (boxed (run X)) 8 D (vec X) 8
+  run_check c = record {
+    within = no_more 8;
+    small = refl;
+    order = c.order;
+    ordered = owned_order D X (boxed (run X)) c.order refl c.ordered;
+    known = λ t k. k;
+    leads = λ t k. vec_leads t;
+  }
+
+-- a box of a text
+pub text_check : IsCheckOf no_definition (boxed text) 8 no_definition (boxed text) 8
+text_check = plain_check (boxed text) 8 refl refl
+
+-- what one mentions that mentions as much is reached from it
+reaches_more : (table : Table) (name : Name) (X Y : Shape) → ((n : Name) → Mentions n X → Mentions n Y) → Reaches table name X → Reaches table name Y
+reaches_more table name X Y more (reaches m) = reaches (more name m)
+reaches_more table name X Y more (reaches_through {n = n} m d r) = reaches_through (more n m) d r
+
+-- each name of an X, which it reaches, is reached by its owner
+module _ (D : Definitions) (X : Shape) (reached : (name : Name) (Y : Shape) → Contains (listed D) (name, Y) → Reaches (listed D) name X) (name : Name) (Y : Shape) (c : Contains (listed D) (name, Y)) where
+  pub one_reaches : (P : Pointee) → P ≡ one X → Reaches (listed D) name (boxed P)
+  one_reaches P is = rw is (reaches_more (listed D) name X (boxed (one X)) (λ n m. mentions_boxed (mentions_one m)) (reached name Y c))
+
+  pub run_reaches : Reaches (listed D) name (boxed (run X))
+  run_reaches = reaches_more (listed D) name X (boxed (run X)) (λ n m. mentions_boxed (mentions_run m)) (reached name Y c)
+
+  pub vec_reaches : Reaches (listed D) name (vec X)
+  vec_reaches = reaches_more (listed D) name X (vec X) (λ n m. mentions_vec m) (reached name Y c)

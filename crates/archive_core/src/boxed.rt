@@ -1,0 +1,71 @@
+//! Boxes: values, slices and texts in regions of their own.
+
+ghost use Rattle.std.specs.Prelude.{◌≡◌, refl};
+ghost use Rattle.std.proofs.Common.{inl, inr};
+ghost use Rattle.archive_check.specs.Shape.{one, boxed};
+ghost use Rattle.archive_check.specs.Layout.{pointer_size};
+
+use crate::traits::{ArchivePointee, Portable, PortablePointee};
+use archive_check::format::error::Error;
+use archive_check::format::expr::{Defs, Expr};
+use std::alloc::Global;
+use std::marker::PhantomData;
+
+/// An archived box: an offset of four bytes, at a multiple of four, and behind it a length of four where it leads to a slice or a text. As in rkyv
+/// 0.8.18.
+#[derive(Debug)]
+pub struct ArchivedBox<T> {
+    of: PhantomData<T>,
+}
+
+impl<T: ArchivePointee> ArchivePointee for ArchivedBox<T> {
+    type ArchivedMetadata = ();
+
+    ghost pointee = { one (boxed T.pointee) };
+
+    ghost definitions = { T.definitions };
+
+    ghost metadata_length = { λ _. 0 };
+
+    fn pointer_metadata(_metadata: &()) -> usize {
+        0
+    }
+}
+
+impl<T: PortablePointee> Portable for ArchivedBox<T> {
+    ghost shape = { boxed T.pointee };
+
+    ghost layout = { record { size = pointer_size T.pointee; align = 4 } };
+
+    type Check = T::BoxCheck;
+
+    ghost is_one = { refl };
+
+    ghost is_align = { inr (inr (inl refl)) };
+
+    ghost has_layout = { record { solved = λ s k. refl } };
+
+    ghost no_others = { T.box_reaches };
+
+    ghost checks = { T.box_checks };
+
+    #[tactic(auto, using(crate::proofs::Owned::size_by_length))]
+    fn size() -> usize {
+        if T::has_length() {
+            return 8;
+        }
+        4
+    }
+
+    fn align() -> usize {
+        4
+    }
+
+    fn expr(alloc: Global) -> Result<Expr, Error> {
+        Ok(Expr::Box(Box::new(alloc, T::pointee_expr(alloc)?)?))
+    }
+
+    fn define(alloc: Global, defs: &mut Defs) -> Result<(), Error> {
+        T::define_pointee(alloc, defs)
+    }
+}
