@@ -53,3 +53,5 @@ pub mod CleanRegions
 pub mod Tightness
 pub mod UniqueBefore
 pub mod SelfCheck
+pub mod OpenPaths
+pub mod ReadParts

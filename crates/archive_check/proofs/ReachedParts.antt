@@ -89,14 +89,14 @@ module _ (s : Schema) (bytes : List ℕ) where
       closed_region a.regions (root_region s root X) [] (regions_of a) (h.1) (a.value, contents_one a.flat.reads, h.0) (All-nil (Closed (regions_of a)))
 
   -- a part reads, and what it leads to is among these pointers
-  abbrev Sub : ℕ → Shape → List Pointer → Type 0
+  abbrev pub Sub : ℕ → Shape → List Pointer → Type 0
   Sub q Y O = (w : Value) × Reads s bytes q Y w × ((z : Pointer) → Contains (pointers w) z → Contains O z)
 
   part_reads : {p at q : ℕ} {ps : Parts} {vs : Values} {Y : Shape} → IsPart s p at ps q Y → ReadsParts s bytes p at ps vs → Sub q Y (all_pointers vs)
   part_reads first_part (reads_part {v = v} {vs = vs} r rs) = (v, r, λ z c. Contains-append_left (pointers v) (all_pointers vs) z c)
   part_reads (later_part i) (reads_part {v = v} {vs = vs} r rs) = let (w, h, f) = part_reads i rs in (w, h, λ z c. Contains-append_right (pointers v) (all_pointers vs) z (f z c))
 
-  run_reads : {p n : ℕ} {X : Shape} {vs : Values} (k q : ℕ) → q ≡ p + k * size_of s.layouts X → k < n → ReadsRun s bytes p n X vs → Sub q X (all_pointers vs)
+  pub run_reads : {p n : ℕ} {X : Shape} {vs : Values} (k q : ℕ) → q ≡ p + k * size_of s.layouts X → k < n → ReadsRun s bytes p n X vs → Sub q X (all_pointers vs)
   run_reads k q e below reads_none = absurd (omega arith)
   run_reads zero q e below (reads_element {p = p} {v = v} {vs = vs} r rs) = let here : q ≡ p = omega arith in (v, rw here r, λ z c. Contains-append_left (pointers v) (all_pointers vs) z c)
   run_reads (suc k) q e below (reads_element {p = p} {X = X} {v = v} {vs = vs} r rs) =

@@ -1,5 +1,5 @@
 -- What leads to no shared value is read back as what it says, and nothing is told of it.
-use Rattle.std.proofs.Common.{◌≡◌, ⊎_elim, ℕ, List, [], ◌∷◌, Contains, arith, refl, sym, ap}
+use Rattle.std.proofs.Common.{◌≡◌, ⊎_elim, ℕ, List, [], ◌∷◌, Some, Contains, arith, refl, sym, ap}
 use Rattle.archive_check.specs.Shape.{Kind, leaf, str, Pointee, one, text}
 use Rattle.archive_check.specs.Value.{Pointer, Value, pointers}
 use Rattle.archive_check.specs.Reads.{Schema, string_at, reads_leaf, reads_inline, reads_out_of_line}
@@ -20,6 +20,7 @@ module _ (D : Definitions) (bytes : List ℕ) (q n : ℕ) (old new : Entries) (s
     value = λ named. says;
     shared = λ named s m k l d right. (λ key c. absurd (omega (arith, c.1)), rw same right);
     unmet = λ s k l. unmet s;
+    closed = λ s k l t x none some. let known : old t ≡ Some (Some x) = rw same at some in cc;
   }
 
   -- where it has no pointer, none is followed

@@ -1,19 +1,19 @@
 -- What owns one region is read back as what the region is: under the same root, with the same keys.
-use Rattle.std.proofs.Common.{◌≡◌, ⊎_elim, ℕ, pos, List, [], ◌∷◌, None, Contains, arith, refl, sym, ap, ◌∙◌}
+use Rattle.std.proofs.Common.{◌≡◌, ⊎_elim, ℕ, pos, List, [], ◌∷◌, Some, None, Contains, arith, refl, sym, ap, ◌∙◌}
 use Rattle.archive_check.specs.Shape.{Shape, Pointee, boxed, vec, one, run}
 use Rattle.archive_check.specs.Value.{Pointer, Value, box, hole, pointers}
 use Rattle.archive_check.specs.Reads.{Schema, pointer_at, reads_boxed, reads_vec}
 use Rattle.archive_check.specs.Tour.{Contents, contents_one}
 use Rattle.archive_check.specs.Denotes.{Meaning, Naming, Fills, fills_box, Denotes}
 use Rattle.archive_check.specs.Definitions.{Definitions, Knows}
-use Rattle.archive_check.specs.Pooled.{Entries}
+use Rattle.archive_check.specs.Pooled.{Kept, Entries}
 use Rattle.archive_check.specs.Viewed.{Lies}
 use Rattle.archive_check.specs.Reached.{Reached}
-use Rattle.archive_check.specs.Entries.{AreNamedByPosition, AreShared, AreRight, MeetsOpen, meets_open, meets_in_unique, meets_in_shared, ReadsBack}
+use Rattle.archive_check.specs.Entries.{AreNamedByPosition, AreShared, AreRight, MeetsOpen, meets_open, meets_in_unique, meets_in_shared, IsClosed, IsCyclic, ReadsBack}
 use Rattle.archive_check.proofs.Elements.{contains_cases, contains_first}
 use Rattle.archive_check.proofs.ReadingUnique.{pos_one}
 use Rattle.archive_check.proofs.ReachedParts.{pointer_reached}
-use Rattle.archive_check.proofs.Viewed.{lies_reached, reached_lies}
+use Rattle.archive_check.proofs.Viewed.{lies_reached, lies_reads, reached_lies}
 use Rattle.archive_check.proofs.ViewedValues.{hole_fills}
 
 -- the only one of a list of one
@@ -33,6 +33,15 @@ module _ (D : Definitions) (bytes : List ℕ) (q n : ℕ) (P : Pointee) (p : Poi
       let same : u ≡ t = pos_one (sym at ∙ there) in
       (x, rw same at i)
 
+  -- where what it leads to meets an open position it does
+  owner_cyclic : (told : Entries) → IsCyclic D bytes told t p.pointee p.length → IsCyclic D bytes told q P n
+  owner_cyclic told h = record {
+    meets = λ s k l.
+        let (x, r) = target_reached s l in
+        let (v, c) = lies_reads s bytes l in
+        meets_in_unique c (has_pointer s v c) unique there (h.meets s k (reached_lies s bytes r));
+  }
+
   module _ (old new : Entries) (w : Value) (keys : List Naming) (h : ReadsBack D bytes t p.pointee p.length old new w keys) where
     shared_there : AreNamedByPosition old → (s : Schema) (m : Meaning) → Knows s D → (l : Lies s bytes q P n) → Denotes s bytes l.root l.shape m
         → AreRight m.shared old → AreShared m.shared keys × AreRight m.shared new
@@ -51,12 +60,17 @@ module _ (D : Definitions) (bytes : List ℕ) (q n : ℕ) (P : Pointee) (p : Poi
         h.unmet s k (reached_lies s bytes r) (rw (here, pointee, length) at m)
     unmet_there s k l (meets_in_shared {v = v} {p = o} c i e at none m) = let same : o ≡ p = only p o (rw (owns s v c).0 at i) in cc
 
+    closed_there : (s : Schema) → Knows s D → (l : Lies s bytes q P n) → (u : ℕ) (k : Kept) → old u ≡ None → new u ≡ Some (Some k) → IsClosed s bytes l.root l.shape old u
+    unfolding reached_lies
+    closed_there s k l u x none some = let (y, i) = target_reached s l in h.closed s k (reached_lies s bytes i) u x none some
+
     pub owner_read_back : ReadsBack D bytes q P n old new (around w) keys
     owner_read_back = record {
       kept = h.kept;
       value = λ named. record { fills = λ s v k l c. (owns s v c).1 w (hole_fills s D bytes q n P v p t w k l c (has_pointer s v c) unique there (h.value named)) };
       shared = shared_there;
       unmet = unmet_there;
+      closed = closed_there;
     }
 
 box_owns : (bytes : List ℕ) (q n : ℕ) (P : Pointee) (s : Schema) (v : Value) → Contents s bytes q (one (boxed P)) n v
@@ -74,3 +88,11 @@ module _ (D : Definitions) (bytes : List ℕ) (q n t : ℕ) (old new : Entries) 
 
   pub vec_read_back : (X : Shape) → (pointer_at bytes q None (run X)).target ≡ pos t → ReadsBack D bytes t (run X) (pointer_at bytes q None (run X)).length old new w keys → ReadsBack D bytes q (one (vec X)) n old new w keys
   vec_read_back X there h = owner_read_back D bytes q n (one (vec X)) (pointer_at bytes q None (run X)) t (λ z. z) refl there (vec_owns bytes q n X) old new w keys h
+
+-- and where their regions meet an open position they do
+module _ (D : Definitions) (bytes : List ℕ) (q n t : ℕ) (told : Entries) where
+  pub box_cyclic : (P : Pointee) → (pointer_at bytes q None P).target ≡ pos t → IsCyclic D bytes told t P (pointer_at bytes q None P).length → IsCyclic D bytes told q (one (boxed P)) n
+  box_cyclic P there h = owner_cyclic D bytes q n (one (boxed P)) (pointer_at bytes q None P) t box refl there (box_owns bytes q n P) told h
+
+  pub vec_cyclic : (X : Shape) → (pointer_at bytes q None (run X)).target ≡ pos t → IsCyclic D bytes told t (run X) (pointer_at bytes q None (run X)).length → IsCyclic D bytes told q (one (vec X)) n
+  vec_cyclic X there h = owner_cyclic D bytes q n (one (vec X)) (pointer_at bytes q None (run X)) t (λ z. z) refl there (vec_owns bytes q n X) told h

@@ -10,12 +10,12 @@ use Rattle.archive_check.specs.Definitions.{Definitions, Knows}
 use Rattle.archive_check.specs.Pooled.{Kept, Entries}
 use Rattle.archive_check.specs.Viewed.{Lies}
 use Rattle.archive_check.specs.Reached.{Reached}
-use Rattle.archive_check.specs.Entries.{AreNamedByPosition, AreShared, AreRight, IsOpen, MeetsOpen, meets_open, meets_in_unique, meets_in_shared, IsCyclic, ReadsBack}
+use Rattle.archive_check.specs.Entries.{AreNamedByPosition, AreShared, AreRight, IsOpen, MeetsOpen, meets_open, meets_in_unique, meets_in_shared, IsCyclic, IsClosed, ReadsBack}
 use Rattle.archive_check.proofs.Elements.{contains_cases, contains_first, contains_later}
 use Rattle.archive_check.proofs.ReadingUnique.{pos_one}
 use Rattle.archive_check.proofs.ReachedParts.{pointer_reached}
 use Rattle.archive_check.proofs.Seen.{same_some}
-use Rattle.archive_check.proofs.SharedKnown.{shared_known}
+use Rattle.archive_check.proofs.SharedKnown.{shared_known, shared_agree}
 use Rattle.archive_check.proofs.Viewed.{lies_reached, lies_reads, reached_lies}
 
 same_kept : {a b : Kept} → Some (Some a) ≡ Some (Some b) → a ≡ b
@@ -75,6 +75,7 @@ module _ (D : Definitions) (bytes : List ℕ) (q n t : ℕ) (flavor : Flavor) (P
         right,
       );
       unmet = λ s knows l m. again_unmet s m;
+      closed = λ s knows l u x none some. absurd (let no : Some (Some x) ≡ None = sym some ∙ none in cc);
     }
 
   -- one that is pending is refused
@@ -145,6 +146,17 @@ module _ (D : Definitions) (bytes : List ℕ) (q n t : ℕ) (flavor : Flavor) (P
           ],
         )
 
+    pending_not : (z : ℕ) → old z ≡ Some None → z ≡ t → ⊥
+    pending_not z pending eq = let no : old t ≡ Some None = rw eq at pending in cc
+
+    -- what it leads to meets no open position, itself among them
+    inside_unmet : (s : Schema) → Knows s D → Lies s bytes q (one (shared flavor P)) n → MeetsOpen s bytes old (t ∷ []) t P p.length → ⊥
+    inside_unmet s knows l inside =
+        let (x, r) = target_reached s l in
+        h.unmet s knows (reached_lies s bytes r) (moved s bytes old started t here others inside (λ z open'. ⊎_elim
+        (λ pending. inl (others z (pending_not z pending) ∙ pending))
+        (λ c. inl (⊎_elim (λ eq. rw (← eq) here) (λ d. absurd (omega (arith, d.1))) (contains_cases t [] z c))) open'))
+
     unmet_after : (s : Schema) → Knows s D → Lies s bytes q (one (shared flavor P)) n → MeetsOpen s bytes old [] q (one (shared flavor P)) n → ⊥
     unmet_after s knows l (meets_open {t = u} {v = v} {p = o} c i f at (inl pending)) = let is : u ≡ t = leads_there o u (the_pointer s v o c i) at in let no : old t ≡ Some None = rw is at pending in cc
     unmet_after s knows l (meets_open c i f at (inr within)) = omega (arith, within.1)
@@ -155,11 +167,23 @@ module _ (D : Definitions) (bytes : List ℕ) (q n t : ℕ) (flavor : Flavor) (P
         let is : u ≡ t = leads_there o u same at in
         let pointee : o.pointee ≡ P = ap (λ (z : Pointer). z.pointee) same in
         let length : o.length ≡ p.length = ap (λ (z : Pointer). z.length) same in
-        let inside : MeetsOpen s bytes old (t ∷ []) t P p.length = rw (is, pointee, length) at m in
-        let (x, r) = target_reached s l in
-        h.unmet s knows (reached_lies s bytes r) (moved s bytes old started t here others inside (λ z open'. ⊎_elim
-        (λ pending. inl (others z (λ eq. let no : old t ≡ Some None = rw eq at pending in cc) ∙ pending))
-        (λ c. inl (⊎_elim (λ eq. rw (← eq) here) (λ d. absurd (omega (arith, d.1))) (contains_cases t [] z c))) open'))
+        inside_unmet s knows l (rw (is, pointee, length) at m)
+
+    -- nor does another one that is finished meanwhile lead to an open position
+    closed_after : (s : Schema) → Knows s D → (l : Lies s bytes q (one (shared flavor P)) n) → (u : ℕ) (k : Kept) → old u ≡ None → new u ≡ Some (Some k) → IsClosed s bytes l.root l.shape old u
+    unfolding reached_lies
+    closed_after s knows l u k none some o f met e at m = elim (cases_eq u t) [
+      | inl eq ↦ (
+          let (v, c) = lies_reads s bytes l in
+          let same = shared_agree s bytes l c (has_pointer s v c) refl there met e (rw eq at at) in
+          inside_unmet s knows l (rw (eq, same.0, same.1) at m)
+          )
+      | inr n ↦ (
+          let (x, r) = target_reached s l in
+          h.closed s knows (reached_lies s bytes r) u k (others u n ∙ none) (sym (rest u n) ∙ some) o f met e at (moved s bytes old started t here others m (λ z open'. ⊎_elim
+          (λ pending. inl (others z (pending_not z pending) ∙ pending)) inr open'))
+          )
+    ]
 
     pub shared_read_back : ReadsBack D bytes q (one (shared flavor P)) n old new (shared_value t) ((t, (e, w)) ∷ keys)
     shared_read_back = record {
@@ -171,4 +195,5 @@ module _ (D : Definitions) (bytes : List ℕ) (q n t : ℕ) (flavor : Flavor) (P
       value = λ named. record { fills = λ s v knows l c. rw (is_hole s v c) (fills_shared refl there) };
       shared = shared_after;
       unmet = unmet_after;
+      closed = closed_after;
     }

@@ -4,7 +4,7 @@ use Rattle.std.specs.Ordering.{nat_cmp}
 use Rattle.std.specs.FinMap.{FinMap, get}
 use Rattle.archive_check.specs.declared.format.error.Error.{Error}
 use Rattle.archive_check.specs.declared.format.error.Error.TheVariants.{OutOfMemory, CyclicDeserialize}
-use Rattle.archive_check.specs.Shape.{Flavor, Pointee}
+use Rattle.archive_check.specs.Shape.{Flavor, Shape, Pointee}
 use Rattle.archive_check.specs.Value.{Pointer, Value, pointers}
 use Rattle.archive_check.specs.Reads.{Schema}
 use Rattle.archive_check.specs.Tour.{Entry, Contents}
@@ -12,6 +12,7 @@ use Rattle.archive_check.specs.Denotes.{Meaning, Naming, Denotes}
 use Rattle.archive_check.specs.Definitions.{Definitions, Knows}
 use Rattle.archive_check.specs.Pooled.{Kept, Entries}
 use Rattle.archive_check.specs.Viewed.{Lies, Says}
+use Rattle.archive_check.specs.Reached.{Reached}
 
 -- nothing is told
 abbrev pub NoEntries : Entries → Type 0
@@ -69,19 +70,33 @@ pub data MeetsOpen (s : Schema) (bytes : List ℕ) (told : Entries) : List ℕ �
       → MeetsOpen s bytes told (t ∷ within) t p.pointee p.length
       → MeetsOpen s bytes told within q P n
 
+-- the pointer stands in what is read of some part of the archive
+pub record IsMet (s : Schema) (bytes : List ℕ) (root : ℕ) (X : Shape) (p : Pointer) : Type 0 where
+  pub at : ℕ
+  pub pointee : Pointee
+  pub length : ℕ
+  pub filled : Value
+  pub reached : Reached s bytes root X at pointee length filled
+  pub has : Contains (pointers reached.value) p
+
+-- Wherever the archive has a pointer to the shared position t: following it, no open position is met, t itself among them.
+abbrev pub IsClosed : Schema → List ℕ → ℕ → Shape → Entries → ℕ → Type 0
+IsClosed s bytes root X told t = (p : Pointer) (flavor : Flavor) → IsMet s bytes root X p → p.sharing ≡ Some flavor → p.target ≡ pos t → MeetsOpen s bytes told (t ∷ []) t p.pointee p.length → ⊥
+
 -- under each schema that knows the definitions and in which P lies at q, the reading of it meets an open position
 pub record IsCyclic (D : Definitions) (bytes : List ℕ) (told : Entries) (q : ℕ) (P : Pointee) (n : ℕ) : Type 0 where
   pub meets : (s : Schema) → Knows s D → Lies s bytes q P n → MeetsOpen s bytes told [] q P n
 
 -- P at q was read back as w, its shared values named by their positions, and these are what the names in w lead to: under each schema that knows
 -- the definitions, and under each root under which it lies so, what the archive means. What was told of finished positions before is as right as
--- it was; what is told of them now is. No open position was met.
+-- it was; what is told of them now is. No open position was met, and what was unknown and is finished now leads to none.
 pub record ReadsBack (D : Definitions) (bytes : List ℕ) (q : ℕ) (P : Pointee) (n : ℕ) (old new : Entries) (w : Value) (keys : List Naming) : Type 0 where
   pub kept : KeepsEntries old new
   pub value : AreNamedByPosition old → Says D bytes q P n w
   pub shared : AreNamedByPosition old → (s : Schema) (m : Meaning) → Knows s D → (l : Lies s bytes q P n) → Denotes s bytes l.root l.shape m
       → AreRight m.shared old → AreShared m.shared keys × AreRight m.shared new
   pub unmet : (s : Schema) → Knows s D → Lies s bytes q P n → MeetsOpen s bytes old [] q P n → ⊥
+  pub closed : (s : Schema) → Knows s D → (l : Lies s bytes q P n) → (t : ℕ) (k : Kept) → old t ≡ None → new t ≡ Some (Some k) → IsClosed s bytes l.root l.shape old t
 
 -- it was refused: memory was, or an open position is met
 abbrev pub RefusesReading : Definitions → List ℕ → ℕ → Pointee → ℕ → Entries → Error → Type 0
