@@ -1,11 +1,10 @@
 -- How what is appended goes together.
 use Rattle.std.proofs.Common.{◌≡◌, inl, inr, ℕ, ℤ, ◌+◌, ◌<◌, ◌≤◌, List, [], ◌∷◌, ◌++◌, length, refl, sym, ap, ◌∙◌, append_assoc, length-append, arith, Option, Some, None}
 use Rattle.std.proofs.lemmas.List.{append-nil}
-use Rattle.std.proofs.lemmas.List.Elements.{Contains-append_left, Contains-append_right}
 use Rattle.std.specs.FinMap.{get}
 use Rattle.archive_check.specs.Shape.{Shape, Pointee, one}
 use Rattle.archive_check.specs.Layout.{Layout, up, size_of, align_of}
-use Rattle.archive_check.specs.Definitions.{Definitions, no_definition, both, listed, Knows, HasLayout}
+use Rattle.archive_check.specs.Definitions.{Definitions, no_definition, both, Knows, HasLayout}
 use Rattle.archive_check.specs.Value.{Pointer, Value, number, Values, value, no_value, product, case, box, hole, pointers}
 use Rattle.archive_check.specs.Reads.{Schema}
 use Rattle.archive_check.specs.Tour.{Region, contents_one, Leads, Entry, Seen, tour_end, tour_unique, pointee_size, pointee_align, region_of}
@@ -17,7 +16,8 @@ use Rattle.archive_check.specs.WriterState.{KeyStates, WriterState, Pads}
 use Rattle.archive_check.proofs.JoinedTours.{tour_append}
 use Rattle.archive_check.proofs.StandingBytes.{stands_fits, stands_zero, zero_nowhere, stands_begun}
 use Rattle.archive_check.proofs.Tightness.{tight_append, clean_regions_append}
-use Rattle.archive_core.specs.Writing.{NameMap, Naming, AreNamed, World, Covers, Known, Unseen, Found, Appends, Finishes, AreFinished, AllFinished, Writes, WritesAll, Puts, LaysOut, to_pointee}
+pub use Rattle.archive_core.specs.Sides.{knows_left, knows_right, named_left, named_right}
+use Rattle.archive_core.specs.Writing.{Naming, World, Covers, Known, Unseen, Found, Appends, Finishes, AreFinished, AllFinished, Writes, WritesAll, Puts, LaysOut, to_pointee}
 
 -- the layout, in a schema that knows the definitions
 
@@ -26,22 +26,6 @@ size_is h s k = ap (λ l. l.size) (h.solved s k)
 
 pub align_is : {D : Definitions} {X : Shape} {L : Layout} → HasLayout D X L → (s : Schema) → Knows s D → align_of s.layouts X ≡ L.align
 align_is h s k = ap (λ l. l.align) (h.solved s k)
-
--- definitions and keys of a part
-
-pub knows_left : (s : Schema) (D E : Definitions) → Knows s (both D E) → Knows s D
-knows_left s D E h = record { has = h.has.0; finite = λ n X c. h.finite n X (Contains-append_left (listed D) (listed E) (n, X) c); laid_out = h.laid_out }
-
-pub knows_right : (s : Schema) (D E : Definitions) → Knows s (both D E) → Knows s E
-knows_right s D E h = record { has = h.has.1; finite = λ n X c. h.finite n X (Contains-append_right (listed D) (listed E) (n, X) c); laid_out = h.laid_out }
-
-pub named_left : (names : NameMap) (ks ls : List Naming) → AreNamed names (ks ++ ls) → AreNamed names ks
-named_left names [] ls h = tt
-named_left names (k ∷ ks) ls h = (h.0, named_left names ks ls h.1)
-
-pub named_right : (names : NameMap) (ks ls : List Naming) → AreNamed names (ks ++ ls) → AreNamed names ls
-named_right names [] ls h = h
-named_right names (k ∷ ks) ls h = named_right names ks ls h.1
 
 -- a world that holds what is written later holds what was written before
 pub holds_before : (w : World) (D : Definitions) (mid new added : List ℕ) (s t : KeyStates) (ks : List Naming)

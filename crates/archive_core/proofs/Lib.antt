@@ -11,6 +11,8 @@ pub mod Unhindered
 pub mod Owners
 pub mod PlansForward
 pub mod PlannedParts
+pub mod Runs
+pub mod RunRegions
 pub mod SharedPlans
 pub mod Regions
 pub mod Shared
@@ -20,3 +22,4 @@ pub mod ShortTexts
 pub mod Pointers
 pub mod Records
 pub mod Owned
+pub mod OwnersWritten

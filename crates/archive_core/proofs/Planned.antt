@@ -1,15 +1,15 @@
 -- How plans go together, and what hinders them: leaves, texts and strings, and the region of one value.
-use Rattle.std.proofs.Common.{◌≡◌, ◌≢◌, ◌⊎◌, inl, inr, ℕ, ℤ, pos, ◌+◌, ◌<◌, ◌≤◌, ◌^◌, List, [], ◌∷◌, ◌++◌, length, refl, sym, ap, subst, ◌∙◌, length-append, arith, false, IsUtf8, Contains, add-zero, Result, Ok, Err, IfOk, OnOk, IfErr, IsOk}
+use Rattle.std.proofs.Common.{◌≡◌, inl, inr, ℕ, ℤ, pos, ◌+◌, ◌<◌, ◌≤◌, ◌^◌, List, [], ◌∷◌, ◌++◌, length, refl, sym, ap, subst, ◌∙◌, length-append, arith, false, IsUtf8, Contains, add-zero, Result, Ok, Err, IfOk, OnOk, IfErr, IsOk}
 use Rattle.std.specs.Prelude.{FitsSigned}
 use Rattle.std.proofs.lemmas.Bool.{cases_lt}
 use Rattle.std.specs.Int.{w32}
 use Rattle.std.proofs.lemmas.List.Elements.{Contains-append_left, Contains-append_right}
-use Rattle.archive_check.specs.Shape.{Kind, number as number_kind, signed, unsigned, leaf, Shape, str, Pointee, one, text}
+use Rattle.archive_check.specs.Shape.{Kind, number as number_kind, signed, unsigned, leaf, Shape, str, one, text}
 use Rattle.archive_check.specs.Layout.{Layout, up, size_of, align_of}
 use Rattle.archive_check.specs.Definitions.{Definitions, Knows, HasLayout, IsAlign}
 use Rattle.archive_check.specs.Value.{Value, number, text_value, hole}
 use Rattle.archive_check.specs.Reads.{Schema}
-use Rattle.archive_check.specs.Tour.{region_at, pointee_align}
+use Rattle.archive_check.specs.Tour.{region_at}
 use Rattle.archive_check.specs.WriterState.{WriterState, KeepsKeys, Pads}
 use Rattle.archive_check.specs.declared.format.error.Error.{Error}
 use Rattle.archive_check.specs.declared.format.error.Error.TheVariants.{NumberTooLarge, PositionTooLarge, LengthTooLarge, StringTooLong}
@@ -21,10 +21,11 @@ use Rattle.archive_write.proofs.Padding.{padded}
 use Rattle.archive_core.specs.Offsets.{distance, IsTooFar}
 use Rattle.archive_core.specs.Strings.{to_text, string_flat}
 use Rattle.archive_core.specs.Planned.{text_region}
+use Rattle.archive_core.specs.PlannedOwners.{one_plan}
 use Rattle.archive_core.specs.TextPlans.{HindersStringAt}
 use Rattle.archive_core.specs.Writing.{NameMap, Naming, AreNamed, Puts}
-use Rattle.archive_core.specs.Plans.{Cursor, cursor, AreBelow, IsAt, Step, lays, Plans, plans_leaf, plans_inline, plans_out_of_line, plans_one, plans_text, plans_region, PlansRegion, PlanOf, RegionPlan, Serialized, serialized, SerializedRegion, serialized_region}
-use Rattle.archive_core.specs.Causes.{Explains, own_cause, of_isize, of_offset, of_position, of_length, of_number, of_string, of_layout, IsOwnCause, PartOf, HindersPartAt, part_itself, part_of_one, owner_string, IsTooWide, stands_too_far, too_wide, text_too_long, anywhere, too_far_from_here, part_hinders, length_hinders, end_hinders, Hinders, HindersRegion, HindersAt, HindersRegionAt, Reaches, RegionReaches, IsRefused, IsRegionRefused}
+use Rattle.archive_core.specs.Plans.{Cursor, cursor, AreBelow, IsAt, Step, lays, plans_leaf, plans_inline, plans_out_of_line, PlanOf, RegionPlan, Serialized, serialized, SerializedRegion, serialized_region}
+use Rattle.archive_core.specs.Causes.{Explains, own_cause, of_isize, of_offset, of_position, of_length, of_number, of_string, of_layout, IsOwnCause, PartOf, HindersPartAt, part_itself, part_of_one, owner_string, IsTooWide, stands_too_far, too_wide, text_too_long, anywhere, too_far_from_here, part_hinders, length_hinders, end_hinders, HindersRegion, HindersAt, HindersRegionAt, RegionReaches, IsRefused, IsRegionRefused}
 use Rattle.archive_core.proofs.Appending.{size_is, align_is, writes_number, lays_one}
 use Rattle.archive_core.proofs.Causes.{explains_write, explains_sooner, explains_later}
 use Rattle.archive_core.proofs.StringsWritten.{flat_inline, flat_out_of_line, writes_inline, lays_text, writes_out_of_line}
@@ -114,7 +115,7 @@ far_string_refused D old new bs long far = own_cause (record {
       (λ t C b y. inr (0, str, hole (to_text t (length bs)), part_itself, stands_too_far owner_string refl y)) (text_region s names bs (cursor old) _ far);
 })
 
-own_if_too_far : (e : Error) (z : ℤ) → IsTooFar e z → IsOwnCause e
+pub own_if_too_far : (e : Error) (z : ℤ) → IsTooFar e z → IsOwnCause e
 own_if_too_far e z (inl h) = rw (h.0) of_isize
 own_if_too_far e z (inr h) = rw (h.0) of_offset
 
@@ -139,22 +140,12 @@ in_last : (C : List Step) (x : Step) → Contains (C ++ x ∷ []) x
 in_last C x = Contains-append_right C (x ∷ []) x (contains_first [] x)
 
 module _ (D : Definitions) (X : Shape) (ks : List Naming) (v : Value) where
-  one_plan : (s : Schema) (names : NameMap) (a : Cursor) (holds : Value → List Step → Cursor → Type 0) (such : ℕ → List Step → Cursor → Type 0) → (q : PlanOf s names X v a holds) → (t : ℕ) → t ≡ up q.stop.place (align_of s.layouts X)
-      → such t (q.steps ++ lays (region_at s t (one X) 0 false) q.flat ∷ []) (record { place = t + size_of s.layouts X; states = q.stop.states }) → RegionPlan s names (one X) 0 v a such
-  one_plan s names a holds such q t here h = record {
-    begin = t;
-    steps = q.steps ++ lays (region_at s t (one X) 0 false) q.flat ∷ [];
-    stop = record { place = t + size_of s.layouts X; states = q.stop.states };
-    plans = plans_region (plans_one q.plans) here;
-    such = h;
-  }
-
   pub serialized_one : (flat : Value) (L : Layout) (t : ℕ) (old mid low new : WriterState) → Serialized D X ks v flat old mid → Pads L.align mid low → Puts D low new X L flat
       → t ≡ length low.bytes → SerializedRegion D (one X) 0 ks v t old new
   serialized_one flat L t old mid low new (serialized writes planned) pads puts here = serialized_region (lays_one D old mid low new ks flat v X L t writes pads puts here)
       (λ below s names k n. (
       let q = planned below s names k n in
-      one_plan s names (cursor old) _ _ q t (here ∙ pads.aligned ∙ ap (λ m. up m L.align) q.such.1.place ∙ ap (up q.stop.place) (sym (align_is puts.layout s k))) (
+      one_plan D X ks v s names (cursor old) _ _ q t (here ∙ pads.aligned ∙ ap (λ m. up m L.align) q.such.1.place ∙ ap (up q.stop.place) (sym (align_is puts.layout s k))) (
         refl,
         record {
           place = omega (arith, ap length puts.grown, length-append low.bytes puts.added, puts.sized, size_is puts.layout s k, here);
@@ -176,14 +167,14 @@ module _ (D : Definitions) (X : Shape) (ks : List Naming) (v : Value) where
             let q = x.cause below s names k n in
             let t : ℕ = up q.stop.place (align_of s.layouts X) in
             let last : Step = lays (region_at s t (one X) 0 false) q.flat in
-            one_plan s names (cursor old) _ _ q t refl (elim q.such [
+            one_plan D X ks v s names (cursor old) _ _ q t refl (elim q.such [
               | inl y ↦ (y.0, Contains-append_left q.steps (last ∷ []) y.0 y.1, y.2)
               | inr y ↦ (last, in_last q.steps last, part_hinders (part_of_one y.3) (anywhere y.4))
             ]));
       })
       (λ m x below s names k n. (
       let q = x below s names k n in
-      one_plan s names (cursor old) _ _ q (up q.stop.place (align_of s.layouts X)) refl (omega (arith, q.such, up_le q.stop.place (align_of s.layouts X) (align_pos s.layouts k.laid_out.aligned X))))) h
+      one_plan D X ks v s names (cursor old) _ _ q (up q.stop.place (align_of s.layouts X)) refl (omega (arith, q.such, up_le q.stop.place (align_of s.layouts X) (align_pos s.layouts k.laid_out.aligned X))))) h
 
   -- nor the zeros behind that
   pub one_padded : (flat : Value) (L : Layout) (place : ℕ) (old mid new : WriterState) (e : Error) → IsAlign L.align → HasLayout D X L → Serialized D X ks v flat old mid → GoesOn old mid → place ≡ length mid.bytes
@@ -193,7 +184,7 @@ module _ (D : Definitions) (X : Shape) (ks : List Naming) (v : Value) where
       let q = planned below s names l n in
       let t : ℕ = up q.stop.place (align_of s.layouts X) in
       let there : up place L.align ≡ t = ap (λ m. up m L.align) (here ∙ q.such.1.place) ∙ ap (up q.stop.place) (sym (align_is layout s l)) in
-      one_plan s names (cursor old) _ _ q t refl (omega (arith, padded place L.align is, there)))) refused)
+      one_plan D X ks v s names (cursor old) _ _ q t refl (omega (arith, padded place L.align is, there)))) refused)
 
   -- nor its own region
   pub one_hindered : (flat : Value) (L : Layout) (old mid low new : WriterState) (e : Error) → HasLayout D X L → Serialized D X ks v flat old mid → Pads L.align mid low
@@ -223,4 +214,4 @@ module _ (D : Definitions) (X : Shape) (ks : List Naming) (v : Value) where
           let q = planned below s names l n in
           let t : ℕ = up q.stop.place (align_of s.layouts X) in
           let here : t ≡ length low.bytes = sym (pads.aligned ∙ ap (λ m. up m L.align) q.such.1.place ∙ ap (up q.stop.place) (sym (align_is layout s l))) in
-          one_plan s names (cursor old) _ such q t refl (f q t here q.such.0)
+          one_plan D X ks v s names (cursor old) _ such q t refl (f q t here q.such.0)

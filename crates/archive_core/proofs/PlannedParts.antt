@@ -3,15 +3,15 @@ use Rattle.std.proofs.Common.{◌≡◌, ◌⊎◌, inl, inr, ℕ, ◌+◌, ◌�
 use Rattle.std.proofs.lemmas.List.Elements.{Contains-append_left, Contains-append_right}
 use Rattle.archive_check.specs.Shape.{Shape, parts, Parts, no_part, part}
 use Rattle.archive_check.specs.Layout.{up, size_of, align_of}
-use Rattle.archive_check.specs.Definitions.{Definitions, no_definition, both, Knows}
+use Rattle.archive_check.specs.Definitions.{Definitions, both}
 use Rattle.archive_check.specs.Value.{Value, product, Values, no_value, value}
 use Rattle.archive_check.specs.Reads.{Schema, LaidOut}
 use Rattle.archive_check.specs.WriterState.{WriterState}
 use Rattle.archive_check.specs.declared.format.error.Error.{Error}
 use Rattle.archive_write.specs.Written.{GoesOn}
-use Rattle.archive_core.specs.Writing.{NameMap, Naming, AreNamed, WritesAll}
+use Rattle.archive_core.specs.Writing.{NameMap, Naming, WritesAll}
 use Rattle.archive_core.specs.Plans.{Cursor, cursor, IsAt, Step, PlansParts, plans_no_part, plans_part, plans_parts, Plans, AreBelow, Whatever, Foreseen, PlanOf, HasPlan, Serialized, serialized}
-use Rattle.archive_core.specs.Causes.{Explains, PartOf, PartOfParts, part_of_parts, in_first_part, in_later_part, HindersPart, HindersSome, IsOwnCause, Hinders, Reaches, IsRefused}
+use Rattle.archive_core.specs.Causes.{Explains, PartOfParts, part_of_parts, in_first_part, in_later_part, HindersPart, HindersSome, IsOwnCause, IsRefused}
 use Rattle.archive_core.proofs.Appending.{knows_left, knows_right, named_left, named_right, writes_none, writes_cons, writes_product}
 use Rattle.archive_core.proofs.Causes.{explains_sooner, explains_later}
 use Rattle.archive_core.proofs.PlansForward.{parts_forward, plans_below}
@@ -21,7 +21,7 @@ pub is_at_same : (b : Cursor) (w : WriterState) → IsAt b w → b ≡ cursor w
 is_at_same b w h = λ i. record { place = sym h.place i; states = λ k. sym (h.keys k) i }
 
 -- and the keys that are finished then stand below it
-below_later : (s : Schema) → LaidOut s → (names : NameMap) {X : Shape} {v w : Value} {a b : Cursor} {C : List Step} (mid : WriterState) → Plans s names X v a w C b → IsAt b mid → AreBelow a
+pub below_later : (s : Schema) → LaidOut s → (names : NameMap) {X : Shape} {v w : Value} {a b : Cursor} {C : List Step} (mid : WriterState) → Plans s names X v a w C b → IsAt b mid → AreBelow a
     → AreBelow (cursor mid)
 below_later s l names {b = b} mid plans at below = subst AreBelow (is_at_same b mid at) (plans_below s l names plans below)
 

@@ -7,7 +7,6 @@ use Rattle.std.proofs.lemmas.Int.{to_z-of_z}
 use Rattle.std.proofs.lemmas.List.{append-nil, get_or-replicate, length-replicate, get_or-append-add}
 use Rattle.std.proofs.Math.IntN.{+ℤ_comm, -ℤ-+ℤ_cancel}
 use Rattle.archive_check.specs.Shape.{str, text}
-use Rattle.archive_check.specs.Layout.{up}
 use Rattle.archive_check.specs.Definitions.{Definitions}
 use Rattle.archive_check.specs.Value.{text_value, hole}
 use Rattle.archive_check.specs.Reads.{bytes_at, u32_at, i32_at, before_end, IsOutOfLine, decoded_length, string_at, Reads, reads_inline, reads_out_of_line}
@@ -78,7 +77,7 @@ resolves_inline D p bs a u h e =
 
 -- a text that stands elsewhere
 
-below_32 : (z : ℤ) → FitsSigned w32 z → cast_unsigned w32 z < 2 ^ 32
+pub below_32 : (z : ℤ) → FitsSigned w32 z → cast_unsigned w32 z < 2 ^ 32
 below_32 (pos n) h = let s = h.sfits in omega arith
 below_32 (negsuc n) h = let s = h.sfits in omega arith
 
@@ -147,7 +146,7 @@ writes_out_of_line D old new bs t long h = rw (flat_out_of_line bs t long) (writ
 
 -- as the resolving functions have it
 
-distance_there : (p t : ℕ) → pos p +ℤ distance p t ≡ pos t
+pub distance_there : (p t : ℕ) → pos p +ℤ distance p t ≡ pos t
 distance_there p t = +ℤ_comm (pos p) (distance p t) ∙ -ℤ-+ℤ_cancel (pos t) (pos p)
 
 pub resolves_inline_flat : (D : Definitions) (p t : ℕ) (bs a : List ℕ) → IsUtf8 bs → length bs ≤ 8 → a ≡ inline_bytes bs → Resolves D p a str (string_flat bs t)

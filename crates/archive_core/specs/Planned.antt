@@ -1,14 +1,14 @@
 -- The plans of leaves, of texts and of strings.
-use Rattle.std.proofs.Common.{◌≡◌, ℕ, ℤ, zero, suc, ◌+◌, ◌<◌, ◌≤◌, List, [], ◌∷◌, length, refl, sym, arith, inl, inr, false}
+use Rattle.std.proofs.Common.{◌≡◌, ℕ, ℤ, ◌+◌, List, [], ◌∷◌, length, sym, arith, inl, inr, false}
 use Rattle.std.proofs.lemmas.Bool.{cases_lt}
-use Rattle.archive_check.specs.Shape.{Kind, leaf, array, Shape, str, text}
+use Rattle.archive_check.specs.Shape.{Kind, leaf, Shape, str, text}
 use Rattle.archive_check.specs.Layout.{up}
 use Rattle.archive_check.specs.Definitions.{Definitions}
-use Rattle.archive_check.specs.Value.{Value, number, list, text_value, hole}
+use Rattle.archive_check.specs.Value.{number, text_value}
 use Rattle.archive_check.specs.Reads.{Schema}
 use Rattle.archive_check.specs.Tour.{region_at}
 use Rattle.archive_core.specs.Writing.{NameMap, Naming}
-use Rattle.archive_core.specs.Plans.{Cursor, Step, lays, plans_leaf, plans_array, PlansRun, plans_none, plans_element, plans_inline, plans_out_of_line, plans_text, plans_region, RegionPlan, HasPlan, HasRegionPlan}
+use Rattle.archive_core.specs.Plans.{Cursor, Step, lays, plans_leaf, plans_inline, plans_out_of_line, plans_text, plans_region, RegionPlan, HasPlan, HasRegionPlan}
 
 pub leaf_planned : (D : Definitions) (X : Shape) (kind : Kind) (keys : List Naming) (z : ℤ) → X ≡ leaf kind → HasPlan D X keys (number z)
 leaf_planned D X kind keys z same a s names k n = rw same (record { flat = number z; steps = []; stop = a; plans = plans_leaf; such = tt })

@@ -5,9 +5,12 @@ ghost use Rattle.std.proofs.Common.{inl, inr};
 ghost use Rattle.archive_check.specs.Shape.{one, boxed};
 ghost use Rattle.archive_check.specs.Layout.{pointer_size};
 
+mod sources;
+
 use crate::traits::{ArchivePointee, Portable, PortablePointee};
 use archive_check::format::error::Error;
 use archive_check::format::expr::{Defs, Expr};
+pub use sources::BoxResolver;
 use std::alloc::Global;
 use std::marker::PhantomData;
 

@@ -8,10 +8,12 @@ ghost use Rattle.archive_check.specs.declared.format.error.Error.TheVariants.{Is
 use archive_check::format::error::Error;
 
 mod offset;
+mod owners;
 mod raw;
 mod typed;
 
 pub use offset::{Offset, OffsetNumber};
+pub(crate) use owners::{emplace_long_owner, emplace_pointer};
 pub use raw::{
     RawRelPtr, RawRelPtrI8, RawRelPtrI16, RawRelPtrI32, RawRelPtrI64, RawRelPtrU8, RawRelPtrU16,
     RawRelPtrU32, RawRelPtrU64,

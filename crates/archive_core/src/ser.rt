@@ -1,10 +1,11 @@
 //! Writers, and the regions that are resolved into them.
 
-ghost use Rattle.std.specs.Prelude.{◌≡◌, ◌+◌, ◌≤◌, ◌%◌, length, IfOk, OnOk, IfErr};
+ghost use Rattle.std.specs.Prelude.{◌≡◌, ◌+◌, ◌*◌, ◌^◌, ◌<◌, ◌≤◌, ◌%◌, ◌↔◌, true, length, IfOk, OnOk, IfErr};
 ghost use Rattle.archive_check.specs.WriterState.{KeepsKeys};
 ghost use Rattle.archive_check.specs.Shape.{one};
 ghost use Rattle.archive_core.specs.Causes.{Explains, HindersAt, HindersRegionAt, IsRegionRefused};
 ghost use Rattle.archive_core.specs.Plans.{SerializedRegion};
+ghost use Rattle.archive_core.specs.Runs.{each_flat, EachBelongs, PutsRun, HindersRunAt};
 ghost use Rattle.archive_core.specs.Writing.{Fresh, Resolves, Puts};
 ghost use Rattle.archive_write.specs.Written.{GoesOn};
 
@@ -34,6 +35,7 @@ fn resolve_region<W: Writer, T: Archive>(
         (λ n. n ≤ length (W.state writer.old).bytes + T.Archived.layout.size) (W.state writer.old) (W.state writer.new)) }
     ensures goes_on { GoesOn (W.state writer.old) (W.state writer.new) }
     ensures keys { KeepsKeys (W.state writer.old).states (W.state writer.new).states }
+    ensures same_length { length region.new ≡ length region.old }
 {
     let pos = writer.pos();
     resolve_into(value, resolver, pos, region)?;
@@ -55,6 +57,46 @@ fn resolve_into<T: Archive>(
     ensures refused { IfErr result (HindersAt T.Archived.definitions T.Archived.shape (T.flat value.now resolver) pos) }
 {
     value.resolve(resolver, Place::new(pos, bytes))
+}
+
+// Resolves values one after another at the writer's end, each into zeros over the same bytes. There is a resolver for each.
+#[tactic(auto, using(crate::proofs::Regions::fresh_zeros, crate::proofs::RunRegions::completes_start, crate::proofs::RunRegions::completes_step, crate::proofs::RunRegions::completes_more, crate::proofs::RunRegions::completes_end, crate::proofs::RunRegions::belongs_here, crate::proofs::RunRegions::place_here))]
+fn resolve_each<W: Writer, T: Archive, A: Allocator + Drop>(
+    writer: &mut W,
+    values: &[T],
+    resolvers: Vec<T::Resolver, A>,
+    region: &mut [u8],
+) -> Result<(), Error>
+    requires sized { length region.old ≡ T.Archived.layout.size }
+    requires ends { length (W.state writer.old).bytes + length values.now * T.Archived.layout.size < 2 ^ 64 }
+    requires same_values { EachBelongs T.belongs values.now resolvers.items }
+    ensures put { OnOk result (PutsRun T.Archived.definitions (W.state writer.old) (W.state writer.new)
+        T.Archived.shape T.Archived.layout (length values.now) (each_flat T.flat values.now resolvers.items)) }
+    ensures refused { IfErr result (Explains (HindersRunAt T.Archived.definitions T.Archived.shape T.Archived.layout (length values.now) (each_flat T.flat values.now resolvers.items) (length (W.state writer.old).bytes))
+        (λ n. n ≤ length (W.state writer.old).bytes + length values.now * T.Archived.layout.size) (W.state writer.old) (W.state writer.new)) }
+    ensures goes_on { GoesOn (W.state writer.old) (W.state writer.new) }
+    ensures keys { KeepsKeys (W.state writer.old).states (W.state writer.new).states }
+{
+    let mut rest = values;
+    for resolver in resolvers {
+        let Some((value, others)) = rest.split_first() else {
+            unreachable!();
+        };
+        region.fill(0);
+        resolve_region(writer, value, resolver, region)?;
+        rest = others;
+    }
+    Ok(())
+}
+
+// Whether so many values of this size end at `usize::MAX` or below, where the first one stands at `pos`.
+fn run_fits(pos: usize, count: usize, size: usize) -> bool
+    ensures { result ≡ true ↔ (pos + count * size < 2 ^ 64) }
+{
+    match count.checked_mul(size) {
+        Some(sum) => pos.checked_add(sum).is_some(),
+        None => false,
+    }
 }
 
 /// The regions that every writer can take. rkyv 0.8.18 has the call in `WriterExt`.
@@ -94,6 +136,46 @@ pub trait ResolveExt: Writer {
         }
         let mut region = vec![in alloc; 0u8; size]?;
         resolve_region(self, value, resolver, &mut region)
+    }
+
+    /// Resolves `values`, one after another, into the next region and writes it; answers the region's position, in bytes from the first one. Asks
+    /// that the writer stands at a multiple of the archived type's alignment, as `align_for` leaves it, and for a resolver of each value, in order.
+    /// Memory for a value above 64 bytes comes from `alloc`, once for all: refused with `OutOfMemory`, 1, where it is refused, with
+    /// `LayoutTooLarge`, 23, where the region would end above `usize::MAX`, with what `resolve` refuses with, or as the writer refuses
+    /// (`BufferOverflow`, 8; `WriterFailed`, 9). After a refusal, too, the bytes from before are a beginning of those that the writer holds. Our own:
+    /// rkyv 0.8.18 has it within `serialize_unsized` of a slice.
+    #[tactic(auto, using(crate::proofs::RunRegions::run_too_large, crate::proofs::Causes::goes_nowhere))]
+    final fn resolve_slice_aligned<A: Allocator + Drop, T: Archive, B: Allocator + Drop>(
+        &mut self,
+        alloc: A,
+        values: &[T],
+        resolvers: Vec<T::Resolver, B>,
+    ) -> Result<usize, Error>
+    where
+        Self: Sized,
+        requires aligned { Self.place self.old % T.Archived.layout.align ≡ 0 }
+        requires same_values { EachBelongs T.belongs values.now resolvers.items }
+        ensures region { OnOk result (PutsRun T.Archived.definitions (Self.state self.old) (Self.state self.new)
+            T.Archived.shape T.Archived.layout (length values.now) (each_flat T.flat values.now resolvers.items)) }
+        ensures position { IfOk result (λ p. p ≡ Self.place self.old) }
+        ensures refused { IfErr result (Explains (HindersRunAt T.Archived.definitions T.Archived.shape T.Archived.layout (length values.now) (each_flat T.flat values.now resolvers.items) (length (Self.state self.old).bytes))
+            (λ n. n ≤ length (Self.state self.old).bytes + length values.now * T.Archived.layout.size) (Self.state self.old) (Self.state self.new)) }
+        ensures goes_on { GoesOn (Self.state self.old) (Self.state self.new) }
+        ensures keys { KeepsKeys (Self.state self.old).states (Self.state self.new).states }
+    {
+        let pos = self.pos();
+        let size = T::Archived::size();
+        if !run_fits(pos, values.len(), size) {
+            return Err(Error::LayoutTooLarge);
+        }
+        if size <= LOCAL_SIZE {
+            let mut local = [0u8; LOCAL_SIZE];
+            resolve_each(self, values, resolvers, &mut local[..size])?;
+            return Ok(pos);
+        }
+        let mut region = vec![in alloc; 0u8; size]?;
+        resolve_each(self, values, resolvers, &mut region)?;
+        Ok(pos)
     }
 }
 

@@ -4,12 +4,16 @@ ghost use Rattle.std.specs.Prelude.{◌≡◌, IfOk, IfErr};
 ghost use Rattle.archive_check.specs.Shape.{run};
 ghost use Rattle.archive_check.specs.SelfCheck.Owners.{run_check, run_reaches};
 
+mod sources;
+
 use crate::primitive::ArchivedUsize;
 use crate::traits::{ArchivePointee, LayoutRaw, Portable, PortablePointee, layout_of_run};
 use archive_check::format::error::Error;
 use archive_check::format::expr::{Defs, Pointee};
 use archive_check::format::layout::Layout;
 use archive_check::self_check::VecCheck;
+pub use sources::Slice;
+pub(crate) use sources::{serialize_each, serialize_slice};
 use std::alloc::Global;
 use std::marker::PhantomData;
 

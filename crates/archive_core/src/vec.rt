@@ -5,10 +5,13 @@ ghost use Rattle.std.proofs.Common.{inl, inr};
 ghost use Rattle.archive_check.specs.Shape.{one, vec as vec_shape};
 ghost use Rattle.archive_check.specs.SelfCheck.Owners.{vec_check, vec_reaches};
 
+mod sources;
+
 use crate::traits::{ArchivePointee, Portable};
 use archive_check::format::error::Error;
 use archive_check::format::expr::{Defs, Expr};
 use archive_check::self_check::VecCheck;
+pub use sources::VecResolver;
 use std::alloc::Global;
 use std::marker::PhantomData;
 
