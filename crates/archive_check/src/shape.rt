@@ -3,6 +3,7 @@
 ghost use Rattle.std.specs.Prelude.{◌≡◌, length};
 ghost use Rattle.archive_check.specs.Expressions.{shape_of, entries_of};
 ghost use Rattle.archive_check.specs.plan.Shallow.{AreShallow};
+ghost use Rattle.archive_check.specs.plan.PackedPlans.{ArePacked};
 ghost use Rattle.archive_check.specs.plan.Names.{HasAll};
 ghost use Rattle.archive_check.specs.plan.Planned.{IsPlan, HasNames};
 
@@ -35,12 +36,14 @@ pub struct Schema {
     ghost named: { ∥ HasNames definitions.items names.items plan ∥₁ },
     ghost sound: { AreShallow plan.nodes.items plan.parts.items plan.variants.items shallow.items },
     ghost marks: { length shallow.items ≡ length plan.nodes.items },
+    ghost packed: { ArePacked plan.nodes.items plan.parts.items plan.variants.items },
 }
 
 impl Schema {
     ghost use Rattle.std.specs.Prelude.{◌≡◌, ◌⊎◌, ◌≤◌, length, OnOk, IfOk, IfErr};
     ghost use Rattle.archive_check.specs.declared.format.error.Error.TheVariants.{OutOfMemory, LayoutTooLarge};
     ghost use Rattle.archive_check.specs.FreshContexts.{IsWhole};
+    ghost use Rattle.archive_check.specs.Pushes.{FewPushed};
     ghost use Rattle.archive_check.specs.Schemas.{Accepts, Refuses, IsExact, IsSchemaOf, HasHeld, ExplainsNoSchema, IsLayoutOf, IsTooLarge};
     ghost use Rattle.archive_check.specs.Expressions.{shape_of};
 
@@ -99,6 +102,7 @@ impl Schema {
         ensures ok { OnOk result (IsWhole (C.state context.old) (C.positions context.old) bytes.now → Accepts self.now bytes.now (C.state context.old).depth pos) }
         ensures err { IfErr result (λ e. (e ≡ OutOfMemory) ⊎ (IsWhole (C.state context.old) (C.positions context.old) bytes.now → Refuses self.now bytes.now (C.state context.old).depth pos e)) }
         ensures exact { IsWhole (C.state context.old) (C.positions context.old) bytes.now → IsExact self.now bytes.now (C.state context.old).depth pos result }
+        ensures few_subtrees { FewPushed (C.state context.old) (C.state context.new) }
     {
         let checker = Checker {
             nodes: &self.plan.nodes,
