@@ -3,6 +3,7 @@
 
 ghost use Rattle.std.specs.Prelude.{◌≡◌, ◌⊎◌, ◌≤◌, ◌-◌, None, length, IfOk, OnOk, IfErr, ℕ, []};
 ghost use Rattle.archive_check.specs.FreshContexts.{IsWhole};
+ghost use Rattle.archive_check.specs.Pushes.{FewPushed};
 ghost use Rattle.archive_check.specs.Schemas.{ExplainsNoSchema};
 ghost use Rattle.archive_check.specs.Archives.{IsArchive, Answers, root_in, ReadsWhole, RefusesWhole, RefusesAsCheck};
 ghost use Rattle.archive_check.specs.Defined.{WellFormed};
@@ -124,6 +125,7 @@ pub fn check_pos_with_context<T: Portable, C: ArchiveContext + SharedContext>(
     ensures meaning { IfErr result (λ e. ExplainsNoSchema T.shape T.definitions e ⊎ WellFormed (listed T.definitions) T.shape) }
     ensures answer { IsWhole (C.state context.old) (C.positions context.old) bytes.now
         → Answers T.definitions bytes.now (C.state context.old).depth pos T.shape result }
+    ensures few_subtrees { FewPushed (C.state context.old) (C.state context.new) }
 {
     prove!(bytes.len() <= usize::MAX);
     if T::Check::is_direct() {
@@ -180,6 +182,7 @@ pub fn access_pos_with_context<'a, T: Portable, C: ArchiveContext + SharedContex
     ensures buffer { IfOk result (λ r. r.bytes.now ≡ bytes.now) }
     ensures position { IfOk result (λ r. r.pos ≡ pos) }
     ensures whole { IfOk result (λ r. r.len ≡ 0) }
+    ensures few_subtrees { FewPushed (C.state context.old) (C.state context.new) }
 {
     if let Err(error) = check_pos_with_context::<T, C>(alloc, bytes, pos, context) {
         return Err(error);
@@ -199,6 +202,7 @@ pub fn access_with_context<'a, T: Portable, C: ArchiveContext + SharedContext>(
     ensures buffer { IfOk result (λ r. r.bytes.now ≡ bytes.now) }
     ensures position { IfOk result (λ r. r.pos ≡ root_in bytes.now T.layout) }
     ensures whole { IfOk result (λ r. r.len ≡ 0) }
+    ensures few_subtrees { FewPushed (C.state context.old) (C.state context.new) }
 {
     access_pos_with_context(alloc, bytes, root_position::<T>(bytes.len()), context)
 }

@@ -4,6 +4,7 @@ ghost use Rattle.std.specs.Prelude.{◌≡◌, ◌⊎◌, ◌≤◌, length, OnO
 ghost use Rattle.archive_check.specs.Definitions.{listed};
 ghost use Rattle.archive_check.specs.Defined.{WellFormed};
 ghost use Rattle.archive_check.specs.FreshContexts.{IsWhole};
+ghost use Rattle.archive_check.specs.Pushes.{FewPushed};
 ghost use Rattle.archive_check.specs.Archives.{IsArchiveWithin, IsRefusal, ExplainsNoArchive};
 
 use super::values::check_one;
@@ -24,6 +25,7 @@ pub fn check_root<T: Portable, C: ArchiveContext>(
     ensures meaning { IsTrue T.Check.direct → WellFormed (listed T.definitions) T.shape }
     ensures refused { IsTrue T.Check.direct → IfErr result (λ e. IsWhole (C.state context.old) (C.positions context.old) bytes.now → IsRefusal T.definitions bytes.now (C.state context.old).depth pos T.shape e) }
     ensures exact { IsTrue T.Check.direct → IfErr result (λ e. IsWhole (C.state context.old) (C.positions context.old) bytes.now → ExplainsNoArchive T.definitions bytes.now (C.state context.old).depth pos T.shape e) }
+    ensures few_subtrees { FewPushed (C.state context.old) (C.state context.new) }
 {
     prove!(bytes.len() <= usize::MAX);
     let mut refusal = Error::OutOfMemory;

@@ -154,9 +154,10 @@ check_shallow_parts-returns-in_err-check_shallow-clause-passes g t c =
 
 pub check_shallow_parts-loop-index-preserved : goal.check_shallow_parts-loop-index-preserved
 check_shallow_parts-loop-index-preserved g t c =
-    let at = at_default c.args.self.now.parts.now c.loop-index.index (record { offset = 0; node = 0 }) (omega (arith, c.requires.fits.last)) in
-    (towards_part c.loop-index-test.true at c.loop-index.invariant.0 c.in_ok-check_shallow.ensures.passes.some,
-    omega (arith, c.loop-index.invariant.1, c.in_ok-check_shallow.ensures.pays, parts_next_is c.args.self.now c.loop-index.index c.args.last _ c.loop-index-test.true c.requires.fits.last at))
+    let at = at_default c.args.self.now.parts.now c.loop-index.index (record { offset = 0; node = 0 }) (omega (arith, c.requires.fits.last)) in (
+      towards_part c.loop-index-test.true at c.loop-index.invariant.0 c.in_ok-check_shallow.ensures.passes.some,
+      omega (arith, c.loop-index.invariant.1, c.in_ok-check_shallow.ensures.pays, parts_next_is c.args.self.now c.loop-index.index c.args.last _ c.loop-index-test.true c.requires.fits.last at),
+    )
 
 pub check_shallow_parts-returns-clause-passes : goal.check_shallow_parts-returns-clause-passes
 check_shallow_parts-returns-clause-passes g t c = parts_over (omega arith) c.loop-index.invariant.0
@@ -168,9 +169,10 @@ check_shallow_elements-count_legal-passed-requires-clause-size g t c = node_take
 
 pub check_shallow_elements-loop-index-init : goal.check_shallow_elements-loop-index-init
 check_shallow_elements-loop-index-init g t c =
-    let takes = node_takes c.requires.fits c.index-self-node.is c.unwrap_or-size.ensures in
-    (towards_passed c.args.self.now c.args.node c.unwrap_or-size.result takes c.count_legal-passed.ensures.below c.count_legal-passed.ensures.passed,
-    omega (arith, elements_few c.args.self.now c.args.node c.args.count c.count_legal-passed.result))
+    let takes = node_takes c.requires.fits c.index-self-node.is c.unwrap_or-size.ensures in (
+      towards_passed c.args.self.now c.args.node c.unwrap_or-size.result takes c.count_legal-passed.ensures.below c.count_legal-passed.ensures.passed,
+      omega (arith, elements_few c.args.self.now c.args.node c.args.count c.count_legal-passed.result),
+    )
 
 pub check_shallow_elements-check_shallow-requires : goal.check_shallow_elements-check_shallow-requires
 check_shallow_elements-check_shallow-requires g t c =
@@ -185,9 +187,10 @@ check_shallow_elements-returns-in_err-check_shallow-clause-passes g t c =
 
 pub check_shallow_elements-loop-index-preserved : goal.check_shallow_elements-loop-index-preserved
 check_shallow_elements-loop-index-preserved g t c =
-    let takes = node_takes c.requires.fits c.index-self-node.is c.unwrap_or-size.ensures in
-    (towards_element c.args.self.now c.args.node c.unwrap_or-size.result takes c.loop-index-test.true c.loop-index.invariant.0 c.in_ok-check_shallow.ensures.passes.some,
-    omega (arith, c.loop-index.invariant.1, c.in_ok-check_shallow.ensures.pays, elements_next_is c.args.self.now c.args.node c.args.count c.loop-index.index c.loop-index-test.true))
+    let takes = node_takes c.requires.fits c.index-self-node.is c.unwrap_or-size.ensures in (
+      towards_element c.args.self.now c.args.node c.unwrap_or-size.result takes c.loop-index-test.true c.loop-index.invariant.0 c.in_ok-check_shallow.ensures.passes.some,
+      omega (arith, c.loop-index.invariant.1, c.in_ok-check_shallow.ensures.pays, elements_next_is c.args.self.now c.args.node c.args.count c.loop-index.index c.loop-index-test.true),
+    )
 
 pub check_shallow_elements-returns-clause-passes : goal.check_shallow_elements-returns-clause-passes
 check_shallow_elements-returns-clause-passes g t c = elements_over c.unwrap_or-size.result (omega arith) c.loop-index.invariant.0
