@@ -91,7 +91,8 @@ impl Schema {
     /// Asks that the context's range ends in the buffer. In a context for these bytes that met nothing yet the answer is exact: Ok where the buffer
     /// is an archive with its root there and with no region too deep, and else the refusal of the first test that is false, with its fields
     /// (12, 16 to 18 and 21 to 29 of docs/FORMAT.md). Refused with `OutOfMemory`, 1, where memory is refused for the list of what is left to check
-    /// or for a shared position. What a context is left with isn't said: make a new one for the next check.
+    /// or for a shared position. Accepted or refused, in any context, it enters at most one region, and one for each four bytes of the context's range:
+    /// 1 + n / 4 in n bytes. What else a context is left with isn't said: make a new one for the next check.
     pub fn check<C: ArchiveContext + SharedContext>(
         &self,
         bytes: &[u8],

@@ -14,7 +14,8 @@ use crate::format::traits::Portable;
 
 /// Checks that `bytes` are an archive whose root, a `T`, lies at `pos`, where `T` checks itself. In a context for these bytes that met nothing yet
 /// the answer is exact: Ok where they are one with no region too deep, else the refusal of the first test that is false, in the order that
-/// docs/FORMAT.md gives. It takes no memory and is never refused with 30 or 31: such a type has a meaning.
+/// docs/FORMAT.md gives. It takes no memory and is never refused with 30 or 31: such a type has a meaning. Accepted or refused, in any context, it
+/// enters at most one region, and one for each four bytes of the context's range.
 pub fn check_root<T: Portable, C: ArchiveContext>(
     bytes: &[u8],
     pos: usize,
