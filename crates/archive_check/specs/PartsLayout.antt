@@ -4,7 +4,7 @@ use Rattle.std.proofs.lemmas.Bool.{cases_lt}
 use Rattle.std.proofs.lemmas.List.Elements.{Contains-append_left, Contains-append_right}
 use Rattle.archive_check.specs.Shape.{Name, Shape, parts, named, Parts, no_part, part, definition}
 use Rattle.archive_check.specs.Layout.{Layout, up, size_of, align_of, parts_align, parts_end}
-use Rattle.archive_check.specs.Reads.{Schema}
+use Rattle.archive_check.specs.Reads.{Schema, LaidOut}
 use Rattle.archive_check.specs.Within.{IsPart, first_part, later_part}
 use Rattle.archive_check.specs.Definitions.{Definitions, no_definition, defines, both, listed, Knows, HasLayout, IsAlign}
 use Rattle.archive_check.specs.SelfCheck.Regions.{align_some}
@@ -14,6 +14,12 @@ abbrev pub part_at : Parts → ℕ → Option Shape
 part_at no_part i = None
 part_at (part X ps) zero = Some X
 part_at (part X ps) (suc i) = part_at ps i
+
+-- and the definitions that it brings, of those of the parts
+abbrev pub definitions_at : Definitions → ℕ → Definitions
+definitions_at (both D E) zero = D
+definitions_at (both D E) (suc i) = definitions_at E i
+definitions_at _ i = no_definition
 
 -- parts, and others behind them
 abbrev pub joined : Parts → Parts → Parts
@@ -48,6 +54,16 @@ knows_left s D E k = record { has = k.has.0; finite = λ n X c. k.finite n X (Co
 pub knows_right : (s : Schema) (D E : Definitions) → Knows s (both D E) → Knows s E
 knows_right s D E k = record { has = k.has.1; finite = λ n X c. k.finite n X (Contains-append_right (listed D) (listed E) (n, X) c); laid_out = k.laid_out }
 
+knows_none : (s : Schema) → LaidOut s → Knows s no_definition
+knows_none s laid = record { has = tt; finite = λ n X c. absurd (omega (arith, c.1)); laid_out = laid }
+
+-- who knows those of all parts knows those of each
+pub knows_at : (s : Schema) (D : Definitions) (i : ℕ) → Knows s D → Knows s (definitions_at D i)
+knows_at s (both D E) zero k = knows_left s D E k
+knows_at s (both D E) (suc i) k = knows_at s E i (knows_right s D E k)
+knows_at s no_definition i k = knows_none s k.laid_out
+knows_at s (defines n X) i k = knows_none s k.laid_out
+
 -- parts by themselves
 pub is_record : (D : Definitions) (ps : Parts) → IsRecord D (parts ps) D ps
 is_record D ps = record { stands = λ s k. for_itself; known = λ s k. k }
@@ -73,7 +89,7 @@ module _ (D E : Definitions) (X : Shape) (L : Layout) (laid : HasLayout D X L) (
       let first : IsPart s p n (part X ps) (p + up n (align_of s.layouts X)) X = first_part in
       subst (λ Z. IsPart s p n (part X ps) (p + up n L.align) Z) same (rw (part_align s k) at first)
   part_begins s k p n (suc i) Y e =
-      later_part (rw (sym (part_align s k), sym (part_size s k)) at (others.begins s (knows_right s D E k) p (up n L.align + L.size) i Y e))
+      later_part (rw (part_align s k, part_size s k) (others.begins s (knows_right s D E k) p (up n L.align + L.size) i Y e))
 
   -- one part, and others behind it
   pub part_laid_out : PartsLaidOut (both D E) (part X ps) (max L.align a) (λ n. end (up n L.align + L.size)) (λ n. first_or (up n L.align) (begin (up n L.align + L.size)))

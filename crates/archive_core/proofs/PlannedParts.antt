@@ -3,13 +3,13 @@ use Rattle.std.proofs.Common.{◌≡◌, ◌⊎◌, inl, inr, ℕ, ◌+◌, ◌�
 use Rattle.std.proofs.lemmas.List.Elements.{Contains-append_left, Contains-append_right}
 use Rattle.archive_check.specs.Shape.{Shape, parts, Parts, no_part, part}
 use Rattle.archive_check.specs.Layout.{up, size_of, align_of}
-use Rattle.archive_check.specs.Definitions.{Definitions, both}
+use Rattle.archive_check.specs.Definitions.{Definitions, no_definition, both, Knows}
 use Rattle.archive_check.specs.Value.{Value, product, Values, no_value, value}
 use Rattle.archive_check.specs.Reads.{Schema, LaidOut}
-use Rattle.archive_check.specs.WriterState.{WriterState}
+use Rattle.archive_check.specs.WriterState.{KeyStates, WriterState}
 use Rattle.archive_check.specs.declared.format.error.Error.{Error}
 use Rattle.archive_write.specs.Written.{GoesOn}
-use Rattle.archive_core.specs.Writing.{NameMap, Naming, WritesAll}
+use Rattle.archive_core.specs.Writing.{NameMap, Naming, AreNamed, World, Covers, Writes, WritesAll}
 use Rattle.archive_core.specs.Plans.{Cursor, cursor, IsAt, Step, PlansParts, plans_no_part, plans_part, plans_parts, Plans, AreBelow, Whatever, Foreseen, PlanOf, HasPlan, Serialized, serialized}
 use Rattle.archive_core.specs.Causes.{Explains, PartOf, PartOfParts, part_of_parts, in_first_part, in_later_part, HindersPart, HindersSome, IsOwnCause, Hinders, Reaches, IsRefused}
 use Rattle.archive_check.specs.PartsLayout.{StandsFor, for_itself, by_name, IsRecord, knows_left, knows_right}
@@ -18,6 +18,7 @@ use Rattle.archive_core.specs.Sides.{named_left, named_right}
 use Rattle.archive_core.specs.PartsPlanned.{part_plan, product_plan, standing_plan}
 use Rattle.archive_core.proofs.Appending.{writes_none, writes_cons, writes_product}
 use Rattle.archive_core.proofs.Causes.{explains_sooner, explains_later}
+use Rattle.archive_core.proofs.ResolvedParts.{standing_part as part_standing}
 use Rattle.archive_core.proofs.PlansForward.{parts_forward, plans_below}
 
 -- a writer stands where a plan ends
@@ -25,7 +26,7 @@ pub is_at_same : (b : Cursor) (w : WriterState) → IsAt b w → b ≡ cursor w
 is_at_same b w h = λ i. record { place = sym h.place i; states = λ k. sym (h.keys k) i }
 
 -- and the keys that are finished then stand below it
-pub below_later : (s : Schema) → LaidOut s → (names : NameMap) {X : Shape} {v w : Value} {a b : Cursor} {C : List Step} (mid : WriterState) → Plans s names X v a w C b → IsAt b mid → AreBelow a
+below_later : (s : Schema) → LaidOut s → (names : NameMap) {X : Shape} {v w : Value} {a b : Cursor} {C : List Step} (mid : WriterState) → Plans s names X v a w C b → IsAt b mid → AreBelow a
     → AreBelow (cursor mid)
 below_later s l names {b = b} mid plans at below = subst AreBelow (is_at_same b mid at) (plans_below s l names plans below)
 
@@ -52,7 +53,7 @@ module _ (D E : Definitions) (X : Shape) (ps : Parts) (ks ls : List Naming) (v :
         named = x.named;
         cause = λ below s names k n. (
             let q = x.cause below s names (knows_left s D E k) (named_left names ks ls n) in
-            let r = i q.stop s names (knows_right s D E k) (named_right names ks ls n) in
+            let r = i.plan q.stop s names (knows_right s D E k) (named_right names ks ls n) in
             part_plan X ps v vs s names (cursor old) _ _ _ q r (elim q.such [
               | inl y ↦ inl (y.0, Contains-append_left q.steps r.steps y.0 y.1, y.2)
               | inr y ↦ inr (y.1, y.2, y.4, λ at. (_, in_first_part y.3))
@@ -60,7 +61,7 @@ module _ (D E : Definitions) (X : Shape) (ps : Parts) (ks ls : List Naming) (v :
       })
       (λ m x below s names k n. (
       let q = x below s names (knows_left s D E k) (named_left names ks ls n) in
-      let r = i q.stop s names (knows_right s D E k) (named_right names ks ls n) in
+      let r = i.plan q.stop s names (knows_right s D E k) (named_right names ks ls n) in
       part_plan X ps v vs s names (cursor old) _ _ _ q r (omega (arith, q.such, parts_forward s k.laid_out names r.plans)))) h
 
   -- one of the others is
@@ -106,8 +107,8 @@ module _ (D : Definitions) (X : Shape) (E : Definitions) (ps : Parts) (is : IsRe
   covers_parts : (w : World) (told : List ℕ) (states : KeyStates) → Covers w D told states ks → Covers w E told states ks
   covers_parts w told states c = record { knows = is.known w.schema c.knows; rest = c.rest; begins = c.begins; placed = c.placed; named = c.named }
 
-  writes_record : (old new : WriterState) (flat value : Value) → Writes E old new ks flat value → Writes D old new ks flat value
-  writes_record old new flat value h = record {
+  writes_record : (old new : WriterState) (flat v : Value) → Writes E old new ks flat v → Writes D old new ks flat v
+  writes_record old new flat v h = record {
     added = h.added;
     grown = h.grown;
     states = h.states;
@@ -123,9 +124,11 @@ module _ (D : Definitions) (X : Shape) (E : Definitions) (ps : Parts) (is : IsRe
   pub serialized_record : (ws : Values) (old new : WriterState) → SerializedParts E ps ks vs ws old new → Serialized D X ks (product vs) (product ws) old new
   serialized_record ws old new h = serialized_standing (product ws) old new (serialized_product E ps ks vs ws old new h)
 
-  part_standing : (s : Schema) (flat : Value) (o : ℕ) (Y : Shape) (w : Value) → StandsFor s (parts ps) X → PartOf s (parts ps) flat o Y w → PartOf s X flat o Y w
-  part_standing s flat o Y w for_itself h = h
-  part_standing s flat o Y w (by_name d) h = part_of_named d h
+  standing_cause : (s : Schema) (C : List Step) (flat : Value) (e : Error) → StandsFor s (parts ps) X
+      → HindersSome s C e ⊎ ((o : ℕ) × (Y : Shape) × (w : Value) × PartOf s (parts ps) flat o Y w × HindersPart Y w e)
+      → HindersSome s C e ⊎ ((o : ℕ) × (Y : Shape) × (w : Value) × PartOf s X flat o Y w × HindersPart Y w e)
+  standing_cause s C flat e stands (inl h) = inl h
+  standing_cause s C flat e stands (inr h) = inr (h.0, h.1, h.2, part_standing s (parts ps) X flat h.0 h.1 h.2 stands h.3, h.4)
 
   standing_refused : (old new : WriterState) (e : Error) → IsRefused E (parts ps) ks (product vs) old new e → IsRefused D X ks (product vs) old new e
   standing_refused old new e h = explains_sooner _ _ _ _ old new e
@@ -133,8 +136,8 @@ module _ (D : Definitions) (X : Shape) (E : Definitions) (ps : Parts) (is : IsRe
         named = x.named;
         cause = λ below s names k n. (
             let q = x.cause below s names (is.known s k) n in
-            let r = record { flat = q.flat; steps = q.steps; stop = q.stop; plans = q.plans; such = elim q.such [ | inl y ↦ inl y | inr (o, Y, w, part, y) ↦ inr (o, Y, w, part_standing s q.flat o Y w (is.stands s k) part, y) ] } in
-            standing_plan s names (parts ps) X (product vs) (cursor old) _ (is.stands s k) r);
+            standing_plan s names (parts ps) X (product vs) (cursor old) _ (is.stands s k)
+            (record { flat = q.flat; steps = q.steps; stop = q.stop; plans = q.plans; such = standing_cause s q.steps q.flat e (is.stands s k) q.such }));
       })
       (λ m x below s names k n. standing_plan s names (parts ps) X (product vs) (cursor old) _ (is.stands s k) (x below s names (is.known s k) n)) h
 

@@ -2,7 +2,7 @@
 use Rattle.std.proofs.Common.{◌≡◌, ℕ, ◌+◌, ◌<◌, ◌≤◌, List, ◌++◌, length, refl, sym, ap, subst, ◌∙◌, arith, length-append}
 use Rattle.archive_check.specs.Shape.{Shape, parts, Parts, no_part, part}
 use Rattle.archive_check.specs.Layout.{Layout, up, size_of, align_of}
-use Rattle.archive_check.specs.Definitions.{Definitions, both, Knows, HasLayout}
+use Rattle.archive_check.specs.Definitions.{Definitions, no_definition, both, Knows, HasLayout}
 use Rattle.archive_check.specs.PartsLayout.{StandsFor, for_itself, by_name, IsRecord, knows_left, knows_right}
 use Rattle.archive_check.specs.Value.{Value, product, Values, no_value, value}
 use Rattle.archive_check.specs.Reads.{Schema, Reads, reads_parts, reads_named, reads_no_part, reads_part}
@@ -10,7 +10,7 @@ use Rattle.archive_check.specs.CleanRegions.{Occurs, IsZeroed, CleanValue, Clean
 use Rattle.archive_check.specs.declared.format.error.Error.{Error}
 use Rattle.archive_check.proofs.StandingBytes.{stands_front, stands_back, stands_zero}
 use Rattle.archive_core.specs.Writing.{Resolves}
-use Rattle.archive_core.specs.Parts.{ResolvesParts, HindersPartsAt}
+use Rattle.archive_core.specs.Parts.{FreshParts, ResolvesParts, HindersPartsAt}
 use Rattle.archive_core.specs.Causes.{PartOf, part_of_parts, part_of_named, in_first_part, in_later_part, HindersPartAt, HindersAt}
 use Rattle.archive_core.proofs.Appending.{size_is, align_is}
 
@@ -65,32 +65,38 @@ module _ (D E : Definitions) (X : Shape) (L : Layout) (laid : HasLayout D X L) (
         (o, Y, w, in_later_part (rw (align_is laid s (knows_left s D E k), size_is laid s (knows_left s D E k)) is), x));
   }
 
+-- what stands for a record
+
+standing_reads : (s : Schema) (bytes : List ℕ) (p : ℕ) (Y X : Shape) (v : Value) → StandsFor s Y X → Reads s bytes p Y v → Reads s bytes p X v
+standing_reads s bytes p Y X v for_itself h = h
+standing_reads s bytes p Y X v (by_name d) h = reads_named d h
+
+standing_clean : (s : Schema) (bytes : List ℕ) (p : ℕ) (Y X : Shape) → StandsFor s Y X → CleanValue s bytes p Y → CleanValue s bytes p X
+standing_clean s bytes p Y X for_itself h = h
+standing_clean s bytes p Y X (by_name d) h = clean_named d h
+
+pub standing_part : (s : Schema) (Z X : Shape) (v : Value) (o : ℕ) (Y : Shape) (w : Value) → StandsFor s Z X → PartOf s Z v o Y w → PartOf s X v o Y w
+standing_part s Z X v o Y w for_itself h = h
+standing_part s Z X v o Y w (by_name d) h = part_of_named d h
+
 -- a record of these parts
 module _ (D : Definitions) (X : Shape) (E : Definitions) (ps : Parts) (is : IsRecord D X E ps) (vs : Values) (p : ℕ) where
-  standing_reads : (s : Schema) (bytes : List ℕ) → StandsFor s (parts ps) X → Reads s bytes p (parts ps) (product vs) → Reads s bytes p X (product vs)
-  standing_reads s bytes for_itself h = h
-  standing_reads s bytes (by_name d) h = reads_named d h
-
-  standing_clean : (s : Schema) (bytes : List ℕ) → StandsFor s (parts ps) X → CleanValue s bytes p (parts ps) → CleanValue s bytes p X
-  standing_clean s bytes for_itself h = h
-  standing_clean s bytes (by_name d) h = clean_named d h
-
   pub resolves_record : (L : Layout) (a : List ℕ) → HasLayout E (parts ps) L → length a ≡ L.size → ResolvesParts E p 0 a ps vs → Resolves D p a X (product vs)
   resolves_record L a laid sized h =
       let same : p + 0 ≡ p = omega arith in
       record {
-        reads = λ s bytes k stands. standing_reads s bytes (is.stands s k) (reads_parts (h.reads s bytes (is.known s k) (rw same stands)));
+        reads = λ s bytes k stands. standing_reads s bytes p (parts ps) X (product vs) (is.stands s k) (reads_parts (h.reads s bytes (is.known s k) (rw same stands)));
         clean = λ s bytes k stands. (
             let stop : p + (0 + length a) ≡ p + size_of s.layouts (parts ps) = rw (size_is laid s (is.known s k)) (omega (arith, sized)) in
-            standing_clean s bytes (is.stands s k) (clean_parts (rw (← stop) (h.clean s bytes (is.known s k) (rw same stands)))));
+            standing_clean s bytes p (parts ps) X (is.stands s k) (clean_parts (rw (← stop) (h.clean s bytes (is.known s k) (rw same stands)))));
       }
-
-  standing_part : (s : Schema) (o : ℕ) (Y : Shape) (w : Value) → StandsFor s (parts ps) X → PartOf s (parts ps) (product vs) o Y w → PartOf s X (product vs) o Y w
-  standing_part s o Y w for_itself h = h
-  standing_part s o Y w (by_name d) h = part_of_named d h
 
   pub record_hinders : (e : Error) → HindersPartsAt E ps vs p 0 e → HindersAt D X (product vs) p e
   record_hinders e h = record {
     named = h.named;
-    cause = λ s k. (let (o, Y, w, part, x) = h.cause s (is.known s k) in (o, Y, w, standing_part s o Y w (is.stands s k) (part_of_parts part), x));
+    cause = λ s k. (let (o, Y, w, here, x) = h.cause s (is.known s k) in (o, Y, w, standing_part s (parts ps) X (product vs) o Y w (is.stands s k) (part_of_parts here), x));
   }
+
+-- no part, in a contract's form
+pub resolves_nothing : (p at end : ℕ) (a : List ℕ) → FreshParts end at p a → ResolvesParts no_definition p at a no_part no_value
+resolves_nothing p at end a fresh = resolves_no_part no_definition p at a fresh.zeroed

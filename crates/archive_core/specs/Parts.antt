@@ -20,8 +20,8 @@ pub record PartsPlan (s : Schema) (names : NameMap) (ps : Parts) (vs : Values) (
   pub such : holds flats steps stop
 
 -- there is one, from wherever a writer stands
-abbrev pub HavePlan : Definitions → Parts → List Naming → Values → Type 0
-HavePlan D ps keys vs = (a : Cursor) → Whatever D keys (λ s names. PartsPlan s names ps vs a (λ ws C b. Unit {0}))
+pub record HavePlan (D : Definitions) (ps : Parts) (keys : List Naming) (vs : Values) : Type 0 where
+  pub plan : (a : Cursor) → Whatever D keys (λ s names. PartsPlan s names ps vs a (λ ws C b. Unit {0}))
 
 -- Values one after another were serialized, as planned.
 pub data SerializedParts (D : Definitions) (ps : Parts) (keys : List Naming) (vs flats : Values) (old new : WriterState) : Type 0 where

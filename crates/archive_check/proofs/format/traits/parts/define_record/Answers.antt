@@ -2,7 +2,7 @@ use Rattle.std.proofs.lemmas.Result.{IfErr-weaker, on_ok_weaker}
 use Rattle.archive_check.specs.Shape.{parts}
 use Rattle.archive_check.specs.Definitions.{defines}
 use Rattle.archive_check.specs.Expressions.{table_of}
-use Rattle.archive_check.proofs.SelfCheck.Outcomes.{err_is}
+use Rattle.archive_check.proofs.format.RecordParts.{err_is}
 use Rattle.archive_check.proofs.format.AddedDefinitions.{first_conflicts, later_conflicts, record_refused, record_extended, extended_both}
 use Rattle.archive_check.proofs.format.traits.parts.define_record.Goals as goal
 

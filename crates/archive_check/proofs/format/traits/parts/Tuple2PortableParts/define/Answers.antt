@@ -1,6 +1,6 @@
 use Rattle.std.proofs.lemmas.Result.{IfErr-weaker}
 use Rattle.archive_check.specs.Expressions.{table_of}
-use Rattle.archive_check.proofs.SelfCheck.Outcomes.{err_is}
+use Rattle.archive_check.proofs.format.RecordParts.{err_is}
 use Rattle.archive_check.proofs.format.AddedDefinitions.{first_conflicts, later_conflicts}
 use Rattle.archive_check.proofs.format.traits.parts.Tuple2PortableParts.define.Goals as goal
 
