@@ -12,7 +12,7 @@ use Rattle.archive_check.specs.Value.{Value, number}
 use Rattle.archive_check.specs.Reads.{Schema, LaidOut}
 use Rattle.archive_check.specs.Depth.{AcceptedWithin}
 use Rattle.archive_check.specs.Defined.{Reaches, reaches, reaches_through, HeldIn, held, held_through, mentions_held, WellFormed}
-use Rattle.archive_check.specs.Definitions.{Definitions, no_definition, defines, both, listed, Has, Knows}
+use Rattle.archive_check.specs.Definitions.{Definitions, no_definition, defines, both, listed, NoOthers, Has, Knows}
 use Rattle.archive_check.specs.Trail.{RootTrips}
 use Rattle.archive_check.specs.Ranges.{RangeState, whole}
 use Rattle.archive_check.specs.PositionStates.{Positions, nothing_met}
@@ -30,7 +30,7 @@ use Rattle.archive_check.proofs.AcceptedWalks.{walks}
 use Rattle.archive_check.proofs.FaultyNotWalked.{root_no_walk}
 use Rattle.archive_check.proofs.PositiveAlignments.{rounds_pos}
 use Rattle.archive_check.proofs.LaidOutNames.{names_of, rounds_solve_reached}
-use Rattle.archive_check.proofs.WellFormed.{found_stands}
+use Rattle.archive_check.proofs.WellFormed.{found_stands, involved_reached}
 use Rattle.archive_check.proofs.Elements.{contains_cases, contains_first}
 use Rattle.archive_check.proofs.Viewed.{root_lies, root_says}
 use Rattle.archive_check.proofs.Seen.{same_some}
@@ -61,12 +61,15 @@ reached_on (reaches h) d i = reaches_through h d i
 reached_on (reaches_through h e r) d i = reaches_through h e (reached_on r d i)
 
 -- Where a shape is well formed, and no definition is brought that it doesn't reach, a schema knows them.
-module _ (D : Definitions) (X : Shape) (well : WellFormed (listed D) X) (no_others : (name : Name) (Y : Shape) → Contains (listed D) (name, Y) → Reaches (listed D) name X) where
+module _ (D : Definitions) (X : Shape) (well : WellFormed (listed D) X) (no_others : NoOthers D X) where
   abbrev own : Schema
   own = record { table = listed D; layouts = rounds (listed D) (length (names_of (listed D))) }
 
+  reached_each : (name : Name) (Y : Shape) → Contains (listed D) (name, Y) → Reaches (listed D) name X
+  reached_each name Y c = involved_reached (listed D) X well.defined name (no_others name Y c)
+
   own_each : (name : Name) (Y : Shape) → Contains (listed D) (name, Y) → definition (listed D) name ≡ Some Y
-  own_each name Y c = let (Z, e, only) = well.defined name (no_others name Y c) in e ∙ ap Some (sym (only Y c))
+  own_each name Y c = let (Z, e, only) = well.defined name (reached_each name Y c) in e ∙ ap Some (sym (only Y c))
 
   -- what is held under a schema that has them is held under them alone
   own_held : (s : Schema) → Has s D → {name : Name} {Y : Shape} → ((n : Name) → Reaches (listed D) n Y → Reaches (listed D) n X) → HeldIn s.table name Y → HeldIn (listed D) name Y
@@ -83,7 +86,7 @@ module _ (D : Definitions) (X : Shape) (well : WellFormed (listed D) X) (no_othe
     has = has;
     finite = λ name Y c h.
         let d = own_each name Y c in
-        let r = no_others name Y c in
+        let r = reached_each name Y c in
         well.finite name Y r d (own_held s has (λ m i. reached_on r d i) h);
     laid_out = laid;
   }
@@ -92,7 +95,7 @@ module _ (D : Definitions) (X : Shape) (well : WellFormed (listed D) X) (no_othe
   some_knows = (
     own,
     has_knows own (each_has own D own_each) (record {
-      solves = λ name Y e. rounds_solve_reached (listed D) X well name Y (no_others name Y (found_stands (listed D) name Y e)) e;
+      solves = λ name Y e. rounds_solve_reached (listed D) X well name Y (reached_each name Y (found_stands (listed D) name Y e)) e;
       aligned = rounds_pos (listed D) (length (names_of (listed D)));
     }),
   )
@@ -103,7 +106,7 @@ is_whole s met bytes depth levels few e f = rw (e, f) (record { fresh = record {
 
 -- What a check says with a type's schema, it says with each that knows the type's definitions.
 module _ (r : RustSchema) (D : Definitions) (X : Shape) (bytes : List ℕ) (limit : Option ℕ) (pos : ℕ) (made : IsSchemaOf r X D) where
-  pub accepts_archive : ((name : Name) (Y : Shape) → Contains (listed D) (name, Y) → Reaches (listed D) name X) → Accepts r bytes limit pos → IsArchiveWithin D bytes limit pos X
+  pub accepts_archive : NoOthers D X → Accepts r bytes limit pos → IsArchiveWithin D bytes limit pos X
   accepts_archive no_others h = record {
     well_formed = made.well_formed;
     known = ∣ some_knows D X made.well_formed no_others ∣₁;

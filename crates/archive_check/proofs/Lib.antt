@@ -39,6 +39,7 @@ pub mod WellFormed
 pub mod ReachedNames
 pub mod Rounds
 pub mod Viewed
+pub mod ViewedFields
 pub mod ViewedValues
 pub mod ReadBack
 pub mod ReadOwners

@@ -5,8 +5,8 @@ use Rattle.std.proofs.lemmas.List.Elements.{Contains-get_or}
 use Rattle.archive_check.specs.declared.format.error.Error.{Error}
 use Rattle.archive_check.specs.declared.format.error.Error.TheVariants.{OutOfMemory, ShapeConflict, RecursiveLayout}
 use Rattle.archive_check.specs.Shape.{Name, Shape, str, Table, definition}
-use Rattle.archive_check.specs.Defined.{Holds, Reaches, reaches, reaches_through, HeldIn, held, held_through, AllDefined, WellFormed}
-use Rattle.archive_check.specs.Definitions.{Definitions, listed, Extended, Conflicts}
+use Rattle.archive_check.specs.Defined.{Holds, Reaches, reaches, reaches_through, Involves, involves, involves_through, HeldIn, held, held_through, AllDefined, WellFormed}
+use Rattle.archive_check.specs.Definitions.{Definitions, listed, NoOthers, Extended, Conflicts}
 use Rattle.archive_check.specs.plan.Names.{missing, Complete, Collected, Arranged, Prepared, HasAll}
 use Rattle.archive_check.specs.Schemas.{ExplainsNoSchema}
 use Rattle.archive_check.proofs.plan.Named.{names_decided, definition_here, definition_other}
@@ -31,6 +31,23 @@ stands_found ((a, Y) ∷ ds) n X c = ⊎_elim
     (λ later. let f = stands_found ds n X later in (f.0, definition_other a n Y ds o ∙ f.1))
     (contains_cases (a, Y) ds (n, X) c))
     (names_decided a n)
+
+-- what is reached, whichever definitions are taken, is reached in a table that has each of them
+pub reached_there : (old new : Table) → ((n : Name) (Y : Shape) → Contains old (n, Y) → definition new n ≡ Some Y) → {n : Name} {X : Shape} → Involves old n X → Reaches new n X
+reached_there old new has (involves m) = reaches m
+reached_there old new has (involves_through m c i) = reaches_through m (has _ _ c) (reached_there old new has i)
+
+-- where each name that is reached has one definition, no other one leads further
+module _ (table : Table) (X : Shape) (all : AllDefined table X) where
+  involved_below : {n : Name} {Y : Shape} → ((m : Name) → Reaches table m Y → Reaches table m X) → Involves table n Y → Reaches table n Y
+  involved_below sub (involves m) = reaches m
+  involved_below sub (involves_through {Y = Z} {n = k} m c i) =
+      let (W, d, only) = all k (sub k (reaches m)) in
+      let d' : definition table k ≡ Some Z = d ∙ ap Some (sym (only Z c)) in
+      reaches_through m d' (involved_below (λ j r. sub j (reaches_through m d' r)) i)
+
+  pub involved_reached : (n : Name) → Involves table n X → Reaches table n X
+  involved_reached n i = involved_below (λ m r. r) i
 
 -- what is reached stays so under more definitions
 module _ (old new : Table) (more : (n : Name) (Y : Shape) → definition old n ≡ Some Y → definition new n ≡ Some Y) where
@@ -167,15 +184,15 @@ prepared D X table added found collected placed arranged = record {
 }
 
 -- two definitions of one name
-pub conflict_not_defined : (D : Definitions) (X : Shape) → ((name : Name) (Y : Shape) → Contains (listed D) (name, Y) → Reaches (listed D) name X) → Conflicts [] D → AllDefined (listed D) X → ⊥
+pub conflict_not_defined : (D : Definitions) (X : Shape) → NoOthers D X → Conflicts [] D → AllDefined (listed D) X → ⊥
 conflict_not_defined D X reached c all =
-    let (Y, e, one) = all c.name (reached c.name c.shape c.here) in
+    let (Y, e, one) = all c.name (involved_reached (listed D) X all c.name (reached c.name c.shape c.here)) in
     let there : Contains (listed D) (c.name, c.other) = ⊎_elim (λ f. cc f) (λ d. d) c.there in
     c.differ (one c.shape c.here ∙ sym (one c.other there))
 
 -- What the steps of making a schema answer: definitions are added to none, collected and put in order.
 module _ (D : Definitions) (X : Shape) where
-  pub explains_conflict : (old : Table) (e : Error) → old ≡ [] → ((name : Name) (Y : Shape) → Contains (listed D) (name, Y) → Reaches (listed D) name X)
+  pub explains_conflict : (old : Table) (e : Error) → old ≡ [] → NoOthers D X
       → (e ≡ OutOfMemory) ⊎ ((e ≡ ShapeConflict) × Conflicts old D) → ExplainsNoSchema X D e
   explains_conflict old e none reached (inl memory) = inl memory
   explains_conflict old e none reached (inr (is, c)) = inr (inl (is, conflict_not_defined D X reached (rw none at c)))

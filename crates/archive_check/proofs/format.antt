@@ -3,4 +3,5 @@ pub mod AddedDefinitions
 pub mod BytesAt
 pub mod EqualExpressions
 pub mod LegalBytes
+pub mod RecordParts
 pub mod Views

@@ -2,7 +2,7 @@
 use Rattle.std.specs.Prelude.{◌≡◌, ◌≢◌, ◌⊎◌, ℕ, [], ◌∷◌, ◌++◌, Some, Contains}
 use Rattle.archive_check.specs.Shape.{Name, Shape, Table, definition}
 use Rattle.archive_check.specs.Layout.{Layout, layout}
-use Rattle.archive_check.specs.Defined.{HeldIn}
+use Rattle.archive_check.specs.Defined.{HeldIn, Involves}
 use Rattle.archive_check.specs.Reads.{Schema, LaidOut}
 
 pub data Definitions : Type 0 where
@@ -15,6 +15,10 @@ abbrev pub listed : Definitions → Table
 listed no_definition = []
 listed (defines name X) = (name, X) ∷ []
 listed (both D E) = listed D ++ listed E
+
+-- none of them is the definition of a name that X doesn't reach
+abbrev pub NoOthers : Definitions → Shape → Type 0
+NoOthers D X = (name : Name) (Y : Shape) → Contains (listed D) (name, Y) → Involves (listed D) name X
 
 -- a table, and the same with these definitions added
 pub record Extended (old : Table) (D : Definitions) (new : Table) : Type 0 where

@@ -1,10 +1,9 @@
 -- The layout of a leaf, and its laws.
-use Rattle.std.proofs.Common.{◌≡◌, max, refl, inl, inr, arith, Contains}
+use Rattle.std.proofs.Common.{◌≡◌, max, refl, inl, inr, arith}
 use Rattle.std.specs.Int.{Width, w8, w16, w32, w64, w128, byte_len}
-use Rattle.archive_check.specs.Shape.{Name, Kind, unit, bool, char, number, non_zero, raw_rel, Shape, leaf}
+use Rattle.archive_check.specs.Shape.{Kind, unit, bool, char, number, non_zero, raw_rel, Shape, leaf}
 use Rattle.archive_check.specs.Layout.{Layout, kind_size, kind_align}
-use Rattle.archive_check.specs.Defined.{Reaches}
-use Rattle.archive_check.specs.Definitions.{no_definition, listed, HasLayout, IsAlign}
+use Rattle.archive_check.specs.Definitions.{no_definition, NoOthers, HasLayout, IsAlign}
 
 abbrev pub leaf_layout : Kind → Layout
 leaf_layout kind = record { size = kind_size kind; align = kind_align kind }
@@ -37,5 +36,5 @@ pub leaf_has_layout : (kind : Kind) → HasLayout no_definition (leaf kind) (lea
 leaf_has_layout kind = record { solved = λ s k. refl }
 
 -- and no definition is brought that isn't reached
-pub no_definition_reached : (X : Shape) (name : Name) (Y : Shape) → Contains (listed no_definition) (name, Y) → Reaches (listed no_definition) name X
+pub no_definition_reached : (X : Shape) → NoOthers no_definition X
 no_definition_reached X name Y c = absurd (omega (arith, c.1))

@@ -22,7 +22,9 @@ pub mod PlainData
 pub mod Laws
 pub mod Definitions
 pub mod LeafLayout
+pub mod NoOthers
 pub mod NamedLayout
+pub mod PartsLayout
 pub mod RegionLayout
 pub mod LittleEndian
 pub mod Readable

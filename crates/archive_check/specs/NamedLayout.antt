@@ -3,16 +3,16 @@ use Rattle.std.proofs.Common.{◌≡◌, ◌≢◌, ◌∙◌, ap, subst, refl, 
 use Rattle.archive_check.specs.Shape.{Name, unit, Shape, leaf, named, bool}
 use Rattle.archive_check.specs.Layout.{Layout, layout}
 use Rattle.archive_check.specs.Reads.{Schema}
-use Rattle.archive_check.specs.Defined.{Holds, held, Reaches, reaches, mentions_held, holds_name}
-use Rattle.archive_check.specs.Definitions.{defines, both, listed, Knows, HasLayout}
+use Rattle.archive_check.specs.Defined.{Holds, held, mentions_held, holds_name, Involves, involves}
+use Rattle.archive_check.specs.Definitions.{defines, both, listed, Knows, NoOthers, HasLayout}
 
 -- the name has the layout of its definition
 pub name_has_layout : (name : Name) (X : Shape) (L : Layout) → ((s : Schema) → Knows s (defines name X) → layout s.layouts X ≡ L) → HasLayout (defines name X) (named name) L
 name_has_layout name X L h = record { solved = λ s k. k.laid_out.solves name X k.has ∙ h s k }
 
 -- and no definition is brought but its own, which it reaches
-pub name_reached : (name : Name) (X : Shape) (n : Name) (Y : Shape) → Contains (listed (defines name X)) (n, Y) → Reaches (listed (defines name X)) n (named name)
-name_reached name X n Y (zero, l, e) = subst (λ m. Reaches (listed (defines name X)) m (named name)) (ap (λ (p : Name × Shape). p.0) e) (reaches (mentions_held holds_name))
+pub name_reached : (name : Name) (X : Shape) → NoOthers (defines name X) (named name)
+name_reached name X n Y (zero, l, e) = subst (λ m. Involves (listed (defines name X)) m (named name)) (ap (λ (p : Name × Shape). p.0) e) (involves (mentions_held holds_name))
 name_reached name X n Y (suc k, l, e) = absurd (omega (arith, l))
 
 -- No schema knows a name that holds itself, so any layout may be told of it.
@@ -24,9 +24,9 @@ pub twice_has_layout : (name : Name) (X Y : Shape) (L : Layout) → X ≢ Y → 
 twice_has_layout name X Y L n = record { solved = λ s k. absurd (n (cc (k.has.0, k.has.1))) }
 
 -- and both are reached
-pub twice_reached : (name : Name) (X Y : Shape) (n : Name) (Z : Shape) → Contains (listed (both (defines name X) (defines name Y))) (n, Z) → Reaches (listed (both (defines name X) (defines name Y))) n (named name)
-twice_reached name X Y n Z (zero, l, e) = subst (λ m. Reaches (listed (both (defines name X) (defines name Y))) m (named name)) (ap (λ (p : Name × Shape). p.0) e) (reaches (mentions_held holds_name))
-twice_reached name X Y n Z (suc zero, l, e) = subst (λ m. Reaches (listed (both (defines name X) (defines name Y))) m (named name)) (ap (λ (p : Name × Shape). p.0) e) (reaches (mentions_held holds_name))
+pub twice_reached : (name : Name) (X Y : Shape) → NoOthers (both (defines name X) (defines name Y)) (named name)
+twice_reached name X Y n Z (zero, l, e) = subst (λ m. Involves (listed (both (defines name X) (defines name Y))) m (named name)) (ap (λ (p : Name × Shape). p.0) e) (involves (mentions_held holds_name))
+twice_reached name X Y n Z (suc zero, l, e) = subst (λ m. Involves (listed (both (defines name X) (defines name Y))) m (named name)) (ap (λ (p : Name × Shape). p.0) e) (involves (mentions_held holds_name))
 twice_reached name X Y n Z (suc (suc k), l, e) = absurd (omega (arith, l))
 
 -- nothing is no bool

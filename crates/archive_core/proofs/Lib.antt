@@ -13,6 +13,7 @@ pub mod PlansForward
 pub mod PlannedParts
 pub mod Runs
 pub mod RunRegions
+pub mod ResolvedParts
 pub mod SharedPlans
 pub mod Regions
 pub mod Shared

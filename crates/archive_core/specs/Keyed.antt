@@ -68,3 +68,11 @@ value_keyed ks ls v vs h i = record {
 pub each_keyed : {A : Type 0} (k : A → List Naming) (m : A → Value) → ((x : A) → IsKeyed (k x) (m x)) → (xs : List A) → IsKeyed (each_keys k xs) (list (each_meaning m xs))
 each_keyed k m h [] = nothing_keyed
 each_keyed k m h (x ∷ xs) = value_keyed (k x) (each_keys k xs) (m x) (each_meaning m xs) (h x) (each_keyed k m h xs)
+
+-- parts, one after another, and a record of them
+
+pub part_keyed : {ks ls : List Naming} {v : Value} {vs : Values} → IsKeyed ks v → IsKeyed ls (list vs) → IsKeyed (ks ++ ls) (list (value v vs))
+part_keyed {ks = ks} {ls = ls} {v = v} {vs = vs} h i = value_keyed ks ls v vs h i
+
+pub record_keyed : {ks : List Naming} {vs : Values} → IsKeyed ks (list vs) → IsKeyed ks (product vs)
+record_keyed {ks = ks} {vs = vs} h = product_keyed ks vs h

@@ -14,7 +14,8 @@ use crate::place::Place;
 use crate::view::{RawView, Ref};
 use archive_check::format::error::Error;
 pub use archive_check::format::traits::{
-    ArchivePointee, Entries, Keys, LayoutRaw, Portable, PortablePointee, layout_of_run,
+    ArchivePointee, Entries, Keys, LayoutRaw, Portable, PortableParts, PortablePointee, Record,
+    define_record, expr_of_record, layout_of_run, size_of_record,
 };
 use archive_write::ser::Writer;
 use std::alloc::Global;

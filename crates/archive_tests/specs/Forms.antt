@@ -1,13 +1,7 @@
--- The shapes of archived types that stand for their shapes alone, and what their laws cite.
+-- The shapes of archived types that stand for their shapes alone.
 use Rattle.std.specs.Prelude.{codes, false}
 use Rattle.std.specs.Int.{w8, w16, w32, w64, w128}
-use Rattle.archive_check.specs.Shape.{Name, unsigned, signed, bool, number, Shape, leaf, parts, choice, array, boxed, vec, str, weak, named, Flavor, one, no_part, part, no_variant, variant, Table}
-use Rattle.archive_check.specs.Defined.{Mentions, Reaches, reaches, reaches_through}
-
--- what is reached from a shape is reached from one that mentions all that it mentions
-pub reaches_around : {table : Table} {name : Name} {X Y : Shape} → ((n : Name) → Mentions n X → Mentions n Y) → Reaches table name X → Reaches table name Y
-reaches_around f (reaches m) = reaches (f _ m)
-reaches_around f (reaches_through m d r) = reaches_through (f _ m) d r
+use Rattle.archive_check.specs.Shape.{Name, unsigned, signed, bool, number, Shape, leaf, parts, choice, array, boxed, vec, str, weak, named, Flavor, one, no_part, part, no_variant, variant}
 
 -- a flavor that allows no cycles
 abbrev pub rc : Flavor

@@ -2,12 +2,12 @@
 use Rattle.std.proofs.Common.{◌≡◌, ℕ, zero, suc, ◌<◌, [], ◌∷◌, ◌++◌, length, take, get_or, refl, sym, ap, ◌∙◌, arith, true, false, Some, None, Contains, inr, ⊎_elim, append_assoc}
 use Rattle.std.proofs.lemmas.List.{append-nil}
 use Rattle.archive_check.specs.Shape.{Name, Shape, Table, definition}
-use Rattle.archive_check.specs.Definitions.{Definitions, listed, Extended}
-use Rattle.archive_check.specs.Defined.{Reaches, WellFormed}
+use Rattle.archive_check.specs.Definitions.{Definitions, listed, NoOthers, Extended}
+use Rattle.archive_check.specs.Defined.{WellFormed}
 use Rattle.archive_check.specs.plan.Names.{missing, Collected, Arranged}
 use Rattle.archive_check.specs.SelfCheck.Orders.{AllIn, AllClosed, Placed, IsOrder}
 use Rattle.archive_check.proofs.Elements.{contains_cases}
-use Rattle.archive_check.proofs.WellFormed.{found_stands, reached_more, well_formed}
+use Rattle.archive_check.proofs.WellFormed.{found_stands, reached_there, well_formed}
 
 all_in : (table xs : Table) → AllIn table xs → (n : Name) (Y : Shape) → Contains xs (n, Y) → definition table n ≡ Some Y
 all_in table [] all n Y c = absurd (omega (arith, c.1))
@@ -33,7 +33,7 @@ all_earlier before (d ∷ ds) placed (suc k) n Y lt is =
     let all : before ++ take (suc k) (d ∷ ds) ≡ (before ++ d ∷ []) ++ take k ds = sym (append_assoc before (d ∷ []) (take k ds)) in
     rw all (all_earlier (before ++ d ∷ []) ds placed.1 k n Y (omega (arith, lt)) is)
 
-module _ (D : Definitions) (X : Shape) (table : Table) (order : IsOrder D X table) (no_others : (n : Name) (Y : Shape) → Contains (listed D) (n, Y) → Reaches (listed D) n X) where
+module _ (D : Definitions) (X : Shape) (table : Table) (order : IsOrder D X table) (no_others : NoOthers D X) where
   in_listed : (n : Name) (Y : Shape) → definition table n ≡ Some Y → Contains (listed D) (n, Y)
   in_listed n Y e = found_stands (listed D) n Y (all_in (listed D) table order.only n Y (found_stands table n Y e))
 
@@ -43,7 +43,7 @@ module _ (D : Definitions) (X : Shape) (table : Table) (order : IsOrder D X tabl
   collected : Collected table X table
   collected = record {
     kept = λ n Y e. e;
-    reached = λ n Y e. reached_more (listed D) table (λ m Z f. all_in table (listed D) order.has m Z (found_stands (listed D) m Z f)) (no_others n Y (in_listed n Y e));
+    reached = λ n Y e. reached_there (listed D) table (all_in table (listed D) order.has) (no_others n Y (in_listed n Y e));
     once = all_in table table order.once;
     root = order.root;
     closed = λ n Y e. all_closed table table order.closed n Y (found_stands table n Y e);

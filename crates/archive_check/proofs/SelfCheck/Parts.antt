@@ -1,23 +1,17 @@
 -- One part, and then the others.
 use Rattle.std.proofs.Common.{◌≡◌, ℕ, refl, ap, ◌+◌, List}
-use Rattle.std.proofs.lemmas.List.Elements.{Contains-append_left, Contains-append_right}
 use Rattle.archive_check.specs.Shape.{Shape, Parts, part}
 use Rattle.archive_check.specs.Layout.{up, size_of, align_of}
 use Rattle.archive_check.specs.Reads.{Schema}
 use Rattle.archive_check.specs.declared.format.error.Error.{Error}
 use Rattle.archive_check.specs.Layout.{Layout}
 use Rattle.archive_check.specs.Ranges.{RangeState}
-use Rattle.archive_check.specs.Definitions.{Definitions, listed, both, Knows, HasLayout}
+use Rattle.archive_check.specs.Definitions.{Definitions, both, Knows, HasLayout}
+pub use Rattle.archive_check.specs.PartsLayout.{knows_left, knows_right}
 use Rattle.archive_check.specs.SelfCheck.Ways.{Goes, Halts, shape_way, parts_way}
 use Rattle.archive_check.proofs.SelfCheck.Ways.{Toward, toward_same, toward_then, toward_halts, toward_goes}
 use Rattle.archive_check.proofs.SelfCheck.Layouts.{its_size, its_align}
 use Rattle.archive_check.proofs.SelfCheck.Steps.{part_way, part_stop}
-
-pub knows_left : (t : Schema) (D E : Definitions) → Knows t (both D E) → Knows t D
-knows_left t D E k = record { has = k.has.0; finite = λ n X c. k.finite n X (Contains-append_left (listed D) (listed E) (n, X) c); laid_out = k.laid_out }
-
-pub knows_right : (t : Schema) (D E : Definitions) → Knows t (both D E) → Knows t E
-knows_right t D E k = record { has = k.has.1; finite = λ n X c. k.finite n X (Contains-append_right (listed D) (listed E) (n, X) c); laid_out = k.laid_out }
 
 module _ (D E : Definitions) (X : Shape) (L : Layout) (laid : HasLayout D X L) (ps : Parts) (b : List ℕ) (base start offset size : ℕ) (o_is : offset ≡ up start L.align) (s : RangeState) where
   here_is : (t : Schema) → Knows t (both D E) → base + offset ≡ base + up start (align_of t.layouts X)

@@ -1,8 +1,8 @@
 -- What a check that follows a type alone says of a whole buffer: the root is entered as any region is.
-use Rattle.std.proofs.Common.{◌≡◌, ℕ, refl, sym, inr, ◌<◌, ◌^◌, List, [], length, Option, Contains}
+use Rattle.std.proofs.Common.{◌≡◌, ℕ, refl, sym, inr, ◌<◌, ◌^◌, List, [], length, Option}
 use Rattle.std.specs.FinMap.{empty}
 use Rattle.archive_check.specs.declared.format.error.Error.{Error}
-use Rattle.archive_check.specs.Shape.{Name, Shape}
+use Rattle.archive_check.specs.Shape.{Shape}
 use Rattle.archive_check.specs.Reads.{Schema}
 use Rattle.archive_check.specs.Tour.{root_pointer, Seen}
 use Rattle.archive_check.specs.Trail.{Fault, TripsEnter, RootTrips}
@@ -10,8 +10,8 @@ use Rattle.archive_check.specs.Walk.{Enter, enter, RootWalk}
 use Rattle.archive_check.specs.Ranges.{RangeState}
 use Rattle.archive_check.specs.PositionStates.{Positions}
 use Rattle.archive_check.specs.FreshContexts.{IsFresh, IsWhole}
-use Rattle.archive_check.specs.Definitions.{Definitions, listed}
-use Rattle.archive_check.specs.Defined.{Reaches, WellFormed}
+use Rattle.archive_check.specs.Definitions.{Definitions, listed, NoOthers}
+use Rattle.archive_check.specs.Defined.{WellFormed}
 use Rattle.archive_check.specs.Archives.{IsArchiveWithin, IsRefusal, ExplainsNoArchive}
 use Rattle.archive_check.specs.check.LoopInvariant.{HasLevels}
 use Rattle.archive_check.specs.SelfCheck.Ways.{Goes, Halts, enter_way}
@@ -32,7 +32,7 @@ root_trips : (t : Schema) (bytes : List ℕ) (root : ℕ) (X : Shape) (s : Range
 root_trips t bytes root X s met whole f w = rw (whole.start, whole.end) at w
 
 module _ (D : Definitions) (X : Shape) (bytes : List ℕ) (root : ℕ) (s : RangeState) (met : Positions) (well : WellFormed (listed D) X) where
-  pub whole_archive : ((name : Name) (Y : Shape) → Contains (listed D) (name, Y) → Reaches (listed D) name X) → (s' : RangeState) → Goes D (enter_way bytes (root_pointer root X)) s s' → IsWhole s met bytes → IsArchiveWithin D bytes s.depth root X
+  pub whole_archive : NoOthers D X → (s' : RangeState) → Goes D (enter_way bytes (root_pointer root X)) s s' → IsWhole s met bytes → IsArchiveWithin D bytes s.depth root X
   whole_archive no_others s' goes whole = record {
     well_formed = well;
     known = ∣ some_knows D X well no_others ∣₁;

@@ -1,11 +1,11 @@
 -- A definition that is put behind others: what is answered, and the table afterwards.
-use Rattle.std.proofs.lemmas.List.Elements.{Contains-append_left}
+use Rattle.std.proofs.lemmas.List.Elements.{Contains-append_left, Contains-append_right, Contains-append_cases}
 use Rattle.std.proofs.Common.{◌≡◌, ◌≢◌, ◌⊎◌, inl, inr, ⊎_elim, [], ◌∷◌, ◌++◌, refl, sym, ap, ◌∙◌, subst, arith, Bool, true, false, Option, Some, None, Ok, Err, if◌then◌else◌, Contains}
 use Rattle.archive_check.specs.declared.format.error.Error.{Error}
 use Rattle.archive_check.specs.declared.format.error.Error.TheVariants.{OutOfMemory, ShapeConflict}
 use Rattle.archive_check.specs.Shape.{Name, Shape, Table, definition}
 use Rattle.archive_check.specs.AddAnswer.{IsAddAnswer}
-use Rattle.archive_check.specs.Definitions.{defines, both, listed, Extended, Conflicts}
+use Rattle.archive_check.specs.Definitions.{Definitions, defines, both, listed, Extended, Conflicts}
 use Rattle.archive_check.proofs.plan.Named.{definition_here, append_known, append_unknown, push_some}
 use Rattle.archive_check.proofs.Elements.{contains_cases, contains_first, contains_later}
 use Rattle.archive_check.proofs.Seen.{same_some}
@@ -72,3 +72,54 @@ module _ (old mid : Table) (name : Name) (X Y : Shape) (apart : X ≢ Y) where
   pub second_never : (b c : Bool) → IsAddAnswer (definition old name) X (Ok b) → mid ≡ (if b then old ++ (name, X) ∷ [] else old) → IsAddAnswer (definition mid name) Y (Ok c) → ⊥
   second_never b true a f h = let none : Some X ≡ None = sym (stands b a f) ∙ h in cc
   second_never b false a f h = let same : Some X ≡ Some Y = sym (stands b a f) ∙ h in apart (same_some same)
+
+-- definitions behind others
+pub extended_both : (old mid new : Table) (D E : Definitions) → Extended old D mid → Extended mid E new → Extended old (both D E) new
+extended_both old mid new D E h k = record {
+  has = λ n Y c. ⊎_elim (λ here. k.kept n Y (h.has n Y here)) (k.has n Y) (Contains-append_cases (listed D) (listed E) (n, Y) c);
+  kept = λ n Y e. k.kept n Y (h.kept n Y e);
+  only = λ n Y e. ⊎_elim
+      (λ i. ⊎_elim inl (λ c. inr (Contains-append_left (listed D) (listed E) (n, Y) c)) (h.only n Y i))
+      (λ c. inr (Contains-append_right (listed D) (listed E) (n, Y) c))
+      (k.only n Y e);
+}
+
+-- the first ones are refused
+pub first_conflicts : (old : Table) (D E : Definitions) (e : Error) → (e ≡ OutOfMemory) ⊎ ((e ≡ ShapeConflict) × Conflicts old D) → (e ≡ OutOfMemory) ⊎ ((e ≡ ShapeConflict) × Conflicts old (both D E))
+first_conflicts old D E e h = ⊎_elim inl (λ (is, c). inr (
+  is,
+  record {
+    name = c.name;
+    shape = c.shape;
+    other = c.other;
+    here = Contains-append_left (listed D) (listed E) _ c.here;
+    there = ⊎_elim inl (λ i. inr (Contains-append_left (listed D) (listed E) _ i)) c.there;
+    differ = c.differ;
+  },
+)) h
+
+-- or those behind them
+pub later_conflicts : (old mid : Table) (D E : Definitions) → Extended old D mid → (e : Error) → (e ≡ OutOfMemory) ⊎ ((e ≡ ShapeConflict) × Conflicts mid E)
+    → (e ≡ OutOfMemory) ⊎ ((e ≡ ShapeConflict) × Conflicts old (both D E))
+later_conflicts old mid D E x e h = ⊎_elim inl (λ (is, c). inr (
+  is,
+  record {
+    name = c.name;
+    shape = c.shape;
+    other = c.other;
+    here = Contains-append_right (listed D) (listed E) _ c.here;
+    there = ⊎_elim
+        (λ d. ⊎_elim inl (λ i. inr (Contains-append_left (listed D) (listed E) _ i)) (x.only c.name c.other d))
+        (λ i. inr (Contains-append_right (listed D) (listed E) _ i))
+        c.there;
+    differ = c.differ;
+  },
+)) h
+
+-- the definition of what an expression stands for
+pub record_refused : (old : Table) (name : Name) (X Y : Shape) → X ≡ Y → (e : Error) → IsAddAnswer (definition old name) X (Err e) → (e ≡ OutOfMemory) ⊎ ((e ≡ ShapeConflict) × Conflicts old (defines name Y))
+record_refused old name X Y same e a = rw same at (not_extended old name X e a)
+
+pub record_extended : (old new : Table) (name : Name) (X Y : Shape) → X ≡ Y → (b : Bool) → IsAddAnswer (definition old name) X (Ok b) → new ≡ (if b then old ++ (name, X) ∷ [] else old)
+    → Extended old (defines name Y) new
+record_extended old new name X Y same b a e = rw same at (extended_by old new name X b a e)

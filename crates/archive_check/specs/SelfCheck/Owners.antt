@@ -1,14 +1,15 @@
 -- The checks of what owns a region, as boxes and vectors do: the laws of their types, from those of what lies there.
-use Rattle.std.specs.Prelude.{◌≡◌, ℕ, Contains, true}
+use Rattle.std.specs.Prelude.{◌≡◌, ℕ, true}
 use Rattle.std.proofs.Common.{refl, ◌∙◌}
-use Rattle.archive_check.specs.Shape.{Name, Shape, boxed, vec, Pointee, one, run, text, Table}
+use Rattle.archive_check.specs.Shape.{Shape, boxed, vec, Pointee, one, run, text, Table}
 use Rattle.archive_check.specs.Layout.{pointer_size}
 use Rattle.archive_check.specs.Reads.{Schema}
 use Rattle.archive_check.specs.Walk.{walk_boxed, walk_vec}
 use Rattle.archive_check.specs.Trail.{trips_boxed, trips_vec}
 use Rattle.archive_check.specs.check.Runs.{done, refused}
-use Rattle.archive_check.specs.Defined.{Mentions, mentions_boxed, mentions_vec, mentions_one, mentions_run, Reaches, reaches, reaches_through}
-use Rattle.archive_check.specs.Definitions.{Definitions, no_definition, listed}
+use Rattle.archive_check.specs.Defined.{mentions_boxed, mentions_vec, mentions_one, mentions_run}
+use Rattle.archive_check.specs.Definitions.{Definitions, no_definition, NoOthers}
+use Rattle.archive_check.specs.NoOthers.{around_reached}
 use Rattle.archive_check.specs.SelfCheck.Orders.{IsOrder}
 use Rattle.archive_check.specs.SelfCheck.Laws.{IsCheckOf, Leads, own_check, plain_check, no_more}
 use Rattle.archive_check.specs.plan.Names.{missing}
@@ -47,18 +48,13 @@ module _ (D : Definitions) (X : Shape) (size : ℕ) (E : Definitions) (Y : Shape
 pub text_check : IsCheckOf no_definition (boxed text) 8 no_definition (boxed text) 8
 text_check = plain_check (boxed text) 8 refl refl
 
--- what one mentions that mentions as much is reached from it
-reaches_more : (table : Table) (name : Name) (X Y : Shape) → ((n : Name) → Mentions n X → Mentions n Y) → Reaches table name X → Reaches table name Y
-reaches_more table name X Y more (reaches m) = reaches (more name m)
-reaches_more table name X Y more (reaches_through {n = n} m d r) = reaches_through (more n m) d r
-
 -- each name of an X, which it reaches, is reached by its owner
-module _ (D : Definitions) (X : Shape) (reached : (name : Name) (Y : Shape) → Contains (listed D) (name, Y) → Reaches (listed D) name X) (name : Name) (Y : Shape) (c : Contains (listed D) (name, Y)) where
-  pub one_reaches : (P : Pointee) → P ≡ one X → Reaches (listed D) name (boxed P)
-  one_reaches P is = rw is (reaches_more (listed D) name X (boxed (one X)) (λ n m. mentions_boxed (mentions_one m)) (reached name Y c))
+module _ (D : Definitions) (X : Shape) (reached : NoOthers D X) where
+  pub one_reaches : (P : Pointee) → P ≡ one X → NoOthers D (boxed P)
+  one_reaches P is = rw is (around_reached D X (boxed (one X)) (λ n m. mentions_boxed (mentions_one m)) reached)
 
-  pub run_reaches : Reaches (listed D) name (boxed (run X))
-  run_reaches = reaches_more (listed D) name X (boxed (run X)) (λ n m. mentions_boxed (mentions_run m)) (reached name Y c)
+  pub run_reaches : NoOthers D (boxed (run X))
+  run_reaches = around_reached D X (boxed (run X)) (λ n m. mentions_boxed (mentions_run m)) reached
 
-  pub vec_reaches : Reaches (listed D) name (vec X)
-  vec_reaches = reaches_more (listed D) name X (vec X) (λ n m. mentions_vec m) (reached name Y c)
+  pub vec_reaches : NoOthers D (vec X)
+  vec_reaches = around_reached D X (vec X) (λ n m. mentions_vec m) reached

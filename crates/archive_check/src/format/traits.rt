@@ -1,11 +1,10 @@
 //! What archived types, keys and entries tell of themselves.
 
-ghost use Rattle.std.specs.Prelude.{◌≡◌, ◌⊎◌, ℕ, min, Bool, true, false, refl, IsTrue, Option, None, Contains, OnOk, IfOk, IfErr};
-ghost use Rattle.archive_check.specs.Shape.{Name, Shape, Pointee, one};
+ghost use Rattle.std.specs.Prelude.{◌≡◌, ◌⊎◌, ℕ, min, Bool, true, false, refl, IsTrue, Option, None, OnOk, IfOk, IfErr};
+ghost use Rattle.archive_check.specs.Shape.{Shape, Pointee, one};
 ghost use Rattle.archive_check.specs.Layout.{Layout as LayoutOf};
 ghost use Rattle.archive_check.specs.Expressions.{shape_of, table_of};
-ghost use Rattle.archive_check.specs.Definitions.{Definitions, HasLayout, IsAlign, listed, Extended, Conflicts};
-ghost use Rattle.archive_check.specs.Defined.{Reaches};
+ghost use Rattle.archive_check.specs.Definitions.{Definitions, HasLayout, IsAlign, NoOthers, Extended, Conflicts};
 ghost use Rattle.archive_check.specs.Entries.{NoEntries};
 ghost use Rattle.archive_check.specs.Pooled.{Kept};
 ghost use Rattle.archive_check.specs.SelfCheck.Laws.{IsCheckOf};
@@ -19,9 +18,11 @@ use std::alloc::{Allocator, Global};
 
 mod layouts;
 mod leaves;
+mod parts;
 mod pointees;
 
 pub use layouts::{LayoutRaw, layout_of_run};
+pub use parts::{PortableParts, Record, define_record, expr_of_record, size_of_record};
 pub use pointees::PortablePointee;
 
 /// What a pointer may lead to: an archived value, a slice or a text. As in rkyv 0.8.18, with a length in place of a pointer's metadata.
@@ -80,7 +81,7 @@ pub trait Portable: ArchivePointee {
 
     ghost has_layout: { HasLayout Self.definitions shape layout };
 
-    ghost no_others: { (name : Name) (X : Shape) → Contains (listed Self.definitions) (name, X) → Reaches (listed Self.definitions) name shape };
+    ghost no_others: { NoOthers Self.definitions shape };
 
     ghost checks: { IsTrue Self.Check.direct → IsCheckOf Self.definitions shape layout.size Self.Check.definitions Self.Check.shape Self.Check.span };
 }

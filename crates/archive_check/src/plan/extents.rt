@@ -1,6 +1,6 @@
 //! Sizes in bytes. None: above `usize::MAX`.
 
-ghost use Rattle.std.specs.Prelude.{◌≡◌, ◌<◌, max, Some};
+ghost use Rattle.std.specs.Prelude.{◌≡◌, ◌<◌, max, min, Some};
 ghost use Rattle.archive_check.specs.Layout.{up as up_to};
 ghost use Rattle.archive_check.specs.Expressions.{kind_of};
 ghost use Rattle.archive_check.specs.check.Runs.{times as times_of, pointer_bytes};
@@ -55,6 +55,18 @@ pub fn offset_of(end: Option<usize>, align: usize) -> Option<usize>
     match end {
         None => None,
         Some(end) => up(end, align),
+    }
+}
+
+/// The least multiple of an alignment that is at least a number: `usize::MAX` where it is that or more.
+#[inline(always)]
+pub fn multiple_of(n: usize, align: usize) -> usize
+    requires { 0 < align }
+    ensures { result ≡ min (up_to n align) 18446744073709551615 }
+{
+    match up(n, align) {
+        None => usize::MAX,
+        Some(n) => n,
     }
 }
 

@@ -10,7 +10,8 @@ ghost use Rattle.archive_check.specs.Defined.{Mentions, mentions_array, mentions
 ghost use Rattle.archive_check.specs.Definitions.{no_definition, defines, IsAlign};
 ghost use Rattle.archive_check.specs.LeafLayout.{no_definition_reached};
 ghost use Rattle.archive_check.specs.NamedLayout.{name_has_layout, name_reached};
-ghost use Rattle.archive_tests.specs.Forms.{rc, reaches_around};
+ghost use Rattle.archive_check.specs.NoOthers.{around_reached};
+ghost use Rattle.archive_tests.specs.Forms.{rc};
 ghost use Rattle.archive_check.specs.SelfCheck.Laws.{by_schema};
 
 use archive_check::format::error::Error;
@@ -217,7 +218,7 @@ impl<A: Around, T: Portable> Portable for Behind<A, T> {
 
     ghost has_layout = { record { solved = λ s k. A.laid_out s.layouts T.shape } };
 
-    ghost no_others = { λ name X c. reaches_around (A.mentions T.shape) (T.no_others name X c) };
+    ghost no_others = { around_reached T.definitions T.shape (A.around T.shape) (A.mentions T.shape) T.no_others };
 
     ghost checks = { λ direct. by_schema direct };
 
@@ -404,7 +405,7 @@ impl<T: Portable, const N: usize> Portable for Array<T, N> {
 
     ghost has_layout = { record { solved = λ s k. ap (λ l. record { size = N * l.size; align = l.align }) (T.has_layout.solved s k) } };
 
-    ghost no_others = { λ name X c. reaches_around (λ _ m. mentions_array m) (T.no_others name X c) };
+    ghost no_others = { around_reached T.definitions T.shape (array N T.shape) (λ _ m. mentions_array m) T.no_others };
 
     ghost checks = { λ direct. by_schema direct };
 

@@ -7,7 +7,8 @@ ghost use Rattle.archive_check.specs.Layout.{layout as layout_of};
 ghost use Rattle.archive_check.specs.Defined.{mentions_parts, mentions_first, mentions_later, mentions_boxed, mentions_one};
 ghost use Rattle.archive_check.specs.Definitions.{defines};
 ghost use Rattle.archive_check.specs.NamedLayout.{name_reached};
-ghost use Rattle.archive_tests.specs.Forms.{u64 as number64, tagged, itself, reaches_around};
+ghost use Rattle.archive_check.specs.NoOthers.{around_reached};
+ghost use Rattle.archive_tests.specs.Forms.{u64 as number64, tagged, itself};
 ghost use Rattle.archive_check.specs.SelfCheck.Laws.{by_schema};
 
 use super::forms::{Id, pair_of};
@@ -48,7 +49,7 @@ impl Portable for Tagged {
 
     ghost has_layout = { record { solved = λ s k. ap (λ l. layout_of (λ _. l) (tagged (codes "ArchivedId"))) (k.laid_out.solves (codes "ArchivedId") number64 k.has) } };
 
-    ghost no_others = { λ name X c. reaches_around (λ _ m. mentions_parts (mentions_later (mentions_first m))) (name_reached (codes "ArchivedId") number64 name X c) };
+    ghost no_others = { around_reached (defines (codes "ArchivedId") number64) (named (codes "ArchivedId")) (tagged (codes "ArchivedId")) (λ _ m. mentions_parts (mentions_later (mentions_first m))) (name_reached (codes "ArchivedId") number64) };
 
     ghost checks = { λ direct. by_schema direct };
 
@@ -99,7 +100,7 @@ impl Portable for Endless {
 
     ghost has_layout = { record { solved = λ s k. refl } };
 
-    ghost no_others = { λ name X c. reaches_around (λ _ m. mentions_boxed (mentions_one m)) (name_reached (codes "Itself") itself name X c) };
+    ghost no_others = { around_reached (defines (codes "Itself") itself) (named (codes "Itself")) (boxed (one (named (codes "Itself")))) (λ _ m. mentions_boxed (mentions_one m)) (name_reached (codes "Itself") itself) };
 
     ghost checks = { λ direct. by_schema direct };
 
