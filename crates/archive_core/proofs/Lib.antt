@@ -24,3 +24,6 @@ pub mod Pointers
 pub mod Records
 pub mod Owned
 pub mod OwnersWritten
+pub mod PartsShown
+pub mod ReadElements
+pub mod Spots
