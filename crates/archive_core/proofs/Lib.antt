@@ -23,5 +23,5 @@ pub mod Pointers
 pub mod Records
 pub mod Owned
 pub mod OwnersWritten
-pub mod Variants
+pub mod WrittenVariants
 pub mod ResolvedVariants

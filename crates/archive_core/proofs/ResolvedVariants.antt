@@ -1,10 +1,11 @@
 -- The bytes of variants with no part or one: what they read as, and that they are clean.
-use Rattle.std.proofs.Common.{◌≡◌, ℕ, ◌+◌, ◌-◌, ◌<◌, ◌≤◌, List, ◌++◌, length, take, drop, slice_index, refl, sym, ap, subst, ◌∙◌, arith, add-zero, append_assoc, length-append, Some}
-use Rattle.std.proofs.lemmas.List.{take-append-drop, length-take}
+use Rattle.std.proofs.Common.{◌≡◌, ℕ, ◌+◌, ◌-◌, ◌<◌, ◌≤◌, List, ◌++◌, length, take, drop, slice_index, slice_set, refl, sym, ap, subst, ◌∙◌, arith, add-zero, append_assoc, length-append, Some, Result, Ok, Err, OnOk}
+use Rattle.std.proofs.lemmas.List.{take-append-drop, length-take, length-drop, length-set, get_or-set_same, get_or-set_other, get_or_append_left, get_or-append_right, get_or-take, get_or-drop, drop_at, take_at}
+use Rattle.archive_check.specs.declared.format.error.Error.{Error}
 use Rattle.archive_check.specs.Shape.{Name, Shape, choice, Variants, part, no_part, variant_at}
 use Rattle.archive_check.specs.Layout.{Layout, up, size_of, align_of}
 use Rattle.archive_check.specs.Definitions.{Definitions, Knows, HasLayout}
-use Rattle.archive_check.specs.Value.{Value, case, value, no_value}
+use Rattle.archive_check.specs.Value.{Value, case, no_value}
 use Rattle.archive_check.specs.Reads.{Schema, bytes_at, Reads, reads_choice, reads_part, reads_no_part}
 use Rattle.archive_check.specs.CleanRegions.{Occurs, AreZero, IsZeroed, CleanValue, clean_choice, clean_part, clean_no_part}
 use Rattle.archive_check.proofs.StandingBytes.{stands_index}
@@ -79,3 +80,50 @@ module _ (D : Definitions) (name : Name) (vs : Variants) (tag : ℕ) (is : varia
 pub resolves_zeros : (D : Definitions) (name : Name) (vs : Variants) → variant_at vs 0 ≡ Some no_part → (C : Layout) → HasLayout D (choice name vs) C → (p : ℕ) (a : List ℕ) → 0 < length a → length a ≡ C.size → IsZeroed a
     → Resolves D p a (choice name vs) (case 0 no_value)
 resolves_zeros D name vs is C outer p a some sized z = resolves_empty_case D name vs 0 is C outer p a some sized (z.zero_at 0 some) (λ i low high. z.zero_at i high)
+
+-- a tag, and then a part, written over zeros
+module _ (D : Definitions) (p tag o n k : ℕ) (X : Shape) (flat : Value) (old part_bytes : List ℕ) (zeros : IsZeroed old) (positive : 0 < o) (few : o + n ≤ length old) (sized : length part_bytes ≡ n) (same : k ≡ n) where
+  abbrev tagged : List ℕ
+  tagged = slice_set old 0 tag
+
+  abbrev written : List ℕ
+  written = take o tagged ++ (part_bytes ++ drop k (drop o tagged))
+
+  front : length (take o tagged) ≡ o
+  front = omega (arith, length-take o tagged, length-set old 0 tag)
+
+  whole_length : length written ≡ length old
+  whole_length = omega (arith, length-append (take o tagged) (part_bytes ++ drop k (drop o tagged)), length-append part_bytes (drop k (drop o tagged)), front, length-drop k (drop o tagged), length-drop o tagged, length-set old 0 tag)
+
+  zero_tagged : (i : ℕ) → 0 < i → i < length old → slice_index tagged i ≡ 0
+  zero_tagged i low high = get_or-set_other old 0 i tag 0 (λ e. omega (arith, e)) ∙ zeros.zero_at i high
+
+  in_front : (i : ℕ) → i < o → slice_index written i ≡ slice_index tagged i
+  in_front i low = get_or_append_left (take o tagged) (part_bytes ++ drop k (drop o tagged)) 0 i (omega (arith, front)) ∙ get_or-take o tagged i 0 low
+
+  in_back : (i : ℕ) → o + n ≤ i → slice_index written i ≡ slice_index tagged i
+  in_back i high =
+      let j : ℕ = i - o - n in
+      let there : o + (k + j) ≡ i = omega arith in
+      get_or-append_right (take o tagged) (part_bytes ++ drop k (drop o tagged)) o i 0 front (omega arith)
+      ∙ get_or-append_right part_bytes (drop k (drop o tagged)) n (i - o) 0 sized (omega arith)
+      ∙ get_or-drop k (drop o tagged) j 0
+      ∙ get_or-drop o tagged (k + j) 0
+      ∙ ap (slice_index tagged) there
+
+  part_is : bytes_at written o n ≡ part_bytes
+  unfolding bytes_at
+  part_is = ap (take n) (drop_at (take o tagged) (part_bytes ++ drop k (drop o tagged)) o front) ∙ take_at part_bytes (drop k (drop o tagged)) n sized
+
+  pub case_written : Resolves D (p + o) part_bytes X flat → HoldsCase D p tag o n X flat (take o (slice_set old 0 tag) ++ (part_bytes ++ drop k (drop o (slice_set old 0 tag))))
+  case_written h = record {
+    tag_is = in_front 0 positive ∙ get_or-set_same old 0 tag 0 (omega arith);
+    before = λ i low high. in_front i high ∙ zero_tagged i low (omega arith);
+    fits = omega (arith, whole_length);
+    holds = rw part_is h;
+    behind = λ i low high. in_back i low ∙ zero_tagged i (omega arith) (omega (arith, whole_length));
+  }
+
+pub on_ok : {U A B : Type 0} (r : Result U Error) → (A → B) → OnOk r A → OnOk r B
+on_ok (Ok u) f h = f h
+on_ok (Err e) f h = tt

@@ -1,5 +1,5 @@
 -- Variants with no part or one as sources, and names that stand for what is archived: their plans and keys, and the bytes of such a variant.
-use Rattle.std.specs.Prelude.{◌≡◌, ℕ, ◌+◌, ◌<◌, ◌≤◌, List, [], ◌++◌, length, slice_index, Option, Some, None}
+use Rattle.std.specs.Prelude.{◌≡◌, ℕ, ◌+◌, ◌<◌, ◌≤◌, List, [], ◌++◌, length, slice_index, Some}
 use Rattle.archive_check.specs.Shape.{Name, Shape, choice, named, Variants, part, no_part, variant_at, definition}
 use Rattle.archive_check.specs.Definitions.{Definitions, Knows}
 use Rattle.archive_check.specs.Value.{Value, case, value, no_value}
@@ -10,28 +10,6 @@ use Rattle.archive_core.specs.Plans.{Cursor, Step, plans_choice, plans_named, pl
 -- the variant with this tag and one value
 abbrev pub case_of : ℕ → Value → Value
 case_of tag v = case tag (value v no_value)
-
--- an option: None has the tag 0, Some the tag 1
-
-abbrev pub option_meaning : {A : Type 0} → (A → Value) → Option A → Value
-option_meaning m None = case 0 no_value
-option_meaning m (Some x) = case_of 1 (m x)
-
-abbrev pub option_keys : {A : Type 0} → (A → List Naming) → Option A → List Naming
-option_keys k None = []
-option_keys k (Some x) = k x
-
--- what is read in its place, where its resolver is that of its value
-abbrev pub option_flat : {A R : Type 0} → (A → R → Value) → Option A → Option R → Value
-option_flat f None r = case 0 no_value
-option_flat f (Some x) None = case 0 no_value
-option_flat f (Some x) (Some r) = case_of 1 (f x r)
-
-abbrev pub OptionBelongs : {A R : Type 0} → (A → R → Type 0) → Option A → Option R → Type 0
-OptionBelongs b None None = Unit {0}
-OptionBelongs b None (Some r) = ⊥
-OptionBelongs b (Some x) None = ⊥
-OptionBelongs b (Some x) (Some r) = b x r
 
 -- These bytes, at p, are a variant with one part: the tag, the part so far behind it, of so many bytes, and zeros else.
 pub record HoldsCase (D : Definitions) (p tag offset size : ℕ) (X : Shape) (flat : Value) (a : List ℕ) : Type 0 where

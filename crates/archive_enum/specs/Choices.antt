@@ -1,11 +1,11 @@
 -- Options and results as archives hold them: what they look like, and the laws of that.
-use Rattle.std.specs.Prelude.{◌≡◌, ℕ, ◌+◌, ◌≤◌, max, Bool, ◌&&◌, Option, Some, IsTrue, nat_lt, nat_le, true, codes}
+use Rattle.std.specs.Prelude.{◌≡◌, ℕ, zero, suc, ◌+◌, ◌<◌, ◌≤◌, max, Bool, ◌&&◌, Option, Some, IsTrue, is_some, nat_lt, nat_le, true, codes}
 use Rattle.std.proofs.Common.{refl, sym, ap, ◌∙◌, inl, inr, arith, Contains}
 use Rattle.std.proofs.lemmas.Bool.{and_parts}
 use Rattle.std.proofs.lemmas.List.{append-nil}
 use Rattle.std.proofs.lemmas.Bool.Decides.{nat_tests}
 use Rattle.std.proofs.lemmas.List.Elements.{Contains-append_cases}
-use Rattle.archive_check.specs.Shape.{Name, Shape, choice, no_part, part, no_variant, variant}
+use Rattle.archive_check.specs.Shape.{Name, Shape, choice, no_part, part, no_variant, variant, variant_at}
 use Rattle.archive_check.specs.Layout.{Layout, up, size_of, align_of}
 use Rattle.archive_check.specs.Reads.{Schema}
 use Rattle.archive_check.specs.Defined.{Mentions, mentions_choice, mentions_other, mentions_variant, mentions_first, Reaches, reaches, reaches_through}
@@ -45,6 +45,19 @@ align_low a (inr (inr (inl e))) = omega arith
 align_low a (inr (inr (inr (inl e)))) = omega arith
 align_low a (inr (inr (inr (inr (inl e))))) = omega arith
 align_low a (inr (inr (inr (inr (inr e))))) = omega arith
+
+-- the value ends within the option
+pub option_holds : (L : Layout) → IsAlign L.align → L.align + L.size ≤ (option_layout L).size
+option_holds L is = omega (arith, align_low L.align is)
+
+pub align_low_first : (L : Layout) → IsAlign L.align → 0 < L.align
+align_low_first L is = omega (arith, align_low L.align is)
+
+-- a tag that isn't 0 is 1
+pub option_tag : (X : Shape) (t : ℕ) → is_some (variant_at (variant no_part (variant (part X no_part) no_variant)) t) ≡ true → (t ≡ 0 → ⊥) → t ≡ 1
+option_tag X zero h n = absurd (n refl)
+option_tag X (suc zero) h n = refl
+option_tag X (suc (suc t)) h n = cc
 
 option_align : (a : ℕ) → 1 ≤ a → max 1 (max (max a 1) 1) ≡ a
 option_align a h = omega arith

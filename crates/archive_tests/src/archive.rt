@@ -2,6 +2,7 @@
 
 mod memory;
 mod numbers;
+mod options;
 mod positions;
 mod reading;
 mod readme;

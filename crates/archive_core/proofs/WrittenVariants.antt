@@ -1,21 +1,19 @@
 -- How variants with no part or one are written, and names that stand for what is written; and why they are refused.
-use Rattle.std.proofs.Common.{◌≡◌, ◌⊎◌, inl, inr, ℕ, ◌+◌, ◌<◌, ◌≤◌, List, [], ◌++◌, length, slice_index, refl, sym, ap, subst, ◌∙◌, arith, Option, Some, Contains}
-use Rattle.std.proofs.lemmas.List.{append-nil}
+use Rattle.std.proofs.Common.{◌≡◌, inl, inr, ℕ, ◌+◌, List, [], refl, ap, subst, arith, Some}
 use Rattle.std.proofs.lemmas.List.Elements.{Contains-append_left}
 use Rattle.archive_check.specs.Shape.{Name, Shape, choice, named, Variants, part, no_part, variant_at, definition}
-use Rattle.archive_check.specs.Layout.{Layout, up, size_of, align_of}
+use Rattle.archive_check.specs.Layout.{Layout, up, align_of}
 use Rattle.archive_check.specs.Definitions.{Definitions, Knows, HasLayout}
-use Rattle.archive_check.specs.Value.{Value, case, value, no_value}
-use Rattle.archive_check.specs.Reads.{Schema, bytes_at, reads_choice, reads_part, reads_no_part, reads_named}
-use Rattle.archive_check.specs.CleanRegions.{Occurs, AreZero, IsZeroed, clean_choice, clean_part, clean_no_part, clean_named}
+use Rattle.archive_check.specs.Value.{Value, case, no_value}
+use Rattle.archive_check.specs.Reads.{Schema, reads_named}
+use Rattle.archive_check.specs.CleanRegions.{clean_named}
 use Rattle.archive_check.specs.WriterState.{WriterState}
 use Rattle.archive_check.specs.declared.format.error.Error.{Error}
-use Rattle.archive_check.proofs.StandingBytes.{stands_fits, stands_index}
-use Rattle.archive_core.specs.Writing.{NameMap, Naming, World, Covers, Writes, Resolves}
-use Rattle.archive_core.specs.Plans.{Cursor, cursor, Step, PlanOf, Serialized, serialized}
-use Rattle.archive_core.specs.Causes.{PartOf, part_of_choice, in_first_part, part_of_named, HindersPart, HindersPartAt, HindersAt, IsRefused}
-use Rattle.archive_core.specs.Variants.{case_of, HoldsCase, case_plan, empty_plan, named_plan}
-use Rattle.archive_core.proofs.Appending.{size_is, align_is, writes_case, writes_empty_case}
+use Rattle.archive_core.specs.Writing.{Naming, World, Covers, Writes, Resolves}
+use Rattle.archive_core.specs.Plans.{cursor, Serialized, serialized}
+use Rattle.archive_core.specs.Causes.{part_of_choice, in_first_part, part_of_named, HindersPartAt, HindersAt, IsRefused}
+use Rattle.archive_core.specs.Variants.{case_of, case_plan, empty_plan, named_plan}
+use Rattle.archive_core.proofs.Appending.{align_is, writes_case, writes_empty_case}
 use Rattle.archive_core.proofs.Causes.{explains_sooner}
 use Rattle.archive_core.proofs.Planned.{is_here}
 
