@@ -1,5 +1,5 @@
 -- What is read back of a choice, from what is read back of the part behind its tag; and of a name, from its definition.
-use Rattle.std.proofs.Common.{◌≡◌, inl, inr, ℕ, ◌+◌, List, [], slice_index, Some, Contains, refl, sym, ap, subst}
+use Rattle.std.proofs.Common.{◌≡◌, inl, inr, ℕ, ◌+◌, List, [], slice_index, Some, None, Contains, refl, sym, ap, subst}
 use Rattle.std.proofs.lemmas.List.{append-nil}
 use Rattle.archive_check.specs.declared.format.error.Error.{Error}
 use Rattle.archive_check.specs.Shape.{Name, Shape, choice, named, one, Variants, Parts, part, no_part, variant_at, definition}
@@ -10,10 +10,10 @@ use Rattle.archive_check.specs.Tour.{Contents, contents_one}
 use Rattle.archive_check.specs.Denotes.{Meaning, Naming, Fills, fills_case, fills_value, fills_no_value, Denotes}
 use Rattle.archive_check.specs.Within.{IsPart, first_part, whole, in_choice, in_named}
 use Rattle.archive_check.specs.Definitions.{Definitions, Knows, HasLayout}
-use Rattle.archive_check.specs.Pooled.{Entries}
+use Rattle.archive_check.specs.Pooled.{Kept, Entries}
 use Rattle.archive_check.specs.Viewed.{Lies, Says}
 use Rattle.archive_check.specs.Reached.{Reached}
-use Rattle.archive_check.specs.Entries.{AreNamedByPosition, AreShared, AreRight, MeetsOpen, meets_open, meets_in_unique, meets_in_shared, IsCyclic, ReadsBack, RefusesReading}
+use Rattle.archive_check.specs.Entries.{AreNamedByPosition, AreShared, AreRight, MeetsOpen, meets_open, meets_in_unique, meets_in_shared, IsClosed, IsCyclic, ReadsBack, RefusesReading}
 use Rattle.archive_check.proofs.ReachedParts.{within_reached}
 use Rattle.archive_check.proofs.Viewed.{lies_reads, lies_reached, reached_lies}
 use Rattle.archive_check.proofs.ReadingUnique.{contents_one_value}
@@ -65,6 +65,10 @@ module _ (D E : Definitions) (known : (s : Schema) → Knows s D → Knows s E) 
     unfolding reached_lies
     shared_there by s m k l d right = let (u, r) = part_reached s k l in h.shared by s m (known s k) (reached_lies s bytes r) d right
 
+    closed_there : (s : Schema) → Knows s D → (l : Lies s bytes q (one (choice name variants)) n) → (t : ℕ) (x : Kept) → old t ≡ None → new t ≡ Some (Some x) → IsClosed s bytes l.root l.shape old t
+    unfolding reached_lies
+    closed_there s k l t x none some = let (u, r) = part_reached s k l in h.closed s (known s k) (reached_lies s bytes r) t x none some
+
     -- a pointer of the whole is one of the part
     its_pointer : (s : Schema) (v : Value) (p : Pointer) (i : IsCase s bytes (q + offset) tag X v) → Contains (pointers v) p → Contains (pointers i.part_value) p
     its_pointer s v p i c = rw (append-nil (pointers i.part_value)) at (rw i.is at c)
@@ -80,6 +84,7 @@ module _ (D E : Definitions) (known : (s : Schema) → Knows s D → Knows s E) 
       value = λ by. record { fills = fills_there by };
       shared = shared_there;
       unmet = λ s k l m. (let (u, r) = part_reached s k l in h.unmet s (known s k) (reached_lies s bytes r) (meets_there s k m));
+      closed = closed_there;
     }
 
   -- an open position that is met behind the tag is met
@@ -144,6 +149,10 @@ module _ (D : Definitions) (name : Name) (X : Shape) (has : (s : Schema) → Kno
     unfolding reached_lies
     named_shared by s m k l d right = let (u, r) = definition_reached s k l in h.shared by s m k (reached_lies s bytes r) d right
 
+    named_closed : (s : Schema) → Knows s D → (l : Lies s bytes q (one (named name)) n) → (t : ℕ) (x : Kept) → old t ≡ None → new t ≡ Some (Some x) → IsClosed s bytes l.root l.shape old t
+    unfolding reached_lies
+    named_closed s k l t x none some = let (u, r) = definition_reached s k l in h.closed s k (reached_lies s bytes r) t x none some
+
     meets_definition : (s : Schema) → Knows s D → MeetsOpen s bytes old [] q (one (named name)) n → MeetsOpen s bytes old [] q (one X) 0
     meets_definition s k (meets_open {v = v} c i e t o) = meets_open (definition_contents s k n v c) i e t o
     meets_definition s k (meets_in_unique {v = v} c i e t m) = meets_in_unique (definition_contents s k n v c) i e t m
@@ -155,6 +164,7 @@ module _ (D : Definitions) (name : Name) (X : Shape) (has : (s : Schema) → Kno
       value = λ by. record { fills = λ s v k l c. (let (u, r) = definition_reached s k l in (h.value by).fills s v k (reached_lies s bytes r) (definition_contents s k n v c)) };
       shared = named_shared;
       unmet = λ s k l m. (let (u, r) = definition_reached s k l in h.unmet s k (reached_lies s bytes r) (meets_definition s k m));
+      closed = named_closed;
     }
 
   meets_named : (told : Entries) (s : Schema) → Knows s D → MeetsOpen s bytes told [] q (one X) 0 → MeetsOpen s bytes told [] q (one (named name)) n

@@ -24,4 +24,5 @@ pub mod Records
 pub mod Owned
 pub mod OwnersWritten
 pub mod WrittenVariants
+pub mod Nothing
 pub mod ResolvedVariants

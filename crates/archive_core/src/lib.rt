@@ -4,6 +4,7 @@
 pub mod api;
 pub mod boxed;
 pub mod option;
+mod phantom;
 pub mod place;
 pub mod primitive;
 pub mod rel_ptr;

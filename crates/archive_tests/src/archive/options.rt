@@ -7,6 +7,7 @@ use archive_core::primitive::{ArchivedU32, ArchivedU128};
 use archive_core::shape::Schema;
 use archive_core::string::ArchivedString;
 use std::alloc::Global;
+use std::marker::PhantomData;
 use std::test::Fail;
 
 #[test]
@@ -86,5 +87,20 @@ fn a_tag_names_a_variant(rt: HostRuntime) -> Result<(), Fail> {
         Some(refusal)
     );
     assert_eq!(rt; by_schema(rt.alloc(), unknown), Err(refusal));
+    Ok(())
+}
+
+#[test]
+fn what_stands_for_a_type_has_no_byte(rt: HostRuntime) -> Result<(), Fail> {
+    let nothing: PhantomData<u64> = PhantomData;
+    let bytes = to_bytes(rt.alloc(), &nothing)?;
+    assert_eq!(rt; bytes.as_slice(), b"".as_slice());
+    let view = access::<PhantomData<u64>>(rt.alloc(), bytes.as_slice())?;
+    assert_eq!(rt; view.pos(), 0);
+    let back: Result<PhantomData<u64>, Error> = from_bytes(rt.alloc(), b"", &mut ());
+    assert!(rt; back.is_ok());
+    let schema = Schema::of::<PhantomData<u64>>(rt.alloc())?;
+    let mut context = HighValidator::new(rt.alloc(), b"");
+    schema.check(b"", 0, &mut context)?;
     Ok(())
 }
