@@ -3,6 +3,7 @@ use Rattle.std.proofs.Common.{◌≡◌, inl, inr, ℕ, zero, suc, ◌+◌, ◌<
 use Rattle.std.proofs.lemmas.Bool.{cases_eq}
 use Rattle.std.proofs.lemmas.Map.{update_here, update_apart}
 use Rattle.archive_check.specs.Shape.{Shape, one, run, text, Pointee, Flavor, Parts}
+use Rattle.archive_check.specs.Layout.{up}
 use Rattle.archive_check.specs.Value.{Value, Values}
 use Rattle.archive_check.specs.Reads.{Schema, LaidOut}
 use Rattle.archive_check.specs.Tour.{Region, pointee_size, pointee_align, region_at}

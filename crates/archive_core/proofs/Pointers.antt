@@ -1,18 +1,19 @@
 -- What the bytes of an offset say, and where they lie.
-use Rattle.std.proofs.Common.{◌≡◌, ◌<◌, ◌≤◌, ◌+◌, ◌*◌, Bool, true, false, ◌^◌, ℕ, ℤ, List, length, sym, ap, ◌∙◌, arith}
+use Rattle.std.proofs.Common.{◌≡◌, ◌<◌, ◌≤◌, ◌+◌, ◌*◌, Bool, true, false, ◌^◌, ◌≤ℤ◌, ◌<ℤ◌, ℕ, ℤ, pos, negsuc, List, length, refl, sym, ap, ◌∙◌, arith, take, drop}
 use Rattle.std.specs.Coded.{le_prop}
 use Rattle.std.proofs.Math.Logic.{∥∥₁_elim}
-use Rattle.std.specs.Int.{Width, byte_len, from_le_bytes, cast_unsigned, w8, w16, w32, w64, w128}
+use Rattle.std.specs.Int.{Width, byte_len, from_le_bytes, cast_signed, cast_unsigned, w8, w16, w32, w64, w128}
+use Rattle.std.specs.Int.RustNames.{FitsSigned}
 use mir.Val.{bits}
 use Rattle.std.proofs.lemmas.Int.{to_z-of_z}
 use lib.Dec.{le→leb, lt→ltb}
 use borrow.Author.Gap.{read_sfits}
 use Rattle.archive_check.specs.Shape.{Sign, unsigned, signed, Kind, number, Shape, parts, one}
-use Rattle.archive_check.specs.Layout.{Layout}
-use Rattle.archive_check.specs.LittleEndian.{little_number, AreBytes}
-use Rattle.archive_check.specs.Reads.{IsLegal, kind_value, with_sign}
-use Rattle.archive_check.specs.Definitions.{Definitions, no_definition, HasLayout}
-use Rattle.archive_check.specs.Viewed.{Viewed}
+use Rattle.archive_check.specs.Layout.{Layout, kind_size}
+use Rattle.archive_check.specs.LittleEndian.{little_bytes, little_number, AreBytes}
+use Rattle.archive_check.specs.Reads.{IsLegal, kind_value, with_sign, bytes_at}
+use Rattle.archive_check.specs.Definitions.{Definitions, no_definition, HasLayout, Knows}
+use Rattle.archive_check.specs.Viewed.{Viewed, Lies}
 use Rattle.archive_check.proofs.LittleEndian.{from_le_bytes-little, little_number-lt, pow_bits}
 use Rattle.archive_check.proofs.Viewed.{lies_fits}
 use Rattle.archive_num.specs.Leaves.{number-leaf, unsigned-reads, signed-reads}

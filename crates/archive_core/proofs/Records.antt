@@ -1,8 +1,8 @@
 -- What expressions of records stand for.
-use Rattle.std.proofs.Common.{◌≡◌, List, refl, ap, ◌∙◌, Vec, Global}
+use Rattle.std.proofs.Common.{◌≡◌, ℕ, List, [], ◌∷◌, refl, sym, ap, ◌∙◌, Vec, Global}
 use Rattle.archive_check.specs.declared.format.expr.Expr.{Expr, Row_of-Expr, end_of-Expr, more_of-Expr, items-the_row-Expr, items_hidden-the_row-Expr-0}
 use Rattle.archive_check.specs.declared.format.expr.Expr.TheVariants as expr
-use Rattle.archive_check.specs.Shape.{parts, part}
+use Rattle.archive_check.specs.Shape.{parts, part, no_part}
 use Rattle.archive_check.specs.Expressions.{shape_of, shapes_of, shapes_in}
 
 shapes_row : (n : _) (row : Row_of-Expr n) → shapes_of row ≡ shapes_in (items-the_row-Expr n row)

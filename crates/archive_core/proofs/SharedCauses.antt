@@ -1,5 +1,5 @@
 -- How the writing of a shared value goes, from that of its pointee.
-use Rattle.std.proofs.Common.{◌≡◌, inl, inr, ℕ, length, refl, sym, ap, subst, ◌∙◌, List, Some, None, nat_eq, Result, Ok, Err}
+use Rattle.std.proofs.Common.{◌≡◌, inl, inr, ℕ, length, refl, sym, ap, subst, ◌∙◌, arith, List, Option, Some, None, nat_eq, Result, Ok, Err}
 use Rattle.std.specs.Map.{update}
 use Rattle.std.proofs.lemmas.Bool.{cases_eq}
 use Rattle.archive_check.specs.Shape.{Pointee}

@@ -1,16 +1,17 @@
 -- How a shared value goes as planned: under a new key, a finished one and a pending one.
-use Rattle.std.proofs.Common.{◌≡◌, inl, ℕ, ◌+◌, ◌<◌, List, [], ◌∷◌, ◌++◌, length, refl, sym, ap, ◌∙◌, arith, Some, None, true, false, cond, ◌&&◌, nat_eq, length-append}
+use Rattle.std.proofs.Common.{◌≡◌, inl, inr, ℕ, ◌+◌, ◌<◌, List, [], ◌∷◌, ◌++◌, length, refl, sym, ap, ◌∙◌, arith, Some, None, true, false, cond, ◌&&◌, nat_eq, length-append}
 use Rattle.archive_check.specs.Shape.{Flavor, shared, Pointee}
 use Rattle.archive_check.specs.Definitions.{Definitions}
 use Rattle.archive_check.specs.Value.{Value, hole, shared_value}
 use Rattle.archive_check.specs.Reads.{Schema}
-use Rattle.archive_check.specs.Tour.{pointee_size}
+use Rattle.archive_check.specs.Tour.{Entry, pointee_size}
 use Rattle.archive_check.specs.CleanRegions.{IsZeroed}
 use Rattle.archive_check.specs.WriterState.{WriterState}
+use Rattle.archive_check.specs.declared.format.error.Error.{Error}
 use Rattle.archive_check.specs.declared.format.error.Error.TheVariants.{CyclicSerialize}
 use Rattle.archive_check.proofs.Elements.{contains_first}
 use Rattle.archive_core.specs.Writing.{NameMap, Naming, to_shared}
-use Rattle.archive_core.specs.Plans.{Cursor, cursor, ended, Step, meets, PlansRegion, plans_region, plans_shared, plans_new, plans_finished, plans_pending, Serialized, serialized, SerializedShared, serialized_shared}
+use Rattle.archive_core.specs.Plans.{Cursor, cursor, begun, ended, IsAt, AreBelow, Step, meets, PlansRegion, plans_region, plans_shared, plans_new, plans_finished, plans_pending, HasPlan, HasRegionPlan, Serialized, serialized, SerializedShared, serialized_shared}
 use Rattle.archive_core.specs.Causes.{own_cause, of_key, key_hinders, IsRefused}
 use Rattle.archive_core.proofs.Shared.{writes_shared_new, writes_shared_again}
 use Rattle.archive_core.proofs.PlansForward.{begun_below}

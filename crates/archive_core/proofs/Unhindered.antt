@@ -1,17 +1,17 @@
 -- What nothing hinders: a number of 32 bits, at the start of a buffer.
-use Rattle.std.proofs.Common.{ℕ, ℤ, pos, ◌+◌, ◌<◌, ◌^◌, List, [], refl, sym, arith, false, inl, inr}
+use Rattle.std.proofs.Common.{◌≡◌, ℕ, ℤ, pos, ◌+◌, ◌<◌, ◌≤◌, ◌^◌, List, [], ◌∷◌, length, refl, sym, subst, arith, false, true, Contains, inl, inr}
 use Rattle.std.specs.Int.{w32}
 use Rattle.std.specs.FinMap.{empty}
 use Rattle.archive_check.specs.Shape.{Kind, number as number_kind, unsigned, leaf, one}
 use Rattle.archive_check.specs.Definitions.{no_definition, Knows}
 use Rattle.archive_check.specs.Value.{number}
 use Rattle.archive_check.specs.Reads.{Schema}
-use Rattle.archive_check.specs.Tour.{region_at}
+use Rattle.archive_check.specs.Tour.{Region, region_at}
 use Rattle.archive_check.specs.declared.format.error.Error.{Error}
 use Rattle.archive_check.proofs.Elements.{contains_cases}
 use Rattle.archive_core.specs.Writing.{NameMap}
 use Rattle.archive_core.specs.Plans.{Cursor, at_start, Step, lays, plans_leaf, plans_one, plans_region, PlansRegion}
-use Rattle.archive_core.specs.Causes.{IsTooWide, part_itself, part_of_one, stands_too_far, too_wide, anywhere, too_far_from_here, HindersPartAt, part_hinders, length_hinders, end_hinders, item_hinders, HindersStep, HindersSome, HindersRegion}
+use Rattle.archive_core.specs.Causes.{IsTooWide, part_itself, part_of_one, stands_too_far, too_wide, text_too_long, HindersPart, anywhere, too_far_from_here, HindersPartAt, part_hinders, length_hinders, end_hinders, item_hinders, HindersStep, HindersSome, HindersRegion}
 
 -- a schema of no names
 abbrev bare : Schema

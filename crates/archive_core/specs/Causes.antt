@@ -1,7 +1,7 @@
 -- Why the writing of a value is refused.
 use Rattle.std.specs.Prelude.{◌≡◌, ◌⊎◌, ℕ, ℤ, pos, suc, ◌+◌, ◌*◌, ◌-◌, ◌^◌, ◌<◌, ◌≤◌, List, ◌∷◌, length, None, Some, IsSomeAnd, Contains, FitsSigned}
-use Rattle.std.specs.Int.{byte_len}
-use Rattle.archive_check.specs.Shape.{Name, signed, unsigned, Kind, unit, bool, char, number as number_kind, non_zero, raw_rel, Flavor, Shape, leaf, parts, choice, array, boxed, vec, str, shared, weak, named, Pointee, one, run, Parts, part, Variants, definition, variant_at}
+use Rattle.std.specs.Int.{Width, byte_len}
+use Rattle.archive_check.specs.Shape.{Name, Sign, signed, unsigned, Kind, unit, bool, char, number as number_kind, non_zero, raw_rel, Flavor, Shape, leaf, parts, choice, array, boxed, vec, str, shared, weak, named, Pointee, one, run, text, Parts, part, Variants, definition, variant_at}
 use Rattle.archive_check.specs.Layout.{Layout, up, size_of, align_of}
 use Rattle.archive_check.specs.Definitions.{Definitions, Knows}
 use Rattle.archive_check.specs.Value.{Pointer, Value, number, product, case, list, box, hole, Values, value, pointers}

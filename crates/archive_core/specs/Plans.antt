@@ -1,5 +1,5 @@
 -- What the writing of a value is planned to come to, whatever the bytes: its regions, one close behind another.
-use Rattle.std.specs.Prelude.{◌≡◌, ℕ, ℤ, zero, suc, ◌<◌, ◌≤◌, Bool, true, false, List, [], ◌∷◌, ◌++◌, length, Some, None, nat_eq}
+use Rattle.std.specs.Prelude.{◌≡◌, ℕ, ℤ, zero, suc, ◌<◌, ◌≤◌, Bool, true, false, List, [], ◌∷◌, ◌++◌, length, Option, Some, None, nat_eq}
 use Rattle.std.specs.Map.{update}
 use Rattle.std.specs.FinMap.{get}
 use Rattle.archive_check.specs.Shape.{Name, Kind, Flavor, Shape, leaf, parts, choice, array, boxed, vec, str, shared, weak, named, Pointee, one, run, text, Parts, no_part, part, Variants, definition, variant_at}

@@ -1,5 +1,5 @@
 -- The laws of the layout of relative pointers.
-use Rattle.std.proofs.Common.{Bool, true, false, refl, inl, inr}
+use Rattle.std.proofs.Common.{◌≡◌, Bool, true, false, refl, inl, inr}
 use Rattle.std.specs.Int.{Width, w8, w16, w32, w64, w128}
 use Rattle.archive_check.specs.Shape.{Sign, parts}
 use Rattle.archive_check.specs.Definitions.{no_definition, HasLayout, IsAlign}

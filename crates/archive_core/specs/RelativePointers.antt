@@ -1,7 +1,7 @@
 -- Relative pointers that say what they lead to: an offset, and a length where what they lead to has one.
 use Rattle.std.specs.Prelude.{◌+◌, ◌*◌, ℕ, ℤ, max, Bool, true, false, List, ◌++◌, take, drop, length}
 use Rattle.std.specs.Int.{Width, w32, byte_len}
-use Rattle.archive_check.specs.Shape.{Sign, unsigned, number, raw_rel, leaf, Parts, no_part, part}
+use Rattle.archive_check.specs.Shape.{Sign, unsigned, number, raw_rel, Shape, leaf, parts, Parts, no_part, part}
 use Rattle.archive_check.specs.Layout.{Layout}
 use Rattle.archive_check.specs.LittleEndian.{little_bytes}
 use Rattle.archive_core.specs.Offsets.{offset_bytes}

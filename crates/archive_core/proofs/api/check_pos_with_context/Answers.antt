@@ -1,4 +1,4 @@
-use Rattle.std.proofs.Common.{◌∙◌, arith, inr, ⊎_elim, inl, sym, Result, Ok, Err, IfErr}
+use Rattle.std.proofs.Common.{◌≡◌, ◌∙◌, arith, inr, ⊎_elim, inl, sym, Result, Ok, Err, IfErr}
 use Rattle.archive_check.specs.declared.format.error.Error.{Error}
 use Rattle.std.proofs.lemmas.Result.{on_ok_weaker, IfErr-weaker}
 use Rattle.archive_check.proofs.Archives.{accepts_archive, refuses, refusal_no_archive, answers_unmeant}

@@ -1,4 +1,4 @@
-use Rattle.std.proofs.Common.{◌≡◌, ◌∙◌, to_z-of_z}
+use Rattle.std.proofs.Common.{◌≡◌, ◌∙◌, w64, to_z-of_z}
 use Rattle.archive_core.proofs.Pointers.{number_is_offset}
 use Rattle.archive_core.proofs.rel_ptr.raw.write_offset.Goals as goal
 

@@ -1,4 +1,4 @@
-use Rattle.std.proofs.Common.{arith, inr, ⊎_elim, inl}
+use Rattle.std.proofs.Common.{◌≡◌, arith, inr, ⊎_elim, inl, IsTrue}
 use Rattle.std.proofs.lemmas.Result.{on_ok_weaker, IfErr-weaker}
 use Rattle.archive_check.specs.Schemas.{IsSchemaOf}
 use Rattle.archive_check.proofs.Archives.{accepts_archive, refuses, refusal_no_archive}
