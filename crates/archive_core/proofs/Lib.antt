@@ -27,3 +27,6 @@ pub mod OwnersWritten
 pub mod PartsShown
 pub mod ReadElements
 pub mod Spots
+pub mod WrittenVariants
+pub mod Nothing
+pub mod ResolvedVariants

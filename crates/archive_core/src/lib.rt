@@ -3,6 +3,8 @@
 
 pub mod api;
 pub mod boxed;
+pub mod option;
+mod phantom;
 pub mod place;
 pub mod primitive;
 pub mod rel_ptr;
@@ -11,6 +13,7 @@ pub mod sharing;
 pub mod slice;
 pub mod string;
 pub mod traits;
+mod variants;
 pub mod vec;
 pub mod view;
 

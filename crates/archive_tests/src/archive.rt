@@ -3,6 +3,7 @@
 mod memory;
 mod numbers;
 mod owner_views;
+mod options;
 mod positions;
 mod reading;
 mod readme;
