@@ -17,6 +17,7 @@ pub mod SharedPlans
 pub mod Regions
 pub mod Shared
 pub mod SharedCauses
+pub mod SharedWritten
 pub mod KeyStates
 pub mod ShortTexts
 pub mod Pointers
