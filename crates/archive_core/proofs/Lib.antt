@@ -24,3 +24,4 @@ pub mod Pointers
 pub mod Records
 pub mod Owned
 pub mod OwnersWritten
+pub mod OwnKeys
