@@ -1,6 +1,7 @@
--- Keys and plans of shared and weak values: what their `Archive` cites.
-use Rattle.std.proofs.Common.{◌≡◌, ◌⊎◌, ⊎_elim, ℕ, ◌+◌, List, [], ◌∷◌, ◌++◌, refl, Option, Some, None, true, false, cond, ◌&&◌, nat_eq, Contains}
-use Rattle.archive_check.specs.Shape.{Flavor, shared, weak, Pointee}
+-- Names, keys and plans of shared and weak pointers: what their `Portable` and `Archive` cite.
+use Rattle.std.proofs.Common.{◌≡◌, ◌⊎◌, ⊎_elim, ℕ, ◌+◌, List, [], ◌∷◌, ◌++◌, refl, Option, Some, None, Bool, true, false, cond, ◌&&◌, nat_eq, Contains}
+use Rattle.archive_check.specs.Shape.{Name, Flavor, boxed, shared, weak, Pointee, Table}
+use Rattle.archive_check.specs.Defined.{Holds, Mentions, mentions_held, mentions_boxed, mentions_shared, mentions_weak, Reaches, reaches, reaches_through}
 use Rattle.archive_check.specs.Definitions.{Definitions}
 use Rattle.archive_check.specs.Value.{Value, null, shared_value, hole}
 use Rattle.archive_check.specs.Reads.{Schema}
@@ -11,6 +12,10 @@ use Rattle.archive_check.proofs.Elements.{contains_first, contains_later, contai
 use Rattle.archive_core.specs.Writing.{NameMap, Naming, HasKeys, LeadsToKey, key_at_once, key_through, IsKeyed, to_shared}
 use Rattle.archive_core.specs.Plans.{Cursor, begun, ended, Step, lays, meets, Plans, plans_shared, plans_null, plans_weak, PlansRegion, plans_region, plans_new, plans_finished, plans_pending, PlanOf, HasPlan, HasRegionPlan}
 use Rattle.archive_core.specs.Keyed.{keyed_by_none}
+
+-- a flavor, by its name and whether it allows cycles
+abbrev pub flavor_as : Name → Bool → Flavor
+flavor_as name cycles = record { name = name; cycles = cycles }
 
 -- the key of a shared value, with what it names
 abbrev pub naming_of : ℕ → Flavor → Pointee → ℕ → Value → Naming
@@ -95,3 +100,25 @@ pub weak_planned : {A : Type 0} (D : Definitions) (flavor : Flavor) (P : Pointee
     → HasPlan D (weak flavor P) (weak_keys keys o) (weak_value meaning o)
 weak_planned D flavor P keys meaning h None a s names k m = record { flat = null; steps = []; stop = a; plans = plans_null; such = tt }
 weak_planned D flavor P keys meaning h (Some x) a s names k m = let q = h x a s names k m in record { flat = q.flat; steps = q.steps; stop = q.stop; plans = as_weak q.plans; such = tt }
+
+-- names
+
+held_nowhere : {A : Type 0} (name : Name) (P : Pointee) → Holds name (boxed P) → A
+held_nowhere name P h = elim h [ ]
+
+mentions_as_shared : (name : Name) (flavor : Flavor) (P : Pointee) → Mentions name (boxed P) → Mentions name (shared flavor P)
+mentions_as_shared name flavor P (mentions_held h) = held_nowhere name P h
+mentions_as_shared name flavor P (mentions_boxed m) = mentions_shared m
+
+mentions_as_weak : (name : Name) (flavor : Flavor) (P : Pointee) → Mentions name (boxed P) → Mentions name (weak flavor P)
+mentions_as_weak name flavor P (mentions_held h) = held_nowhere name P h
+mentions_as_weak name flavor P (mentions_boxed m) = mentions_weak m
+
+-- what a box of it reaches, a shared pointer to it does
+pub shared_reaches : (table : Table) (name : Name) (flavor : Flavor) (P : Pointee) → Reaches table name (boxed P) → Reaches table name (shared flavor P)
+shared_reaches table name flavor P (reaches m) = reaches (mentions_as_shared name flavor P m)
+shared_reaches table name flavor P (reaches_through {n = n} m d r) = reaches_through (mentions_as_shared n flavor P m) d r
+
+pub weak_reaches : (table : Table) (name : Name) (flavor : Flavor) (P : Pointee) → Reaches table name (boxed P) → Reaches table name (weak flavor P)
+weak_reaches table name flavor P (reaches m) = reaches (mentions_as_weak name flavor P m)
+weak_reaches table name flavor P (reaches_through {n = n} m d r) = reaches_through (mentions_as_weak n flavor P m) d r

@@ -5,6 +5,7 @@ pub mod api;
 pub mod boxed;
 pub mod place;
 pub mod primitive;
+pub mod rc;
 pub mod rel_ptr;
 pub mod ser;
 pub mod sharing;
