@@ -18,6 +18,7 @@ pub mod Regions
 pub mod Shared
 pub mod SharedCauses
 pub mod SharedWritten
+pub mod SharedViews
 pub mod KeyStates
 pub mod ShortTexts
 pub mod Pointers

@@ -9,6 +9,8 @@ ghost use Rattle.archive_check.specs.SelfCheck.Laws.{by_schema};
 ghost use Rattle.archive_check.specs.Shape.{Name, Flavor as FlavorOf, one, shared, weak};
 ghost use Rattle.archive_core.specs.SharedLaws.{flavor_as, shared_reaches, weak_reaches};
 
+mod views;
+
 use crate::traits::{ArchivePointee, Portable, PortablePointee};
 use archive_check::format::error::Error;
 use archive_check::self_check::BySchema;
