@@ -19,6 +19,7 @@ pub mod Shared
 pub mod SharedCauses
 pub mod SharedWritten
 pub mod SharedViews
+pub mod SharedBytes
 pub mod KeyStates
 pub mod ShortTexts
 pub mod Pointers

@@ -1,6 +1,7 @@
 -- How a shared pointer is written: its value under its key, and a byte of 0 where that has no size; and why not.
-use Rattle.std.proofs.Common.{◌≡◌, ◌⊎◌, ⊎_elim, inl, inr, ℕ, pos, ◌+◌, ◌<◌, ◌≤◌, List, [], ◌∷◌, ◌++◌, length, refl, sym, ap, subst, ◌∙◌, arith, Option, Some, None, Result, Ok, Err, true, false, cond, ◌&&◌, nat_eq, Contains}
-use Rattle.std.proofs.lemmas.List.{append-nil}
+use Rattle.std.proofs.Common.{◌≡◌, ◌⊎◌, ⊎_elim, inl, inr, ℕ, zero, suc, pos, slice_index, ◌+◌, ◌<◌, ◌≤◌, List, [], ◌∷◌, ◌++◌, length, refl, sym, ap, subst, ◌∙◌, arith, Option, Some, None, Result, Ok, Err, true, false, cond, ◌&&◌, nat_eq, Contains}
+use Rattle.std.specs.Prelude.{IsErrAnd, IsErrOf}
+use Rattle.std.proofs.lemmas.Bool.{cases_eq}
 use Rattle.std.proofs.lemmas.List.Elements.{Contains-append_left, Contains-append_right, Contains-append_cases}
 use Rattle.archive_check.specs.Shape.{Flavor, Shape, shared, weak, Pointee}
 use Rattle.archive_check.specs.Definitions.{Definitions}
@@ -11,14 +12,14 @@ use Rattle.archive_check.specs.Denotes.{fills_null}
 use Rattle.archive_check.specs.CleanRegions.{IsZeroed}
 use Rattle.archive_check.specs.WriterState.{KeyState, WriterState, KeepsBytes, KeepsKeys}
 use Rattle.archive_check.specs.declared.format.error.Error.{Error}
-use Rattle.archive_check.specs.declared.format.error.Error.TheVariants.{CyclicSerialize, PositionTooLarge}
+use Rattle.archive_check.specs.declared.format.error.Error.TheVariants.{CyclicSerialize, PositionTooLarge, LengthTooLarge}
 use Rattle.archive_check.proofs.Elements.{contains_first, contains_cases}
 use Rattle.archive_write.specs.Written.{GoesOn, ExplainsRefusal}
 use Rattle.archive_write.specs.Sharing.{known_answer}
 use Rattle.archive_core.specs.Writing.{NameMap, Naming, to_shared}
 use Rattle.archive_core.specs.SharedLaws.{naming_of, as_shared, as_weak}
 use Rattle.archive_core.specs.Plans.{Cursor, cursor, begun, ended, IsAt, Step, lays, plans_shared, plans_null, plans_new, PlanOf, RegionPlan, Serialized, serialized, SerializedShared, serialized_shared}
-use Rattle.archive_core.specs.Causes.{Explains, own_cause, of_position, PartOf, part_itself, IsOwner, owner_shared, owner_weak, HindersPart, stands_too_far, too_wide, text_too_long, HindersStep, part_hinders, length_hinders, end_hinders, item_hinders, HindersSome, Hinders, HindersRegion, HindersShared, Reaches, RegionReaches, IsRefused}
+use Rattle.archive_core.specs.Causes.{Explains, own_cause, of_position, of_length, PartOf, part_itself, IsOwner, owner_shared, owner_weak, HindersPart, stands_too_far, IsSharedOwner, shared_owner, weak_owner, shared_too_long, HindersStep, part_hinders, length_hinders, end_hinders, item_hinders, HindersSome, Hinders, HindersRegion, HindersShared, Reaches, RegionReaches, IsRefused}
 use Rattle.archive_core.proofs.Causes.{explains_sooner, explains_later, explains_write}
 use Rattle.archive_core.proofs.PlansForward.{begun_below}
 use Rattle.archive_core.proofs.Appending.{writes_nothing}
@@ -157,6 +158,16 @@ far_refused D X ks v flat h t old new later (serialized writes planned) owner th
       record { flat = q.flat; steps = q.steps; stop = q.stop; plans = q.plans; such = inr (0, X, q.flat, part_itself, subst (λ w. HindersPart X w PositionTooLarge) (sym q.such.0) (stands_too_far owner there far)) });
 })
 
+-- or is too long
+pub long_refused : (D : Definitions) (X : Shape) (ks : List Naming) (v flat : Value) (h : Pointer) (old new later : WriterState) → Serialized D X ks v flat old new → IsSharedOwner X flat h → 4294967295 < h.length
+    → IsRefused D X ks v old later LengthTooLarge
+long_refused D X ks v flat h old new later (serialized writes planned) owner long = own_cause (record {
+  named = of_length;
+  cause = λ below s names k m. (
+      let q = planned below s names k m in
+      record { flat = q.flat; steps = q.steps; stop = q.stop; plans = q.plans; such = inr (0, X, q.flat, part_itself, subst (λ w. HindersPart X w LengthTooLarge) (sym q.such.0) (shared_too_long owner long)) });
+})
+
 -- a weak pointer is written as a shared one
 
 pub weak_serialized : (D : Definitions) (flavor : Flavor) (P : Pointee) (ks : List Naming) (v flat : Value) (old new : WriterState) → Serialized D (shared flavor P) ks v flat old new → Serialized D (weak flavor P) ks v flat old new
@@ -167,6 +178,7 @@ weak_serialized D flavor P ks v flat old new (serialized writes planned) = seria
 weak_part : {s : Schema} {flavor : Flavor} {P : Pointee} {v : Value} {o : ℕ} {Y : Shape} {w : Value} {e : Error} → PartOf s (shared flavor P) v o Y w → HindersPart Y w e
     → (Z : Shape) × PartOf s (weak flavor P) v o Z w × HindersPart Z w e
 weak_part {flavor = flavor} {P = P} part_itself (stands_too_far owner_shared there far) = (weak flavor P, part_itself, stands_too_far owner_weak there far)
+weak_part {flavor = flavor} {P = P} part_itself (shared_too_long shared_owner long) = (weak flavor P, part_itself, shared_too_long weak_owner long)
 
 pub weak_refused : (D : Definitions) (flavor : Flavor) (P : Pointee) (ks : List Naming) (v : Value) (old new : WriterState) (e : Error) → IsRefused D (shared flavor P) ks v old new e → IsRefused D (weak flavor P) ks v old new e
 weak_refused D flavor P ks v old new e h = explains_sooner _ _ _ _ old new e
@@ -188,3 +200,37 @@ weak_refused D flavor P ks v old new e h = explains_sooner _ _ _ _ old new e
 pub null_serialized : (D : Definitions) (flavor : Flavor) (P : Pointee) (w : WriterState) → Serialized D (weak flavor P) [] null null w w
 null_serialized D flavor P w = serialized (writes_nothing D w null refl (λ k n. elim n [ ]) (λ x. fills_null))
     (λ below s names k n. record { flat = null; steps = []; stop = cursor w; plans = plans_null; such = (refl, is_here w) })
+
+-- a pending key is refused at once
+pub pending_said : {A : Type 0} (q : Result A Error) (r : Result ℕ Error) (e : Error) (state : KeyState) → r ≡ Err e → IsErrAnd q (λ d. d ≡ e) → ((s : Option ℕ) → state ≡ Some s → r ≡ known_answer s) → state ≡ Some None
+    → IsErrOf q CyclicSerialize
+pending_said (Ok x) r e state is said known pending = absurd said
+pending_said (Err d) r e state is said known pending = let f = known None pending in let same : e ≡ CyclicSerialize = cc in ap Err (said ∙ same)
+
+no_byte : (a p : ℕ) → (a ≡ p → ⊥) → ◌≡◌ {A = ℕ} 0 (cond (nat_eq a p) 1 0)
+no_byte a p h = elim (cases_eq a p) [ inl e ↦ absurd (h e) | inr n ↦ grind arith ]
+
+pub without_byte : (bytes : List ℕ) (place p : ℕ) → place ≡ length bytes → (place ≡ p → ⊥) → length {A = ℕ} [] ≡ cond (nat_eq (length bytes) p) 1 0
+without_byte bytes place p here apart = no_byte (length bytes) p (λ e. apart (here ∙ e))
+
+pub with_byte : (bytes : List ℕ) (place p : ℕ) → place ≡ length bytes → place ≡ p → length {A = ℕ} (0 ∷ []) ≡ cond (nat_eq (length bytes) p) 1 0
+with_byte bytes place p here same = let e : length bytes ≡ p = sym here ∙ same in rw e (one_byte p)
+  where
+    one_byte : (p : ℕ) → ◌≡◌ {A = ℕ} 1 (cond (nat_eq p p) 1 0)
+    one_byte p = grind arith
+
+pub a_zero : IsZeroed (0 ∷ [])
+a_zero = record { zero_at = λ i l. at i l }
+  where
+    at : (i : ℕ) → i < 1 → slice_index (0 ∷ []) i ≡ 0
+    at zero l = refl
+    at (suc i) l = absurd (omega arith)
+
+-- as the calls have it
+pub far_shared_refused : (D : Definitions) (flavor : Flavor) (P : Pointee) (n t : ℕ) (ks : List Naming) (v : Value) (old new : WriterState) → Serialized D (shared flavor P) ks v (hole (to_shared t flavor P n)) old new
+    → 4294967295 < t → IsRefused D (shared flavor P) ks v old new PositionTooLarge
+far_shared_refused D flavor P n t ks v old new h far = far_refused D (shared flavor P) ks v _ (to_shared t flavor P n) t old new new h owner_shared refl far
+
+pub long_shared_refused : (D : Definitions) (flavor : Flavor) (P : Pointee) (n t : ℕ) (ks : List Naming) (v : Value) (old new : WriterState) → Serialized D (shared flavor P) ks v (hole (to_shared t flavor P n)) old new
+    → 4294967295 < n → IsRefused D (shared flavor P) ks v old new LengthTooLarge
+long_shared_refused D flavor P n t ks v old new h long = long_refused D (shared flavor P) ks v _ (to_shared t flavor P n) old new new h shared_owner long

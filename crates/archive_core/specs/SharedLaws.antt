@@ -30,6 +30,11 @@ abbrev pub weak_keys : {A : Type 0} → (A → List Naming) → Option A → Lis
 weak_keys keys None = []
 weak_keys keys (Some x) = keys x
 
+-- how many elements or bytes there are
+abbrev pub weak_count : {A : Type 0} → (A → ℕ) → Option A → ℕ
+weak_count count None = 0
+weak_count count (Some x) = count x
+
 -- what is read in its place, by where what it points to was written
 abbrev pub weak_flat : Flavor → Pointee → ℕ → Option ℕ → Value
 weak_flat flavor P n None = null

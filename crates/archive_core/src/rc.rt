@@ -10,6 +10,7 @@ ghost use Rattle.archive_check.specs.Shape.{Name, Flavor as FlavorOf, one, share
 ghost use Rattle.archive_core.specs.SharedLaws.{flavor_as, shared_reaches, weak_reaches};
 
 mod views;
+mod writing;
 
 use crate::traits::{ArchivePointee, Portable, PortablePointee};
 use archive_check::format::error::Error;
@@ -17,6 +18,7 @@ use archive_check::self_check::BySchema;
 use archive_check::shape::{Defs, Expr, FlavorInfo};
 use std::alloc::Global;
 use std::marker::PhantomData;
+pub use writing::{RcResolver, RcWeakResolver};
 
 /// How values are shared: a name, which tells one flavor's pointers from another's, and whether a value may hold a pointer to itself. As in rkyv
 /// 0.8.18, where the name is the type.
