@@ -18,6 +18,9 @@ pub mod SharedPlans
 pub mod Regions
 pub mod Shared
 pub mod SharedCauses
+pub mod SharedWritten
+pub mod SharedViews
+pub mod SharedBytes
 pub mod KeyStates
 pub mod ShortTexts
 pub mod Pointers
@@ -30,3 +33,4 @@ pub mod Spots
 pub mod WrittenVariants
 pub mod Nothing
 pub mod ResolvedVariants
+pub mod OwnKeys

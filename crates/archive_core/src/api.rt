@@ -21,6 +21,7 @@ ghost use Rattle.archive_write.specs.Written.{GoesOn};
 mod kept;
 
 use crate::ser::{Serializer, Writer, serialize_one, serialize_with};
+use crate::sharing::Share;
 use crate::traits::{Archive, Deserialize, Entries, Keys, Portable, Serialize};
 use crate::view::{RawView, Ref};
 pub use archive_check::context::HighValidator;
@@ -31,6 +32,9 @@ use archive_check::shape::Schema;
 pub use kept::Access;
 use std::alloc::Global;
 
+/// What the calls that write a whole archive hand to its value: a writer, an allocator and the keys of this archive. As in rkyv 0.8.18.
+pub type HighSerializer<W, A> = Serializer<W, A, Share>;
+
 /// Where the root of an archive of `len` bytes lies: so many bytes before its end as a `T` has, or at 0 where there are fewer.
 pub fn root_position<T: Portable>(len: usize) -> usize
     ensures { result ≡ len - T.layout.size }
@@ -39,7 +43,7 @@ pub fn root_position<T: Portable>(len: usize) -> usize
 }
 
 // The writer behind an archive of `value`, or behind what was written of one, and the root's position.
-fn serialize_whole<W: Writer + Drop, T: Serialize<Serializer<W, Global, ()>>>(
+fn serialize_whole<W: Writer + Drop, T: Serialize<HighSerializer<W, Global>>>(
     alloc: Global,
     value: &T,
     writer: W,
@@ -50,7 +54,7 @@ fn serialize_whole<W: Writer + Drop, T: Serialize<Serializer<W, Global, ()>>>(
     ensures refused { IfErr result.1 (IsRegionRefused T.Archived.definitions (one T.Archived.shape) 0 (T.keys value.now) (T.meaning value.now)
         (unshared (W.state writer)) (unshared (W.state result.0))) }
 {
-    let mut serializer = Serializer::new(writer, alloc, ());
+    let mut serializer = Serializer::new(writer, alloc, Share::new(alloc));
     let root = serialize_one(value, &mut serializer);
     (serializer.into_writer(), root)
 }
@@ -59,7 +63,7 @@ fn serialize_whole<W: Writer + Drop, T: Serialize<Serializer<W, Global, ()>>>(
 /// the value's parts or the writer refuse with (`BufferOverflow`, 8; `WriterFailed`, 9), with `LayoutTooLarge`, 23, where the root would end above
 /// `usize::MAX`, or with `OutOfMemory`, 1, where memory is refused. It asks nothing. After a refusal the writer is gone, and nothing is said of the
 /// bytes that were written: `serialize_one` over `&mut` keeps those from before.
-pub fn to_bytes_in<W: Writer + Drop, T: Serialize<Serializer<W, Global, ()>>>(
+pub fn to_bytes_in<W: Writer + Drop, T: Serialize<HighSerializer<W, Global>>>(
     alloc: Global,
     value: &T,
     writer: W,
@@ -96,7 +100,7 @@ pub fn to_bytes_into<W: Writer, T: Serialize<W>>(
 
 /// An archive of `value`, its root at the end. Memory comes from `alloc`. It asks nothing. Refused with what the value's parts refuse with, with
 /// `LayoutTooLarge`, 23, where the root would end above `usize::MAX`, or with `OutOfMemory`, 1, where memory is refused.
-pub fn to_bytes<T: Serialize<Serializer<Vec<u8>, Global, ()>>>(
+pub fn to_bytes<T: Serialize<HighSerializer<Vec<u8>, Global>>>(
     alloc: Global,
     value: &T,
 ) -> Result<Vec<u8>, Error>

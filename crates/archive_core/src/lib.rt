@@ -7,6 +7,7 @@ pub mod option;
 mod phantom;
 pub mod place;
 pub mod primitive;
+pub mod rc;
 pub mod rel_ptr;
 pub mod ser;
 pub mod sharing;
