@@ -1,3 +1,4 @@
+pub mod SealedLeaves
 pub mod Coded
 pub mod Shown
 pub mod Appending

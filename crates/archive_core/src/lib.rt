@@ -6,6 +6,7 @@ pub mod boxed;
 pub mod place;
 pub mod primitive;
 pub mod rel_ptr;
+pub mod seal;
 pub mod ser;
 pub mod sharing;
 pub mod slice;
