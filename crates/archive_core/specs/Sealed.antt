@@ -1,10 +1,12 @@
 -- What a seal writes over, and that it stays legal.
-use Rattle.std.proofs.Common.{◌≡◌, ◌≢◌, ℕ, ℤ, pos, ◌/◌, ◌+◌, ◌==◌, if◌then◌else◌, List, slice_index, true, false, refl, sym, ap, ◌∙◌}
+use Rattle.std.proofs.Common.{◌≡◌, ◌≢◌, ℕ, ℤ, pos, ◌/◌, ◌+◌, ◌==◌, if◌then◌else◌, List, Contains, slice_index, true, false, refl, sym, ap, ◌∙◌}
 use Rattle.std.specs.Int.{Width, w8, w16, w32, w64, w128, from_le_bytes}
-use Rattle.archive_check.specs.Shape.{Sign, unsigned, signed, Kind, number as number_kind, non_zero}
+use Rattle.archive_check.specs.Shape.{Sign, unsigned, signed, Kind, number as number_kind, non_zero, Shape, Pointee}
 use Rattle.archive_check.specs.Layout.{kind_size}
-use Rattle.archive_check.specs.Leaves.{Leaf, number_leaf, text_leaf}
-use Rattle.archive_check.specs.Reads.{bytes_at, IsLegal, kind_number, kind_value, with_sign}
+use Rattle.archive_check.specs.Leaves.{Leaf, number_leaf, text_leaf, leaves_of, regions_of}
+use Rattle.archive_check.specs.Tour.{Accepted}
+use Rattle.archive_check.specs.Within.{PartOfSome}
+use Rattle.archive_check.specs.Reads.{Schema, bytes_at, IsLegal, kind_number, kind_value, with_sign}
 use Rattle.archive_check.specs.Readable.{target_from, string_text}
 use Rattle.archive_num.specs.Digits.{is_zero}
 
@@ -16,6 +18,10 @@ pub record Holds (kind : Kind) (bytes : List ℕ) (z : ℤ) : Type 0 where
 -- the leaf of a kind that stands at p
 abbrev pub leaf_at : Kind → List ℕ → ℕ → Leaf
 leaf_at kind bytes p = number_leaf p kind (kind_value kind (bytes_at bytes p (kind_size kind)))
+
+-- wherever P at q, with its length, is a part of an archive, x stands among its leaves
+abbrev pub StandsIn : List ℕ → ℕ → Pointee → ℕ → Leaf → Type 0
+StandsIn bytes q P n x = (s : Schema) (root : ℕ) (X : Shape) (a : Accepted s bytes root X) → PartOfSome s bytes (regions_of a) q P n → Contains (leaves_of a) x
 
 -- where the text of the string at p begins
 abbrev pub text_begin : List ℕ → ℕ → ℕ

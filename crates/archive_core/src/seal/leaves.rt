@@ -9,7 +9,7 @@ ghost use Rattle.archive_check.specs.Revised.{WritesLeaf};
 ghost use Rattle.archive_check.specs.LittleEndian.{little_bytes, little_number};
 ghost use Rattle.archive_check.specs.Shape.{Kind as KindOf, bool, number, signed, unsigned, leaf, non_zero, one};
 ghost use Rattle.archive_check.specs.Viewed.{Viewed};
-ghost use Rattle.archive_core.specs.Sealed.{Holds, leaf_at, value_holds, non_zero_holds};
+ghost use Rattle.archive_core.specs.Sealed.{Holds, StandsIn, leaf_at, value_holds, non_zero_holds};
 ghost use Rattle.archive_num.specs.Digits.{is_zero, bool_byte};
 ghost use Rattle.archive_num.specs.Leaves.{bool-leaf, bool-number, bool-value, number-leaf, signed-number, signed-value, unsigned-number, unsigned-value};
 
@@ -143,6 +143,7 @@ impl<'a, T: SealedLeaf> Seal<'a, T> {
         requires viewed { Viewed T.definitions self.bytes.now self.pos T.pointee self.len }
         requires can_hold { T.can_hold value }
         ensures edited { self.exit.0.now ≡ edit self.entry.bytes.now self.entry.pos (T.Written.bytes_of value) }
+        ensures stands { StandsIn self.entry.bytes.now self.entry.pos T.pointee self.entry.len (leaf_at T.kind self.entry.bytes.now self.entry.pos) }
         ensures leaf { WritesLeaf (leaf_at T.kind self.entry.bytes.now self.entry.pos) (number_leaf self.entry.pos T.kind (T.Written.value_of value))
             self.entry.bytes.now self.exit.0.now }
     {
@@ -161,6 +162,7 @@ impl<'a, T: ArchivePointee> Seal<'a, T> {
         ensures position { self.new.pos ≡ self.old.pos }
         ensures length { self.new.len ≡ self.old.len }
         ensures edited { self.new.bytes.now ≡ edit self.old.bytes.now spot.pos (U.Written.bytes_of value) }
+        ensures stands { StandsIn self.old.bytes.now spot.pos U.pointee spot.len (leaf_at U.kind self.old.bytes.now spot.pos) }
         ensures leaf { WritesLeaf (leaf_at U.kind self.old.bytes.now spot.pos) (number_leaf spot.pos U.kind (U.Written.value_of value))
             self.old.bytes.now self.new.bytes.now }
     {

@@ -8,7 +8,7 @@ ghost use Rattle.archive_check.specs.Reads.{bytes_at};
 ghost use Rattle.archive_check.specs.Revised.{WritesLeaf};
 ghost use Rattle.archive_check.specs.Shape.{str as str_shape, one, text};
 ghost use Rattle.archive_check.specs.Viewed.{Viewed};
-ghost use Rattle.archive_core.specs.Sealed.{text_begin, string_leaf};
+ghost use Rattle.archive_core.specs.Sealed.{StandsIn, text_begin, string_leaf};
 
 use super::{Seal, Spot};
 use crate::string::{ArchivedStr, ArchivedString};
@@ -58,6 +58,7 @@ impl<'a> Seal<'a, ArchivedStr> {
         requires viewed { Viewed no_definition self.bytes.now self.pos text self.len }
         requires same_length { length value.now ≡ self.len }
         ensures edited { self.exit.0.now ≡ edit self.entry.bytes.now self.entry.pos value.now }
+        ensures stands { StandsIn self.entry.bytes.now self.entry.pos text self.entry.len (text_leaf self.entry.pos (bytes_at self.entry.bytes.now self.entry.pos self.entry.len)) }
         ensures leaf { WritesLeaf (text_leaf self.entry.pos (bytes_at self.entry.bytes.now self.entry.pos self.entry.len)) (text_leaf self.entry.pos value.now)
             self.entry.bytes.now self.exit.0.now }
     {
@@ -88,6 +89,7 @@ impl<'a> Seal<'a, ArchivedString> {
         requires viewed { Viewed no_definition self.bytes.now self.pos (one str_shape) self.len }
         requires same_length { length value.now ≡ length (string_text self.bytes.now self.pos) }
         ensures edited { self.exit.0.now ≡ edit self.entry.bytes.now (text_begin self.entry.bytes.now self.entry.pos) value.now }
+        ensures stands { StandsIn self.entry.bytes.now self.entry.pos (one str_shape) self.entry.len (string_leaf self.entry.bytes.now self.entry.pos) }
         ensures leaf { WritesLeaf (string_leaf self.entry.bytes.now self.entry.pos) (text_leaf (text_begin self.entry.bytes.now self.entry.pos) value.now)
             self.entry.bytes.now self.exit.0.now }
     {
