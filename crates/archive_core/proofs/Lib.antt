@@ -1,3 +1,5 @@
+pub mod StandingLeaves
+pub mod SealedLeaves
 pub mod Coded
 pub mod Shown
 pub mod Appending

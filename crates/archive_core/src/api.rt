@@ -12,6 +12,7 @@ ghost use Rattle.archive_check.specs.Entries.{ReadsBack, RefusesReading};
 ghost use Rattle.archive_check.specs.Unshared.{IsNeverOpen};
 ghost use Rattle.archive_check.specs.declared.format.error.Error.TheVariants.{OutOfMemory};
 ghost use Rattle.archive_check.specs.Shape.{one};
+ghost use Rattle.archive_check.specs.Viewed.{Viewed};
 ghost use Rattle.archive_core.specs.Causes.{HindersRegion, IsRegionRefused};
 ghost use Rattle.archive_core.specs.Plans.{at_start, unshared};
 ghost use Rattle.archive_core.specs.Writing.{Archives};
@@ -20,6 +21,7 @@ ghost use Rattle.archive_write.specs.Written.{GoesOn};
 
 mod kept;
 
+use crate::seal::Seal;
 use crate::ser::{Serializer, Writer, serialize_one, serialize_with};
 use crate::sharing::Share;
 use crate::traits::{Archive, Deserialize, Entries, Keys, Portable, Serialize};
@@ -171,6 +173,41 @@ pub fn access<'a, T: Portable>(alloc: Global, bytes: &'a [u8]) -> Result<Ref<'a,
     ensures whole { IfOk result (λ r. r.len ≡ 0) }
 {
     access_pos(alloc, bytes, root_position::<T>(bytes.len()))
+}
+
+/// Checks that `bytes` are an archive whose root, a `T`, lies at `pos`, and answers the root's seal. It asks nothing. No byte changes. Memory for the
+/// schema and the check comes from `alloc`. Refused as by `access_pos`.
+pub fn access_pos_mut<'a, T: Portable>(
+    alloc: Global,
+    bytes: &'a mut [u8],
+    pos: usize,
+) -> Result<Seal<'a, T>, Error>
+    ensures answer { Answers T.definitions bytes.old None pos T.shape result }
+    ensures same_reference { IfOk result (λ s. s.bytes.ghost_name ≡ bytes.entry.ghost_name) }
+    ensures buffer { IfOk result (λ s. s.bytes.now ≡ bytes.old) }
+    ensures position { IfOk result (λ s. s.pos ≡ pos) }
+    ensures whole { IfOk result (λ s. s.len ≡ 0) }
+    ensures viewed { IfOk result (λ s. Viewed T.definitions s.bytes.now s.pos T.pointee s.len) }
+{
+    let spot = match access_pos::<T>(alloc, bytes, pos) {
+        Ok(root) => root.spot(),
+        Err(error) => return Err(error),
+    };
+    Ok(spot.seal(bytes))
+}
+
+/// Checks that `bytes` are an archive whose root, a `T`, lies at the end, and answers the root's seal. It asks nothing. No byte changes. Memory for the
+/// schema and the check comes from `alloc`. Refused as by `access_pos`.
+pub fn access_mut<'a, T: Portable>(alloc: Global, bytes: &'a mut [u8]) -> Result<Seal<'a, T>, Error>
+    ensures answer { Answers T.definitions bytes.old None (root_in bytes.old T.layout) T.shape result }
+    ensures same_reference { IfOk result (λ s. s.bytes.ghost_name ≡ bytes.entry.ghost_name) }
+    ensures buffer { IfOk result (λ s. s.bytes.now ≡ bytes.old) }
+    ensures position { IfOk result (λ s. s.pos ≡ root_in bytes.old T.layout) }
+    ensures whole { IfOk result (λ s. s.len ≡ 0) }
+    ensures viewed { IfOk result (λ s. Viewed T.definitions s.bytes.now s.pos T.pointee s.len) }
+{
+    let pos = root_position::<T>(bytes.len());
+    access_pos_mut(alloc, bytes, pos)
 }
 
 /// Checks that `bytes` are an archive whose root, a `T`, lies at `pos`, in a context, and answers the root's view. Asks for a context of these bytes

@@ -8,6 +8,7 @@ mod positions;
 mod reading;
 mod readme;
 mod rel_ptr;
+mod seals;
 mod self_checks;
 mod shared;
 mod strings;
