@@ -244,9 +244,7 @@ where
 }
 
 // The length that stands in a weak pointer to a source, if there is one.
-fn weak_length<T: PortablePointee, U: ArchiveUnsized<Archived = T>>(
-    value: Option<&U>,
-) -> FixedUsize
+fn weak_length<T: PortablePointee, U: ArchiveUnsized<Archived = T>>(value: Option<&U>) -> FixedUsize
 where
     T::ArchivedMetadata: Drop,
     requires { weak_count (λ u. U.source_length u.now) value ≤ 4294967295 }
