@@ -115,7 +115,7 @@ impl Checker<'_> {
             NodeKind::Pointer { target, pointee } => {
                 let count = self.count(target, at);
                 let position = read_position(self.bytes, at, at);
-                self.enter(target, pointee, count, position, work, context)
+                self.enter_here(target, pointee, count, position, work, context)
             }
             NodeKind::Shared {
                 shared_type,

@@ -94,7 +94,7 @@ impl Worklist {
     }
 
     /// One entry more. Refused with 1 where memory is refused.
-    #[inline]
+    #[inline(always)]
     fn push(&mut self, entry: Work) -> Option<()>
         ensures some { OnSome result (list_of self.new ≡ entry ∷ list_of self.old) }
         ensures none { IfNone result (self.new.fault ≡ Error.OutOfMemory) }
@@ -108,7 +108,7 @@ impl Worklist {
     }
 
     /// The node at `at` is left. Refused with 1 where memory is refused, as are the next ones.
-    #[inline]
+    #[inline(always)]
     pub fn part(&mut self, node: usize, at: usize) -> Option<()>
         ensures some { OnSome result (list_of self.new ≡ Work.Part node at ∷ list_of self.old) }
         ensures none { IfNone result (self.new.fault ≡ Error.OutOfMemory) }
@@ -161,7 +161,7 @@ impl Worklist {
     }
 
     /// A region is to be left, and the range will be this one.
-    #[inline]
+    #[inline(always)]
     pub fn leave(&mut self, start: usize, end: usize) -> Option<()>
         ensures some { OnSome result (list_of self.new ≡ Work.Leave start end ∷ list_of self.old) }
         ensures none { IfNone result (self.new.fault ≡ Error.OutOfMemory) }

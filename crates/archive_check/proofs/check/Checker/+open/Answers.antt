@@ -63,7 +63,7 @@ open-returns-in-Array-clause-turn g t c =
 pub open-returns-in-Pointer-clause-turn : goal.open-returns-in-Pointer-clause-turn
 open-returns-in-Pointer-clause-turn g t c =
     let is = node_is c.requires.ready.fits.0 c.index-self-node.is c.in-Pointer.is in
-    opens_pointer is c.count-count.ensures (read_at (record { sfits = c.read_position-position.type_inv }) c.read_position-position.ensures) c.enter.ensures.enters
+    opens_pointer is c.count-count.ensures (read_at (record { sfits = c.read_position-position.type_inv }) c.read_position-position.ensures) c.enter_here.ensures.enters
 
 pub open-returns-in-Shared-clause-turn : goal.open-returns-in-Shared-clause-turn
 open-returns-in-Shared-clause-turn g t c = opens_shared (node_is c.requires.ready.fits.0 c.index-self-node.is c.in-Shared.is) c.follow.ensures.follows
@@ -140,7 +140,7 @@ pub open-returns-in-Pointer-clause-pays : goal.open-returns-in-Pointer-clause-pa
 open-returns-in-Pointer-clause-pays g t c =
     let f = c.requires.ready.fits.0 in
     let few = pointer_few f c.in-Pointer.target (node_fits c.requires.plan.sound (node_is f c.index-self-node.is c.in-Pointer.is) f).0 in
-    omega (arith, c.enter.ensures.pays, few)
+    omega (arith, c.enter_here.ensures.pays, few)
 
 pub open-returns-in-Shared-clause-pays : goal.open-returns-in-Shared-clause-pays
 open-returns-in-Shared-clause-pays g t c =
