@@ -26,3 +26,4 @@ pub mod OwnersWritten
 pub mod PartsShown
 pub mod ReadElements
 pub mod Spots
+pub mod OwnersRead
