@@ -36,3 +36,4 @@ pub mod WrittenVariants
 pub mod Nothing
 pub mod ResolvedVariants
 pub mod OwnKeys
+pub mod OwnersRead

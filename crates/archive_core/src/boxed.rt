@@ -8,6 +8,7 @@ ghost use Rattle.archive_check.specs.Readable.{target_from};
 ghost use Rattle.archive_check.specs.Reads.{length_at};
 ghost use Rattle.archive_core.specs.Views.{ShowsPart, boxed_in};
 
+mod reading;
 mod sources;
 
 use crate::traits::{ArchivePointee, Portable, PortablePointee};

@@ -5,6 +5,8 @@ ghost use Rattle.archive_check.specs.Shape.{run};
 ghost use Rattle.archive_check.specs.SelfCheck.Owners.{run_check, run_reaches};
 ghost use Rattle.archive_core.specs.Views.{ShowsPart, element_in};
 
+mod iter;
+mod reading;
 mod sources;
 
 use crate::primitive::ArchivedUsize;
@@ -14,16 +16,12 @@ use archive_check::format::error::Error;
 use archive_check::format::expr::{Defs, Pointee};
 use archive_check::format::layout::Layout;
 use archive_check::self_check::VecCheck;
+pub use iter::Iter;
+pub(crate) use reading::read_elements;
 pub use sources::Slice;
 pub(crate) use sources::{serialize_each, serialize_slice};
 use std::alloc::Global;
 use std::marker::PhantomData;
-
-mod iter;
-mod reading;
-
-pub use iter::Iter;
-pub use reading::read_elements;
 
 /// An archived slice: elements one behind another, as many as the pointer to it says. It stands where rkyv 0.8.18 has a slice of archived values.
 #[derive(Debug)]

@@ -2,6 +2,7 @@
 
 mod memory;
 mod numbers;
+mod owner_reading;
 mod owner_views;
 mod options;
 mod positions;
