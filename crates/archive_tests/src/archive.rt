@@ -9,6 +9,7 @@ mod rel_ptr;
 mod self_checks;
 mod shared;
 mod strings;
+mod tuples;
 mod without_meaning;
 mod writing;
 
