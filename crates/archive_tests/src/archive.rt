@@ -13,6 +13,7 @@ mod seals;
 mod self_checks;
 mod shared;
 mod strings;
+mod tuples;
 mod without_meaning;
 mod writing;
 

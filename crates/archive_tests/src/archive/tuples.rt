@@ -1,0 +1,34 @@
+// Tuples: their layouts, and what a check says of their bytes.
+
+use archive_core::api::access;
+use archive_core::error::Error;
+use archive_core::primitive::{ArchivedI32, ArchivedU32};
+use archive_core::traits::{Portable, Record};
+use archive_tuple::{ArchivedTuple1, ArchivedTuple3};
+use std::test::Fail;
+
+// The tuple (24, true, 16) of an `i32`, a `bool` and a `u32`.
+const NUMBERS: &[u8] = b"\x18\0\0\0\x01\0\0\0\x10\0\0\0";
+
+type Numbers = ArchivedTuple3<ArchivedI32, bool, ArchivedU32>;
+
+#[test]
+fn a_tuple_has_the_layout_of_its_parts(rt: HostRuntime) -> Result<(), Fail> {
+    assert_eq!(rt; <Numbers as Portable>::size(), 12);
+    assert_eq!(rt; <Numbers as Portable>::align(), 4);
+    for (i, offset) in [(0, 0), (1, 4), (2, 8)] {
+        assert_eq!(rt; <Numbers as Record>::offset(i), offset, "of part {i}");
+    }
+    assert_eq!(rt; <ArchivedTuple1<bool> as Portable>::size(), 1);
+    Ok(())
+}
+
+#[test]
+fn a_tuple_is_checked_part_by_part(rt: HostRuntime) -> Result<(), Fail> {
+    assert_eq!(rt; access::<Numbers>(rt.alloc(), NUMBERS)?.pos(), 0);
+    assert_eq!(rt;
+        access::<Numbers>(rt.alloc(), b"\x18\0\0\0\x02\0\0\0\x10\0\0\0").err(),
+        Some(Error::InvalidBool)
+    );
+    Ok(())
+}
