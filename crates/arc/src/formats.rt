@@ -2,6 +2,7 @@
 
 use archive_core::api::{access, to_bytes};
 use archive_core::error::Error;
+use archive_core::option::ArchivedOption;
 use archive_core::primitive::ArchivedU32;
 use archive_core::string::ArchivedString;
 use std::alloc::Global;
@@ -13,6 +14,8 @@ pub enum Format {
     U32,
     /// `string`, written as it stands.
     String,
+    /// `opt-u32`, which is checked alone.
+    OptU32,
 }
 
 /// A value that a command gives.
@@ -30,15 +33,17 @@ impl Format {
         match name {
             "u32" => Some(Format::U32),
             "string" => Some(Format::String),
+            "opt-u32" => Some(Format::OptU32),
             _ => None,
         }
     }
 
-    /// The value that a word stands for.
+    /// The value that a word stands for: none of a format that is checked alone.
     pub fn value(self, word: &String) -> Option<Value<'_>> {
         match self {
             Format::U32 => Some(Value::U32(number(word.as_str())?)),
             Format::String => Some(Value::String(word)),
+            Format::OptU32 => None,
         }
     }
 
@@ -50,6 +55,9 @@ impl Format {
             }
             Format::String => {
                 access::<ArchivedString>(alloc, bytes)?;
+            }
+            Format::OptU32 => {
+                access::<ArchivedOption<ArchivedU32>>(alloc, bytes)?;
             }
         }
         Ok(())

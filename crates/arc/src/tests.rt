@@ -75,6 +75,13 @@ fn archives_are_checked(rt: HostRuntime) -> Result<(), Fail> {
             "refused: 17 UnalignedPointer\n",
         ),
         ("check|u32|2a0000", 1, "refused: 16 InvalidSubtreePointer\n"),
+        ("check|opt-u32|00aabbcc01020304", 0, "accepted\n"),
+        ("check|opt-u32|010000002a000000", 0, "accepted\n"),
+        (
+            "check|opt-u32|0200000001020304",
+            1,
+            "refused: 24 InvalidDiscriminant\n",
+        ),
     ];
     for (command, status, line) in rows {
         let (ended, out) = said(rt.alloc(), command)?;
@@ -103,6 +110,8 @@ fn other_words_are_bad_arguments(rt: HostRuntime) -> Result<(), Fail> {
         "write|u32|1 ",
         "write|u32|1x",
         "write|u32|4294967296",
+        "write|opt-u32|1",
+        "write|opt-u32|none",
         "check|string|6",
         "check|string|6g",
         "check|string|0x00",

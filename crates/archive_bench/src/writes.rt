@@ -3,14 +3,13 @@
 ghost use Rattle.std.specs.Prelude.{◌≡◌, IfOk};
 
 use crate::rounds::probe;
-use archive_core::api::{to_bytes, to_bytes_in};
+use archive_core::api::{HighSerializer, to_bytes, to_bytes_in};
 use archive_core::error::Error;
-use archive_core::ser::Serializer;
 use archive_core::traits::Serialize;
 use std::alloc::Global;
 
 // Writes one of the values a round, in turns, into a new buffer or always into the same one. Answers the sum of the lengths and of a byte of each.
-fn written<T: Serialize<Serializer<Vec<u8>, Global, ()>>>(
+fn written<T: Serialize<HighSerializer<Vec<u8>, Global>>>(
     alloc: Global,
     values: &[T],
     count: usize,

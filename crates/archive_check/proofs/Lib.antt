@@ -43,6 +43,8 @@ pub mod ViewedFields
 pub mod ViewedValues
 pub mod ReadBack
 pub mod ReadOwners
+pub mod ViewedVariants
+pub mod ReadVariants
 pub mod ReadShared
 pub mod CalmArchives
 pub mod SharedKnown

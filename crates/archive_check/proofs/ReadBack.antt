@@ -14,7 +14,7 @@ module _ (D : Definitions) (bytes : List ℕ) (q n : ℕ) (old new : Entries) (s
   kept_same : KeepsEntries old new
   kept_same = rw same (record { finished = λ t k h. h; pending = λ t. (λ h. h, λ h. h); named = λ h. h })
 
-  read_back : (P : Pointee) (w : Value) → Says D bytes q P n w → ((s : Schema) → MeetsOpen s bytes old [] q P n → ⊥) → ReadsBack D bytes q P n old new w []
+  pub read_back : (P : Pointee) (w : Value) → Says D bytes q P n w → ((s : Schema) → MeetsOpen s bytes old [] q P n → ⊥) → ReadsBack D bytes q P n old new w []
   read_back P w says unmet = record {
     kept = kept_same;
     value = λ named. says;
@@ -24,7 +24,7 @@ module _ (D : Definitions) (bytes : List ℕ) (q n : ℕ) (old new : Entries) (s
   }
 
   -- where it has no pointer, none is followed
-  bare : (s : Schema) (P : Pointee) → ((v : Value) → Contents s bytes q P n v → pointers v ≡ []) → MeetsOpen s bytes old [] q P n → ⊥
+  pub bare : (s : Schema) (P : Pointee) → ((v : Value) → Contents s bytes q P n v → pointers v ≡ []) → MeetsOpen s bytes old [] q P n → ⊥
   bare s P h (meets_open {v = v} c i e t o) = let none = rw (h v c) at i in omega (arith, none.1)
   bare s P h (meets_in_unique {v = v} c i e t m) = let none = rw (h v c) at i in omega (arith, none.1)
   bare s P h (meets_in_shared {v = v} c i e t u m) = let none = rw (h v c) at i in omega (arith, none.1)

@@ -10,3 +10,4 @@ pub mod Laws
 pub mod Orders
 pub mod Roots
 pub mod Outcomes
+pub mod Spent

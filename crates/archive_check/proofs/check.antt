@@ -6,6 +6,7 @@ pub mod Entries
 pub mod FollowedPointers
 pub mod LegalElements
 pub mod LegalParts
+pub mod Paid
 pub mod RootLoop
 pub mod RootRuns
 pub mod TurnInvariants

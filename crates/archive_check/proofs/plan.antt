@@ -15,6 +15,7 @@ pub mod GrowingPlans
 pub mod MissingNames
 pub mod Named
 pub mod NodeNumbers
+pub mod PackedPlans
 pub mod PlanSizes
 pub mod Planned
 pub mod PlansInOrder

@@ -29,6 +29,7 @@ pub mod RegionLayout
 pub mod LittleEndian
 pub mod Readable
 pub mod Ranges
+pub mod Pushes
 pub mod PositionStates
 pub mod FreshContexts
 pub mod SharedPositions

@@ -2,6 +2,7 @@
 pub mod Entered
 pub mod Lists
 pub mod LoopInvariant
+pub mod Paid
 pub mod PlanChecks
 pub mod Runs
 pub mod Through

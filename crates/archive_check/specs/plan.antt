@@ -8,6 +8,7 @@ pub mod Measure
 pub mod Names
 pub mod NodeCounts
 pub mod NodeNumbers
+pub mod PackedPlans
 pub mod PlanGrowth
 pub mod Planned
 pub mod Represents

@@ -6,6 +6,7 @@ ghost use Rattle.std.specs.Int.{w8};
 ghost use Rattle.archive_check.specs.Shape.{Shape, leaf, unit};
 ghost use Rattle.archive_check.specs.Definitions.{Definitions, no_definition};
 ghost use Rattle.archive_check.specs.SelfCheck.Ways.{Goes, Halts, shape_way};
+ghost use Rattle.archive_check.specs.Pushes.{Spends};
 
 use crate::context::ArchiveContext;
 use crate::format::error::Error;
@@ -58,6 +59,7 @@ pub trait SelfCheck {
         requires below { (C.state context.old).end ≤ length bytes.now }
         ensures through { OnSome result (Goes definitions (shape_way bytes.now at shape) (C.state context.old) (C.state context.new)) }
         ensures stops { IsTrue direct → IfNone result (Halts definitions (shape_way bytes.now at shape) (C.state context.old) refusal.new) }
+        ensures spends { Spends span (C.state context.old) (C.state context.new) }
         ensures positions { OnSome result (C.positions context.new ≡ C.positions context.old) };
 }
 

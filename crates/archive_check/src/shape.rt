@@ -3,6 +3,7 @@
 ghost use Rattle.std.specs.Prelude.{◌≡◌, length};
 ghost use Rattle.archive_check.specs.Expressions.{shape_of, entries_of};
 ghost use Rattle.archive_check.specs.plan.Shallow.{AreShallow};
+ghost use Rattle.archive_check.specs.plan.PackedPlans.{ArePacked};
 ghost use Rattle.archive_check.specs.plan.Names.{HasAll};
 ghost use Rattle.archive_check.specs.plan.Planned.{IsPlan, HasNames};
 
@@ -35,12 +36,14 @@ pub struct Schema {
     ghost named: { ∥ HasNames definitions.items names.items plan ∥₁ },
     ghost sound: { AreShallow plan.nodes.items plan.parts.items plan.variants.items shallow.items },
     ghost marks: { length shallow.items ≡ length plan.nodes.items },
+    ghost packed: { ArePacked plan.nodes.items plan.parts.items plan.variants.items },
 }
 
 impl Schema {
     ghost use Rattle.std.specs.Prelude.{◌≡◌, ◌⊎◌, ◌≤◌, length, OnOk, IfOk, IfErr};
     ghost use Rattle.archive_check.specs.declared.format.error.Error.TheVariants.{OutOfMemory, LayoutTooLarge};
     ghost use Rattle.archive_check.specs.FreshContexts.{IsWhole};
+    ghost use Rattle.archive_check.specs.Pushes.{FewPushed};
     ghost use Rattle.archive_check.specs.Schemas.{Accepts, Refuses, IsExact, IsSchemaOf, HasHeld, ExplainsNoSchema, IsLayoutOf, IsTooLarge};
     ghost use Rattle.archive_check.specs.Expressions.{shape_of};
 
@@ -88,7 +91,8 @@ impl Schema {
     /// Asks that the context's range ends in the buffer. In a context for these bytes that met nothing yet the answer is exact: Ok where the buffer
     /// is an archive with its root there and with no region too deep, and else the refusal of the first test that is false, with its fields
     /// (12, 16 to 18 and 21 to 29 of docs/FORMAT.md). Refused with `OutOfMemory`, 1, where memory is refused for the list of what is left to check
-    /// or for a shared position. What a context is left with isn't said: make a new one for the next check.
+    /// or for a shared position. Accepted or refused, in any context, it enters at most one region, and one for each four bytes of the context's range:
+    /// 1 + n / 4 in n bytes. What else a context is left with isn't said: make a new one for the next check.
     pub fn check<C: ArchiveContext + SharedContext>(
         &self,
         bytes: &[u8],
@@ -99,6 +103,7 @@ impl Schema {
         ensures ok { OnOk result (IsWhole (C.state context.old) (C.positions context.old) bytes.now → Accepts self.now bytes.now (C.state context.old).depth pos) }
         ensures err { IfErr result (λ e. (e ≡ OutOfMemory) ⊎ (IsWhole (C.state context.old) (C.positions context.old) bytes.now → Refuses self.now bytes.now (C.state context.old).depth pos e)) }
         ensures exact { IsWhole (C.state context.old) (C.positions context.old) bytes.now → IsExact self.now bytes.now (C.state context.old).depth pos result }
+        ensures few_subtrees { FewPushed (C.state context.old) (C.state context.new) }
     {
         let checker = Checker {
             nodes: &self.plan.nodes,

@@ -1,3 +1,5 @@
+pub mod StandingLeaves
+pub mod SealedLeaves
 pub mod Coded
 pub mod Shown
 pub mod Appending
@@ -18,9 +20,20 @@ pub mod SharedPlans
 pub mod Regions
 pub mod Shared
 pub mod SharedCauses
+pub mod SharedWritten
+pub mod SharedViews
+pub mod SharedBytes
 pub mod KeyStates
 pub mod ShortTexts
 pub mod Pointers
 pub mod Records
 pub mod Owned
 pub mod OwnersWritten
+pub mod PartsShown
+pub mod ReadElements
+pub mod Spots
+pub mod WrittenVariants
+pub mod Nothing
+pub mod ResolvedVariants
+pub mod OwnKeys
+pub mod OwnersRead

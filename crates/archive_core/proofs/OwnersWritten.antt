@@ -67,7 +67,7 @@ module _ (D : Definitions) (p t n : ℕ) (a : List ℕ) where
   }
 
 -- an owner whose offset doesn't fit
-owner_hindered_at : (D : Definitions) (X : Shape) (w : Value) (h : Pointer) (t p : ℕ) (e : Error) → IsOwner X w h → h.target ≡ pos t → IsTooFar e (distance p t) → HindersAt D X w p e
+pub owner_hindered_at : (D : Definitions) (X : Shape) (w : Value) (h : Pointer) (t p : ℕ) (e : Error) → IsOwner X w h → h.target ≡ pos t → IsTooFar e (distance p t) → HindersAt D X w p e
 owner_hindered_at D X w h t p e is there far = record {
   named = own_if_too_far e _ far;
   cause = λ s k. (0, X, w, part_itself, too_far_from_here {h = h} {t = t} is there (subst (λ q. IsTooFar e (distance q t)) (sym (add-zero p)) far));

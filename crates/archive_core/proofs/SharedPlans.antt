@@ -10,27 +10,14 @@ use Rattle.archive_check.specs.WriterState.{WriterState}
 use Rattle.archive_check.specs.declared.format.error.Error.{Error}
 use Rattle.archive_check.specs.declared.format.error.Error.TheVariants.{CyclicSerialize}
 use Rattle.archive_check.proofs.Elements.{contains_first}
-use Rattle.archive_core.specs.Writing.{NameMap, Naming, to_shared}
-use Rattle.archive_core.specs.Plans.{Cursor, cursor, begun, ended, IsAt, AreBelow, Step, meets, PlansRegion, plans_region, plans_shared, plans_new, plans_finished, plans_pending, HasPlan, HasRegionPlan, Serialized, serialized, SerializedShared, serialized_shared}
+use Rattle.archive_core.specs.Writing.{Naming, to_shared}
+use Rattle.archive_core.specs.SharedLaws.{as_shared}
+use Rattle.archive_core.specs.Plans.{cursor, begun, ended, meets, plans_shared, plans_new, plans_finished, plans_pending, Serialized, serialized, SerializedShared, serialized_shared}
 use Rattle.archive_core.specs.Causes.{own_cause, of_key, key_hinders, IsRefused}
 use Rattle.archive_core.proofs.Shared.{writes_shared_new, writes_shared_again}
 use Rattle.archive_core.proofs.PlansForward.{begun_below}
 
--- the plan of a region of its own is that of a shared one, but for the byte behind an empty one
-record AsShared (s : Schema) (names : NameMap) (P : Pointee) (n : ℕ) (v : Value) (a : Cursor) (t : ℕ) (b : Cursor) : Type 0 where
-  steps : List Step
-  stop : Cursor
-  plans : PlansRegion s names true P n v a t steps stop
-  size : ℕ
-  place : b.place ≡ t + size
-  end : stop.place ≡ t + cond (true && nat_eq size 0) 1 size
-  states : stop.states ≡ b.states
-
-as_shared : (s : Schema) (names : NameMap) {P : Pointee} {n t : ℕ} {v : Value} {a b : Cursor} {C : List Step} → PlansRegion s names false P n v a t C b → AsShared s names P n v a t b
-as_shared s names (plans_region {P = P} {n = n} h at) =
-    record { steps = _; stop = _; plans = plans_region h at; size = pointee_size s P n; place = refl; end = refl; states = refl }
-
-behind_empty : (t size l m : ℕ) → l ≡ t + size → m ≡ cond (nat_eq l t) 1 0 → l + m ≡ t + cond (true && nat_eq size 0) 1 size
+pub behind_empty : (t size l m : ℕ) → l ≡ t + size → m ≡ cond (nat_eq l t) 1 0 → l + m ≡ t + cond (true && nat_eq size 0) 1 size
 behind_empty t size l m e f = grind arith
 
 module _ (D : Definitions) (P : Pointee) (n : ℕ) (ks : List Naming) (v : Value) (flavor : Flavor) (key : ℕ) where
@@ -51,7 +38,7 @@ module _ (D : Definitions) (P : Pointee) (n : ℕ) (ks : List Naming) (v : Value
       let last : length tail ≡ cond (nat_eq (length mid.bytes) q.begin) 1 0 = few ∙ ap (λ p. cond (nat_eq (length mid.bytes) p) 1 0) (sym there) in
       record {
         flat = hole (to_shared q.begin flavor P n);
-        steps = r.steps;
+        steps = _;
         stop = ended r.stop key q.begin;
         plans = plans_shared (plans_new lays.unknown m.0 r.plans);
         such = (

@@ -108,16 +108,24 @@ IsTooWide (non_zero unsigned width) z = (n : ℕ) → n < 2 ^ (8 * byte_len widt
 IsTooWide (non_zero signed width) z = FitsSigned width z → ⊥
 IsTooWide (raw_rel sign width) z = ⊥
 
--- What hinders a part, wherever it lies: what it points to stands above 4,294,967,295; its number has too many bits; its text is too long for a string.
+-- the part is a shared or weak pointer, which may lead to what was written under its key before, and has this pointer
+pub data IsSharedOwner : Shape → Value → Pointer → Type 0 where
+  shared_owner : {flavor : Flavor} {P : Pointee} {h : Pointer} → IsSharedOwner (shared flavor P) (hole h) h
+  weak_owner : {flavor : Flavor} {P : Pointee} {h : Pointer} → IsSharedOwner (weak flavor P) (hole h) h
+
+-- What hinders a part, wherever it lies: what it points to stands above 4,294,967,295, or is shared and has a length above that; its number has too many
+-- bits; its text is too long for a string.
 pub data HindersPart : Shape → Value → Error → Type 0 where
   stands_too_far : {Y : Shape} {w : Value} {h : Pointer} {t : ℕ} → IsOwner Y w h → h.target ≡ pos t → 4294967295 < t → HindersPart Y w PositionTooLarge
+  shared_too_long : {Y : Shape} {w : Value} {h : Pointer} → IsSharedOwner Y w h → 4294967295 < h.length → HindersPart Y w LengthTooLarge
   too_wide : {kind : Kind} {z : ℤ} → IsTooWide kind z → HindersPart (leaf kind) (number z) NumberTooLarge
   text_too_long : {h : Pointer} → 1073741823 < h.length → HindersPart str (hole h) StringTooLong
 
--- and where it lies at q: its offset doesn't fit
+-- and where it lies at q: its offset doesn't fit, or is 1 and would make a weak pointer a null
 pub data HindersPartAt : Shape → ℕ → Value → Error → Type 0 where
   anywhere : {Y : Shape} {q : ℕ} {w : Value} {e : Error} → HindersPart Y w e → HindersPartAt Y q w e
   too_far_from_here : {Y : Shape} {q : ℕ} {w : Value} {e : Error} {h : Pointer} {t : ℕ} → IsOwner Y w h → h.target ≡ pos t → IsTooFar e (distance q t) → HindersPartAt Y q w e
+  looks_null : {flavor : Flavor} {P : Pointee} {q : ℕ} {h : Pointer} → h.target ≡ pos (suc q) → HindersPartAt (weak flavor P) q (hole h) OffsetOverflow
 
 -- What hinders a step of a plan: a part of what is read in the region; its length is above 4,294,967,295, its end above `usize::MAX`; of a run, an item has
 -- a pointer, so it may have written; or the key is pending.

@@ -3,6 +3,7 @@
 
 ghost use Rattle.std.specs.Prelude.{◌≡◌, ◌⊎◌, ◌≤◌, ◌-◌, None, length, IfOk, OnOk, IfErr, ℕ, []};
 ghost use Rattle.archive_check.specs.FreshContexts.{IsWhole};
+ghost use Rattle.archive_check.specs.Pushes.{FewPushed};
 ghost use Rattle.archive_check.specs.Schemas.{ExplainsNoSchema};
 ghost use Rattle.archive_check.specs.Archives.{IsArchive, Answers, root_in, ReadsWhole, RefusesWhole, RefusesAsCheck};
 ghost use Rattle.archive_check.specs.Defined.{WellFormed};
@@ -11,6 +12,7 @@ ghost use Rattle.archive_check.specs.Entries.{ReadsBack, RefusesReading};
 ghost use Rattle.archive_check.specs.Unshared.{IsNeverOpen};
 ghost use Rattle.archive_check.specs.declared.format.error.Error.TheVariants.{OutOfMemory};
 ghost use Rattle.archive_check.specs.Shape.{one};
+ghost use Rattle.archive_check.specs.Viewed.{Viewed};
 ghost use Rattle.archive_core.specs.Causes.{HindersRegion, IsRegionRefused};
 ghost use Rattle.archive_core.specs.Plans.{at_start, unshared};
 ghost use Rattle.archive_core.specs.Writing.{Archives};
@@ -19,7 +21,9 @@ ghost use Rattle.archive_write.specs.Written.{GoesOn};
 
 mod kept;
 
+use crate::seal::Seal;
 use crate::ser::{Serializer, Writer, serialize_one, serialize_with};
+use crate::sharing::Share;
 use crate::traits::{Archive, Deserialize, Entries, Keys, Portable, Serialize};
 use crate::view::{RawView, Ref};
 pub use archive_check::context::HighValidator;
@@ -30,6 +34,9 @@ use archive_check::shape::Schema;
 pub use kept::Access;
 use std::alloc::Global;
 
+/// What the calls that write a whole archive hand to its value: a writer, an allocator and the keys of this archive. As in rkyv 0.8.18.
+pub type HighSerializer<W, A> = Serializer<W, A, Share>;
+
 /// Where the root of an archive of `len` bytes lies: so many bytes before its end as a `T` has, or at 0 where there are fewer.
 pub fn root_position<T: Portable>(len: usize) -> usize
     ensures { result ≡ len - T.layout.size }
@@ -38,7 +45,7 @@ pub fn root_position<T: Portable>(len: usize) -> usize
 }
 
 // The writer behind an archive of `value`, or behind what was written of one, and the root's position.
-fn serialize_whole<W: Writer + Drop, T: Serialize<Serializer<W, Global, ()>>>(
+fn serialize_whole<W: Writer + Drop, T: Serialize<HighSerializer<W, Global>>>(
     alloc: Global,
     value: &T,
     writer: W,
@@ -49,7 +56,7 @@ fn serialize_whole<W: Writer + Drop, T: Serialize<Serializer<W, Global, ()>>>(
     ensures refused { IfErr result.1 (IsRegionRefused T.Archived.definitions (one T.Archived.shape) 0 (T.keys value.now) (T.meaning value.now)
         (unshared (W.state writer)) (unshared (W.state result.0))) }
 {
-    let mut serializer = Serializer::new(writer, alloc, ());
+    let mut serializer = Serializer::new(writer, alloc, Share::new(alloc));
     let root = serialize_one(value, &mut serializer);
     (serializer.into_writer(), root)
 }
@@ -58,7 +65,7 @@ fn serialize_whole<W: Writer + Drop, T: Serialize<Serializer<W, Global, ()>>>(
 /// the value's parts or the writer refuse with (`BufferOverflow`, 8; `WriterFailed`, 9), with `LayoutTooLarge`, 23, where the root would end above
 /// `usize::MAX`, or with `OutOfMemory`, 1, where memory is refused. It asks nothing. After a refusal the writer is gone, and nothing is said of the
 /// bytes that were written: `serialize_one` over `&mut` keeps those from before.
-pub fn to_bytes_in<W: Writer + Drop, T: Serialize<Serializer<W, Global, ()>>>(
+pub fn to_bytes_in<W: Writer + Drop, T: Serialize<HighSerializer<W, Global>>>(
     alloc: Global,
     value: &T,
     writer: W,
@@ -95,7 +102,7 @@ pub fn to_bytes_into<W: Writer, T: Serialize<W>>(
 
 /// An archive of `value`, its root at the end. Memory comes from `alloc`. It asks nothing. Refused with what the value's parts refuse with, with
 /// `LayoutTooLarge`, 23, where the root would end above `usize::MAX`, or with `OutOfMemory`, 1, where memory is refused.
-pub fn to_bytes<T: Serialize<Serializer<Vec<u8>, Global, ()>>>(
+pub fn to_bytes<T: Serialize<HighSerializer<Vec<u8>, Global>>>(
     alloc: Global,
     value: &T,
 ) -> Result<Vec<u8>, Error>
@@ -113,7 +120,8 @@ pub fn to_bytes<T: Serialize<Serializer<Vec<u8>, Global, ()>>>(
 /// that met nothing yet the answer is exact. Memory for the schema and the check comes from `alloc`: refused with `OutOfMemory`, 1, where it is
 /// refused, with `ShapeConflict`, 30, or `RecursiveLayout`, 31, where the definitions of `T` have no meaning, before any byte is looked at, and else
 /// with the first fault of the bytes, in the order that docs/FORMAT.md gives. A type that checks itself takes
-/// no memory.
+/// no memory. Accepted or refused, in any context, it enters at most one region, and one for each four bytes of the context's range: 1 + n / 4 in n
+/// bytes.
 pub fn check_pos_with_context<T: Portable, C: ArchiveContext + SharedContext>(
     alloc: Global,
     bytes: &[u8],
@@ -124,6 +132,7 @@ pub fn check_pos_with_context<T: Portable, C: ArchiveContext + SharedContext>(
     ensures meaning { IfErr result (λ e. ExplainsNoSchema T.shape T.definitions e ⊎ WellFormed (listed T.definitions) T.shape) }
     ensures answer { IsWhole (C.state context.old) (C.positions context.old) bytes.now
         → Answers T.definitions bytes.now (C.state context.old).depth pos T.shape result }
+    ensures few_subtrees { FewPushed (C.state context.old) (C.state context.new) }
 {
     prove!(bytes.len() <= usize::MAX);
     if T::Check::is_direct() {
@@ -166,6 +175,41 @@ pub fn access<'a, T: Portable>(alloc: Global, bytes: &'a [u8]) -> Result<Ref<'a,
     access_pos(alloc, bytes, root_position::<T>(bytes.len()))
 }
 
+/// Checks that `bytes` are an archive whose root, a `T`, lies at `pos`, and answers the root's seal. It asks nothing. No byte changes. Memory for the
+/// schema and the check comes from `alloc`. Refused as by `access_pos`.
+pub fn access_pos_mut<'a, T: Portable>(
+    alloc: Global,
+    bytes: &'a mut [u8],
+    pos: usize,
+) -> Result<Seal<'a, T>, Error>
+    ensures answer { Answers T.definitions bytes.old None pos T.shape result }
+    ensures same_reference { IfOk result (λ s. s.bytes.ghost_name ≡ bytes.entry.ghost_name) }
+    ensures buffer { IfOk result (λ s. s.bytes.now ≡ bytes.old) }
+    ensures position { IfOk result (λ s. s.pos ≡ pos) }
+    ensures whole { IfOk result (λ s. s.len ≡ 0) }
+    ensures viewed { IfOk result (λ s. Viewed T.definitions s.bytes.now s.pos T.pointee s.len) }
+{
+    let spot = match access_pos::<T>(alloc, bytes, pos) {
+        Ok(root) => root.spot(),
+        Err(error) => return Err(error),
+    };
+    Ok(spot.seal(bytes))
+}
+
+/// Checks that `bytes` are an archive whose root, a `T`, lies at the end, and answers the root's seal. It asks nothing. No byte changes. Memory for the
+/// schema and the check comes from `alloc`. Refused as by `access_pos`.
+pub fn access_mut<'a, T: Portable>(alloc: Global, bytes: &'a mut [u8]) -> Result<Seal<'a, T>, Error>
+    ensures answer { Answers T.definitions bytes.old None (root_in bytes.old T.layout) T.shape result }
+    ensures same_reference { IfOk result (λ s. s.bytes.ghost_name ≡ bytes.entry.ghost_name) }
+    ensures buffer { IfOk result (λ s. s.bytes.now ≡ bytes.old) }
+    ensures position { IfOk result (λ s. s.pos ≡ root_in bytes.old T.layout) }
+    ensures whole { IfOk result (λ s. s.len ≡ 0) }
+    ensures viewed { IfOk result (λ s. Viewed T.definitions s.bytes.now s.pos T.pointee s.len) }
+{
+    let pos = root_position::<T>(bytes.len());
+    access_pos_mut(alloc, bytes, pos)
+}
+
 /// Checks that `bytes` are an archive whose root, a `T`, lies at `pos`, in a context, and answers the root's view. Asks for a context of these bytes
 /// that met nothing yet. Memory for the schema and the check comes from `alloc`. Refused as by `access_pos`, and with
 /// `ExceededMaximumSubtreeDepth`, 18, where a region is deeper than the context allows.
@@ -180,6 +224,7 @@ pub fn access_pos_with_context<'a, T: Portable, C: ArchiveContext + SharedContex
     ensures buffer { IfOk result (λ r. r.bytes.now ≡ bytes.now) }
     ensures position { IfOk result (λ r. r.pos ≡ pos) }
     ensures whole { IfOk result (λ r. r.len ≡ 0) }
+    ensures few_subtrees { FewPushed (C.state context.old) (C.state context.new) }
 {
     if let Err(error) = check_pos_with_context::<T, C>(alloc, bytes, pos, context) {
         return Err(error);
@@ -199,6 +244,7 @@ pub fn access_with_context<'a, T: Portable, C: ArchiveContext + SharedContext>(
     ensures buffer { IfOk result (λ r. r.bytes.now ≡ bytes.now) }
     ensures position { IfOk result (λ r. r.pos ≡ root_in bytes.now T.layout) }
     ensures whole { IfOk result (λ r. r.len ≡ 0) }
+    ensures few_subtrees { FewPushed (C.state context.old) (C.state context.new) }
 {
     access_pos_with_context(alloc, bytes, root_position::<T>(bytes.len()), context)
 }

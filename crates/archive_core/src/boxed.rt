@@ -1,13 +1,19 @@
 //! Boxes: values, slices and texts in regions of their own.
 
-ghost use Rattle.std.specs.Prelude.{◌≡◌, refl};
+ghost use Rattle.std.specs.Prelude.{◌≡◌, ◌+◌, ◌≤◌, length, refl};
 ghost use Rattle.std.proofs.Common.{inl, inr};
 ghost use Rattle.archive_check.specs.Shape.{one, boxed};
 ghost use Rattle.archive_check.specs.Layout.{pointer_size};
+ghost use Rattle.archive_check.specs.Readable.{target_from};
+ghost use Rattle.archive_check.specs.Reads.{length_at};
+ghost use Rattle.archive_core.specs.Views.{ShowsPart, boxed_in};
 
+mod reading;
 mod sources;
 
 use crate::traits::{ArchivePointee, Portable, PortablePointee};
+use crate::view::{RawView, Ref};
+use archive_check::format::bytes::{read_target, read_u32};
 use archive_check::format::error::Error;
 use archive_check::format::expr::{Defs, Expr};
 pub use sources::BoxResolver;
@@ -70,5 +76,33 @@ impl<T: PortablePointee> Portable for ArchivedBox<T> {
 
     fn define(alloc: Global, defs: &mut Defs) -> Result<(), Error> {
         T::define_pointee(alloc, defs)
+    }
+}
+
+// The length of the pointer at `at`: 0 where it leads to one value.
+fn read_length<T: PortablePointee>(bytes: &[u8], at: usize) -> usize
+    requires { at + pointer_size T.pointee ≤ length bytes.now }
+    ensures { result ≡ length_at bytes.now at T.pointee }
+{
+    if !T::has_length() {
+        return 0;
+    }
+    read_u32(bytes, at + 4) as usize
+}
+
+impl<'a, T: PortablePointee> Ref<'a, ArchivedBox<T>> {
+    /// What the box holds: a value, a slice or a text. As in rkyv 0.8.18.
+    pub fn get(self) -> Ref<'a, T>
+        ensures buffer { result.bytes.now ≡ self.entry.bytes.now }
+        ensures position { result.pos ≡ target_from self.entry.bytes.now self.entry.pos self.entry.pos }
+        ensures length { result.len ≡ length_at self.entry.bytes.now self.entry.pos T.pointee }
+        ensures shows { ShowsPart T.definitions self.entry.bytes.now self.entry.pos (one (boxed T.pointee)) self.entry.len result.pos T.pointee result.len boxed_in }
+    {
+        let RawView { bytes, pos, .. } = self.part();
+        Ref::at(RawView {
+            bytes,
+            pos: read_target(bytes, pos, pos),
+            len: read_length::<T>(bytes, pos),
+        })
     }
 }

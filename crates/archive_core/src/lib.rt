@@ -3,14 +3,19 @@
 
 pub mod api;
 pub mod boxed;
+pub mod option;
+mod phantom;
 pub mod place;
 pub mod primitive;
+pub mod rc;
 pub mod rel_ptr;
+pub mod seal;
 pub mod ser;
 pub mod sharing;
 pub mod slice;
 pub mod string;
 pub mod traits;
+mod variants;
 pub mod vec;
 pub mod view;
 

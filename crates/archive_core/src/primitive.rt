@@ -56,9 +56,10 @@ pub trait Plain: Source + Portable {
 }
 
 // Writes the bytes of a leaf: wherever they stand, they are read as the value.
-fn write_leaf<N: Native>(value: N, bytes: &mut [u8])
+pub(crate) fn write_leaf<N: Native>(value: N, bytes: &mut [u8])
     requires { length bytes.old ≡ N.byte_count }
     ensures bytes { bytes.new ≡ N.bytes_of value }
+    ensures fits { N.fits value }
     ensures legal { IsLegal N.kind (N.bytes_of value) }
     ensures back { N.number_of (N.bytes_of value) ≡ value }
     ensures resolved { (D : Definitions) (p : ℕ) → Resolves D p bytes.new (leaf N.kind) (number (N.value_of value)) }

@@ -44,7 +44,7 @@ fn resolve_region<W: Writer, T: Archive>(
 }
 
 // Resolves a value into zeros that stand at a position.
-fn resolve_into<T: Archive>(
+pub(crate) fn resolve_into<T: Archive>(
     value: &T,
     resolver: T::Resolver,
     pos: usize,

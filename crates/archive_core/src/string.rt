@@ -1,6 +1,6 @@
 //! Strings and texts.
 
-ghost use Rattle.std.specs.Prelude.{◌≡◌, ◌++◌, ◌<◌, ◌≤◌, ℕ, [], OnOk, IfOk, IfErr, IsOk, IsErrOf, FitsSigned, length, refl, string_bytes};
+ghost use Rattle.std.specs.Prelude.{◌≡◌, ◌++◌, ◌+◌, ◌<◌, ◌≤◌, ◌↔◌, ℕ, [], OnOk, IfOk, IfErr, IsOk, IsErrOf, IsTrue, false, FitsSigned, length, refl, string_bytes};
 ghost use Rattle.std.specs.Int.{w32};
 ghost use Rattle.std.proofs.Common.{inl, inr};
 ghost use Rattle.archive_check.specs.Shape.{str as str_shape, boxed, one, text};
@@ -8,7 +8,7 @@ ghost use Rattle.archive_check.specs.Definitions.{no_definition};
 ghost use Rattle.archive_check.specs.LeafLayout.{no_definition_reached};
 ghost use Rattle.archive_check.specs.SelfCheck.Laws.{plain_check};
 ghost use Rattle.archive_check.specs.SelfCheck.Owners.{text_check};
-ghost use Rattle.archive_check.specs.Reads.{bytes_at};
+ghost use Rattle.archive_check.specs.Reads.{bytes_at, i32_at, IsOutOfLine};
 ghost use Rattle.archive_check.specs.Readable.{string_text};
 ghost use Rattle.archive_check.specs.Value.{text_value};
 ghost use Rattle.archive_check.specs.Viewed.{Viewed, Says};
@@ -35,7 +35,7 @@ use crate::traits::{
 };
 use crate::view::{RawView, Ref};
 use archive_check::format::bytes::{
-    inline_length, is_out_of_line, read_coded_length, read_target, read_text,
+    inline_length, is_out_of_line, read_coded_length, read_i32, read_target, read_text,
 };
 use archive_check::format::error::Error;
 use archive_check::format::layout::Layout;
@@ -373,11 +373,25 @@ impl<'a> Ref<'a, ArchivedStr> {
         read_text(bytes, pos, len)
     }
 
+    /// The text's bytes.
+    pub fn as_bytes(self) -> &'a [u8]
+        ensures { result.now ≡ bytes_at self.entry.bytes.now self.entry.pos self.entry.len }
+    {
+        self.as_str().as_bytes()
+    }
+
     /// How many bytes the text has.
     pub fn len(self) -> usize
         ensures { result ≡ self.entry.len }
     {
         self.part().len
+    }
+
+    /// Whether it has none.
+    pub fn is_empty(self) -> bool
+        ensures { IsTrue result ↔ (self.entry.len ≡ 0) }
+    {
+        self.len() == 0
     }
 }
 
@@ -403,5 +417,38 @@ impl<'a> Ref<'a, ArchivedString> {
         ensures { result ≡ length (string_text self.entry.bytes.now self.entry.pos) }
     {
         self.as_str().len()
+    }
+
+    /// Whether it has none.
+    pub fn is_empty(self) -> bool
+        ensures { IsTrue result ↔ (length (string_text self.entry.bytes.now self.entry.pos) ≡ 0) }
+    {
+        self.len() == 0
+    }
+
+    /// The text's bytes, wherever they stand. As in rkyv 0.8.18.
+    pub fn as_bytes(self) -> &'a [u8]
+        ensures { result.now ≡ string_text self.entry.bytes.now self.entry.pos }
+    {
+        self.as_str().as_bytes()
+    }
+
+    /// Whether the text stands in the string's eight bytes. As in rkyv 0.8.18.
+    pub fn is_inline(self) -> bool
+        ensures here { IsTrue result → ¬ IsOutOfLine self.entry.bytes.now self.entry.pos }
+        ensures elsewhere { result ≡ false → IsOutOfLine self.entry.bytes.now self.entry.pos }
+    {
+        let RawView { bytes, pos, .. } = self.part();
+        !is_out_of_line(bytes, pos)
+    }
+
+    /// How far it is to the text, in bytes from the string's first one. Asks that the text stands elsewhere, as where `is_inline` answers false. As in
+    /// rkyv 0.8.18.
+    pub fn out_of_line_offset(self) -> isize
+        requires { IsOutOfLine self.bytes.now self.pos }
+        ensures { result ≡ i32_at self.entry.bytes.now (self.entry.pos + 4) }
+    {
+        let RawView { bytes, pos, .. } = self.part();
+        read_i32(bytes, pos + 4) as isize
     }
 }

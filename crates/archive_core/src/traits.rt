@@ -20,6 +20,8 @@ pub use archive_check::format::traits::{
 use archive_write::ser::Writer;
 use std::alloc::Global;
 
+mod one_value;
+
 /// The archived type of a source.
 pub type Archived<T> = <T as Archive>::Archived;
 

@@ -1,13 +1,20 @@
 //! Vectors: elements in a region of their own, with their number.
 
-ghost use Rattle.std.specs.Prelude.{◌≡◌, refl};
+ghost use Rattle.std.specs.Prelude.{◌≡◌, ◌+◌, ◌↔◌, IsTrue, refl};
 ghost use Rattle.std.proofs.Common.{inl, inr};
-ghost use Rattle.archive_check.specs.Shape.{one, vec as vec_shape};
+ghost use Rattle.archive_check.specs.Shape.{one, run, vec as vec_shape};
+ghost use Rattle.archive_check.specs.Readable.{target_from};
+ghost use Rattle.archive_check.specs.Reads.{u32_at};
 ghost use Rattle.archive_check.specs.SelfCheck.Owners.{vec_check, vec_reaches};
+ghost use Rattle.archive_core.specs.Views.{ShowsPart, itself};
 
+mod reading;
 mod sources;
 
+use crate::slice::ArchivedSlice;
 use crate::traits::{ArchivePointee, Portable};
+use crate::view::{RawView, Ref};
+use archive_check::format::bytes::{read_target, read_u32};
 use archive_check::format::error::Error;
 use archive_check::format::expr::{Defs, Expr};
 use archive_check::self_check::VecCheck;
@@ -66,5 +73,36 @@ impl<T: Portable> Portable for ArchivedVec<T> {
 
     fn define(alloc: Global, defs: &mut Defs) -> Result<(), Error> {
         T::define(alloc, defs)
+    }
+}
+
+impl<'a, T: Portable> Ref<'a, ArchivedVec<T>> {
+    /// The elements. As in rkyv 0.8.18.
+    pub fn as_slice(self) -> Ref<'a, ArchivedSlice<T>>
+        ensures buffer { result.bytes.now ≡ self.entry.bytes.now }
+        ensures position { result.pos ≡ target_from self.entry.bytes.now self.entry.pos self.entry.pos }
+        ensures length { result.len ≡ u32_at self.entry.bytes.now (self.entry.pos + 4) }
+        ensures shows { ShowsPart T.definitions self.entry.bytes.now self.entry.pos (one (vec_shape T.shape)) self.entry.len result.pos (run T.shape) result.len itself }
+    {
+        let RawView { bytes, pos, .. } = self.part();
+        Ref::at(RawView {
+            bytes,
+            pos: read_target(bytes, pos, pos),
+            len: read_u32(bytes, pos + 4) as usize,
+        })
+    }
+
+    /// How many elements there are. As in rkyv 0.8.18.
+    pub fn len(self) -> usize
+        ensures { result ≡ u32_at self.entry.bytes.now (self.entry.pos + 4) }
+    {
+        self.as_slice().len()
+    }
+
+    /// Whether there is no element. As in rkyv 0.8.18.
+    pub fn is_empty(self) -> bool
+        ensures { IsTrue result ↔ (u32_at self.entry.bytes.now (self.entry.pos + 4) ≡ 0) }
+    {
+        self.len() == 0
     }
 }

@@ -1,3 +1,4 @@
+pub mod Choices
 pub mod Items
 pub mod Lending
 pub mod StandsFor

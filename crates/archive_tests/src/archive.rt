@@ -2,10 +2,14 @@
 
 mod memory;
 mod numbers;
+mod owner_reading;
+mod owner_views;
+mod options;
 mod positions;
 mod reading;
 mod readme;
 mod rel_ptr;
+mod seals;
 mod self_checks;
 mod shared;
 mod strings;

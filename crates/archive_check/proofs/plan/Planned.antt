@@ -222,7 +222,7 @@ planned {defs = defs} {w = w} {base = base} {j = j} {b = b} X plan num chain bas
     }
 
 -- a checker of the plan, without a byte to check
-abbrev checker_of : Plan → Checker
+abbrev pub checker_of : Plan → Checker
 checker_of plan = record {
   nodes = record { ref_ptr = (0, 0); now = plan.nodes.items };
   parts = record { ref_ptr = (0, 0); now = plan.parts.items };

@@ -16,14 +16,16 @@ use Rattle.archive_check.specs.Faults.{IsFor}
 use Rattle.archive_check.specs.FreshContexts.{IsFresh}
 use Rattle.archive_check.specs.plan.SoundPlans.{IsSound}
 use Rattle.archive_check.specs.plan.Shallow.{IsMarked}
+use Rattle.archive_check.specs.plan.PackedPlans.{ArePacked}
 use Rattle.archive_check.specs.check.Runs.{Outcome, done, refused, EnterRuns}
 use Rattle.archive_check.specs.check.LoopInvariant.{Stage, stage, Ready, Listing, Entering, Following, TurnLeads, TurnRefuses, IsStopped, power, level, cost}
 use Rattle.archive_check.specs.check.Through.{stage_of}
 
--- a check can go over the plan: it is sound, and so are its marks
+-- a check can go over the plan: it is sound, so are its marks, and it is packed
 pub record IsCheckable (m : Checker) : Type 0 where
   pub sound : IsSound m
   pub marked : IsMarked m
+  pub packed : ArePacked m.nodes.now m.parts.now m.variants.now
 
 -- what is left costs so much
 abbrev pub cost_at : Checker → Stage → ℕ

@@ -1,12 +1,13 @@
 //! Regions are entered and left.
 
-ghost use Rattle.std.specs.Prelude.{◌≡◌, ◌+◌, ◌<◌, ◌≤◌, ℕ, pos, length, Some, Ok, Err, is_err, true};
+ghost use Rattle.std.specs.Prelude.{◌≡◌, ◌+◌, ◌<◌, ◌≤◌, ℕ, pos, length, Some, Ok, Err, OnSome, IfNone, is_err, true};
 ghost use Rattle.archive_check.specs.Ranges.{subtree_answer, pop_answer};
 ghost use Rattle.archive_check.specs.check.Lists.{list_of};
 ghost use Rattle.archive_check.specs.check.Runs.{RegionIs};
 ghost use Rattle.archive_check.specs.check.LoopInvariant.{PointeeFits, Ready};
 ghost use Rattle.archive_check.specs.check.Through.{PassesHeld};
 ghost use Rattle.archive_check.specs.check.Entered.{EntersRegion, LeavesRegion};
+ghost use Rattle.archive_check.specs.check.Paid.{Pays};
 ghost use Rattle.archive_check.specs.check.Turns.{IsCheckable, Enters};
 
 use crate::check::Checker;
@@ -51,7 +52,9 @@ fn refuse_region<C: ArchiveContext>(
     context: &mut C,
 )
     requires { is_err (subtree_answer (C.state context.old) position layout.now.size layout.now.align) ≡ true }
-    ensures { subtree_answer (C.state context.old) position layout.now.size layout.now.align ≡ Err work.new.fault }
+    ensures refused { subtree_answer (C.state context.old) position layout.now.size layout.now.align ≡ Err work.new.fault }
+    ensures unchanged { C.state context.new ≡ C.state context.old }
+    ensures list { list_of work.new ≡ list_of work.old }
 {
     match context.check_subtree_ptr(position, layout) {
         Err(error) => work.keep(error),
@@ -64,7 +67,9 @@ fn refuse_region<C: ArchiveContext>(
 #[inline(never)]
 fn refuse_range<C: ArchiveContext>(start: usize, end: usize, work: &mut Worklist, context: &mut C)
     requires { is_err (pop_answer (C.state context.old) start) ≡ true }
-    ensures { pop_answer (C.state context.old) start ≡ Err work.new.fault }
+    ensures refused { pop_answer (C.state context.old) start ≡ Err work.new.fault }
+    ensures unchanged { C.state context.new ≡ C.state context.old }
+    ensures list { list_of work.new ≡ list_of work.old }
 {
     match context.pop_subtree_range(Range { start, end }) {
         Err(error) => work.keep(error),
@@ -80,7 +85,9 @@ pub fn leave_region<C: ArchiveContext>(
     work: &mut Worklist,
     context: &mut C,
 ) -> Option<()>
-    ensures { LeavesRegion C.state C.positions start end context.old context.new work.old work.new result }
+    ensures leaves { LeavesRegion C.state C.positions start end context.old context.new work.old work.new result }
+    ensures unchanged { IfNone result (C.state context.new ≡ C.state context.old) }
+    ensures list { list_of work.new ≡ list_of work.old }
 {
     if context.pop_subtree_range(Range { start, end }).is_err() {
         refuse_range(start, end, work, context);
@@ -101,7 +108,10 @@ impl Checker<'_> {
         context: &mut C,
     ) -> Option<Region>
         requires known { pointee < length self.now.nodes.now }
-        ensures { EntersRegion C.state C.positions self.now pointee count position context.old context.new work.old work.new result }
+        ensures enters { EntersRegion C.state C.positions self.now pointee count position context.old context.new work.old work.new result }
+        ensures pushes { OnSome result ((C.state context.new).pushes ≤ (C.state context.old).pushes + 1) }
+        ensures unchanged { IfNone result (C.state context.new ≡ C.state context.old) }
+        ensures list { list_of work.new ≡ list_of work.old }
     {
         let node = self.nodes[pointee];
         let Some(size) = times(node.size, count) else {
@@ -144,7 +154,8 @@ impl Checker<'_> {
         requires pointee { PointeeFits self.now target pointee count }
         requires within { begin + size ≤ length self.now.bytes.now }
         requires ends { (C.state context.old).end ≡ begin }
-        ensures { PassesHeld C.state C.positions self.now target pointee count begin size context.old context.new work.old work.new result }
+        ensures passes { PassesHeld C.state C.positions self.now target pointee count begin size context.old context.new work.old work.new result }
+        ensures pays { Pays C.state self.now size context.old context.new work.old work.new }
     {
         if let PointeeKind::Text = target {
             if !is_text(self.bytes, begin, size) {
@@ -183,7 +194,8 @@ impl Checker<'_> {
         requires plan { IsCheckable self.now }
         requires ready { Ready self.now (C.state context.old) (list_of work.old) }
         requires pointee { PointeeFits self.now target pointee count }
-        ensures { Enters C.state C.positions self.now target pointee count position context.old context.new work.old work.new result }
+        ensures enters { Enters C.state C.positions self.now target pointee count position context.old context.new work.old work.new result }
+        ensures pays { Pays C.state self.now 4 context.old context.new work.old work.new }
     {
         let region = self.enter_region(pointee, count, position, work, context)?;
         let Region {
@@ -215,7 +227,8 @@ impl Checker<'_> {
         requires plan { IsCheckable self.now }
         requires ready { Ready self.now (C.state context.old) (list_of work.old) }
         requires pointee { PointeeFits self.now target pointee count }
-        ensures { Enters C.state C.positions self.now target pointee count position context.old context.new work.old work.new result }
+        ensures enters { Enters C.state C.positions self.now target pointee count position context.old context.new work.old work.new result }
+        ensures pays { Pays C.state self.now 4 context.old context.new work.old work.new }
     {
         self.enter_here(target, pointee, count, position, work, context)
     }

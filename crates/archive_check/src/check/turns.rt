@@ -5,6 +5,9 @@ ghost use Rattle.archive_check.specs.declared.check.worklist.Work.TheVariants.{P
 ghost use Rattle.archive_check.specs.check.Lists.{list_of};
 ghost use Rattle.archive_check.specs.check.Runs.{pointer_bytes};
 ghost use Rattle.archive_check.specs.check.LoopInvariant.{Ready};
+ghost use Rattle.archive_check.specs.Pushes.{FewPushed};
+ghost use Rattle.archive_check.specs.plan.PackedPlans.{size_at};
+ghost use Rattle.archive_check.specs.check.Paid.{Pays, bytes_of, bytes_of_parts};
 ghost use Rattle.archive_check.specs.check.Turns.{IsCheckable, Turn, Follows, RootPasses, RootStops};
 
 use crate::check::Checker;
@@ -31,7 +34,8 @@ impl Checker<'_> {
         requires within { at + pointer_bytes target ≤ length self.now.bytes.now }
         requires shared_type { shared_type < length self.now.shared_types.now }
         requires pointee { pointee < length self.now.nodes.now }
-        ensures { Follows C.state C.positions self.now shared_type target pointee at context.old context.new work.old work.new result }
+        ensures follows { Follows C.state C.positions self.now shared_type target pointee at context.old context.new work.old work.new result }
+        ensures pays { Pays C.state self.now 4 context.old context.new work.old work.new }
     {
         let count = self.count(target, at);
         let length = self.length(target, at);
@@ -68,7 +72,8 @@ impl Checker<'_> {
     ) -> Option<()>
         requires plan { IsCheckable self.now }
         requires ready { Ready self.now (C.state context.old) (PartsWork first last base ∷ list_of work.old) }
-        ensures { Turn C.state C.positions self.now (PartsWork first last base) context.old context.new work.old work.new result }
+        ensures turn { Turn C.state C.positions self.now (PartsWork first last base) context.old context.new work.old work.new result }
+        ensures pays { Pays C.state self.now (bytes_of_parts self.now first last) context.old context.new work.old work.new }
     {
         let next = self.first_to_open(first, last, base);
         if next >= last {
@@ -90,7 +95,8 @@ impl Checker<'_> {
     ) -> Option<()>
         requires plan { IsCheckable self.now }
         requires ready { Ready self.now (C.state context.old) (PartWork node at ∷ list_of work.old) }
-        ensures { Turn C.state C.positions self.now (PartWork node at) context.old context.new work.old work.new result }
+        ensures turn { Turn C.state C.positions self.now (PartWork node at) context.old context.new work.old work.new result }
+        ensures pays { Pays C.state self.now (size_at self.now.nodes.now node) context.old context.new work.old work.new }
     {
         if self.shallow[node] {
             return self.check_shallow(node, at, work, context);
@@ -109,7 +115,7 @@ impl Checker<'_> {
             NodeKind::Pointer { target, pointee } => {
                 let count = self.count(target, at);
                 let position = read_position(self.bytes, at, at);
-                self.enter(target, pointee, count, position, work, context)
+                self.enter_here(target, pointee, count, position, work, context)
             }
             NodeKind::Shared {
                 shared_type,
@@ -138,7 +144,8 @@ impl Checker<'_> {
     ) -> Option<()>
         requires plan { IsCheckable self.now }
         requires ready { Ready self.now (C.state context.old) (entry ∷ list_of work.old) }
-        ensures { Turn C.state C.positions self.now entry context.old context.new work.old work.new result }
+        ensures turn { Turn C.state C.positions self.now entry context.old context.new work.old work.new result }
+        ensures pays { Pays C.state self.now (bytes_of self.now entry) context.old context.new work.old work.new }
     {
         match entry {
             Work::Part { node, at } => self.open(node, at, work, context),
@@ -182,6 +189,7 @@ impl Checker<'_> {
         requires none_left { list_of work.old ≡ [] }
         ensures ok { OnSome result (RootPasses self.now root at (C.state context.old) (C.positions context.old)) }
         ensures err { IfNone result (RootStops self.now root at (C.state context.old) (C.positions context.old) work.new.fault) }
+        ensures few_subtrees { FewPushed (C.state context.old) (C.state context.new) }
     {
         self.enter_here(PointeeKind::One, root, 1, at as i128, work, context)?;
         while let Some(entry) = work.pop() {

@@ -3,6 +3,8 @@
 ghost use Rattle.std.specs.Prelude.{◌<◌, ◌≤◌, length, OnOk, IfErr};
 ghost use Rattle.archive_check.specs.plan.SoundPlans.{IsSound};
 ghost use Rattle.archive_check.specs.plan.Shallow.{IsMarked};
+ghost use Rattle.archive_check.specs.plan.PackedPlans.{ArePacked};
+ghost use Rattle.archive_check.specs.Pushes.{FewPushed};
 ghost use Rattle.archive_check.specs.check.PlanChecks.{WholeAccepts, WholeRefuses, WholeIsExact};
 
 use crate::check::Checker;
@@ -24,11 +26,13 @@ impl Checker<'_> {
     ) -> Result<(), Error>
         requires sound { IsSound self.now }
         requires marked { IsMarked self.now }
+        requires packed { ArePacked self.now.nodes.now self.now.parts.now self.now.variants.now }
         requires below { (C.state context.old).end ≤ length self.now.bytes.now }
         requires known { root < length self.now.nodes.now }
         ensures ok { OnOk result (WholeAccepts self.now root at (C.state context.old) (C.positions context.old)) }
         ensures err { IfErr result (λ e. WholeRefuses self.now root at (C.state context.old) (C.positions context.old) e) }
         ensures exact { WholeIsExact self.now root at (C.state context.old) (C.positions context.old) result }
+        ensures few_subtrees { FewPushed (C.state context.old) (C.state context.new) }
     {
         prove!(self.bytes.len() <= usize::MAX);
         let mut work = Worklist::new(alloc);

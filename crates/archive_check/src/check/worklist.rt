@@ -76,7 +76,8 @@ impl Worklist {
     #[cold]
     #[inline(never)]
     pub fn keep(&mut self, fault: Error)
-        ensures { self.new.fault ≡ fault }
+        ensures fault { self.new.fault ≡ fault }
+        ensures list { list_of self.new ≡ list_of self.old }
     {
         self.fault = fault;
     }
@@ -86,16 +87,18 @@ impl Worklist {
     pub fn refuse<T>(&mut self, fault: Error) -> Option<T>
         ensures none { result ≡ None }
         ensures fault { self.new.fault ≡ fault }
+        ensures list { list_of self.new ≡ list_of self.old }
     {
         self.keep(fault);
         None
     }
 
     /// One entry more. Refused with 1 where memory is refused.
-    #[inline]
+    #[inline(always)]
     fn push(&mut self, entry: Work) -> Option<()>
         ensures some { OnSome result (list_of self.new ≡ entry ∷ list_of self.old) }
         ensures none { IfNone result (self.new.fault ≡ Error.OutOfMemory) }
+        ensures kept { IfNone result (list_of self.new ≡ list_of self.old) }
     {
         if self.entries.reserve(1).is_err() {
             return self.refuse(Error::OutOfMemory);
@@ -105,10 +108,11 @@ impl Worklist {
     }
 
     /// The node at `at` is left. Refused with 1 where memory is refused, as are the next ones.
-    #[inline]
+    #[inline(always)]
     pub fn part(&mut self, node: usize, at: usize) -> Option<()>
         ensures some { OnSome result (list_of self.new ≡ Work.Part node at ∷ list_of self.old) }
         ensures none { IfNone result (self.new.fault ≡ Error.OutOfMemory) }
+        ensures kept { IfNone result (list_of self.new ≡ list_of self.old) }
     {
         self.push(Work::Part { node, at })
     }
@@ -117,6 +121,7 @@ impl Worklist {
     pub fn parts(&mut self, first: usize, last: usize, base: usize) -> Option<()>
         ensures some { OnSome result (list_of self.new ≡ Work.Parts first last base ∷ list_of self.old) }
         ensures none { IfNone result (self.new.fault ≡ Error.OutOfMemory) }
+        ensures kept { IfNone result (list_of self.new ≡ list_of self.old) }
     {
         self.push(Work::Parts { first, last, base })
     }
@@ -126,6 +131,7 @@ impl Worklist {
     pub fn elements(&mut self, node: usize, left: usize, at: usize) -> Option<()>
         ensures some { OnSome result (list_of self.new ≡ Work.Elements node left at ∷ list_of self.old) }
         ensures none { IfNone result (self.new.fault ≡ Error.OutOfMemory) }
+        ensures kept { IfNone result (list_of self.new ≡ list_of self.old) }
     {
         self.push(Work::Elements { node, left, at })
     }
@@ -134,6 +140,7 @@ impl Worklist {
     pub fn more_parts(&mut self, first: usize, last: usize, base: usize) -> Option<()>
         ensures some { OnSome result (IsMore (Work.Parts first last base) (last ≤ first) (list_of self.new) (list_of self.old)) }
         ensures none { IfNone result (self.new.fault ≡ Error.OutOfMemory) }
+        ensures kept { IfNone result (list_of self.new ≡ list_of self.old) }
     {
         if first < last {
             self.parts(first, last, base)?;
@@ -145,6 +152,7 @@ impl Worklist {
     pub fn more_elements(&mut self, node: usize, left: usize, at: usize) -> Option<()>
         ensures some { OnSome result (IsMore (Work.Elements node left at) (left ≡ 0) (list_of self.new) (list_of self.old)) }
         ensures none { IfNone result (self.new.fault ≡ Error.OutOfMemory) }
+        ensures kept { IfNone result (list_of self.new ≡ list_of self.old) }
     {
         if left > 0 {
             self.elements(node, left, at)?;
@@ -153,10 +161,11 @@ impl Worklist {
     }
 
     /// A region is to be left, and the range will be this one.
-    #[inline]
+    #[inline(always)]
     pub fn leave(&mut self, start: usize, end: usize) -> Option<()>
         ensures some { OnSome result (list_of self.new ≡ Work.Leave start end ∷ list_of self.old) }
         ensures none { IfNone result (self.new.fault ≡ Error.OutOfMemory) }
+        ensures kept { IfNone result (list_of self.new ≡ list_of self.old) }
     {
         self.push(Work::Leave { start, end })
     }
@@ -165,6 +174,7 @@ impl Worklist {
     pub fn finish(&mut self, shared_type: usize, at: usize) -> Option<()>
         ensures some { OnSome result (list_of self.new ≡ Work.Finish shared_type at ∷ list_of self.old) }
         ensures none { IfNone result (self.new.fault ≡ Error.OutOfMemory) }
+        ensures kept { IfNone result (list_of self.new ≡ list_of self.old) }
     {
         self.push(Work::Finish { shared_type, at })
     }

@@ -19,6 +19,7 @@ use std::alloc::{Allocator, Global};
 mod layouts;
 mod leaves;
 mod parts;
+mod phantom;
 mod pointees;
 
 pub use layouts::{LayoutRaw, layout_of_run};

@@ -3,6 +3,7 @@
 ghost use Rattle.std.specs.Prelude.{◌≡◌, ◌+◌, ◌*◌, ◌≤◌, length, OnSome, IfNone, None, IsTrue};
 ghost use Rattle.archive_check.specs.Shape.{run, vec};
 ghost use Rattle.archive_check.specs.SelfCheck.Ways.{Goes, Halts, shape_way, run_way, enter_way};
+ghost use Rattle.archive_check.specs.Pushes.{Spends};
 
 use super::SelfCheck;
 use super::regions::{enter, leave};
@@ -27,6 +28,7 @@ fn check_no_bytes<T: Portable, C: ArchiveContext>(
     requires below { (C.state context.old).end ≤ length bytes.now }
     ensures through { OnSome result (Goes T.definitions (run_way bytes.now at count T.shape) (C.state context.old) (C.state context.new)) }
     ensures stops { IsTrue T.Check.direct → IfNone result (Halts T.definitions (run_way bytes.now at count T.shape) (C.state context.old) refusal.new) }
+    ensures spends { Spends 0 (C.state context.old) (C.state context.new) }
     ensures positions { OnSome result (C.positions context.new ≡ C.positions context.old) }
 {
     if count == 0 {
@@ -48,6 +50,7 @@ fn check_elements<T: Portable, C: ArchiveContext>(
     requires below { (C.state context.old).end ≤ length bytes.now }
     ensures through { OnSome result (Goes T.definitions (run_way bytes.now at count T.shape) (C.state context.old) (C.state context.new)) }
     ensures stops { IsTrue T.Check.direct → IfNone result (Halts T.definitions (run_way bytes.now at count T.shape) (C.state context.old) refusal.new) }
+    ensures spends { Spends (count * T.layout.size) (C.state context.old) (C.state context.new) }
     ensures positions { OnSome result (C.positions context.new ≡ C.positions context.old) }
 {
     prove!(bytes.len() <= usize::MAX);
@@ -73,6 +76,7 @@ pub fn check_run<T: Portable, C: ArchiveContext>(
     requires below { (C.state context.old).end ≤ length bytes.now }
     ensures through { OnSome result (Goes T.definitions (enter_way bytes.now (record { target = position; sharing = None; pointee = run T.shape; length = count })) (C.state context.old) (C.state context.new)) }
     ensures stops { IsTrue T.Check.direct → IfNone result (Halts T.definitions (enter_way bytes.now (record { target = position; sharing = None; pointee = run T.shape; length = count })) (C.state context.old) refusal.new) }
+    ensures spends { Spends 4 (C.state context.old) (C.state context.new) }
     ensures positions { OnSome result (C.positions context.new ≡ C.positions context.old) }
 {
     if !T::Check::is_direct() {

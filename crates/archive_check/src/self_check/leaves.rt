@@ -7,6 +7,7 @@ ghost use Rattle.archive_check.specs.Layout.{kind_size};
 ghost use Rattle.archive_check.specs.Expressions.{kind_of};
 ghost use Rattle.archive_check.specs.Definitions.{no_definition};
 ghost use Rattle.archive_check.specs.SelfCheck.Ways.{Goes, Halts, shape_way};
+ghost use Rattle.archive_check.specs.Pushes.{Spends};
 
 use super::SelfCheck;
 use super::refusals::refuse;
@@ -27,6 +28,7 @@ pub fn check_leaf<C: ArchiveContext>(
     requires { at + kind_size (kind_of kind) ≤ length bytes.now }
     ensures through { OnSome result (Goes no_definition (shape_way bytes.now at (leaf (kind_of kind))) (C.state _context.old) (C.state _context.new)) }
     ensures stops { IfNone result (Halts no_definition (shape_way bytes.now at (leaf (kind_of kind))) (C.state _context.old) refusal.new) }
+    ensures spends { Spends 0 (C.state _context.old) (C.state _context.new) }
     ensures positions { OnSome result (C.positions _context.new ≡ C.positions _context.old) }
 {
     if !is_legal(kind, bytes, at) {

@@ -1,11 +1,12 @@
 // Parts laid out one behind another.
 
-ghost use Rattle.std.specs.Prelude.{Bool, ◌&&◌, ◌≡◌, ◌+◌, ◌≤◌, ℕ, length, OnSome, IfNone, true, IsTrue};
+ghost use Rattle.std.specs.Prelude.{Bool, ◌&&◌, ◌≡◌, ◌+◌, ◌-◌, ◌≤◌, ℕ, length, OnSome, IfNone, true, IsTrue};
 ghost use Rattle.archive_check.specs.Shape.{Parts, part, no_part, parts};
 ghost use Rattle.archive_check.specs.Layout.{up};
 ghost use Rattle.archive_check.specs.Definitions.{Definitions, both, no_definition};
 ghost use Rattle.archive_check.specs.SelfCheck.Ways.{Goes, Halts, parts_way};
 ghost use Rattle.archive_check.specs.SelfCheck.Regions.{no_lower, rises_over};
+ghost use Rattle.archive_check.specs.Pushes.{Spends};
 
 use super::SelfCheck;
 use super::values::check_value;
@@ -45,6 +46,7 @@ pub trait CheckedParts {
         requires below { (C.state context.old).end ≤ length bytes.now }
         ensures through { OnSome result (Goes definitions (parts_way bytes.now base start parts) (C.state context.old) (C.state context.new)) }
         ensures stops { IsTrue direct → IfNone result (Halts definitions (parts_way bytes.now base start parts) (C.state context.old) refusal.new) }
+        ensures spends { Spends (end start - start) (C.state context.old) (C.state context.new) }
         ensures positions { OnSome result (C.positions context.new ≡ C.positions context.old) };
 
     ghost rises: { (n : ℕ) → n ≤ end n };

@@ -1,6 +1,6 @@
 // Regions are entered and left.
 
-ghost use Rattle.std.specs.Prelude.{◌≡◌, ◌<◌, ℕ, pos, OnSome, IfSome, IfNone, Some, Err, is_err, true};
+ghost use Rattle.std.specs.Prelude.{◌≡◌, ◌+◌, ◌<◌, ◌≤◌, ℕ, pos, OnSome, IfSome, IfNone, Some, Err, is_err, true};
 ghost use Rattle.archive_check.specs.Ranges.{subtree_answer, pop_answer, popped};
 ghost use Rattle.archive_check.specs.SelfCheck.Regions.{Begun, EntersNot};
 
@@ -29,7 +29,8 @@ fn refuse_region<C: ArchiveContext>(
     context: &mut C,
 )
     requires { is_err (subtree_answer (C.state context.old) position layout.now.size layout.now.align) ≡ true }
-    ensures { subtree_answer (C.state context.old) position layout.now.size layout.now.align ≡ Err refusal.new }
+    ensures refused { subtree_answer (C.state context.old) position layout.now.size layout.now.align ≡ Err refusal.new }
+    ensures unchanged { C.state context.new ≡ C.state context.old }
 {
     match context.check_subtree_ptr(position, layout) {
         Err(error) => keep(refusal, error),
@@ -42,7 +43,8 @@ fn refuse_region<C: ArchiveContext>(
 #[inline(never)]
 fn refuse_range<C: ArchiveContext>(start: usize, end: usize, refusal: &mut Error, context: &mut C)
     requires { is_err (pop_answer (C.state context.old) start) ≡ true }
-    ensures { pop_answer (C.state context.old) start ≡ Err refusal.new }
+    ensures refused { pop_answer (C.state context.old) start ≡ Err refusal.new }
+    ensures unchanged { C.state context.new ≡ C.state context.old }
 {
     match context.pop_subtree_range(Range { start, end }) {
         Err(error) => keep(refusal, error),
@@ -60,6 +62,7 @@ pub fn leave<C: ArchiveContext>(
 ) -> Option<()>
     ensures left { OnSome result (C.state context.new ≡ popped (C.state context.old) start end) }
     ensures refused { IfNone result (pop_answer (C.state context.old) start ≡ Err refusal.new) }
+    ensures unchanged { IfNone result (C.state context.new ≡ C.state context.old) }
     ensures positions { OnSome result (C.positions context.new ≡ C.positions context.old) }
 {
     if context.pop_subtree_range(Range { start, end }).is_err() {
@@ -81,6 +84,8 @@ pub fn enter<C: ArchiveContext>(
     requires { 0 < align }
     ensures entered { IfSome result (λ r. (whole ≡ Some r.size) × Begun (C.state context.old) (C.state context.new) position align r) }
     ensures stops { IfNone result (EntersNot (C.state context.old) position align whole refusal.new) }
+    ensures pushes { OnSome result ((C.state context.new).pushes ≤ (C.state context.old).pushes + 1) }
+    ensures unchanged { IfNone result (C.state context.new ≡ C.state context.old) }
     ensures positions { OnSome result (C.positions context.new ≡ C.positions context.old) }
 {
     let Some(size) = whole else {

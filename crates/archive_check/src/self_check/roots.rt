@@ -4,6 +4,7 @@ ghost use Rattle.std.specs.Prelude.{◌≡◌, ◌⊎◌, ◌≤◌, length, OnO
 ghost use Rattle.archive_check.specs.Definitions.{listed};
 ghost use Rattle.archive_check.specs.Defined.{WellFormed};
 ghost use Rattle.archive_check.specs.FreshContexts.{IsWhole};
+ghost use Rattle.archive_check.specs.Pushes.{FewPushed};
 ghost use Rattle.archive_check.specs.Archives.{IsArchiveWithin, IsRefusal, ExplainsNoArchive};
 
 use super::values::check_one;
@@ -13,7 +14,8 @@ use crate::format::traits::Portable;
 
 /// Checks that `bytes` are an archive whose root, a `T`, lies at `pos`, where `T` checks itself. In a context for these bytes that met nothing yet
 /// the answer is exact: Ok where they are one with no region too deep, else the refusal of the first test that is false, in the order that
-/// docs/FORMAT.md gives. It takes no memory and is never refused with 30 or 31: such a type has a meaning.
+/// docs/FORMAT.md gives. It takes no memory and is never refused with 30 or 31: such a type has a meaning. Accepted or refused, in any context, it
+/// enters at most one region, and one for each four bytes of the context's range.
 pub fn check_root<T: Portable, C: ArchiveContext>(
     bytes: &[u8],
     pos: usize,
@@ -24,6 +26,7 @@ pub fn check_root<T: Portable, C: ArchiveContext>(
     ensures meaning { IsTrue T.Check.direct → WellFormed (listed T.definitions) T.shape }
     ensures refused { IsTrue T.Check.direct → IfErr result (λ e. IsWhole (C.state context.old) (C.positions context.old) bytes.now → IsRefusal T.definitions bytes.now (C.state context.old).depth pos T.shape e) }
     ensures exact { IsTrue T.Check.direct → IfErr result (λ e. IsWhole (C.state context.old) (C.positions context.old) bytes.now → ExplainsNoArchive T.definitions bytes.now (C.state context.old).depth pos T.shape e) }
+    ensures few_subtrees { FewPushed (C.state context.old) (C.state context.new) }
 {
     prove!(bytes.len() <= usize::MAX);
     let mut refusal = Error::OutOfMemory;

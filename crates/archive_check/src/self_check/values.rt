@@ -4,6 +4,7 @@ ghost use Rattle.std.specs.Prelude.{◌≡◌, ◌+◌, ◌≤◌, length, OnSom
 ghost use Rattle.archive_check.specs.Shape.{one, boxed};
 ghost use Rattle.archive_check.specs.plan.BoundedSizes.{fits};
 ghost use Rattle.archive_check.specs.SelfCheck.Ways.{Goes, Halts, shape_way, enter_way};
+ghost use Rattle.archive_check.specs.Pushes.{Spends};
 
 use super::SelfCheck;
 use super::regions::{enter, leave};
@@ -25,6 +26,7 @@ pub fn check_value<T: Portable, C: ArchiveContext>(
     requires below { (C.state context.old).end ≤ length bytes.now }
     ensures through { OnSome result (Goes T.definitions (shape_way bytes.now at T.shape) (C.state context.old) (C.state context.new)) }
     ensures stops { IsTrue T.Check.direct → IfNone result (Halts T.definitions (shape_way bytes.now at T.shape) (C.state context.old) refusal.new) }
+    ensures spends { Spends T.layout.size (C.state context.old) (C.state context.new) }
     ensures positions { OnSome result (C.positions context.new ≡ C.positions context.old) }
 {
     if !T::Check::is_direct() {
@@ -52,6 +54,7 @@ pub fn check_one<T: Portable, C: ArchiveContext>(
     requires below { (C.state context.old).end ≤ length bytes.now }
     ensures through { OnSome result (Goes T.definitions (enter_way bytes.now (record { target = position; sharing = None; pointee = one T.shape; length = 0 })) (C.state context.old) (C.state context.new)) }
     ensures stops { IsTrue T.Check.direct → IfNone result (Halts T.definitions (enter_way bytes.now (record { target = position; sharing = None; pointee = one T.shape; length = 0 })) (C.state context.old) refusal.new) }
+    ensures spends { Spends 4 (C.state context.old) (C.state context.new) }
     ensures positions { OnSome result (C.positions context.new ≡ C.positions context.old) }
 {
     if !T::Check::is_direct() {

@@ -4,6 +4,7 @@ ghost use Rattle.std.specs.Prelude.{Bool, ◌&&◌, ◌≡◌, ◌+◌, ◌<◌,
 ghost use Rattle.archive_check.specs.Shape.{choice, Variants, no_variant, variant, variant_at};
 ghost use Rattle.archive_check.specs.Definitions.{Definitions, both, no_definition};
 ghost use Rattle.archive_check.specs.SelfCheck.Ways.{Goes, Halts, shape_way, VariantGoes, VariantHalts};
+ghost use Rattle.archive_check.specs.Pushes.{Spends};
 
 use super::parts::CheckedParts;
 use super::refusals::refuse;
@@ -42,6 +43,7 @@ pub trait CheckedVariants {
         ensures through { IfSome result (λ known. IsTrue known → VariantGoes definitions bytes.now base variants tag (C.state context.old) (C.state context.new)) }
         ensures unknown { IfSome result (λ known. known ≡ false → variant_at variants tag ≡ None) }
         ensures stops { IsTrue direct → IfNone result (VariantHalts definitions bytes.now base variants tag (C.state context.old) refusal.new) }
+        ensures spends { Spends end (C.state context.old) (C.state context.new) }
         ensures positions { OnSome result (C.positions context.new ≡ C.positions context.old) };
 }
 
@@ -114,6 +116,7 @@ pub fn check_choice<V: CheckedVariants, C: ArchiveContext>(
     requires below { (C.state context.old).end ≤ length bytes.now }
     ensures through { OnSome result (Goes V.definitions (shape_way bytes.now at (choice name.now V.variants)) (C.state context.old) (C.state context.new)) }
     ensures stops { IsTrue V.direct → IfNone result (Halts V.definitions (shape_way bytes.now at (choice name.now V.variants)) (C.state context.old) refusal.new) }
+    ensures spends { Spends V.end (C.state context.old) (C.state context.new) }
     ensures positions { OnSome result (C.positions context.new ≡ C.positions context.old) }
 {
     let value = bytes[at];

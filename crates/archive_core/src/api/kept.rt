@@ -7,6 +7,7 @@ ghost use Rattle.archive_check.specs.Defined.{WellFormed};
 ghost use Rattle.archive_check.specs.Definitions.{listed};
 ghost use Rattle.archive_check.specs.FreshContexts.{IsWhole};
 ghost use Rattle.archive_check.specs.OneSchema.{IsSchemaOf-prop};
+ghost use Rattle.archive_check.specs.Pushes.{FewPushed};
 ghost use Rattle.archive_check.specs.Schemas.{IsSchemaOf, ExplainsNoSchema};
 ghost use Rattle.archive_check.specs.Unshared.{IsNeverOpen};
 
@@ -65,6 +66,7 @@ impl<T: Portable> Access<T> {
         requires { (C.state context.old).end ≤ length bytes.now }
         ensures answer { IsWhole (C.state context.old) (C.positions context.old) bytes.now
             → Answers T.definitions bytes.now (C.state context.old).depth pos T.shape result }
+        ensures few_subtrees { FewPushed (C.state context.old) (C.state context.new) }
     {
         prove!(bytes.len() <= usize::MAX);
         match &self.schema {

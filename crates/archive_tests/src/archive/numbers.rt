@@ -1,18 +1,17 @@
 // Leaves of every kind.
 
-use archive_core::api::{access, from_bytes, to_bytes};
+use archive_core::api::{HighSerializer, access, from_bytes, to_bytes};
 use archive_core::error::Error;
 use archive_core::primitive::{
     ArchivedChar, ArchivedIsize, ArchivedNonZeroU16, ArchivedU16, ArchivedU32, ArchivedU128,
 };
-use archive_core::ser::Serializer;
 use archive_core::traits::Serialize;
 use archive_core::view::Ref;
 use std::alloc::Global;
 use std::test::Fail;
 
 // Whether the archive of a value is these bytes.
-fn is_written_as<T: Serialize<Serializer<Vec<u8>, Global, ()>>>(
+fn is_written_as<T: Serialize<HighSerializer<Vec<u8>, Global>>>(
     alloc: Global,
     value: &T,
     archive: &[u8],

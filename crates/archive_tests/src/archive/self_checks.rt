@@ -1,77 +1,28 @@
 // Types that check themselves answer as their schemas do; and a kept check answers views.
 
 ghost use Rattle.std.specs.Prelude.{◌≢◌, refl, Some};
-ghost use Rattle.std.specs.Int.{w16, w32};
+ghost use Rattle.std.specs.Int.{w32};
 ghost use Rattle.std.proofs.Common.{inl, inr};
-ghost use Rattle.archive_check.specs.Shape.{array, boxed, leaf, non_zero, number, one, unsigned};
+ghost use Rattle.archive_check.specs.Shape.{array, leaf, number, one, unsigned};
 ghost use Rattle.archive_check.specs.Definitions.{no_definition};
 ghost use Rattle.archive_check.specs.LeafLayout.{no_definition_reached};
-ghost use Rattle.archive_check.specs.SelfCheck.Laws.{by_schema, plain_check};
+ghost use Rattle.archive_check.specs.SelfCheck.Laws.{by_schema};
 
 use crate::archive::HELLO_WORLD;
 use archive_core::api::{Access, HighValidator, check_pos_with_context};
+use archive_core::boxed::ArchivedBox;
 use archive_core::error::Error;
 use archive_core::primitive::{
     ArchivedChar, ArchivedNonZeroU16, ArchivedU16, ArchivedU32, ArchivedU128,
 };
-use archive_core::self_check::{BoxCheck, BySchema};
-use archive_core::shape::{Defs, Expr, Pointee, Schema};
-use archive_core::string::ArchivedString;
+use archive_core::self_check::BySchema;
+use archive_core::shape::{Defs, Expr, Schema};
+use archive_core::slice::ArchivedSlice;
+use archive_core::string::{ArchivedStr, ArchivedString};
 use archive_core::traits::{ArchivePointee, Portable};
+use archive_core::vec::ArchivedVec;
 use std::alloc::{AllocError, Global};
 use std::test::Fail;
-
-// A box of a number that isn't 0: it checks itself.
-struct ArchivedBoxed;
-
-impl ArchivePointee for ArchivedBoxed {
-    type ArchivedMetadata = ();
-
-    ghost pointee = { one (boxed (one (leaf (non_zero unsigned w16)))) };
-
-    ghost definitions = { no_definition };
-
-    ghost metadata_length = { λ _. 0 };
-
-    fn pointer_metadata(_metadata: &()) -> usize {
-        0
-    }
-}
-
-impl Portable for ArchivedBoxed {
-    ghost shape = { boxed (one (leaf (non_zero unsigned w16))) };
-
-    ghost layout = { record { size = 4; align = 4 } };
-
-    type Check = BoxCheck<ArchivedNonZeroU16>;
-
-    ghost is_one = { refl };
-
-    ghost is_align = { inr (inr (inl refl)) };
-
-    ghost has_layout = { record { solved = λ s k. refl } };
-
-    ghost no_others = { no_definition_reached (boxed (one (leaf (non_zero unsigned w16)))) };
-
-    ghost checks = { λ direct. plain_check (boxed (one (leaf (non_zero unsigned w16)))) 4 refl refl };
-
-    fn size() -> usize {
-        4
-    }
-
-    fn align() -> usize {
-        4
-    }
-
-    fn expr(alloc: Global) -> Result<Expr, Error> {
-        let pointee = Pointee::One(ArchivedNonZeroU16::expr(alloc)?);
-        Ok(Expr::Box(Box::new(alloc, pointee)?))
-    }
-
-    fn define(_alloc: Global, _defs: &mut Defs) -> Result<(), Error> {
-        Ok(())
-    }
-}
 
 // Two numbers, which their schema checks.
 struct ArchivedTwo;
@@ -205,7 +156,32 @@ fn strings_and_boxes_check_themselves_as_their_schemas_do(rt: HostRuntime) -> Re
     assert!(rt; agrees_when_edited::<ArchivedString>(alloc, HELLO_WORLD)?);
     assert!(rt; agrees_when_edited::<ArchivedString>(alloc, b"hi\xff\xff\xff\xff\xff\xff")?);
     assert!(rt; agrees_when_edited::<ArchivedString>(alloc, "héé\u{20ac}".as_bytes())?);
-    assert!(rt; agrees_when_edited::<ArchivedBoxed>(alloc, b"\x07\0\0\0\xfc\xff\xff\xff")?);
+    assert!(rt;
+        agrees_when_edited::<ArchivedBox<ArchivedNonZeroU16>>(alloc, b"\x07\0\0\0\xfc\xff\xff\xff")?
+    );
+    assert!(rt;
+        agrees_when_edited::<ArchivedBox<ArchivedSlice<bool>>>(
+            alloc,
+            b"\x01\0\0\0\xfc\xff\xff\xff\x02\0\0\0"
+        )?
+    );
+    assert!(rt;
+        agrees_when_edited::<ArchivedBox<ArchivedStr>>(
+            alloc,
+            b"h\xc3\xa9\0\xfc\xff\xff\xff\x03\0\0\0"
+        )?
+    );
+    Ok(())
+}
+
+#[test]
+fn vectors_check_themselves_as_their_schemas_do(rt: HostRuntime) -> Result<(), Fail> {
+    let alloc = rt.alloc();
+    let two = b"\x01\0\0\0\x02\0\0\0\xf8\xff\xff\xff\x02\0\0\0";
+    assert!(rt; agrees_when_edited::<ArchivedVec<ArchivedU32>>(alloc, two)?);
+    assert!(rt; agrees_when_edited::<ArchivedVec<()>>(alloc, b"\0\0\0\0\xff\xff\xff\xff")?);
+    let inner = b"\x01\0\0\0\xfc\xff\xff\xff\x02\0\0\0\xf8\xff\xff\xff\x01\0\0\0";
+    assert!(rt; agrees_when_edited::<ArchivedVec<ArchivedVec<bool>>>(alloc, inner)?);
     Ok(())
 }
 

@@ -1,4 +1,7 @@
-use Rattle.std.proofs.Common.{◌+◌, ◌-◌, ◌*◌}
+use Rattle.std.proofs.Common.{◌+◌, ◌-◌, ◌*◌, ◌≤◌}
+use Rattle.archive_check.specs.Pushes.{worth}
+use Rattle.archive_check.specs.check.Lists.{list_of}
+use Rattle.archive_check.specs.check.Paid.{bytes_in, bytes_of_parts, bytes_of_elements}
 use Rattle.archive_check.specs.plan.SoundPlans.{span}
 use Rattle.archive_check.specs.check.LoopInvariant.{rank}
 use Rattle.archive_check.specs.check.Through.{parts_rule, elements_rule, stage_of}
@@ -18,8 +21,12 @@ abbrev pub invariant-check_shallow_parts-loop-index : goal.invariant-check_shall
 invariant-check_shallow_parts-loop-index g l =
     let at = stage_of g.C.Context.state g.C.Context.positions in
     Towards (parts_rule l.self l.first l.last l.base) (parts_rule l.self l.index l.last l.base) (at l.fn.context l.fn.work) (at l.context l.work)
+    × (worth (g.C.Context.state l.context) + bytes_in l.self (list_of l.work) + bytes_of_parts l.self l.index l.last
+    ≤ bytes_of_parts l.self l.first l.last + (worth (g.C.Context.state l.fn.context) + bytes_in l.self (list_of l.fn.work)))
 
 abbrev pub invariant-check_shallow_elements-loop-index : goal.invariant-check_shallow_elements-loop-index
 invariant-check_shallow_elements-loop-index g l =
     let at = stage_of g.C.Context.state g.C.Context.positions in
     Towards (elements_rule l.self l.node l.count l.at) (elements_rule l.self l.node (l.count - l.index) (l.at + l.index * l.size)) (at l.fn.context l.fn.work) (at l.context l.work)
+    × (worth (g.C.Context.state l.context) + bytes_in l.self (list_of l.work) + bytes_of_elements l.self l.node (l.count - l.index)
+    ≤ bytes_of_elements l.self l.node l.count + (worth (g.C.Context.state l.fn.context) + bytes_in l.self (list_of l.fn.work)))

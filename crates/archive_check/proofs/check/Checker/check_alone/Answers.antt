@@ -33,9 +33,9 @@ check_single-requires-clause-fits g c =
     let at = at_default m.parts.now x.first (record { offset = 0; node = 0 }) (omega (arith, one, c.requires.fits.last)) in
     part_fits m c.args.at x.first x.last x.first y c.requires.fits (omega arith) (omega (arith, one)) at
 
-pub returns-then-saturating_sub-eq1 : goal.returns-then-saturating_sub-eq1
-returns-then-saturating_sub-eq1 g c =
+pub returns-then-saturating_sub-eq1-clause-passes : goal.returns-then-saturating_sub-eq1-clause-passes
+returns-then-saturating_sub-eq1-clause-passes g c =
     let m = c.args.self.now in
     let x = c.args.variant in
     let one : x.last - x.first ≡ 1 = sym c.saturating_sub.ensures ∙ c.if-saturating_sub-eq1.true in
-    alone one (at_default m.parts.now x.first (record { offset = 0; node = 0 }) (omega (arith, one, c.requires.fits.last))) c.check_single.ensures
+    alone one (at_default m.parts.now x.first (record { offset = 0; node = 0 }) (omega (arith, one, c.requires.fits.last))) c.check_single.ensures.passes

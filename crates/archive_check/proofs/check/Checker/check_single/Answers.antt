@@ -11,14 +11,14 @@ check_pointer-requires-clause-shallow g c = pointer_shallow c.requires.shallow (
 pub check_text-requires-clause-kind : goal.check_text-requires-clause-kind
 check_text-requires-clause-kind g c = node_is c.requires.fits c.index-self-node.is c.in-Str.is
 
-pub returns-in_err-check_pointer-in-Pointer : goal.returns-in_err-check_pointer-in-Pointer
-returns-in_err-check_pointer-in-Pointer g c = test_stopped c.from_residual.ensures c.in_err-check_pointer-in-Pointer.ensures.none
+pub returns-in_err-check_pointer-in-Pointer-clause-passes : goal.returns-in_err-check_pointer-in-Pointer-clause-passes
+returns-in_err-check_pointer-in-Pointer-clause-passes g c = test_stopped c.from_residual.ensures c.in_err-check_pointer-in-Pointer.ensures.passes.none
 
-pub returns-in_ok-check_pointer-in-Pointer : goal.returns-in_ok-check_pointer-in-Pointer
-returns-in_ok-check_pointer-in-Pointer g c = test_known c.in_ok-check_pointer-in-Pointer.ensures.some
+pub returns-in_ok-check_pointer-in-Pointer-clause-passes : goal.returns-in_ok-check_pointer-in-Pointer-clause-passes
+returns-in_ok-check_pointer-in-Pointer-clause-passes g c = test_known c.in_ok-check_pointer-in-Pointer.ensures.passes.some
 
-pub returns-in_err-check_text-in-Str : goal.returns-in_err-check_text-in-Str
-returns-in_err-check_text-in-Str g c = test_stopped c.from_residual-in_err-check_text-in-Str.ensures c.in_err-check_text-in-Str.ensures.none
+pub returns-in_err-check_text-in-Str-clause-passes : goal.returns-in_err-check_text-in-Str-clause-passes
+returns-in_err-check_text-in-Str-clause-passes g c = test_stopped c.from_residual-in_err-check_text-in-Str.ensures c.in_err-check_text-in-Str.ensures.passes.none
 
-pub returns-in_ok-check_text-in-Str : goal.returns-in_ok-check_text-in-Str
-returns-in_ok-check_text-in-Str g c = test_known c.in_ok-check_text-in-Str.ensures.some
+pub returns-in_ok-check_text-in-Str-clause-passes : goal.returns-in_ok-check_text-in-Str-clause-passes
+returns-in_ok-check_text-in-Str-clause-passes g c = test_known c.in_ok-check_text-in-Str.ensures.passes.some

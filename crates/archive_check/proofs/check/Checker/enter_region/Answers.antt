@@ -6,18 +6,18 @@ use Rattle.archive_check.proofs.check.EnteredRegions.{lands, entered, not_err, n
 use Rattle.archive_check.proofs.check.Entries.{region_is, not_counted, not_placed, not_so_deep}
 use Rattle.archive_check.proofs.check.Checker.enter_region.Goals as goal
 
-pub returns-in_default : goal.returns-in_default
-returns-in_default g c =
+pub returns-in_default-clause-enters : goal.returns-in_default-clause-enters
+returns-in_default-clause-enters g c =
     not_counted (region_is c.args.self.now c.requires.known c.index-self-pointee.is (sym c.times.ensures.total ∙ c.in_default.is)) c.refuse.ensures.none c.refuse.ensures.fault
 
-pub returns-then-is_err : goal.returns-then-is_err
-returns-then-is_err g c =
+pub returns-then-is_err-clause-enters : goal.returns-then-is_err-clause-enters
+returns-then-is_err-clause-enters g c =
     let z = to_z-of_z w128 c.args.position c.ranges.position in
-    let answer = rw (z, c.check_subtree_ptr.ensures.unchanged) at c.refuse_region.ensures in
+    let answer = rw (z, c.check_subtree_ptr.ensures.unchanged) at c.refuse_region.ensures.refused in
     not_placed (region_is c.args.self.now c.requires.known c.index-self-pointee.is (sym c.times.ensures.total ∙ c.in-Some.is)) answer
 
-pub returns-in_default-push_subtree_range : goal.returns-in_default-push_subtree_range
-returns-in_default-push_subtree_range g c =
+pub returns-in_default-push_subtree_range-clause-enters : goal.returns-in_default-push_subtree_range-clause-enters
+returns-in_default-push_subtree_range-clause-enters g c =
     let z = to_z-of_z w128 c.args.position c.ranges.position in
     let fits = not_refused c.check_subtree_ptr.result (sym c.is_err.ensures.value ∙ c.if-is_err.false) ∙ c.check_subtree_ptr.ensures.answer in
     let at = lands (g.C.Context.state c.args.context.now) c.args.position c.in-Some.size _ c.index_of-begin.result tt (sym z ∙ c.index_of-begin.ensures) (rw z at fits) in
@@ -25,8 +25,8 @@ returns-in_default-push_subtree_range g c =
     let deep = ap (λ r. r.depth) (sym c.check_subtree_ptr.ensures.unchanged) ∙ refusal.ensures.refused.0 (ap Err refusal.ensures.too_deep) in
     not_so_deep (region_is c.args.self.now c.requires.known c.index-self-pointee.is (sym c.times.ensures.total ∙ c.in-Some.is)) at deep c.refuse-in_default-push_subtree_range.ensures.none c.refuse-in_default-push_subtree_range.ensures.fault
 
-pub returns : goal.returns
-returns g c =
+pub returns-clause-enters : goal.returns-clause-enters
+returns-clause-enters g c =
     let m = c.args.self.now in
     let st = g.C.Context.state in
     let fits = not_refused c.check_subtree_ptr.result (sym c.is_err.ensures.value ∙ c.if-is_err.false) ∙ c.check_subtree_ptr.ensures.answer in

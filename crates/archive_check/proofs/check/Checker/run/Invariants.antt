@@ -1,8 +1,10 @@
-use Rattle.std.proofs.Common.{pos, []}
+use Rattle.std.proofs.Common.{pos, [], ◌+◌, ◌≤◌}
 use Rattle.std.specs.FinMap.{empty}
 use Rattle.archive_check.specs.declared.plan.PointeeKind.TheVariants.{One}
 use Rattle.archive_check.specs.Tour.{Seen}
+use Rattle.archive_check.specs.Pushes.{worth}
 use Rattle.archive_check.specs.check.Lists.{list_of}
+use Rattle.archive_check.specs.check.Paid.{bytes_in}
 use Rattle.archive_check.specs.FreshContexts.{IsFresh}
 use Rattle.archive_check.specs.check.Runs.{Outcome, EnterRuns}
 use Rattle.archive_check.specs.check.LoopInvariant.{Ready, cost, stage, Agreeing, Listing}
@@ -19,3 +21,4 @@ invariant-loop-entry g l =
     × Agreeing (stage (g.C.Context.state l.context) (g.C.Context.positions l.context) (list_of l.work)) seen
     × ((o : Outcome) → Listing l.self (stage (g.C.Context.state l.context) (g.C.Context.positions l.context) (list_of l.work)) seen o
     → EnterRuns l.self [] (g.C.Context.state l.fn.context).depth (g.C.Context.state l.fn.context).end One l.root 1 (pos l.at) (g.C.Context.state l.fn.context).start empty o))
+    × (worth (g.C.Context.state l.context) + bytes_in l.self (list_of l.work) ≤ 4 + worth (g.C.Context.state l.fn.context))

@@ -5,14 +5,14 @@ use Rattle.archive_check.proofs.check.LegalElements.{node_takes}
 use Rattle.archive_check.proofs.check.TurnExits.{no_room, opens_free, opens_no_element, opens_element, element_opened, element_node, leaves, finishes, not_finished}
 use Rattle.archive_check.proofs.check.Checker.step.Goals as goal
 
-pub returns-in-Part : goal.returns-in-Part
-returns-in-Part g c = rw c.in-Part.is c.open.ensures
+pub returns-in-Part-clause-turn : goal.returns-in-Part-clause-turn
+returns-in-Part-clause-turn g c = rw c.in-Part.is c.open.ensures.turn
 
-pub returns-in-Parts : goal.returns-in-Parts
-returns-in-Parts g c = rw c.in-Parts.is c.open_parts.ensures
+pub returns-in-Parts-clause-turn : goal.returns-in-Parts-clause-turn
+returns-in-Parts-clause-turn g c = rw c.in-Parts.is c.open_parts.ensures.turn
 
-pub returns-in-Free : goal.returns-in-Free
-returns-in-Free g c =
+pub returns-in-Free-clause-turn : goal.returns-in-Free-clause-turn
+returns-in-Free-clause-turn g c =
     let ready = rw c.in-Elements.is at c.requires.ready in
     rw c.in-Elements.is (opens_free ready (element_node ready c.index-self-node.is c.in-Free.is))
 
@@ -26,14 +26,14 @@ count_legal-passed-requires-clause-fits g c =
     let ready = rw c.in-Elements.is at c.requires.ready in
     ready.fits.0
 
-pub returns-then-passed-left : goal.returns-then-passed-left
-returns-then-passed-left g c =
+pub returns-then-passed-left-clause-turn : goal.returns-then-passed-left-clause-turn
+returns-then-passed-left-clause-turn g c =
     let ready = rw c.in-Elements.is at c.requires.ready in
     let takes = node_takes ready.fits.0 c.index-self-node.is c.unwrap_or-size.ensures in
     rw c.in-Elements.is (opens_no_element ready takes c.count_legal-passed.ensures.passed c.count_legal-passed.ensures.below c.if-passed-left.true)
 
-pub returns-in_err-more_elements-in-Elements : goal.returns-in_err-more_elements-in-Elements
-returns-in_err-more_elements-in-Elements g c = rw c.from_residual.ensures (no_room c.in_err-more_elements-in-Elements.ensures.none)
+pub returns-in_err-more_elements-in-Elements-clause-turn : goal.returns-in_err-more_elements-in-Elements-clause-turn
+returns-in_err-more_elements-in-Elements-clause-turn g c = rw c.from_residual.ensures (no_room c.in_err-more_elements-in-Elements.ensures.none)
 
 pub open-requires-in-Elements-clause-ready : goal.open-requires-in-Elements-clause-ready
 open-requires-in-Elements-clause-ready g c =
@@ -42,23 +42,23 @@ open-requires-in-Elements-clause-ready g c =
     let lt : c.count_legal-passed.result < c.in-Elements.left = omega (arith, c.if-passed-left.false, c.count_legal-passed.ensures.below) in
     element_opened ready takes c.count_legal-passed.ensures.passed lt c.in_ok-more_elements-in-Elements.ensures.some
 
-pub returns-in_ok-more_elements-in-Elements : goal.returns-in_ok-more_elements-in-Elements
-returns-in_ok-more_elements-in-Elements g c =
+pub returns-in_ok-more_elements-in-Elements-clause-turn : goal.returns-in_ok-more_elements-in-Elements-clause-turn
+returns-in_ok-more_elements-in-Elements-clause-turn g c =
     let ready = rw c.in-Elements.is at c.requires.ready in
     let takes = node_takes ready.fits.0 c.index-self-node.is c.unwrap_or-size.ensures in
     let lt : c.count_legal-passed.result < c.in-Elements.left = omega (arith, c.if-passed-left.false, c.count_legal-passed.ensures.below) in
-    rw c.in-Elements.is (opens_element ready takes c.count_legal-passed.ensures.passed lt c.in_ok-more_elements-in-Elements.ensures.some c.open-in-Elements.ensures)
+    rw c.in-Elements.is (opens_element ready takes c.count_legal-passed.ensures.passed lt c.in_ok-more_elements-in-Elements.ensures.some c.open-in-Elements.ensures.turn)
 
-pub returns-in-Leave : goal.returns-in-Leave
-returns-in-Leave g c =
+pub returns-in-Leave-clause-turn : goal.returns-in-Leave-clause-turn
+returns-in-Leave-clause-turn g c =
     let ready = rw c.in-Leave.is at c.requires.ready in
-    rw c.in-Leave.is (leaves ready c.leave_region.ensures)
+    rw c.in-Leave.is (leaves ready c.leave_region.ensures.leaves)
 
-pub returns-in-Err : goal.returns-in-Err
-returns-in-Err g c =
+pub returns-in-Err-clause-turn : goal.returns-in-Err-clause-turn
+returns-in-Err-clause-turn g c =
     rw c.in-Finish.is (not_finished c.refuse.ensures.none c.refuse.ensures.fault (to_z_pos w128 c.in-Finish.at (omega arith)) c.in-Err.ensures.answer)
 
-pub returns-in_default-finish_shared : goal.returns-in_default-finish_shared
-returns-in_default-finish_shared g c =
+pub returns-in_default-finish_shared-clause-turn : goal.returns-in_default-finish_shared-clause-turn
+returns-in_default-finish_shared-clause-turn g c =
     let ready = rw c.in-Finish.is at c.requires.ready in
     rw c.in-Finish.is (finishes ready (to_z_pos w128 c.in-Finish.at (omega arith)) c.in_default-finish_shared.ensures.range c.in_default-finish_shared.ensures.finished)

@@ -1,5 +1,6 @@
-use Rattle.std.proofs.Common.{◌≡◌, ◌+◌, ◌*◌, ◌<◌, ◌≤◌, ℕ, zero, suc, min, arith, refl, ◌∙◌, length}
+use Rattle.std.proofs.Common.{◌≡◌, ◌+◌, ◌-◌, ◌*◌, ◌<◌, ◌≤◌, ℕ, zero, suc, min, arith, refl, ◌∙◌, length}
 use Rattle.archive_check.proofs.SelfCheck.Elements.{toward_element, element_halts, elements_gone, elements_begin}
+use Rattle.archive_check.proofs.SelfCheck.Spent.{next_spends}
 use Rattle.archive_check.proofs.self_check.elements.check_elements.Goals as goal
 
 -- an element that lies in bytes has its size
@@ -8,7 +9,7 @@ its_own z zero k len at w lt fits small e = absurd (omega arith)
 its_own z (suc n) k len at w lt fits small e = let more : suc n * z ≡ z + n * z = omega arith in omega arith
 
 pub loop-index-init : goal.loop-index-init
-loop-index-init g c = (refl, elements_begin g.T.ArchivePointee.definitions g.T.Portable.shape c.args.bytes.now c.args.at c.args.count c.size-size.result (g.C.Context.state c.args.context.now))
+loop-index-init g c = (refl, elements_begin g.T.ArchivePointee.definitions g.T.Portable.shape c.args.bytes.now c.args.at c.args.count c.size-size.result (g.C.Context.state c.args.context.now), let all : c.args.count - 0 ≡ c.args.count = omega arith in rw all (omega arith))
 
 pub returns-in_err-check_value-clause-stops : goal.returns-in_err-check_value-clause-stops
 returns-in_err-check_value-clause-stops g c d =
@@ -19,7 +20,15 @@ loop-index-preserved g c = (
   c.in_ok-check_value.ensures.positions ∙ c.loop-index.invariant.0,
   toward_element g.T.ArchivePointee.definitions g.T.Portable.shape g.T.Portable.layout g.met.T.Portable.has_layout c.args.bytes.now c.args.at c.args.count c.size-size.result (g.C.Context.state c.args.context.now) (g.C.Context.state c.loop-index.context) c.loop-index.index c.loop-index-test.true c.loop-index.invariant.1 (g.C.Context.state c.check_value.new.context)
       (its_own g.T.Portable.layout.size c.args.count c.loop-index.index (length c.args.bytes.now) c.args.at c.size-size.result c.loop-index-test.true c.requires.fits (omega (arith, c.if-prove.false)) c.size-size.ensures) c.in_ok-check_value.ensures.through,
+  omega (arith, c.in_ok-check_value.ensures.spends, c.loop-index.invariant.2, next_spends g.T.Portable.layout.size c.args.count c.loop-index.index c.loop-index-test.true),
 )
 
 pub returns-clause-through : goal.returns-clause-through
 returns-clause-through g c = elements_gone g.T.ArchivePointee.definitions g.T.Portable.shape c.args.bytes.now c.args.at c.args.count c.size-size.result (g.C.Context.state c.args.context.now) (g.C.Context.state c.loop-index.context) c.loop-index.index (omega (arith, c.loop-index-test.false)) c.loop-index.invariant.1
+
+pub returns-in_err-check_value-clause-spends : goal.returns-in_err-check_value-clause-spends
+returns-in_err-check_value-clause-spends g c =
+    omega (arith, c.in_err-check_value.ensures.spends, c.loop-index.invariant.2, next_spends g.T.Portable.layout.size c.args.count c.loop-index.index c.loop-index-test.true)
+
+pub returns-clause-spends : goal.returns-clause-spends
+returns-clause-spends g c = omega (arith, c.loop-index.invariant.2)

@@ -20,7 +20,7 @@ returns-then-is_err-clause-stops g c =
     let s = g.C.Context.state c.args.context.now in
     let fault = c.refuse_region.new.refusal in
     let v : Err fault ≡ subtree_answer s c.args.position c.in-Some.size c.args.align =
-    sym c.refuse_region.ensures ∙ ap (λ q. subtree_answer q (to_z w128 (of_z w128 c.args.position)) c.in-Some.size c.args.align) c.check_subtree_ptr.ensures.unchanged ∙ ap (λ q. subtree_answer s q c.in-Some.size c.args.align) (to_z-of_z w128 c.args.position c.ranges.position) in
+    sym c.refuse_region.ensures.refused ∙ ap (λ q. subtree_answer q (to_z w128 (of_z w128 c.args.position)) c.in-Some.size c.args.align) c.check_subtree_ptr.ensures.unchanged ∙ ap (λ q. subtree_answer s q c.in-Some.size c.args.align) (to_z-of_z w128 c.args.position c.ranges.position) in
     rw c.in-Some.is (astray s c.args.position c.in-Some.size c.args.align fault v)
 
 pub returns-in_default-push_subtree_range-clause-stops : goal.returns-in_default-push_subtree_range-clause-stops

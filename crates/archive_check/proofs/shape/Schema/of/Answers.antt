@@ -1,8 +1,9 @@
 use Rattle.std.proofs.Common.{sym, subst, true}
 use Rattle.archive_check.specs.Expressions.{shape_of, entries_of}
-use Rattle.archive_check.specs.plan.Planned.{InOrder}
+use Rattle.archive_check.specs.plan.Planned.{InOrder, IsPlan}
 use Rattle.archive_check.proofs.plan.MissingNames.{held_known}
 use Rattle.archive_check.proofs.plan.PlansInOrder.{in_order_of}
+use Rattle.archive_check.proofs.plan.PackedPlans.{plan_packed}
 use Rattle.archive_check.proofs.shape.Schema.of.Goals as goal
 
 pub of-requires : goal.of-requires
@@ -14,3 +15,9 @@ of-requires g c =
 
 pub returns-clause-held : goal.returns-clause-held
 returns-clause-held g c = held_known (entries_of c.in_ok-definitions.definitions.items) g.T.Portable.shape true c.in_ok-definitions.ensures.made.complete.root
+
+pub invariant_of-result-clause-packed : goal.invariant_of-result-clause-packed
+invariant_of-result-clause-packed g c =
+    let X = shape_of c.in_ok-root.root in
+    let plan = subst (λ ds. IsPlan ds X c.in_ok-plan.plan c.in_ok-plan.node) c.deref.ensures.value c.in_ok-plan.ensures.made in
+    plan_packed c.in_ok-definitions.definitions.items X c.in_ok-plan.plan c.in_ok-plan.node c.in_ok-definitions.ensures.made.ordered plan

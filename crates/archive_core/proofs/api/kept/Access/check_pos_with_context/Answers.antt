@@ -4,24 +4,20 @@ use Rattle.archive_check.specs.Schemas.{IsSchemaOf}
 use Rattle.archive_check.proofs.Archives.{accepts_archive, refuses, refusal_no_archive}
 use Rattle.archive_core.proofs.api.kept.Access.check_pos_with_context.Goals as goal
 
-pub returns-in-None : goal.returns-in-None
-returns-in-None g c = record {
-  answer = λ whole.
-      let direct = rw c.in-None.is at c.args.self.now.needed in
-      record {
-        accepted = on_ok_weaker c.check_root.result (λ h. h whole) (c.check_root.ensures.accepted direct);
-        refused = IfErr-weaker c.check_root.result _ _ (λ e h. h whole) (c.check_root.ensures.refused direct);
-        exact = IfErr-weaker c.check_root.result _ _ (λ e h. h whole) (c.check_root.ensures.exact direct);
-      };
-}
+pub returns-in-None-clause-answer : goal.returns-in-None-clause-answer
+returns-in-None-clause-answer g c whole =
+    let direct = rw c.in-None.is at c.args.self.now.needed in
+    record {
+      accepted = on_ok_weaker c.check_root.result (λ h. h whole) (c.check_root.ensures.accepted direct);
+      refused = IfErr-weaker c.check_root.result _ _ (λ e h. h whole) (c.check_root.ensures.refused direct);
+      exact = IfErr-weaker c.check_root.result _ _ (λ e h. h whole) (c.check_root.ensures.exact direct);
+    }
 
-pub returns-in-Some : goal.returns-in-Some
-returns-in-Some g c = record {
-  answer = λ whole.
-      let made : IsSchemaOf c.in-Some.schema g.T.Portable.shape g.T.ArchivePointee.definitions = rw c.in-Some.is at c.args.self.now.made in
-      record {
-        accepted = on_ok_weaker c.check.result (λ h. accepts_archive c.in-Some.schema g.T.ArchivePointee.definitions g.T.Portable.shape c.args.bytes.now (g.C.Context.state c.args.context.now).depth c.args.pos made g.met.T.Portable.no_others (h whole)) c.check.ensures.ok;
-        refused = IfErr-weaker c.check.result _ _ (λ e h. refuses c.in-Some.schema g.T.ArchivePointee.definitions g.T.Portable.shape c.args.bytes.now (g.C.Context.state c.args.context.now).depth c.args.pos made e (⊎_elim inl (λ f. inr (f whole)) h)) c.check.ensures.err;
-        exact = IfErr-weaker c.check.result _ _ (λ e h. refusal_no_archive _ _ _ _ _ e (omega (arith, c.if-prove.false)) (refuses c.in-Some.schema g.T.ArchivePointee.definitions g.T.Portable.shape c.args.bytes.now (g.C.Context.state c.args.context.now).depth c.args.pos made e (⊎_elim inl (λ f. inr (f whole)) h))) c.check.ensures.err;
-      };
-}
+pub returns-in-Some-clause-answer : goal.returns-in-Some-clause-answer
+returns-in-Some-clause-answer g c whole =
+    let made : IsSchemaOf c.in-Some.schema g.T.Portable.shape g.T.ArchivePointee.definitions = rw c.in-Some.is at c.args.self.now.made in
+    record {
+      accepted = on_ok_weaker c.check.result (λ h. accepts_archive c.in-Some.schema g.T.ArchivePointee.definitions g.T.Portable.shape c.args.bytes.now (g.C.Context.state c.args.context.now).depth c.args.pos made g.met.T.Portable.no_others (h whole)) c.check.ensures.ok;
+      refused = IfErr-weaker c.check.result _ _ (λ e h. refuses c.in-Some.schema g.T.ArchivePointee.definitions g.T.Portable.shape c.args.bytes.now (g.C.Context.state c.args.context.now).depth c.args.pos made e (⊎_elim inl (λ f. inr (f whole)) h)) c.check.ensures.err;
+      exact = IfErr-weaker c.check.result _ _ (λ e h. refusal_no_archive _ _ _ _ _ e (omega (arith, c.if-prove.false)) (refuses c.in-Some.schema g.T.ArchivePointee.definitions g.T.Portable.shape c.args.bytes.now (g.C.Context.state c.args.context.now).depth c.args.pos made e (⊎_elim inl (λ f. inr (f whole)) h))) c.check.ensures.err;
+    }

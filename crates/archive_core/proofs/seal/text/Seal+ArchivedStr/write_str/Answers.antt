@@ -1,0 +1,9 @@
+use Rattle.archive_core.proofs.SealedLeaves.{text_lies}
+use Rattle.archive_core.proofs.StandingLeaves.{text_stands}
+use Rattle.archive_core.proofs.seal.text.Seal+ArchivedStr.write_str.Goals as goal
+
+pub write_text_over-requires : goal.write_text_over-requires
+write_text_over-requires c = text_lies _ _ _ _ _ c.requires.same_length c.requires.viewed
+
+pub returns-clause-stands : goal.returns-clause-stands
+returns-clause-stands c = λ s root X a i. text_stands s _ a _ _ i

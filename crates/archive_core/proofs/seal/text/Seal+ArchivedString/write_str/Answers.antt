@@ -1,0 +1,20 @@
+use Rattle.std.proofs.Common.{sym, ◌∙◌}
+use Rattle.archive_core.proofs.SealedLeaves.{text_lies, text_long, string_changed}
+use Rattle.archive_core.proofs.StandingLeaves.{string_stands}
+use Rattle.archive_core.proofs.seal.text.Seal+ArchivedString.write_str.Goals as goal
+
+pub write_text_over-requires : goal.write_text_over-requires
+write_text_over-requires c =
+    let text = rw (c.as_ref.ensures.buffer, c.as_ref.ensures.position) at c.text_spot-spot.ensures.text in
+    let viewed = rw c.as_ref.ensures.buffer at c.text_spot-spot.ensures.viewed in
+    text_lies _ _ _ _ _ (c.requires.same_length ∙ sym (text_long _ _ _ _ _ viewed text)) viewed
+
+pub returns-clause-leaf : goal.returns-clause-leaf
+returns-clause-leaf c =
+    let text = rw (c.as_ref.ensures.buffer, c.as_ref.ensures.position) at c.text_spot-spot.ensures.text in
+    let viewed = rw c.as_ref.ensures.buffer at c.text_spot-spot.ensures.viewed in
+    let begin = rw (c.as_ref.ensures.buffer, c.as_ref.ensures.position) at c.text_spot-spot.ensures.position in
+    string_changed _ _ c.args.value.now _ _ _ c.write_text_over.ensures.leaf begin text (c.requires.same_length ∙ sym (text_long _ _ _ _ _ viewed text))
+
+pub returns-clause-stands : goal.returns-clause-stands
+returns-clause-stands c = λ s root X a i. string_stands s _ a _ _ i

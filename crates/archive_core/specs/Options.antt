@@ -1,0 +1,60 @@
+-- Options as sources: what they mean, and their laws.
+use Rattle.std.specs.Prelude.{ℕ, List, [], Option, Some, None}
+use Rattle.std.proofs.Common.{refl}
+use Rattle.archive_check.specs.Shape.{Shape}
+use Rattle.archive_check.specs.Definitions.{Definitions}
+use Rattle.archive_check.specs.Value.{Value, case, no_value}
+use Rattle.archive_check.specs.Reached.{Names, names_case, names_first, names_later}
+use Rattle.archive_enum.specs.Choices.{option_shape}
+use Rattle.archive_core.specs.Writing.{Naming, IsKeyed, LeadsToKey, key_at_once, key_through}
+use Rattle.archive_core.specs.Plans.{HasPlan}
+use Rattle.archive_core.specs.Keyed.{keyed_by_none}
+use Rattle.archive_core.specs.Variants.{case_of, case_planned, empty_planned}
+
+-- None has the tag 0, Some the tag 1
+abbrev pub option_meaning : {A : Type 0} → (A → Value) → Option A → Value
+option_meaning m None = case 0 no_value
+option_meaning m (Some x) = case_of 1 (m x)
+
+abbrev pub option_keys : {A : Type 0} → (A → List Naming) → Option A → List Naming
+option_keys k None = []
+option_keys k (Some x) = k x
+
+-- what is read in its place, where its resolver is that of its value
+abbrev pub option_flat : {A R : Type 0} → (A → R → Value) → Option A → Option R → Value
+option_flat f None r = case 0 no_value
+option_flat f (Some x) None = case 0 no_value
+option_flat f (Some x) (Some r) = case_of 1 (f x r)
+
+abbrev pub OptionBelongs : {A R : Type 0} → (A → R → Type 0) → Option A → Option R → Type 0
+OptionBelongs b None None = Unit {0}
+OptionBelongs b None (Some r) = ⊥
+OptionBelongs b (Some x) None = ⊥
+OptionBelongs b (Some x) (Some r) = b x r
+
+-- keys
+
+no_name : (tag k : ℕ) → Names k (case tag no_value) → ⊥
+no_name tag k (names_case n) = elim n [ ]
+
+name_inside : (tag k : ℕ) (v : Value) → Names k (case_of tag v) → Names k v
+name_inside tag k v (names_case (names_first n)) = n
+name_inside tag k v (names_case (names_later n)) = elim n [ ]
+
+leads_inside : (keys : List Naming) (tag : ℕ) (v : Value) (k : ℕ) → LeadsToKey keys v k → LeadsToKey keys (case_of tag v) k
+leads_inside keys tag v k (key_at_once n) = key_at_once (names_case (names_first n))
+leads_inside keys tag v k (key_through {l = l} h c n) = key_through (leads_inside keys tag v l.0 h) c n
+
+-- a variant with one part has the part's keys
+pub case_keyed : (keys : List Naming) (tag : ℕ) (v : Value) → IsKeyed keys v → IsKeyed keys (case_of tag v)
+case_keyed keys tag v h = record { value = λ k n. h.value k (name_inside tag k v n); named = h.named; only = λ k c. leads_inside keys tag v k.0 (h.only k c) }
+
+pub option_keyed : {A : Type 0} (k : A → List Naming) (m : A → Value) → ((x : A) → IsKeyed (k x) (m x)) → (o : Option A) → IsKeyed (option_keys k o) (option_meaning m o)
+option_keyed k m h None = keyed_by_none (case 0 no_value) (λ j n. absurd (no_name 0 j n))
+option_keyed k m h (Some x) = case_keyed (k x) 1 (m x) (h x)
+
+-- plans
+
+pub option_planned : {A : Type 0} (D : Definitions) (X : Shape) (k : A → List Naming) (m : A → Value) → ((x : A) → HasPlan D X (k x) (m x)) → (o : Option A) → HasPlan D (option_shape X) (option_keys k o) (option_meaning m o)
+option_planned D X k m h None = empty_planned _ _ 0 refl D []
+option_planned D X k m h (Some x) = case_planned _ _ 1 X refl (m x) D D (λ s known. known) (k x) (h x)

@@ -1,0 +1,35 @@
+-- What a view shows that was made of another one.
+use Rattle.std.specs.Prelude.{◌≡◌, ℕ, zero, suc, ◌+◌, ◌*◌, List, [], ◌∷◌, Option, Some, None}
+use Rattle.archive_check.specs.Shape.{Shape, Pointee}
+use Rattle.archive_check.specs.Value.{Value, box, list, Values, no_value, value}
+use Rattle.archive_check.specs.Reads.{Schema}
+use Rattle.archive_check.specs.Definitions.{Definitions, Knows}
+use Rattle.archive_check.specs.Reached.{Reached}
+
+-- what stands in a box
+abbrev pub boxed_in : Value → Option Value
+boxed_in (box v) = Some v
+boxed_in _ = None
+
+-- the value itself, as of a vector and its slice
+abbrev pub itself : Value → Option Value
+itself v = Some v
+
+abbrev pub value_at : ℕ → Values → Option Value
+value_at k no_value = None
+value_at zero (value v vs) = Some v
+value_at (suc k) (value v vs) = value_at k vs
+
+-- the element k of a list
+abbrev pub element_in : ℕ → Value → Option Value
+element_in k (list vs) = value_at k vs
+element_in k _ = None
+
+-- Whatever an archive says of P at q, Q at r is a part of the archive, and it says of it what stands there in that.
+pub record ShowsPart (D : Definitions) (bytes : List ℕ) (q : ℕ) (P : Pointee) (n : ℕ) (r : ℕ) (Q : Pointee) (m : ℕ) (taken : Value → Option Value) : Type 0 where
+  pub shown : (s : Schema) (root : ℕ) (X : Shape) (w : Value) → Knows s D → Reached s bytes root X q P n w → (u : Value) × (taken w ≡ Some u) × Reached s bytes root X r Q m u
+
+-- n elements of z bytes of a slice at p, from the element i on: the buffer and the position of each
+abbrev pub spots : List ℕ → ℕ → ℕ → ℕ → ℕ → List (List ℕ × ℕ)
+spots bytes p z i zero = []
+spots bytes p z i (suc n) = (bytes, p + i * z) ∷ spots bytes p z (i + 1) n

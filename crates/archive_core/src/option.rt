@@ -1,0 +1,120 @@
+//! Options: how they are archived, viewed and read back.
+
+ghost use Rattle.std.specs.Prelude.{◌≡◌, ◌+◌, ◌<◌, length, slice_index, OnOk, IfOk, IfErr, IfSome, MatchOption};
+ghost use Rattle.archive_check.specs.Shape.{one};
+ghost use Rattle.archive_check.specs.Viewed.{Viewed};
+ghost use Rattle.archive_check.specs.Entries.{ReadsBack, RefusesReading};
+ghost use Rattle.archive_enum.specs.Choices.{option_shape, option_layout};
+ghost use Rattle.archive_core.specs.Causes.{HindersAt};
+ghost use Rattle.archive_core.specs.Options.{option_meaning, option_keys, option_flat, OptionBelongs, option_keyed, option_planned};
+ghost use Rattle.archive_core.specs.Writing.{Fresh, Resolves};
+
+use crate::place::Place;
+use crate::traits::{Archive, Deserialize, Entries, Keys, Portable, Serialize};
+use crate::variants::resolve_case;
+use crate::view::{RawView, Ref};
+use archive_check::format::error::Error;
+pub use archive_enum::option::{ArchivedOption, Iter};
+use archive_write::ser::Writer;
+use std::alloc::Global;
+
+/// A `None` is zeros: its tag and all bytes behind it. A `Some` is archived as its value behind a 1. As in rkyv 0.8.18.
+impl<T: Archive> Archive for Option<T> {
+    type Archived = ArchivedOption<T::Archived>;
+
+    type Resolver = Option<T::Resolver>;
+
+    ghost meaning = { option_meaning T.meaning };
+
+    ghost flat = { option_flat T.flat };
+
+    ghost keys = { option_keys T.keys };
+
+    ghost belongs = { OptionBelongs T.belongs };
+
+    ghost keyed = { option_keyed T.keys T.meaning T.keyed };
+
+    ghost planned = { option_planned T.Archived.definitions T.Archived.shape T.keys T.meaning T.planned };
+
+    fn resolve(
+        &self,
+        resolver: Option<T::Resolver>,
+        place: Place<'_, ArchivedOption<T::Archived>>,
+    ) -> Result<(), Error>
+        requires fresh { Fresh (option_layout T.Archived.layout).size place.pos place.bytes.now }
+        requires same_value { OptionBelongs T.belongs self.now resolver }
+        ensures resolved { OnOk result (Resolves T.Archived.definitions place.entry.pos place.exit.0.now (option_shape T.Archived.shape) (option_flat T.flat self.now resolver)) }
+        ensures same_length { length place.exit.0.now ≡ length place.entry.bytes.now }
+        ensures refused { IfErr result (HindersAt T.Archived.definitions (option_shape T.Archived.shape) (option_flat T.flat self.now resolver) place.entry.pos) }
+    {
+        let Place { bytes, pos, .. } = place;
+        let value = match self {
+            None => return Ok(()),
+            Some(value) => value,
+        };
+        let Some(resolver) = resolver else {
+            unreachable!();
+        };
+        resolve_case(1, value, resolver, pos, bytes)
+    }
+}
+
+impl<T: Serialize<S>, S: Writer + Keys> Serialize<S> for Option<T> {
+    fn serialize(&self, serializer: &mut S) -> Result<Option<T::Resolver>, Error> {
+        match self {
+            None => Ok(None),
+            Some(value) => Ok(Some(value.serialize(serializer)?)),
+        }
+    }
+}
+
+impl<'a, T: Portable> Ref<'a, ArchivedOption<T>> {
+    /// The view of the value, if there is one; as `Option::as_ref`. What stands behind a `None` isn't looked at.
+    pub fn as_ref(self) -> Option<Ref<'a, T>>
+        ensures tag { MatchOption result (slice_index self.entry.bytes.now self.entry.pos ≡ 0) (λ v. slice_index self.entry.bytes.now self.entry.pos ≡ 1) }
+        ensures buffer { IfSome result (λ v. v.bytes.now ≡ self.entry.bytes.now) }
+        ensures position { IfSome result (λ v. v.pos ≡ self.entry.pos + T.layout.align) }
+        ensures length { IfSome result (λ v. v.len ≡ 0) }
+    {
+        let RawView { bytes, pos, .. } = self.part();
+        if bytes[pos] == 0 {
+            return None;
+        }
+        let part = RawView {
+            bytes,
+            pos: pos + T::align(),
+            len: 0,
+        };
+        Some(Ref::at(part))
+    }
+
+    /// An iterator over the view of the value: it comes once, from either end, and then none; as `Option::iter`.
+    pub fn iter(self) -> Iter<Ref<'a, T>>
+        ensures tag { MatchOption result (slice_index self.entry.bytes.now self.entry.pos ≡ 0) (λ v. slice_index self.entry.bytes.now self.entry.pos ≡ 1) }
+        ensures buffer { IfSome result (λ v. v.bytes.now ≡ self.entry.bytes.now) }
+        ensures position { IfSome result (λ v. v.pos ≡ self.entry.pos + T.layout.align) }
+        ensures length { IfSome result (λ v. v.len ≡ 0) }
+    {
+        Iter::new(self.as_ref())
+    }
+}
+
+impl<T: Archive, A: Portable + Deserialize<T, D>, D: Entries> Deserialize<Option<T>, D>
+    for ArchivedOption<A> {
+    fn deserialize_part(
+        alloc: Global,
+        part: RawView<'_>,
+        deserializer: &mut D,
+    ) -> Result<Option<T>, Error>
+        requires { Viewed A.definitions part.bytes.now part.pos (one (option_shape A.shape)) part.len }
+        ensures read { IfOk result (λ t. ReadsBack A.definitions part.entry.bytes.now part.entry.pos (one (option_shape A.shape)) part.entry.len
+            (D.entry_of deserializer.old) (D.entry_of deserializer.new) (option_meaning T.meaning t) (option_keys T.keys t)) }
+        ensures refused { IfErr result (RefusesReading A.definitions part.entry.bytes.now part.entry.pos (one (option_shape A.shape)) part.entry.len (D.entry_of deserializer.old)) }
+    {
+        let view: Ref<'_, ArchivedOption<A>> = Ref::at(part);
+        match view.as_ref() {
+            None => Ok(None),
+            Some(value) => Ok(Some(A::deserialize(alloc, value, deserializer)?)),
+        }
+    }
+}

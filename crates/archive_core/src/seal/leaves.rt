@@ -1,0 +1,171 @@
+// Leaves that are written over: numbers, bools, chars, and numbers that aren't 0.
+
+ghost use Rattle.std.specs.Prelude.{◌≡◌, ◌+◌, ◌≤◌, ◌==◌, ⊤, false, refl, length, pos, [], ◌∷◌, slice_index};
+ghost use Rattle.std.specs.Int.{w8, cast_signed, cast_unsigned};
+ghost use Rattle.archive_check.proofs.LittleEndian.{length-little_bytes};
+ghost use Rattle.archive_check.specs.Layout.{kind_size};
+ghost use Rattle.archive_check.specs.Leaves.{edit, number_leaf};
+ghost use Rattle.archive_check.specs.Revised.{WritesLeaf};
+ghost use Rattle.archive_check.specs.LittleEndian.{little_bytes, little_number};
+ghost use Rattle.archive_check.specs.Shape.{Kind as KindOf, bool, number, signed, unsigned, leaf, non_zero, one};
+ghost use Rattle.archive_check.specs.Viewed.{Viewed};
+ghost use Rattle.archive_core.specs.Sealed.{Holds, StandsIn, leaf_at, value_holds, non_zero_holds};
+ghost use Rattle.archive_num.specs.Digits.{is_zero, bool_byte};
+ghost use Rattle.archive_num.specs.Leaves.{bool-leaf, bool-number, bool-value, number-leaf, signed-number, signed-value, unsigned-number, unsigned-value};
+
+use super::{Seal, Spot};
+use crate::primitive::write_leaf;
+use archive_check::format::traits::ArchivePointee;
+use archive_check::laws::leaf_written;
+use archive_nonzero::NonZero;
+use archive_num::{Integer, LittleEndian, Native};
+
+/// A leaf that a seal writes over. Our own, so that one implementation writes all of them.
+pub trait SealedLeaf: ArchivePointee {
+    /// What is written over it.
+    type Written: Native;
+
+    // The leaf.
+    ghost kind: { KindOf };
+
+    // Whether it may hold a value.
+    ghost can_hold: { Self.Written → Type 0 };
+
+    // As a pointee it is its leaf.
+    ghost same_pointee: { Self.pointee ≡ one (leaf kind) };
+
+    // It has so many bytes as a value.
+    ghost same_size: { kind_size kind ≡ Self.Written.byte_count };
+
+    // Those of each value that it may hold are legal there, and say that value.
+    ghost holds: { (x : Self.Written) → Self.Written.fits x → can_hold x → Holds kind (Self.Written.bytes_of x) (Self.Written.value_of x) };
+}
+
+impl<N: Native> SealedLeaf for LittleEndian<N> {
+    type Written = N;
+
+    ghost kind = { N.kind };
+
+    ghost can_hold = { λ _. ⊤ };
+
+    ghost same_pointee = { refl };
+
+    ghost same_size = { N.size_law };
+
+    ghost holds = { λ x fits _. value_holds N.value_of N.number_of N.bytes_of N.kind x N.value_law (N.number_law x fits) (N.leaf_law x fits) };
+}
+
+impl<N: Integer> SealedLeaf for NonZero<N> {
+    type Written = N;
+
+    ghost kind = { non_zero N.sign N.width };
+
+    ghost can_hold = { λ x. is_zero (N.value_of x) ≡ false };
+
+    ghost same_pointee = { refl };
+
+    ghost same_size = { N.size_law };
+
+    ghost holds = { λ x fits other. non_zero_holds N.kind N.sign N.width (N.bytes_of x) (N.value_of x) N.integer_law
+        (value_holds N.value_of N.number_of N.bytes_of N.kind x N.value_law (N.number_law x fits) (N.leaf_law x fits)) other };
+}
+
+impl SealedLeaf for bool {
+    type Written = bool;
+
+    ghost kind = { bool };
+
+    ghost can_hold = { λ _. ⊤ };
+
+    ghost same_pointee = { refl };
+
+    ghost same_size = { refl };
+
+    ghost holds = { λ x _ _. value_holds (λ b. pos (bool_byte b)) (λ bs. slice_index bs 0 == 1) (λ b. bool_byte b ∷ []) bool x bool-value (bool-number x) (bool-leaf x) };
+}
+
+impl SealedLeaf for u8 {
+    type Written = u8;
+
+    ghost kind = { number unsigned w8 };
+
+    ghost can_hold = { λ _. ⊤ };
+
+    ghost same_pointee = { refl };
+
+    ghost same_size = { refl };
+
+    ghost holds = { λ x fits _. value_holds (λ n. pos n) little_number (little_bytes 1) (number unsigned w8) x (unsigned-value w8) (unsigned-number w8 x fits)
+        (number-leaf unsigned w8 (little_bytes 1 x) (length-little_bytes 1 x)) };
+}
+
+impl SealedLeaf for i8 {
+    type Written = i8;
+
+    ghost kind = { number signed w8 };
+
+    ghost can_hold = { λ _. ⊤ };
+
+    ghost same_pointee = { refl };
+
+    ghost same_size = { refl };
+
+    ghost holds = { λ x fits _. value_holds (λ z. z) (λ bs. cast_signed w8 (little_number bs)) (λ z. little_bytes 1 (cast_unsigned w8 z)) (number signed w8) x (signed-value w8)
+        (signed-number w8 x fits) (number-leaf signed w8 (little_bytes 1 (cast_unsigned w8 x)) (length-little_bytes 1 (cast_unsigned w8 x))) };
+}
+
+// Writes the bytes of a value over those at `pos`.
+fn write_value<N: Native>(value: N, bytes: &mut [u8], pos: usize)
+    requires { pos + N.byte_count ≤ length bytes.old }
+    ensures edited { bytes.new ≡ edit bytes.old pos (N.bytes_of value) }
+    ensures fits { N.fits value }
+{
+    let end = pos + N::byte_count();
+    write_leaf(value, &mut bytes[pos..end]);
+}
+
+// Writes the bytes of a value over those of a leaf, which changes in every archive in which it stands.
+fn write_over<T: SealedLeaf>(bytes: &mut [u8], pos: usize, value: T::Written)
+    requires fits { pos + T.Written.byte_count ≤ length bytes.old }
+    requires can_hold { T.can_hold value }
+    ensures edited { bytes.new ≡ edit bytes.old pos (T.Written.bytes_of value) }
+    ensures leaf { WritesLeaf (leaf_at T.kind bytes.old pos) (number_leaf pos T.kind (T.Written.value_of value)) bytes.old bytes.new }
+{
+    write_value(value, bytes, pos);
+    leaf_written();
+}
+
+impl<'a, T: SealedLeaf> Seal<'a, T> {
+    /// Writes a value over the leaf that it shows: its bytes, the lowest first. Asks that the seal shows a part of a buffer that was checked, as it
+    /// does when it is made, and for a `NonZero` a number that isn't 0. Every other byte stays, and in every archive in which the leaf stands it
+    /// alone changes. As in rkyv 0.8.18.
+    pub fn write(self, value: T::Written)
+        requires viewed { Viewed T.definitions self.bytes.now self.pos T.pointee self.len }
+        requires can_hold { T.can_hold value }
+        ensures edited { self.exit.0.now ≡ edit self.entry.bytes.now self.entry.pos (T.Written.bytes_of value) }
+        ensures stands { StandsIn self.entry.bytes.now self.entry.pos T.pointee self.entry.len (leaf_at T.kind self.entry.bytes.now self.entry.pos) }
+        ensures leaf { WritesLeaf (leaf_at T.kind self.entry.bytes.now self.entry.pos) (number_leaf self.entry.pos T.kind (T.Written.value_of value))
+            self.entry.bytes.now self.exit.0.now }
+    {
+        let Seal { bytes, pos, .. } = self;
+        write_over::<T>(bytes, pos, value);
+    }
+}
+
+impl<'a, T: ArchivePointee> Seal<'a, T> {
+    /// Writes a value over a leaf elsewhere in the same buffer. Asks that a leaf which was checked stands there, and for a `NonZero` a number that
+    /// isn't 0. Every other byte stays, and in every archive in which the leaf stands it alone changes. Our own.
+    pub fn write_at<U: SealedLeaf>(&mut self, spot: Spot<U>, value: U::Written)
+        requires viewed { Viewed U.definitions self.old.bytes.now spot.pos U.pointee spot.len }
+        requires can_hold { U.can_hold value }
+        ensures same_reference { self.new.bytes.ghost_name ≡ self.old.bytes.ghost_name }
+        ensures position { self.new.pos ≡ self.old.pos }
+        ensures length { self.new.len ≡ self.old.len }
+        ensures edited { self.new.bytes.now ≡ edit self.old.bytes.now spot.pos (U.Written.bytes_of value) }
+        ensures stands { StandsIn self.old.bytes.now spot.pos U.pointee spot.len (leaf_at U.kind self.old.bytes.now spot.pos) }
+        ensures leaf { WritesLeaf (leaf_at U.kind self.old.bytes.now spot.pos) (number_leaf spot.pos U.kind (U.Written.value_of value))
+            self.old.bytes.now self.new.bytes.now }
+    {
+        write_over::<U>(self.bytes, spot.pos, value);
+    }
+}

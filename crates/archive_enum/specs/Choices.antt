@@ -1,0 +1,119 @@
+-- Options and results as archives hold them: what they look like, and the laws of that.
+use Rattle.std.specs.Prelude.{◌≡◌, ℕ, zero, suc, ◌+◌, ◌<◌, ◌≤◌, max, Bool, ◌&&◌, Option, Some, IsTrue, is_some, nat_lt, nat_le, true, codes}
+use Rattle.std.proofs.Common.{refl, sym, ap, ◌∙◌, inl, inr, arith, Contains}
+use Rattle.std.proofs.lemmas.Bool.{and_parts}
+use Rattle.std.proofs.lemmas.List.{append-nil}
+use Rattle.std.proofs.lemmas.Bool.Decides.{nat_tests}
+use Rattle.std.proofs.lemmas.List.Elements.{Contains-append_cases}
+use Rattle.archive_check.specs.Shape.{Name, Shape, choice, no_part, part, no_variant, variant, variant_at}
+use Rattle.archive_check.specs.Layout.{Layout, up, size_of, align_of}
+use Rattle.archive_check.specs.Reads.{Schema}
+use Rattle.archive_check.specs.Defined.{Mentions, mentions_choice, mentions_other, mentions_variant, mentions_first, Reaches, reaches, reaches_through}
+use Rattle.archive_check.specs.Definitions.{Definitions, no_definition, both, listed, Knows, HasLayout, IsAlign}
+use Rattle.archive_check.specs.plan.BoundedSizes.{fits}
+use Rattle.archive_check.specs.SelfCheck.Laws.{IsCheckOf}
+
+-- nothing, or a value
+abbrev pub option_shape : Shape → Shape
+option_shape X = choice (codes "ArchivedOption") (variant no_part (variant (part X no_part) no_variant))
+
+-- a value behind the tag, both rounded up
+abbrev pub option_layout : Layout → Layout
+option_layout L = record { size = up (L.align + L.size) L.align; align = L.align }
+
+-- the definitions of the option's variants
+abbrev pub option_definitions : Definitions → Definitions
+option_definitions D = both no_definition (both (both D no_definition) no_definition)
+
+-- whether an option of it checks itself: its value does, and its size is below usize::MAX
+abbrev pub option_direct : Bool → Layout → Bool
+option_direct direct L = direct && nat_lt (option_layout L).size 18446744073709551615
+
+-- the first multiple of an alignment behind a tag
+pub up_first : (a : ℕ) → IsAlign a → up 1 a ≡ a
+up_first a (inl e) = rw e refl
+up_first a (inr (inl e)) = rw e refl
+up_first a (inr (inr (inl e))) = rw e refl
+up_first a (inr (inr (inr (inl e)))) = rw e refl
+up_first a (inr (inr (inr (inr (inl e))))) = rw e refl
+up_first a (inr (inr (inr (inr (inr e))))) = rw e refl
+
+align_low : (a : ℕ) → IsAlign a → 1 ≤ a
+align_low a (inl e) = omega arith
+align_low a (inr (inl e)) = omega arith
+align_low a (inr (inr (inl e))) = omega arith
+align_low a (inr (inr (inr (inl e)))) = omega arith
+align_low a (inr (inr (inr (inr (inl e))))) = omega arith
+align_low a (inr (inr (inr (inr (inr e))))) = omega arith
+
+-- the value ends within the option
+pub option_holds : (L : Layout) → IsAlign L.align → L.align + L.size ≤ (option_layout L).size
+option_holds L is = omega (arith, align_low L.align is)
+
+pub align_low_first : (L : Layout) → IsAlign L.align → 0 < L.align
+align_low_first L is = omega (arith, align_low L.align is)
+
+-- a tag that isn't 0 is 1
+pub option_tag : (X : Shape) (t : ℕ) → is_some (variant_at (variant no_part (variant (part X no_part) no_variant)) t) ≡ true → (t ≡ 0 → ⊥) → t ≡ 1
+option_tag X zero h n = absurd (n refl)
+option_tag X (suc zero) h n = refl
+option_tag X (suc (suc t)) h n = cc
+
+option_align : (a : ℕ) → 1 ≤ a → max 1 (max (max a 1) 1) ≡ a
+option_align a h = omega arith
+
+option_end : (a z : ℕ) → 1 ≤ a → up 1 a ≡ a → max 1 (max (up 1 a + z) 1) ≡ a + z
+option_end a z h e = omega (arith, e)
+
+-- under all definitions that come with the value
+pub option_has_layout : (D : Definitions) (X : Shape) (L : Layout) → IsAlign L.align → HasLayout D X L → HasLayout D (option_shape X) (option_layout L)
+option_has_layout D X L is h = record {
+  solved = λ s k. (
+      let z : size_of s.layouts X ≡ L.size = ap (λ (l : Layout). l.size) (h.solved s k) in
+      let a : align_of s.layouts X ≡ L.align = ap (λ (l : Layout). l.align) (h.solved s k) in
+      let low = align_low L.align is in
+      let align : align_of s.layouts (option_shape X) ≡ L.align = ap (λ b. max 1 (max (max b 1) 1)) a ∙ option_align L.align low in
+      let end : max 1 (max (up 1 (align_of s.layouts X) + size_of s.layouts X) 1) ≡ L.align + L.size = rw (a, z) (option_end L.align L.size low (up_first L.align is)) in
+      let size : size_of s.layouts (option_shape X) ≡ up (L.align + L.size) L.align = rw (end, align) refl in
+      λ i. record { size = size i; align = align i });
+}
+
+-- what is reached from the value is reached from the option
+option_mentions : (X : Shape) (n : Name) → Mentions n X → Mentions n (option_shape X)
+option_mentions X n m = mentions_choice (mentions_other (mentions_variant (mentions_first m)))
+
+option_reaches : {name : Name} (D : Definitions) (X : Shape) → Reaches (listed D) name X → Reaches (listed D) name (option_shape X)
+option_reaches D X (reaches m) = reaches (option_mentions X _ m)
+option_reaches D X (reaches_through m d r) = reaches_through (option_mentions X _ m) d r
+
+pub option_reached : (D : Definitions) (X : Shape) → ((name : Name) (Y : Shape) → Contains (listed D) (name, Y) → Reaches (listed D) name X)
+    → (name : Name) (Y : Shape) → Contains (listed D) (name, Y) → Reaches (listed D) name (option_shape X)
+option_reached D X h name Y c = option_reaches D X (h name Y c)
+
+no_more : (n : ℕ) → nat_le n n ≡ true
+no_more n = grind (arith, nat_tests)
+
+small_fits : (n : ℕ) → IsTrue (nat_lt n 18446744073709551615) → fits n ≡ Some n
+small_fits n h = grind (arith, nat_tests)
+
+known_below : (D : Definitions) (s : Schema) → Knows s D → Knows s (option_definitions D)
+known_below D s k = record {
+  has = (tt, ((k.has, tt), tt));
+  finite = λ name Y c. k.finite name Y (simp append-nil at c);
+  laid_out = k.laid_out;
+}
+
+-- the check of an option, where its value checks itself
+pub option_check : (D : Definitions) (X : Shape) (L : Layout) (direct : Bool) (E : Definitions) (Y : Shape) (n : ℕ) → (IsTrue direct → IsCheckOf D X L.size E Y n)
+    → IsTrue (option_direct direct L) → IsCheckOf D (option_shape X) (option_layout L).size (option_definitions D) (option_shape X) (option_layout L).size
+option_check D X L direct E Y n h says =
+    let (own, small) = and_parts direct (nat_lt (option_layout L).size 18446744073709551615) says in
+    let i = h own in
+    record {
+      within = no_more (option_layout L).size;
+      small = small_fits (option_layout L).size small;
+      order = i.order;
+      ordered = record { has = i.ordered.has; only = i.ordered.only; once = i.ordered.once; root = rw i.ordered.root refl; closed = i.ordered.closed; placed = i.ordered.placed };
+      known = known_below D;
+      leads = λ t k bytes p pending depth stop start seen o w. w;
+    }

@@ -1,0 +1,128 @@
+// What an option is in an archive.
+
+ghost use Rattle.std.specs.Prelude.{◌≡◌, ◌<◌, ◌≤◌, ◌^◌, min, IfOk, refl};
+ghost use Rattle.archive_check.specs.Shape.{one, choice, no_variant, variant};
+ghost use Rattle.archive_check.specs.Layout.{up};
+ghost use Rattle.archive_check.specs.Expressions.{shape_of, shapes_in};
+ghost use Rattle.archive_enum.specs.Choices.{option_shape, option_layout, option_definitions, option_direct, option_has_layout, option_reached, option_check};
+
+use crate::option::ArchivedOption;
+use archive_check::context::ArchiveContext;
+use archive_check::format::defs::Defs;
+use archive_check::format::error::Error;
+use archive_check::format::expr::Expr;
+use archive_check::format::traits::{ArchivePointee, Portable};
+use archive_check::self_check::{SelfCheck, check_choice};
+use std::alloc::{AllocError, Global};
+
+// A choice of two variants with these parts.
+#[tactic(auto, using(archive_check::proofs::format::Views::views))]
+fn choice_of(
+    alloc: Global,
+    name: &'static str,
+    first: Vec<Expr>,
+    second: Vec<Expr>,
+) -> Result<Expr, AllocError>
+    ensures { IfOk result (λ e. shape_of e ≡ choice name.now (variant (shapes_in first.items) (variant (shapes_in second.items) no_variant))) }
+{
+    let variants = vec![in alloc; first, second]?;
+    Ok(Expr::Choice(name, variants))
+}
+
+// How many bytes a choice takes whose longest variant ends there, or `usize::MAX` where that is less.
+fn choice_size(end: u128, align: usize) -> usize
+    requires positive { 0 < align }
+    requires few { end < 2 ^ 66 }
+    ensures { result ≡ min (up end align) 18446744073709551615 }
+{
+    let align = align as u128;
+    let size = (end + (align - 1)) / align * align;
+    if size < usize::MAX as u128 {
+        size as usize
+    } else {
+        usize::MAX
+    }
+}
+
+/// As a pointee it is one value.
+impl<T: Portable> ArchivePointee for ArchivedOption<T> {
+    type ArchivedMetadata = ();
+
+    ghost pointee = { one (option_shape T.shape) };
+
+    ghost definitions = { T.definitions };
+
+    ghost metadata_length = { λ _. 0 };
+
+    fn pointer_metadata(_metadata: &()) -> usize {
+        0
+    }
+}
+
+/// A choice named `ArchivedOption`: the byte 0 is `None`; behind the byte 1, at the next multiple of its alignment, stands the value. The bytes behind
+/// a `None` may be any.
+impl<T: Portable> Portable for ArchivedOption<T> {
+    ghost shape = { option_shape T.shape };
+
+    ghost layout = { option_layout T.layout };
+
+    type Check = ArchivedOption<T>;
+
+    ghost is_one = { refl };
+
+    ghost is_align = { T.is_align };
+
+    ghost has_layout = { option_has_layout T.definitions T.shape T.layout T.is_align T.has_layout };
+
+    ghost no_others = { option_reached T.definitions T.shape T.no_others };
+
+    ghost checks = { option_check T.definitions T.shape T.layout T.Check.direct T.Check.definitions T.Check.shape T.Check.span T.checks };
+
+    fn size() -> usize {
+        let align = T::align();
+        choice_size(align as u128 + T::size() as u128, align)
+    }
+
+    fn align() -> usize {
+        T::align()
+    }
+
+    fn expr(alloc: Global) -> Result<Expr, Error> {
+        let value = T::expr(alloc)?;
+        let none = vec![in alloc]?;
+        let some = vec![in alloc; value]?;
+        Ok(choice_of(alloc, "ArchivedOption", none, some)?)
+    }
+
+    fn define(alloc: Global, defs: &mut Defs) -> Result<(), Error> {
+        T::define(alloc, defs)
+    }
+}
+
+// The variants of an option: without a part, and with one.
+type OptionVariants<T> = ((), ((T, ()), ()));
+
+/// The tag, and then the value behind a 1.
+impl<T: Portable> SelfCheck for ArchivedOption<T> {
+    ghost shape = { option_shape T.shape };
+
+    ghost definitions = { option_definitions T.definitions };
+
+    ghost span = { (option_layout T.layout).size };
+
+    ghost direct = { option_direct T.Check.direct T.layout };
+
+    fn is_direct() -> bool {
+        T::Check::is_direct() && ArchivedOption::<T>::size() < usize::MAX
+    }
+
+    #[inline(always)]
+    fn check_at<C: ArchiveContext>(
+        bytes: &[u8],
+        at: usize,
+        refusal: &mut Error,
+        context: &mut C,
+    ) -> Option<()> {
+        check_choice::<OptionVariants<T>, C>("ArchivedOption", bytes, at, refusal, context)
+    }
+}
