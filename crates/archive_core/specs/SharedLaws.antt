@@ -1,8 +1,9 @@
 -- Names, keys and plans of shared and weak pointers: what their `Portable` and `Archive` cite.
 use Rattle.std.proofs.Common.{◌≡◌, ◌⊎◌, ⊎_elim, ℕ, ◌+◌, List, [], ◌∷◌, ◌++◌, refl, Option, Some, None, Bool, true, false, cond, ◌&&◌, nat_eq, Contains}
-use Rattle.archive_check.specs.Shape.{Name, Flavor, boxed, shared, weak, Pointee, Table}
-use Rattle.archive_check.specs.Defined.{Holds, Mentions, mentions_held, mentions_boxed, mentions_shared, mentions_weak, Reaches, reaches, reaches_through}
-use Rattle.archive_check.specs.Definitions.{Definitions}
+use Rattle.archive_check.specs.Shape.{Name, Flavor, boxed, shared, weak, Pointee}
+use Rattle.archive_check.specs.Defined.{Holds, Mentions, mentions_held, mentions_boxed, mentions_shared, mentions_weak}
+use Rattle.archive_check.specs.Definitions.{Definitions, NoOthers}
+use Rattle.archive_check.specs.NoOthers.{around_reached}
 use Rattle.archive_check.specs.Value.{Value, null, shared_value, hole}
 use Rattle.archive_check.specs.Reads.{Schema}
 use Rattle.archive_check.specs.Tour.{pointee_size, region_at}
@@ -120,10 +121,8 @@ mentions_as_weak name flavor P (mentions_held h) = held_nowhere name P h
 mentions_as_weak name flavor P (mentions_boxed m) = mentions_weak m
 
 -- what a box of it reaches, a shared pointer to it does
-pub shared_reaches : (table : Table) (name : Name) (flavor : Flavor) (P : Pointee) → Reaches table name (boxed P) → Reaches table name (shared flavor P)
-shared_reaches table name flavor P (reaches m) = reaches (mentions_as_shared name flavor P m)
-shared_reaches table name flavor P (reaches_through {n = n} m d r) = reaches_through (mentions_as_shared n flavor P m) d r
+pub shared_reaches : (D : Definitions) (flavor : Flavor) (P : Pointee) → NoOthers D (boxed P) → NoOthers D (shared flavor P)
+shared_reaches D flavor P h = around_reached D (boxed P) (shared flavor P) (λ n m. mentions_as_shared n flavor P m) h
 
-pub weak_reaches : (table : Table) (name : Name) (flavor : Flavor) (P : Pointee) → Reaches table name (boxed P) → Reaches table name (weak flavor P)
-weak_reaches table name flavor P (reaches m) = reaches (mentions_as_weak name flavor P m)
-weak_reaches table name flavor P (reaches_through {n = n} m d r) = reaches_through (mentions_as_weak n flavor P m) d r
+pub weak_reaches : (D : Definitions) (flavor : Flavor) (P : Pointee) → NoOthers D (boxed P) → NoOthers D (weak flavor P)
+weak_reaches D flavor P h = around_reached D (boxed P) (weak flavor P) (λ n m. mentions_as_weak n flavor P m) h

@@ -2,7 +2,6 @@
 
 ghost use Rattle.std.specs.Prelude.{◌≡◌, Bool, false, refl, codes};
 ghost use Rattle.std.proofs.Common.{inl, inr};
-ghost use Rattle.archive_check.specs.Definitions.{listed};
 ghost use Rattle.archive_check.specs.Expressions.{flavor_of};
 ghost use Rattle.archive_check.specs.Layout.{pointer_size};
 ghost use Rattle.archive_check.specs.SelfCheck.Laws.{by_schema};
@@ -126,7 +125,7 @@ impl<T: PortablePointee, F: Flavor> Portable for ArchivedRc<T, F> {
 
     ghost has_layout = { record { solved = λ s k. refl } };
 
-    ghost no_others = { λ name X c. shared_reaches (listed T.definitions) name (flavor_as F.name F.ALLOW_CYCLES) T.pointee (T.box_reaches name X c) };
+    ghost no_others = { shared_reaches T.definitions (flavor_as F.name F.ALLOW_CYCLES) T.pointee T.box_reaches };
 
     ghost checks = { λ direct. by_schema direct };
 
@@ -175,7 +174,7 @@ impl<T: PortablePointee, F: Flavor> Portable for ArchivedRcWeak<T, F> {
 
     ghost has_layout = { record { solved = λ s k. refl } };
 
-    ghost no_others = { λ name X c. weak_reaches (listed T.definitions) name (flavor_as F.name F.ALLOW_CYCLES) T.pointee (T.box_reaches name X c) };
+    ghost no_others = { weak_reaches T.definitions (flavor_as F.name F.ALLOW_CYCLES) T.pointee T.box_reaches };
 
     ghost checks = { λ direct. by_schema direct };
 

@@ -1,15 +1,15 @@
 -- Options and results as archives hold them: what they look like, and the laws of that.
 use Rattle.std.specs.Prelude.{◌≡◌, ℕ, zero, suc, ◌+◌, ◌<◌, ◌≤◌, max, Bool, ◌&&◌, Option, Some, IsTrue, is_some, nat_lt, nat_le, true, codes}
-use Rattle.std.proofs.Common.{refl, sym, ap, ◌∙◌, inl, inr, arith, Contains}
+use Rattle.std.proofs.Common.{refl, sym, ap, ◌∙◌, inl, inr, arith}
 use Rattle.std.proofs.lemmas.Bool.{and_parts}
 use Rattle.std.proofs.lemmas.List.{append-nil}
 use Rattle.std.proofs.lemmas.Bool.Decides.{nat_tests}
-use Rattle.std.proofs.lemmas.List.Elements.{Contains-append_cases}
 use Rattle.archive_check.specs.Shape.{Name, Shape, choice, no_part, part, no_variant, variant, variant_at}
 use Rattle.archive_check.specs.Layout.{Layout, up, size_of, align_of}
 use Rattle.archive_check.specs.Reads.{Schema}
-use Rattle.archive_check.specs.Defined.{Mentions, mentions_choice, mentions_other, mentions_variant, mentions_first, Reaches, reaches, reaches_through}
-use Rattle.archive_check.specs.Definitions.{Definitions, no_definition, both, listed, Knows, HasLayout, IsAlign}
+use Rattle.archive_check.specs.Defined.{Mentions, mentions_choice, mentions_other, mentions_variant, mentions_first}
+use Rattle.archive_check.specs.Definitions.{Definitions, no_definition, both, Knows, NoOthers, HasLayout, IsAlign}
+use Rattle.archive_check.specs.NoOthers.{around_reached}
 use Rattle.archive_check.specs.plan.BoundedSizes.{fits}
 use Rattle.archive_check.specs.SelfCheck.Laws.{IsCheckOf}
 
@@ -82,13 +82,8 @@ option_has_layout D X L is h = record {
 option_mentions : (X : Shape) (n : Name) → Mentions n X → Mentions n (option_shape X)
 option_mentions X n m = mentions_choice (mentions_other (mentions_variant (mentions_first m)))
 
-option_reaches : {name : Name} (D : Definitions) (X : Shape) → Reaches (listed D) name X → Reaches (listed D) name (option_shape X)
-option_reaches D X (reaches m) = reaches (option_mentions X _ m)
-option_reaches D X (reaches_through m d r) = reaches_through (option_mentions X _ m) d r
-
-pub option_reached : (D : Definitions) (X : Shape) → ((name : Name) (Y : Shape) → Contains (listed D) (name, Y) → Reaches (listed D) name X)
-    → (name : Name) (Y : Shape) → Contains (listed D) (name, Y) → Reaches (listed D) name (option_shape X)
-option_reached D X h name Y c = option_reaches D X (h name Y c)
+pub option_reached : (D : Definitions) (X : Shape) → NoOthers D X → NoOthers D (option_shape X)
+option_reached D X h = around_reached D X (option_shape X) (option_mentions X) h
 
 no_more : (n : ℕ) → nat_le n n ≡ true
 no_more n = grind (arith, nat_tests)
