@@ -78,8 +78,10 @@ fn outcome_of(alloc: Global, args: &[String]) -> Outcome {
 
 // The archive of the value that a word stands for.
 fn write(alloc: Global, format: Format, word: &String) -> Outcome {
-    let Some(value) = format.value(word) else {
-        return Outcome::BadArguments;
+    let value = match format.value(alloc, word) {
+        Ok(Some(value)) => value,
+        Ok(None) => return Outcome::BadArguments,
+        Err(error) => return Outcome::Refused(error),
     };
     let bytes = match value.write(alloc) {
         Ok(bytes) => bytes,

@@ -5,6 +5,7 @@ use archive_core::error::Error;
 use archive_core::option::ArchivedOption;
 use archive_core::primitive::ArchivedU32;
 use archive_core::string::ArchivedString;
+use archive_core::vec::ArchivedVec;
 use std::alloc::Global;
 
 /// A format, as the second word of a command names it.
@@ -16,15 +17,19 @@ pub enum Format {
     String,
     /// `opt-u32`, which is checked alone.
     OptU32,
+    /// `vec-u32`, written as digits between commas; no word at all is an empty list.
+    VecU32,
 }
 
 /// A value that a command gives.
-#[derive(Clone, Copy, Debug)]
+#[derive(Debug, Drop)]
 pub enum Value<'a> {
     /// A number.
     U32(u32),
     /// A text.
     String(&'a String),
+    /// Numbers.
+    VecU32(Vec<u32>),
 }
 
 impl Format {
@@ -34,17 +39,20 @@ impl Format {
             "u32" => Some(Format::U32),
             "string" => Some(Format::String),
             "opt-u32" => Some(Format::OptU32),
+            "vec-u32" => Some(Format::VecU32),
             _ => None,
         }
     }
 
-    /// The value that a word stands for: none of a format that is checked alone.
-    pub fn value(self, word: &String) -> Option<Value<'_>> {
-        match self {
-            Format::U32 => Some(Value::U32(number(word.as_str())?)),
+    /// The value that a word stands for: none where it stands for none, or the format is checked alone. Refused with 1 where memory is refused.
+    pub fn value(self, alloc: Global, word: &String) -> Result<Option<Value<'_>>, Error> {
+        let value = match self {
+            Format::U32 => number(word.as_str()).map(Value::U32),
             Format::String => Some(Value::String(word)),
             Format::OptU32 => None,
-        }
+            Format::VecU32 => numbers(alloc, word.as_str())?.map(Value::VecU32),
+        };
+        Ok(value)
     }
 
     /// Whether the bytes are an archive of the format.
@@ -59,6 +67,9 @@ impl Format {
             Format::OptU32 => {
                 access::<ArchivedOption<ArchivedU32>>(alloc, bytes)?;
             }
+            Format::VecU32 => {
+                access::<ArchivedVec<ArchivedU32>>(alloc, bytes)?;
+            }
         }
         Ok(())
     }
@@ -70,6 +81,7 @@ impl Value<'_> {
         match self {
             Value::U32(number) => to_bytes(alloc, &number),
             Value::String(text) => to_bytes(alloc, text),
+            Value::VecU32(numbers) => to_bytes(alloc, &numbers),
         }
     }
 }
@@ -81,4 +93,19 @@ fn number(word: &str) -> Option<u32> {
     } else {
         None
     }
+}
+
+// The numbers that stand between commas.
+fn numbers(alloc: Global, word: &str) -> Result<Option<Vec<u32>>, Error> {
+    let mut all = Vec::new(alloc);
+    if word.is_empty() {
+        return Ok(Some(all));
+    }
+    for digits in word.split(',') {
+        let Some(number) = number(digits) else {
+            return Ok(None);
+        };
+        all.push(number)?;
+    }
+    Ok(Some(all))
 }
