@@ -31,10 +31,7 @@ fn values_are_written(rt: HostRuntime) -> Result<(), Fail> {
             "write|string|hello world",
             "68656c6c6f20776f726c64008b000000f4ffffff\n",
         ),
-        (
-            "write|vec-u32|1,2",
-            "0100000002000000f8ffffff02000000\n",
-        ),
+        ("write|vec-u32|1,2", "0100000002000000f8ffffff02000000\n"),
         ("write|vec-u32|", "0000000000000000\n"),
         ("write|string|hi", "6869ffffffffffff\n"),
         ("write|string|", "ffffffffffffffff\n"),

@@ -26,7 +26,7 @@ pub is_at_same : (b : Cursor) (w : WriterState) → IsAt b w → b ≡ cursor w
 is_at_same b w h = λ i. record { place = sym h.place i; states = λ k. sym (h.keys k) i }
 
 -- and the keys that are finished then stand below it
-below_later : (s : Schema) → LaidOut s → (names : NameMap) {X : Shape} {v w : Value} {a b : Cursor} {C : List Step} (mid : WriterState) → Plans s names X v a w C b → IsAt b mid → AreBelow a
+pub below_later : (s : Schema) → LaidOut s → (names : NameMap) {X : Shape} {v w : Value} {a b : Cursor} {C : List Step} (mid : WriterState) → Plans s names X v a w C b → IsAt b mid → AreBelow a
     → AreBelow (cursor mid)
 below_later s l names {b = b} mid plans at below = subst AreBelow (is_at_same b mid at) (plans_below s l names plans below)
 

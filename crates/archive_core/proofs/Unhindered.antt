@@ -11,7 +11,7 @@ use Rattle.archive_check.specs.declared.format.error.Error.{Error}
 use Rattle.archive_check.proofs.Elements.{contains_cases}
 use Rattle.archive_core.specs.Writing.{NameMap}
 use Rattle.archive_core.specs.Plans.{Cursor, at_start, Step, lays, plans_leaf, plans_one, plans_region, PlansRegion}
-use Rattle.archive_core.specs.Causes.{IsTooWide, part_itself, part_of_one, stands_too_far, too_wide, text_too_long, HindersPart, anywhere, too_far_from_here, HindersPartAt, part_hinders, length_hinders, end_hinders, item_hinders, HindersStep, HindersSome, HindersRegion}
+use Rattle.archive_core.specs.Causes.{IsTooWide, part_itself, part_of_one, stands_too_far, too_wide, text_too_long, HindersPart, shared_too_long, anywhere, too_far_from_here, HindersPartAt, part_hinders, length_hinders, end_hinders, item_hinders, HindersStep, HindersSome, HindersRegion}
 
 -- a schema of no names
 abbrev bare : Schema
@@ -23,6 +23,7 @@ knows_nothing = record { has = tt; finite = λ name X c. absurd (omega (arith, c
 part_unhindered : (kind : Kind) (z : ℤ) (q : ℕ) (e : Error) → (IsTooWide kind z → ⊥) → HindersPartAt (leaf kind) q (number z) e → ⊥
 part_unhindered kind z q e fits (anywhere (stands_too_far owner at far)) = elim owner [ ]
 part_unhindered kind z q e fits (anywhere (too_wide wide)) = fits wide
+part_unhindered kind z q e fits (anywhere (shared_too_long owner long)) = elim owner [ ]
 part_unhindered kind z q e fits (too_far_from_here owner at far) = elim owner [ ]
 
 step_unhindered : (s : Schema) (kind : Kind) (z : ℤ) (t : ℕ) (e : Error) → (IsTooWide kind z → ⊥) → t + (region_at s t (one (leaf kind)) 0 false).size < 2 ^ 64

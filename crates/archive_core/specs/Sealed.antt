@@ -1,5 +1,5 @@
 -- What a seal writes over, and that it stays legal.
-use Rattle.std.proofs.Common.{◌≡◌, ◌≢◌, ℕ, ℤ, pos, ◌/◌, ◌+◌, ◌==◌, if◌then◌else◌, List, Contains, slice_index, true, false, refl, sym, ap, ◌∙◌}
+use Rattle.std.proofs.Common.{◌≡◌, ◌≢◌, ℕ, ℤ, pos, ◌/◌, ◌+◌, ◌==◌, if◌then◌else◌, List, Contains, slice_index, true, false, refl, sym, ap, subst, ◌∙◌}
 use Rattle.std.specs.Int.{Width, w8, w16, w32, w64, w128, from_le_bytes}
 use Rattle.archive_check.specs.Shape.{Sign, unsigned, signed, Kind, number as number_kind, non_zero, Shape, Pointee}
 use Rattle.archive_check.specs.Layout.{kind_size}
@@ -55,3 +55,7 @@ non_zero_holds kind sign w bytes z e h zero =
     let says : with_sign sign w (from_le_bytes w bytes) ≡ z = ap (λ k. kind_value k bytes) (sym e) ∙ h.says in
     let plain : IsLegal (number_kind sign w) bytes = rw e at h.legal in
     record { legal = record { size = plain.size; number = not_zero_number sign w (from_le_bytes w bytes) z says zero }; says = says }
+
+-- and it has as many bytes there
+pub non_zero_size : (kind : Kind) (sign : Sign) (w : Width) (n : ℕ) → kind ≡ number_kind sign w → kind_size kind ≡ n → kind_size (non_zero sign w) ≡ n
+non_zero_size kind sign w n e h = subst (λ k. kind_size k ≡ n) e h

@@ -2,9 +2,9 @@
 
 mod memory;
 mod numbers;
+mod options;
 mod owner_reading;
 mod owner_views;
-mod options;
 mod positions;
 mod reading;
 mod readme;

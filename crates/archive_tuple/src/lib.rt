@@ -98,19 +98,34 @@ pub type ArchivedTuple6<A, B, C, D, E, F> = ArchivedTuple<(A, (B, (C, (D, (E, (F
 pub type ArchivedTuple7<A, B, C, D, E, F, G> = ArchivedTuple<(A, (B, (C, (D, (E, (F, (G, ())))))))>;
 
 /// An archived tuple of 8 parts.
-pub type ArchivedTuple8<A, B, C, D, E, F, G, H> = ArchivedTuple<(A, (B, (C, (D, (E, (F, (G, (H, ()))))))))>;
+pub type ArchivedTuple8<A, B, C, D, E, F, G, H> = ArchivedTuple<
+    (A, (B, (C, (D, (E, (F, (G, (H, ())))))))),
+>;
 
 /// An archived tuple of 9 parts.
-pub type ArchivedTuple9<A, B, C, D, E, F, G, H, I> = ArchivedTuple<(A, (B, (C, (D, (E, (F, (G, (H, (I, ())))))))))>;
+pub type ArchivedTuple9<A, B, C, D, E, F, G, H, I> = ArchivedTuple<
+    (A, (B, (C, (D, (E, (F, (G, (H, (I, ()))))))))),
+>;
 
 /// An archived tuple of 10 parts.
-pub type ArchivedTuple10<A, B, C, D, E, F, G, H, I, J> = ArchivedTuple<(A, (B, (C, (D, (E, (F, (G, (H, (I, (J, ()))))))))))>;
+pub type ArchivedTuple10<A, B, C, D, E, F, G, H, I, J> = ArchivedTuple<
+    (A, (B, (C, (D, (E, (F, (G, (H, (I, (J, ())))))))))),
+>;
 
 /// An archived tuple of 11 parts.
-pub type ArchivedTuple11<A, B, C, D, E, F, G, H, I, J, K> = ArchivedTuple<(A, (B, (C, (D, (E, (F, (G, (H, (I, (J, (K, ())))))))))))>;
+pub type ArchivedTuple11<A, B, C, D, E, F, G, H, I, J, K> = ArchivedTuple<
+    (A, (B, (C, (D, (E, (F, (G, (H, (I, (J, (K, ()))))))))))),
+>;
 
 /// An archived tuple of 12 parts.
-pub type ArchivedTuple12<A, B, C, D, E, F, G, H, I, J, K, L> = ArchivedTuple<(A, (B, (C, (D, (E, (F, (G, (H, (I, (J, (K, (L, ()))))))))))))>;
+pub type ArchivedTuple12<A, B, C, D, E, F, G, H, I, J, K, L> = ArchivedTuple<
+    (A, (B, (C, (D, (E, (F, (G, (H, (I, (J, (K, (L, ())))))))))))),
+>;
 
 /// An archived tuple of 13 parts.
-pub type ArchivedTuple13<A, B, C, D, E, F, G, H, I, J, K, L, M> = ArchivedTuple<(A, (B, (C, (D, (E, (F, (G, (H, (I, (J, (K, (L, (M, ())))))))))))))>;
+pub type ArchivedTuple13<A, B, C, D, E, F, G, H, I, J, K, L, M> = ArchivedTuple<
+    (
+        A,
+        (B, (C, (D, (E, (F, (G, (H, (I, (J, (K, (L, (M, ())))))))))))),
+    ),
+>;

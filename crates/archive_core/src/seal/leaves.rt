@@ -9,7 +9,7 @@ ghost use Rattle.archive_check.specs.Revised.{WritesLeaf};
 ghost use Rattle.archive_check.specs.LittleEndian.{little_bytes, little_number};
 ghost use Rattle.archive_check.specs.Shape.{Kind as KindOf, bool, number, signed, unsigned, leaf, non_zero, one};
 ghost use Rattle.archive_check.specs.Viewed.{Viewed};
-ghost use Rattle.archive_core.specs.Sealed.{Holds, StandsIn, leaf_at, value_holds, non_zero_holds};
+ghost use Rattle.archive_core.specs.Sealed.{Holds, StandsIn, leaf_at, value_holds, non_zero_holds, non_zero_size};
 ghost use Rattle.archive_num.specs.Digits.{is_zero, bool_byte};
 ghost use Rattle.archive_num.specs.Leaves.{bool-leaf, bool-number, bool-value, number-leaf, signed-number, signed-value, unsigned-number, unsigned-value};
 
@@ -64,7 +64,7 @@ impl<N: Integer> SealedLeaf for NonZero<N> {
 
     ghost same_pointee = { refl };
 
-    ghost same_size = { N.size_law };
+    ghost same_size = { non_zero_size N.kind N.sign N.width N.byte_count N.integer_law N.size_law };
 
     ghost holds = { λ x fits other. non_zero_holds N.kind N.sign N.width (N.bytes_of x) (N.value_of x) N.integer_law
         (value_holds N.value_of N.number_of N.bytes_of N.kind x N.value_law (N.number_law x fits) (N.leaf_law x fits)) other };

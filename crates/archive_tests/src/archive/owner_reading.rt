@@ -36,8 +36,11 @@ fn boxes_come_back(rt: HostRuntime) -> Result<(), Fail> {
 #[test]
 fn slices_and_single_values_come_back(rt: HostRuntime) -> Result<(), Fail> {
     let view = access::<ArchivedVec<ArchivedU32>>(rt.alloc(), ONE_AND_TWO)?;
-    let numbers: Vec<u32> =
-        ArchivedSlice::<ArchivedU32>::deserialize_unsized(rt.alloc(), view.as_slice(), &mut ())?;
+    let numbers: Vec<u32> = ArchivedSlice::<ArchivedU32>::deserialize_unsized(
+        rt.alloc(),
+        view.as_slice(),
+        &mut (),
+    )?;
     assert_eq!(rt; numbers.as_slice(), [1, 2].as_slice());
     let number = access::<ArchivedU32>(rt.alloc(), b"\x07\0\0\0")?;
     let back: u32 = ArchivedU32::deserialize_unsized(rt.alloc(), number, &mut ())?;
