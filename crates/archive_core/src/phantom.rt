@@ -67,7 +67,6 @@ impl<T, S: Writer + Keys> Serialize<S> for PhantomData<T> {
 }
 
 impl<T, D: Entries> Deserialize<PhantomData<T>, D> for PhantomData<T> {
-    #[tactic(auto, using(crate::proofs::Nothing::empty_product_read_back))]
     fn deserialize_part(
         _alloc: Global,
         part: RawView<'_>,
