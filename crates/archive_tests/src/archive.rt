@@ -2,6 +2,7 @@
 
 mod memory;
 mod numbers;
+mod owners;
 mod positions;
 mod reading;
 mod readme;
