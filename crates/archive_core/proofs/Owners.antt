@@ -32,6 +32,13 @@ module _ (D : Definitions) (P : Pointee) (n : ℕ) (ks : List Naming) (v : Value
         (λ q C b x. inr (0, boxed P, box (hole (to_pointee q P n)), part_itself, stands_too_far owner_box refl (omega (arith, x.0, far)))) (planned below s names k m);
   })
 
+-- a region of one value, as what its type says that it is
+pub serialized_pointee : (D : Definitions) (P : Pointee) (X : Shape) (ks : List Naming) (v : Value) (t : ℕ) (old new : WriterState) → P ≡ one X → SerializedRegion D (one X) 0 ks v t old new → SerializedRegion D P 0 ks v t old new
+serialized_pointee D P X ks v t old new is h = rw is h
+
+pub pointee_refused : (D : Definitions) (P : Pointee) (X : Shape) (ks : List Naming) (v : Value) (old new : WriterState) (e : Error) → P ≡ one X → IsRegionRefused D (one X) 0 ks v old new e → IsRegionRefused D P 0 ks v old new e
+pointee_refused D P X ks v old new e is h = rw is h
+
 -- the owner of one value
 module _ (D : Definitions) (P : Pointee) (X : Shape) (ks : List Naming) (v : Value) (is : P ≡ one X) where
   pub serialized_boxed_one : (t : ℕ) (old new : WriterState) → SerializedRegion D (one X) 0 ks v t old new → Serialized D (boxed P) ks (box v) (box (hole (to_pointee t P 0))) old new

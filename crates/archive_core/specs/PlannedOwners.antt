@@ -1,6 +1,6 @@
 -- The plans of one value in a region of its own, of elements in one, and of the owners of regions.
-use Rattle.std.specs.Prelude.{◌≡◌, ℕ, ◌*◌, ◌+◌, suc, List, [], ◌∷◌, ◌++◌, length, false}
-use Rattle.std.proofs.Common.{refl}
+use Rattle.std.specs.Prelude.{◌≡◌, ℕ, ◌*◌, ◌+◌, suc, List, [], ◌∷◌, ◌++◌, length, true, false}
+use Rattle.std.proofs.Common.{refl, true≢false}
 use Rattle.archive_check.specs.Shape.{Shape, boxed, vec, Pointee, one, run}
 use Rattle.archive_check.specs.Layout.{up, size_of, align_of}
 use Rattle.archive_check.specs.Definitions.{Definitions}
@@ -26,6 +26,14 @@ module _ (D : Definitions) (X : Shape) (ks : List Naming) (v : Value) where
 
   pub one_planned : HasPlan D X ks v → HasRegionPlan D (one X) 0 ks v
   one_planned h a s names k n = one_plan s names a (λ w C b. Unit {0}) (λ t C b. Unit {0}) (h a s names k n) _ refl tt
+
+-- what is the region of one value
+pub pointee_planned : (D : Definitions) (P : Pointee) (X : Shape) → P ≡ one X → (ks : List Naming) (v : Value) → HasPlan D X ks v → HasRegionPlan D P 0 ks v
+pointee_planned D P X is ks v h = rw is (one_planned D X ks v h)
+
+-- what has a length isn't one value
+pub is_long : {A : Type 0} → true ≡ false → A
+is_long e = absurd (true≢false e)
 
 -- elements in one
 module _ (D : Definitions) (X : Shape) (n : ℕ) (ks : List Naming) (vs : Values) where

@@ -12,12 +12,17 @@ ghost use Rattle.archive_check.specs.Layout.{kind_size};
 ghost use Rattle.archive_core.specs.Keyed.{number_keyed};
 ghost use Rattle.archive_core.specs.Causes.{HindersAt, IsRefused};
 ghost use Rattle.archive_core.specs.Planned.{leaf_planned};
+ghost use Rattle.archive_core.specs.PlannedOwners.{one_planned, pointee_planned};
 ghost use Rattle.archive_core.specs.Plans.{Serialized};
 ghost use Rattle.archive_core.specs.Writing.{Fresh, Resolves};
 ghost use Rattle.archive_write.specs.Written.{GoesOn};
 
 use crate::place::Place;
-use crate::traits::{Archive, Deserialize, Entries, Keys, Portable, Serialize};
+use crate::ser::serialize_one;
+use crate::traits::{
+    Archive, ArchivePointee, ArchiveUnsized, ArchivedMetadata, Deserialize, Entries, Keys,
+    Portable, Serialize, SerializeUnsized,
+};
 use crate::view::{RawView, Ref};
 use archive_check::format::error::Error;
 pub use archive_nonzero::{
@@ -30,7 +35,7 @@ pub use archive_num::{
     ArchivedU32, ArchivedU64, ArchivedU128, ArchivedUsize, FixedIsize, FixedUsize, Integer,
     LittleEndian, Native,
 };
-use archive_write::ser::Writer;
+use archive_write::ser::{ResolverAlloc, Writer};
 use std::alloc::Global;
 
 mod non_zero;
@@ -41,6 +46,10 @@ mod sources;
 pub trait Source: Native {
     /// Its archived type.
     type Format: Portable;
+
+    /// What stands in a pointer to it beside the offset: nothing.
+    fn metadata() -> <Self::Format as ArchivePointee>::ArchivedMetadata
+        ensures { Self.Format.metadata_length result ≡ 0 };
 
     // The format has the size of the bytes.
     ghost same_size: { Self.Format.layout.size ≡ Self.byte_count };
@@ -113,6 +122,35 @@ impl<N: Source, S: Writer + Keys> Serialize<S> for N {
     }
 }
 
+/// As a region of its own.
+impl<N: Source> ArchiveUnsized for N {
+    type Archived = N::Format;
+
+    ghost source_length = { λ _. 0 };
+
+    ghost meaning = { λ n. number (N.value_of n) };
+
+    ghost keys = { λ _. [] };
+
+    ghost keyed = { λ n. number_keyed (N.value_of n) };
+
+    ghost one_length = { λ _ _. refl };
+
+    ghost planned = { λ n. pointee_planned N.Format.definitions N.Format.pointee N.Format.shape N.Format.is_one [] (number (N.value_of n))
+        (leaf_planned N.Format.definitions N.Format.shape N.kind [] (N.value_of n) N.same_shape) };
+
+    fn archived_metadata(&self) -> Result<ArchivedMetadata<N>, Error> {
+        Ok(N::metadata())
+    }
+}
+
+impl<N: Source, S: Writer + ResolverAlloc> SerializeUnsized<S> for N {
+    #[tactic(auto, using(crate::proofs::Owners::serialized_pointee, crate::proofs::Owners::pointee_refused))]
+    fn serialize_unsized(&self, serializer: &mut S) -> Result<usize, Error> {
+        serialize_one(self, serializer)
+    }
+}
+
 impl<N: Native> Archive for LittleEndian<N> {
     type Archived = LittleEndian<N>;
 
@@ -156,6 +194,33 @@ impl<N: Native, S: Writer + Keys> Serialize<S> for LittleEndian<N> {
         ensures succeeds { IsOk result }
     {
         Ok(())
+    }
+}
+
+/// As a region of its own.
+impl<N: Native> ArchiveUnsized for LittleEndian<N> {
+    type Archived = LittleEndian<N>;
+
+    ghost source_length = { λ _. 0 };
+
+    ghost meaning = { λ n. number (N.value_of n) };
+
+    ghost keys = { λ _. [] };
+
+    ghost keyed = { λ n. number_keyed (N.value_of n) };
+
+    ghost one_length = { λ _ _. refl };
+
+    ghost planned = { λ n. one_planned no_definition (leaf N.kind) [] (number (N.value_of n)) (leaf_planned no_definition (leaf N.kind) N.kind [] (N.value_of n) refl) };
+
+    fn archived_metadata(&self) -> Result<(), Error> {
+        Ok(())
+    }
+}
+
+impl<N: Native, S: Writer + ResolverAlloc> SerializeUnsized<S> for LittleEndian<N> {
+    fn serialize_unsized(&self, serializer: &mut S) -> Result<usize, Error> {
+        serialize_one(self, serializer)
     }
 }
 

@@ -20,6 +20,7 @@ ghost use Rattle.archive_core.specs.Causes.{HindersAt, IsRefused, IsRegionRefuse
 ghost use Rattle.archive_core.specs.Keyed.{text_keyed};
 ghost use Rattle.archive_core.specs.Offsets.{distance, IsTooFar};
 ghost use Rattle.archive_core.specs.Planned.{string_planned, text_planned};
+ghost use Rattle.archive_core.specs.PlannedOwners.{is_long, one_planned};
 ghost use Rattle.archive_core.specs.Plans.{Serialized, SerializedRegion};
 ghost use Rattle.archive_core.specs.Strings.{string_form, string_flat};
 ghost use Rattle.archive_core.specs.TextPlans.{HindersStringAt, ExplainsTextRefusal, ExplainsStringRefusal};
@@ -29,6 +30,7 @@ pub mod repr;
 
 use crate::place::Place;
 use crate::primitive::ArchivedUsize;
+use crate::ser::serialize_one;
 use crate::traits::{
     Archive, ArchivePointee, ArchiveUnsized, Deserialize, DeserializeUnsized, Entries, Keys,
     LayoutRaw, Portable, PortablePointee, Serialize, SerializeUnsized,
@@ -41,7 +43,7 @@ use archive_check::format::error::Error;
 use archive_check::format::layout::Layout;
 use archive_check::self_check::{BoxStrCheck, StringCheck};
 use archive_check::shape::{Defs, Expr, Pointee};
-use archive_write::ser::Writer;
+use archive_write::ser::{ResolverAlloc, Writer};
 use std::alloc::Global;
 use std::marker::Model;
 
@@ -180,6 +182,8 @@ impl<'a> ArchiveUnsized for Text<'a> {
     ghost keys = { λ _. [] };
 
     ghost keyed = { λ t. text_keyed t.text.now };
+
+    ghost one_length = { λ t e. is_long e };
 
     ghost planned = { λ t. text_planned no_definition [] t.text.now };
 
@@ -342,6 +346,33 @@ impl<S: Writer + Keys> Serialize<S> for String {
         ensures cause { IfErr result (ExplainsStringRefusal (string_bytes self.now) (S.place serializer.old) (S.state serializer.old) (S.state serializer.new)) }
     {
         ArchivedString::serialize_from_str(self.as_str(), serializer)
+    }
+}
+
+/// As a region of its own.
+impl ArchiveUnsized for String {
+    type Archived = ArchivedString;
+
+    ghost source_length = { λ _. 0 };
+
+    ghost meaning = { λ s. text_value (string_bytes s) };
+
+    ghost keys = { λ _. [] };
+
+    ghost keyed = { λ s. text_keyed (string_bytes s) };
+
+    ghost one_length = { λ _ _. refl };
+
+    ghost planned = { λ s. one_planned no_definition str_shape [] (text_value (string_bytes s)) (string_planned no_definition [] (string_bytes s)) };
+
+    fn archived_metadata(&self) -> Result<(), Error> {
+        Ok(())
+    }
+}
+
+impl<S: Writer + ResolverAlloc> SerializeUnsized<S> for String {
+    fn serialize_unsized(&self, serializer: &mut S) -> Result<usize, Error> {
+        serialize_one(self, serializer)
     }
 }
 

@@ -1,7 +1,8 @@
 //! What is archived and how, and what is read back. The traits are those of rkyv 0.8.18; their laws are our own.
 
-ghost use Rattle.std.specs.Prelude.{◌≡◌, ◌<◌, ℕ, length, IfOk, OnOk, IfErr, IsErr, List};
+ghost use Rattle.std.specs.Prelude.{◌≡◌, ◌<◌, ℕ, length, IfOk, OnOk, IfErr, IsErr, List, false};
 ghost use Rattle.archive_check.specs.Entries.{ReadsBack, RefusesReading};
+ghost use Rattle.archive_check.specs.Layout.{has_length};
 ghost use Rattle.archive_check.specs.Value.{Value};
 ghost use Rattle.archive_check.specs.Viewed.{Viewed};
 ghost use Rattle.archive_check.specs.declared.format.error.Error.TheVariants.{LengthTooLarge};
@@ -134,6 +135,9 @@ pub trait ArchiveUnsized {
 
     // Its keys are those that its meaning leads to.
     ghost keyed: { (v : Self) → IsKeyed (keys v) (meaning v) };
+
+    // Of one value the length is 0.
+    ghost one_length: { (v : Self) → has_length Self.Archived.pointee ≡ false → source_length v ≡ 0 };
 
     // There is a plan of it, with its region.
     ghost planned: { (v : Self) → HasRegionPlan Self.Archived.definitions Self.Archived.pointee (source_length v) (keys v) (meaning v) };

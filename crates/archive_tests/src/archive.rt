@@ -5,6 +5,7 @@ mod numbers;
 mod options;
 mod owner_reading;
 mod owner_views;
+mod owners;
 mod positions;
 mod reading;
 mod readme;

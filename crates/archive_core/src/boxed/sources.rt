@@ -1,24 +1,25 @@
 // Boxes as sources: what they own as a region, and the pointer to it.
 
-ghost use Rattle.std.specs.Prelude.{◌≡◌, ◌≤◌, ℕ, ⊤, IfOk, OnOk, IfErr, FitsSigned, length, false};
+ghost use Rattle.std.specs.Prelude.{◌≡◌, ◌⊎◌, ◌<◌, ◌≤◌, ℕ, ⊤, IfOk, OnOk, IfErr, FitsSigned, length, false, refl};
 ghost use Rattle.std.specs.Int.{w32};
 ghost use Rattle.archive_check.specs.Shape.{boxed};
 ghost use Rattle.archive_check.specs.Layout.{pointer_size, has_length};
 ghost use Rattle.archive_check.specs.Value.{box, hole};
+ghost use Rattle.archive_check.specs.declared.format.error.Error.TheVariants.{LengthTooLarge};
 ghost use Rattle.archive_core.specs.Causes.{HindersAt, IsRefused};
 ghost use Rattle.archive_core.specs.Keyed.{box_keyed};
 ghost use Rattle.archive_core.specs.Offsets.{distance, IsTooFar};
 ghost use Rattle.archive_core.specs.OwnerBytes.{owner_bytes};
-ghost use Rattle.archive_core.specs.PlannedOwners.{boxed_one_planned};
+ghost use Rattle.archive_core.specs.PlannedOwners.{one_planned, boxed_one_planned};
 ghost use Rattle.archive_core.specs.Plans.{Serialized};
 ghost use Rattle.archive_core.specs.Writing.{Fresh, Resolves, to_pointee};
 ghost use Rattle.archive_write.specs.Written.{GoesOn};
 
 use super::ArchivedBox;
 use crate::place::Place;
-use crate::rel_ptr::emplace_pointer;
+use crate::rel_ptr::{Metadata, emplace_pointer};
 use crate::ser::serialize_one;
-use crate::traits::{Archive, PortablePointee, Serialize, SerializeUnsized};
+use crate::traits::{Archive, ArchiveUnsized, PortablePointee, Serialize, SerializeUnsized};
 use archive_check::format::error::Error;
 use archive_num::FixedUsize;
 use archive_write::ser::{ResolverAlloc, Writer};
@@ -89,6 +90,26 @@ impl<T: PortablePointee> ArchivedBox<T> {
         let Place { bytes, pos, .. } = place;
         emplace_pointer(T::has_length(), resolver.pos as usize, count, pos, bytes)
     }
+
+    /// The same with the length of `value`. Refused with `LengthTooLarge`, 5, exactly where that is above 4,294,967,295.
+    pub fn resolve_from_ref<U: ArchiveUnsized<Archived = T>>(
+        value: &U,
+        resolver: BoxResolver,
+        place: Place<'_, ArchivedBox<T>>,
+    ) -> Result<(), Error>
+    where
+        T::ArchivedMetadata: Metadata,
+        requires sized { length place.bytes.now ≡ pointer_size T.pointee }
+        ensures resolved { OnOk result (Resolves T.definitions place.entry.pos place.exit.0.now (boxed T.pointee) (box (hole (to_pointee resolver T.pointee (U.source_length value.now))))) }
+        ensures written { OnOk result (place.exit.0.now ≡ owner_bytes (has_length T.pointee) (distance place.entry.pos resolver) (U.source_length value.now)) }
+        ensures refused { IfErr result (λ e. (place.exit.0.now ≡ place.entry.bytes.now)
+            × (((e ≡ LengthTooLarge) × (4294967295 < U.source_length value.now)) ⊎ IsTooFar e (distance place.entry.pos resolver))) }
+    {
+        let Place { bytes, pos, .. } = place;
+        let metadata = value.archived_metadata()?;
+        let count = T::pointer_metadata(&metadata) as FixedUsize;
+        Self::resolve_from_raw_parts(resolver, count, Place::new(pos, bytes))
+    }
 }
 
 impl<T: Archive> Archive for Box<T> {
@@ -142,5 +163,33 @@ impl<S: Writer + ResolverAlloc, T: Serialize<S>> Serialize<S> for Box<T> {
             return Err(Error::PositionTooLarge);
         };
         Ok(BoxResolver { pos })
+    }
+}
+
+/// As a region of its own: the box itself, not what it owns.
+impl<T: Archive> ArchiveUnsized for Box<T> {
+    type Archived = ArchivedBox<T::Archived>;
+
+    ghost source_length = { λ _. 0 };
+
+    ghost meaning = { λ b. box (T.meaning b.value) };
+
+    ghost keys = { λ b. T.keys b.value };
+
+    ghost keyed = { λ b. box_keyed (T.keys b.value) (T.meaning b.value) (T.keyed b.value) };
+
+    ghost one_length = { λ _ _. refl };
+
+    ghost planned = { λ b. one_planned T.Archived.definitions (boxed T.Archived.pointee) (T.keys b.value) (box (T.meaning b.value))
+        (boxed_one_planned T.Archived.definitions T.Archived.pointee T.Archived.shape T.Archived.is_one (T.keys b.value) (T.meaning b.value) (T.planned b.value)) };
+
+    fn archived_metadata(&self) -> Result<(), Error> {
+        Ok(())
+    }
+}
+
+impl<S: Writer + ResolverAlloc, T: Serialize<S>> SerializeUnsized<S> for Box<T> {
+    fn serialize_unsized(&self, serializer: &mut S) -> Result<usize, Error> {
+        serialize_one(self, serializer)
     }
 }

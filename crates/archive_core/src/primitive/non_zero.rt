@@ -11,18 +11,22 @@ ghost use Rattle.archive_check.specs.Entries.{ReadsBack};
 ghost use Rattle.archive_core.specs.Keyed.{number_keyed};
 ghost use Rattle.archive_core.specs.Causes.{HindersAt, IsRefused};
 ghost use Rattle.archive_core.specs.Planned.{leaf_planned};
+ghost use Rattle.archive_core.specs.PlannedOwners.{one_planned};
 ghost use Rattle.archive_core.specs.Plans.{Serialized};
 ghost use Rattle.archive_core.specs.Writing.{Fresh, Resolves};
 ghost use Rattle.archive_write.specs.Written.{GoesOn};
 
 use super::write_leaf;
 use crate::place::Place;
-use crate::traits::{Archive, Deserialize, Entries, Keys, Serialize};
+use crate::ser::serialize_one;
+use crate::traits::{
+    Archive, ArchiveUnsized, Deserialize, Entries, Keys, Serialize, SerializeUnsized,
+};
 use crate::view::{RawView, Ref};
 use archive_check::format::error::Error;
 use archive_nonzero::NonZero;
 use archive_num::Integer;
-use archive_write::ser::Writer;
+use archive_write::ser::{ResolverAlloc, Writer};
 use std::alloc::Global;
 
 impl<N: Integer> Archive for NonZero<N> {
@@ -68,6 +72,34 @@ impl<N: Integer, S: Writer + Keys> Serialize<S> for NonZero<N> {
         ensures succeeds { IsOk result }
     {
         Ok(())
+    }
+}
+
+/// As a region of its own.
+impl<N: Integer> ArchiveUnsized for NonZero<N> {
+    type Archived = NonZero<N>;
+
+    ghost source_length = { λ _. 0 };
+
+    ghost meaning = { λ n. number (N.value_of n) };
+
+    ghost keys = { λ n. [] };
+
+    ghost keyed = { λ n. number_keyed (N.value_of n) };
+
+    ghost one_length = { λ _ _. refl };
+
+    ghost planned = { λ n. one_planned no_definition (leaf (non_zero N.sign N.width)) [] (number (N.value_of n))
+        (leaf_planned no_definition (leaf (non_zero N.sign N.width)) (non_zero N.sign N.width) [] (N.value_of n) refl) };
+
+    fn archived_metadata(&self) -> Result<(), Error> {
+        Ok(())
+    }
+}
+
+impl<N: Integer, S: Writer + ResolverAlloc> SerializeUnsized<S> for NonZero<N> {
+    fn serialize_unsized(&self, serializer: &mut S) -> Result<usize, Error> {
+        serialize_one(self, serializer)
     }
 }
 

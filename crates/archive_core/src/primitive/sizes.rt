@@ -14,16 +14,20 @@ ghost use Rattle.archive_check.specs.LittleEndian.{little_bytes, little_number};
 ghost use Rattle.archive_core.specs.Keyed.{number_keyed};
 ghost use Rattle.archive_core.specs.Causes.{HindersAt, IsRefused};
 ghost use Rattle.archive_core.specs.Planned.{leaf_planned};
+ghost use Rattle.archive_core.specs.PlannedOwners.{one_planned};
 ghost use Rattle.archive_core.specs.Plans.{Serialized};
 ghost use Rattle.archive_core.specs.Writing.{Fresh, Resolves};
 ghost use Rattle.archive_write.specs.Written.{GoesOn};
 
 use crate::place::Place;
-use crate::traits::{Archive, Deserialize, Entries, Keys, Serialize};
+use crate::ser::serialize_one;
+use crate::traits::{
+    Archive, ArchiveUnsized, Deserialize, Entries, Keys, Serialize, SerializeUnsized,
+};
 use crate::view::{RawView, Ref};
 use archive_check::format::error::Error;
 use archive_num::{ArchivedIsize, ArchivedUsize, FixedIsize, FixedUsize, Native};
-use archive_write::ser::Writer;
+use archive_write::ser::{ResolverAlloc, Writer};
 use std::alloc::Global;
 
 impl Archive for usize {
@@ -74,6 +78,33 @@ impl<S: Writer + Keys> Serialize<S> for usize {
             return Err(Error::NumberTooLarge);
         }
         Ok(())
+    }
+}
+
+/// As a region of its own.
+impl ArchiveUnsized for usize {
+    type Archived = ArchivedUsize;
+
+    ghost source_length = { λ _. 0 };
+
+    ghost meaning = { λ n. number_value (pos n) };
+
+    ghost keys = { λ _. [] };
+
+    ghost keyed = { λ n. number_keyed (pos n) };
+
+    ghost one_length = { λ _ _. refl };
+
+    ghost planned = { λ n. one_planned no_definition (leaf (number unsigned w32)) [] (number_value (pos n)) (leaf_planned no_definition (leaf (number unsigned w32)) (number unsigned w32) [] (pos n) refl) };
+
+    fn archived_metadata(&self) -> Result<(), Error> {
+        Ok(())
+    }
+}
+
+impl<S: Writer + ResolverAlloc> SerializeUnsized<S> for usize {
+    fn serialize_unsized(&self, serializer: &mut S) -> Result<usize, Error> {
+        serialize_one(self, serializer)
     }
 }
 
@@ -143,6 +174,33 @@ impl<S: Writer + Keys> Serialize<S> for isize {
             return Err(Error::NumberTooLarge);
         }
         Ok(())
+    }
+}
+
+/// As a region of its own.
+impl ArchiveUnsized for isize {
+    type Archived = ArchivedIsize;
+
+    ghost source_length = { λ _. 0 };
+
+    ghost meaning = { λ n. number_value n };
+
+    ghost keys = { λ _. [] };
+
+    ghost keyed = { λ n. number_keyed n };
+
+    ghost one_length = { λ _ _. refl };
+
+    ghost planned = { λ n. one_planned no_definition (leaf (number signed w32)) [] (number_value n) (leaf_planned no_definition (leaf (number signed w32)) (number signed w32) [] n refl) };
+
+    fn archived_metadata(&self) -> Result<(), Error> {
+        Ok(())
+    }
+}
+
+impl<S: Writer + ResolverAlloc> SerializeUnsized<S> for isize {
+    fn serialize_unsized(&self, serializer: &mut S) -> Result<usize, Error> {
+        serialize_one(self, serializer)
     }
 }
 

@@ -13,6 +13,8 @@ impl Source for u16 {
 
     ghost same_size = { refl };
 
+    fn metadata() {}
+
     ghost same_shape = { refl };
 }
 
@@ -20,6 +22,8 @@ impl Source for u32 {
     type Format = ArchivedU32;
 
     ghost same_size = { refl };
+
+    fn metadata() {}
 
     ghost same_shape = { refl };
 }
@@ -29,6 +33,8 @@ impl Source for u64 {
 
     ghost same_size = { refl };
 
+    fn metadata() {}
+
     ghost same_shape = { refl };
 }
 
@@ -36,6 +42,8 @@ impl Source for u128 {
     type Format = ArchivedU128;
 
     ghost same_size = { refl };
+
+    fn metadata() {}
 
     ghost same_shape = { refl };
 }
@@ -45,6 +53,8 @@ impl Source for i16 {
 
     ghost same_size = { refl };
 
+    fn metadata() {}
+
     ghost same_shape = { refl };
 }
 
@@ -52,6 +62,8 @@ impl Source for i32 {
     type Format = ArchivedI32;
 
     ghost same_size = { refl };
+
+    fn metadata() {}
 
     ghost same_shape = { refl };
 }
@@ -61,6 +73,8 @@ impl Source for i64 {
 
     ghost same_size = { refl };
 
+    fn metadata() {}
+
     ghost same_shape = { refl };
 }
 
@@ -68,6 +82,8 @@ impl Source for i128 {
     type Format = ArchivedI128;
 
     ghost same_size = { refl };
+
+    fn metadata() {}
 
     ghost same_shape = { refl };
 }
@@ -77,6 +93,8 @@ impl Source for char {
 
     ghost same_size = { refl };
 
+    fn metadata() {}
+
     ghost same_shape = { refl };
 }
 
@@ -84,6 +102,8 @@ impl Source for () {
     type Format = ();
 
     ghost same_size = { refl };
+
+    fn metadata() {}
 
     ghost same_shape = { refl };
 }
@@ -97,6 +117,8 @@ impl Source for bool {
 
     ghost same_size = { refl };
 
+    fn metadata() {}
+
     ghost same_shape = { refl };
 }
 
@@ -109,6 +131,8 @@ impl Source for u8 {
 
     ghost same_size = { refl };
 
+    fn metadata() {}
+
     ghost same_shape = { refl };
 }
 
@@ -120,6 +144,8 @@ impl Source for i8 {
     type Format = i8;
 
     ghost same_size = { refl };
+
+    fn metadata() {}
 
     ghost same_shape = { refl };
 }

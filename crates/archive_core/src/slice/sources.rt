@@ -6,7 +6,7 @@ ghost use Rattle.archive_check.specs.Value.{list};
 ghost use Rattle.archive_check.specs.declared.format.error.Error.TheVariants.{LengthTooLarge};
 ghost use Rattle.archive_core.specs.Causes.{IsRegionRefused};
 ghost use Rattle.archive_core.specs.Keyed.{each_keyed};
-ghost use Rattle.archive_core.specs.PlannedOwners.{slice_planned};
+ghost use Rattle.archive_core.specs.PlannedOwners.{is_long, slice_planned};
 ghost use Rattle.archive_core.specs.Plans.{SerializedRegion};
 ghost use Rattle.archive_core.specs.Runs.{each_keys, each_meaning, each_flat, EachBelongs, SerializedRun, IsRunRefused};
 ghost use Rattle.archive_write.specs.Written.{GoesOn};
@@ -81,6 +81,8 @@ impl<'a, T: Archive> ArchiveUnsized for Slice<'a, T> {
     ghost keys = { λ s. each_keys T.keys s.slice.now };
 
     ghost keyed = { λ s. each_keyed T.keys T.meaning T.keyed s.slice.now };
+
+    ghost one_length = { λ s e. is_long e };
 
     ghost planned = { λ s. slice_planned T.Archived.definitions T.Archived.shape T.keys T.meaning T.planned s.slice.now };
 

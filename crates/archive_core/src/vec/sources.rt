@@ -1,6 +1,6 @@
 // Vectors as sources: their elements as one region, and the pointer to it.
 
-ghost use Rattle.std.specs.Prelude.{◌≡◌, ◌<◌, ◌≤◌, ℕ, IfOk, OnOk, IfErr, IsErrOf, FitsSigned, length, true};
+ghost use Rattle.std.specs.Prelude.{◌≡◌, ◌<◌, ◌≤◌, ℕ, IfOk, OnOk, IfErr, IsErrOf, FitsSigned, length, true, refl};
 ghost use Rattle.std.specs.Int.{w32};
 ghost use Rattle.archive_check.specs.Shape.{vec as vec_shape, run};
 ghost use Rattle.archive_check.specs.Value.{list, hole};
@@ -9,7 +9,7 @@ ghost use Rattle.archive_core.specs.Causes.{HindersAt, IsRefused};
 ghost use Rattle.archive_core.specs.Keyed.{each_keyed};
 ghost use Rattle.archive_core.specs.Offsets.{distance, IsTooFar};
 ghost use Rattle.archive_core.specs.OwnerBytes.{owner_bytes};
-ghost use Rattle.archive_core.specs.PlannedOwners.{vec_planned, slice_planned};
+ghost use Rattle.archive_core.specs.PlannedOwners.{one_planned, vec_planned, slice_planned};
 ghost use Rattle.archive_core.specs.Plans.{Serialized};
 ghost use Rattle.archive_core.specs.Runs.{each_keys, each_meaning};
 ghost use Rattle.archive_core.specs.Writing.{Fresh, Resolves, to_pointee};
@@ -18,8 +18,9 @@ ghost use Rattle.archive_write.specs.Written.{GoesOn};
 use super::ArchivedVec;
 use crate::place::Place;
 use crate::rel_ptr::emplace_long_owner;
+use crate::ser::serialize_one;
 use crate::slice::serialize_slice;
-use crate::traits::{Archive, Portable, Serialize};
+use crate::traits::{Archive, ArchiveUnsized, Portable, Serialize, SerializeUnsized};
 use archive_check::format::error::Error;
 use archive_num::FixedUsize;
 use archive_write::ser::{ResolverAlloc, Writer};
@@ -166,5 +167,34 @@ impl<S: Writer + ResolverAlloc, T: Serialize<S>> Serialize<S> for Vec<T> {
         ensures too_long { 4294967295 < length self.now.items → IsErrOf result LengthTooLarge × (S.state serializer.new ≡ S.state serializer.old) }
     {
         ArchivedVec::<T::Archived>::serialize_from_slice(self.as_slice(), serializer)
+    }
+}
+
+/// As a region of its own: the vector itself, not its elements.
+impl<T: Archive> ArchiveUnsized for Vec<T> {
+    type Archived = ArchivedVec<T::Archived>;
+
+    ghost source_length = { λ _. 0 };
+
+    ghost meaning = { λ v. list (each_meaning T.meaning v.items) };
+
+    ghost keys = { λ v. each_keys T.keys v.items };
+
+    ghost keyed = { λ v. each_keyed T.keys T.meaning T.keyed v.items };
+
+    ghost one_length = { λ _ _. refl };
+
+    ghost planned = { λ v. one_planned T.Archived.definitions (vec_shape T.Archived.shape) (each_keys T.keys v.items) (list (each_meaning T.meaning v.items))
+        (vec_planned T.Archived.definitions T.Archived.shape (length v.items) (each_keys T.keys v.items) (list (each_meaning T.meaning v.items))
+        (slice_planned T.Archived.definitions T.Archived.shape T.keys T.meaning T.planned v.items)) };
+
+    fn archived_metadata(&self) -> Result<(), Error> {
+        Ok(())
+    }
+}
+
+impl<S: Writer + ResolverAlloc, T: Serialize<S>> SerializeUnsized<S> for Vec<T> {
+    fn serialize_unsized(&self, serializer: &mut S) -> Result<usize, Error> {
+        serialize_one(self, serializer)
     }
 }
