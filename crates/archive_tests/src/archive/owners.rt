@@ -70,9 +70,17 @@ fn boxes_and_their_archives(rt: HostRuntime) -> Result<(), Fail> {
 fn a_slice_is_a_region_behind_what_is_there(rt: HostRuntime) -> Result<(), Fail> {
     let mut serializer = Serializer::new(vec![in rt.alloc(); 0xaa]?, rt.alloc(), ());
     let numbers = Slice { slice: &[7u16, 9] };
-    assert_eq!(rt; numbers.archived_metadata()?.to_native(), 2);
+    let count = match numbers.archived_metadata() {
+        Ok(metadata) => metadata.to_native(),
+        Err(_) => 0,
+    };
+    assert_eq!(rt; count, 2);
     assert_eq!(rt; numbers.serialize_unsized(&mut serializer)?, 2);
-    let resolver = ArchivedVec::<ArchivedU16>::serialize_from_slice(&[1u16], &mut serializer)?;
+    let written = ArchivedVec::<ArchivedU16>::serialize_from_slice(&[1u16], &mut serializer);
+    let resolver = match written {
+        Ok(resolver) => resolver,
+        Err(error) => return Err(Fail::from(error)),
+    };
     assert_eq!(rt; serializer.pos(), 8);
     let bytes = serializer.into_writer();
     assert_eq!(rt; bytes.as_slice(), b"\xaa\0\x07\0\x09\0\x01\0".as_slice());
@@ -108,7 +116,7 @@ fn owners_are_resolved_by_position(rt: HostRuntime) -> Result<(), Fail> {
 }
 
 // Writes it to a writer that is lent.
-fn write_to<W: Writer + Drop>(alloc: Global, value: &Vec<u32>, writer: W) -> Result<(), Error> {
+fn write_to<W: Writer>(alloc: Global, value: &Vec<u32>, writer: &mut W) -> Result<(), Error> {
     to_bytes_in(alloc, value, writer)?;
     Ok(())
 }
