@@ -46,13 +46,18 @@ impl Format {
 
     /// The value that a word stands for: none where it stands for none, or the format is checked alone. Refused with 1 where memory is refused.
     pub fn value(self, alloc: Global, word: &String) -> Result<Option<Value<'_>>, Error> {
-        let value = match self {
-            Format::U32 => number(word.as_str()).map(Value::U32),
-            Format::String => Some(Value::String(word)),
-            Format::OptU32 => None,
-            Format::VecU32 => numbers(alloc, word.as_str())?.map(Value::VecU32),
-        };
-        Ok(value)
+        match self {
+            Format::U32 => match number(word.as_str()) {
+                Some(number) => Ok(Some(Value::U32(number))),
+                None => Ok(None),
+            },
+            Format::String => Ok(Some(Value::String(word))),
+            Format::OptU32 => Ok(None),
+            Format::VecU32 => match numbers(alloc, word.as_str())? {
+                Some(numbers) => Ok(Some(Value::VecU32(numbers))),
+                None => Ok(None),
+            },
+        }
     }
 
     /// Whether the bytes are an archive of the format.
