@@ -7,6 +7,7 @@ mod owner_reading;
 mod owner_views;
 mod owners;
 mod positions;
+mod rc;
 mod reading;
 mod readme;
 mod rel_ptr;
