@@ -32,6 +32,7 @@ pub mod OwnersWritten
 pub mod PartBytes
 pub mod PartsShown
 pub mod ReadElements
+pub mod ReadRecords
 pub mod Spots
 pub mod WrittenVariants
 pub mod Nothing

@@ -9,6 +9,7 @@ mod phantom;
 pub mod place;
 pub mod primitive;
 pub mod rc;
+pub mod record;
 pub mod rel_ptr;
 pub mod seal;
 pub mod ser;

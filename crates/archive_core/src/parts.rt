@@ -9,13 +9,16 @@ ghost use Rattle.archive_check.specs.Value.{Values, list, no_value, value};
 ghost use Rattle.archive_core.specs.Keyed.{nothing_keyed, part_keyed};
 ghost use Rattle.archive_core.specs.Parts.{HavePlan, SerializedParts, ArePartsRefused, FreshParts, ResolvesParts, HindersPartsAt};
 ghost use Rattle.archive_core.specs.PartsPlanned.{no_part_planned, part_planned};
+ghost use Rattle.archive_core.specs.PartsReading.{PartsViewed, PartsReadBack, RefusesParts};
 ghost use Rattle.archive_core.specs.Writing.{Naming, IsKeyed};
 ghost use Rattle.archive_write.specs.Written.{GoesOn};
 
 use crate::ser::resolve_into;
-use crate::traits::{Archive, Keys, Portable, PortableParts, Serialize};
+use crate::traits::{Archive, Deserialize, Entries, Keys, Portable, PortableParts, Serialize};
+use crate::view::RawView;
 use archive_check::format::error::Error;
 use archive_write::ser::Writer;
+use std::alloc::Global;
 
 /// Sources one after another: `()`, or `(&a, rest)` for a source `a` and then those of `rest`.
 pub trait SourceParts {
@@ -151,5 +154,84 @@ impl<'a, S: Writer + Keys, A: Serialize<S>, R: SerializeParts<S>> SerializeParts
         let first = self.0.serialize(serializer)?;
         let others = self.1.serialize_parts(serializer)?;
         Ok((first, others))
+    }
+}
+
+/// Values one after another, as they are read back: `()`, or `(a, rest)` for a value `a` and then those of `rest`.
+pub trait OwnedParts {
+    // What they mean.
+    ghost meanings: { Self → Values };
+
+    // The keys that they hold, with what each names.
+    ghost keys: { Self → List Naming };
+}
+
+impl OwnedParts for () {
+    ghost meanings = { λ v. no_value };
+
+    ghost keys = { λ v. [] };
+}
+
+impl<A: Archive, R: OwnedParts> OwnedParts for (A, R) {
+    ghost meanings = { λ v. value (A.meaning v.0) (R.meanings v.1) };
+
+    ghost keys = { λ v. A.keys v.0 ++ R.keys v.1 };
+}
+
+/// Archived parts that can be read back as the values `T`, one after another.
+pub trait DeserializeParts<T: OwnedParts, D: Entries>: PortableParts {
+    /// The values that lie in `bytes` from the offset `start` on of what begins at `pos`. Asks that they lie in a buffer that was checked, as the parts of
+    /// a view do. Memory comes from `alloc`: refused with `OutOfMemory`, 1, where it is refused, and with `CyclicDeserialize`, 13, only where a shared
+    /// position is met that is still being read.
+    fn deserialize_parts(
+        alloc: Global,
+        bytes: &[u8],
+        pos: usize,
+        start: usize,
+        deserializer: &mut D,
+    ) -> Result<T, Error>
+        requires viewed { PartsViewed Self.definitions bytes.now pos start Self.parts }
+        ensures read { IfOk result (λ t. PartsReadBack bytes.now pos Self.definitions Self.parts start
+            (D.entry_of deserializer.old) (D.entry_of deserializer.new) (T.meanings t) (T.keys t)) }
+        ensures refused { IfErr result (RefusesParts Self.definitions bytes.now pos Self.parts start (D.entry_of deserializer.old)) };
+}
+
+impl<D: Entries> DeserializeParts<(), D> for () {
+    fn deserialize_parts(
+        _alloc: Global,
+        _bytes: &[u8],
+        _pos: usize,
+        _start: usize,
+        _deserializer: &mut D,
+    ) -> Result<(), Error> {
+        Ok(())
+    }
+}
+
+impl<
+    U: Archive + Drop,
+    V: OwnedParts,
+    D: Entries,
+    A: Portable + Deserialize<U, D>,
+    R: DeserializeParts<V, D>,
+> DeserializeParts<(U, V), D> for (A, R) {
+    fn deserialize_parts(
+        alloc: Global,
+        bytes: &[u8],
+        pos: usize,
+        start: usize,
+        deserializer: &mut D,
+    ) -> Result<(U, V), Error> {
+        prove!(bytes.len() <= usize::MAX);
+        let first = <(A, R) as PortableParts>::offset_from(start, 0);
+        let part = RawView {
+            bytes,
+            pos: pos + first,
+            len: 0,
+        };
+        let value = A::deserialize_part(alloc, part, deserializer)?;
+        let end = first + A::size();
+        let others = R::deserialize_parts(alloc, bytes, pos, end, deserializer)?;
+        Ok((value, others))
     }
 }

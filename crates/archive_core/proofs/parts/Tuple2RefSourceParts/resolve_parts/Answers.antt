@@ -28,8 +28,17 @@ resolve_parts-requires-clause-fresh g c =
     let first : f ≡ up start L.align = omega (arith, c.offset_from-first.ensures, rises, c.requires.fresh.room, c.requires.fresh.ends) in
     let size : n ≡ L.size = omega (arith, c.size.ensures, rises, c.requires.fresh.room, c.requires.fresh.ends) in
     let low : start ≤ f = omega (arith, first, above) in
-    let sized : length c.resolve_into.new.bytes ≡ n = omega (arith, low, rises, first, size, c.requires.fresh.room, c.resolve_into.ensures.same_length,
-    length-take (f + n - start - (f - start)) (drop (f - start) old), length-drop (f - start) old) in
+    let sized : length c.resolve_into.new.bytes ≡ n = omega (
+      arith,
+      low,
+      rises,
+      first,
+      size,
+      c.requires.fresh.room,
+      c.resolve_into.ensures.same_length,
+      length-take (f + n - start - (f - start)) (drop (f - start) old),
+      length-drop (f - start) old,
+    ) in
     fresh_behind (f - start) (f + n - start - (f - start)) n (f + n - start) old c.resolve_into.new.bytes (omega (arith, low)) (omega (arith, low)) (omega (arith, low, rises, first, size, c.requires.fresh.room)) sized _ refl
     _ start c.args.pos (f + n) (omega (arith, low)) (rw (← first, ← size) at c.requires.fresh)
 
@@ -45,8 +54,17 @@ returns-clause-resolved g c =
     let first : f ≡ up start L.align = omega (arith, c.offset_from-first.ensures, rises, c.requires.fresh.room, c.requires.fresh.ends) in
     let size : n ≡ L.size = omega (arith, c.size.ensures, rises, c.requires.fresh.room, c.requires.fresh.ends) in
     let low : start ≤ f = omega (arith, first, above) in
-    let sized : length c.resolve_into.new.bytes ≡ n = omega (arith, low, rises, first, size, c.requires.fresh.room, c.resolve_into.ensures.same_length,
-    length-take (f + n - start - (f - start)) (drop (f - start) old), length-drop (f - start) old) in
+    let sized : length c.resolve_into.new.bytes ≡ n = omega (
+      arith,
+      low,
+      rises,
+      first,
+      size,
+      c.requires.fresh.room,
+      c.resolve_into.ensures.same_length,
+      length-take (f + n - start - (f - start)) (drop (f - start) old),
+      length-drop (f - start) old,
+    ) in
     rw (both_written (f - start) (f + n - start - (f - start)) n (f + n - start) old c.resolve_into.new.bytes (omega (arith, low)) (omega (arith, low)) (omega (arith, low, rises, first, size, c.requires.fresh.room)) sized _ refl
     c.resolve_parts.new.bytes c.resolve_parts.ensures.same_length)
     (on_ok c.resolve_parts.result
