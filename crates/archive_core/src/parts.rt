@@ -20,8 +20,21 @@ use archive_check::format::error::Error;
 use archive_write::ser::Writer;
 use std::alloc::Global;
 
-/// Sources one after another: `()`, or `(&a, rest)` for a source `a` and then those of `rest`.
-pub trait SourceParts {
+/// A part of a `T` that is archived: which one, and how it is found. Each field of a record has a type of its own that implements this.
+pub trait PartOf<T> {
+    /// The part's type.
+    type Source: Archive;
+
+    // The part of a value.
+    ghost part: { T → Self.Source };
+
+    /// The part of `whole`.
+    fn part_of(whole: &T) -> &Self::Source
+        ensures { result.now ≡ part whole.now };
+}
+
+/// Parts of a `T` one after another, as sources: `()`, or `(A, R)` for a part `A` and then those of `R`.
+pub trait SourceParts<T> {
     /// The archived types.
     type Archived: PortableParts;
 
@@ -29,41 +42,41 @@ pub trait SourceParts {
     type Resolvers: Drop;
 
     // What they mean.
-    ghost meanings: { Self → Values };
+    ghost meanings: { T → Values };
 
     // What is read in their places.
-    ghost flats: { Self → Self.Resolvers → Values };
+    ghost flats: { T → Self.Resolvers → Values };
 
     // The keys that they hold, with what each names.
-    ghost keys: { Self → List Naming };
+    ghost keys: { T → List Naming };
 
     // The resolvers are those of these values.
-    ghost belongs: { Self → Self.Resolvers → Type 0 };
+    ghost belongs: { T → Self.Resolvers → Type 0 };
 
     /// Writes the archived parts over `bytes`, which stand at the offset `start` of what begins at `pos`: each at the next multiple of its alignment,
-    /// which is counted from there. Asks that the bytes are zeros, that the parts end in them, and that the resolvers are those of these values.
+    /// which is counted from there. Asks that the bytes are zeros, that the parts end in them, and that the resolvers are those of these parts.
     /// Refused as the parts are: with `IsizeOverflow`, 2, or `OffsetOverflow`, 3, where an offset doesn't fit.
     fn resolve_parts(
-        &self,
+        whole: &T,
         resolvers: Self::Resolvers,
         pos: usize,
         start: usize,
         bytes: &mut [u8],
     ) -> Result<(), Error>
         requires fresh { FreshParts (Self.Archived.end start) start pos bytes.old }
-        requires same_values { belongs self.now resolvers }
-        ensures resolved { OnOk result (ResolvesParts Self.Archived.definitions pos start bytes.new Self.Archived.parts (flats self.now resolvers)) }
+        requires same_values { belongs whole.now resolvers }
+        ensures resolved { OnOk result (ResolvesParts Self.Archived.definitions pos start bytes.new Self.Archived.parts (flats whole.now resolvers)) }
         ensures same_length { length bytes.new ≡ length bytes.old }
-        ensures refused { IfErr result (HindersPartsAt Self.Archived.definitions Self.Archived.parts (flats self.now resolvers) pos start) };
+        ensures refused { IfErr result (HindersPartsAt Self.Archived.definitions Self.Archived.parts (flats whole.now resolvers) pos start) };
 
     // Their keys are those that their meanings lead to.
-    ghost keyed: { (v : Self) → IsKeyed (keys v) (list (meanings v)) };
+    ghost keyed: { (v : T) → IsKeyed (keys v) (list (meanings v)) };
 
     // There is a plan of what they own.
-    ghost planned: { (v : Self) → HavePlan Self.Archived.definitions Self.Archived.parts (keys v) (meanings v) };
+    ghost planned: { (v : T) → HavePlan Self.Archived.definitions Self.Archived.parts (keys v) (meanings v) };
 }
 
-impl SourceParts for () {
+impl<T> SourceParts<T> for () {
     type Archived = ();
 
     type Resolvers = ();
@@ -81,7 +94,7 @@ impl SourceParts for () {
     ghost planned = { λ v. no_part_planned };
 
     fn resolve_parts(
-        &self,
+        _whole: &T,
         _resolvers: (),
         _pos: usize,
         _start: usize,
@@ -91,68 +104,75 @@ impl SourceParts for () {
     }
 }
 
-impl<'a, A: Archive, R: SourceParts> SourceParts for (&'a A, R) {
-    type Archived = (A::Archived, R::Archived);
+impl<T, A: PartOf<T>, R: SourceParts<T>> SourceParts<T> for (A, R) {
+    type Archived = (<A::Source as Archive>::Archived, R::Archived);
 
-    type Resolvers = (A::Resolver, R::Resolvers);
+    type Resolvers = (<A::Source as Archive>::Resolver, R::Resolvers);
 
-    ghost meanings = { λ v. value (A.meaning v.0.now) (R.meanings v.1) };
+    ghost meanings = { λ v. value (A.Source.meaning (A.part v)) (R.meanings v) };
 
-    ghost flats = { λ v r. value (A.flat v.0.now r.0) (R.flats v.1 r.1) };
+    ghost flats = { λ v r. value (A.Source.flat (A.part v) r.0) (R.flats v r.1) };
 
-    ghost keys = { λ v. A.keys v.0.now ++ R.keys v.1 };
+    ghost keys = { λ v. A.Source.keys (A.part v) ++ R.keys v };
 
-    ghost belongs = { λ v r. A.belongs v.0.now r.0 × R.belongs v.1 r.1 };
+    ghost belongs = { λ v r. A.Source.belongs (A.part v) r.0 × R.belongs v r.1 };
 
-    ghost keyed = { λ v. part_keyed (A.keyed v.0.now) (R.keyed v.1) };
+    ghost keyed = { λ v. part_keyed (A.Source.keyed (A.part v)) (R.keyed v) };
 
-    ghost planned = { λ v. part_planned A.Archived.definitions A.Archived.shape (A.keys v.0.now) (A.meaning v.0.now) (A.planned v.0.now) (R.planned v.1) };
+    ghost planned = { λ v. part_planned A.Source.Archived.definitions A.Source.Archived.shape (A.Source.keys (A.part v)) (A.Source.meaning (A.part v)) (A.Source.planned (A.part v)) (R.planned v) };
 
     fn resolve_parts(
-        &self,
-        resolvers: (A::Resolver, R::Resolvers),
+        whole: &T,
+        resolvers: (<A::Source as Archive>::Resolver, R::Resolvers),
         pos: usize,
         start: usize,
         bytes: &mut [u8],
     ) -> Result<(), Error> {
         let (resolver, others) = resolvers;
-        let first = <(A::Archived, R::Archived) as PortableParts>::offset_from(start, 0);
-        let end = first + A::Archived::size();
+        let first = <(<A::Source as Archive>::Archived, R::Archived) as PortableParts>::offset_from(
+            start, 0,
+        );
+        let end = first + <A::Source as Archive>::Archived::size();
         resolve_into(
-            self.0,
+            A::part_of(whole),
             resolver,
             pos + first,
             &mut bytes[first - start..end - start],
         )?;
-        self.1
-            .resolve_parts(others, pos, end, &mut bytes[end - start..])
+        R::resolve_parts(whole, others, pos, end, &mut bytes[end - start..])
     }
 }
 
-/// Sources one after another that can be serialized to an `S`.
-pub trait SerializeParts<S: Writer + Keys>: SourceParts {
-    /// Writes what each of the values owns, in order, and answers their resolvers. It asks nothing. Refused as `Serialize::serialize` is, for a cause
+/// Parts of a `T` one after another that can be serialized to an `S`.
+pub trait SerializeParts<T, S: Writer + Keys>: SourceParts<T> {
+    /// Writes what each of the parts owns, in order, and answers their resolvers. It asks nothing. Refused as `Serialize::serialize` is, for a cause
     /// of one of them; after a refusal, too, the bytes from before are a beginning of those that `serializer` holds, and known keys keep their states.
-    fn serialize_parts(&self, serializer: &mut S) -> Result<Self::Resolvers, Error>
-        ensures serialized { IfOk result (λ r. SerializedParts Self.Archived.definitions Self.Archived.parts (Self.keys self.now) (Self.meanings self.now)
-            (Self.flats self.now r) (S.state serializer.old) (S.state serializer.new)) }
-        ensures same_values { IfOk result (λ r. Self.belongs self.now r) }
+    fn serialize_parts(whole: &T, serializer: &mut S) -> Result<Self::Resolvers, Error>
+        ensures serialized { IfOk result (λ r. SerializedParts Self.Archived.definitions Self.Archived.parts (Self.keys whole.now) (Self.meanings whole.now)
+            (Self.flats whole.now r) (S.state serializer.old) (S.state serializer.new)) }
+        ensures same_values { IfOk result (λ r. Self.belongs whole.now r) }
         ensures goes_on { GoesOn (S.state serializer.old) (S.state serializer.new) }
-        ensures refused { IfErr result (ArePartsRefused Self.Archived.definitions Self.Archived.parts (Self.keys self.now) (Self.meanings self.now)
+        ensures refused { IfErr result (ArePartsRefused Self.Archived.definitions Self.Archived.parts (Self.keys whole.now) (Self.meanings whole.now)
             (S.state serializer.old) (S.state serializer.new)) };
 }
 
-impl<S: Writer + Keys> SerializeParts<S> for () {
+impl<T, S: Writer + Keys> SerializeParts<T, S> for () {
     #[tactic(auto, using(crate::proofs::PlannedParts::serialized_no_part))]
-    fn serialize_parts(&self, _serializer: &mut S) -> Result<(), Error> {
+    fn serialize_parts(_whole: &T, _serializer: &mut S) -> Result<(), Error> {
         Ok(())
     }
 }
 
-impl<'a, S: Writer + Keys, A: Serialize<S>, R: SerializeParts<S>> SerializeParts<S> for (&'a A, R) {
-    fn serialize_parts(&self, serializer: &mut S) -> Result<(A::Resolver, R::Resolvers), Error> {
-        let first = self.0.serialize(serializer)?;
-        let others = self.1.serialize_parts(serializer)?;
+impl<T, S: Writer + Keys, A: PartOf<T>, R: SerializeParts<T, S>> SerializeParts<T, S> for (A, R)
+where
+    A::Source: Serialize<S>,
+{
+    fn serialize_parts(
+        whole: &T,
+        serializer: &mut S,
+    ) -> Result<(<A::Source as Archive>::Resolver, R::Resolvers), Error> {
+        let first = A::part_of(whole).serialize(serializer)?;
+        let others = R::serialize_parts(whole, serializer)?;
         Ok((first, others))
     }
 }

@@ -20,36 +20,38 @@ use std::alloc::Global;
 /// Writes what the parts of a record own, one after another, and answers their resolvers. It asks nothing. Refused as `Serialize::serialize` is, for
 /// a cause of one of the parts.
 #[tactic(auto, using(crate::proofs::PlannedParts::serialized_record, crate::proofs::PlannedParts::record_refused))]
-pub fn serialize_record<X: Record<Parts = P::Archived>, P: SerializeParts<S>, S: Writer + Keys>(
-    parts: &P,
-    serializer: &mut S,
-) -> Result<P::Resolvers, Error>
-    ensures serialized { IfOk result (λ r. Serialized X.definitions X.shape (P.keys parts.now) (product (P.meanings parts.now))
-        (product (P.flats parts.now r)) (S.state serializer.old) (S.state serializer.new)) }
-    ensures same_values { IfOk result (λ r. P.belongs parts.now r) }
+pub fn serialize_record<
+    T,
+    P: SerializeParts<T, S>,
+    X: Record<Parts = P::Archived>,
+    S: Writer + Keys,
+>(whole: &T, serializer: &mut S) -> Result<P::Resolvers, Error>
+    ensures serialized { IfOk result (λ r. Serialized X.definitions X.shape (P.keys whole.now) (product (P.meanings whole.now))
+        (product (P.flats whole.now r)) (S.state serializer.old) (S.state serializer.new)) }
+    ensures same_values { IfOk result (λ r. P.belongs whole.now r) }
     ensures goes_on { GoesOn (S.state serializer.old) (S.state serializer.new) }
-    ensures refused { IfErr result (IsRefused X.definitions X.shape (P.keys parts.now) (product (P.meanings parts.now))
+    ensures refused { IfErr result (IsRefused X.definitions X.shape (P.keys whole.now) (product (P.meanings whole.now))
         (S.state serializer.old) (S.state serializer.new)) }
 {
-    parts.serialize_parts(serializer)
+    P::serialize_parts(whole, serializer)
 }
 
 /// Writes the archived record over the bytes of `place`, part by part, each at its offset; between them and behind the last one zeros stay. Asks that
 /// the bytes are zeros, as many as the record has, and that the resolvers are those of these parts. Refused as the parts are: with `IsizeOverflow`,
 /// 2, or `OffsetOverflow`, 3, where an offset doesn't fit.
-pub fn resolve_record<X: Record<Parts = P::Archived>, P: SourceParts>(
-    parts: &P,
+pub fn resolve_record<T, P: SourceParts<T>, X: Record<Parts = P::Archived>>(
+    whole: &T,
     resolvers: P::Resolvers,
     place: Place<'_, X>,
 ) -> Result<(), Error>
     requires fresh { Fresh X.layout.size place.pos place.bytes.now }
-    requires same_values { P.belongs parts.now resolvers }
-    ensures resolved { OnOk result (Resolves X.definitions place.entry.pos place.exit.0.now X.shape (product (P.flats parts.now resolvers))) }
+    requires same_values { P.belongs whole.now resolvers }
+    ensures resolved { OnOk result (Resolves X.definitions place.entry.pos place.exit.0.now X.shape (product (P.flats whole.now resolvers))) }
     ensures same_length { length place.exit.0.now ≡ length place.entry.bytes.now }
-    ensures refused { IfErr result (HindersAt X.definitions X.shape (product (P.flats parts.now resolvers)) place.entry.pos) }
+    ensures refused { IfErr result (HindersAt X.definitions X.shape (product (P.flats whole.now resolvers)) place.entry.pos) }
 {
     let Place { bytes, pos, .. } = place;
-    parts.resolve_parts(resolvers, pos, 0, bytes)
+    P::resolve_parts(whole, resolvers, pos, 0, bytes)
 }
 
 /// The values of a record's parts, which `part` shows, one after another. Asks for what a view promises of it. Memory comes from `alloc`: refused with
