@@ -29,8 +29,10 @@ pub mod Pointers
 pub mod Records
 pub mod Owned
 pub mod OwnersWritten
+pub mod PartBytes
 pub mod PartsShown
 pub mod ReadElements
+pub mod ReadRecords
 pub mod Spots
 pub mod WrittenVariants
 pub mod Nothing

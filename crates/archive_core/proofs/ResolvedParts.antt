@@ -5,7 +5,7 @@ use Rattle.archive_check.specs.Layout.{Layout, up, size_of, align_of}
 use Rattle.archive_check.specs.Definitions.{Definitions, no_definition, both, Knows, HasLayout}
 use Rattle.archive_check.specs.PartsLayout.{StandsFor, for_itself, by_name, IsRecord, knows_left, knows_right}
 use Rattle.archive_check.specs.Value.{Value, product, Values, no_value, value}
-use Rattle.archive_check.specs.Reads.{Schema, Reads, reads_parts, reads_named, reads_no_part, reads_part}
+use Rattle.archive_check.specs.Reads.{Schema, LaidOut, Reads, reads_parts, reads_named, reads_no_part, reads_part}
 use Rattle.archive_check.specs.CleanRegions.{Occurs, IsZeroed, CleanValue, CleanParts, clean_parts, clean_named, clean_no_part, clean_part}
 use Rattle.archive_check.specs.declared.format.error.Error.{Error}
 use Rattle.archive_check.proofs.StandingBytes.{stands_front, stands_back, stands_zero}
@@ -79,15 +79,21 @@ pub standing_part : (s : Schema) (Z X : Shape) (v : Value) (o : ℕ) (Y : Shape)
 standing_part s Z X v o Y w for_itself h = h
 standing_part s Z X v o Y w (by_name d) h = part_of_named d h
 
+standing_size : (s : Schema) → LaidOut s → (Y X : Shape) → StandsFor s Y X → size_of s.layouts X ≡ size_of s.layouts Y
+standing_size s laid Y X for_itself = refl
+standing_size s laid Y X (by_name {name = name} d) = ap (λ (l : Layout). l.size) (laid.solves name Y d)
+
 -- a record of these parts
 module _ (D : Definitions) (X : Shape) (E : Definitions) (ps : Parts) (is : IsRecord D X E ps) (vs : Values) (p : ℕ) where
-  pub resolves_record : (L : Layout) (a : List ℕ) → HasLayout E (parts ps) L → length a ≡ L.size → ResolvesParts E p 0 a ps vs → Resolves D p a X (product vs)
+  pub resolves_record : (L : Layout) (a : List ℕ) → HasLayout D X L → length a ≡ L.size → ResolvesParts E p 0 a ps vs → Resolves D p a X (product vs)
   resolves_record L a laid sized h =
       let same : p + 0 ≡ p = omega arith in
       record {
         reads = λ s bytes k stands. standing_reads s bytes p (parts ps) X (product vs) (is.stands s k) (reads_parts (h.reads s bytes (is.known s k) (rw same stands)));
         clean = λ s bytes k stands. (
-            let stop : p + (0 + length a) ≡ p + size_of s.layouts (parts ps) = rw (size_is laid s (is.known s k)) (omega (arith, sized)) in
+            let whole : size_of s.layouts X ≡ length a = rw (size_is laid s k) (sym sized) in
+            let size : size_of s.layouts (parts ps) ≡ length a = sym (standing_size s k.laid_out (parts ps) X (is.stands s k)) ∙ whole in
+            let stop : p + (0 + length a) ≡ p + size_of s.layouts (parts ps) = omega (arith, size) in
             standing_clean s bytes p (parts ps) X (is.stands s k) (clean_parts (rw (← stop) (h.clean s bytes (is.known s k) (rw same stands)))));
       }
 
