@@ -54,7 +54,7 @@ knows_left s D E k = record { has = k.has.0; finite = λ n X c. k.finite n X (Co
 pub knows_right : (s : Schema) (D E : Definitions) → Knows s (both D E) → Knows s E
 knows_right s D E k = record { has = k.has.1; finite = λ n X c. k.finite n X (Contains-append_right (listed D) (listed E) (n, X) c); laid_out = k.laid_out }
 
-knows_none : (s : Schema) → LaidOut s → Knows s no_definition
+pub knows_none : (s : Schema) → LaidOut s → Knows s no_definition
 knows_none s laid = record { has = tt; finite = λ n X c. absurd (omega (arith, c.1)); laid_out = laid }
 
 -- who knows those of all parts knows those of each
