@@ -1,13 +1,12 @@
 -- The variants of a choice, as a type names them: where each part of each lies, and what they take together, in each schema that knows their definitions.
-use Rattle.std.proofs.Common.{◌≡◌, ℕ, zero, suc, ◌+◌, ◌≤◌, max, Option, Some, None, refl, subst, arith}
+use Rattle.std.proofs.Common.{◌≡◌, ℕ, zero, suc, ◌+◌, ◌≤◌, max, Option, Some, None, refl, arith}
 use Rattle.archive_check.specs.Shape.{Name, Shape, choice, named, parts, Parts, Variants, no_variant, variant, variant_at}
-use Rattle.archive_check.specs.Layout.{up, variants_align, variants_end}
+use Rattle.archive_check.specs.Layout.{Layouts, up, variants_align, variants_end}
 use Rattle.archive_check.specs.Reads.{Schema}
-use Rattle.archive_check.specs.Within.{IsPart}
 use Rattle.archive_check.specs.Defined.{holds_parts, holds_choice, holds_variant, holds_other, Mentions, mentions_held, mentions_parts, mentions_choice, mentions_variant, mentions_other}
 use Rattle.archive_check.specs.Definitions.{Definitions, no_definition, defines, both, Knows, NoOthers, HasLayout, IsAlign}
 use Rattle.archive_check.specs.NoOthers.{around_reached, both_reached}
-use Rattle.archive_check.specs.PartsLayout.{part_at, definitions_at, knows_none, knows_at, knows_left, knows_right, PartsLaidOut, StandsFor, for_itself, by_name}
+use Rattle.archive_check.specs.PartsLayout.{part_at, offset_at, definitions_at, knows_none, knows_at, knows_left, knows_right, PartsLaidOut, StandsFor, for_itself, by_name}
 
 -- the part with this index of the variant with this tag
 abbrev pub payload_at : Variants → ℕ → ℕ → Option Shape
@@ -26,6 +25,12 @@ abbrev pub joined_variants : Variants → Variants → Variants
 joined_variants no_variant ws = ws
 joined_variants (variant ps vs) ws = variant ps (joined_variants vs ws)
 
+-- where the part with this index begins, in the variant with this tag
+abbrev pub payload_offset : Layouts → Variants → ℕ → ℕ → ℕ
+payload_offset names no_variant tag i = 1
+payload_offset names (variant ps vs) zero i = offset_at names 1 ps i
+payload_offset names (variant ps vs) (suc tag) i = payload_offset names vs tag i
+
 -- the offsets in the first variant, or in one of those that come later
 abbrev pub first_variant_or : (ℕ → ℕ) → (ℕ → ℕ → ℕ) → ℕ → ℕ → ℕ
 first_variant_or first later zero = first
@@ -35,7 +40,7 @@ first_variant_or first later (suc tag) = later tag
 pub record VariantsLaidOut (D : Definitions) (vs : Variants) (align end : ℕ) (begin : ℕ → ℕ → ℕ) : Type 0 where
   pub aligned : (s : Schema) → Knows s D → variants_align s.layouts vs ≡ align
   pub ends : (s : Schema) → Knows s D → variants_end s.layouts vs ≡ end
-  pub begins : (s : Schema) → Knows s D → (p tag i : ℕ) (ps : Parts) (Y : Shape) → variant_at vs tag ≡ Some ps → part_at ps i ≡ Some Y → IsPart s p 1 ps (p + begin tag i) Y
+  pub offsets : (s : Schema) → Knows s D → (tag i : ℕ) → payload_offset s.layouts vs tag i ≡ begin tag i
 
 -- an X with the definitions D is a choice of this name with these variants, whose definitions E are known where its own are
 pub record IsChoice (D : Definitions) (X : Shape) (name : Name) (E : Definitions) (vs : Variants) : Type 0 where
@@ -63,22 +68,19 @@ knows_payload s no_definition tag i k = knows_none s k.laid_out
 knows_payload s (defines n X) tag i k = knows_none s k.laid_out
 
 pub no_variant_laid_out : VariantsLaidOut no_definition no_variant 1 1 (λ tag i. 1)
-no_variant_laid_out = record { aligned = λ s k. refl; ends = λ s k. refl; begins = λ s k p tag i ps Y none at. absurd (cc none) }
+no_variant_laid_out = record { aligned = λ s k. refl; ends = λ s k. refl; offsets = λ s k tag i. refl }
 
 module _ (D E : Definitions) (ps : Parts) (a : ℕ) (end : ℕ → ℕ) (begin : ℕ → ℕ → ℕ) (first : PartsLaidOut D ps a end begin) (vs : Variants) (b last : ℕ) (later : ℕ → ℕ → ℕ) (others : VariantsLaidOut E vs b last later) where
-  variant_begins : (s : Schema) → Knows s (both D E) → (p tag i : ℕ) (qs : Parts) (Y : Shape) → variant_at (variant ps vs) tag ≡ Some qs → part_at qs i ≡ Some Y
-      → IsPart s p 1 qs (p + first_variant_or (begin 1) later tag i) Y
-  variant_begins s k p zero i qs Y is there =
-      let same : ps ≡ qs = cc is in
-      subst (λ rs. part_at rs i ≡ Some Y → IsPart s p 1 rs (p + begin 1 i) Y) same (first.begins s (knows_left s D E k) p 1 i Y) there
-  variant_begins s k p (suc tag) i qs Y is there = others.begins s (knows_right s D E k) p tag i qs Y is there
+  variant_offsets : (s : Schema) → Knows s (both D E) → (tag i : ℕ) → payload_offset s.layouts (variant ps vs) tag i ≡ first_variant_or (begin 1) later tag i
+  variant_offsets s k zero i = first.offsets s (knows_left s D E k) 1 i
+  variant_offsets s k (suc tag) i = others.offsets s (knows_right s D E k) tag i
 
   -- one variant, and others behind it
   pub variant_laid_out : VariantsLaidOut (both D E) (variant ps vs) (max a b) (max (end 1) last) (first_variant_or (begin 1) later)
   variant_laid_out = record {
     aligned = λ s k. rw (first.aligned s (knows_left s D E k), others.aligned s (knows_right s D E k)) refl;
     ends = λ s k. rw (first.ends s (knows_left s D E k) 1, others.ends s (knows_right s D E k)) refl;
-    begins = variant_begins;
+    offsets = variant_offsets;
   }
 
 -- a choice's layout, by its variants

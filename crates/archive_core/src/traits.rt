@@ -18,6 +18,9 @@ pub use archive_check::format::traits::{
     ArchivePointee, Entries, Keys, LayoutRaw, Portable, PortableParts, PortablePointee, Record,
     define_record, expr_of_record, layout_of_run, size_of_record,
 };
+pub use archive_check::format::traits::{
+    Choice, PortableVariants, align_of_choice, define_choice, expr_of_choice, size_of_choice,
+};
 use archive_write::ser::Writer;
 use std::alloc::Global;
 
