@@ -24,6 +24,8 @@ pub mod SharedWritten
 pub mod SharedViews
 pub mod SharedBytes
 pub mod SharedOnes
+pub mod PooledReading
+pub mod PooledPointers
 pub mod KeyStates
 pub mod ShortTexts
 pub mod Pointers

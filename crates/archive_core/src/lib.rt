@@ -6,6 +6,7 @@ pub mod boxed;
 pub mod option;
 mod phantom;
 pub mod place;
+pub mod pooling;
 pub mod primitive;
 pub mod rc;
 pub mod rel_ptr;

@@ -8,6 +8,7 @@ ghost use Rattle.archive_check.specs.SelfCheck.Laws.{by_schema};
 ghost use Rattle.archive_check.specs.Shape.{Name, Flavor as FlavorOf, one, shared, weak};
 ghost use Rattle.archive_core.specs.SharedLaws.{flavor_as, shared_reaches, weak_reaches};
 
+mod reading;
 mod sources;
 mod views;
 mod writing;
