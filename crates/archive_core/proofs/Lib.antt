@@ -23,6 +23,9 @@ pub mod SharedCauses
 pub mod SharedWritten
 pub mod SharedViews
 pub mod SharedBytes
+pub mod SharedOnes
+pub mod PooledReading
+pub mod PooledPointers
 pub mod KeyStates
 pub mod ShortTexts
 pub mod Pointers

@@ -21,6 +21,7 @@ ghost use Rattle.archive_write.specs.Written.{GoesOn};
 
 mod kept;
 
+use crate::pooling::Pool;
 use crate::seal::Seal;
 use crate::ser::{Serializer, Writer, serialize_one, serialize_with};
 use crate::sharing::Share;
@@ -36,6 +37,9 @@ use std::alloc::Global;
 
 /// What the calls that write a whole archive hand to its value: a writer, an allocator and the keys of this archive. As in rkyv 0.8.18.
 pub type HighSerializer<W, A> = Serializer<W, A, Share>;
+
+/// What the calls that read a whole archive back may be handed, where it shares values of one type: a pool of them. As in rkyv 0.8.18.
+pub type HighDeserializer<T> = Pool<T>;
 
 /// Where the root of an archive of `len` bytes lies: so many bytes before its end as a `T` has, or at 0 where there are fewer.
 pub fn root_position<T: Portable>(len: usize) -> usize

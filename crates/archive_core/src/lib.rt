@@ -8,6 +8,7 @@ pub mod option;
 pub mod parts;
 mod phantom;
 pub mod place;
+pub mod pooling;
 pub mod primitive;
 pub mod rc;
 pub mod record;
