@@ -1,22 +1,26 @@
 //! Results: how they are archived, viewed and read back.
 
-ghost use Rattle.std.specs.Prelude.{◌≡◌, ◌+◌, ◌<◌, length, slice_index, OnOk, IfOk, IfErr, MatchResult, IfSome, MatchOption};
+ghost use Rattle.std.specs.Prelude.{◌≡◌, ◌+◌, ◌<◌, length, slice_index, OnOk, IfOk, IfErr, MatchResult, IfSome, MatchOption, refl};
 ghost use Rattle.archive_check.specs.Shape.{one};
 ghost use Rattle.archive_check.specs.Definitions.{both};
 ghost use Rattle.archive_check.specs.Viewed.{Viewed};
 ghost use Rattle.archive_check.specs.Entries.{ReadsBack, RefusesReading};
 ghost use Rattle.archive_enum.specs.Results.{result_shape, result_layout};
 ghost use Rattle.archive_core.specs.Causes.{HindersAt};
+ghost use Rattle.archive_core.specs.PlannedOwners.{one_planned};
 ghost use Rattle.archive_core.specs.Results.{result_meaning, result_keys, result_flat, ResultBelongs, result_keyed, result_planned};
 ghost use Rattle.archive_core.specs.Writing.{Fresh, Resolves};
 
 use crate::place::Place;
-use crate::traits::{Archive, Deserialize, Entries, Keys, Portable, Serialize};
+use crate::ser::serialize_one;
+use crate::traits::{
+    Archive, ArchiveUnsized, Deserialize, Entries, Keys, Portable, Serialize, SerializeUnsized,
+};
 use crate::variants::resolve_case;
 use crate::view::{RawView, Ref};
 use archive_check::format::error::Error;
 pub use archive_enum::result::{ArchivedResult, Iter};
-use archive_write::ser::Writer;
+use archive_write::ser::{ResolverAlloc, Writer};
 use std::alloc::Global;
 
 /// An `Ok` is archived as its value behind a 0, an `Err` as its error behind a 1; the bytes behind the shorter one are zeros. As in rkyv 0.8.18.
@@ -74,6 +78,36 @@ impl<T: Serialize<S>, E: Serialize<S>, S: Writer + Keys> Serialize<S> for Result
             Ok(value) => Ok(Ok(value.serialize(serializer)?)),
             Err(error) => Ok(Err(error.serialize(serializer)?)),
         }
+    }
+}
+
+/// As a source in a region of its own it is one value.
+impl<T: Archive, E: Archive> ArchiveUnsized for Result<T, E> {
+    type Archived = ArchivedResult<T::Archived, E::Archived>;
+
+    ghost source_length = { λ _. 0 };
+
+    ghost meaning = { result_meaning T.meaning E.meaning };
+
+    ghost keys = { result_keys T.keys E.keys };
+
+    ghost keyed = { result_keyed T.keys E.keys T.meaning E.meaning T.keyed E.keyed };
+
+    ghost one_length = { λ _ _. refl };
+
+    ghost planned = { λ r. one_planned (both T.Archived.definitions E.Archived.definitions) (result_shape T.Archived.shape E.Archived.shape) (result_keys T.keys E.keys r)
+        (result_meaning T.meaning E.meaning r)
+        (result_planned T.keys E.keys T.meaning E.meaning T.Archived.definitions E.Archived.definitions T.Archived.shape E.Archived.shape T.planned E.planned r) };
+
+    fn archived_metadata(&self) -> Result<(), Error> {
+        Ok(())
+    }
+}
+
+impl<T: Serialize<S>, E: Serialize<S>, S: Writer + ResolverAlloc> SerializeUnsized<S>
+    for Result<T, E> {
+    fn serialize_unsized(&self, serializer: &mut S) -> Result<usize, Error> {
+        serialize_one(self, serializer)
     }
 }
 
