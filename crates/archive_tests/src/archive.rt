@@ -11,6 +11,7 @@ mod rc;
 mod reading;
 mod readme;
 mod rel_ptr;
+mod results;
 mod seals;
 mod self_checks;
 mod shared;
