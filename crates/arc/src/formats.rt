@@ -1,11 +1,14 @@
 //! The formats that the program knows.
 
 use archive_core::api::{access, to_bytes};
+use archive_core::boxed::{ArchivedBox, BoxSlice};
 use archive_core::error::Error;
 use archive_core::option::ArchivedOption;
 use archive_core::primitive::ArchivedU32;
+use archive_core::slice::ArchivedSlice;
 use archive_core::string::ArchivedString;
 use archive_core::vec::ArchivedVec;
+use hex::FromHexError;
 use std::alloc::Global;
 
 /// A format, as the second word of a command names it.
@@ -17,6 +20,8 @@ pub enum Format {
     String,
     /// `opt-u32`, which is checked alone.
     OptU32,
+    /// `opt-box-bytes`, an option of a boxed slice of bytes, written as `none`, or as `some:` and the bytes in hexadecimal.
+    OptBoxBytes,
     /// `vec-u32`, written as digits between commas; no word at all is an empty list.
     VecU32,
 }
@@ -28,6 +33,8 @@ pub enum Value<'a> {
     U32(u32),
     /// A text.
     String(&'a String),
+    /// Bytes, or none.
+    OptBoxBytes(Option<Vec<u8>>),
     /// Numbers.
     VecU32(Vec<u32>),
 }
@@ -39,6 +46,7 @@ impl Format {
             "u32" => Some(Format::U32),
             "string" => Some(Format::String),
             "opt-u32" => Some(Format::OptU32),
+            "opt-box-bytes" => Some(Format::OptBoxBytes),
             "vec-u32" => Some(Format::VecU32),
             _ => None,
         }
@@ -53,6 +61,10 @@ impl Format {
             },
             Format::String => Ok(Some(Value::String(word))),
             Format::OptU32 => Ok(None),
+            Format::OptBoxBytes => match optional_bytes(alloc, word.as_str())? {
+                Some(bytes) => Ok(Some(Value::OptBoxBytes(bytes))),
+                None => Ok(None),
+            },
             Format::VecU32 => match numbers(alloc, word.as_str())? {
                 Some(numbers) => Ok(Some(Value::VecU32(numbers))),
                 None => Ok(None),
@@ -72,6 +84,9 @@ impl Format {
             Format::OptU32 => {
                 access::<ArchivedOption<ArchivedU32>>(alloc, bytes)?;
             }
+            Format::OptBoxBytes => {
+                access::<ArchivedOption<ArchivedBox<ArchivedSlice<u8>>>>(alloc, bytes)?;
+            }
             Format::VecU32 => {
                 access::<ArchivedVec<ArchivedU32>>(alloc, bytes)?;
             }
@@ -86,6 +101,13 @@ impl Value<'_> {
         match self {
             Value::U32(number) => to_bytes(alloc, &number),
             Value::String(text) => to_bytes(alloc, text),
+            Value::OptBoxBytes(bytes) => {
+                let value = match bytes {
+                    Some(items) => Some(BoxSlice { items }),
+                    None => None,
+                };
+                to_bytes(alloc, &value)
+            }
             Value::VecU32(numbers) => to_bytes(alloc, &numbers),
         }
     }
@@ -97,6 +119,21 @@ fn number(word: &str) -> Option<u32> {
         word.parse().ok()
     } else {
         None
+    }
+}
+
+// Bytes in hexadecimal behind `some:`, or `none`. No answer where the word is neither.
+fn optional_bytes(alloc: Global, word: &str) -> Result<Option<Option<Vec<u8>>>, Error> {
+    if word == "none" {
+        return Ok(Some(None));
+    }
+    let Some(digits) = word.strip_prefix("some:") else {
+        return Ok(None);
+    };
+    match hex::decode(alloc, digits) {
+        Ok(bytes) => Ok(Some(Some(bytes))),
+        Err(FromHexError::OutOfMemory) => Err(Error::OutOfMemory),
+        Err(_) => Ok(None),
     }
 }
 
