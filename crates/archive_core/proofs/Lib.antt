@@ -30,6 +30,7 @@ pub mod Records
 pub mod Owned
 pub mod OwnersWritten
 pub mod PartsShown
+pub mod ArraysShown
 pub mod ReadElements
 pub mod Spots
 pub mod WrittenVariants

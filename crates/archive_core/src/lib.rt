@@ -2,6 +2,7 @@
 #![tactic(auto)]
 
 pub mod api;
+pub mod array;
 pub mod boxed;
 pub mod option;
 mod phantom;
