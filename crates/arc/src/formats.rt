@@ -7,6 +7,7 @@ use archive_core::option::ArchivedOption;
 use archive_core::primitive::ArchivedU32;
 use archive_core::slice::ArchivedSlice;
 use archive_core::string::ArchivedString;
+use archive_core::traits::Portable;
 use archive_core::vec::ArchivedVec;
 use hex::FromHexError;
 use std::alloc::Global;
@@ -75,23 +76,12 @@ impl Format {
     /// Whether the bytes are an archive of the format.
     pub fn check(self, alloc: Global, bytes: &[u8]) -> Result<(), Error> {
         match self {
-            Format::U32 => {
-                access::<ArchivedU32>(alloc, bytes)?;
-            }
-            Format::String => {
-                access::<ArchivedString>(alloc, bytes)?;
-            }
-            Format::OptU32 => {
-                access::<ArchivedOption<ArchivedU32>>(alloc, bytes)?;
-            }
-            Format::OptBoxBytes => {
-                access::<ArchivedOption<ArchivedBox<ArchivedSlice<u8>>>>(alloc, bytes)?;
-            }
-            Format::VecU32 => {
-                access::<ArchivedVec<ArchivedU32>>(alloc, bytes)?;
-            }
+            Format::U32 => check_as::<ArchivedU32>(alloc, bytes),
+            Format::String => check_as::<ArchivedString>(alloc, bytes),
+            Format::OptU32 => check_option::<ArchivedU32>(alloc, bytes),
+            Format::OptBoxBytes => check_option::<ArchivedBox<ArchivedSlice<u8>>>(alloc, bytes),
+            Format::VecU32 => check_as::<ArchivedVec<ArchivedU32>>(alloc, bytes),
         }
-        Ok(())
     }
 }
 
@@ -111,6 +101,18 @@ impl Value<'_> {
             Value::VecU32(numbers) => to_bytes(alloc, &numbers),
         }
     }
+}
+
+// Whether the bytes are an archive of the type.
+fn check_as<T: Portable>(alloc: Global, bytes: &[u8]) -> Result<(), Error> {
+    access::<T>(alloc, bytes)?;
+    Ok(())
+}
+
+// Whether they are an archive of an option of the type.
+fn check_option<T: Portable>(alloc: Global, bytes: &[u8]) -> Result<(), Error> {
+    access::<ArchivedOption<T>>(alloc, bytes)?;
+    Ok(())
 }
 
 // The number of one or more digits.
