@@ -2,11 +2,15 @@
 
 use crate::node::{ArchivedNode, Node, node_of};
 use archive_core::api::{access, to_bytes};
+use archive_core::boxed::{ArchivedBox, BoxSlice};
 use archive_core::error::Error;
 use archive_core::option::ArchivedOption;
 use archive_core::primitive::ArchivedU32;
+use archive_core::slice::ArchivedSlice;
 use archive_core::string::ArchivedString;
+use archive_core::traits::Portable;
 use archive_core::vec::ArchivedVec;
+use hex::FromHexError;
 use std::alloc::Global;
 
 /// A format, as the second word of a command names it.
@@ -18,6 +22,8 @@ pub enum Format {
     String,
     /// `opt-u32`, which is checked alone.
     OptU32,
+    /// `opt-box-bytes`, an option of a boxed slice of bytes, written as `none`, or as `some:` and the bytes in hexadecimal.
+    OptBoxBytes,
     /// `vec-u32`, written as digits between commas; no word at all is an empty list.
     VecU32,
     /// `node`, written as how many boxes there are, at most 1,000.
@@ -31,6 +37,8 @@ pub enum Value<'a> {
     U32(u32),
     /// A text.
     String(&'a String),
+    /// Bytes, or none.
+    OptBoxBytes(Option<Vec<u8>>),
     /// Numbers.
     VecU32(Vec<u32>),
     /// A list of boxes in boxes.
@@ -44,6 +52,7 @@ impl Format {
             "u32" => Some(Format::U32),
             "string" => Some(Format::String),
             "opt-u32" => Some(Format::OptU32),
+            "opt-box-bytes" => Some(Format::OptBoxBytes),
             "vec-u32" => Some(Format::VecU32),
             "node" => Some(Format::Node),
             _ => None,
@@ -59,6 +68,10 @@ impl Format {
             },
             Format::String => Ok(Some(Value::String(word))),
             Format::OptU32 => Ok(None),
+            Format::OptBoxBytes => match optional_bytes(alloc, word.as_str())? {
+                Some(bytes) => Ok(Some(Value::OptBoxBytes(bytes))),
+                None => Ok(None),
+            },
             Format::VecU32 => match numbers(alloc, word.as_str())? {
                 Some(numbers) => Ok(Some(Value::VecU32(numbers))),
                 None => Ok(None),
@@ -73,23 +86,13 @@ impl Format {
     /// Whether the bytes are an archive of the format.
     pub fn check(self, alloc: Global, bytes: &[u8]) -> Result<(), Error> {
         match self {
-            Format::U32 => {
-                access::<ArchivedU32>(alloc, bytes)?;
-            }
-            Format::String => {
-                access::<ArchivedString>(alloc, bytes)?;
-            }
-            Format::OptU32 => {
-                access::<ArchivedOption<ArchivedU32>>(alloc, bytes)?;
-            }
-            Format::VecU32 => {
-                access::<ArchivedVec<ArchivedU32>>(alloc, bytes)?;
-            }
-            Format::Node => {
-                access::<ArchivedNode>(alloc, bytes)?;
-            }
+            Format::U32 => check_as::<ArchivedU32>(alloc, bytes),
+            Format::String => check_as::<ArchivedString>(alloc, bytes),
+            Format::OptU32 => check_option::<ArchivedU32>(alloc, bytes),
+            Format::OptBoxBytes => check_option::<ArchivedBox<ArchivedSlice<u8>>>(alloc, bytes),
+            Format::VecU32 => check_as::<ArchivedVec<ArchivedU32>>(alloc, bytes),
+            Format::Node => check_as::<ArchivedNode>(alloc, bytes),
         }
-        Ok(())
     }
 }
 
@@ -99,10 +102,29 @@ impl Value<'_> {
         match self {
             Value::U32(number) => to_bytes(alloc, &number),
             Value::String(text) => to_bytes(alloc, text),
+            Value::OptBoxBytes(bytes) => {
+                let value = match bytes {
+                    Some(items) => Some(BoxSlice { items }),
+                    None => None,
+                };
+                to_bytes(alloc, &value)
+            }
             Value::VecU32(numbers) => to_bytes(alloc, &numbers),
             Value::Node(node) => to_bytes(alloc, &node),
         }
     }
+}
+
+// Whether the bytes are an archive of the type.
+fn check_as<T: Portable>(alloc: Global, bytes: &[u8]) -> Result<(), Error> {
+    access::<T>(alloc, bytes)?;
+    Ok(())
+}
+
+// Whether they are an archive of an option of the type.
+fn check_option<T: Portable>(alloc: Global, bytes: &[u8]) -> Result<(), Error> {
+    access::<ArchivedOption<T>>(alloc, bytes)?;
+    Ok(())
 }
 
 // The number of one or more digits.
@@ -111,6 +133,21 @@ fn number(word: &str) -> Option<u32> {
         word.parse().ok()
     } else {
         None
+    }
+}
+
+// Bytes in hexadecimal behind `some:`, or `none`. No answer where the word is neither.
+fn optional_bytes(alloc: Global, word: &str) -> Result<Option<Option<Vec<u8>>>, Error> {
+    if word == "none" {
+        return Ok(Some(None));
+    }
+    let Some(digits) = word.strip_prefix("some:") else {
+        return Ok(None);
+    };
+    match hex::decode(alloc, digits) {
+        Ok(bytes) => Ok(Some(Some(bytes))),
+        Err(FromHexError::OutOfMemory) => Err(Error::OutOfMemory),
+        Err(_) => Ok(None),
     }
 }
 

@@ -33,6 +33,11 @@ fn values_are_written(rt: HostRuntime) -> Result<(), Fail> {
         ),
         ("write|vec-u32|1,2", "0100000002000000f8ffffff02000000\n"),
         ("write|vec-u32|", "0000000000000000\n"),
+        ("write|opt-box-bytes|none", "000000000000000000000000\n"),
+        (
+            "write|opt-box-bytes|some:48656c6c6f20776f726c64",
+            "48656c6c6f20776f726c640001000000f0ffffff0b000000\n",
+        ),
         ("write|string|hi", "6869ffffffffffff\n"),
         ("write|string|", "ffffffffffffffff\n"),
         ("write|string|12345678", "3132333435363738\n"),
@@ -83,6 +88,16 @@ fn archives_are_checked(rt: HostRuntime) -> Result<(), Fail> {
             "refused: 17 UnalignedPointer\n",
         ),
         ("check|u32|2a0000", 1, "refused: 16 InvalidSubtreePointer\n"),
+        (
+            "check|opt-box-bytes|48656c6c6f20776f726c640001000000f0ffffff0b000000",
+            0,
+            "accepted\n",
+        ),
+        (
+            "check|opt-box-bytes|48656c6c6f20776f726c640002000000f0ffffff0b000000",
+            1,
+            "refused: 24 InvalidDiscriminant\n",
+        ),
         ("check|opt-u32|00aabbcc01020304", 0, "accepted\n"),
         ("check|opt-u32|010000002a000000", 0, "accepted\n"),
         (
@@ -123,6 +138,9 @@ fn other_words_are_bad_arguments(rt: HostRuntime) -> Result<(), Fail> {
         "write|u32|4294967296",
         "write|opt-u32|1",
         "write|opt-u32|none",
+        "write|opt-box-bytes|",
+        "write|opt-box-bytes|some",
+        "write|opt-box-bytes|some:6",
         "check|string|6",
         "check|string|6g",
         "check|string|0x00",

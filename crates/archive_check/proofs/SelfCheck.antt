@@ -11,3 +11,4 @@ pub mod Orders
 pub mod Roots
 pub mod Outcomes
 pub mod Spent
+pub mod Arrays

@@ -4,3 +4,4 @@ pub mod Laws
 pub mod Orders
 pub mod Regions
 pub mod Owners
+pub mod Arrays

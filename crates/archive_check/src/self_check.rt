@@ -11,6 +11,7 @@ ghost use Rattle.archive_check.specs.Pushes.{Spends};
 use crate::context::ArchiveContext;
 use crate::format::error::Error;
 
+mod arrays;
 mod elements;
 mod leaves;
 mod parts;
@@ -21,6 +22,7 @@ mod texts;
 mod values;
 mod variants;
 
+pub use arrays::ArrayCheck;
 pub use elements::VecCheck;
 pub use leaves::check_leaf;
 pub use parts::{CheckedParts, RecordCheck};

@@ -34,6 +34,7 @@ pub mod Owned
 pub mod OwnersWritten
 pub mod PartBytes
 pub mod PartsShown
+pub mod ArraysShown
 pub mod ReadElements
 pub mod ReadRecords
 pub mod Spots

@@ -116,7 +116,7 @@ module _ (D : Definitions) (bytes : List ℕ) (q n : ℕ) where
       element_viewed P is v = rw is (∥∥₁_map v (λ (s, kn, l). (s, kn, element_lies s kn l)))
 
       -- what is read there, and what it is filled with
-      filled_at : {s : Schema} {p m : ℕ} {vs ws : Values} (i : ℕ) → i < m → ReadsRun s bytes p m X vs → FillsAll s bytes vs ws → (v u : Value) × Reads s bytes (p + i * size_of s.layouts X) X v × Fills s bytes v u × (value_at i ws ≡ Some u)
+      pub filled_at : {s : Schema} {p m : ℕ} {vs ws : Values} (i : ℕ) → i < m → ReadsRun s bytes p m X vs → FillsAll s bytes vs ws → (v u : Value) × Reads s bytes (p + i * size_of s.layouts X) X v × Fills s bytes v u × (value_at i ws ≡ Some u)
       filled_at i less reads_none fs = absurd (omega arith)
       filled_at {s = s} zero less (reads_element {p = p} {v = v} r rs) (fills_value {w = w} f fs) = let here : p + 0 * size_of s.layouts X ≡ p = omega arith in (v, w, rw here r, f, refl)
       filled_at {s = s} (suc i) less (reads_element {p = p} r rs) (fills_value f fs) =

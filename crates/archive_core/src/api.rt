@@ -20,6 +20,7 @@ ghost use Rattle.archive_write.specs.Sharing.{KnowsNone};
 ghost use Rattle.archive_write.specs.Written.{GoesOn};
 
 mod kept;
+mod using;
 
 use crate::pooling::Pool;
 use crate::seal::Seal;
@@ -33,7 +34,8 @@ use archive_check::format::error::Error;
 use archive_check::self_check::{SelfCheck, check_root};
 use archive_check::shape::Schema;
 pub use kept::Access;
-use std::alloc::Global;
+use std::alloc::{Allocator, Global};
+pub use using::{serialize_using, to_bytes_in_with_alloc, to_bytes_with_alloc};
 
 /// What the calls that write a whole archive hand to its value: a writer, an allocator and the keys of this archive. As in rkyv 0.8.18.
 pub type HighSerializer<W, A> = Serializer<W, A, Share>;
@@ -48,19 +50,19 @@ pub fn root_position<T: Portable>(len: usize) -> usize
     len.saturating_sub(T::size())
 }
 
-// The writer behind an archive of `value`, or behind what was written of one, and the root's position.
-fn serialize_whole<W: Writer + Drop, T: Serialize<HighSerializer<W, Global>>>(
-    alloc: Global,
-    value: &T,
-    writer: W,
-) -> (W, Result<usize, Error>)
+// The writer behind an archive of `value`, or behind what was written of one, and the root's position. Resolvers take their memory from `resolvers`.
+fn serialize_whole<
+    W: Writer + Drop,
+    A: Allocator + Copy + Drop,
+    T: Serialize<HighSerializer<W, A>>,
+>(alloc: Global, resolvers: A, value: &T, writer: W) -> (W, Result<usize, Error>)
     ensures archived { IfOk result.1 (λ root. Archives T.Archived.definitions (W.state writer).bytes (W.state result.0).bytes root T.Archived.shape T.Archived.layout.size
         (T.keys value.now) (T.meaning value.now)) }
     ensures goes_on { GoesOn (unshared (W.state writer)) (unshared (W.state result.0)) }
     ensures refused { IfErr result.1 (IsRegionRefused T.Archived.definitions (one T.Archived.shape) 0 (T.keys value.now) (T.meaning value.now)
         (unshared (W.state writer)) (unshared (W.state result.0))) }
 {
-    let mut serializer = Serializer::new(writer, alloc, Share::new(alloc));
+    let mut serializer = Serializer::new(writer, resolvers, Share::new(alloc));
     let root = serialize_one(value, &mut serializer);
     (serializer.into_writer(), root)
 }
@@ -81,9 +83,7 @@ pub fn to_bytes_in<W: Writer + Drop, T: Serialize<HighSerializer<W, Global>>>(
         × IsRegionRefused T.Archived.definitions (one T.Archived.shape) 0 (T.keys value.now) (T.meaning value.now)
         (unshared (W.state writer)) (unshared (W.state end)) e) }
 {
-    let (writer, root) = serialize_whole(alloc, value, writer);
-    root?;
-    Ok(writer)
+    to_bytes_in_with_alloc(alloc, value, writer, alloc)
 }
 
 /// Appends an archive of `value` to what `writer` holds, its root at the end, and answers the root's position, in bytes from the first one. The
@@ -115,9 +115,7 @@ pub fn to_bytes<T: Serialize<HighSerializer<Vec<u8>, Global>>>(
     ensures refused { IfErr result (λ e. (e ≡ OutOfMemory)
         ⊎ HindersRegion T.Archived.definitions (one T.Archived.shape) 0 (T.keys value.now) (T.meaning value.now) at_start e) }
 {
-    let (bytes, root) = serialize_whole(alloc, value, Vec::new(alloc));
-    root?;
-    Ok(bytes)
+    to_bytes_with_alloc(alloc, value, alloc)
 }
 
 /// Checks that `bytes` are an archive whose root, a `T`, lies at `pos`. Asks that the context's range ends in the buffer. In a context for these bytes

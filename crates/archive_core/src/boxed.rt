@@ -10,6 +10,7 @@ ghost use Rattle.archive_core.specs.Views.{ShowsPart, boxed_in};
 
 mod inner;
 mod reading;
+mod slices;
 mod sources;
 
 use crate::traits::{ArchivePointee, Portable, PortablePointee};
@@ -18,6 +19,7 @@ use archive_check::format::bytes::{read_target, read_u32};
 use archive_check::format::error::Error;
 use archive_check::format::expr::{Defs, Expr};
 pub use inner::{resolve_inner, serialize_inner};
+pub use slices::{BoxSlice, BoxStr};
 pub use sources::BoxResolver;
 use std::alloc::Global;
 use std::marker::PhantomData;

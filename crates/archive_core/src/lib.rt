@@ -2,6 +2,7 @@
 #![tactic(auto)]
 
 pub mod api;
+pub mod array;
 pub mod boxed;
 pub mod choice;
 pub mod option;
@@ -13,6 +14,7 @@ pub mod primitive;
 pub mod rc;
 pub mod record;
 pub mod rel_ptr;
+pub mod result;
 pub mod seal;
 pub mod ser;
 pub mod sharing;

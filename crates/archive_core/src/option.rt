@@ -1,21 +1,25 @@
 //! Options: how they are archived, viewed and read back.
 
-ghost use Rattle.std.specs.Prelude.{◌≡◌, ◌+◌, ◌<◌, length, slice_index, OnOk, IfOk, IfErr, IfSome, MatchOption};
+ghost use Rattle.std.specs.Prelude.{◌≡◌, ◌+◌, ◌<◌, length, slice_index, OnOk, IfOk, IfErr, IfSome, MatchOption, refl};
 ghost use Rattle.archive_check.specs.Shape.{one};
 ghost use Rattle.archive_check.specs.Viewed.{Viewed};
 ghost use Rattle.archive_check.specs.Entries.{ReadsBack, RefusesReading};
 ghost use Rattle.archive_enum.specs.Choices.{option_shape, option_layout};
 ghost use Rattle.archive_core.specs.Causes.{HindersAt};
 ghost use Rattle.archive_core.specs.Options.{option_meaning, option_keys, option_flat, OptionBelongs, option_keyed, option_planned};
+ghost use Rattle.archive_core.specs.PlannedOwners.{one_planned};
 ghost use Rattle.archive_core.specs.Writing.{Fresh, Resolves};
 
 use crate::place::Place;
-use crate::traits::{Archive, Deserialize, Entries, Keys, Portable, Serialize};
+use crate::ser::serialize_one;
+use crate::traits::{
+    Archive, ArchiveUnsized, Deserialize, Entries, Keys, Portable, Serialize, SerializeUnsized,
+};
 use crate::variants::resolve_case;
 use crate::view::{RawView, Ref};
 use archive_check::format::error::Error;
 pub use archive_enum::option::{ArchivedOption, Iter};
-use archive_write::ser::Writer;
+use archive_write::ser::{ResolverAlloc, Writer};
 use std::alloc::Global;
 
 /// A `None` is zeros: its tag and all bytes behind it. A `Some` is archived as its value behind a 1. As in rkyv 0.8.18.
@@ -65,6 +69,34 @@ impl<T: Serialize<S>, S: Writer + Keys> Serialize<S> for Option<T> {
             None => Ok(None),
             Some(value) => Ok(Some(value.serialize(serializer)?)),
         }
+    }
+}
+
+/// As a source in a region of its own it is one value.
+impl<T: Archive> ArchiveUnsized for Option<T> {
+    type Archived = ArchivedOption<T::Archived>;
+
+    ghost source_length = { λ _. 0 };
+
+    ghost meaning = { option_meaning T.meaning };
+
+    ghost keys = { option_keys T.keys };
+
+    ghost keyed = { option_keyed T.keys T.meaning T.keyed };
+
+    ghost one_length = { λ _ _. refl };
+
+    ghost planned = { λ o. one_planned T.Archived.definitions (option_shape T.Archived.shape) (option_keys T.keys o) (option_meaning T.meaning o)
+        (option_planned T.Archived.definitions T.Archived.shape T.keys T.meaning T.planned o) };
+
+    fn archived_metadata(&self) -> Result<(), Error> {
+        Ok(())
+    }
+}
+
+impl<T: Serialize<S>, S: Writer + ResolverAlloc> SerializeUnsized<S> for Option<T> {
+    fn serialize_unsized(&self, serializer: &mut S) -> Result<usize, Error> {
+        serialize_one(self, serializer)
     }
 }
 

@@ -1,17 +1,24 @@
 //! Writers, and the regions that are resolved into them.
 
-ghost use Rattle.std.specs.Prelude.{◌≡◌, ◌+◌, ◌*◌, ◌^◌, ◌<◌, ◌≤◌, ◌%◌, ◌↔◌, true, length, IfOk, OnOk, IfErr};
+ghost use Rattle.std.specs.Prelude.{◌≡◌, ◌⊎◌, ◌+◌, ◌++◌, ◌*◌, ◌^◌, ◌<◌, ◌≤◌, ◌%◌, ◌↔◌, true, length, IfOk, OnOk, IfErr};
 ghost use Rattle.archive_check.specs.WriterState.{KeepsKeys};
+ghost use Rattle.archive_check.specs.Layout.{pointer_size, has_length};
 ghost use Rattle.archive_check.specs.Shape.{one};
 ghost use Rattle.archive_core.specs.Causes.{Explains, HindersAt, HindersRegionAt, IsRegionRefused};
+ghost use Rattle.archive_core.specs.Offsets.{distance};
+ghost use Rattle.archive_core.specs.OwnerBytes.{owner_bytes, HindersPointerAt};
 ghost use Rattle.archive_core.specs.Plans.{SerializedRegion};
 ghost use Rattle.archive_core.specs.Runs.{each_flat, EachBelongs, PutsRun, HindersRunAt};
 ghost use Rattle.archive_core.specs.Writing.{Fresh, Resolves, Puts};
-ghost use Rattle.archive_write.specs.Written.{GoesOn};
+ghost use Rattle.archive_write.specs.Written.{GoesOn, ExplainsRefusal};
 
 use crate::place::Place;
-use crate::traits::{Archive, Portable, Serialize};
+use crate::rel_ptr::emplace_pointer;
+use crate::traits::{
+    Archive, ArchivePointee, ArchiveUnsized, ArchivedMetadata, Portable, PortablePointee, Serialize,
+};
 use archive_check::format::error::Error;
+use archive_num::FixedUsize;
 pub use archive_write::ser::{Buffer, Positional, ResolverAlloc, Serializer, Writer, WriterExt};
 use std::alloc::Allocator;
 
@@ -175,6 +182,45 @@ pub trait ResolveExt: Writer {
         }
         let mut region = vec![in alloc; 0u8; size]?;
         resolve_each(self, values, resolvers, &mut region)?;
+        Ok(pos)
+    }
+
+    /// Writes a pointer to the region of `value`, which stands at `to`: an offset of four bytes, and behind it the length, of four, where `value` is a
+    /// slice or a text. Answers the pointer's position, in bytes from the first one. Asks that the writer stands at a multiple of four. It takes no
+    /// memory. Refused with `LengthTooLarge`, 5, where the length is above 4,294,967,295, with `LayoutTooLarge`, 23, where the pointer would end above
+    /// `usize::MAX`, with `IsizeOverflow`, 2, or `OffsetOverflow`, 3, where the offset doesn't fit, nothing being written then, or as the writer refuses
+    /// (`BufferOverflow`, 8; `WriterFailed`, 9). rkyv 0.8.18 has the call in `WriterExt`, and panics where the offset doesn't fit.
+    #[tactic(auto, using(crate::proofs::Owned::size_by_length, crate::proofs::Causes::goes_nowhere, crate::proofs::Causes::goes_written, crate::proofs::Causes::goes_refused))]
+    final fn resolve_unsized_aligned<T: ArchiveUnsized>(
+        &mut self,
+        value: &T,
+        to: usize,
+    ) -> Result<usize, Error>
+    where
+        Self: Sized,
+        T::Archived: PortablePointee,
+        ArchivedMetadata<T>: Drop,
+        requires aligned { Self.place self.old % 4 ≡ 0 }
+        ensures written { OnOk result ((Self.state self.new).bytes ≡ (Self.state self.old).bytes
+            ++ owner_bytes (has_length T.Archived.pointee) (distance (Self.place self.old) to) (T.source_length value.now)) }
+        ensures position { IfOk result (λ p. p ≡ Self.place self.old) }
+        ensures refused { IfErr result (λ e. (HindersPointerAt (T.source_length value.now) (pointer_size T.Archived.pointee) (Self.place self.old) to e
+            × (Self.state self.new ≡ Self.state self.old))
+            ⊎ ExplainsRefusal (pointer_size T.Archived.pointee) (Self.place self.old) (Self.state self.old).room (Self.state self.old).failures (Self.state self.new).failures e) }
+        ensures goes_on { GoesOn (Self.state self.old) (Self.state self.new) }
+        ensures keys { KeepsKeys (Self.state self.old).states (Self.state self.new).states }
+    {
+        let metadata = value.archived_metadata()?;
+        let count = T::Archived::pointer_metadata(&metadata) as FixedUsize;
+        let is_long = T::Archived::has_length();
+        let size = if is_long { 8 } else { 4 };
+        let pos = self.pos();
+        if pos.checked_add(size).is_none() {
+            return Err(Error::LayoutTooLarge);
+        }
+        let mut pointer = [0; 8];
+        emplace_pointer(is_long, to, count, pos, &mut pointer[..size])?;
+        self.write(&pointer[..size])?;
         Ok(pos)
     }
 }

@@ -1,6 +1,7 @@
 // Whole archives, and the parts that they are written and read by.
 
 mod device;
+mod boxed_slices;
 mod memory;
 mod numbers;
 mod options;
@@ -12,6 +13,7 @@ mod rc;
 mod reading;
 mod readme;
 mod rel_ptr;
+mod results;
 mod seals;
 mod self_checks;
 mod shared;

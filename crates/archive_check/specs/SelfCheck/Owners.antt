@@ -15,7 +15,7 @@ use Rattle.archive_check.specs.SelfCheck.Laws.{IsCheckOf, Leads, own_check, plai
 use Rattle.archive_check.specs.plan.Names.{missing}
 
 -- an order of what lies there is one of the owner, which mentions the same names
-owned_order : (D : Definitions) (X Y : Shape) (order : Table) → missing true order Y ≡ missing true order X → IsOrder D X order → IsOrder D Y order
+pub owned_order : (D : Definitions) (X Y : Shape) (order : Table) → missing true order Y ≡ missing true order X → IsOrder D X order → IsOrder D Y order
 owned_order D X Y order same o = record { has = o.has; only = o.only; once = o.once; root = same ∙ o.root; closed = o.closed; placed = o.placed }
 
 -- from the law of an X, with definitions E, shape Y and n bytes for its check

@@ -16,6 +16,7 @@ use crate::format::expr::{Defs, Expr};
 use crate::self_check::SelfCheck;
 use std::alloc::{Allocator, Global};
 
+mod arrays;
 mod layouts;
 mod leaves;
 mod parts;

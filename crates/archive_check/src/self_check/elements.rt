@@ -39,7 +39,7 @@ fn check_no_bytes<T: Portable, C: ArchiveContext>(
 
 // Checks so many of `T`, one behind another from `at` on.
 #[inline(always)]
-fn check_elements<T: Portable, C: ArchiveContext>(
+pub fn check_elements<T: Portable, C: ArchiveContext>(
     bytes: &[u8],
     at: usize,
     count: usize,

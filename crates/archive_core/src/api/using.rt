@@ -1,0 +1,64 @@
+// Calls with a serializer of the caller's own, or with memory for resolvers from an allocator of its own.
+
+ghost use Rattle.std.specs.Prelude.{◌≡◌, ◌⊎◌, IfOk, IfErr, ℕ, []};
+ghost use Rattle.archive_check.specs.Shape.{one};
+ghost use Rattle.archive_check.specs.declared.format.error.Error.TheVariants.{OutOfMemory};
+ghost use Rattle.archive_core.specs.Causes.{HindersRegion, IsRegionRefused};
+ghost use Rattle.archive_core.specs.Plans.{SerializedRegion, at_start, unshared};
+ghost use Rattle.archive_core.specs.Writing.{Archives};
+ghost use Rattle.archive_write.specs.Written.{GoesOn};
+
+use super::{HighSerializer, serialize_whole};
+use crate::ser::Writer;
+use crate::traits::{Keys, Serialize, SerializeUnsized};
+use archive_check::format::error::Error;
+use std::alloc::{Allocator, Global};
+
+/// As `to_bytes_in`, with memory for resolvers from `resolvers`; all else comes from `alloc`. As in rkyv 0.8.18.
+pub fn to_bytes_in_with_alloc<
+    W: Writer + Drop,
+    A: Allocator + Copy + Drop,
+    T: Serialize<HighSerializer<W, A>>,
+>(alloc: Global, value: &T, writer: W, resolvers: A) -> Result<W, Error>
+    ensures archived { IfOk result (λ w. (root : ℕ) × Archives T.Archived.definitions (W.state writer).bytes (W.state w).bytes root T.Archived.shape T.Archived.layout.size
+        (T.keys value.now) (T.meaning value.now)) }
+    ensures goes_on { IfOk result (λ w. GoesOn (unshared (W.state writer)) (unshared (W.state w))) }
+    ensures refused { IfErr result (λ e. (end : W) × GoesOn (unshared (W.state writer)) (unshared (W.state end))
+        × IsRegionRefused T.Archived.definitions (one T.Archived.shape) 0 (T.keys value.now) (T.meaning value.now)
+        (unshared (W.state writer)) (unshared (W.state end)) e) }
+{
+    let (writer, root) = serialize_whole(alloc, resolvers, value, writer);
+    root?;
+    Ok(writer)
+}
+
+/// As `to_bytes`, with memory for resolvers from `resolvers`; all else comes from `alloc`. As in rkyv 0.8.18.
+pub fn to_bytes_with_alloc<A: Allocator + Copy + Drop, T: Serialize<HighSerializer<Vec<u8>, A>>>(
+    alloc: Global,
+    value: &T,
+    resolvers: A,
+) -> Result<Vec<u8>, Error>
+    ensures archived { IfOk result (λ bytes. (root : ℕ) × Archives T.Archived.definitions [] bytes.items root T.Archived.shape T.Archived.layout.size
+        (T.keys value.now) (T.meaning value.now)) }
+    ensures refused { IfErr result (λ e. (e ≡ OutOfMemory)
+        ⊎ HindersRegion T.Archived.definitions (one T.Archived.shape) 0 (T.keys value.now) (T.meaning value.now) at_start e) }
+{
+    let (bytes, root) = serialize_whole(alloc, resolvers, value, Vec::new(alloc));
+    root?;
+    Ok(bytes)
+}
+
+/// Writes what `value` owns and then its region, with a serializer of the caller's own, and answers the root's position, in bytes from the first one.
+/// It asks nothing, and refuses as `serialize_unsized` of `value` does. As in rkyv 0.8.18.
+pub fn serialize_using<S: Writer + Keys, T: SerializeUnsized<S>>(
+    value: &T,
+    serializer: &mut S,
+) -> Result<usize, Error>
+    ensures serialized { IfOk result (λ p. SerializedRegion T.Archived.definitions T.Archived.pointee (T.source_length value.now) (T.keys value.now)
+        (T.meaning value.now) p (S.state serializer.old) (S.state serializer.new)) }
+    ensures goes_on { GoesOn (S.state serializer.old) (S.state serializer.new) }
+    ensures refused { IfErr result (IsRegionRefused T.Archived.definitions T.Archived.pointee (T.source_length value.now) (T.keys value.now)
+        (T.meaning value.now) (S.state serializer.old) (S.state serializer.new)) }
+{
+    value.serialize_unsized(serializer)
+}
