@@ -3,6 +3,7 @@
 
 pub mod api;
 pub mod boxed;
+pub mod compare;
 pub mod option;
 mod phantom;
 pub mod place;
