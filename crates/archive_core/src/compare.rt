@@ -9,6 +9,7 @@ ghost use Rattle.archive_check.specs.Viewed.{Viewed};
 ghost use Rattle.archive_core.specs.Compared.{Standing, standing};
 
 mod leaves;
+mod lists;
 mod texts;
 
 use crate::traits::ArchivePointee;
