@@ -1,6 +1,11 @@
 -- By what views of one type are compared: where they stand.
-use Rattle.std.proofs.Common.{ap, refl, ◌∙◌}
-use Rattle.std.specs.Prelude.{◌≡◌, ℕ, zero, suc, ◌+◌, ◌*◌, Bool, IsTrue, List, [], ◌∷◌}
+use Rattle.std.proofs.Common.{ap, refl, sym, ◌∙◌}
+use mathlib.Core.Bool.{true≢false}
+use Rattle.std.specs.Prelude.{◌≡◌, ℕ, zero, suc, ◌+◌, ◌*◌, ◌==◌, if◌then◌else◌, pos as whole, Bool, IsTrue, List, [], ◌∷◌, ◌++◌, slice_index, Option, Some, None}
+use Rattle.std.specs.Option.{option_cmp}
+use Rattle.archive_check.specs.Shape.{Pointee}
+use Rattle.archive_check.specs.Reads.{u32_at, length_at}
+use Rattle.archive_check.specs.Readable.{target_from}
 use Rattle.std.specs.Ordering.{eq_by_cmp, nat_cmp, on}
 use Rattle.std.specs.Cmp.{IsTotalOrder, on_total}
 use Rattle.std.specs.Cmp.Lexicographic.{slice_cmp, bytes_decides, texts_ties, lists_total, lists_ties}
@@ -47,3 +52,22 @@ pub slices_fed : (z : ℕ) (R : Standing → Standing → Ordering) (feed : Stan
     → (x y : Standing) → IsTrue (eq_by_cmp (slices z R) x y) → fed.slice feed (elements z x) ≡ fed.slice feed (elements z y)
 slices_fed z R feed alike x y h =
     (items_Alike (record { fed = alike })).fed (elements z x) (elements z y) (lists_ties R (λ x y. refl) (elements z x) (elements z y) ∙ h)
+
+-- what the pointer of a box or a shared pointer leads to
+abbrev pub pointee_at : Pointee → Standing → Standing
+pointee_at P v = standing v.bytes (target_from v.bytes v.pos v.pos) (length_at v.bytes v.pos P)
+
+-- the slice of a vector
+abbrev pub slice_of : Standing → Standing
+slice_of v = standing v.bytes (target_from v.bytes v.pos v.pos) (u32_at v.bytes (v.pos + 4))
+
+-- the value of an option, where it has one
+abbrev pub value_of : ℕ → Standing → Option Standing
+value_of align v = if slice_index v.bytes v.pos == 0 then None else Some (standing v.bytes (v.pos + align) 0)
+
+pub option_fed : (R : Standing → Standing → Ordering) (feed : Standing → List (List ℕ)) → ((x y : Standing) → IsTrue (eq_by_cmp R x y) → feed x ≡ feed y)
+    → (p q : Option Standing) → IsTrue (eq_by_cmp (option_cmp R) p q) → fed.option feed p ≡ fed.option feed q
+option_fed R feed alike None None h = refl
+option_fed R feed alike None (Some y) h = absurd (true≢false (sym h))
+option_fed R feed alike (Some x) None h = absurd (true≢false (sym h))
+option_fed R feed alike (Some x) (Some y) h = ap (λ us. fed.isize (whole 1) ++ us) (alike x y h)

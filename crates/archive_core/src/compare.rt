@@ -10,6 +10,8 @@ ghost use Rattle.archive_core.specs.Compared.{Standing, standing};
 
 mod leaves;
 mod lists;
+mod options;
+mod owners;
 mod texts;
 
 use crate::traits::ArchivePointee;
