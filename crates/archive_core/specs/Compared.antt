@@ -1,13 +1,13 @@
 -- By what views of one type are compared: where they stand.
 use Rattle.std.proofs.Common.{ap, refl, sym, ◌∙◌}
 use mathlib.Core.Bool.{true≢false}
-use Rattle.std.specs.Prelude.{◌≡◌, ℕ, zero, suc, ◌+◌, ◌*◌, ◌==◌, if◌then◌else◌, pos as whole, Bool, IsTrue, List, [], ◌∷◌, ◌++◌, slice_index, Option, Some, None}
+use Rattle.std.specs.Prelude.{◌≡◌, ℕ, zero, suc, ◌+◌, ◌*◌, ◌==◌, if◌then◌else◌, pos as whole, Bool, true, IsTrue, List, [], ◌∷◌, ◌++◌, slice_index, Option, Some, None}
 use Rattle.std.specs.Option.{option_cmp}
 use Rattle.archive_check.specs.Shape.{Pointee}
 use Rattle.archive_check.specs.Reads.{u32_at, length_at}
 use Rattle.archive_check.specs.Readable.{target_from}
-use Rattle.std.specs.Ordering.{eq_by_cmp, nat_cmp, on}
-use Rattle.std.specs.Cmp.{IsTotalOrder, on_total}
+use Rattle.std.specs.Ordering.{eq_by_cmp, is_eq, nat_cmp, on}
+use Rattle.std.specs.Cmp.{IsTotalOrder, on_total, alike_right, Equal-is}
 use Rattle.std.specs.Cmp.Lexicographic.{slice_cmp, bytes_decides, texts_ties, lists_total, lists_ties}
 use Rattle.std.specs.Hash.{items_Alike}
 use Rattle.std.specs.Hash as fed
@@ -71,3 +71,7 @@ option_fed R feed alike None None h = refl
 option_fed R feed alike None (Some y) h = absurd (true≢false (sym h))
 option_fed R feed alike (Some x) None h = absurd (true≢false (sym h))
 option_fed R feed alike (Some x) (Some y) h = ap (λ us. fed.isize (whole 1) ++ us) (alike x y h)
+
+-- a number is compared to u as to one that equals u
+pub number_alike : {X : Type 0} {R : X → X → Ordering} → IsTotalOrder R → (x y u : X) → is_eq (R x u) ≡ true → R y x ≡ R y u
+number_alike {R = R} o x y u h = alike_right o x u y ((Equal-is (R x u)).0 h)

@@ -10,12 +10,14 @@ ghost use Rattle.archive_core.specs.Compared.{Standing, standing};
 
 mod leaves;
 mod lists;
+mod native;
 mod options;
 mod owners;
 mod texts;
 
 use crate::traits::ArchivePointee;
 use crate::view::{RawView, Ref};
+pub use native::CompareNative;
 use std::cmp::Ordering;
 use std::hash::{Hash, Hasher};
 
