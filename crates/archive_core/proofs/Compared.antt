@@ -1,5 +1,7 @@
 -- Two slices are compared element by element.
-use Rattle.std.proofs.Common.{◌≡◌, ℕ, zero, suc, ◌+◌, ◌-◌, ◌*◌, ◌<◌, ◌≤◌, true, false, List, length, arith, refl, sym, ap, ◌∙◌}
+use Rattle.std.proofs.Common.{◌≡◌, ℕ, zero, suc, ◌+◌, ◌-◌, ◌*◌, ◌<◌, ◌≤◌, true, false, List, length, drop, get_or, arith, refl, sym, ap, ◌∙◌, [], ◌∷◌}
+use Rattle.std.proofs.Math.ListN.{drop_of_length-le, length-drop}
+use Rattle.std.proofs.lemmas.List.{drop_more}
 use Rattle.std.specs.declared.cmp.Ordering.{Ordering}
 use Rattle.std.specs.declared.cmp.Ordering.TheVariants.{Less, Equal, Greater}
 use Rattle.std.specs.Ordering.{ordering_then, nat_cmp, is_ne}
@@ -86,3 +88,38 @@ module _ (R : Standing → Standing → Ordering) (a : List ℕ) (p z : ℕ) (b 
 
   pub rest_later : is_ne r ≡ false → rest R a p z b q i n m ≡ rest R a p z b q (i + 1) n m
   rest_later d = both_first ∙ decided_later r _ d
+
+-- a slice and one of the machine: the order of what is left from the element i on, of n elements and all of us
+module _ {U : Type 0} (R : Standing → U → Ordering) (a : List ℕ) (p z : ℕ) (us : List U) where
+  abbrev pub left_order : ℕ → ℕ → Ordering
+  left_order i n = slice_cmp R (elements_from a p z i (n - i)) (drop i us)
+
+  pub left_start : (n : ℕ) → slice_cmp R (elements_from a p z 0 n) us ≡ left_order 0 n
+  left_start n = let all : n - 0 ≡ n = omega arith in rw all refl
+
+  pub left_over : (i n : ℕ) → i < n → length us ≤ i → left_order i n ≡ Greater
+  left_over i n h k =
+      let some : n - i ≡ suc (n - (i + 1)) = omega arith in
+      let none : drop i us ≡ [] = drop_of_length-le us k in
+      rw (some, none) refl
+
+  done_left : (i n u : ℕ) (vs : List U) → n - i ≡ u → length vs ≡ length us - i → n ≤ i → i ≤ n → i ≤ length us → slice_cmp R (elements_from a p z i u) vs ≡ nat_cmp n (length us)
+  done_left i n zero [] e f h k l = nat_cmp_is n (length us) Equal (omega arith)
+  done_left i n zero (v ∷ vs) e f h k l = nat_cmp_is n (length us) Less (omega arith)
+  done_left i n (suc u) vs e f h k l = absurd (omega arith)
+
+  pub left_done : (i n : ℕ) → n ≤ i → i ≤ n → i ≤ length us → left_order i n ≡ nat_cmp n (length us)
+  left_done i n = done_left i n (n - i) (drop i us) refl (length-drop i us)
+
+  module _ (i n : ℕ) (r : Ordering) (d : U) (h : i < n) (k : i < length us) (e : r ≡ R (standing a (p + i * z) 0) (get_or us i d)) where
+    left_first : left_order i n ≡ ordering_then r (left_order (i + 1) n)
+    left_first =
+        let some : n - i ≡ suc (n - (i + 1)) = omega arith in
+        let more : drop i us ≡ get_or us i d ∷ drop (i + 1) us = drop_more us i d k in
+        rw (some, more) (ap (λ o. ordering_then o (left_order (i + 1) n)) (sym e))
+
+    pub left_here : is_ne r ≡ true → left_order i n ≡ r
+    left_here t = left_first ∙ decided_here r _ t
+
+    pub left_later : is_ne r ≡ false → left_order i n ≡ left_order (i + 1) n
+    left_later t = left_first ∙ decided_later r _ t

@@ -12,6 +12,7 @@ use Rattle.std.specs.Cmp.Lexicographic.{slice_cmp, bytes_decides, texts_ties, li
 use Rattle.std.specs.Hash.{items_Alike}
 use Rattle.std.specs.Hash as fed
 use Rattle.std.specs.declared.cmp.Ordering.{Ordering}
+use Rattle.std.specs.declared.cmp.Ordering.TheVariants.{Less, Equal, Greater}
 
 -- a part of a buffer: the whole buffer, the position, the length
 pub record Standing : Type 0 where
@@ -75,3 +76,10 @@ option_fed R feed alike (Some x) (Some y) h = ap (λ us. fed.isize (whole 1) ++ 
 -- a number is compared to u as to one that equals u
 pub number_alike : {X : Type 0} {R : X → X → Ordering} → IsTotalOrder R → (x y u : X) → is_eq (R x u) ≡ true → R y x ≡ R y u
 number_alike {R = R} o x y u h = alike_right o x u y ((Equal-is (R x u)).0 h)
+
+-- the order of an option and one of other values: `None` is less than `Some`
+abbrev pub option_order : {U : Type 0} → (Standing → U → Ordering) → Option Standing → Option U → Ordering
+option_order R None None = Equal
+option_order R None (Some u) = Less
+option_order R (Some v) None = Greater
+option_order R (Some v) (Some u) = R v u

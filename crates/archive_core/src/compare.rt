@@ -11,6 +11,7 @@ ghost use Rattle.archive_core.specs.Compared.{Standing, standing};
 mod leaves;
 mod lists;
 mod native;
+mod native_lists;
 mod options;
 mod owners;
 mod texts;
