@@ -1,3 +1,4 @@
+pub mod Compared
 pub mod StandingLeaves
 pub mod SealedLeaves
 pub mod Coded

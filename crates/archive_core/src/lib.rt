@@ -5,6 +5,7 @@ pub mod api;
 pub mod array;
 pub mod boxed;
 pub mod choice;
+pub mod compare;
 pub mod option;
 pub mod parts;
 mod phantom;

@@ -2,6 +2,7 @@
 
 mod device;
 mod boxed_slices;
+mod comparisons;
 mod memory;
 mod numbers;
 mod options;

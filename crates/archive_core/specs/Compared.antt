@@ -1,0 +1,85 @@
+-- By what views of one type are compared: where they stand.
+use Rattle.std.proofs.Common.{ap, refl, sym, ◌∙◌}
+use mathlib.Core.Bool.{true≢false}
+use Rattle.std.specs.Prelude.{◌≡◌, ℕ, zero, suc, ◌+◌, ◌*◌, ◌==◌, if◌then◌else◌, pos as whole, Bool, true, IsTrue, List, [], ◌∷◌, ◌++◌, slice_index, Option, Some, None}
+use Rattle.std.specs.Option.{option_cmp}
+use Rattle.archive_check.specs.Shape.{Pointee}
+use Rattle.archive_check.specs.Reads.{u32_at, length_at}
+use Rattle.archive_check.specs.Readable.{target_from}
+use Rattle.std.specs.Ordering.{eq_by_cmp, is_eq, nat_cmp, on}
+use Rattle.std.specs.Cmp.{IsTotalOrder, on_total, alike_right, Equal-is}
+use Rattle.std.specs.Cmp.Lexicographic.{slice_cmp, bytes_decides, texts_ties, lists_total, lists_ties}
+use Rattle.std.specs.Hash.{items_Alike}
+use Rattle.std.specs.Hash as fed
+use Rattle.std.specs.declared.cmp.Ordering.{Ordering}
+use Rattle.std.specs.declared.cmp.Ordering.TheVariants.{Less, Equal, Greater}
+
+-- a part of a buffer: the whole buffer, the position, the length
+pub record Standing : Type 0 where
+  pub bytes : List ℕ
+  pub pos : ℕ
+  pub len : ℕ
+
+abbrev pub standing : List ℕ → ℕ → ℕ → Standing
+standing bytes pos len = record { bytes = bytes; pos = pos; len = len }
+
+-- n elements of z bytes at p, from the element i on
+abbrev pub elements_from : List ℕ → ℕ → ℕ → ℕ → ℕ → List Standing
+elements_from bytes p z i zero = []
+elements_from bytes p z i (suc n) = standing bytes (p + i * z) 0 ∷ elements_from bytes p z (i + 1) n
+
+-- the elements of a slice
+abbrev pub elements : ℕ → Standing → List Standing
+elements z v = elements_from v.bytes v.pos z 0 v.len
+
+-- what feeds a hasher alike where two are equal does so where the order tells neither apart
+pub level_fed : {K X : Type 0} {E : K → K → Bool} (R : K → K → Ordering) (feed : K → X) → ((x y : K) → E x y ≡ eq_by_cmp R x y) → ((x y : K) → IsTrue (E x y) → feed x ≡ feed y)
+    → (x y : K) → IsTrue (eq_by_cmp R x y) → feed x ≡ feed y
+level_fed R feed ties alike x y h = alike x y (rw (ties x y) h)
+
+-- texts of the same bytes feed a hasher alike
+pub text_fed : (xs ys : List ℕ) → IsTrue (eq_by_cmp (slice_cmp nat_cmp) xs ys) → fed.str xs ≡ fed.str ys
+text_fed xs ys h = ap fed.str ((bytes_decides xs ys).0 (texts_ties xs ys ∙ h))
+
+-- the slices' order: the first elements that differ decide, and else the lengths
+abbrev pub slices : ℕ → (Standing → Standing → Ordering) → Standing → Standing → Ordering
+slices z R = on (elements z) (slice_cmp R)
+
+pub slices_total : (z : ℕ) {R : Standing → Standing → Ordering} → IsTotalOrder R → IsTotalOrder (slices z R)
+slices_total z o = on_total (elements z) (lists_total o)
+
+-- slices of which the order tells neither apart feed a hasher alike, where their elements do
+pub slices_fed : (z : ℕ) (R : Standing → Standing → Ordering) (feed : Standing → List (List ℕ)) → ((x y : Standing) → IsTrue (eq_by_cmp R x y) → feed x ≡ feed y)
+    → (x y : Standing) → IsTrue (eq_by_cmp (slices z R) x y) → fed.slice feed (elements z x) ≡ fed.slice feed (elements z y)
+slices_fed z R feed alike x y h =
+    (items_Alike (record { fed = alike })).fed (elements z x) (elements z y) (lists_ties R (λ x y. refl) (elements z x) (elements z y) ∙ h)
+
+-- what the pointer of a box or a shared pointer leads to
+abbrev pub pointee_at : Pointee → Standing → Standing
+pointee_at P v = standing v.bytes (target_from v.bytes v.pos v.pos) (length_at v.bytes v.pos P)
+
+-- the slice of a vector
+abbrev pub slice_of : Standing → Standing
+slice_of v = standing v.bytes (target_from v.bytes v.pos v.pos) (u32_at v.bytes (v.pos + 4))
+
+-- the value of an option, where it has one
+abbrev pub value_of : ℕ → Standing → Option Standing
+value_of align v = if slice_index v.bytes v.pos == 0 then None else Some (standing v.bytes (v.pos + align) 0)
+
+pub option_fed : (R : Standing → Standing → Ordering) (feed : Standing → List (List ℕ)) → ((x y : Standing) → IsTrue (eq_by_cmp R x y) → feed x ≡ feed y)
+    → (p q : Option Standing) → IsTrue (eq_by_cmp (option_cmp R) p q) → fed.option feed p ≡ fed.option feed q
+option_fed R feed alike None None h = refl
+option_fed R feed alike None (Some y) h = absurd (true≢false (sym h))
+option_fed R feed alike (Some x) None h = absurd (true≢false (sym h))
+option_fed R feed alike (Some x) (Some y) h = ap (λ us. fed.isize (whole 1) ++ us) (alike x y h)
+
+-- a number is compared to u as to one that equals u
+pub number_alike : {X : Type 0} {R : X → X → Ordering} → IsTotalOrder R → (x y u : X) → is_eq (R x u) ≡ true → R y x ≡ R y u
+number_alike {R = R} o x y u h = alike_right o x u y ((Equal-is (R x u)).0 h)
+
+-- the order of an option and one of other values: `None` is less than `Some`
+abbrev pub option_order : {U : Type 0} → (Standing → U → Ordering) → Option Standing → Option U → Ordering
+option_order R None None = Equal
+option_order R None (Some u) = Less
+option_order R (Some v) None = Greater
+option_order R (Some v) (Some u) = R v u

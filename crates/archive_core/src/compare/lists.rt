@@ -1,0 +1,55 @@
+// Slices and vectors are compared element by element, as Rust's slices are: the first elements that differ decide, and else the lengths.
+
+ghost use Rattle.std.specs.Prelude.{◌≡◌, fold};
+ghost use Rattle.std.specs.Hash as fed;
+ghost use Rattle.archive_check.specs.Shape.{run};
+ghost use Rattle.archive_check.specs.Viewed.{Viewed};
+ghost use Rattle.archive_core.specs.Compared.{standing, elements, slices, slices_total, slices_fed};
+
+use super::Ordered;
+use crate::slice::ArchivedSlice;
+use crate::traits::Portable;
+use crate::view::{RawView, Ref};
+use std::cmp::Ordering;
+use std::hash::{Hash, Hasher};
+
+impl<T: Portable + Ordered> Ordered for ArchivedSlice<T> {
+    ghost order = { slices T.layout.size T.order };
+
+    ghost hash_input = { λ v. fed.slice T.hash_input (elements T.layout.size v) };
+
+    ghost total = { slices_total T.layout.size T.total };
+
+    ghost respects = { slices_fed T.layout.size T.order T.hash_input T.respects };
+
+    fn compare(a: RawView<'_>, b: RawView<'_>) -> Ordering {
+        compare_elements::<T>(Ref::at(a), Ref::at(b))
+    }
+
+    fn hash_part<H: Hasher>(part: RawView<'_>, state: &mut H) {
+        let slice: Ref<'_, ArchivedSlice<T>> = Ref::at(part);
+        state.write_usize(slice.len());
+        for index in 0..slice.len() {
+            T::hash_part(slice.index(index).part(), state);
+        }
+    }
+}
+
+// The first elements that differ decide, and else the lengths.
+fn compare_elements<T: Portable + Ordered>(
+    a: Ref<'_, ArchivedSlice<T>>,
+    b: Ref<'_, ArchivedSlice<T>>,
+) -> Ordering
+    ensures { result ≡ slices T.layout.size T.order (standing a.entry.bytes.now a.entry.pos a.entry.len) (standing b.entry.bytes.now b.entry.pos b.entry.len) }
+{
+    for index in 0..a.len() {
+        if index >= b.len() {
+            return Ordering::Greater;
+        }
+        let order = T::compare(a.index(index).part(), b.index(index).part());
+        if order.is_ne() {
+            return order;
+        }
+    }
+    a.len().cmp(&b.len())
+}
