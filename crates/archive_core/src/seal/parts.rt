@@ -1,9 +1,10 @@
 // Seals of what boxes, shared pointers, vectors, slices and options hold.
 
 ghost use Rattle.std.specs.Prelude.{◌≡◌, ◌+◌, ◌*◌, ◌<◌, slice_index, IfSome, IfNone, MatchOption, pos as whole};
+ghost use Rattle.archive_check.specs.Definitions.{no_definition};
 ghost use Rattle.archive_check.specs.Readable.{target_from};
 ghost use Rattle.archive_check.specs.Reads.{i32_at, length_at, u32_at};
-ghost use Rattle.archive_check.specs.Shape.{one, run, boxed, shared, weak, vec as vec_shape};
+ghost use Rattle.archive_check.specs.Shape.{one, run, text, boxed, shared, weak, vec as vec_shape};
 ghost use Rattle.archive_check.specs.Viewed.{Viewed};
 ghost use Rattle.archive_core.specs.SharedLaws.{flavor_as};
 ghost use Rattle.archive_enum.specs.Choices.{option_shape};
@@ -13,6 +14,7 @@ use crate::boxed::ArchivedBox;
 use crate::option::{ArchivedOption, Iter};
 use crate::rc::{ArchivedRc, ArchivedRcWeak, Flavor};
 use crate::slice::ArchivedSlice;
+use crate::string::ArchivedStr;
 use crate::traits::{Portable, PortablePointee};
 use crate::vec::ArchivedVec;
 
@@ -26,6 +28,23 @@ impl<'a, T: PortablePointee> Seal<'a, ArchivedBox<T>> {
         ensures position { result.pos ≡ target_from self.entry.bytes.now self.entry.pos self.entry.pos }
         ensures length { result.len ≡ length_at self.entry.bytes.now self.entry.pos T.pointee }
         ensures viewed { Viewed T.definitions result.bytes.now result.pos T.pointee result.len }
+    {
+        let spot = self.as_ref().get().spot();
+        let Seal { bytes, .. } = self;
+        spot.seal(bytes)
+    }
+}
+
+impl<'a> Seal<'a, ArchivedBox<ArchivedStr>> {
+    /// A seal of the text that the box holds. Asks that the seal shows a part of a buffer that was checked, as it does when it is made. No byte changes.
+    /// In rkyv 0.8.18 it is the box's `get_seal`.
+    pub fn as_str_seal(self) -> Seal<'a, ArchivedStr>
+        requires { Viewed no_definition self.bytes.now self.pos (one (boxed text)) self.len }
+        ensures same_reference { result.bytes.ghost_name ≡ self.entry.bytes.ghost_name }
+        ensures buffer { result.bytes.now ≡ self.entry.bytes.now }
+        ensures position { result.pos ≡ target_from self.entry.bytes.now self.entry.pos self.entry.pos }
+        ensures length { result.len ≡ u32_at self.entry.bytes.now (self.entry.pos + 4) }
+        ensures viewed { Viewed no_definition result.bytes.now result.pos text result.len }
     {
         let spot = self.as_ref().get().spot();
         let Seal { bytes, .. } = self;
@@ -90,6 +109,24 @@ impl<'a, T: Portable> Seal<'a, ArchivedVec<T>> {
     }
 }
 
+impl<'a, T: Portable> Seal<'a, ArchivedVec<T>> {
+    /// A seal of the element `index`, of which 0 is the first. Asks that there is one, and that the seal shows a part of a buffer that was checked, as
+    /// it does when it is made. No byte changes. In rkyv 0.8.18 it is `index` of the vector's slice, which panics where there is none.
+    pub fn index(self, index: usize) -> Seal<'a, T>
+        requires viewed { Viewed T.definitions self.bytes.now self.pos (one (vec_shape T.shape)) self.len }
+        requires below { index < u32_at self.bytes.now (self.pos + 4) }
+        ensures same_reference { result.bytes.ghost_name ≡ self.entry.bytes.ghost_name }
+        ensures buffer { result.bytes.now ≡ self.entry.bytes.now }
+        ensures position { result.pos ≡ target_from self.entry.bytes.now self.entry.pos self.entry.pos + index * T.layout.size }
+        ensures length { result.len ≡ 0 }
+        ensures viewed { Viewed T.definitions result.bytes.now result.pos T.pointee result.len }
+    {
+        let spot = self.as_ref().as_slice().index(index).spot();
+        let Seal { bytes, .. } = self;
+        spot.seal(bytes)
+    }
+}
+
 impl<'a, T: Portable> Seal<'a, ArchivedSlice<T>> {
     /// How many elements there are. Our own.
     pub fn len(&self) -> usize
@@ -133,5 +170,18 @@ impl<'a, T: Portable> Seal<'a, ArchivedOption<T>> {
         };
         let Seal { bytes, .. } = self;
         Some(spot.seal(bytes))
+    }
+    /// An iterator over the seal of the value: it comes once, from either end, and then none. Asks that the seal shows a part of a buffer that was
+    /// checked, as it does when it is made. No byte changes. As in rkyv 0.8.18.
+    pub fn iter_seal(self) -> Iter<Seal<'a, T>>
+        requires { Viewed T.definitions self.bytes.now self.pos (one (option_shape T.shape)) self.len }
+        ensures tag { MatchOption result (slice_index self.entry.bytes.now self.entry.pos ≡ 0) (λ s. slice_index self.entry.bytes.now self.entry.pos ≡ 1) }
+        ensures same_reference { IfSome result (λ s. s.bytes.ghost_name ≡ self.entry.bytes.ghost_name) }
+        ensures buffer { IfSome result (λ s. s.bytes.now ≡ self.entry.bytes.now) }
+        ensures position { IfSome result (λ s. s.pos ≡ self.entry.pos + T.layout.align) }
+        ensures length { IfSome result (λ s. s.len ≡ 0) }
+        ensures viewed { IfSome result (λ s. Viewed T.definitions s.bytes.now s.pos T.pointee s.len) }
+    {
+        Iter::new(self.as_seal())
     }
 }
