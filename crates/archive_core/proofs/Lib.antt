@@ -1,4 +1,5 @@
 pub mod StandingLeaves
+pub mod StandingParts
 pub mod SealedLeaves
 pub mod Coded
 pub mod Shown
