@@ -52,6 +52,10 @@ inline_viewed D bytes q n m o e short v =
     let same : m ≡ length (before_end (bytes_at bytes q 8)) = sym (bytes_long bytes q m (omega arith)) ∙ ap (λ t. length t) e in
     rw same (∥∥₁_map v (λ (s, k, l). (s, k, string_lies o l)))
 
+pub inline_long : (D : Definitions) (bytes : List ℕ) (q n m : ℕ) → bytes_at bytes q m ≡ before_end (bytes_at bytes q 8) → m ≤ 8 → Viewed D bytes q (one str) n → m ≡ length (before_end (bytes_at bytes q 8))
+inline_long D bytes q n m e short v =
+    let fits : q + 8 ≤ length bytes = string_shown bytes q n (string_readable D bytes q n v) in sym (bytes_long bytes q m (omega arith)) ∙ ap (λ t. length t) e
+
 -- as many as its view has
 pub text_long : (D : Definitions) (bytes t : List ℕ) (q n : ℕ) → Viewed D bytes q text n → bytes_at bytes q n ≡ t → n ≡ length t
 text_long D bytes t q n v e = sym (bytes_long bytes q n (text_shown bytes q n (text_readable D bytes q n v)).fits) ∙ ap (λ t. length t) e

@@ -17,10 +17,10 @@ use Rattle.archive_check.proofs.JoinedTours.{rising_le, rising_front, rising_bac
 use Rattle.archive_check.proofs.MeaningUnique.{tours_one}
 use Rattle.archive_check.proofs.RegionsApart.{Between, leaves_between, contents_between, tour_between}
 use Rattle.archive_check.proofs.Texts.{inline_bytes}
-use Rattle.archive_check.specs.Definitions.{Knows}
+use Rattle.archive_check.specs.Definitions.{Definitions, Knows}
 use Rattle.archive_check.specs.Revised.{WritesLeaf}
 use Rattle.archive_core.specs.Sealed.{StandsIn}
-use Rattle.archive_core.specs.Standing.{KeepsParts, view, LieTogether, KeepsViews}
+use Rattle.archive_core.specs.Standing.{KeepsParts, View, view, LieTogether, KeepsViews}
 
 -- the second value is the first one, or that with the leaf y in place of x
 data Kin (x y : Leaf) : Value → Value → Type 0 where
@@ -316,10 +316,10 @@ leaf_keeps bytes new b x y o e = record {
 
 -- so views of one archive, of which one shows the leaf, stay such
 pub views_kept : (old new : List ℕ) (x y : Leaf) (q : ℕ) (P : Pointee) (n : ℕ) → WritesLeaf x y old new → KeepsParts x old new → StandsIn old q P n x → KeepsViews old new (view q P n)
-views_kept old new x y q P n w keeps stands D views c h = ∥∥₁_map h (λ (s, k, l). (s, k, together s k l))
+views_kept old new x y q P n w keeps stands = record { views = λ D views c h. ∥∥₁_map h (λ (s, k, l). (s, k, together D views c s k l)) }
   where
-    together : (s : Schema) → Knows s D → LieTogether s old views → LieTogether s new views
-    together s k l =
+    together : (D : Definitions) (views : List View) → Contains views (view q P n) → (s : Schema) → Knows s D → LieTogether s old views → LieTogether s new views
+    together D views c s k l =
         let here : PartOfSome s old (regions_of l.accepted) q P n = All-contains (λ v. PartOfSome s old (regions_of l.accepted) v.begin v.pointee v.length) views (view q P n) l.parts c in
         let has : Contains (leaves_of l.accepted) x = stands s l.root l.shape l.accepted here in
         let (xs, replaced) = w.stands s l.root l.shape l.accepted has in

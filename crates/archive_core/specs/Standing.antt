@@ -34,5 +34,10 @@ abbrev pub ViewedTogether : Definitions → List ℕ → List View → Type 0
 ViewedTogether D bytes views = ∥ ((s : Schema) × Knows s D × LieTogether s bytes views) ∥₁
 
 -- Views of one archive, of which this is one, stay views of one archive.
-abbrev pub KeepsViews : List ℕ → List ℕ → View → Type 0
-KeepsViews old new v = (D : Definitions) (views : List View) → Contains views v → ViewedTogether D old views → ViewedTogether D new views
+pub record KeepsViews (old new : List ℕ) (v : View) : Type 0 where
+  pub views : (D : Definitions) (views : List View) → Contains views v → ViewedTogether D old views → ViewedTogether D new views
+
+-- Wherever what the first one shows is a part of an archive, under a schema that knows the definitions, so is what the second one shows.
+pub record StandsWith (D : Definitions) (bytes : List ℕ) (v u : View) : Type 0 where
+  pub stands : (s : Schema) (root : ℕ) (X : Shape) → Knows s D → (a : Accepted s bytes root X)
+      → PartOfSome s bytes (regions_of a) v.begin v.pointee v.length → PartOfSome s bytes (regions_of a) u.begin u.pointee u.length

@@ -9,7 +9,7 @@ ghost use Rattle.archive_check.specs.Revised.{WritesLeaf};
 ghost use Rattle.archive_check.specs.Shape.{str as str_shape, one, text};
 ghost use Rattle.archive_check.specs.Viewed.{Viewed};
 ghost use Rattle.archive_core.specs.Sealed.{StandsIn, text_begin, string_leaf};
-ghost use Rattle.archive_core.specs.Standing.{KeepsParts, KeepsViews, view};
+ghost use Rattle.archive_core.specs.Standing.{KeepsParts, KeepsViews, StandsWith, view};
 
 use super::{Seal, Spot};
 use crate::string::{ArchivedStr, ArchivedString};
@@ -42,6 +42,7 @@ fn text_spot(string: Ref<'_, ArchivedString>) -> Spot<ArchivedStr>
     ensures position { result.pos ≡ text_begin string.entry.bytes.now string.entry.pos }
     ensures text { bytes_at string.entry.bytes.now result.pos result.len ≡ string_text string.entry.bytes.now string.entry.pos }
     ensures viewed { Viewed no_definition string.entry.bytes.now result.pos text result.len }
+    ensures beside { StandsWith no_definition string.entry.bytes.now (view string.entry.pos (one str_shape) string.entry.len) (view result.pos text result.len) }
 {
     let RawView { bytes, pos, .. } = string.part();
     if is_out_of_line(bytes, pos) {
@@ -81,6 +82,7 @@ impl<'a> Seal<'a, ArchivedString> {
         ensures position { result.pos ≡ text_begin self.entry.bytes.now self.entry.pos }
         ensures length { result.len ≡ length (string_text self.entry.bytes.now self.entry.pos) }
         ensures viewed { Viewed no_definition result.bytes.now result.pos text result.len }
+        ensures beside { StandsWith no_definition self.entry.bytes.now (view self.entry.pos (one str_shape) self.entry.len) (view result.pos text result.len) }
     {
         let spot = text_spot(self.as_ref());
         let Seal { bytes, .. } = self;
