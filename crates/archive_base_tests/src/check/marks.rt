@@ -11,7 +11,7 @@ ghost use Rattle.archive_check.specs.Definitions.{no_definition, defines, IsAlig
 ghost use Rattle.archive_check.specs.LeafLayout.{no_definition_reached};
 ghost use Rattle.archive_check.specs.NamedLayout.{name_has_layout, name_reached};
 ghost use Rattle.archive_check.specs.NoOthers.{around_reached};
-ghost use Rattle.archive_tests.specs.Forms.{rc};
+ghost use Rattle.archive_base_tests.specs.Forms.{rc};
 ghost use Rattle.archive_check.specs.SelfCheck.Laws.{by_schema};
 
 use archive_check::format::error::Error;

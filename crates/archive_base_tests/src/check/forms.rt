@@ -4,7 +4,7 @@ ghost use Rattle.std.specs.Prelude.{◌≡◌, IfOk, refl, codes};
 ghost use Rattle.std.proofs.Common.{inl, inr};
 ghost use Rattle.archive_check.specs.Shape.{leaf, bool, unit, parts, no_part, choice, variant, no_variant, array, boxed, vec, str, shared, weak, named, one, run, text};
 ghost use Rattle.archive_check.specs.Expressions.{shape_of, shapes_in};
-ghost use Rattle.archive_tests.specs.Forms.{rc, u8 as byte, u16 as number16, u32 as number32, u64 as number64, i32 as signed32, optional, either, padded, wide, pair, mixed, inner, chain, flags, tree};
+ghost use Rattle.archive_base_tests.specs.Forms.{rc, u8 as byte, u16 as number16, u32 as number32, u64 as number64, i32 as signed32, optional, either, padded, wide, pair, mixed, inner, chain, flags, tree};
 
 use super::marks::{
     ArchivedBoxedSlice, ArchivedRc, ArchivedVec, Array, Definition, Form, Plain, RC,

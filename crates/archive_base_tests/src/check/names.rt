@@ -8,7 +8,7 @@ ghost use Rattle.archive_check.specs.Defined.{mentions_parts, mentions_first, me
 ghost use Rattle.archive_check.specs.Definitions.{defines};
 ghost use Rattle.archive_check.specs.NamedLayout.{name_reached};
 ghost use Rattle.archive_check.specs.NoOthers.{around_reached};
-ghost use Rattle.archive_tests.specs.Forms.{u64 as number64, tagged, itself};
+ghost use Rattle.archive_base_tests.specs.Forms.{u64 as number64, tagged, itself};
 ghost use Rattle.archive_check.specs.SelfCheck.Laws.{by_schema};
 
 use super::forms::{Id, pair_of};

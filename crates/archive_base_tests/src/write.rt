@@ -1,6 +1,5 @@
 // Bytes that are written, keys that are shared, and what is refused.
 
-mod device;
 mod memory;
 mod sharing;
 mod writers;

@@ -3,7 +3,7 @@ use Rattle.archive_check.specs.Layout.{kind_size}
 use Rattle.archive_check.specs.Reads.{bytes_at}
 use Rattle.archive_check.specs.Expressions.{kind_of}
 use Rattle.archive_check.proofs.EditedBytes.{bytes_long}
-use Rattle.archive_tests.proofs.check.leaves.leaf_of.Goals as goal
+use Rattle.archive_base_tests.proofs.check.leaves.leaf_of.Goals as goal
 
 not_true : (b : Bool) → b ≡ false → IsTrue b → ⊥
 not_true b e h = cc
