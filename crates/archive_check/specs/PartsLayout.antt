@@ -125,3 +125,16 @@ named_has_layout name X D L h = record { solved = λ s k. k.laid_out.solves name
 pub begins_over : (n a z : ℕ) → IsAlign a → (later : ℕ → ℕ → ℕ) → ((m j : ℕ) → m ≤ later m j) → (i : ℕ) → n ≤ first_or (up n a) (later (up n a + z)) i
 begins_over n a z is later rises zero = omega (arith, align_some a is)
 begins_over n a z is later rises (suc i) = omega (arith, align_some a is, rises (up n a + z) i)
+
+pub within_at : (n i : ℕ) → n + 0 ≤ n
+within_at n i = omega arith
+
+-- the first part, and those behind it, end where the last does at most
+pub within_over : (o z : ℕ) → (later : ℕ → ℕ → ℕ) → (sizes : ℕ → ℕ) → (end : ℕ → ℕ) → ((m : ℕ) → m ≤ end m) → ((m j : ℕ) → later m j + sizes j ≤ end m) → (i : ℕ)
+    → first_or o (later (o + z)) i + first_or z sizes i ≤ end (o + z)
+within_over o z later sizes end rises within zero = rises (o + z)
+within_over o z later sizes end rises within (suc i) = within (o + z) i
+
+-- a size that is rounded up holds what ends there
+pub holds_parts : (end a : ℕ) → IsAlign a → end ≤ up end a
+holds_parts end a is = omega (arith, align_some a is)

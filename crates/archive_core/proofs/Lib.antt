@@ -29,6 +29,7 @@ pub mod Pointers
 pub mod Records
 pub mod Owned
 pub mod OwnersWritten
+pub mod PartBytes
 pub mod PartsShown
 pub mod ReadElements
 pub mod Spots
