@@ -34,6 +34,10 @@ pub mod PartsShown
 pub mod ReadElements
 pub mod Spots
 pub mod WrittenVariants
+pub mod NamedVariants
+pub mod Inner
+pub mod ChoicesShown
+pub mod BoxesBefore
 pub mod Nothing
 pub mod ResolvedVariants
 pub mod OwnKeys
