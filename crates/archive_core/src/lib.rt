@@ -11,6 +11,7 @@ pub mod place;
 pub mod primitive;
 pub mod rc;
 pub mod rel_ptr;
+pub mod result;
 pub mod seal;
 pub mod ser;
 pub mod sharing;
