@@ -23,6 +23,7 @@ pub mod SharedCauses
 pub mod SharedWritten
 pub mod SharedViews
 pub mod SharedBytes
+pub mod SharedOnes
 pub mod KeyStates
 pub mod ShortTexts
 pub mod Pointers
