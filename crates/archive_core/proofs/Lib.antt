@@ -1,4 +1,6 @@
 pub mod StandingLeaves
+pub mod StandingParts
+pub mod ViewsTogether
 pub mod SealedLeaves
 pub mod Coded
 pub mod Shown

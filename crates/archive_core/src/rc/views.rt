@@ -63,6 +63,7 @@ impl<'a, T: PortablePointee, F: Flavor> Ref<'a, ArchivedRcWeak<T, F>> {
         ensures none { IfNone result (Says T.definitions self.entry.bytes.now self.entry.pos (one (weak (flavor_as F.name F.ALLOW_CYCLES) T.pointee)) self.entry.len null) }
         ensures offset { IfSome result (λ r. i32_at self.entry.bytes.now self.entry.pos ≡ whole 1 → ⊥) }
         ensures null { i32_at self.entry.bytes.now self.entry.pos ≡ whole 1 → IsNone result }
+        ensures null_alone { IfNone result (i32_at self.entry.bytes.now self.entry.pos ≡ whole 1) }
     {
         let RawView { bytes, pos, .. } = self.part();
         if is_null(bytes, pos) {

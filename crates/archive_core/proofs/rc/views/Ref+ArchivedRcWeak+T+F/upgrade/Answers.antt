@@ -8,6 +8,9 @@ is_null-requires g c = omega (arith, weak_fits _ _ _ _ _ _ c.part-pos.ensures.vi
 pub returns-then-is_null-clause-none : goal.returns-then-is_null-clause-none
 returns-then-is_null-clause-none g c = rw (← c.part-pos.ensures.buffer, ← c.part-pos.ensures.position) (null_says _ _ _ _ _ _ (is_one _ _ c.is_null.ensures c.if-is_null.true))
 
+pub returns-then-is_null-clause-null_alone : goal.returns-then-is_null-clause-null_alone
+returns-then-is_null-clause-null_alone g c = rw (← c.part-pos.ensures.buffer, ← c.part-pos.ensures.position) (is_one _ _ c.is_null.ensures c.if-is_null.true)
+
 pub read_target-target-requires-clause-within : goal.read_target-target-requires-clause-within
 read_target-target-requires-clause-within g c = omega (arith, weak_fits _ _ _ _ _ _ c.part-pos.ensures.viewed, pointer_some g.T.ArchivePointee.pointee)
 

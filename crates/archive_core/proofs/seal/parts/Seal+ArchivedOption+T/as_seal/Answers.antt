@@ -1,0 +1,4 @@
+use Rattle.archive_core.proofs.seal.parts.Seal+ArchivedOption+T.as_seal.Goals as goal
+
+pub seal-requires : goal.seal-requires
+seal-requires g c = rw (c.in-Some.ensures.buffer, c.as_ref.ensures.buffer) at c.spot-spot.ensures.viewed
