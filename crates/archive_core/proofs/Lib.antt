@@ -1,3 +1,4 @@
+pub mod Compared
 pub mod StandingLeaves
 pub mod StandingParts
 pub mod ViewsTogether

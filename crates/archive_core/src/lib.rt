@@ -4,6 +4,7 @@
 pub mod api;
 pub mod boxed;
 pub mod choice;
+pub mod compare;
 pub mod option;
 pub mod parts;
 mod phantom;
