@@ -130,6 +130,22 @@ impl Checker<'_> {
         last
     }
 
+    /// Where to look for a part to open next, of those from `first` up to `last`, of what begins at `base`: behind those that are legal leaves, or at one
+    /// that stands alone, which isn't looked at twice; `last` where all are legal.
+    #[inline(always)]
+    pub fn next_to_open(&self, first: usize, last: usize, base: usize) -> usize
+        requires sound { IsSound self.now }
+        requires fits { PartsFit self.now first last base }
+        ensures below { result ≤ last }
+        ensures above { result < last → first ≤ result }
+        ensures skipped { (k : ℕ) → first ≤ k → k < result → PartIsLegalHere self.now base k }
+    {
+        if last.saturating_sub(first) == 1 {
+            return first;
+        }
+        self.first_to_open(first, last, base)
+    }
+
     /// How many of the elements at `at`, each of `size` bytes, come before the first that is to be opened; `count` where none is.
     pub fn count_legal(&self, node: usize, count: usize, at: usize, size: usize) -> usize
         requires sound { IsSound self.now }

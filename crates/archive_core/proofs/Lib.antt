@@ -1,3 +1,4 @@
+pub mod Compared
 pub mod StandingLeaves
 pub mod StandingParts
 pub mod ViewsTogether
@@ -25,16 +26,22 @@ pub mod SharedCauses
 pub mod SharedWritten
 pub mod SharedViews
 pub mod SharedBytes
+pub mod SharedOnes
 pub mod KeyStates
 pub mod ShortTexts
 pub mod Pointers
 pub mod Records
 pub mod Owned
 pub mod OwnersWritten
+pub mod PartBytes
 pub mod PartsShown
 pub mod ReadElements
 pub mod Spots
 pub mod WrittenVariants
+pub mod NamedVariants
+pub mod Inner
+pub mod ChoicesShown
+pub mod BoxesBefore
 pub mod Nothing
 pub mod ResolvedVariants
 pub mod OwnKeys

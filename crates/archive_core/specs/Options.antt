@@ -4,12 +4,12 @@ use Rattle.std.proofs.Common.{refl}
 use Rattle.archive_check.specs.Shape.{Shape}
 use Rattle.archive_check.specs.Definitions.{Definitions}
 use Rattle.archive_check.specs.Value.{Value, case, no_value}
-use Rattle.archive_check.specs.Reached.{Names, names_case, names_first, names_later}
+use Rattle.archive_check.specs.Reached.{Names, names_case}
 use Rattle.archive_enum.specs.Choices.{option_shape}
-use Rattle.archive_core.specs.Writing.{Naming, IsKeyed, LeadsToKey, key_at_once, key_through}
+use Rattle.archive_core.specs.Writing.{Naming, IsKeyed}
 use Rattle.archive_core.specs.Plans.{HasPlan}
 use Rattle.archive_core.specs.Keyed.{keyed_by_none}
-use Rattle.archive_core.specs.Variants.{case_of, case_planned, empty_planned}
+use Rattle.archive_core.specs.Variants.{case_of, one_keyed, case_planned, empty_planned}
 
 -- None has the tag 0, Some the tag 1
 abbrev pub option_meaning : {A : Type 0} → (A → Value) → Option A → Value
@@ -37,21 +37,9 @@ OptionBelongs b (Some x) (Some r) = b x r
 no_name : (tag k : ℕ) → Names k (case tag no_value) → ⊥
 no_name tag k (names_case n) = elim n [ ]
 
-name_inside : (tag k : ℕ) (v : Value) → Names k (case_of tag v) → Names k v
-name_inside tag k v (names_case (names_first n)) = n
-name_inside tag k v (names_case (names_later n)) = elim n [ ]
-
-leads_inside : (keys : List Naming) (tag : ℕ) (v : Value) (k : ℕ) → LeadsToKey keys v k → LeadsToKey keys (case_of tag v) k
-leads_inside keys tag v k (key_at_once n) = key_at_once (names_case (names_first n))
-leads_inside keys tag v k (key_through {l = l} h c n) = key_through (leads_inside keys tag v l.0 h) c n
-
--- a variant with one part has the part's keys
-pub case_keyed : (keys : List Naming) (tag : ℕ) (v : Value) → IsKeyed keys v → IsKeyed keys (case_of tag v)
-case_keyed keys tag v h = record { value = λ k n. h.value k (name_inside tag k v n); named = h.named; only = λ k c. leads_inside keys tag v k.0 (h.only k c) }
-
 pub option_keyed : {A : Type 0} (k : A → List Naming) (m : A → Value) → ((x : A) → IsKeyed (k x) (m x)) → (o : Option A) → IsKeyed (option_keys k o) (option_meaning m o)
 option_keyed k m h None = keyed_by_none (case 0 no_value) (λ j n. absurd (no_name 0 j n))
-option_keyed k m h (Some x) = case_keyed (k x) 1 (m x) (h x)
+option_keyed k m h (Some x) = one_keyed (k x) 1 (m x) (h x)
 
 -- plans
 

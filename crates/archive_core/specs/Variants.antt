@@ -4,7 +4,8 @@ use Rattle.archive_check.specs.Shape.{Name, Shape, choice, named, Variants, part
 use Rattle.archive_check.specs.Definitions.{Definitions, Knows}
 use Rattle.archive_check.specs.Value.{Value, case, value, no_value}
 use Rattle.archive_check.specs.Reads.{Schema, bytes_at}
-use Rattle.archive_core.specs.Writing.{NameMap, Naming, Resolves}
+use Rattle.archive_check.specs.Reached.{Names, names_case, names_first, names_later}
+use Rattle.archive_core.specs.Writing.{NameMap, Naming, Resolves, IsKeyed, LeadsToKey, key_at_once, key_through}
 use Rattle.archive_core.specs.Plans.{Cursor, Step, plans_choice, plans_named, plans_part, plans_no_part, PlanOf, HasPlan}
 
 -- the variant with this tag and one value
@@ -18,6 +19,20 @@ pub record HoldsCase (D : Definitions) (p tag offset size : ℕ) (X : Shape) (fl
   pub fits : offset + size ≤ length a
   pub holds : Resolves D (p + offset) (bytes_at a offset size) X flat
   pub behind : (i : ℕ) → offset + size ≤ i → i < length a → slice_index a i ≡ 0
+
+-- keys
+
+name_inside : (tag k : ℕ) (v : Value) → Names k (case_of tag v) → Names k v
+name_inside tag k v (names_case (names_first n)) = n
+name_inside tag k v (names_case (names_later n)) = elim n [ ]
+
+leads_inside : (keys : List Naming) (tag : ℕ) (v : Value) (k : ℕ) → LeadsToKey keys v k → LeadsToKey keys (case_of tag v) k
+leads_inside keys tag v k (key_at_once n) = key_at_once (names_case (names_first n))
+leads_inside keys tag v k (key_through {l = l} h c n) = key_through (leads_inside keys tag v l.0 h) c n
+
+-- a variant with one part has the part's keys
+pub one_keyed : (keys : List Naming) (tag : ℕ) (v : Value) → IsKeyed keys v → IsKeyed keys (case_of tag v)
+one_keyed keys tag v h = record { value = λ k n. h.value k (name_inside tag k v n); named = h.named; only = λ k c. leads_inside keys tag v k.0 (h.only k c) }
 
 -- plans
 

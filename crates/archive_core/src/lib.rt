@@ -3,12 +3,16 @@
 
 pub mod api;
 pub mod boxed;
+pub mod choice;
+pub mod compare;
 pub mod option;
+pub mod parts;
 mod phantom;
 pub mod place;
 pub mod primitive;
 pub mod rc;
 pub mod rel_ptr;
+pub mod result;
 pub mod seal;
 pub mod ser;
 pub mod sharing;

@@ -8,6 +8,7 @@ ghost use Rattle.archive_check.specs.SelfCheck.Laws.{by_schema};
 ghost use Rattle.archive_check.specs.Shape.{Name, Flavor as FlavorOf, one, shared, weak};
 ghost use Rattle.archive_core.specs.SharedLaws.{flavor_as, shared_reaches, weak_reaches};
 
+mod sources;
 mod views;
 mod writing;
 
@@ -15,6 +16,7 @@ use crate::traits::{ArchivePointee, Portable, PortablePointee};
 use archive_check::format::error::Error;
 use archive_check::self_check::BySchema;
 use archive_check::shape::{Defs, Expr, FlavorInfo};
+pub use sources::{Shared, SharedSlice, SharedStr, WeakShared};
 use std::alloc::Global;
 use std::marker::PhantomData;
 pub use writing::{RcResolver, RcWeakResolver};

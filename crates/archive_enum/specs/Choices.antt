@@ -1,6 +1,6 @@
 -- Options and results as archives hold them: what they look like, and the laws of that.
-use Rattle.std.specs.Prelude.{◌≡◌, ℕ, zero, suc, ◌+◌, ◌<◌, ◌≤◌, max, Bool, ◌&&◌, Option, Some, IsTrue, is_some, nat_lt, nat_le, true, codes}
-use Rattle.std.proofs.Common.{refl, sym, ap, ◌∙◌, inl, inr, arith}
+use Rattle.std.specs.Prelude.{◌≡◌, ℕ, zero, suc, ◌+◌, ◌<◌, ◌≤◌, max, Bool, ◌&&◌, Some, IsTrue, is_some, nat_lt, nat_le, true, codes}
+use Rattle.std.proofs.Common.{refl, ap, ◌∙◌, inl, inr, arith}
 use Rattle.std.proofs.lemmas.Bool.{and_parts}
 use Rattle.std.proofs.lemmas.List.{append-nil}
 use Rattle.std.proofs.lemmas.Bool.Decides.{nat_tests}
@@ -38,7 +38,7 @@ up_first a (inr (inr (inr (inl e)))) = rw e refl
 up_first a (inr (inr (inr (inr (inl e))))) = rw e refl
 up_first a (inr (inr (inr (inr (inr e))))) = rw e refl
 
-align_low : (a : ℕ) → IsAlign a → 1 ≤ a
+pub align_low : (a : ℕ) → IsAlign a → 1 ≤ a
 align_low a (inl e) = omega arith
 align_low a (inr (inl e)) = omega arith
 align_low a (inr (inr (inl e))) = omega arith

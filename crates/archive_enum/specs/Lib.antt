@@ -1,4 +1,5 @@
 pub mod Choices
 pub mod Items
 pub mod Lending
+pub mod Results
 pub mod StandsFor

@@ -1,10 +1,12 @@
-// What an option is in an archive.
+// What an option and a result are in an archive.
 
 ghost use Rattle.std.specs.Prelude.{◌≡◌, ◌<◌, ◌≤◌, ◌^◌, min, IfOk, refl};
 ghost use Rattle.archive_check.specs.Shape.{one, choice, no_variant, variant};
 ghost use Rattle.archive_check.specs.Layout.{up};
 ghost use Rattle.archive_check.specs.Expressions.{shape_of, shapes_in};
 ghost use Rattle.archive_enum.specs.Choices.{option_shape, option_layout, option_definitions, option_direct, option_has_layout, option_reached, option_check};
+
+mod results;
 
 use crate::option::ArchivedOption;
 use archive_check::context::ArchiveContext;

@@ -1,2 +1,1 @@
-pub mod AddedNames
 pub mod Repeated

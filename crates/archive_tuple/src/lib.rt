@@ -4,7 +4,7 @@
 ghost use Rattle.std.specs.Prelude.{refl};
 ghost use Rattle.archive_check.specs.Shape.{one, parts};
 ghost use Rattle.archive_check.specs.Layout.{up};
-ghost use Rattle.archive_check.specs.PartsLayout.{is_record, record_has_layout};
+ghost use Rattle.archive_check.specs.PartsLayout.{is_record, record_has_layout, holds_parts};
 ghost use Rattle.archive_check.specs.SelfCheck.Laws.{by_schema};
 
 use archive_check::format::error::Error;
@@ -74,6 +74,8 @@ impl<P: PortableParts> Record for ArchivedTuple<P> {
     type Parts = P;
 
     ghost has_parts = { is_record P.definitions P.parts };
+
+    ghost holds = { holds_parts (P.end 0) P.greatest P.is_align };
 }
 
 /// An archived tuple of one part.

@@ -75,7 +75,7 @@ impl Checker<'_> {
         ensures turn { Turn C.state C.positions self.now (PartsWork first last base) context.old context.new work.old work.new result }
         ensures pays { Pays C.state self.now (bytes_of_parts self.now first last) context.old context.new work.old work.new }
     {
-        let next = self.first_to_open(first, last, base);
+        let next = self.next_to_open(first, last, base);
         if next >= last {
             return Some(());
         }

@@ -28,7 +28,7 @@ use std::marker::Model;
 /// Where a shared value was written, in bytes from the first one. In a contract it is that position. As in rkyv 0.8.18.
 #[derive(Clone, Copy, Debug)]
 pub struct RcResolver {
-    pos: u32,
+    pub(super) pos: u32,
 }
 
 impl Model for RcResolver {
@@ -55,7 +55,7 @@ pub type RcWeakResolver = Option<RcResolver>;
 
 // Writes a value under its key, where that is unknown, and a zero byte where the writer still stands at its position: what comes next would stand there,
 // too. Answers the position.
-fn write_shared<F: Flavor, U: SerializeUnsized<S>, S: Sharing + Writer>(
+pub(super) fn write_shared<F: Flavor, U: SerializeUnsized<S>, S: Sharing + Writer>(
     key: u64,
     value: &U,
     serializer: &mut S,
@@ -80,7 +80,7 @@ fn write_shared<F: Flavor, U: SerializeUnsized<S>, S: Sharing + Writer>(
 
 // Writes the bytes of a pointer at `pos` to `target`.
 #[tactic(auto, using(crate::proofs::Owned::size_by_length))]
-fn write_pointer<T: PortablePointee>(
+pub(super) fn write_pointer<T: PortablePointee>(
     target: usize,
     count: FixedUsize,
     pos: usize,
@@ -97,7 +97,7 @@ fn write_pointer<T: PortablePointee>(
 }
 
 // Writes the bytes of a null: the offset 1, and the length 0 where there is one.
-fn write_null<T: PortablePointee>(bytes: &mut [u8]) -> Result<(), Error>
+pub(super) fn write_null<T: PortablePointee>(bytes: &mut [u8]) -> Result<(), Error>
     requires { length bytes.old ≡ pointer_size T.pointee }
     ensures written { bytes.new ≡ owner_bytes (has_length T.pointee) (whole 1) 0 }
     ensures succeeds { IsOk result }

@@ -6,7 +6,7 @@ ghost use Rattle.archive_check.specs.Layout.{up};
 ghost use Rattle.archive_check.specs.Expressions.{shape_of, shapes_in, table_of};
 ghost use Rattle.archive_check.specs.Definitions.{defines, both, IsAlign, NoOthers, Extended, Conflicts};
 ghost use Rattle.archive_check.specs.NoOthers.{no_parts_reached, part_reached};
-ghost use Rattle.archive_check.specs.PartsLayout.{PartsLaidOut, IsRecord, joined, first_or, no_part_laid_out, part_laid_out, greater_align, one_align, begins_at, begins_over};
+ghost use Rattle.archive_check.specs.PartsLayout.{PartsLaidOut, IsRecord, joined, first_or, no_part_laid_out, part_laid_out, greater_align, one_align, begins_at, begins_over, within_at, within_over};
 ghost use Rattle.archive_check.specs.declared.format.error.Error.TheVariants.{OutOfMemory, ShapeConflict};
 
 use super::Portable;
@@ -24,6 +24,9 @@ pub trait PortableParts: CheckedParts {
 
     // Where the part with an index begins, where the first is laid out from an offset on.
     ghost begin: { ℕ → ℕ → ℕ };
+
+    // The size of the part with an index, 0 where there is none.
+    ghost size_at: { ℕ → ℕ };
 
     /// The greatest alignment of the parts in bytes, 1 where there is none.
     fn align() -> usize
@@ -56,12 +59,16 @@ pub trait PortableParts: CheckedParts {
     ghost no_others: { NoOthers Self.definitions (parts Self.parts) };
 
     ghost begins: { (n i : ℕ) → n ≤ begin n i };
+
+    ghost within: { (n i : ℕ) → begin n i + size_at i ≤ Self.end n };
 }
 
 impl PortableParts for () {
     ghost greatest = { 1 };
 
     ghost begin = { λ n i. n };
+
+    ghost size_at = { λ i. 0 };
 
     ghost is_align = { one_align };
 
@@ -70,6 +77,8 @@ impl PortableParts for () {
     ghost no_others = { no_parts_reached };
 
     ghost begins = { begins_at };
+
+    ghost within = { within_at };
 
     fn align() -> usize {
         1
@@ -98,6 +107,8 @@ impl<A: Portable, R: PortableParts> PortableParts for (A, R) {
 
     ghost begin = { λ n. first_or (up n A.layout.align) (R.begin (up n A.layout.align + A.layout.size)) };
 
+    ghost size_at = { first_or A.layout.size R.size_at };
+
     ghost is_align = { greater_align A.layout.align R.greatest A.is_align R.is_align };
 
     ghost laid_out = { part_laid_out A.definitions R.definitions A.shape A.layout A.has_layout R.parts R.greatest R.end R.begin R.laid_out };
@@ -105,6 +116,8 @@ impl<A: Portable, R: PortableParts> PortableParts for (A, R) {
     ghost no_others = { part_reached A.definitions R.definitions A.shape R.parts A.no_others R.no_others };
 
     ghost begins = { λ n i. begins_over n A.layout.align A.layout.size A.is_align R.begin R.begins i };
+
+    ghost within = { λ n. within_over (up n A.layout.align) A.layout.size R.begin R.size_at R.end R.rises R.within };
 
     #[inline(always)]
     fn align() -> usize {
@@ -145,6 +158,9 @@ pub trait Record: Portable {
 
     // It is they, or a name that stands for them.
     ghost has_parts: { IsRecord Self.definitions Self.shape Self.Parts.definitions Self.Parts.parts };
+
+    // It holds them.
+    ghost holds: { Self.Parts.end 0 ≤ Self.layout.size };
 
     /// Where part `i` begins, in bytes from the record's first one: `usize::MAX` where it is that or more.
     final fn offset(i: usize) -> usize

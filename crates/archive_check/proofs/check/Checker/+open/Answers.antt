@@ -82,15 +82,15 @@ open-returns-else-read_i32-eq1-clause-turn g t c =
 
 pub open_parts-returns-then-next-last-clause-turn : goal.open_parts-returns-then-next-last-clause-turn
 open_parts-returns-then-next-last-clause-turn g t c =
-    opens_no_part c.requires.ready c.first_to_open-next.ensures.skipped c.first_to_open-next.ensures.below c.if-next-last.true
+    opens_no_part c.requires.ready c.next_to_open-next.ensures.skipped c.next_to_open-next.ensures.below c.if-next-last.true
 
 pub open_parts-overflow_add-base : goal.open_parts-overflow_add-base
 open_parts-overflow_add-base g t c =
     let m = c.args.self.now in
-    let k = c.first_to_open-next.result in
+    let k = c.next_to_open-next.result in
     let x = slice_index_or m.parts.now k (record { offset = 0; node = 0 }) in
     let at = at_default m.parts.now k (record { offset = 0; node = 0 }) (omega (arith, c.requires.ready.fits.0.last, c.if-next-last.false)) in
-    let f = part_fits m c.args.base c.args.first c.args.last k x c.requires.ready.fits.0 (c.first_to_open-next.ensures.above c.if-next-last.false) c.if-next-last.false at in
+    let f = part_fits m c.args.base c.args.first c.args.last k x c.requires.ready.fits.0 (c.next_to_open-next.ensures.above c.if-next-last.false) c.if-next-last.false at in
     let h : c.args.base + x.offset ≤ length m.bytes.now = omega (arith, f.fits) in search rules
 
 pub open_parts-returns-in_err-more_parts-clause-turn : goal.open_parts-returns-in_err-more_parts-clause-turn
@@ -99,10 +99,10 @@ open_parts-returns-in_err-more_parts-clause-turn g t c = rw c.from_residual.ensu
 pub open_parts-open-requires : goal.open_parts-open-requires
 open_parts-open-requires g t c =
     let m = c.args.self.now in
-    let k = c.first_to_open-next.result in
+    let k = c.next_to_open-next.result in
     let x = slice_index_or m.parts.now k (record { offset = 0; node = 0 }) in
     let at = at_default m.parts.now k (record { offset = 0; node = 0 }) (omega (arith, c.requires.ready.fits.0.last, c.if-next-last.false)) in
-    let from = c.first_to_open-next.ensures.above c.if-next-last.false in
+    let from = c.next_to_open-next.ensures.above c.if-next-last.false in
     let below = part_below m.parts.now c.args.last (k - c.args.first) c.args.first k x (omega (arith, from)) c.if-next-last.false c.requires.ready.fits.0.last at in
     let falls : x.node * 2 + 1 < rank (span m.parts.now c.args.first c.args.last) * 2 = omega (arith, below) in
     λ κs lives. (less_by c.decreases falls, (lives, (c.requires.plan, part_opened c.requires.ready from c.if-next-last.false at c.in_ok-more_parts.ensures.some)))
@@ -110,9 +110,9 @@ open_parts-open-requires g t c =
 pub open_parts-returns-clause-turn : goal.open_parts-returns-clause-turn
 open_parts-returns-clause-turn g t c =
     let m = c.args.self.now in
-    let k = c.first_to_open-next.result in
+    let k = c.next_to_open-next.result in
     let at = at_default m.parts.now k (record { offset = 0; node = 0 }) (omega (arith, c.requires.ready.fits.0.last, c.if-next-last.false)) in
-    opens_part c.requires.ready c.first_to_open-next.ensures.skipped (c.first_to_open-next.ensures.above c.if-next-last.false) c.if-next-last.false at c.in_ok-more_parts.ensures.some c.open.ensures.turn
+    opens_part c.requires.ready c.next_to_open-next.ensures.skipped (c.next_to_open-next.ensures.above c.if-next-last.false) c.if-next-last.false at c.in_ok-more_parts.ensures.some c.open.ensures.turn
 
 -- what is paid for regions
 
@@ -157,11 +157,11 @@ open-returns-else-read_i32-eq1-clause-pays g t c =
 pub open_parts-returns-clause-pays : goal.open_parts-returns-clause-pays
 open_parts-returns-clause-pays g t c =
     let m = c.args.self.now in
-    let k = c.first_to_open-next.result in
+    let k = c.next_to_open-next.result in
     let s = g.C.Context.state c.args.context.now in
     let last = c.requires.ready.fits.0.last in
     let at = at_default m.parts.now k (record { offset = 0; node = 0 }) (omega (arith, last, c.if-next-last.false)) in
-    let from = c.first_to_open-next.ensures.above c.if-next-last.false in
+    let from = c.next_to_open-next.ensures.above c.if-next-last.false in
     let next = parts_next_is m k c.args.last _ c.if-next-last.false last at in
     let there : c.args.first + (k - c.args.first) ≡ k = omega (arith, from) in
     let few : bytes_of_parts m k c.args.last ≤ bytes_of_parts m c.args.first c.args.last = rw there at (parts_few_from m (k - c.args.first) c.args.first c.args.last (omega (arith, from, c.if-next-last.false)) last) in

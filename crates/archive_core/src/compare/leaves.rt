@@ -1,0 +1,78 @@
+// Leaves are compared as their values.
+
+ghost use Rattle.std.specs.Prelude.{◌≡◌};
+ghost use Rattle.std.specs.Cmp.{on_total};
+ghost use Rattle.std.specs.Ordering.{on};
+ghost use Rattle.archive_check.specs.Reads.{bytes_at};
+ghost use Rattle.archive_core.specs.Compared.{level_fed};
+
+use super::Ordered;
+use crate::primitive::Plain;
+use crate::view::{RawView, Ref};
+use archive_nonzero::NonZero;
+use archive_num::{Integer, LittleEndian, Native};
+use std::cmp::Ordering;
+use std::hash::{Hash, Hasher};
+
+impl<N: Native> Ordered for LittleEndian<N> {
+    ghost order = { on (λ v. N.number_of (bytes_at v.bytes v.pos N.byte_count)) N.cmp };
+
+    ghost hash_input = { λ v. N.hash_input (N.number_of (bytes_at v.bytes v.pos N.byte_count)) };
+
+    ghost total = { on_total (λ v. N.number_of (bytes_at v.bytes v.pos N.byte_count)) N.total };
+
+    ghost respects = { λ v w. level_fed N.cmp N.hash_input N.matches_eq N.respects_eq (N.number_of (bytes_at v.bytes v.pos N.byte_count)) (N.number_of (bytes_at w.bytes w.pos N.byte_count)) };
+
+    fn compare(a: RawView<'_>, b: RawView<'_>) -> Ordering {
+        let a: Ref<'_, LittleEndian<N>> = Ref::at(a);
+        let b: Ref<'_, LittleEndian<N>> = Ref::at(b);
+        a.get().cmp(&b.get())
+    }
+
+    fn hash_part<H: Hasher>(part: RawView<'_>, state: &mut H) {
+        let view: Ref<'_, LittleEndian<N>> = Ref::at(part);
+        view.get().hash(state);
+    }
+}
+
+impl<N: Integer> Ordered for NonZero<N> {
+    ghost order = { on (λ v. N.number_of (bytes_at v.bytes v.pos N.byte_count)) N.cmp };
+
+    ghost hash_input = { λ v. N.hash_input (N.number_of (bytes_at v.bytes v.pos N.byte_count)) };
+
+    ghost total = { on_total (λ v. N.number_of (bytes_at v.bytes v.pos N.byte_count)) N.total };
+
+    ghost respects = { λ v w. level_fed N.cmp N.hash_input N.matches_eq N.respects_eq (N.number_of (bytes_at v.bytes v.pos N.byte_count)) (N.number_of (bytes_at w.bytes w.pos N.byte_count)) };
+
+    fn compare(a: RawView<'_>, b: RawView<'_>) -> Ordering {
+        let a: Ref<'_, NonZero<N>> = Ref::at(a);
+        let b: Ref<'_, NonZero<N>> = Ref::at(b);
+        a.get().cmp(&b.get())
+    }
+
+    fn hash_part<H: Hasher>(part: RawView<'_>, state: &mut H) {
+        let view: Ref<'_, NonZero<N>> = Ref::at(part);
+        view.get().hash(state);
+    }
+}
+
+impl<N: Plain> Ordered for N {
+    ghost order = { on (λ v. N.number_of (bytes_at v.bytes v.pos N.byte_count)) N.cmp };
+
+    ghost hash_input = { λ v. N.hash_input (N.number_of (bytes_at v.bytes v.pos N.byte_count)) };
+
+    ghost total = { on_total (λ v. N.number_of (bytes_at v.bytes v.pos N.byte_count)) N.total };
+
+    ghost respects = { λ v w. level_fed N.cmp N.hash_input N.matches_eq N.respects_eq (N.number_of (bytes_at v.bytes v.pos N.byte_count)) (N.number_of (bytes_at w.bytes w.pos N.byte_count)) };
+
+    fn compare(a: RawView<'_>, b: RawView<'_>) -> Ordering {
+        let a: Ref<'_, N> = Ref::at(a);
+        let b: Ref<'_, N> = Ref::at(b);
+        a.get().cmp(&b.get())
+    }
+
+    fn hash_part<H: Hasher>(part: RawView<'_>, state: &mut H) {
+        let view: Ref<'_, N> = Ref::at(part);
+        view.get().hash(state);
+    }
+}
