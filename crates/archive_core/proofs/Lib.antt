@@ -1,5 +1,7 @@
 pub mod Compared
 pub mod StandingLeaves
+pub mod StandingParts
+pub mod ViewsTogether
 pub mod SealedLeaves
 pub mod Coded
 pub mod Shown

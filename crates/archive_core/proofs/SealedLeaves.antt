@@ -13,6 +13,8 @@ use Rattle.archive_check.specs.Within.{in_string}
 use Rattle.archive_check.proofs.ViewedValues.{leaf_readable, text_readable, string_readable}
 use Rattle.archive_check.proofs.EditedBytes.{bytes_long}
 use Rattle.archive_core.specs.Sealed.{Holds, leaf_at, text_begin, string_leaf}
+use Rattle.archive_core.specs.Standing.{KeepsParts}
+use Rattle.archive_core.proofs.StandingParts.{leaf_keeps}
 use Rattle.archive_check.specs.Readable.{string_text}
 use Rattle.archive_core.proofs.Shown.{leaf_shown, text_shown, string_shown}
 
@@ -24,6 +26,10 @@ leaf_lies D bytes q P n count kind e size v = rw (← size) (leaf_shown bytes q 
 pub leaf_changed : (bytes new b : List ℕ) (p : ℕ) (kind : Kind) (z : ℤ) → LeafWritten → Holds kind b z → new ≡ edit bytes p b → WritesLeaf (leaf_at kind bytes p) (number_leaf p kind z) bytes new
 leaf_changed bytes new b p kind z law h e = rw (e, ← h.says) (law bytes b (leaf_at kind bytes p) (number_leaf p kind (kind_value kind b)) (overwrites_number h.legal))
 
+-- whose parts stay
+pub leaf_kept : (bytes new b : List ℕ) (p : ℕ) (kind : Kind) (z : ℤ) → Holds kind b z → new ≡ edit bytes p b → KeepsParts (leaf_at kind bytes p) bytes new
+leaf_kept bytes new b p kind z h e = leaf_keeps bytes new b (leaf_at kind bytes p) (number_leaf p kind (kind_value kind b)) (overwrites_number h.legal) e
+
 -- texts
 
 pub text_lies : (D : Definitions) (bytes : List ℕ) (q n m : ℕ) → m ≡ n → Viewed D bytes q text n → q + m ≤ length bytes
@@ -31,6 +37,9 @@ text_lies D bytes q n m e v = rw e (text_shown bytes q n (text_readable D bytes 
 
 pub text_changed : (bytes new b : List ℕ) (p : ℕ) → LeafWritten → IsUtf8 b → p + length b ≤ length bytes → new ≡ edit bytes p b → WritesLeaf (text_leaf p (bytes_at bytes p (length b))) (text_leaf p b) bytes new
 text_changed bytes new b p law u fits e = rw e (law bytes b (text_leaf p (bytes_at bytes p (length b))) (text_leaf p b) (overwrites_text u (sym (bytes_long bytes p (length b) fits))))
+
+pub text_kept : (bytes new b : List ℕ) (p : ℕ) → IsUtf8 b → p + length b ≤ length bytes → new ≡ edit bytes p b → KeepsParts (text_leaf p (bytes_at bytes p (length b))) bytes new
+text_kept bytes new b p u fits e = leaf_keeps bytes new b (text_leaf p (bytes_at bytes p (length b))) (text_leaf p b) (overwrites_text u (sym (bytes_long bytes p (length b) fits))) e
 
 -- the text of a string lies in what was checked
 string_lies : {s : Schema} {bytes : List ℕ} {q n : ℕ} → (IsOutOfLine bytes q → ⊥) → Lies s bytes q (one str) n → Lies s bytes q text (length (before_end (bytes_at bytes q 8)))
@@ -43,6 +52,10 @@ inline_viewed D bytes q n m o e short v =
     let same : m ≡ length (before_end (bytes_at bytes q 8)) = sym (bytes_long bytes q m (omega arith)) ∙ ap (λ t. length t) e in
     rw same (∥∥₁_map v (λ (s, k, l). (s, k, string_lies o l)))
 
+pub inline_long : (D : Definitions) (bytes : List ℕ) (q n m : ℕ) → bytes_at bytes q m ≡ before_end (bytes_at bytes q 8) → m ≤ 8 → Viewed D bytes q (one str) n → m ≡ length (before_end (bytes_at bytes q 8))
+inline_long D bytes q n m e short v =
+    let fits : q + 8 ≤ length bytes = string_shown bytes q n (string_readable D bytes q n v) in sym (bytes_long bytes q m (omega arith)) ∙ ap (λ t. length t) e
+
 -- as many as its view has
 pub text_long : (D : Definitions) (bytes t : List ℕ) (q n : ℕ) → Viewed D bytes q text n → bytes_at bytes q n ≡ t → n ≡ length t
 text_long D bytes t q n v e = sym (bytes_long bytes q n (text_shown bytes q n (text_readable D bytes q n v)).fits) ∙ ap (λ t. length t) e
@@ -53,3 +66,8 @@ pub string_changed : (bytes new b : List ℕ) (p t n : ℕ) → WritesLeaf (text
 string_changed bytes new b p t n w begin same size =
     let there : bytes_at bytes t (length b) ≡ string_text bytes p = ap (bytes_at bytes t) size ∙ same in
     subst (λ q. WritesLeaf (text_leaf q (string_text bytes p)) (text_leaf q b) bytes new) begin (subst (λ s. WritesLeaf (text_leaf t s) (text_leaf t b) bytes new) there w)
+
+pub string_kept : (bytes new : List ℕ) (p t n m : ℕ) → KeepsParts (text_leaf t (bytes_at bytes t m)) bytes new → t ≡ text_begin bytes p → bytes_at bytes t n ≡ string_text bytes p → m ≡ n → KeepsParts (string_leaf bytes p) bytes new
+string_kept bytes new p t n m h begin same size =
+    let there : bytes_at bytes t m ≡ string_text bytes p = ap (bytes_at bytes t) size ∙ same in
+    subst (λ q. KeepsParts (text_leaf q (string_text bytes p)) bytes new) begin (subst (λ s. KeepsParts (text_leaf t s) bytes new) there h)

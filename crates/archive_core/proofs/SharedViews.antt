@@ -30,10 +30,10 @@ leads_from s bytes q n X P sharing l c =
     let both : (pos q +ℤ i32_at bytes q ≡ pos (target_from bytes q q)) × Lies s bytes (target_from bytes q q) P (length_at bytes q P) = rw there (refl, i) in
     record { lands = both.0; there = both.1 }
 
-shared_hole : {s : Schema} {bytes : List ℕ} {q n : ℕ} {flavor : Flavor} {P : Pointee} {v : Value} → Contents s bytes q (one (shared flavor P)) n v → v ≡ hole (pointer_at bytes q (Some flavor) P)
+pub shared_hole : {s : Schema} {bytes : List ℕ} {q n : ℕ} {flavor : Flavor} {P : Pointee} {v : Value} → Contents s bytes q (one (shared flavor P)) n v → v ≡ hole (pointer_at bytes q (Some flavor) P)
 shared_hole (contents_one reads_shared) = refl
 
-weak_hole : {s : Schema} {bytes : List ℕ} {q n : ℕ} {flavor : Flavor} {P : Pointee} {v : Value} → i32_at bytes q ≢ pos 1 → Contents s bytes q (one (weak flavor P)) n v → v ≡ hole (pointer_at bytes q (Some flavor) P)
+pub weak_hole : {s : Schema} {bytes : List ℕ} {q n : ℕ} {flavor : Flavor} {P : Pointee} {v : Value} → i32_at bytes q ≢ pos 1 → Contents s bytes q (one (weak flavor P)) n v → v ≡ hole (pointer_at bytes q (Some flavor) P)
 weak_hole far (contents_one (reads_null e)) = absurd (far e)
 weak_hole far (contents_one (reads_weak e)) = refl
 

@@ -127,7 +127,7 @@ module _ (s : Schema) (bytes : List ℕ) where
   text_stands a q n i = let (w, k, f) = part_stands a i in f (text_leaf q (bytes_at bytes q n)) (text_there k)
 
   -- the text of a string stands there, too, wherever that is
-  out_is : {q n : ℕ} {v : Value} → IsOutOfLine bytes q → Contents s bytes q (one str) n v → v ≡ hole (string_at bytes q)
+  pub out_is : {q n : ℕ} {v : Value} → IsOutOfLine bytes q → Contents s bytes q (one str) n v → v ≡ hole (string_at bytes q)
   out_is o (contents_one (reads_inline i u)) = absurd (i o)
   out_is o (contents_one (reads_out_of_line i u)) = refl
 

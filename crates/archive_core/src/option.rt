@@ -8,6 +8,7 @@ ghost use Rattle.archive_enum.specs.Choices.{option_shape, option_layout};
 ghost use Rattle.archive_core.specs.Causes.{HindersAt};
 ghost use Rattle.archive_core.specs.Options.{option_meaning, option_keys, option_flat, OptionBelongs, option_keyed, option_planned};
 ghost use Rattle.archive_core.specs.PlannedOwners.{one_planned};
+ghost use Rattle.archive_core.specs.Standing.{StandsWith, view};
 ghost use Rattle.archive_core.specs.Writing.{Fresh, Resolves};
 
 use crate::place::Place;
@@ -107,6 +108,7 @@ impl<'a, T: Portable> Ref<'a, ArchivedOption<T>> {
         ensures buffer { IfSome result (λ v. v.bytes.now ≡ self.entry.bytes.now) }
         ensures position { IfSome result (λ v. v.pos ≡ self.entry.pos + T.layout.align) }
         ensures length { IfSome result (λ v. v.len ≡ 0) }
+        ensures beside { IfSome result (λ v. StandsWith T.definitions self.entry.bytes.now (view self.entry.pos (one (option_shape T.shape)) self.entry.len) (view v.pos T.pointee v.len)) }
     {
         let RawView { bytes, pos, .. } = self.part();
         if bytes[pos] == 0 {

@@ -9,6 +9,7 @@ ghost use Rattle.archive_check.specs.Shape.{one, shared, weak};
 ghost use Rattle.archive_check.specs.Value.{null, shared_value};
 ghost use Rattle.archive_check.specs.Viewed.{Says};
 ghost use Rattle.archive_core.specs.SharedLaws.{flavor_as};
+ghost use Rattle.archive_core.specs.Standing.{StandsWith, view};
 
 use super::{ArchivedRc, ArchivedRcWeak, Flavor};
 use crate::traits::PortablePointee;
@@ -42,6 +43,7 @@ impl<'a, T: PortablePointee, F: Flavor> Ref<'a, ArchivedRc<T, F>> {
         ensures position { result.pos ≡ target_from self.entry.bytes.now self.entry.pos self.entry.pos }
         ensures length { result.len ≡ length_at self.entry.bytes.now self.entry.pos T.pointee }
         ensures says { Says T.definitions self.entry.bytes.now self.entry.pos (one (shared (flavor_as F.name F.ALLOW_CYCLES) T.pointee)) self.entry.len (shared_value result.pos) }
+        ensures beside { StandsWith T.definitions self.entry.bytes.now (view self.entry.pos (one (shared (flavor_as F.name F.ALLOW_CYCLES) T.pointee)) self.entry.len) (view result.pos T.pointee result.len) }
     {
         let RawView { bytes, pos, .. } = self.part();
         let target = read_target(bytes, pos, pos);
@@ -63,6 +65,7 @@ impl<'a, T: PortablePointee, F: Flavor> Ref<'a, ArchivedRcWeak<T, F>> {
         ensures none { IfNone result (Says T.definitions self.entry.bytes.now self.entry.pos (one (weak (flavor_as F.name F.ALLOW_CYCLES) T.pointee)) self.entry.len null) }
         ensures offset { IfSome result (λ r. i32_at self.entry.bytes.now self.entry.pos ≡ whole 1 → ⊥) }
         ensures null { i32_at self.entry.bytes.now self.entry.pos ≡ whole 1 → IsNone result }
+        ensures beside { IfSome result (λ r. StandsWith T.definitions self.entry.bytes.now (view self.entry.pos (one (weak (flavor_as F.name F.ALLOW_CYCLES) T.pointee)) self.entry.len) (view r.pos T.pointee r.len)) }
         ensures is_null { IfNone result (i32_at self.entry.bytes.now self.entry.pos ≡ whole 1) }
     {
         let RawView { bytes, pos, .. } = self.part();

@@ -9,6 +9,7 @@ ghost use Rattle.archive_check.specs.Revised.{WritesLeaf};
 ghost use Rattle.archive_check.specs.Shape.{str as str_shape, one, text};
 ghost use Rattle.archive_check.specs.Viewed.{Viewed};
 ghost use Rattle.archive_core.specs.Sealed.{StandsIn, text_begin, string_leaf};
+ghost use Rattle.archive_core.specs.Standing.{KeepsParts, KeepsViews, StandsWith, view};
 
 use super::{Seal, Spot};
 use crate::string::{ArchivedStr, ArchivedString};
@@ -30,6 +31,7 @@ fn write_text_over(value: &str, bytes: &mut [u8], pos: usize)
     requires { pos + length value.now ≤ length bytes.old }
     ensures edited { bytes.new ≡ edit bytes.old pos value.now }
     ensures leaf { WritesLeaf (text_leaf pos (bytes_at bytes.old pos (length value.now))) (text_leaf pos value.now) bytes.old bytes.new }
+    ensures parts { KeepsParts (text_leaf pos (bytes_at bytes.old pos (length value.now))) bytes.old bytes.new }
 {
     write_text(value, bytes, pos);
     leaf_written();
@@ -40,6 +42,7 @@ fn text_spot(string: Ref<'_, ArchivedString>) -> Spot<ArchivedStr>
     ensures position { result.pos ≡ text_begin string.entry.bytes.now string.entry.pos }
     ensures text { bytes_at string.entry.bytes.now result.pos result.len ≡ string_text string.entry.bytes.now string.entry.pos }
     ensures viewed { Viewed no_definition string.entry.bytes.now result.pos text result.len }
+    ensures beside { StandsWith no_definition string.entry.bytes.now (view string.entry.pos (one str_shape) string.entry.len) (view result.pos text result.len) }
 {
     let RawView { bytes, pos, .. } = string.part();
     if is_out_of_line(bytes, pos) {
@@ -61,6 +64,8 @@ impl<'a> Seal<'a, ArchivedStr> {
         ensures stands { StandsIn self.entry.bytes.now self.entry.pos text self.entry.len (text_leaf self.entry.pos (bytes_at self.entry.bytes.now self.entry.pos self.entry.len)) }
         ensures leaf { WritesLeaf (text_leaf self.entry.pos (bytes_at self.entry.bytes.now self.entry.pos self.entry.len)) (text_leaf self.entry.pos value.now)
             self.entry.bytes.now self.exit.0.now }
+        ensures parts { KeepsParts (text_leaf self.entry.pos (bytes_at self.entry.bytes.now self.entry.pos self.entry.len)) self.entry.bytes.now self.exit.0.now }
+        ensures views { KeepsViews self.entry.bytes.now self.exit.0.now (view self.entry.pos text self.entry.len) }
     {
         let Seal { bytes, pos, .. } = self;
         write_text_over(value, bytes, pos);
@@ -77,6 +82,7 @@ impl<'a> Seal<'a, ArchivedString> {
         ensures position { result.pos ≡ text_begin self.entry.bytes.now self.entry.pos }
         ensures length { result.len ≡ length (string_text self.entry.bytes.now self.entry.pos) }
         ensures viewed { Viewed no_definition result.bytes.now result.pos text result.len }
+        ensures beside { StandsWith no_definition self.entry.bytes.now (view self.entry.pos (one str_shape) self.entry.len) (view result.pos text result.len) }
     {
         let spot = text_spot(self.as_ref());
         let Seal { bytes, .. } = self;
@@ -92,6 +98,8 @@ impl<'a> Seal<'a, ArchivedString> {
         ensures stands { StandsIn self.entry.bytes.now self.entry.pos (one str_shape) self.entry.len (string_leaf self.entry.bytes.now self.entry.pos) }
         ensures leaf { WritesLeaf (string_leaf self.entry.bytes.now self.entry.pos) (text_leaf (text_begin self.entry.bytes.now self.entry.pos) value.now)
             self.entry.bytes.now self.exit.0.now }
+        ensures parts { KeepsParts (string_leaf self.entry.bytes.now self.entry.pos) self.entry.bytes.now self.exit.0.now }
+        ensures views { KeepsViews self.entry.bytes.now self.exit.0.now (view self.entry.pos (one str_shape) self.entry.len) }
     {
         let spot = text_spot(self.as_ref());
         let Seal { bytes, .. } = self;

@@ -4,13 +4,23 @@ ghost use Rattle.std.specs.Prelude.{◌≡◌, IsErr, OnOk, length};
 ghost use Rattle.archive_check.specs.Archives.{root_in};
 ghost use Rattle.archive_check.specs.Leaves.{edit};
 
-use archive_core::api::access;
+use archive_core::api::{access, access_mut, access_pos, access_pos_mut};
+use archive_core::boxed::ArchivedBox;
 use archive_core::error::Error;
-use archive_core::primitive::{ArchivedChar, ArchivedNonZeroU16, ArchivedU32};
+use archive_core::option::ArchivedOption;
+use archive_core::primitive::{ArchivedChar, ArchivedI32, ArchivedNonZeroU16, ArchivedU32};
+use archive_core::rc::{ArchivedRc, ArchivedRcWeak, RcFlavor};
 use archive_core::seal::SealedLeaf;
+use archive_core::string::{ArchivedStr, ArchivedString};
 use archive_core::traits::Portable;
+use archive_core::vec::ArchivedVec;
+use archive_tuple::ArchivedTuple2;
 use std::alloc::Global;
 use std::test::Fail;
+
+type SharedNumber = ArchivedRc<ArchivedU32, RcFlavor>;
+
+type WeakNumber = ArchivedRcWeak<ArchivedU32, RcFlavor>;
 
 // Writes over the root of an archive that is one leaf. A refusal changes nothing.
 fn write_root<T: Portable + SealedLeaf>(
@@ -55,5 +65,119 @@ fn leaves_written_over(rt: HostRuntime) -> Result<(), Fail> {
         Err(Error::InvalidBool)
     );
     assert_eq!(rt; wrong, [2]);
+    Ok(())
+}
+
+#[test]
+fn texts_written_over(rt: HostRuntime) -> Result<(), Fail> {
+    let alloc = rt.alloc();
+    let mut bytes = *b"hello world\0\x8b\0\0\0\xf4\xff\xff\xff";
+    let text = access_mut::<ArchivedString>(alloc, &mut bytes)?.as_str_seal();
+    if text.as_ref().len() == 11 {
+        text.write_str("HELLO WORLD");
+    }
+    assert_eq!(rt; bytes, *b"HELLO WORLD\0\x8b\0\0\0\xf4\xff\xff\xff");
+    let mut bytes = *b"hi\xff\xff\xff\xff\xff\xff";
+    let string = access_mut::<ArchivedString>(alloc, &mut bytes)?;
+    if string.as_ref().as_str().len() == 2 {
+        string.write_str("é");
+    }
+    assert_eq!(rt; bytes, *b"\xc3\xa9\xff\xff\xff\xff\xff\xff");
+    assert_eq!(rt; access::<ArchivedString>(alloc, &bytes)?.as_str(), "é");
+    let mut bytes = *b"hi\0\0\xfc\xff\xff\xff\x02\0\0\0";
+    let text = access_mut::<ArchivedBox<ArchivedStr>>(alloc, &mut bytes)?.as_str_seal();
+    if text.as_ref().len() == 2 {
+        text.write_str("ho");
+    }
+    assert_eq!(rt; bytes, *b"ho\0\0\xfc\xff\xff\xff\x02\0\0\0");
+    Ok(())
+}
+
+// Two pointers to one number: written through the first, and read through both.
+#[test]
+fn a_shared_value_written_over(rt: HostRuntime) -> Result<(), Fail> {
+    let alloc = rt.alloc();
+    let mut bytes = *b"\x0a\0\0\0\xfc\xff\xff\xff\xf8\xff\xff\xff";
+    access_pos_mut::<SharedNumber>(alloc, &mut bytes, 4)?
+        .get_seal()
+        .write(42);
+    assert_eq!(rt; bytes, *b"\x2a\0\0\0\xfc\xff\xff\xff\xf8\xff\xff\xff");
+    access::<ArchivedTuple2<SharedNumber, SharedNumber>>(alloc, &bytes)?;
+    assert_eq!(rt;
+        access_pos::<SharedNumber>(alloc, &bytes, 4)?.get().get(),
+        42
+    );
+    assert_eq!(rt;
+        access_pos::<SharedNumber>(alloc, &bytes, 8)?.get().get(),
+        42
+    );
+    Ok(())
+}
+
+#[test]
+fn a_weak_pointers_value_written_over(rt: HostRuntime) -> Result<(), Fail> {
+    let alloc = rt.alloc();
+    let mut bytes = *b"\x0a\0\0\0\xfc\xff\xff\xff\xf8\xff\xff\xff";
+    if let Some(number) = access_mut::<WeakNumber>(alloc, &mut bytes)?.upgrade_seal() {
+        number.write(17);
+    }
+    assert_eq!(rt; bytes, *b"\x11\0\0\0\xfc\xff\xff\xff\xf8\xff\xff\xff");
+    access::<ArchivedTuple2<SharedNumber, WeakNumber>>(alloc, &bytes)?;
+    assert_eq!(rt;
+        access_pos::<SharedNumber>(alloc, &bytes, 4)?.get().get(),
+        17
+    );
+    let mut null = [1, 0, 0, 0];
+    assert!(rt;
+        access_mut::<WeakNumber>(alloc, &mut null)?
+            .upgrade_seal()
+            .is_none()
+    );
+    Ok(())
+}
+
+#[test]
+fn elements_written_over(rt: HostRuntime) -> Result<(), Fail> {
+    let alloc = rt.alloc();
+    let mut bytes = *b"\x01\0\0\0\x02\0\0\0\x03\0\0\0\x04\0\0\0\xf0\xff\xff\xff\x04\0\0\0";
+    let list = access_mut::<ArchivedVec<ArchivedI32>>(alloc, &mut bytes)?;
+    if list.as_ref().len() > 2 {
+        list.index(2).write(-1);
+    }
+    let list = access_mut::<ArchivedVec<ArchivedI32>>(alloc, &mut bytes)?.as_slice_seal();
+    if list.len() > 0 {
+        list.index(0).write(7);
+    }
+    assert_eq!(rt;
+        bytes,
+        *b"\x07\0\0\0\x02\0\0\0\xff\xff\xff\xff\x04\0\0\0\xf0\xff\xff\xff\x04\0\0\0"
+    );
+    Ok(())
+}
+
+#[test]
+fn owned_and_optional_values_written_over(rt: HostRuntime) -> Result<(), Fail> {
+    let alloc = rt.alloc();
+    let mut bytes = *b"\x07\0\0\0\xfc\xff\xff\xff";
+    access_mut::<ArchivedBox<ArchivedU32>>(alloc, &mut bytes)?
+        .get_seal()
+        .write(9);
+    assert_eq!(rt; bytes, *b"\x09\0\0\0\xfc\xff\xff\xff");
+    let mut bytes = [1, 0, 0, 0, 7, 0, 0, 0];
+    if let Some(number) = access_mut::<ArchivedOption<ArchivedU32>>(alloc, &mut bytes)?.as_seal() {
+        number.write(9);
+    }
+    assert_eq!(rt; bytes, [1, 0, 0, 0, 9, 0, 0, 0]);
+    let mut items = access_mut::<ArchivedOption<ArchivedU32>>(alloc, &mut bytes)?.iter_seal();
+    if let Some(number) = items.next() {
+        number.write(11);
+    }
+    assert_eq!(rt; bytes, [1, 0, 0, 0, 11, 0, 0, 0]);
+    let mut none = [0, 0, 0, 0, 7, 0, 0, 0];
+    assert!(rt;
+        access_mut::<ArchivedOption<ArchivedU32>>(alloc, &mut none)?
+            .as_seal()
+            .is_none()
+    );
     Ok(())
 }

@@ -1,5 +1,6 @@
 use Rattle.std.proofs.Common.{arith}
 use Rattle.archive_core.proofs.SharedViews.{shared_fits, shared_shown, shared_says, pointer_some}
+use Rattle.archive_core.proofs.ViewsTogether.{shared_with}
 use Rattle.archive_core.proofs.rc.views.Ref+ArchivedRc+T+F.get.Goals as goal
 
 pub read_target-target-requires-clause-within : goal.read_target-target-requires-clause-within
@@ -19,3 +20,6 @@ at-requires g c = rw (c.read_target-target.ensures, c.read_length.ensures) (shar
 
 pub returns-clause-says : goal.returns-clause-says
 returns-clause-says g c = rw (c.at.ensures.position, c.read_target-target.ensures, c.part-pos.ensures.buffer, c.part-pos.ensures.position) (shared_says _ _ _ _ _ _)
+
+pub returns-clause-beside : goal.returns-clause-beside
+returns-clause-beside g c = rw (c.at.ensures.position, c.at.ensures.length, c.read_target-target.ensures, c.read_length.ensures, c.part-pos.ensures.buffer, c.part-pos.ensures.position) (shared_with _ _ _ _ _ _)

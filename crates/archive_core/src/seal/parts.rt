@@ -1,0 +1,197 @@
+// Seals of what boxes, shared pointers, vectors, slices and options hold.
+
+ghost use Rattle.std.specs.Prelude.{◌≡◌, ◌+◌, ◌*◌, ◌<◌, slice_index, IfSome, IfNone, MatchOption, pos as whole};
+ghost use Rattle.archive_check.specs.Definitions.{no_definition};
+ghost use Rattle.archive_check.specs.Readable.{target_from};
+ghost use Rattle.archive_check.specs.Reads.{i32_at, length_at, u32_at};
+ghost use Rattle.archive_check.specs.Shape.{one, run, text, boxed, shared, weak, vec as vec_shape};
+ghost use Rattle.archive_check.specs.Viewed.{Viewed};
+ghost use Rattle.archive_core.specs.SharedLaws.{flavor_as};
+ghost use Rattle.archive_core.specs.Standing.{StandsWith, view};
+ghost use Rattle.archive_enum.specs.Choices.{option_shape};
+
+use super::Seal;
+use crate::boxed::ArchivedBox;
+use crate::option::{ArchivedOption, Iter};
+use crate::rc::{ArchivedRc, ArchivedRcWeak, Flavor};
+use crate::slice::ArchivedSlice;
+use crate::string::ArchivedStr;
+use crate::traits::{Portable, PortablePointee};
+use crate::vec::ArchivedVec;
+
+impl<'a, T: PortablePointee> Seal<'a, ArchivedBox<T>> {
+    /// A seal of what the box holds: a value, a slice or a text. Asks that the seal shows a part of a buffer that was checked, as it does when it is
+    /// made. No byte changes. As in rkyv 0.8.18.
+    pub fn get_seal(self) -> Seal<'a, T>
+        requires { Viewed T.definitions self.bytes.now self.pos (one (boxed T.pointee)) self.len }
+        ensures same_reference { result.bytes.ghost_name ≡ self.entry.bytes.ghost_name }
+        ensures buffer { result.bytes.now ≡ self.entry.bytes.now }
+        ensures position { result.pos ≡ target_from self.entry.bytes.now self.entry.pos self.entry.pos }
+        ensures length { result.len ≡ length_at self.entry.bytes.now self.entry.pos T.pointee }
+        ensures viewed { Viewed T.definitions result.bytes.now result.pos T.pointee result.len }
+        ensures beside { StandsWith T.definitions self.entry.bytes.now (view self.entry.pos (one (boxed T.pointee)) self.entry.len) (view result.pos T.pointee result.len) }
+    {
+        let spot = self.as_ref().get().spot();
+        let Seal { bytes, .. } = self;
+        spot.seal(bytes)
+    }
+}
+
+impl<'a> Seal<'a, ArchivedBox<ArchivedStr>> {
+    /// A seal of the text that the box holds. Asks that the seal shows a part of a buffer that was checked, as it does when it is made. No byte changes.
+    /// In rkyv 0.8.18 it is the box's `get_seal`.
+    pub fn as_str_seal(self) -> Seal<'a, ArchivedStr>
+        requires { Viewed no_definition self.bytes.now self.pos (one (boxed text)) self.len }
+        ensures same_reference { result.bytes.ghost_name ≡ self.entry.bytes.ghost_name }
+        ensures buffer { result.bytes.now ≡ self.entry.bytes.now }
+        ensures position { result.pos ≡ target_from self.entry.bytes.now self.entry.pos self.entry.pos }
+        ensures length { result.len ≡ u32_at self.entry.bytes.now (self.entry.pos + 4) }
+        ensures viewed { Viewed no_definition result.bytes.now result.pos text result.len }
+        ensures beside { StandsWith no_definition self.entry.bytes.now (view self.entry.pos (one (boxed text)) self.entry.len) (view result.pos text result.len) }
+    {
+        let spot = self.as_ref().get().spot();
+        let Seal { bytes, .. } = self;
+        spot.seal(bytes)
+    }
+}
+
+impl<'a, T: PortablePointee, F: Flavor> Seal<'a, ArchivedRc<T, F>> {
+    /// A seal of what the pointer leads to. Asks that the seal shows a part of a buffer that was checked, as it does when it is made. No byte changes.
+    /// In rkyv 0.8.18 it is unsafe (`get_seal_unchecked`); here the whole buffer is borrowed for writing, so no other pointer to the value can be used
+    /// meanwhile.
+    pub fn get_seal(self) -> Seal<'a, T>
+        requires { Viewed T.definitions self.bytes.now self.pos (one (shared (flavor_as F.name F.ALLOW_CYCLES) T.pointee)) self.len }
+        ensures same_reference { result.bytes.ghost_name ≡ self.entry.bytes.ghost_name }
+        ensures buffer { result.bytes.now ≡ self.entry.bytes.now }
+        ensures position { result.pos ≡ target_from self.entry.bytes.now self.entry.pos self.entry.pos }
+        ensures length { result.len ≡ length_at self.entry.bytes.now self.entry.pos T.pointee }
+        ensures viewed { Viewed T.definitions result.bytes.now result.pos T.pointee result.len }
+        ensures beside { StandsWith T.definitions self.entry.bytes.now (view self.entry.pos (one (shared (flavor_as F.name F.ALLOW_CYCLES) T.pointee)) self.entry.len) (view result.pos T.pointee result.len) }
+    {
+        let spot = self.as_ref().get().spot();
+        let Seal { bytes, .. } = self;
+        spot.seal(bytes)
+    }
+}
+
+impl<'a, T: PortablePointee, F: Flavor> Seal<'a, ArchivedRcWeak<T, F>> {
+    /// A seal of what the pointer leads to; none exactly where it is null, whose offset is 1. Asks that the seal shows a part of a buffer that was
+    /// checked, as it does when it is made. No byte changes. As in rkyv 0.8.18.
+    pub fn upgrade_seal(self) -> Option<Seal<'a, T>>
+        requires { Viewed T.definitions self.bytes.now self.pos (one (weak (flavor_as F.name F.ALLOW_CYCLES) T.pointee)) self.len }
+        ensures offset { IfSome result (λ _. i32_at self.entry.bytes.now self.entry.pos ≡ whole 1 → ⊥) }
+        ensures null { IfNone result (i32_at self.entry.bytes.now self.entry.pos ≡ whole 1) }
+        ensures same_reference { IfSome result (λ s. s.bytes.ghost_name ≡ self.entry.bytes.ghost_name) }
+        ensures buffer { IfSome result (λ s. s.bytes.now ≡ self.entry.bytes.now) }
+        ensures position { IfSome result (λ s. s.pos ≡ target_from self.entry.bytes.now self.entry.pos self.entry.pos) }
+        ensures length { IfSome result (λ s. s.len ≡ length_at self.entry.bytes.now self.entry.pos T.pointee) }
+        ensures viewed { IfSome result (λ s. Viewed T.definitions s.bytes.now s.pos T.pointee s.len) }
+        ensures beside { IfSome result (λ s. StandsWith T.definitions self.entry.bytes.now (view self.entry.pos (one (weak (flavor_as F.name F.ALLOW_CYCLES) T.pointee)) self.entry.len) (view s.pos T.pointee s.len)) }
+    {
+        let spot = match self.as_ref().upgrade() {
+            None => return None,
+            Some(part) => part.spot(),
+        };
+        let Seal { bytes, .. } = self;
+        Some(spot.seal(bytes))
+    }
+}
+
+impl<'a, T: Portable> Seal<'a, ArchivedVec<T>> {
+    /// A seal of the elements. Asks that the seal shows a part of a buffer that was checked, as it does when it is made. No byte changes. As in rkyv
+    /// 0.8.18.
+    pub fn as_slice_seal(self) -> Seal<'a, ArchivedSlice<T>>
+        requires { Viewed T.definitions self.bytes.now self.pos (one (vec_shape T.shape)) self.len }
+        ensures same_reference { result.bytes.ghost_name ≡ self.entry.bytes.ghost_name }
+        ensures buffer { result.bytes.now ≡ self.entry.bytes.now }
+        ensures position { result.pos ≡ target_from self.entry.bytes.now self.entry.pos self.entry.pos }
+        ensures length { result.len ≡ u32_at self.entry.bytes.now (self.entry.pos + 4) }
+        ensures viewed { Viewed T.definitions result.bytes.now result.pos (run T.shape) result.len }
+        ensures beside { StandsWith T.definitions self.entry.bytes.now (view self.entry.pos (one (vec_shape T.shape)) self.entry.len) (view result.pos (run T.shape) result.len) }
+    {
+        let spot = self.as_ref().as_slice().spot();
+        let Seal { bytes, .. } = self;
+        spot.seal(bytes)
+    }
+}
+
+impl<'a, T: Portable> Seal<'a, ArchivedVec<T>> {
+    /// A seal of the element `index`, of which 0 is the first. Asks that there is one, and that the seal shows a part of a buffer that was checked, as
+    /// it does when it is made. No byte changes. In rkyv 0.8.18 it is `index` of the vector's slice, which panics where there is none.
+    pub fn index(self, index: usize) -> Seal<'a, T>
+        requires viewed { Viewed T.definitions self.bytes.now self.pos (one (vec_shape T.shape)) self.len }
+        requires below { index < u32_at self.bytes.now (self.pos + 4) }
+        ensures same_reference { result.bytes.ghost_name ≡ self.entry.bytes.ghost_name }
+        ensures buffer { result.bytes.now ≡ self.entry.bytes.now }
+        ensures position { result.pos ≡ target_from self.entry.bytes.now self.entry.pos self.entry.pos + index * T.layout.size }
+        ensures length { result.len ≡ 0 }
+        ensures viewed { Viewed T.definitions result.bytes.now result.pos T.pointee result.len }
+        ensures beside { StandsWith T.definitions self.entry.bytes.now (view self.entry.pos (one (vec_shape T.shape)) self.entry.len) (view result.pos T.pointee result.len) }
+    {
+        let spot = self.as_ref().as_slice().index(index).spot();
+        let Seal { bytes, .. } = self;
+        spot.seal(bytes)
+    }
+}
+
+impl<'a, T: Portable> Seal<'a, ArchivedSlice<T>> {
+    /// How many elements there are. Our own.
+    pub fn len(&self) -> usize
+        ensures { result ≡ self.now.len }
+    {
+        self.len
+    }
+
+    /// A seal of the element `index`, of which 0 is the first. Asks that there is one, and that the seal shows a part of a buffer that was checked, as
+    /// it does when it is made. No byte changes. As in rkyv 0.8.18, which panics where there is none.
+    pub fn index(self, index: usize) -> Seal<'a, T>
+        requires viewed { Viewed T.definitions self.bytes.now self.pos (run T.shape) self.len }
+        requires below { index < self.len }
+        ensures same_reference { result.bytes.ghost_name ≡ self.entry.bytes.ghost_name }
+        ensures buffer { result.bytes.now ≡ self.entry.bytes.now }
+        ensures position { result.pos ≡ self.entry.pos + index * T.layout.size }
+        ensures length { result.len ≡ 0 }
+        ensures viewed { Viewed T.definitions result.bytes.now result.pos T.pointee result.len }
+        ensures beside { StandsWith T.definitions self.entry.bytes.now (view self.entry.pos (run T.shape) self.entry.len) (view result.pos T.pointee result.len) }
+    {
+        let spot = self.as_ref().index(index).spot();
+        let Seal { bytes, .. } = self;
+        spot.seal(bytes)
+    }
+}
+
+impl<'a, T: Portable> Seal<'a, ArchivedOption<T>> {
+    /// A seal of the value, if there is one. Asks that the seal shows a part of a buffer that was checked, as it does when it is made. No byte changes,
+    /// and what stands behind a `None` isn't looked at. As in rkyv 0.8.18.
+    pub fn as_seal(self) -> Option<Seal<'a, T>>
+        requires { Viewed T.definitions self.bytes.now self.pos (one (option_shape T.shape)) self.len }
+        ensures tag { MatchOption result (slice_index self.entry.bytes.now self.entry.pos ≡ 0) (λ s. slice_index self.entry.bytes.now self.entry.pos ≡ 1) }
+        ensures same_reference { IfSome result (λ s. s.bytes.ghost_name ≡ self.entry.bytes.ghost_name) }
+        ensures buffer { IfSome result (λ s. s.bytes.now ≡ self.entry.bytes.now) }
+        ensures position { IfSome result (λ s. s.pos ≡ self.entry.pos + T.layout.align) }
+        ensures length { IfSome result (λ s. s.len ≡ 0) }
+        ensures viewed { IfSome result (λ s. Viewed T.definitions s.bytes.now s.pos T.pointee s.len) }
+        ensures beside { IfSome result (λ s. StandsWith T.definitions self.entry.bytes.now (view self.entry.pos (one (option_shape T.shape)) self.entry.len) (view s.pos T.pointee s.len)) }
+    {
+        let spot = match self.as_ref().as_ref() {
+            None => return None,
+            Some(part) => part.spot(),
+        };
+        let Seal { bytes, .. } = self;
+        Some(spot.seal(bytes))
+    }
+    /// An iterator over the seal of the value: it comes once, from either end, and then none. Asks that the seal shows a part of a buffer that was
+    /// checked, as it does when it is made. No byte changes. As in rkyv 0.8.18.
+    pub fn iter_seal(self) -> Iter<Seal<'a, T>>
+        requires { Viewed T.definitions self.bytes.now self.pos (one (option_shape T.shape)) self.len }
+        ensures tag { MatchOption result (slice_index self.entry.bytes.now self.entry.pos ≡ 0) (λ s. slice_index self.entry.bytes.now self.entry.pos ≡ 1) }
+        ensures same_reference { IfSome result (λ s. s.bytes.ghost_name ≡ self.entry.bytes.ghost_name) }
+        ensures buffer { IfSome result (λ s. s.bytes.now ≡ self.entry.bytes.now) }
+        ensures position { IfSome result (λ s. s.pos ≡ self.entry.pos + T.layout.align) }
+        ensures length { IfSome result (λ s. s.len ≡ 0) }
+        ensures viewed { IfSome result (λ s. Viewed T.definitions s.bytes.now s.pos T.pointee s.len) }
+        ensures beside { IfSome result (λ s. StandsWith T.definitions self.entry.bytes.now (view self.entry.pos (one (option_shape T.shape)) self.entry.len) (view s.pos T.pointee s.len)) }
+    {
+        Iter::new(self.as_seal())
+    }
+}
