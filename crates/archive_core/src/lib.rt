@@ -17,7 +17,7 @@ pub mod sharing;
 pub mod slice;
 pub mod string;
 pub mod traits;
-mod tuples;
+pub mod tuples;
 mod variants;
 pub mod vec;
 pub mod view;
