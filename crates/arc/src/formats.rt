@@ -1,5 +1,6 @@
 //! The formats that the program knows.
 
+use crate::node::{ArchivedNode, Node, node_of};
 use archive_core::api::{access, to_bytes};
 use archive_core::error::Error;
 use archive_core::option::ArchivedOption;
@@ -19,10 +20,12 @@ pub enum Format {
     OptU32,
     /// `vec-u32`, written as digits between commas; no word at all is an empty list.
     VecU32,
+    /// `node`, written as how many boxes there are, at most 1,000.
+    Node,
 }
 
 /// A value that a command gives.
-#[derive(Debug, Drop)]
+#[derive(Drop)]
 pub enum Value<'a> {
     /// A number.
     U32(u32),
@@ -30,6 +33,8 @@ pub enum Value<'a> {
     String(&'a String),
     /// Numbers.
     VecU32(Vec<u32>),
+    /// A list of boxes in boxes.
+    Node(Node),
 }
 
 impl Format {
@@ -40,6 +45,7 @@ impl Format {
             "string" => Some(Format::String),
             "opt-u32" => Some(Format::OptU32),
             "vec-u32" => Some(Format::VecU32),
+            "node" => Some(Format::Node),
             _ => None,
         }
     }
@@ -56,6 +62,10 @@ impl Format {
             Format::VecU32 => match numbers(alloc, word.as_str())? {
                 Some(numbers) => Ok(Some(Value::VecU32(numbers))),
                 None => Ok(None),
+            },
+            Format::Node => match number(word.as_str()) {
+                Some(count) if count <= 1000 => Ok(Some(Value::Node(node_of(alloc, count)?))),
+                _ => Ok(None),
             },
         }
     }
@@ -75,6 +85,9 @@ impl Format {
             Format::VecU32 => {
                 access::<ArchivedVec<ArchivedU32>>(alloc, bytes)?;
             }
+            Format::Node => {
+                access::<ArchivedNode>(alloc, bytes)?;
+            }
         }
         Ok(())
     }
@@ -87,6 +100,7 @@ impl Value<'_> {
             Value::U32(number) => to_bytes(alloc, &number),
             Value::String(text) => to_bytes(alloc, text),
             Value::VecU32(numbers) => to_bytes(alloc, &numbers),
+            Value::Node(node) => to_bytes(alloc, &node),
         }
     }
 }

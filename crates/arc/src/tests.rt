@@ -14,7 +14,7 @@ fn words_of(alloc: Global, command: &str) -> Result<Vec<String>, AllocError> {
 }
 
 // The status of a command, and what it printed.
-fn said(alloc: Global, command: &str) -> Result<(u8, Vec<u8>), AllocError> {
+pub(crate) fn said(alloc: Global, command: &str) -> Result<(u8, Vec<u8>), AllocError> {
     let words = words_of(alloc, command)?;
     let mut out = Vec::new(alloc);
     let status = run(alloc, words.as_slice(), &mut out);
@@ -113,7 +113,7 @@ fn other_words_are_bad_arguments(rt: HostRuntime) -> Result<(), Fail> {
         "write|vec-u32|1,,2",
         "write|vec-u32|1,",
         "write|vec-u32|1 ,2",
-        "check|node|00",
+        "check|list|00",
         "write|u32|",
         "write|u32|+1",
         "write|u32|-1",

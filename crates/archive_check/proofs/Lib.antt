@@ -43,6 +43,7 @@ pub mod ViewedFields
 pub mod ViewedValues
 pub mod ReadBack
 pub mod ReadOwners
+pub mod ViewedPayloads
 pub mod ViewedVariants
 pub mod ReadVariants
 pub mod ReadShared

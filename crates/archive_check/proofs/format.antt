@@ -1,6 +1,7 @@
 -- Lemmas on leaves in bytes, and on expressions and definitions.
 pub mod AddedDefinitions
 pub mod BytesAt
+pub mod ChoiceVariants
 pub mod EqualExpressions
 pub mod LegalBytes
 pub mod RecordParts

@@ -35,6 +35,7 @@ pub mod FreshContexts
 pub mod SharedPositions
 pub mod InSubtree
 pub mod Validators
+pub mod VariantsLayout
 pub mod Schemas
 pub mod Faults
 pub mod Viewed

@@ -3,7 +3,7 @@ use Rattle.std.proofs.Common.{◌≡◌, ℕ, zero, suc, ◌+◌, ◌≤◌, max
 use Rattle.std.proofs.lemmas.Bool.{cases_lt}
 use Rattle.std.proofs.lemmas.List.Elements.{Contains-append_left, Contains-append_right}
 use Rattle.archive_check.specs.Shape.{Name, Shape, parts, named, Parts, no_part, part, definition}
-use Rattle.archive_check.specs.Layout.{Layout, up, size_of, align_of, parts_align, parts_end}
+use Rattle.archive_check.specs.Layout.{Layout, Layouts, up, size_of, align_of, parts_align, parts_end}
 use Rattle.archive_check.specs.Reads.{Schema, LaidOut}
 use Rattle.archive_check.specs.Within.{IsPart, first_part, later_part}
 use Rattle.archive_check.specs.Definitions.{Definitions, no_definition, defines, both, listed, Knows, HasLayout, IsAlign}
@@ -31,11 +31,18 @@ abbrev pub first_or : ℕ → (ℕ → ℕ) → ℕ → ℕ
 first_or first later zero = first
 first_or first later (suc i) = later i
 
+-- where the part with this index begins, laid out one behind another from an offset on
+abbrev pub offset_at : Layouts → ℕ → Parts → ℕ → ℕ
+offset_at names at no_part i = at
+offset_at names at (part X ps) zero = up at (align_of names X)
+offset_at names at (part X ps) (suc i) = offset_at names (up at (align_of names X) + size_of names X) ps i
+
 -- Of what is laid out from an offset on: its greatest alignment, where it ends, and where each part begins.
 pub record PartsLaidOut (D : Definitions) (ps : Parts) (align : ℕ) (end : ℕ → ℕ) (begin : ℕ → ℕ → ℕ) : Type 0 where
   pub aligned : (s : Schema) → Knows s D → parts_align s.layouts ps ≡ align
   pub ends : (s : Schema) → Knows s D → (n : ℕ) → parts_end s.layouts n ps ≡ end n
   pub begins : (s : Schema) → Knows s D → (p n i : ℕ) (Y : Shape) → part_at ps i ≡ Some Y → IsPart s p n ps (p + begin n i) Y
+  pub offsets : (s : Schema) → Knows s D → (n i : ℕ) → offset_at s.layouts n ps i ≡ begin n i
 
 -- under the schema, X is a Y, or a name that stands for it
 pub data StandsFor (s : Schema) (Y : Shape) : Shape → Type 0 where
@@ -54,7 +61,7 @@ knows_left s D E k = record { has = k.has.0; finite = λ n X c. k.finite n X (Co
 pub knows_right : (s : Schema) (D E : Definitions) → Knows s (both D E) → Knows s E
 knows_right s D E k = record { has = k.has.1; finite = λ n X c. k.finite n X (Contains-append_right (listed D) (listed E) (n, X) c); laid_out = k.laid_out }
 
-knows_none : (s : Schema) → LaidOut s → Knows s no_definition
+pub knows_none : (s : Schema) → LaidOut s → Knows s no_definition
 knows_none s laid = record { has = tt; finite = λ n X c. absurd (omega (arith, c.1)); laid_out = laid }
 
 -- who knows those of all parts knows those of each
@@ -73,7 +80,7 @@ pub is_named_record : (name : Name) (D : Definitions) (ps : Parts) → IsRecord 
 is_named_record name D ps = record { stands = λ s k. by_name k.has.0; known = λ s k. knows_right s (defines name (parts ps)) D k }
 
 pub no_part_laid_out : PartsLaidOut no_definition no_part 1 (λ n. n) (λ n i. n)
-no_part_laid_out = record { aligned = λ s k. refl; ends = λ s k n. refl; begins = λ s k p n i Y none. absurd (cc none) }
+no_part_laid_out = record { aligned = λ s k. refl; ends = λ s k n. refl; begins = λ s k p n i Y none. absurd (cc none); offsets = λ s k n i. refl }
 
 module _ (D E : Definitions) (X : Shape) (L : Layout) (laid : HasLayout D X L) (ps : Parts) (a : ℕ) (end : ℕ → ℕ) (begin : ℕ → ℕ → ℕ) (others : PartsLaidOut E ps a end begin) where
   part_size : (s : Schema) → Knows s (both D E) → size_of s.layouts X ≡ L.size
@@ -91,12 +98,17 @@ module _ (D E : Definitions) (X : Shape) (L : Layout) (laid : HasLayout D X L) (
   part_begins s k p n (suc i) Y e =
       later_part (rw (part_align s k, part_size s k) (others.begins s (knows_right s D E k) p (up n L.align + L.size) i Y e))
 
+  part_offsets : (s : Schema) → Knows s (both D E) → (n i : ℕ) → offset_at s.layouts n (part X ps) i ≡ first_or (up n L.align) (begin (up n L.align + L.size)) i
+  part_offsets s k n zero = ap (up n) (part_align s k)
+  part_offsets s k n (suc i) = rw (part_align s k, part_size s k) (others.offsets s (knows_right s D E k) (up n L.align + L.size) i)
+
   -- one part, and others behind it
   pub part_laid_out : PartsLaidOut (both D E) (part X ps) (max L.align a) (λ n. end (up n L.align + L.size)) (λ n. first_or (up n L.align) (begin (up n L.align + L.size)))
   part_laid_out = record {
     aligned = λ s k. rw (part_align s k, others.aligned s (knows_right s D E k)) refl;
     ends = λ s k n. rw (part_align s k, part_size s k) (others.ends s (knows_right s D E k) (up n L.align + L.size));
     begins = part_begins;
+    offsets = part_offsets;
   }
 
 -- the greater of two alignments

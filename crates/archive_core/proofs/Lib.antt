@@ -35,6 +35,10 @@ pub mod ReadElements
 pub mod ReadRecords
 pub mod Spots
 pub mod WrittenVariants
+pub mod NamedVariants
+pub mod Inner
+pub mod ChoicesShown
+pub mod BoxesBefore
 pub mod Nothing
 pub mod ResolvedVariants
 pub mod OwnKeys

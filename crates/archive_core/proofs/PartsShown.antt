@@ -63,7 +63,7 @@ module _ (D : Definitions) (bytes : List ℕ) (q n : ℕ) (W : Shape) (P : Point
         (x, ap taken is ∙ back x, rw (there, same) i);
   }
 
-box_has : (bytes : List ℕ) (q n : ℕ) (P : Pointee) (s : Schema) (v : Value) → Contents s bytes q (one (boxed P)) n v → Contains (pointers v) (pointer_at bytes q None P)
+pub box_has : (bytes : List ℕ) (q n : ℕ) (P : Pointee) (s : Schema) (v : Value) → Contents s bytes q (one (boxed P)) n v → Contains (pointers v) (pointer_at bytes q None P)
 box_has bytes q n P s v (contents_one reads_boxed) = Contains-push [] (pointer_at bytes q None P)
 
 box_filled : (bytes : List ℕ) (q n : ℕ) (P : Pointee) (s : Schema) (v w : Value) → Contents s bytes q (one (boxed P)) n v → Fills s bytes v w → (u : Value) × (w ≡ box u) × Fills s bytes (hole (pointer_at bytes q None P)) u

@@ -8,6 +8,7 @@ ghost use Rattle.archive_check.specs.Readable.{target_from};
 ghost use Rattle.archive_check.specs.Reads.{length_at};
 ghost use Rattle.archive_core.specs.Views.{ShowsPart, boxed_in};
 
+mod inner;
 mod reading;
 mod sources;
 
@@ -16,6 +17,7 @@ use crate::view::{RawView, Ref};
 use archive_check::format::bytes::{read_target, read_u32};
 use archive_check::format::error::Error;
 use archive_check::format::expr::{Defs, Expr};
+pub use inner::{resolve_inner, serialize_inner};
 pub use sources::BoxResolver;
 use std::alloc::Global;
 use std::marker::PhantomData;

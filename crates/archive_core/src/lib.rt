@@ -3,6 +3,7 @@
 
 pub mod api;
 pub mod boxed;
+pub mod choice;
 pub mod option;
 pub mod parts;
 mod phantom;

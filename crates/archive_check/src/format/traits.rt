@@ -21,10 +21,14 @@ mod leaves;
 mod parts;
 mod phantom;
 mod pointees;
+mod variants;
 
 pub use layouts::{LayoutRaw, layout_of_run};
 pub use parts::{PortableParts, Record, define_record, expr_of_record, size_of_record};
 pub use pointees::PortablePointee;
+pub use variants::{
+    Choice, PortableVariants, align_of_choice, define_choice, expr_of_choice, size_of_choice,
+};
 
 /// What a pointer may lead to: an archived value, a slice or a text. As in rkyv 0.8.18, with a length in place of a pointer's metadata.
 pub trait ArchivePointee {

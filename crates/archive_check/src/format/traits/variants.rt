@@ -1,0 +1,194 @@
+// The variants of a choice, nested pair by pair, and the choices that have them.
+
+ghost use Rattle.std.specs.Prelude.{◌≡◌, ◌⊎◌, ℕ, max, min, OnOk, IfOk, IfErr};
+ghost use Rattle.archive_check.specs.Shape.{Name, choice, no_variant, variant};
+ghost use Rattle.archive_check.specs.Layout.{up};
+ghost use Rattle.archive_check.specs.Expressions.{shape_of, variants_in, table_of};
+ghost use Rattle.archive_check.specs.Definitions.{defines, both, IsAlign, NoOthers, Extended, Conflicts};
+ghost use Rattle.archive_check.specs.PartsLayout.{greater_align, one_align};
+ghost use Rattle.archive_check.specs.VariantsLayout.{VariantsLaidOut, IsChoice, joined_variants, first_variant_or, no_variant_laid_out, variant_laid_out, no_variants_reached, variant_reached};
+ghost use Rattle.archive_check.specs.declared.format.error.Error.TheVariants.{OutOfMemory, ShapeConflict};
+
+use super::Portable;
+use super::parts::PortableParts;
+use crate::format::error::Error;
+use crate::format::expr::{Defs, Expr};
+use crate::plan::extents::multiple_of;
+use crate::self_check::CheckedVariants;
+use std::alloc::Global;
+
+/// The variants of a choice, in the order of their tags: `()`, or `(P, V)` for one with the parts `P` and then the variants of `V`. Our own, so that the
+/// layout and the definitions of every choice are told by one logic.
+pub trait PortableVariants: CheckedVariants {
+    // The greatest alignment.
+    ghost greatest: { ℕ };
+
+    // Where the part with an index begins, in the variant with a tag.
+    ghost begin: { ℕ → ℕ → ℕ };
+
+    /// The greatest alignment of all parts in bytes, 1 where there is none.
+    fn align() -> usize
+        ensures { result ≡ greatest };
+
+    /// Where the longest variant ends, in bytes from the tag on, which is the first one: `usize::MAX` where it is that or more.
+    fn longest_end() -> usize
+        ensures { result ≡ min Self.end 18446744073709551615 };
+
+    /// Where part `i` of the variant with this tag begins, in bytes from the tag on: `usize::MAX` where it is that or more. Where there is no such part, the
+    /// variant's end; where there is no such variant, 1.
+    fn payload_offset(tag: usize, i: usize) -> usize
+        ensures { result ≡ min (begin tag i) 18446744073709551615 };
+
+    /// Puts the expressions of the variants' parts behind those in `list`, a list for each variant. Memory comes from `alloc` and from that of the list;
+    /// refused with `OutOfMemory`, 1, where it is refused.
+    fn push_variants(alloc: Global, list: &mut Vec<Vec<Expr>>) -> Result<(), Error>
+        ensures pushed { OnOk result (variants_in list.new.items ≡ joined_variants (variants_in list.old.items) Self.variants) }
+        ensures refused { IfErr result (λ e. e ≡ OutOfMemory) };
+
+    /// Adds the definitions of the names that the parts reach, and no others. Refused as `Portable::define` is: `OutOfMemory`, 1, and `ShapeConflict`, 30.
+    fn define(alloc: Global, defs: &mut Defs) -> Result<(), Error>
+        ensures added { OnOk result (Extended (table_of defs.old) Self.definitions (table_of defs.new)) }
+        ensures refused { IfErr result (λ e. (e ≡ OutOfMemory) ⊎ ((e ≡ ShapeConflict) × Conflicts (table_of defs.old) Self.definitions)) };
+
+    ghost is_align: { IsAlign greatest };
+
+    ghost laid_out: { VariantsLaidOut Self.definitions Self.variants greatest Self.end begin };
+
+    ghost no_others: { (name : Name) → NoOthers Self.definitions (choice name Self.variants) };
+}
+
+impl PortableVariants for () {
+    ghost greatest = { 1 };
+
+    ghost begin = { λ tag i. 1 };
+
+    ghost is_align = { one_align };
+
+    ghost laid_out = { no_variant_laid_out };
+
+    ghost no_others = { no_variants_reached };
+
+    fn align() -> usize {
+        1
+    }
+
+    fn longest_end() -> usize {
+        1
+    }
+
+    fn payload_offset(_tag: usize, _i: usize) -> usize {
+        1
+    }
+
+    #[tactic(auto, using(crate::proofs::format::ChoiceVariants::joined_no_variant))]
+    fn push_variants(_alloc: Global, _list: &mut Vec<Vec<Expr>>) -> Result<(), Error> {
+        Ok(())
+    }
+
+    fn define(_alloc: Global, _defs: &mut Defs) -> Result<(), Error> {
+        Ok(())
+    }
+}
+
+impl<P: PortableParts, V: PortableVariants> PortableVariants for (P, V) {
+    ghost greatest = { max P.greatest V.greatest };
+
+    ghost begin = { first_variant_or (P.begin 1) V.begin };
+
+    ghost is_align = { greater_align P.greatest V.greatest P.is_align V.is_align };
+
+    ghost laid_out = { variant_laid_out P.definitions V.definitions P.parts P.greatest P.end P.begin P.laid_out V.variants V.greatest V.end V.begin V.laid_out };
+
+    ghost no_others = { variant_reached P.definitions V.definitions P.parts V.variants P.no_others V.no_others };
+
+    #[inline(always)]
+    fn align() -> usize {
+        P::align().max(V::align())
+    }
+
+    #[inline(always)]
+    fn longest_end() -> usize {
+        P::end_from(1).max(V::longest_end())
+    }
+
+    #[inline(always)]
+    fn payload_offset(tag: usize, i: usize) -> usize {
+        if tag == 0 {
+            return P::offset_from(1, i);
+        }
+        V::payload_offset(tag - 1, i)
+    }
+
+    #[tactic(auto, using(crate::proofs::format::ChoiceVariants::pushed_variant))]
+    fn push_variants(alloc: Global, list: &mut Vec<Vec<Expr>>) -> Result<(), Error> {
+        let mut parts = Vec::new(alloc);
+        P::push_exprs(alloc, &mut parts)?;
+        list.push(parts)?;
+        V::push_variants(alloc, list)
+    }
+
+    #[tactic(auto, using(crate::proofs::format::AddedDefinitions::extended_both, crate::proofs::format::AddedDefinitions::first_conflicts, crate::proofs::format::AddedDefinitions::later_conflicts))]
+    fn define(alloc: Global, defs: &mut Defs) -> Result<(), Error> {
+        P::define(alloc, defs)?;
+        V::define(alloc, defs)
+    }
+}
+
+/// A choice: a tag of one byte, and behind it the parts of the variant that it names. Our own; it stands where rkyv 0.8.18 has an archived enum.
+pub trait Choice: Portable {
+    /// Its variants.
+    type Variants: PortableVariants;
+
+    // Its name.
+    ghost name: { Name };
+
+    // It is they, or a name that stands for them.
+    ghost has_variants: { IsChoice Self.definitions Self.shape name Self.Variants.definitions Self.Variants.variants };
+
+    /// Where part `i` of the variant with this tag begins, in bytes from the choice's first one, which is the tag: `usize::MAX` where it is that or more.
+    final fn offset(tag: u8, i: usize) -> usize
+        ensures { result ≡ min (Self.Variants.begin tag i) 18446744073709551615 }
+    {
+        <Self::Variants as PortableVariants>::payload_offset(tag as usize, i)
+    }
+}
+
+/// The size of a choice in bytes, by its variants: `usize::MAX` where it is that or more. Our own.
+pub fn size_of_choice<V: PortableVariants>() -> usize
+    ensures { result ≡ min (up V.end V.greatest) 18446744073709551615 }
+{
+    multiple_of(V::longest_end(), V::align())
+}
+
+/// The alignment of a choice in bytes, by its variants. Our own.
+pub fn align_of_choice<V: PortableVariants>() -> usize
+    ensures { result ≡ V.greatest }
+{
+    V::align()
+}
+
+/// The expression of a choice of this name, by its variants. Memory comes from `alloc`; refused with `OutOfMemory`, 1, where it is refused. Our own.
+#[tactic(auto, using(crate::proofs::format::Views::views))]
+pub fn expr_of_choice<V: PortableVariants>(alloc: Global, name: &'static str) -> Result<Expr, Error>
+    ensures shape { IfOk result (λ e. shape_of e ≡ choice name.now V.variants) }
+    ensures refused { IfErr result (λ e. e ≡ OutOfMemory) }
+{
+    let mut list = Vec::new(alloc);
+    V::push_variants(alloc, &mut list)?;
+    Ok(Expr::Choice(name, list))
+}
+
+/// Adds the definition of a choice that stands under its own name, and those that its parts bring. Memory comes from `alloc` and from that of `defs`.
+/// Refused with `OutOfMemory`, 1, where memory is refused, and with `ShapeConflict`, 30, where a name has another definition already, or two. Our own.
+#[tactic(auto, using(crate::proofs::format::AddedDefinitions::extended_by, crate::proofs::format::AddedDefinitions::not_extended, crate::proofs::format::AddedDefinitions::extended_both, crate::proofs::format::AddedDefinitions::first_conflicts, crate::proofs::format::AddedDefinitions::later_conflicts))]
+pub fn define_choice<V: PortableVariants>(
+    alloc: Global,
+    name: &'static str,
+    defs: &mut Defs,
+) -> Result<(), Error>
+    ensures added { OnOk result (Extended (table_of defs.old) (both (defines name.now (choice name.now V.variants)) V.definitions) (table_of defs.new)) }
+    ensures refused { IfErr result (λ e. (e ≡ OutOfMemory) ⊎ ((e ≡ ShapeConflict) × Conflicts (table_of defs.old) (both (defines name.now (choice name.now V.variants)) V.definitions))) }
+{
+    defs.add(name, expr_of_choice::<V>(alloc, name)?)?;
+    V::define(alloc, defs)
+}

@@ -1,0 +1,39 @@
+//! Choices: views of their tags and of what stands behind them.
+
+ghost use Rattle.std.specs.Prelude.{◌≡◌, ◌+◌, Some, is_some, slice_index, true};
+ghost use Rattle.archive_check.specs.Shape.{variant_at};
+ghost use Rattle.archive_check.specs.VariantsLayout.{payload_at, payload_definitions};
+ghost use Rattle.archive_core.specs.Payloads.{payload_in};
+ghost use Rattle.archive_core.specs.Views.{ShowsPart};
+
+use crate::traits::{Choice, Portable};
+use crate::view::{RawView, Ref};
+
+impl<'a, T: Choice> Ref<'a, T> {
+    /// The tag, which names one of the variants. Our own.
+    pub fn tag(self) -> u8
+        ensures value { result ≡ slice_index self.entry.bytes.now self.entry.pos }
+        ensures known { is_some (variant_at T.Variants.variants result) ≡ true }
+    {
+        let RawView { bytes, pos, .. } = self.part();
+        bytes[pos]
+    }
+
+    /// The view of part `i` of the variant that the tag names. Asks that this part is a `U`. Our own.
+    pub fn payload<U: Portable>(self, i: usize) -> Ref<'a, U>
+        requires part { payload_at T.Variants.variants (slice_index self.bytes.now self.pos) i ≡ Some U.shape }
+        requires definitions { payload_definitions T.Variants.definitions (slice_index self.bytes.now self.pos) i ≡ U.definitions }
+        ensures buffer { result.bytes.now ≡ self.entry.bytes.now }
+        ensures position { result.pos ≡ self.entry.pos + T.Variants.begin (slice_index self.entry.bytes.now self.entry.pos) i }
+        ensures length { result.len ≡ 0 }
+        ensures shows { ShowsPart T.definitions self.entry.bytes.now self.entry.pos T.pointee self.entry.len result.pos U.pointee 0 (payload_in i) }
+    {
+        let RawView { bytes, pos, .. } = self.part();
+        let tag = bytes[pos];
+        Ref::at(RawView {
+            bytes,
+            pos: pos + T::offset(tag, i),
+            len: 0,
+        })
+    }
+}
