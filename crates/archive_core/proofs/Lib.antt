@@ -33,6 +33,7 @@ pub mod PartBytes
 pub mod PartsShown
 pub mod ReadElements
 pub mod ReadRecords
+pub mod FieldsShown
 pub mod Spots
 pub mod WrittenVariants
 pub mod NamedVariants

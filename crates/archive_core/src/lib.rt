@@ -4,6 +4,7 @@
 pub mod api;
 pub mod boxed;
 pub mod choice;
+mod fields;
 pub mod option;
 pub mod parts;
 mod phantom;
