@@ -34,7 +34,7 @@ choice_contents for_itself (contents_one r) = case_reads r
 choice_contents {name = name} {vs = vs} (by_name d) (contents_one (reads_named {X = Y} e r)) = let same : Y ≡ choice name vs = cc in case_reads (rw same at r)
 
 -- what is read as the part with an index, and what it is filled with
-filled_part : {s : Schema} {bytes : List ℕ} {q at : ℕ} {ps : Parts} {vs ws : Values} (i : ℕ) (Y : Shape) → part_at ps i ≡ Some Y → ReadsParts s bytes q at ps vs → FillsAll s bytes vs ws
+pub filled_part : {s : Schema} {bytes : List ℕ} {q at : ℕ} {ps : Parts} {vs ws : Values} (i : ℕ) (Y : Shape) → part_at ps i ≡ Some Y → ReadsParts s bytes q at ps vs → FillsAll s bytes vs ws
     → (x u : Value) × Reads s bytes (q + offset_at s.layouts at ps i) Y x × Fills s bytes x u × (value_at i ws ≡ Some u)
 filled_part i Y e reads_no_part fs = cc
 filled_part {s = s} {bytes = bytes} {q = q} {at = at} zero Y e (reads_part {X = X} {v = v} r rs) (fills_value {w = w} f fs) =

@@ -40,6 +40,7 @@ pub mod PartsShown
 pub mod ArraysShown
 pub mod ReadElements
 pub mod ReadRecords
+pub mod FieldsShown
 pub mod Spots
 pub mod WrittenVariants
 pub mod NamedVariants

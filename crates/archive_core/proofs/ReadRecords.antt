@@ -155,7 +155,7 @@ module _ (D : Definitions) (bytes : List ℕ) (q : ℕ) (P : Pointee) (n : ℕ) 
       record { pointer = m.pointer; has = Contains-append_right (pointers u) (all_pointers rs) m.pointer m.has; hits = m.hits }
 
 -- what is read of a record
-record IsProduct (s : Schema) (bytes : List ℕ) (q : ℕ) (ps : Parts) (v : Value) : Type 0 where
+pub record IsProduct (s : Schema) (bytes : List ℕ) (q : ℕ) (ps : Parts) (v : Value) : Type 0 where
   pub values : Values
   pub is : v ≡ product values
   pub reads : ReadsParts s bytes q 0 ps values
@@ -167,10 +167,10 @@ record_reads : {s : Schema} {bytes : List ℕ} {q : ℕ} {ps : Parts} {X : Shape
 record_reads for_itself r = product_reads r
 record_reads {ps = ps} (by_name d) (reads_named {X = Y} e r) = let same : Y ≡ parts ps = cc in product_reads (rw same at r)
 
-record_contents : {s : Schema} {bytes : List ℕ} {q n : ℕ} {ps : Parts} {X : Shape} {v : Value} → StandsFor s (parts ps) X → Contents s bytes q (one X) n v → IsProduct s bytes q ps v
+pub record_contents : {s : Schema} {bytes : List ℕ} {q n : ℕ} {ps : Parts} {X : Shape} {v : Value} → StandsFor s (parts ps) X → Contents s bytes q (one X) n v → IsProduct s bytes q ps v
 record_contents st (contents_one r) = record_reads st r
 
-record_within : {s : Schema} {bytes : List ℕ} {q r : ℕ} {ps : Parts} {X Y : Shape} → StandsFor s (parts ps) X → IsPart s q 0 ps r Y → Within s bytes q X r Y
+pub record_within : {s : Schema} {bytes : List ℕ} {q r : ℕ} {ps : Parts} {X Y : Shape} → StandsFor s (parts ps) X → IsPart s q 0 ps r Y → Within s bytes q X r Y
 record_within for_itself i = in_parts whole i
 record_within (by_name d) i = in_parts (in_named whole d) i
 

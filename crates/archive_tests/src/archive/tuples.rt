@@ -1,6 +1,6 @@
 // Tuples: their layouts, and what a check says of their bytes.
 
-use archive_core::api::access;
+use archive_core::api::{access, from_bytes, to_bytes};
 use archive_core::error::Error;
 use archive_core::primitive::{ArchivedI32, ArchivedU32};
 use archive_core::traits::{Portable, Record};
@@ -30,5 +30,18 @@ fn a_tuple_is_checked_part_by_part(rt: HostRuntime) -> Result<(), Fail> {
         access::<Numbers>(rt.alloc(), b"\x18\0\0\0\x02\0\0\0\x10\0\0\0").err(),
         Some(Error::InvalidBool)
     );
+    Ok(())
+}
+
+#[test]
+fn a_tuple_is_written_viewed_and_read_back(rt: HostRuntime) -> Result<(), Fail> {
+    let value: (i32, bool, u32) = (24, true, 16);
+    assert_eq!(rt; to_bytes(rt.alloc(), &value)?.as_slice(), NUMBERS);
+    let view = access::<Numbers>(rt.alloc(), NUMBERS)?;
+    assert_eq!(rt; view.field::<ArchivedI32>(0).get(), 24);
+    assert!(rt; view.field::<bool>(1).get());
+    assert_eq!(rt; view.field::<ArchivedU32>(2).get(), 16);
+    let back: Result<(i32, bool, u32), Error> = from_bytes(rt.alloc(), NUMBERS, &mut ());
+    assert_eq!(rt; back, Ok(value));
     Ok(())
 }

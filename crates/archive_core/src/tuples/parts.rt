@@ -1,0 +1,85 @@
+// The parts of tuples.
+
+use crate::parts::PartOf;
+use crate::traits::Archive;
+
+/// The first part of a tuple.
+#[derive(Debug)]
+pub struct Part0;
+
+/// The second part of a tuple.
+#[derive(Debug)]
+pub struct Part1;
+
+/// The third part of a tuple.
+#[derive(Debug)]
+pub struct Part2;
+
+/// The parts of a tuple of 1.
+pub(super) type Parts1 = (Part0, ());
+
+/// The parts of a tuple of 2.
+pub(super) type Parts2 = (Part0, (Part1, ()));
+
+/// The parts of a tuple of 3.
+pub(super) type Parts3 = (Part0, (Part1, (Part2, ())));
+
+impl<A: Archive> PartOf<(A,)> for Part0 {
+    type Source = A;
+
+    ghost part = { λ v. v.0 };
+
+    fn part_of(whole: &(A,)) -> &A {
+        &whole.0
+    }
+}
+
+impl<A: Archive, B> PartOf<(A, B)> for Part0 {
+    type Source = A;
+
+    ghost part = { λ v. v.0 };
+
+    fn part_of(whole: &(A, B)) -> &A {
+        &whole.0
+    }
+}
+
+impl<A, B: Archive> PartOf<(A, B)> for Part1 {
+    type Source = B;
+
+    ghost part = { λ v. v.1 };
+
+    fn part_of(whole: &(A, B)) -> &B {
+        &whole.1
+    }
+}
+
+impl<A: Archive, B, C> PartOf<(A, B, C)> for Part0 {
+    type Source = A;
+
+    ghost part = { λ v. v.0 };
+
+    fn part_of(whole: &(A, B, C)) -> &A {
+        &whole.0
+    }
+}
+
+impl<A, B: Archive, C> PartOf<(A, B, C)> for Part1 {
+    type Source = B;
+
+    ghost part = { λ v. v.1 };
+
+    fn part_of(whole: &(A, B, C)) -> &B {
+        &whole.1
+    }
+}
+
+impl<A, B, C: Archive> PartOf<(A, B, C)> for Part2 {
+    type Source = C;
+
+    ghost part = { λ v. v.2 };
+
+    fn part_of(whole: &(A, B, C)) -> &C {
+        &whole.2
+    }
+}

@@ -1,0 +1,85 @@
+// Tuples are read back.
+
+ghost use Rattle.std.specs.Prelude.{◌≡◌, IfOk, IfErr};
+ghost use Rattle.archive_check.specs.Entries.{ReadsBack, RefusesReading};
+ghost use Rattle.archive_check.specs.Viewed.{Viewed};
+
+use crate::record::deserialize_record;
+use crate::traits::{Archive, ArchivePointee, Deserialize, Entries, Portable};
+use crate::view::RawView;
+use archive_check::format::error::Error;
+use archive_tuple::{ArchivedTuple1, ArchivedTuple2, ArchivedTuple3};
+use std::alloc::Global;
+
+impl<A: Archive + Drop, De: Entries, N: Portable + Deserialize<A, De>> Deserialize<(A,), De>
+    for ArchivedTuple1<N> {
+    fn deserialize_part(
+        alloc: Global,
+        part: RawView<'_>,
+        deserializer: &mut De,
+    ) -> Result<(A,), Error>
+        requires { Viewed ⟦<Self as ArchivePointee>⟧.definitions part.bytes.now part.pos ⟦<Self as ArchivePointee>⟧.pointee part.len }
+        ensures read { IfOk result (λ t. ReadsBack ⟦<Self as ArchivePointee>⟧.definitions part.entry.bytes.now part.entry.pos
+            ⟦<Self as ArchivePointee>⟧.pointee part.entry.len (De.entry_of deserializer.old) (De.entry_of deserializer.new)
+            (⟦<(A,) as Archive>⟧.meaning t) (⟦<(A,) as Archive>⟧.keys t)) }
+        ensures refused { IfErr result (RefusesReading ⟦<Self as ArchivePointee>⟧.definitions part.entry.bytes.now part.entry.pos
+            ⟦<Self as ArchivePointee>⟧.pointee part.entry.len (De.entry_of deserializer.old)) }
+    {
+        let (a, ()) = deserialize_record::<Self, (A, ()), De>(alloc, part, deserializer)?;
+        Ok((a,))
+    }
+}
+
+impl<
+    A: Archive + Drop,
+    B: Archive + Drop,
+    De: Entries,
+    N: Portable + Deserialize<A, De>,
+    O: Portable + Deserialize<B, De>,
+> Deserialize<(A, B), De> for ArchivedTuple2<N, O> {
+    fn deserialize_part(
+        alloc: Global,
+        part: RawView<'_>,
+        deserializer: &mut De,
+    ) -> Result<(A, B), Error>
+        requires { Viewed ⟦<Self as ArchivePointee>⟧.definitions part.bytes.now part.pos ⟦<Self as ArchivePointee>⟧.pointee part.len }
+        ensures read { IfOk result (λ t. ReadsBack ⟦<Self as ArchivePointee>⟧.definitions part.entry.bytes.now part.entry.pos
+            ⟦<Self as ArchivePointee>⟧.pointee part.entry.len (De.entry_of deserializer.old) (De.entry_of deserializer.new)
+            (⟦<(A, B) as Archive>⟧.meaning t) (⟦<(A, B) as Archive>⟧.keys t)) }
+        ensures refused { IfErr result (RefusesReading ⟦<Self as ArchivePointee>⟧.definitions part.entry.bytes.now part.entry.pos
+            ⟦<Self as ArchivePointee>⟧.pointee part.entry.len (De.entry_of deserializer.old)) }
+    {
+        let (a, (b, ())) = deserialize_record::<Self, (A, (B, ())), De>(alloc, part, deserializer)?;
+        Ok((a, b))
+    }
+}
+
+impl<
+    A: Archive + Drop,
+    B: Archive + Drop,
+    C: Archive + Drop,
+    De: Entries,
+    N: Portable + Deserialize<A, De>,
+    O: Portable + Deserialize<B, De>,
+    P: Portable + Deserialize<C, De>,
+> Deserialize<(A, B, C), De> for ArchivedTuple3<N, O, P> {
+    fn deserialize_part(
+        alloc: Global,
+        part: RawView<'_>,
+        deserializer: &mut De,
+    ) -> Result<(A, B, C), Error>
+        requires { Viewed ⟦<Self as ArchivePointee>⟧.definitions part.bytes.now part.pos ⟦<Self as ArchivePointee>⟧.pointee part.len }
+        ensures read { IfOk result (λ t. ReadsBack ⟦<Self as ArchivePointee>⟧.definitions part.entry.bytes.now part.entry.pos
+            ⟦<Self as ArchivePointee>⟧.pointee part.entry.len (De.entry_of deserializer.old) (De.entry_of deserializer.new)
+            (⟦<(A, B, C) as Archive>⟧.meaning t) (⟦<(A, B, C) as Archive>⟧.keys t)) }
+        ensures refused { IfErr result (RefusesReading ⟦<Self as ArchivePointee>⟧.definitions part.entry.bytes.now part.entry.pos
+            ⟦<Self as ArchivePointee>⟧.pointee part.entry.len (De.entry_of deserializer.old)) }
+    {
+        let (a, (b, (c, ()))) = deserialize_record::<Self, (A, (B, (C, ()))), De>(
+            alloc,
+            part,
+            deserializer,
+        )?;
+        Ok((a, b, c))
+    }
+}
