@@ -3,6 +3,7 @@
 mod memory;
 mod numbers;
 mod options;
+mod own_choices;
 mod owner_reading;
 mod owner_views;
 mod owners;
