@@ -1,11 +1,12 @@
-//! Choices: views of their tags and of what stands behind them.
+//! Choices: views of their tags and of what stands behind them, and places of their tags.
 
-ghost use Rattle.std.specs.Prelude.{◌≡◌, ◌+◌, Some, is_some, slice_index, true};
+ghost use Rattle.std.specs.Prelude.{◌≡◌, ◌+◌, ◌<◌, Some, is_some, length, slice_index, slice_set, true};
 ghost use Rattle.archive_check.specs.Shape.{variant_at};
 ghost use Rattle.archive_check.specs.VariantsLayout.{payload_at, payload_definitions};
 ghost use Rattle.archive_core.specs.Payloads.{payload_in};
 ghost use Rattle.archive_core.specs.Views.{ShowsPart};
 
+use crate::place::Place;
 use crate::traits::{Choice, Portable};
 use crate::view::{RawView, Ref};
 
@@ -35,5 +36,18 @@ impl<'a, T: Choice> Ref<'a, T> {
             pos: pos + T::offset(tag, i),
             len: 0,
         })
+    }
+}
+
+impl<'a, T: Choice> Place<'a, T> {
+    /// Writes the tag, which is the first byte; every other one stays. Asks that it names a variant, and that there is a byte. Our own.
+    pub fn write_tag(&mut self, tag: u8)
+        requires known { is_some (variant_at T.Variants.variants tag) ≡ true }
+        requires some { 0 < length self.old.bytes.now }
+        ensures same_reference { self.new.bytes.ghost_name ≡ self.old.bytes.ghost_name }
+        ensures position { self.new.pos ≡ self.old.pos }
+        ensures written { self.new.bytes.now ≡ slice_set self.old.bytes.now 0 tag }
+    {
+        self.bytes[0] = tag;
     }
 }

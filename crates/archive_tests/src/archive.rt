@@ -6,6 +6,7 @@ mod comparisons;
 mod memory;
 mod numbers;
 mod options;
+mod own_choices;
 mod owner_reading;
 mod owner_views;
 mod owners;
