@@ -1,5 +1,6 @@
 // Whole archives, and the parts that they are written and read by.
 
+mod arrays;
 mod boxed_slices;
 mod memory;
 mod numbers;
