@@ -8,7 +8,7 @@ use archive_core::option::ArchivedOption;
 use archive_core::primitive::ArchivedU32;
 use archive_core::slice::ArchivedSlice;
 use archive_core::string::ArchivedString;
-use archive_core::traits::Portable;
+use archive_core::traits::{Portable, PortablePointee};
 use archive_core::vec::ArchivedVec;
 use hex::FromHexError;
 use std::alloc::Global;
@@ -24,6 +24,8 @@ pub enum Format {
     OptU32,
     /// `opt-box-bytes`, an option of a boxed slice of bytes, written as `none`, or as `some:` and the bytes in hexadecimal.
     OptBoxBytes,
+    /// `two-box-bytes`, an array of two boxed slices of bytes, which is checked alone.
+    TwoBoxBytes,
     /// `vec-u32`, written as digits between commas; no word at all is an empty list.
     VecU32,
     /// `node`, written as how many boxes there are, at most 1,000.
@@ -53,6 +55,7 @@ impl Format {
             "string" => Some(Format::String),
             "opt-u32" => Some(Format::OptU32),
             "opt-box-bytes" => Some(Format::OptBoxBytes),
+            "two-box-bytes" => Some(Format::TwoBoxBytes),
             "vec-u32" => Some(Format::VecU32),
             "node" => Some(Format::Node),
             _ => None,
@@ -67,7 +70,7 @@ impl Format {
                 None => Ok(None),
             },
             Format::String => Ok(Some(Value::String(word))),
-            Format::OptU32 => Ok(None),
+            Format::OptU32 | Format::TwoBoxBytes => Ok(None),
             Format::OptBoxBytes => match optional_bytes(alloc, word.as_str())? {
                 Some(bytes) => Ok(Some(Value::OptBoxBytes(bytes))),
                 None => Ok(None),
@@ -90,6 +93,7 @@ impl Format {
             Format::String => check_as::<ArchivedString>(alloc, bytes),
             Format::OptU32 => check_option::<ArchivedU32>(alloc, bytes),
             Format::OptBoxBytes => check_option::<ArchivedBox<ArchivedSlice<u8>>>(alloc, bytes),
+            Format::TwoBoxBytes => check_two_boxes::<ArchivedSlice<u8>>(alloc, bytes),
             Format::VecU32 => check_as::<ArchivedVec<ArchivedU32>>(alloc, bytes),
             Format::Node => check_as::<ArchivedNode>(alloc, bytes),
         }
@@ -124,6 +128,12 @@ fn check_as<T: Portable>(alloc: Global, bytes: &[u8]) -> Result<(), Error> {
 // Whether they are an archive of an option of the type.
 fn check_option<T: Portable>(alloc: Global, bytes: &[u8]) -> Result<(), Error> {
     access::<ArchivedOption<T>>(alloc, bytes)?;
+    Ok(())
+}
+
+// Whether they are an archive of an array of two boxes that lead to such.
+fn check_two_boxes<T: PortablePointee>(alloc: Global, bytes: &[u8]) -> Result<(), Error> {
+    access::<[ArchivedBox<T>; 2]>(alloc, bytes)?;
     Ok(())
 }
 

@@ -98,6 +98,16 @@ fn archives_are_checked(rt: HostRuntime) -> Result<(), Fail> {
             1,
             "refused: 24 InvalidDiscriminant\n",
         ),
+        (
+            "check|two-box-bytes|68690000fcffffff01000000f5ffffff01000000",
+            0,
+            "accepted\n",
+        ),
+        (
+            "check|two-box-bytes|48656c6c6f20776f726c6400f0ffffff0b000000e8ffffff0b000000",
+            1,
+            "refused: 16 InvalidSubtreePointer\n",
+        ),
         ("check|opt-u32|00aabbcc01020304", 0, "accepted\n"),
         ("check|opt-u32|010000002a000000", 0, "accepted\n"),
         (
@@ -138,6 +148,7 @@ fn other_words_are_bad_arguments(rt: HostRuntime) -> Result<(), Fail> {
         "write|u32|4294967296",
         "write|opt-u32|1",
         "write|opt-u32|none",
+        "write|two-box-bytes|none",
         "write|opt-box-bytes|",
         "write|opt-box-bytes|some",
         "write|opt-box-bytes|some:6",

@@ -1,6 +1,7 @@
 // Whole archives, and the parts that they are written and read by.
 
 mod device;
+mod arrays;
 mod boxed_slices;
 mod comparisons;
 mod memory;
