@@ -1,5 +1,5 @@
 -- Views of one archive: how they are come by, and that each is a view.
-use Rattle.std.proofs.Common.{◌≡◌, ◌≢◌, ℕ, pos, length, ◌+◌, List, [], ◌∷◌, slice_index, Contains, All, Option, Some, sym, ap, subst}
+use Rattle.std.proofs.Common.{◌≡◌, ◌≢◌, ℕ, pos, length, refl, arith, ◌+◌, List, [], ◌∷◌, slice_index, Contains, All, Option, Some, sym, ap, subst}
 use Rattle.std.proofs.Math.Logic.{∥∥₁_elim, ∥∥₁_map, ∥∥₁_prop}
 use Rattle.std.proofs.lemmas.List.Elements.{All-nil, All-cons, All-contains, Contains-push}
 use Rattle.archive_check.specs.Shape.{Name, Flavor, Shape, choice, str, shared, weak, text, Pointee, one, Variants, part, no_part, variant_at}
@@ -19,7 +19,7 @@ use Rattle.archive_check.proofs.ReachedParts.{part_reached, pointer_reached, wit
 use Rattle.archive_check.proofs.ViewedVariants.{case_begins}
 use Rattle.archive_core.proofs.SharedViews.{shared_hole, weak_hole}
 use Rattle.archive_core.proofs.StandingLeaves.{out_is}
-use Rattle.archive_core.specs.Standing.{View, view, LieTogether, ViewedTogether, StandsWith}
+use Rattle.archive_core.specs.Standing.{View, view, LieTogether, ViewedTogether, StandsWith, KeepsViews}
 use Rattle.archive_core.specs.Views.{ShowsPart}
 
 -- the view is a part of the archive
@@ -115,3 +115,20 @@ case_with D E known name vs tag X is L layout bytes q n offset there first = rec
       let (u, r) = within_reached s bytes reached (in_choice whole e i) in
       reached_part a r;
 }
+
+-- what a part stands with is still viewed where the part is written over
+pub viewed_still : (D : Definitions) (bytes new : List ℕ) (q : ℕ) (P : Pointee) (n r : ℕ) (Q : Pointee) (m : ℕ) → StandsWith D bytes (view q P n) (view r Q m) → KeepsViews bytes new (view r Q m) → Viewed D bytes q P n → Viewed D new q P n
+viewed_still D bytes new q P n r Q m with keeps v =
+    let one_view : ViewedTogether D bytes (view q P n ∷ []) = ∥∥₁_map v (λ (s, k, l). (
+      s,
+      k,
+      record {
+        root = l.root;
+        shape = l.shape;
+        accepted = l.accepted;
+        parts = All-cons (λ u. PartOfSome s bytes (regions_of l.accepted) u.begin u.pointee u.length) (view q P n) [] l.part (All-nil (λ u. PartOfSome s bytes (regions_of l.accepted) u.begin u.pointee u.length));
+      },
+    )) in
+    let both = stands_together D D (λ s k. k) bytes (view q P n ∷ []) (view q P n) (view r Q m) (Contains-push [] (view q P n)) with one_view in
+    let after = keeps.views D (view r Q m ∷ view q P n ∷ []) (0, omega arith, refl) both in
+    viewed_alone D D (λ s k. k) new (view r Q m ∷ view q P n ∷ []) q P n (1, omega arith, refl) after

@@ -108,7 +108,8 @@ impl<'a, T: Portable> Ref<'a, ArchivedOption<T>> {
         ensures buffer { IfSome result (λ v. v.bytes.now ≡ self.entry.bytes.now) }
         ensures position { IfSome result (λ v. v.pos ≡ self.entry.pos + T.layout.align) }
         ensures length { IfSome result (λ v. v.len ≡ 0) }
-        ensures beside { IfSome result (λ v. StandsWith T.definitions self.entry.bytes.now (view self.entry.pos (one (option_shape T.shape)) self.entry.len) (view v.pos T.pointee v.len)) }
+        ensures beside { IfSome result (λ v. StandsWith T.definitions self.entry.bytes.now
+            (view self.entry.pos (one (option_shape T.shape)) self.entry.len) (view v.pos T.pointee v.len)) }
     {
         let RawView { bytes, pos, .. } = self.part();
         if bytes[pos] == 0 {

@@ -3,6 +3,7 @@
 ghost use Rattle.std.specs.Prelude.{◌≡◌, ⊤};
 ghost use Rattle.archive_check.specs.Viewed.{Viewed};
 
+mod choices;
 mod leaves;
 mod parts;
 mod text;

@@ -43,7 +43,9 @@ impl<'a, T: PortablePointee, F: Flavor> Ref<'a, ArchivedRc<T, F>> {
         ensures position { result.pos ≡ target_from self.entry.bytes.now self.entry.pos self.entry.pos }
         ensures length { result.len ≡ length_at self.entry.bytes.now self.entry.pos T.pointee }
         ensures says { Says T.definitions self.entry.bytes.now self.entry.pos (one (shared (flavor_as F.name F.ALLOW_CYCLES) T.pointee)) self.entry.len (shared_value result.pos) }
-        ensures beside { StandsWith T.definitions self.entry.bytes.now (view self.entry.pos (one (shared (flavor_as F.name F.ALLOW_CYCLES) T.pointee)) self.entry.len) (view result.pos T.pointee result.len) }
+        ensures beside { StandsWith T.definitions self.entry.bytes.now
+            (view self.entry.pos (one (shared (flavor_as F.name F.ALLOW_CYCLES) T.pointee)) self.entry.len)
+            (view result.pos T.pointee result.len) }
     {
         let RawView { bytes, pos, .. } = self.part();
         let target = read_target(bytes, pos, pos);
@@ -65,7 +67,9 @@ impl<'a, T: PortablePointee, F: Flavor> Ref<'a, ArchivedRcWeak<T, F>> {
         ensures none { IfNone result (Says T.definitions self.entry.bytes.now self.entry.pos (one (weak (flavor_as F.name F.ALLOW_CYCLES) T.pointee)) self.entry.len null) }
         ensures offset { IfSome result (λ r. i32_at self.entry.bytes.now self.entry.pos ≡ whole 1 → ⊥) }
         ensures null { i32_at self.entry.bytes.now self.entry.pos ≡ whole 1 → IsNone result }
-        ensures beside { IfSome result (λ r. StandsWith T.definitions self.entry.bytes.now (view self.entry.pos (one (weak (flavor_as F.name F.ALLOW_CYCLES) T.pointee)) self.entry.len) (view r.pos T.pointee r.len)) }
+        ensures beside { IfSome result (λ r. StandsWith T.definitions self.entry.bytes.now
+            (view self.entry.pos (one (weak (flavor_as F.name F.ALLOW_CYCLES) T.pointee)) self.entry.len)
+            (view r.pos T.pointee r.len)) }
         ensures is_null { IfNone result (i32_at self.entry.bytes.now self.entry.pos ≡ whole 1) }
     {
         let RawView { bytes, pos, .. } = self.part();

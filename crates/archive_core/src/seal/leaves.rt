@@ -148,7 +148,8 @@ impl<'a, T: SealedLeaf> Seal<'a, T> {
         ensures stands { StandsIn self.entry.bytes.now self.entry.pos T.pointee self.entry.len (leaf_at T.kind self.entry.bytes.now self.entry.pos) }
         ensures leaf { WritesLeaf (leaf_at T.kind self.entry.bytes.now self.entry.pos) (number_leaf self.entry.pos T.kind (T.Written.value_of value))
             self.entry.bytes.now self.exit.0.now }
-        ensures parts { KeepsParts (leaf_at T.kind self.entry.bytes.now self.entry.pos) self.entry.bytes.now self.exit.0.now }
+        ensures parts { KeepsParts (leaf_at T.kind self.entry.bytes.now self.entry.pos)
+            self.entry.bytes.now self.exit.0.now }
         ensures views { KeepsViews self.entry.bytes.now self.exit.0.now (view self.entry.pos T.pointee self.entry.len) }
     {
         let Seal { bytes, pos, .. } = self;

@@ -29,7 +29,8 @@ impl<'a, T: PortablePointee> Seal<'a, ArchivedBox<T>> {
         ensures position { result.pos ≡ target_from self.entry.bytes.now self.entry.pos self.entry.pos }
         ensures length { result.len ≡ length_at self.entry.bytes.now self.entry.pos T.pointee }
         ensures viewed { Viewed T.definitions result.bytes.now result.pos T.pointee result.len }
-        ensures beside { StandsWith T.definitions self.entry.bytes.now (view self.entry.pos (one (boxed T.pointee)) self.entry.len) (view result.pos T.pointee result.len) }
+        ensures beside { StandsWith T.definitions self.entry.bytes.now
+            (view self.entry.pos (one (boxed T.pointee)) self.entry.len) (view result.pos T.pointee result.len) }
     {
         let spot = self.as_ref().get().spot();
         let Seal { bytes, .. } = self;
@@ -47,7 +48,8 @@ impl<'a> Seal<'a, ArchivedBox<ArchivedStr>> {
         ensures position { result.pos ≡ target_from self.entry.bytes.now self.entry.pos self.entry.pos }
         ensures length { result.len ≡ u32_at self.entry.bytes.now (self.entry.pos + 4) }
         ensures viewed { Viewed no_definition result.bytes.now result.pos text result.len }
-        ensures beside { StandsWith no_definition self.entry.bytes.now (view self.entry.pos (one (boxed text)) self.entry.len) (view result.pos text result.len) }
+        ensures beside { StandsWith no_definition self.entry.bytes.now
+            (view self.entry.pos (one (boxed text)) self.entry.len) (view result.pos text result.len) }
     {
         let spot = self.as_ref().get().spot();
         let Seal { bytes, .. } = self;
@@ -66,7 +68,9 @@ impl<'a, T: PortablePointee, F: Flavor> Seal<'a, ArchivedRc<T, F>> {
         ensures position { result.pos ≡ target_from self.entry.bytes.now self.entry.pos self.entry.pos }
         ensures length { result.len ≡ length_at self.entry.bytes.now self.entry.pos T.pointee }
         ensures viewed { Viewed T.definitions result.bytes.now result.pos T.pointee result.len }
-        ensures beside { StandsWith T.definitions self.entry.bytes.now (view self.entry.pos (one (shared (flavor_as F.name F.ALLOW_CYCLES) T.pointee)) self.entry.len) (view result.pos T.pointee result.len) }
+        ensures beside { StandsWith T.definitions self.entry.bytes.now
+            (view self.entry.pos (one (shared (flavor_as F.name F.ALLOW_CYCLES) T.pointee)) self.entry.len)
+            (view result.pos T.pointee result.len) }
     {
         let spot = self.as_ref().get().spot();
         let Seal { bytes, .. } = self;
@@ -86,7 +90,9 @@ impl<'a, T: PortablePointee, F: Flavor> Seal<'a, ArchivedRcWeak<T, F>> {
         ensures position { IfSome result (λ s. s.pos ≡ target_from self.entry.bytes.now self.entry.pos self.entry.pos) }
         ensures length { IfSome result (λ s. s.len ≡ length_at self.entry.bytes.now self.entry.pos T.pointee) }
         ensures viewed { IfSome result (λ s. Viewed T.definitions s.bytes.now s.pos T.pointee s.len) }
-        ensures beside { IfSome result (λ s. StandsWith T.definitions self.entry.bytes.now (view self.entry.pos (one (weak (flavor_as F.name F.ALLOW_CYCLES) T.pointee)) self.entry.len) (view s.pos T.pointee s.len)) }
+        ensures beside { IfSome result (λ s. StandsWith T.definitions self.entry.bytes.now
+            (view self.entry.pos (one (weak (flavor_as F.name F.ALLOW_CYCLES) T.pointee)) self.entry.len)
+            (view s.pos T.pointee s.len)) }
     {
         let spot = match self.as_ref().upgrade() {
             None => return None,
@@ -107,7 +113,8 @@ impl<'a, T: Portable> Seal<'a, ArchivedVec<T>> {
         ensures position { result.pos ≡ target_from self.entry.bytes.now self.entry.pos self.entry.pos }
         ensures length { result.len ≡ u32_at self.entry.bytes.now (self.entry.pos + 4) }
         ensures viewed { Viewed T.definitions result.bytes.now result.pos (run T.shape) result.len }
-        ensures beside { StandsWith T.definitions self.entry.bytes.now (view self.entry.pos (one (vec_shape T.shape)) self.entry.len) (view result.pos (run T.shape) result.len) }
+        ensures beside { StandsWith T.definitions self.entry.bytes.now
+            (view self.entry.pos (one (vec_shape T.shape)) self.entry.len) (view result.pos (run T.shape) result.len) }
     {
         let spot = self.as_ref().as_slice().spot();
         let Seal { bytes, .. } = self;
@@ -126,7 +133,8 @@ impl<'a, T: Portable> Seal<'a, ArchivedVec<T>> {
         ensures position { result.pos ≡ target_from self.entry.bytes.now self.entry.pos self.entry.pos + index * T.layout.size }
         ensures length { result.len ≡ 0 }
         ensures viewed { Viewed T.definitions result.bytes.now result.pos T.pointee result.len }
-        ensures beside { StandsWith T.definitions self.entry.bytes.now (view self.entry.pos (one (vec_shape T.shape)) self.entry.len) (view result.pos T.pointee result.len) }
+        ensures beside { StandsWith T.definitions self.entry.bytes.now
+            (view self.entry.pos (one (vec_shape T.shape)) self.entry.len) (view result.pos T.pointee result.len) }
     {
         let spot = self.as_ref().as_slice().index(index).spot();
         let Seal { bytes, .. } = self;
@@ -152,7 +160,8 @@ impl<'a, T: Portable> Seal<'a, ArchivedSlice<T>> {
         ensures position { result.pos ≡ self.entry.pos + index * T.layout.size }
         ensures length { result.len ≡ 0 }
         ensures viewed { Viewed T.definitions result.bytes.now result.pos T.pointee result.len }
-        ensures beside { StandsWith T.definitions self.entry.bytes.now (view self.entry.pos (run T.shape) self.entry.len) (view result.pos T.pointee result.len) }
+        ensures beside { StandsWith T.definitions self.entry.bytes.now
+            (view self.entry.pos (run T.shape) self.entry.len) (view result.pos T.pointee result.len) }
     {
         let spot = self.as_ref().index(index).spot();
         let Seal { bytes, .. } = self;
@@ -171,7 +180,8 @@ impl<'a, T: Portable> Seal<'a, ArchivedOption<T>> {
         ensures position { IfSome result (λ s. s.pos ≡ self.entry.pos + T.layout.align) }
         ensures length { IfSome result (λ s. s.len ≡ 0) }
         ensures viewed { IfSome result (λ s. Viewed T.definitions s.bytes.now s.pos T.pointee s.len) }
-        ensures beside { IfSome result (λ s. StandsWith T.definitions self.entry.bytes.now (view self.entry.pos (one (option_shape T.shape)) self.entry.len) (view s.pos T.pointee s.len)) }
+        ensures beside { IfSome result (λ s. StandsWith T.definitions self.entry.bytes.now
+            (view self.entry.pos (one (option_shape T.shape)) self.entry.len) (view s.pos T.pointee s.len)) }
     {
         let spot = match self.as_ref().as_ref() {
             None => return None,
@@ -190,7 +200,8 @@ impl<'a, T: Portable> Seal<'a, ArchivedOption<T>> {
         ensures position { IfSome result (λ s. s.pos ≡ self.entry.pos + T.layout.align) }
         ensures length { IfSome result (λ s. s.len ≡ 0) }
         ensures viewed { IfSome result (λ s. Viewed T.definitions s.bytes.now s.pos T.pointee s.len) }
-        ensures beside { IfSome result (λ s. StandsWith T.definitions self.entry.bytes.now (view self.entry.pos (one (option_shape T.shape)) self.entry.len) (view s.pos T.pointee s.len)) }
+        ensures beside { IfSome result (λ s. StandsWith T.definitions self.entry.bytes.now
+            (view self.entry.pos (one (option_shape T.shape)) self.entry.len) (view s.pos T.pointee s.len)) }
     {
         Iter::new(self.as_seal())
     }

@@ -42,7 +42,8 @@ fn text_spot(string: Ref<'_, ArchivedString>) -> Spot<ArchivedStr>
     ensures position { result.pos ≡ text_begin string.entry.bytes.now string.entry.pos }
     ensures text { bytes_at string.entry.bytes.now result.pos result.len ≡ string_text string.entry.bytes.now string.entry.pos }
     ensures viewed { Viewed no_definition string.entry.bytes.now result.pos text result.len }
-    ensures beside { StandsWith no_definition string.entry.bytes.now (view string.entry.pos (one str_shape) string.entry.len) (view result.pos text result.len) }
+    ensures beside { StandsWith no_definition string.entry.bytes.now
+        (view string.entry.pos (one str_shape) string.entry.len) (view result.pos text result.len) }
 {
     let RawView { bytes, pos, .. } = string.part();
     if is_out_of_line(bytes, pos) {
@@ -64,7 +65,8 @@ impl<'a> Seal<'a, ArchivedStr> {
         ensures stands { StandsIn self.entry.bytes.now self.entry.pos text self.entry.len (text_leaf self.entry.pos (bytes_at self.entry.bytes.now self.entry.pos self.entry.len)) }
         ensures leaf { WritesLeaf (text_leaf self.entry.pos (bytes_at self.entry.bytes.now self.entry.pos self.entry.len)) (text_leaf self.entry.pos value.now)
             self.entry.bytes.now self.exit.0.now }
-        ensures parts { KeepsParts (text_leaf self.entry.pos (bytes_at self.entry.bytes.now self.entry.pos self.entry.len)) self.entry.bytes.now self.exit.0.now }
+        ensures parts { KeepsParts (text_leaf self.entry.pos (bytes_at self.entry.bytes.now self.entry.pos self.entry.len))
+            self.entry.bytes.now self.exit.0.now }
         ensures views { KeepsViews self.entry.bytes.now self.exit.0.now (view self.entry.pos text self.entry.len) }
     {
         let Seal { bytes, pos, .. } = self;
@@ -82,7 +84,8 @@ impl<'a> Seal<'a, ArchivedString> {
         ensures position { result.pos ≡ text_begin self.entry.bytes.now self.entry.pos }
         ensures length { result.len ≡ length (string_text self.entry.bytes.now self.entry.pos) }
         ensures viewed { Viewed no_definition result.bytes.now result.pos text result.len }
-        ensures beside { StandsWith no_definition self.entry.bytes.now (view self.entry.pos (one str_shape) self.entry.len) (view result.pos text result.len) }
+        ensures beside { StandsWith no_definition self.entry.bytes.now
+            (view self.entry.pos (one str_shape) self.entry.len) (view result.pos text result.len) }
     {
         let spot = text_spot(self.as_ref());
         let Seal { bytes, .. } = self;
@@ -98,7 +101,8 @@ impl<'a> Seal<'a, ArchivedString> {
         ensures stands { StandsIn self.entry.bytes.now self.entry.pos (one str_shape) self.entry.len (string_leaf self.entry.bytes.now self.entry.pos) }
         ensures leaf { WritesLeaf (string_leaf self.entry.bytes.now self.entry.pos) (text_leaf (text_begin self.entry.bytes.now self.entry.pos) value.now)
             self.entry.bytes.now self.exit.0.now }
-        ensures parts { KeepsParts (string_leaf self.entry.bytes.now self.entry.pos) self.entry.bytes.now self.exit.0.now }
+        ensures parts { KeepsParts (string_leaf self.entry.bytes.now self.entry.pos)
+            self.entry.bytes.now self.exit.0.now }
         ensures views { KeepsViews self.entry.bytes.now self.exit.0.now (view self.entry.pos (one str_shape) self.entry.len) }
     {
         let spot = text_spot(self.as_ref());
