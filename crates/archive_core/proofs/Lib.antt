@@ -37,3 +37,5 @@ pub mod Nothing
 pub mod ResolvedVariants
 pub mod OwnKeys
 pub mod OwnersRead
+pub mod Copies
+pub mod CopiedLeaves
