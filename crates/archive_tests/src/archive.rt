@@ -1,6 +1,7 @@
 // Whole archives, and the parts that they are written and read by.
 
 mod boxed_slices;
+mod copies;
 mod memory;
 mod numbers;
 mod options;
