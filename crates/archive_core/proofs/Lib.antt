@@ -51,3 +51,5 @@ pub mod Nothing
 pub mod ResolvedVariants
 pub mod OwnKeys
 pub mod OwnersRead
+pub mod Copies
+pub mod CopiedLeaves

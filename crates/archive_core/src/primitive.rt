@@ -19,9 +19,10 @@ ghost use Rattle.archive_write.specs.Written.{GoesOn};
 
 use crate::place::Place;
 use crate::ser::serialize_one;
+use crate::slice::copy_slice;
 use crate::traits::{
-    Archive, ArchivePointee, ArchiveUnsized, ArchivedMetadata, Deserialize, Entries, Keys,
-    Portable, Serialize, SerializeUnsized,
+    Archive, ArchivePointee, ArchiveUnsized, ArchivedMetadata, CopyOptimization, Deserialize,
+    Entries, Keys, Portable, Serialize, SerializeUnsized,
 };
 use crate::view::{RawView, Ref};
 use archive_check::format::error::Error;
@@ -38,6 +39,7 @@ pub use archive_num::{
 use archive_write::ser::{ResolverAlloc, Writer};
 use std::alloc::Global;
 
+mod copying;
 mod non_zero;
 mod sizes;
 mod sources;
@@ -105,6 +107,18 @@ impl<N: Source> Archive for N {
         let Place { bytes, .. } = place;
         write_leaf(*self, bytes);
         Ok(())
+    }
+
+    fn copy_optimization() -> CopyOptimization<N> {
+        CopyOptimization::enable()
+    }
+
+    fn serialize_copied<S: Writer + Keys>(
+        values: &[N],
+        serializer: &mut S,
+    ) -> Result<Option<usize>, Error> {
+        let pos = copy_slice(values, serializer)?;
+        Ok(Some(pos))
     }
 }
 
@@ -180,6 +194,18 @@ impl<N: Native> Archive for LittleEndian<N> {
         let Place { bytes, .. } = place;
         write_leaf(self.to_native(), bytes);
         Ok(())
+    }
+
+    fn copy_optimization() -> CopyOptimization<LittleEndian<N>> {
+        CopyOptimization::enable()
+    }
+
+    fn serialize_copied<S: Writer + Keys>(
+        values: &[LittleEndian<N>],
+        serializer: &mut S,
+    ) -> Result<Option<usize>, Error> {
+        let pos = copy_slice(values, serializer)?;
+        Ok(Some(pos))
     }
 }
 

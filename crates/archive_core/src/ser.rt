@@ -97,7 +97,7 @@ fn resolve_each<W: Writer, T: Archive, A: Allocator + Drop>(
 }
 
 // Whether so many values of this size end at `usize::MAX` or below, where the first one stands at `pos`.
-fn run_fits(pos: usize, count: usize, size: usize) -> bool
+pub(crate) fn run_fits(pos: usize, count: usize, size: usize) -> bool
     ensures { result ≡ true ↔ (pos + count * size < 2 ^ 64) }
 {
     match count.checked_mul(size) {

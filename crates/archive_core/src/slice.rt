@@ -5,6 +5,7 @@ ghost use Rattle.archive_check.specs.Shape.{run};
 ghost use Rattle.archive_check.specs.SelfCheck.Owners.{run_check, run_reaches};
 ghost use Rattle.archive_core.specs.Views.{ShowsPart, element_in};
 
+mod copying;
 mod iter;
 mod reading;
 mod sources;
@@ -16,6 +17,7 @@ use archive_check::format::error::Error;
 use archive_check::format::expr::{Defs, Pointee};
 use archive_check::format::layout::Layout;
 use archive_check::self_check::VecCheck;
+pub use copying::copy_slice;
 pub use iter::Iter;
 pub(crate) use reading::read_elements;
 pub use sources::Slice;

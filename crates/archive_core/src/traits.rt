@@ -1,13 +1,15 @@
 //! What is archived and how, and what is read back. The traits are those of rkyv 0.8.18; their laws are our own.
 
-ghost use Rattle.std.specs.Prelude.{◌≡◌, ◌<◌, ℕ, length, IfOk, OnOk, IfErr, IsErr, List, false};
+ghost use Rattle.std.specs.Prelude.{◌≡◌, ◌<◌, ℕ, length, IfOk, OnOk, IfErr, IfSome, IsErr, List, None, false};
 ghost use Rattle.archive_check.specs.Entries.{ReadsBack, RefusesReading};
 ghost use Rattle.archive_check.specs.Layout.{has_length};
-ghost use Rattle.archive_check.specs.Value.{Value};
+ghost use Rattle.archive_check.specs.Shape.{run};
+ghost use Rattle.archive_check.specs.Value.{Value, list};
 ghost use Rattle.archive_check.specs.Viewed.{Viewed};
 ghost use Rattle.archive_check.specs.declared.format.error.Error.TheVariants.{LengthTooLarge};
 ghost use Rattle.archive_core.specs.Causes.{HindersAt, IsRefused, IsRegionRefused};
 ghost use Rattle.archive_core.specs.Plans.{HasPlan, HasRegionPlan, Serialized, SerializedRegion};
+ghost use Rattle.archive_core.specs.Runs.{each_keys, each_meaning};
 ghost use Rattle.archive_core.specs.Writing.{Naming, IsKeyed, Fresh, Resolves};
 ghost use Rattle.archive_write.specs.Written.{GoesOn};
 
@@ -22,7 +24,10 @@ pub use archive_check::format::traits::{
 use archive_write::ser::Writer;
 use std::alloc::Global;
 
+mod copying;
 mod one_value;
+
+pub use copying::{Copied, CopyOptimization};
 
 /// The archived type of a source.
 pub type Archived<T> = <T as Archive>::Archived;
@@ -64,6 +69,28 @@ pub trait Archive {
         ensures resolved { OnOk result (Resolves Self.Archived.definitions place.entry.pos place.exit.0.now Self.Archived.shape (flat self.now resolver)) }
         ensures same_length { length place.exit.0.now ≡ length place.entry.bytes.now }
         ensures refused { IfErr result (HindersAt Self.Archived.definitions Self.Archived.shape (flat self.now resolver) place.entry.pos) };
+
+    /// Whether slices of such values are written in bulk, by `serialize_copied`. Off by default. As in rkyv 0.8.18, where it is a constant.
+    fn copy_optimization() -> CopyOptimization<Self> {
+        CopyOptimization::disable()
+    }
+
+    /// Writes `values` in bulk as a region of their own, and answers its position, in bytes from the first one. What is `Copied` writes this call with
+    /// `slice::copy_slice`; by default nothing is written, and none is answered. Refused as `copy_slice` is.
+    #[tactic(auto, using(crate::proofs::Causes::goes_nowhere))]
+    fn serialize_copied<S: Writer + Keys>(
+        _values: &[Self],
+        _serializer: &mut S,
+    ) -> Result<Option<usize>, Error>
+        ensures serialized { IfOk result (λ o. IfSome o (λ p. SerializedRegion Self.Archived.definitions (run Self.Archived.shape) (length _values.now)
+            (each_keys keys _values.now) (list (each_meaning meaning _values.now)) p (S.state _serializer.old) (S.state _serializer.new))) }
+        ensures untouched { IfOk result (λ o. o ≡ None → S.state _serializer.new ≡ S.state _serializer.old) }
+        ensures goes_on { GoesOn (S.state _serializer.old) (S.state _serializer.new) }
+        ensures refused { IfErr result (IsRegionRefused Self.Archived.definitions (run Self.Archived.shape) (length _values.now) (each_keys keys _values.now)
+            (list (each_meaning meaning _values.now)) (S.state _serializer.old) (S.state _serializer.new)) }
+    {
+        Ok(None)
+    }
 
     // Its keys are those that its meaning leads to.
     ghost keyed: { (v : Self) → IsKeyed (keys v) (meaning v) };

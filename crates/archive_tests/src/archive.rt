@@ -4,6 +4,7 @@ mod device;
 mod arrays;
 mod boxed_slices;
 mod comparisons;
+mod copies;
 mod memory;
 mod numbers;
 mod options;

@@ -48,8 +48,25 @@ pub(crate) fn serialize_each<A: Allocator + Drop, S: Writer, T: Serialize<S>>(
     Ok(resolvers)
 }
 
-// Writes what each of the values owns and then all of them as a region of its own, and answers the region's position. Refused with `LengthTooLarge`,
-// 5, before anything is written, exactly where there are more than 4,294,967,295.
+// Writes what each of the values owns and then all of them as a region of its own, and answers the region's position.
+fn serialize_in_turn<S: Writer + ResolverAlloc, T: Serialize<S>>(
+    values: &[T],
+    serializer: &mut S,
+) -> Result<usize, Error>
+    ensures serialized { IfOk result (λ p. SerializedRegion T.Archived.definitions (run T.Archived.shape) (length values.now) (each_keys T.keys values.now) (list (each_meaning T.meaning values.now)) p
+        (S.state serializer.old) (S.state serializer.new)) }
+    ensures goes_on { GoesOn (S.state serializer.old) (S.state serializer.new) }
+    ensures refused { IfErr result (IsRegionRefused T.Archived.definitions (run T.Archived.shape) (length values.now) (each_keys T.keys values.now) (list (each_meaning T.meaning values.now))
+        (S.state serializer.old) (S.state serializer.new)) }
+{
+    let alloc = serializer.resolver_alloc();
+    let resolvers = serialize_each(alloc, values, serializer)?;
+    serializer.align_for::<T::Archived>()?;
+    serializer.resolve_slice_aligned(alloc, values, resolvers)
+}
+
+// The same in bulk, where the type is copied so. Refused with `LengthTooLarge`, 5, before anything is written, exactly where there are more than
+// 4,294,967,295 values.
 pub(crate) fn serialize_slice<S: Writer + ResolverAlloc, T: Serialize<S>>(
     values: &[T],
     serializer: &mut S,
@@ -65,10 +82,13 @@ pub(crate) fn serialize_slice<S: Writer + ResolverAlloc, T: Serialize<S>>(
     if values.len() > u32::MAX as usize {
         return Err(Error::LengthTooLarge);
     }
-    let alloc = serializer.resolver_alloc();
-    let resolvers = serialize_each(alloc, values, serializer)?;
-    serializer.align_for::<T::Archived>()?;
-    serializer.resolve_slice_aligned(alloc, values, resolvers)
+    if !T::copy_optimization().is_enabled() {
+        return serialize_in_turn(values, serializer);
+    }
+    match T::serialize_copied(values, serializer)? {
+        Some(pos) => Ok(pos),
+        None => serialize_in_turn(values, serializer),
+    }
 }
 
 impl<'a, T: Archive> ArchiveUnsized for Slice<'a, T> {

@@ -122,16 +122,26 @@ fn write_to<W: Writer>(alloc: Global, value: &Vec<u32>, writer: &mut W) -> Resul
 }
 
 #[test]
-fn a_full_buffer_keeps_the_elements_before(rt: HostRuntime) -> Result<(), Fail> {
+fn a_full_buffer_keeps_the_pieces_before(rt: HostRuntime) -> Result<(), Fail> {
     let value = vec![in rt.alloc(); 1u32, 2]?;
     let mut bytes = [0xcc; 6];
     let mut buffer = Buffer::from(&mut bytes);
     let refusal = Error::BufferOverflow {
-        write_len: 4,
+        write_len: 8,
         cap: 6,
-        len: 4,
+        len: 0,
     };
     assert_eq!(rt; write_to(rt.alloc(), &value, &mut buffer), Err(refusal));
-    assert_eq!(rt; buffer.as_slice(), b"\x01\0\0\0".as_slice());
+    assert_eq!(rt; buffer.as_slice().len(), 0);
+    let value = vec![in rt.alloc(); 0u32; 300]?;
+    let mut bytes = [0xcc; 1100];
+    let mut buffer = Buffer::from(&mut bytes);
+    let refusal = Error::BufferOverflow {
+        write_len: 176,
+        cap: 1100,
+        len: 1024,
+    };
+    assert_eq!(rt; write_to(rt.alloc(), &value, &mut buffer), Err(refusal));
+    assert_eq!(rt; buffer.as_slice().len(), 1024);
     Ok(())
 }

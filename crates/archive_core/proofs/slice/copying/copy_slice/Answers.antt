@@ -1,0 +1,30 @@
+use Rattle.archive_core.proofs.Causes.{err_by, err_from, goes_both, goes_nowhere, goes_written, goes_refused}
+use Rattle.archive_core.proofs.Copies.{serialized_as_they_are}
+use Rattle.archive_core.proofs.RunRegions.{serialized_elements_if, run_padded, run_hindered}
+use Rattle.archive_core.proofs.slice.copying.copy_slice.Goals as goal
+
+pub returns-in_err-align_for-clause-refused : goal.returns-in_err-align_for-clause-refused
+returns-in_err-align_for-clause-refused g c = err_by c.from_residual.result c.in_err-align_for.field-0.0 _ c.from_residual.ensures.1
+    (run_padded _ _ _ _ _ _ _ _ _ _ _ _ g.met.T.CopiedAs.Portable.is_align g.met.T.CopiedAs.Portable.has_layout
+    (serialized_as_they_are _ _ _ _ c.copied_size-size.ensures.owns_nothing c.args.values.now _) (goes_nowhere _)
+    (g.met.S.Writer.place_law _) (goes_refused _ _ c.in_err-align_for.ensures.kept c.in_err-align_for.ensures.room c.in_err-align_for.ensures.device c.in_err-align_for.ensures.keys)
+    c.in_err-align_for.ensures.refusal)
+
+pub returns-clause-serialized : goal.returns-clause-serialized
+returns-clause-serialized g c = serialized_elements_if _ _ _ _ _ c.copy_aligned.result _ _ _ _ _ _ _
+    (serialized_as_they_are _ _ _ _ c.copied_size-size.ensures.owns_nothing c.args.values.now _) c.in_ok-align_for.ensures.padded c.copy_aligned.ensures.region
+    (g.met.S.Writer.place_law _) c.copy_aligned.ensures.position
+
+pub returns-in_err-align_for-clause-goes_on : goal.returns-in_err-align_for-clause-goes_on
+returns-in_err-align_for-clause-goes_on g c =
+    goes_refused _ _ c.in_err-align_for.ensures.kept c.in_err-align_for.ensures.room c.in_err-align_for.ensures.device c.in_err-align_for.ensures.keys
+
+pub returns-clause-goes_on : goal.returns-clause-goes_on
+returns-clause-goes_on g c = goes_both _ _ _
+    (goes_written _ _ _ c.in_ok-align_for.ensures.written c.in_ok-align_for.ensures.room c.in_ok-align_for.ensures.device c.in_ok-align_for.ensures.keys) c.copy_aligned.ensures.goes_on
+
+pub returns-clause-refused : goal.returns-clause-refused
+returns-clause-refused g c = err_from c.copy_aligned.result c.copy_aligned.ensures.refused (λ e h.
+    run_hindered _ _ _ _ _ _ _ _ _ _ _ e g.met.T.CopiedAs.Portable.has_layout (serialized_as_they_are _ _ _ _ c.copied_size-size.ensures.owns_nothing c.args.values.now _)
+    c.in_ok-align_for.ensures.padded
+    (goes_written _ _ _ c.in_ok-align_for.ensures.written c.in_ok-align_for.ensures.room c.in_ok-align_for.ensures.device c.in_ok-align_for.ensures.keys) c.copy_aligned.ensures.goes_on h)

@@ -1,0 +1,122 @@
+// Slices of values that are copied: their bytes are written a piece at a time.
+
+ghost use Rattle.std.specs.Prelude.{◌≡◌, ◌+◌, ◌*◌, ◌++◌, ◌<◌, ◌≤◌, ◌%◌, ◌^◌, IfOk, OnOk, OnErr, IfErr, length};
+ghost use Rattle.archive_check.specs.Shape.{run};
+ghost use Rattle.archive_check.specs.Value.{list};
+ghost use Rattle.archive_check.specs.WriterState.{KeepsKeys};
+ghost use Rattle.archive_core.specs.Causes.{Explains, IsRegionRefused};
+ghost use Rattle.archive_core.specs.Copies.{each_bytes, EachCopied};
+ghost use Rattle.archive_core.specs.Plans.{SerializedRegion};
+ghost use Rattle.archive_core.specs.Runs.{each_keys, each_meaning, PutsRun, HindersRunAt};
+ghost use Rattle.archive_write.specs.Written.{GoesOn, ExplainsRefusal};
+
+use crate::ser::run_fits;
+use crate::traits::{Copied, Keys};
+use archive_check::format::error::Error;
+use archive_write::ser::{Writer, WriterExt};
+
+/// As many bytes as are written at once, at most.
+const PIECE: usize = 1024;
+
+// Writes the bytes of values, which take no more than `bytes`. Nothing is written where they have none.
+#[tactic(auto, using(crate::proofs::Causes::goes_written, crate::proofs::Causes::goes_refused, crate::proofs::Causes::goes_nowhere))]
+fn write_piece<W: Writer, T: Copied>(
+    values: &[T],
+    bytes: &mut [u8],
+    writer: &mut W,
+) -> Result<(), Error>
+    requires sized { length bytes.old ≡ length values.now * T.CopiedAs.layout.size }
+    ensures copied { OnOk result ((W.state writer.new).bytes ≡ (W.state writer.old).bytes ++ each_bytes T.copied_bytes values.now) }
+    ensures read { EachCopied T.CopiedAs.definitions T.CopiedAs.shape T.CopiedAs.layout.size T.copied_meaning T.copied_bytes values.now }
+    ensures goes_on { GoesOn (W.state writer.old) (W.state writer.new) }
+    ensures refused { IfErr result (ExplainsRefusal (length values.now * T.CopiedAs.layout.size) (W.place writer.old) (W.state writer.old).room
+        (W.state writer.old).failures (W.state writer.new).failures) }
+    ensures keys { KeepsKeys (W.state writer.old).states (W.state writer.new).states }
+{
+    T::copy_into(values, bytes);
+    if bytes.is_empty() {
+        return Ok(());
+    }
+    writer.write(bytes)
+}
+
+// How many values of so many bytes are written at once, of `count` that are left: as many as fit 1,024 bytes.
+#[tactic(auto, using(crate::proofs::Copies::fits_piece, crate::proofs::Copies::some_fit))]
+fn count_at_once(size: usize, count: usize) -> usize
+    requires small { size ≤ 1024 }
+    requires some { 0 < count }
+    ensures some { 0 < result }
+    ensures few { result * size ≤ 1024 }
+    ensures within { result ≤ count }
+{
+    if size == 0 {
+        return count;
+    }
+    count.min(PIECE / size)
+}
+
+// Writes the bytes of values, which have so many each, as many whole values at once as fit 1,024 bytes.
+fn copy_pieces<W: Writer, T: Copied>(values: &[T], size: usize, writer: &mut W) -> Result<(), Error>
+    requires same { size ≡ T.CopiedAs.layout.size }
+    requires small { size ≤ 1024 }
+    ensures put { OnOk result (PutsRun T.CopiedAs.definitions (W.state writer.old) (W.state writer.new)
+        T.CopiedAs.shape T.CopiedAs.layout (length values.now) (each_meaning T.copied_meaning values.now)) }
+    ensures refused { IfErr result (Explains (HindersRunAt T.CopiedAs.definitions T.CopiedAs.shape T.CopiedAs.layout (length values.now) (each_meaning T.copied_meaning values.now) (length (W.state writer.old).bytes))
+        (λ n. n ≤ length (W.state writer.old).bytes + length values.now * T.CopiedAs.layout.size) (W.state writer.old) (W.state writer.new)) }
+    ensures goes_on { GoesOn (W.state writer.old) (W.state writer.new) }
+    ensures keys { KeepsKeys (W.state writer.old).states (W.state writer.new).states }
+{
+    let mut piece = [0; PIECE];
+    let mut rest = values;
+    while !rest.is_empty() {
+        let count = count_at_once(size, rest.len());
+        let (now, later) = rest.split_at(count);
+        write_piece(now, &mut piece[..count * size], writer)?;
+        rest = later;
+    }
+    Ok(())
+}
+
+// Writes the bytes of values as the next region, where the writer stands at a multiple of their alignment.
+fn copy_aligned<W: Writer, T: Copied>(
+    values: &[T],
+    size: usize,
+    writer: &mut W,
+) -> Result<usize, Error>
+    requires same { size ≡ T.CopiedAs.layout.size }
+    requires small { size ≤ 1024 }
+    ensures region { OnOk result (PutsRun T.CopiedAs.definitions (W.state writer.old) (W.state writer.new)
+        T.CopiedAs.shape T.CopiedAs.layout (length values.now) (each_meaning T.copied_meaning values.now)) }
+    ensures position { IfOk result (λ p. p ≡ W.place writer.old) }
+    ensures refused { IfErr result (Explains (HindersRunAt T.CopiedAs.definitions T.CopiedAs.shape T.CopiedAs.layout (length values.now) (each_meaning T.copied_meaning values.now) (length (W.state writer.old).bytes))
+        (λ n. n ≤ length (W.state writer.old).bytes + length values.now * T.CopiedAs.layout.size) (W.state writer.old) (W.state writer.new)) }
+    ensures goes_on { GoesOn (W.state writer.old) (W.state writer.new) }
+    ensures keys { KeepsKeys (W.state writer.old).states (W.state writer.new).states }
+{
+    let pos = writer.pos();
+    if !run_fits(pos, values.len(), size) {
+        return Err(Error::LayoutTooLarge);
+    }
+    copy_pieces(values, size, writer)?;
+    Ok(pos)
+}
+
+/// Writes zeros up to the values' alignment, and then the bytes of all, one behind another, a piece of at most 1,024 bytes at a time; answers the region's
+/// position, in bytes from the first one. It asks nothing, and takes no memory of its own. Refused with `LayoutTooLarge`, 23, where the region would end
+/// above `usize::MAX`, or as the writer refuses (`OutOfMemory`, 1; `BufferOverflow`, 8; `WriterFailed`, 9), of a whole piece each time. After a refusal,
+/// too, the bytes from before are a beginning of those that `serializer` holds. rkyv 0.8.18 has it within `serialize_unsized` of a slice, and copies
+/// memory.
+pub fn copy_slice<S: Writer + Keys, T: Copied>(
+    values: &[T],
+    serializer: &mut S,
+) -> Result<usize, Error>
+    ensures serialized { IfOk result (λ p. SerializedRegion T.CopiedAs.definitions (run T.CopiedAs.shape) (length values.now) (each_keys T.copied_keys values.now) (list (each_meaning T.copied_meaning values.now)) p
+        (S.state serializer.old) (S.state serializer.new)) }
+    ensures goes_on { GoesOn (S.state serializer.old) (S.state serializer.new) }
+    ensures refused { IfErr result (IsRegionRefused T.CopiedAs.definitions (run T.CopiedAs.shape) (length values.now) (each_keys T.copied_keys values.now) (list (each_meaning T.copied_meaning values.now))
+        (S.state serializer.old) (S.state serializer.new)) }
+{
+    let size = T::copied_size();
+    serializer.align_for::<T::CopiedAs>()?;
+    copy_aligned(values, size, serializer)
+}
