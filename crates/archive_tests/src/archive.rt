@@ -1,6 +1,5 @@
 // Whole archives, and the parts that they are written and read by.
 
-mod comparisons;
 mod memory;
 mod numbers;
 mod options;
