@@ -1,10 +1,10 @@
 // Whole archives, and the parts that they are written and read by.
 
-mod device;
 mod arrays;
 mod boxed_slices;
 mod comparisons;
 mod copies;
+mod device;
 mod memory;
 mod numbers;
 mod options;

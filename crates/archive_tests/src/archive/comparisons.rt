@@ -1,0 +1,87 @@
+// Views are compared by what they show, wherever it lies.
+
+use crate::archive::HELLO_WORLD;
+use archive_core::api::access;
+use archive_core::boxed::ArchivedBox;
+use archive_core::option::ArchivedOption;
+use archive_core::primitive::{ArchivedI32, ArchivedU32};
+use archive_core::rc::{ArchivedRc, RcFlavor};
+use archive_core::string::{ArchivedStr, ArchivedString};
+use archive_core::vec::ArchivedVec;
+use std::cmp::Ordering;
+use std::hash::{DefaultHasher, Hash, Hasher};
+use std::test::Fail;
+
+// What a value feeds a hasher comes to.
+fn hash_of<T: Hash>(value: &T) -> u64 {
+    let mut state = DefaultHasher::new();
+    value.hash(&mut state);
+    state.finish()
+}
+
+#[test]
+fn numbers_are_compared_as_numbers(rt: HostRuntime) -> Result<(), Fail> {
+    let less = access::<ArchivedI32>(rt.alloc(), b"\xff\xff\xff\xff")?;
+    let more = access::<ArchivedI32>(rt.alloc(), b"\x01\0\0\0")?;
+    assert!(rt; less < more);
+    assert!(rt; less != more);
+    assert!(rt; less.eq_native(&-1));
+    assert_eq!(rt; more.cmp_native(&2), Ordering::Less);
+    let byte = access::<u8>(rt.alloc(), b"\x07")?;
+    assert_eq!(rt; hash_of(&byte), hash_of(&7u8));
+    assert_eq!(rt; byte.cmp_native(&6), Ordering::Greater);
+    Ok(())
+}
+
+#[test]
+fn texts_are_compared_wherever_they_stand(rt: HostRuntime) -> Result<(), Fail> {
+    let far = access::<ArchivedString>(rt.alloc(), HELLO_WORLD)?;
+    let near = access::<ArchivedString>(rt.alloc(), b"hello\xff\xff\xff")?;
+    assert_eq!(rt; far.cmp_str("hello"), Ordering::Greater);
+    assert!(rt; far.eq_str("hello world"));
+    assert_eq!(rt; near.cmp(&far), Ordering::Less);
+    assert_eq!(rt; hash_of(&far), hash_of(&"hello world"));
+    let boxed = b"hello\0\0\0\xf8\xff\xff\xff\x05\0\0\0";
+    let text = access::<ArchivedBox<ArchivedStr>>(rt.alloc(), boxed)?.get();
+    assert!(rt; text.eq_str("hello"));
+    assert_eq!(rt; text.cmp_str("hello world"), Ordering::Less);
+    Ok(())
+}
+
+#[test]
+fn lists_are_compared_element_by_element(rt: HostRuntime) -> Result<(), Fail> {
+    let two = b"\x01\0\0\0\x02\0\0\0\xf8\xff\xff\xff\x02\0\0\0";
+    let two = access::<ArchivedVec<ArchivedU32>>(rt.alloc(), two)?;
+    let one = b"\x01\0\0\0\xfc\xff\xff\xff\x01\0\0\0";
+    let one = access::<ArchivedVec<ArchivedU32>>(rt.alloc(), one)?;
+    assert!(rt; one < two);
+    assert!(rt; one != two);
+    assert!(rt; two == two);
+    assert_eq!(rt; hash_of(&two), hash_of(&[1u32, 2].as_slice()));
+    assert!(rt; two.eq_slice([1, 2].as_slice()));
+    assert_eq!(rt; one.cmp_slice([2].as_slice()), Ordering::Less);
+    Ok(())
+}
+
+#[test]
+fn owners_are_compared_by_what_they_hold(rt: HostRuntime) -> Result<(), Fail> {
+    let seven = b"\x07\0\0\0\xfc\xff\xff\xff";
+    let boxed = access::<ArchivedBox<ArchivedU32>>(rt.alloc(), seven)?;
+    assert!(rt; boxed == boxed);
+    let shared = access::<ArchivedRc<ArchivedU32, RcFlavor>>(rt.alloc(), seven)?;
+    assert_eq!(rt; shared.cmp(&shared), Ordering::Equal);
+    assert_eq!(rt; hash_of(&shared), hash_of(&7u32));
+    Ok(())
+}
+
+#[test]
+fn an_option_is_less_without_a_value(rt: HostRuntime) -> Result<(), Fail> {
+    let none = access::<ArchivedOption<ArchivedU32>>(rt.alloc(), b"\0\0\0\0\x09\0\0\0")?;
+    let some = access::<ArchivedOption<ArchivedU32>>(rt.alloc(), b"\x01\0\0\0\x2a\0\0\0")?;
+    assert!(rt; none < some);
+    assert_eq!(rt; some.cmp_option(&Some(42)), Ordering::Equal);
+    assert_eq!(rt; some.cmp_option(&Some(43)), Ordering::Less);
+    assert!(rt; none.eq_option::<u32>(&None));
+    assert_eq!(rt; hash_of(&some), hash_of(&Some(42u32)));
+    Ok(())
+}
