@@ -1,9 +1,43 @@
 // Shared values as sources.
 
 use archive_core::api::to_bytes;
-use archive_core::rc::SharedSlice;
-use std::rc::RcSlice;
+use archive_core::error::Error;
+use archive_core::rc::{Shared, SharedSlice, SharedStr, WeakShared};
+use std::rc::{Rc, RcSlice, RcStr};
 use std::test::Fail;
+
+#[test]
+fn a_shared_number_is_written_once(rt: HostRuntime) -> Result<(), Fail> {
+    let mut numbers = Vec::new(rt.alloc());
+    for _ in 0..2 {
+        let value = Rc::new(rt.alloc(), 10u32)?;
+        numbers.push(Shared { key: 1, value })?;
+    }
+    let bytes = to_bytes(rt.alloc(), &numbers)?;
+    assert_eq!(rt;
+        bytes.as_slice(),
+        b"\x0a\0\0\0\xfc\xff\xff\xff\xf8\xff\xff\xff\xf8\xff\xff\xff\x02\0\0\0".as_slice()
+    );
+    Ok(())
+}
+
+#[test]
+fn a_key_within_itself_is_refused(rt: HostRuntime) -> Result<(), Fail> {
+    let inner = Rc::new(rt.alloc(), 10u32)?;
+    let value = Rc::new(
+        rt.alloc(),
+        Shared {
+            key: 7,
+            value: inner,
+        },
+    )?;
+    let outer = Shared { key: 7, value };
+    let Err(error) = to_bytes(rt.alloc(), &outer) else {
+        panic!(rt; "written")
+    };
+    assert_eq!(rt; error, Error::CyclicSerialize);
+    Ok(())
+}
 
 #[test]
 fn a_shared_slice_of_texts(rt: HostRuntime) -> Result<(), Fail> {
@@ -18,6 +52,22 @@ fn a_shared_slice_of_texts(rt: HostRuntime) -> Result<(), Fail> {
     assert_eq!(rt;
         bytes.as_slice(),
         b"hello\xff\xff\xffworld\xff\xff\xff\xf0\xff\xff\xff\x02\0\0\0\xe8\xff\xff\xff\x02\0\0\0\xf0\xff\xff\xff\x02\0\0\0".as_slice()
+    );
+    Ok(())
+}
+
+#[test]
+fn a_shared_text_and_a_null(rt: HostRuntime) -> Result<(), Fail> {
+    let value = RcStr::from_str(rt.alloc(), "hello")?;
+    let bytes = to_bytes(rt.alloc(), &SharedStr { key: 1, value })?;
+    assert_eq!(rt;
+        bytes.as_slice(),
+        b"hello\0\0\0\xf8\xff\xff\xff\x05\0\0\0".as_slice()
+    );
+    let null: WeakShared<u32> = WeakShared { value: None };
+    assert_eq!(rt;
+        to_bytes(rt.alloc(), &null)?.as_slice(),
+        b"\x01\0\0\0".as_slice()
     );
     Ok(())
 }
