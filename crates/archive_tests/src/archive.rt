@@ -5,6 +5,7 @@ mod boxed_slices;
 mod comparisons;
 mod copies;
 mod device;
+mod iterators;
 mod memory;
 mod numbers;
 mod options;

@@ -1,0 +1,18 @@
+// Vectors written from iterators.
+
+use archive_core::primitive::ArchivedU16;
+use archive_core::ser::Serializer;
+use archive_core::vec::ArchivedVec;
+use std::test::Fail;
+
+#[test]
+fn items_are_written_as_those_of_a_slice(rt: HostRuntime) -> Result<(), Fail> {
+    let mut serializer = Serializer::new(vec![in rt.alloc(); 0xaau8]?, rt.alloc(), ());
+    let written = ArchivedVec::<ArchivedU16>::serialize_from_iter(1u16..4, &mut serializer);
+    if let Err(error) = written {
+        return Err(Fail::from(error));
+    }
+    let bytes = serializer.into_writer();
+    assert_eq!(rt; bytes.as_slice(), b"\xaa\0\x01\0\x02\0\x03\0".as_slice());
+    Ok(())
+}
