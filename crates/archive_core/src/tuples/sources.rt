@@ -3,8 +3,8 @@
 ghost use Rattle.std.specs.Prelude.{◌≡◌, length, OnOk, IfErr};
 ghost use Rattle.archive_check.specs.Value.{product};
 ghost use Rattle.archive_core.specs.Causes.{HindersAt};
-ghost use Rattle.archive_core.specs.Keyed.{record_keyed};
-ghost use Rattle.archive_core.specs.PartsPlanned.{product_planned};
+ghost use Rattle.archive_core.specs.Keyed.{nothing_keyed, part_keyed, record_keyed};
+ghost use Rattle.archive_core.specs.PartsPlanned.{no_part_planned, part_planned, product_planned};
 ghost use Rattle.archive_core.specs.Writing.{Fresh, Resolves};
 
 use super::parts::{Parts1, Parts2, Parts3};
@@ -29,9 +29,9 @@ impl<A: Archive> Archive for (A,) {
 
     ghost belongs = { λ v r. ⟦<Parts1 as SourceParts<(A,)>>⟧.belongs v r };
 
-    ghost keyed = { λ v. record_keyed (⟦<Parts1 as SourceParts<(A,)>>⟧.keyed v) };
+    ghost keyed = { λ v. record_keyed (part_keyed (A.keyed v.0) nothing_keyed) };
 
-    ghost planned = { λ v. product_planned _ _ _ _ (⟦<Parts1 as SourceParts<(A,)>>⟧.planned v) };
+    ghost planned = { λ v. product_planned _ _ _ _ (part_planned _ _ _ _ (A.planned v.0) no_part_planned) };
 
     fn resolve(
         &self,
@@ -70,9 +70,9 @@ impl<A: Archive, B: Archive> Archive for (A, B) {
 
     ghost belongs = { λ v r. ⟦<Parts2 as SourceParts<(A, B)>>⟧.belongs v r };
 
-    ghost keyed = { λ v. record_keyed (⟦<Parts2 as SourceParts<(A, B)>>⟧.keyed v) };
+    ghost keyed = { λ v. record_keyed (part_keyed (A.keyed v.0) (part_keyed (B.keyed v.1) nothing_keyed)) };
 
-    ghost planned = { λ v. product_planned _ _ _ _ (⟦<Parts2 as SourceParts<(A, B)>>⟧.planned v) };
+    ghost planned = { λ v. product_planned _ _ _ _ (part_planned _ _ _ _ (A.planned v.0) (part_planned _ _ _ _ (B.planned v.1) no_part_planned)) };
 
     fn resolve(
         &self,
@@ -111,9 +111,9 @@ impl<A: Archive, B: Archive, C: Archive> Archive for (A, B, C) {
 
     ghost belongs = { λ v r. ⟦<Parts3 as SourceParts<(A, B, C)>>⟧.belongs v r };
 
-    ghost keyed = { λ v. record_keyed (⟦<Parts3 as SourceParts<(A, B, C)>>⟧.keyed v) };
+    ghost keyed = { λ v. record_keyed (part_keyed (A.keyed v.0) (part_keyed (B.keyed v.1) (part_keyed (C.keyed v.2) nothing_keyed))) };
 
-    ghost planned = { λ v. product_planned _ _ _ _ (⟦<Parts3 as SourceParts<(A, B, C)>>⟧.planned v) };
+    ghost planned = { λ v. product_planned _ _ _ _ (part_planned _ _ _ _ (A.planned v.0) (part_planned _ _ _ _ (B.planned v.1) (part_planned _ _ _ _ (C.planned v.2) no_part_planned))) };
 
     fn resolve(
         &self,

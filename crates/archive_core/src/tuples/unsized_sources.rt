@@ -1,6 +1,8 @@
 // Tuples as regions of their own: the tuple itself, as one value.
 
 ghost use Rattle.std.specs.Prelude.{refl};
+ghost use Rattle.archive_core.specs.Keyed.{nothing_keyed, part_keyed, record_keyed};
+ghost use Rattle.archive_core.specs.PartsPlanned.{no_part_planned, part_planned, product_planned};
 ghost use Rattle.archive_core.specs.PlannedOwners.{one_planned};
 
 use crate::ser::serialize_one;
@@ -18,11 +20,11 @@ impl<A: Archive> ArchiveUnsized for (A,) {
 
     ghost keys = { ⟦<(A,) as Archive>⟧.keys };
 
-    ghost keyed = { ⟦<(A,) as Archive>⟧.keyed };
+    ghost keyed = { λ v. record_keyed (part_keyed (A.keyed v.0) nothing_keyed) };
 
     ghost one_length = { λ _ _. refl };
 
-    ghost planned = { λ v. one_planned _ _ _ _ (⟦<(A,) as Archive>⟧.planned v) };
+    ghost planned = { λ v. one_planned _ _ _ _ (product_planned _ _ _ _ (part_planned _ _ _ _ (A.planned v.0) no_part_planned)) };
 
     fn archived_metadata(&self) -> Result<(), Error> {
         Ok(())
@@ -44,11 +46,11 @@ impl<A: Archive, B: Archive> ArchiveUnsized for (A, B) {
 
     ghost keys = { ⟦<(A, B) as Archive>⟧.keys };
 
-    ghost keyed = { ⟦<(A, B) as Archive>⟧.keyed };
+    ghost keyed = { λ v. record_keyed (part_keyed (A.keyed v.0) (part_keyed (B.keyed v.1) nothing_keyed)) };
 
     ghost one_length = { λ _ _. refl };
 
-    ghost planned = { λ v. one_planned _ _ _ _ (⟦<(A, B) as Archive>⟧.planned v) };
+    ghost planned = { λ v. one_planned _ _ _ _ (product_planned _ _ _ _ (part_planned _ _ _ _ (A.planned v.0) (part_planned _ _ _ _ (B.planned v.1) no_part_planned))) };
 
     fn archived_metadata(&self) -> Result<(), Error> {
         Ok(())
@@ -70,11 +72,11 @@ impl<A: Archive, B: Archive, C: Archive> ArchiveUnsized for (A, B, C) {
 
     ghost keys = { ⟦<(A, B, C) as Archive>⟧.keys };
 
-    ghost keyed = { ⟦<(A, B, C) as Archive>⟧.keyed };
+    ghost keyed = { λ v. record_keyed (part_keyed (A.keyed v.0) (part_keyed (B.keyed v.1) (part_keyed (C.keyed v.2) nothing_keyed))) };
 
     ghost one_length = { λ _ _. refl };
 
-    ghost planned = { λ v. one_planned _ _ _ _ (⟦<(A, B, C) as Archive>⟧.planned v) };
+    ghost planned = { λ v. one_planned _ _ _ _ (product_planned _ _ _ _ (part_planned _ _ _ _ (A.planned v.0) (part_planned _ _ _ _ (B.planned v.1) (part_planned _ _ _ _ (C.planned v.2) no_part_planned)))) };
 
     fn archived_metadata(&self) -> Result<(), Error> {
         Ok(())
