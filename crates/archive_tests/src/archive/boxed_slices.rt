@@ -5,7 +5,8 @@ use archive_core::api::{
 };
 use archive_core::boxed::{BoxSlice, BoxStr};
 use archive_core::error::Error;
-use archive_core::ser::{Positional, ResolveExt, Serializer, Writer};
+use archive_core::primitive::ArchivedU32;
+use archive_core::ser::{Positional, ResolveExt, Serializer, WriterExt};
 use archive_core::string::Text;
 use std::test::Fail;
 
@@ -42,7 +43,7 @@ fn a_pointer_is_written_by_itself(rt: HostRuntime) -> Result<(), Fail> {
         text: "hello world",
     };
     assert_eq!(rt; serialize_using(&text, &mut serializer)?, 0);
-    serializer.write(&[0])?;
+    assert_eq!(rt; serializer.align_for::<ArchivedU32>()?, 12);
     assert_eq!(rt; serializer.resolve_unsized_aligned(&text, 0)?, 12);
     assert_eq!(rt; serializer.resolve_unsized_aligned(&7u8, 24)?, 20);
     let far = serializer.resolve_unsized_aligned(&7u8, 4_294_967_296);
