@@ -4,6 +4,7 @@ ghost use Rattle.std.specs.Prelude.{◌≡◌, ⊤};
 ghost use Rattle.archive_check.specs.Viewed.{Viewed};
 
 mod choices;
+mod fields;
 mod leaves;
 mod parts;
 mod text;

@@ -1,6 +1,6 @@
 // Tuples: their layouts, and what a check says of their bytes.
 
-use archive_core::api::{access, from_bytes, to_bytes};
+use archive_core::api::{access, access_mut, from_bytes, to_bytes};
 use archive_core::error::Error;
 use archive_core::primitive::{ArchivedI32, ArchivedU32};
 use archive_core::traits::{Portable, Record};
@@ -43,5 +43,15 @@ fn a_tuple_is_written_viewed_and_read_back(rt: HostRuntime) -> Result<(), Fail> 
     assert_eq!(rt; view.field::<ArchivedU32>(2).get(), 16);
     let back: Result<(i32, bool, u32), Error> = from_bytes(rt.alloc(), NUMBERS, &mut ());
     assert_eq!(rt; back, Ok(value));
+    Ok(())
+}
+
+#[test]
+fn a_part_of_a_tuple_is_written_over(rt: HostRuntime) -> Result<(), Fail> {
+    let mut bytes = *b"\x18\0\0\0\x01\0\0\0\x10\0\0\0";
+    access_mut::<Numbers>(rt.alloc(), &mut bytes)?
+        .field::<ArchivedU32>(2)
+        .write(17);
+    assert_eq!(rt; bytes, *b"\x18\0\0\0\x01\0\0\0\x11\0\0\0");
     Ok(())
 }
