@@ -9,7 +9,7 @@ ghost use Rattle.archive_check.specs.SelfCheck.Laws.{by_schema};
 ghost use Rattle.archive_check.specs.Shape.{choice, named, one};
 ghost use Rattle.archive_check.specs.VariantsLayout.{choice_has_layout, is_named_choice};
 
-use archive_core::api::access;
+use archive_core::api::{access, access_mut};
 use archive_core::error::Error;
 use archive_core::place::Place;
 use archive_core::primitive::ArchivedU32;
@@ -106,6 +106,17 @@ fn what_stands_behind_a_tag_is_viewed(rt: HostRuntime) -> Result<(), Fail> {
         assert_eq!(rt; view.payload::<u8>(0).get(), 7);
         assert_eq!(rt; view.payload::<ArchivedString>(1).as_str(), "hi");
     }
+    Ok(())
+}
+
+#[test]
+fn what_stands_behind_a_tag_is_written_over(rt: HostRuntime) -> Result<(), Fail> {
+    let mut bytes = *b"\x02\x07\0\0hi\xff\xff\xff\xff\xff\xff";
+    let event = access_mut::<Event>(rt.alloc(), &mut bytes)?;
+    if event.as_ref().tag() == 2 {
+        event.payload::<u8>(0).write(9);
+    }
+    assert_eq!(rt; bytes, *b"\x02\x09\0\0hi\xff\xff\xff\xff\xff\xff");
     Ok(())
 }
 
