@@ -11,6 +11,7 @@ pub mod EditedBytes
 pub mod RegionsApart
 pub mod FewSubtrees
 pub mod Depths
+pub mod RangeLevels
 pub mod Examples
 pub mod ReadingUnique
 pub mod JoinedTours

@@ -21,6 +21,8 @@ use Rattle.archive_check.specs.SelfCheck.Ways.{Goes, Halts, enter_way}
 use Rattle.archive_check.specs.SelfCheck.Regions.{NotEntered, not_sized, not_within, not_aligned, not_allowed, EntersNot, Begun, contents_way}
 use Rattle.archive_check.proofs.plan.BoundedSizes.{some_is, some_below, none_is}
 use Rattle.archive_check.proofs.check.ContextAgrees.{taken_back, not_taken}
+use Rattle.archive_check.proofs.Depths.{levels_allow}
+use Rattle.archive_check.proofs.RangeLevels.{lands, last_level, levels_inside, inside_few, level_back}
 
 -- what a refusal of the range says
 negative : (n t : ℕ) → negsuc n ≡ pos t → ⊥
@@ -43,45 +45,10 @@ astray s (pos k) size align e h some = astray_by s k size align e (nat_le s.star
     astray_by s k size align e false b d p q r h =
         (outside (pos k) size s.start s.end, grind (arith, nat_tests), not_within (λ t is above below. let same : k ≡ t = pos_same k t is in grind (arith, nat_tests)))
 
--- the last level lets no region be entered
-last_level : (d : Option ℕ) → d ≡ Some 1 → Allows d 1 → ⊥
-last_level None e a = cc
-last_level (Some n) e a = let one : n ≡ 1 = cc in omega arith
-
 pub stopped_deep : (s : RangeState) (z : ℤ) (size align t : ℕ) (e : Error) → Lands s z size align t → s.depth ≡ Some 1 → e ≡ ExceededMaximumSubtreeDepth → EntersNot s z align (Some size) e
 stopped_deep s z size align t e at deep is some = (too_deep, is, not_allowed at (last_level s.depth deep))
 
-levels_allow : (d : Option ℕ) → d ≢ Some 0 → (d ≡ Some 1 → ⊥) → Allows d 1
-levels_allow None some deep = tt
-levels_allow (Some zero) some deep = absurd (some refl)
-levels_allow (Some (suc zero)) some deep = absurd (deep refl)
-levels_allow (Some (suc (suc n))) some deep = omega arith
-
-levels_inside : (d : Option ℕ) → HasLevels d → (d ≡ Some 1 → ⊥) → HasLevels (inside d)
-levels_inside None h deep = record { levels = λ e. cc; few = λ d e. cc }
-levels_inside (Some zero) h deep = absurd (h.levels refl)
-levels_inside (Some (suc zero)) h deep = absurd (deep refl)
-levels_inside (Some (suc (suc n))) h deep = record {
-  levels = λ e. let none : suc (suc n) - 1 ≡ 0 = cc in omega arith;
-  few = λ d e. let same : suc (suc n) - 1 ≡ d = cc in omega (arith, h.few (suc (suc n)) refl);
-}
-
-inside_few : (depth : Option ℕ) → HasLevels depth → (d : ℕ) → inside depth ≡ Some d → d + 1 < 18446744073709551616
-inside_few None h d e = cc
-inside_few (Some n) h d e = let same : n - 1 ≡ d = cc in let some : n ≢ 0 = (λ z. h.levels (ap Some z)) in omega (arith, h.few n refl)
-
-level_back : (d : Option ℕ) → d ≢ Some 0 → one_more (inside d) ≡ d
-level_back None some = refl
-level_back (Some zero) some = absurd (some refl)
-level_back (Some (suc n)) some = let same : suc n - 1 + 1 ≡ suc n = omega arith in ap Some same
-
 -- what the calls on the range say of a region that is entered
-pub lands : (s : RangeState) (z : ℤ) (size align t : ℕ) (u : Unit {0}) → z ≡ pos t → Ok u ≡ subtree_answer s z size align → Lands s z size align t
-lands s (negsuc n) size align t u e h = cc
-lands s (pos n) size align t u e h =
-    let same : n ≡ t = cc in
-    record { target = e; above = grind (arith, nat_tests); below = grind (arith, nat_tests); aligned = grind (arith, nat_tests) }
-
 pub begun : (s s1 s2 : RangeState) (z : ℤ) (align : ℕ) (r : Region) (u : Unit {0})
     → z ≡ pos r.begin → Ok u ≡ subtree_answer s z r.size align
     → s1 ≡ s → s2 ≡ pushed s1 r.begin → (s1.depth ≡ Some 1 → ⊥) → (r.outer_start ≡ r.begin + r.size) × (r.outer_end ≡ s1.end)

@@ -25,12 +25,8 @@ use Rattle.archive_check.specs.check.LoopInvariant.{and_then, RegionIsLegalHere,
 use Rattle.archive_check.proofs.check.TurnRules.{enter_one, enter_run}
 use Rattle.archive_check.proofs.check.ContextAgrees.{allows, agrees_inside, taken_back, not_taken}
 use Rattle.archive_check.proofs.check.TurnsEnd.{level_end, falls_enter}
-
-pub lands : (s : RangeState) (z : ℤ) (size align t : ℕ) (u : Unit {0}) → z ≡ pos t → Ok u ≡ subtree_answer s z size align → Lands s z size align t
-lands s (negsuc n) size align t u e h = cc
-lands s (pos n) size align t u e h =
-    let same : n ≡ t = cc in
-    record { target = e; above = grind (arith, nat_tests); below = grind (arith, nat_tests); aligned = grind (arith, nat_tests) }
+use Rattle.archive_check.proofs.Depths.{levels_allow}
+use Rattle.archive_check.proofs.RangeLevels.{lands, last_level, levels_inside, inside_few, level_back}
 
 negative : (n t : ℕ) → negsuc n ≡ pos t → ⊥
 negative n t e = cc
@@ -54,11 +50,6 @@ astray m j n target s (pos k) size align e reg h = astray_by m j n target s k si
         (outside (pos k) size s.start s.end, grind (arith, nat_tests), λ pending seen. enter_outside reg (λ t is above below. let same : k ≡ t = pos_same k t is in grind (arith, nat_tests)))
     astray_by m j n target s k size align e reg false b d p q r h =
         (outside (pos k) size s.start s.end, grind (arith, nat_tests), λ pending seen. enter_outside reg (λ t is above below. let same : k ≡ t = pos_same k t is in grind (arith, nat_tests)))
-
--- the last level lets no region be entered
-last_level : (d : Option ℕ) → d ≡ Some 1 → Allows d 1 → ⊥
-last_level None e a = cc
-last_level (Some n) e a = let one : n ≡ 1 = cc in omega arith
 
 -- on the last level no region is entered
 pub stopped_deep : (m : Checker) (j n : ℕ) (target : PointeeKind) (s : RangeState) (z : ℤ) (size align t : ℕ) (e : Error) → RegionIs m j n (Some size) align → Lands s z size align t → s.depth ≡ Some 1 → e ≡ ExceededMaximumSubtreeDepth → Stops (region_rule m target j n z) s e
@@ -123,30 +114,6 @@ pub run_left : (target : PointeeKind) → (target ≡ One → ⊥) → target �
 run_left One one text = absurd (one refl)
 run_left Run one text = refl
 run_left Text one text = absurd (text refl)
-
-levels_allow : (d : Option ℕ) → d ≢ Some 0 → (d ≡ Some 1 → ⊥) → Allows d 1
-levels_allow None some deep = tt
-levels_allow (Some zero) some deep = absurd (some refl)
-levels_allow (Some (suc zero)) some deep = absurd (deep refl)
-levels_allow (Some (suc (suc n))) some deep = omega arith
-
-levels_inside : (d : Option ℕ) → HasLevels d → (d ≡ Some 1 → ⊥) → HasLevels (inside d)
-levels_inside None h deep = record { levels = λ e. cc; few = λ d e. cc }
-levels_inside (Some zero) h deep = absurd (h.levels refl)
-levels_inside (Some (suc zero)) h deep = absurd (deep refl)
-levels_inside (Some (suc (suc n))) h deep = record {
-  levels = λ e. let none : suc (suc n) - 1 ≡ 0 = cc in omega arith;
-  few = λ d e. let same : suc (suc n) - 1 ≡ d = cc in omega (arith, h.few (suc (suc n)) refl);
-}
-
-inside_few : (depth : Option ℕ) → HasLevels depth → (d : ℕ) → inside depth ≡ Some d → d + 1 < 18446744073709551616
-inside_few None h d e = cc
-inside_few (Some n) h d e = let same : n - 1 ≡ d = cc in let some : n ≢ 0 = (λ z. h.levels (ap Some z)) in omega (arith, h.few n refl)
-
-level_back : (d : Option ℕ) → d ≢ Some 0 → one_more (inside d) ≡ d
-level_back None some = refl
-level_back (Some zero) some = absurd (some refl)
-level_back (Some (suc n)) some = let same : suc n - 1 + 1 ≡ suc n = omega arith in ap Some same
 
 -- nothing of the range changes
 pub through_same : (R : Rule) (s : RangeState) → ((pending : List ℕ) (seen : Seen) → R pending s.depth s.end s.start seen (done s.start seen)) → Through R s s

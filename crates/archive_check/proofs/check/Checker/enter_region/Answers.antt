@@ -2,7 +2,8 @@ use Rattle.std.proofs.Common.{refl, ap, sym, ◌∙◌, Err}
 use Rattle.std.proofs.lemmas.Int.{to_z-of_z}
 use mir.Syntax.{w128}
 use Rattle.archive_check.specs.declared.format.error.Error.TheVariants.{ExceededMaximumSubtreeDepth}
-use Rattle.archive_check.proofs.check.EnteredRegions.{lands, entered, not_err, not_refused}
+use Rattle.archive_check.proofs.check.EnteredRegions.{entered, not_err, not_refused}
+use Rattle.archive_check.proofs.RangeLevels.{lands}
 use Rattle.archive_check.proofs.check.Entries.{region_is, not_counted, not_placed, not_so_deep}
 use Rattle.archive_check.proofs.check.Checker.enter_region.Goals as goal
 

@@ -7,7 +7,8 @@ use Rattle.archive_check.specs.Trail.{too_large}
 use Rattle.archive_check.specs.SelfCheck.Regions.{EntersNot, not_sized}
 use Rattle.archive_check.proofs.SelfCheck.Outcomes.{if_none}
 use Rattle.archive_check.proofs.check.EnteredRegions.{not_err, not_refused}
-use Rattle.archive_check.proofs.SelfCheck.Regions.{lands, astray, stopped_deep, begun}
+use Rattle.archive_check.proofs.RangeLevels.{lands}
+use Rattle.archive_check.proofs.SelfCheck.Regions.{astray, stopped_deep, begun}
 use Rattle.archive_check.proofs.self_check.regions.enter.Goals as goal
 
 pub returns-in_default-clause-stops : goal.returns-in_default-clause-stops

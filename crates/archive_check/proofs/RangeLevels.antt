@@ -1,0 +1,37 @@
+-- The range and the levels left once a region is entered.
+use Rattle.std.proofs.Common.{◌≡◌, ◌≢◌, ℕ, zero, suc, ℤ, pos, negsuc, refl, ap, ◌+◌, ◌-◌, ◌<◌, Option, Some, None, Ok, arith}
+use Rattle.std.proofs.lemmas.Bool.Decides.{nat_tests}
+use Rattle.archive_check.specs.Depth.{Allows, inside}
+use Rattle.archive_check.specs.Ranges.{RangeState, subtree_answer, one_more}
+use Rattle.archive_check.specs.check.Entered.{Lands}
+use Rattle.archive_check.specs.check.LoopInvariant.{HasLevels}
+
+-- where the range lets a region be entered, it lies in it
+pub lands : (s : RangeState) (z : ℤ) (size align t : ℕ) (u : Unit {0}) → z ≡ pos t → Ok u ≡ subtree_answer s z size align → Lands s z size align t
+lands s (negsuc n) size align t u e h = cc
+lands s (pos n) size align t u e h =
+    let same : n ≡ t = cc in
+    record { target = e; above = grind (arith, nat_tests); below = grind (arith, nat_tests); aligned = grind (arith, nat_tests) }
+
+-- the last level lets no region be entered
+pub last_level : (d : Option ℕ) → d ≡ Some 1 → Allows d 1 → ⊥
+last_level None e a = cc
+last_level (Some n) e a = let one : n ≡ 1 = cc in omega arith
+
+pub levels_inside : (d : Option ℕ) → HasLevels d → (d ≡ Some 1 → ⊥) → HasLevels (inside d)
+levels_inside None h deep = record { levels = λ e. cc; few = λ d e. cc }
+levels_inside (Some zero) h deep = absurd (h.levels refl)
+levels_inside (Some (suc zero)) h deep = absurd (deep refl)
+levels_inside (Some (suc (suc n))) h deep = record {
+  levels = λ e. let none : suc (suc n) - 1 ≡ 0 = cc in omega arith;
+  few = λ d e. let same : suc (suc n) - 1 ≡ d = cc in omega (arith, h.few (suc (suc n)) refl);
+}
+
+pub inside_few : (depth : Option ℕ) → HasLevels depth → (d : ℕ) → inside depth ≡ Some d → d + 1 < 18446744073709551616
+inside_few None h d e = cc
+inside_few (Some n) h d e = let same : n - 1 ≡ d = cc in let some : n ≢ 0 = (λ z. h.levels (ap Some z)) in omega (arith, h.few n refl)
+
+pub level_back : (d : Option ℕ) → d ≢ Some 0 → one_more (inside d) ≡ d
+level_back None some = refl
+level_back (Some zero) some = absurd (some refl)
+level_back (Some (suc n)) some = let same : suc n - 1 + 1 ≡ suc n = omega arith in ap Some same
