@@ -52,6 +52,10 @@ pub record Knows (s : Schema) (D : Definitions) : Type 0 where
 pub record HasLayout (D : Definitions) (X : Shape) (L : Layout) : Type 0 where
   pub solved : (s : Schema) → Knows s D → layout s.layouts X ≡ L
 
+-- some layouts are those of a table's definitions
+abbrev pub HasLayouts : Table → Type 0
+HasLayouts table = ∥ ((t : Schema) × (t.table ≡ table) × LaidOut t) ∥₁
+
 -- a power of two, at most 32
 abbrev pub IsAlign : ℕ → Type 0
 IsAlign a = (a ≡ 1) ⊎ (a ≡ 2) ⊎ (a ≡ 4) ⊎ (a ≡ 8) ⊎ (a ≡ 16) ⊎ (a ≡ 32)

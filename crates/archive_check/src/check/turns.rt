@@ -5,6 +5,7 @@ ghost use Rattle.archive_check.specs.declared.check.worklist.Work.TheVariants.{P
 ghost use Rattle.archive_check.specs.check.Lists.{list_of};
 ghost use Rattle.archive_check.specs.check.Runs.{pointer_bytes};
 ghost use Rattle.archive_check.specs.check.LoopInvariant.{Ready};
+ghost use Rattle.archive_check.specs.FreshContexts.{KeepsLevels};
 ghost use Rattle.archive_check.specs.Pushes.{FewPushed};
 ghost use Rattle.archive_check.specs.plan.PackedPlans.{size_at};
 ghost use Rattle.archive_check.specs.check.Paid.{Pays, bytes_of, bytes_of_parts};
@@ -189,6 +190,7 @@ impl Checker<'_> {
         requires none_left { list_of work.old ≡ [] }
         ensures ok { OnSome result (RootPasses self.now root at (C.state context.old) (C.positions context.old)) }
         ensures err { IfNone result (RootStops self.now root at (C.state context.old) (C.positions context.old) work.new.fault) }
+        ensures levels { OnSome result (KeepsLevels (C.state context.old) (C.state context.new)) }
         ensures few_subtrees { FewPushed (C.state context.old) (C.state context.new) }
     {
         self.enter_here(PointeeKind::One, root, 1, at as i128, work, context)?;

@@ -66,6 +66,8 @@ impl<T: Portable> Access<T> {
         requires { (C.state context.old).end ≤ length bytes.now }
         ensures answer { IsWhole (C.state context.old) (C.positions context.old) bytes.now
             → Answers T.definitions bytes.now (C.state context.old).depth pos T.shape result }
+        ensures of_check { IfErr result (λ e. HasLevels (C.state context.old).depth → IsOfCheck e) }
+        ensures levels { OnOk result (KeepsLevels (C.state context.old) (C.state context.new)) }
         ensures few_subtrees { FewPushed (C.state context.old) (C.state context.new) }
     {
         prove!(bytes.len() <= usize::MAX);
