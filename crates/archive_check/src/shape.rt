@@ -104,9 +104,13 @@ impl Schema {
         context: &mut C,
     ) -> Result<(), Error>
         requires { (C.state context.old).end ≤ length bytes.now }
-        ensures ok { OnOk result (IsWhole (C.state context.old) (C.positions context.old) bytes.now → Accepts self.now bytes.now (C.state context.old).depth pos) }
-        ensures err { IfErr result (λ e. (e ≡ OutOfMemory) ⊎ (IsWhole (C.state context.old) (C.positions context.old) bytes.now → Refuses self.now bytes.now (C.state context.old).depth pos e)) }
-        ensures exact { IsWhole (C.state context.old) (C.positions context.old) bytes.now → IsExact self.now bytes.now (C.state context.old).depth pos result }
+        ensures ok { OnOk result (IsWhole (C.state context.old) (C.positions context.old) bytes.now
+            → Accepts self.now bytes.now (C.state context.old).depth pos) }
+        ensures err { IfErr result (λ e. (e ≡ OutOfMemory)
+            ⊎ (IsWhole (C.state context.old) (C.positions context.old) bytes.now
+            → Refuses self.now bytes.now (C.state context.old).depth pos e)) }
+        ensures exact { IsWhole (C.state context.old) (C.positions context.old) bytes.now
+            → IsExact self.now bytes.now (C.state context.old).depth pos result }
         ensures of_check { IfErr result (λ e. HasLevels (C.state context.old).depth → IsOfCheck e) }
         ensures levels { OnOk result (KeepsLevels (C.state context.old) (C.state context.new)) }
         ensures few_subtrees { FewPushed (C.state context.old) (C.state context.new) }

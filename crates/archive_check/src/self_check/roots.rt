@@ -24,10 +24,16 @@ pub fn check_root<T: Portable, C: ArchiveContext>(
     context: &mut C,
 ) -> Result<(), Error>
     requires { (C.state context.old).end ≤ length bytes.now }
-    ensures accepted { IsTrue T.Check.direct → OnOk result (IsWhole (C.state context.old) (C.positions context.old) bytes.now → IsArchiveWithin T.definitions bytes.now (C.state context.old).depth pos T.shape) }
+    ensures accepted { IsTrue T.Check.direct
+        → OnOk result (IsWhole (C.state context.old) (C.positions context.old) bytes.now
+        → IsArchiveWithin T.definitions bytes.now (C.state context.old).depth pos T.shape) }
     ensures meaning { IsTrue T.Check.direct → WellFormed (listed T.definitions) T.shape }
-    ensures refused { IsTrue T.Check.direct → IfErr result (λ e. IsWhole (C.state context.old) (C.positions context.old) bytes.now → IsRefusal T.definitions bytes.now (C.state context.old).depth pos T.shape e) }
-    ensures exact { IsTrue T.Check.direct → IfErr result (λ e. IsWhole (C.state context.old) (C.positions context.old) bytes.now → ExplainsNoArchive T.definitions bytes.now (C.state context.old).depth pos T.shape e) }
+    ensures refused { IsTrue T.Check.direct
+        → IfErr result (λ e. IsWhole (C.state context.old) (C.positions context.old) bytes.now
+        → IsRefusal T.definitions bytes.now (C.state context.old).depth pos T.shape e) }
+    ensures exact { IsTrue T.Check.direct
+        → IfErr result (λ e. IsWhole (C.state context.old) (C.positions context.old) bytes.now
+        → ExplainsNoArchive T.definitions bytes.now (C.state context.old).depth pos T.shape e) }
     ensures of_check { IsTrue T.Check.direct → IfErr result (λ e. HasLevels (C.state context.old).depth → IsOfCheck e) }
     ensures levels { OnOk result (KeepsLevels (C.state context.old) (C.state context.new)) }
     ensures few_subtrees { FewPushed (C.state context.old) (C.state context.new) }
