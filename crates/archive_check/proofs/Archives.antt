@@ -12,7 +12,7 @@ use Rattle.archive_check.specs.Value.{Value, number}
 use Rattle.archive_check.specs.Reads.{Schema, LaidOut}
 use Rattle.archive_check.specs.Depth.{AcceptedWithin}
 use Rattle.archive_check.specs.Defined.{Reaches, reaches, reaches_through, HeldIn, held, held_through, mentions_held, WellFormed}
-use Rattle.archive_check.specs.Definitions.{Definitions, no_definition, defines, both, listed, NoOthers, Has, Knows}
+use Rattle.archive_check.specs.Definitions.{Definitions, no_definition, defines, both, listed, NoOthers, Has, Knows, HasLayouts}
 use Rattle.archive_check.specs.Trail.{RootTrips}
 use Rattle.archive_check.specs.Ranges.{RangeState, whole}
 use Rattle.archive_check.specs.PositionStates.{Positions, nothing_met}
@@ -25,6 +25,7 @@ use Rattle.archive_check.specs.Pooled.{Entries}
 use Rattle.archive_check.specs.Entries.{NoEntries, AreNamedByPosition, AreShared, AreRight, IsCyclic, ReadsBack}
 use Rattle.archive_check.specs.Viewed.{Viewed, Says}
 use Rattle.archive_check.specs.Archives.{IsArchiveWithin, IsArchive, IsValueOf, ReadsWhole, Answers, IsFaulty, IsRefusal, ExplainsNoArchive}
+use Rattle.archive_check.specs.plan.Names.{Prepared}
 use Rattle.archive_check.proofs.Rounds.{rounds}
 use Rattle.archive_check.proofs.AcceptedWalks.{walks}
 use Rattle.archive_check.proofs.FaultyNotWalked.{root_no_walk}
@@ -100,6 +101,13 @@ module _ (D : Definitions) (X : Shape) (well : WellFormed (listed D) X) (no_othe
     }),
   )
 
+-- the definitions that a type's schema keeps have layouts
+pub prepared_laid_out : (D : Definitions) (X : Shape) (table : Table) → NoOthers D X → Prepared D X table → HasLayouts table
+prepared_laid_out D X table no_others p =
+    let (s, k) = some_knows D X p.well_formed no_others in
+    let each : (name : Name) (Y : Shape) → definition table name ≡ Some Y → definition s.table name ≡ Some Y = λ name Y e. has_each s D k.has name Y (found_stands (listed D) name Y (p.known name Y e)) in
+    ∣ (record { table = table; layouts = s.layouts }, refl, record { solves = λ name Y e. k.laid_out.solves name Y (each name Y e); aligned = k.laid_out.aligned }) ∣₁
+
 -- a context of a whole buffer that met nothing
 pub is_whole : (s : RangeState) (met : Positions) (bytes : List ℕ) (depth : Option ℕ) → depth ≢ Some 0 → ((d : ℕ) → depth ≡ Some d → d < 18446744073709551616) → s ≡ whole (length bytes) depth → met ≡ nothing_met → IsWhole s met bytes
 is_whole s met bytes depth levels few e f = rw (e, f) (record { fresh = record { nothing = λ p. refl; levels = levels; few = few }; start = refl; end = refl })
@@ -110,15 +118,15 @@ module _ (r : RustSchema) (D : Definitions) (X : Shape) (bytes : List ℕ) (limi
   accepts_archive no_others h = record {
     well_formed = made.well_formed;
     known = ∣ some_knows D X made.well_formed no_others ∣₁;
-    accepted = λ s k. subst (λ Z. ∥ AcceptedWithin s bytes limit pos Z ∥₁) made.root (h s (knows_suits r X D s made k));
+    accepted = λ s k. subst (λ Z. ∥ AcceptedWithin s bytes limit pos Z ∥₁) made.root (h.accepted s (knows_suits r X D s made k));
   }
 
   pub refuses_faulty : (e : Error) → Refuses r bytes limit pos e → IsFaulty D bytes limit pos X e
-  refuses_faulty e (fault, said, h) = record {
+  refuses_faulty e h = record {
     well_formed = made.well_formed;
-    fault = fault;
-    said = said;
-    trips = λ s k. subst (λ Z. ∥ RootTrips s bytes limit pos Z fault ∥₁) made.root (h s (knows_suits r X D s made k));
+    fault = h.fault;
+    said = h.said;
+    trips = λ s k. subst (λ Z. ∥ RootTrips s bytes limit pos Z h.fault ∥₁) made.root (h.trips s (knows_suits r X D s made k));
   }
 
   pub refuses : (e : Error) → (e ≡ OutOfMemory) ⊎ Refuses r bytes limit pos e → IsRefusal D bytes limit pos X e

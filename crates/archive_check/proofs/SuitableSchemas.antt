@@ -11,10 +11,11 @@ use Rattle.archive_check.specs.Reads.{Schema, LaidOut}
 use Rattle.archive_check.specs.Depth.{AcceptedWithin}
 use Rattle.archive_check.specs.Trail.{Fault, RootTrips}
 use Rattle.archive_check.specs.Defined.{Reaches}
+use Rattle.archive_check.specs.Definitions.{HasLayouts}
 use Rattle.archive_check.specs.plan.Names.{HasAll}
 use Rattle.archive_check.specs.check.PlanChecks.{PlanOf, PlanAccepts, PlanRefuses, PlanIsExact}
 use Rattle.archive_check.specs.plan.Planned.{IsOf, IsPlan}
-use Rattle.archive_check.specs.Schemas.{root_of, table_in, Suits, Accepts, Refuses, IsExact}
+use Rattle.archive_check.specs.Schemas.{root_of, table_in, Suits, IsSuited, Accepts, Refuses, IsExact}
 use Rattle.archive_check.specs.plan.SoundPlans.{IsSound}
 use Rattle.archive_check.proofs.plan.SoundPlans.{sound_again}
 use Rattle.archive_check.proofs.WellFormed.{reached_within}
@@ -43,14 +44,25 @@ module _ (s : RustSchema) (all : HasAll (table_in s) (root_of s)) (t : Schema) (
     pub faults_own : (limit : Option ℕ) (root : ℕ) (fault : Fault) → RootTrips (of_own s t) m.bytes.now limit root (root_of s) fault → RootTrips t m.bytes.now limit root (root_of s) fault
     faults_own limit root fault = (same_faults (of_own s t) t (root_of s) same_names m.bytes.now limit root fault).0
 
+-- something suits a schema whose definitions have layouts
+pub suited : (s : RustSchema) → HasLayouts (table_in s) → IsSuited s
+suited s laid = ∥∥₁_map laid (λ (t, same, out). (t, record { has = λ name Y e. rw same e; laid_out = out }))
+
 -- what a check over the plan says, said of the schema
-module _ (s : RustSchema) (all : HasAll (table_in s) (root_of s)) (m : Checker) (is : IsOf m s.plan) (plan : ∥ IsPlan s.definitions.items (root_of s) s.plan s.node ∥₁) (limit : Option ℕ) (root : ℕ) where
+module _ (s : RustSchema) (laid : HasLayouts (table_in s)) (all : HasAll (table_in s) (root_of s)) (m : Checker) (is : IsOf m s.plan) (plan : ∥ IsPlan s.definitions.items (root_of s) s.plan s.node ∥₁) (limit : Option ℕ) (root : ℕ) where
   pub plan_accepts : PlanAccepts m s.node limit root → Accepts s m.bytes.now limit root
-  plan_accepts h t suits = ∥∥₁_map plan (λ p. (accepted_own s all t suits m is p limit root).0 (h (of_own s t) (root_of s) (own_plan s all t suits m is p)))
+  plan_accepts h = record {
+    suited = suited s laid;
+    accepted = λ t suits. ∥∥₁_map plan (λ p. (accepted_own s all t suits m is p limit root).0 (h (of_own s t) (root_of s) (own_plan s all t suits m is p)));
+  }
 
   pub plan_refuses : (error : Error) → PlanRefuses m s.node limit root error → Refuses s m.bytes.now limit root error
-  plan_refuses error (fault, said, h) =
-      (fault, said, λ t suits. ∥∥₁_map plan (λ p. faults_own s all t suits m is p limit root fault (h (of_own s t) (root_of s) (own_plan s all t suits m is p))))
+  plan_refuses error (fault, said, h) = record {
+    suited = suited s laid;
+    fault = fault;
+    said = said;
+    trips = λ t suits. ∥∥₁_map plan (λ p. faults_own s all t suits m is p limit root fault (h (of_own s t) (root_of s) (own_plan s all t suits m is p)));
+  }
 
   module _ (answer : Result (Unit {0}) Error) where
     pub plan_exact : PlanIsExact m s.node limit root answer → IsExact s m.bytes.now limit root answer

@@ -6,6 +6,7 @@ pub mod Entries
 pub mod FollowedPointers
 pub mod LegalElements
 pub mod LegalParts
+pub mod OrderlyContexts
 pub mod Paid
 pub mod RootLoop
 pub mod RootRuns

@@ -16,7 +16,8 @@ use Rattle.archive_check.specs.Definitions.{Definitions, listed, Knows}
 use Rattle.archive_check.specs.Pooled.{Entries}
 use Rattle.archive_check.specs.Schemas.{ExplainsNoSchema}
 use Rattle.archive_check.specs.Trail.{Fault, RootTrips}
-use Rattle.archive_check.specs.Faults.{IsFor}
+use Rattle.archive_check.specs.Faults.{IsFor, IsOfCheck}
+use Rattle.archive_check.specs.FreshContexts.{HasLevels}
 
 -- The definitions give X a meaning, some schema knows them, and under each that does the buffer is an archive of an X at root, with no region too
 -- deep.
@@ -55,6 +56,10 @@ pub record IsFaulty (D : Definitions) (bytes : List ℕ) (limit : Option ℕ) (r
 -- why a buffer is refused: memory was refused, the definitions give X no meaning, or the bytes have this fault
 abbrev pub IsRefusal : Definitions → List ℕ → Option ℕ → ℕ → Shape → Error → Type 0
 IsRefusal D bytes limit root X error = ExplainsNoSchema X D error ⊎ IsFaulty D bytes limit root X error
+
+-- why a check is refused in whatever context that has levels: the definitions give X no meaning, or it is what a check can answer
+abbrev pub IsAnswerable : Shape → Definitions → Option ℕ → Error → Type 0
+IsAnswerable X D depth error = HasLevels depth → IsOfCheck error ⊎ ExplainsNoSchema X D error
 
 -- memory was refused, or the buffer is no archive
 abbrev pub ExplainsNoArchive : Definitions → List ℕ → Option ℕ → ℕ → Shape → Error → Type 0

@@ -1,6 +1,8 @@
 -- The definitions that a type brings with it, and its layout wherever they hold.
 use Rattle.std.specs.Prelude.{◌≡◌, ◌≢◌, ◌⊎◌, ℕ, [], ◌∷◌, ◌++◌, Some, Contains}
-use Rattle.archive_check.specs.Shape.{Name, Shape, Table, definition}
+use Rattle.archive_check.specs.declared.format.error.Error.{Error}
+use Rattle.archive_check.specs.declared.format.error.Error.TheVariants.{OutOfMemory, ShapeConflict}
+use Rattle.archive_check.specs.Shape.{Name, Shape, parts, choice, Parts, Variants, Table, definition}
 use Rattle.archive_check.specs.Layout.{Layout, layout}
 use Rattle.archive_check.specs.Defined.{HeldIn, Involves}
 use Rattle.archive_check.specs.Reads.{Schema, LaidOut}
@@ -35,6 +37,17 @@ pub record Conflicts (old : Table) (D : Definitions) : Type 0 where
   pub there : (definition old name ≡ Some other) ⊎ Contains (listed D) (name, other)
   pub differ : shape ≢ other
 
+-- why definitions aren't added to a table: memory was refused, or they conflict
+abbrev pub ExplainsConflict : Table → Definitions → Error → Type 0
+ExplainsConflict old D e = (e ≡ OutOfMemory) ⊎ ((e ≡ ShapeConflict) × Conflicts old D)
+
+-- the definition of a record under a name, and those that its parts bring; likewise of a choice
+abbrev pub named_record : Name → Parts → Definitions → Definitions
+named_record name ps D = both (defines name (parts ps)) D
+
+abbrev pub named_choice : Name → Variants → Definitions → Definitions
+named_choice name vs D = both (defines name (choice name vs)) D
+
 -- the schema has each of them
 abbrev pub Has : Schema → Definitions → Type 0
 Has s no_definition = Unit {0}
@@ -51,6 +64,10 @@ pub record Knows (s : Schema) (D : Definitions) : Type 0 where
 -- under each schema that knows D, X has this layout
 pub record HasLayout (D : Definitions) (X : Shape) (L : Layout) : Type 0 where
   pub solved : (s : Schema) → Knows s D → layout s.layouts X ≡ L
+
+-- some layouts are those of a table's definitions
+abbrev pub HasLayouts : Table → Type 0
+HasLayouts table = ∥ ((t : Schema) × (t.table ≡ table) × LaidOut t) ∥₁
 
 -- a power of two, at most 32
 abbrev pub IsAlign : ℕ → Type 0

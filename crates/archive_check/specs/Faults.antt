@@ -1,5 +1,5 @@
 -- The refusal that says a fault.
-use Rattle.std.specs.Prelude.{◌≡◌, ℕ, pos, List}
+use Rattle.std.specs.Prelude.{◌≡◌, ◌⊎◌, ℕ, pos, List}
 use Rattle.std.specs.Borrow.{Bor}
 use Rattle.archive_check.specs.declared.format.error.Error.{Error}
 use Rattle.archive_check.specs.declared.format.error.Error.TheVariants.{OutOfMemory, InvalidSubtreePointer, UnalignedPointer, ExceededMaximumSubtreeDepth, CyclicValidate, TypeMismatch, MetadataMismatch, LayoutTooLarge, InvalidDiscriminant, InvalidBool, InvalidChar, ZeroNumber, InvalidUtf8, InvalidStringRepr}
@@ -28,3 +28,7 @@ IsFor (illegal kind) e = e ≡ illegal_error kind
 IsFor (no_such_variant name tag) e = (b : Bor (List ℕ)) × (e ≡ InvalidDiscriminant b tag) × (b.now ≡ name)
 IsFor no_text e = e ≡ InvalidUtf8
 IsFor no_string e = e ≡ InvalidStringRepr
+
+-- a refusal that a check can answer, in whatever context: memory was refused, or a fault is said
+abbrev pub IsOfCheck : Error → Type 0
+IsOfCheck e = (e ≡ OutOfMemory) ⊎ ((fault : Fault) × IsFor fault e)

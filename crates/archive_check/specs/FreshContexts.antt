@@ -1,7 +1,16 @@
 -- A context that a check begins with.
-use Rattle.std.specs.Prelude.{◌≡◌, ◌≢◌, ◌<◌, ℕ, ℤ, List, length, Some, None}
+use Rattle.std.specs.Prelude.{◌≡◌, ◌≢◌, ◌<◌, ℕ, ℤ, List, length, Option, Some, None}
 use Rattle.archive_check.specs.Ranges.{RangeState}
 use Rattle.archive_check.specs.PositionStates.{Positions}
+
+-- levels are left, and no more than a number holds
+pub record HasLevels (depth : Option ℕ) : Type 0 where
+  pub levels : depth ≢ Some 0
+  pub few : (d : ℕ) → depth ≡ Some d → d < 18446744073709551616
+
+-- levels are left behind a call where they were before it
+abbrev pub KeepsLevels : RangeState → RangeState → Type 0
+KeepsLevels s s' = HasLevels s.depth → HasLevels s'.depth
 
 -- nothing was met yet, and levels are left
 pub record IsFresh (s : RangeState) (met : Positions) : Type 0 where

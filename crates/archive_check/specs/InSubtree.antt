@@ -18,7 +18,7 @@ module _ {C : Type 0} (state : C → RangeState) (positions : C → Positions) w
       (inner : MutBor C) (root : ℕ) → subtree_answer (state old) position size align ≡ Ok tt → position ≡ pos root → IsInState inner.now (pushed (state old) root) old → May inner
 
   -- `InSubtree Call Gives old position size align result new`: what is answered and left where the call answers and leaves as `Call` says, and
-  -- a refusal of the context gives one of the call's as `Gives` says
+  -- a refusal of the context gives one of the call's as `Gives` says. With one level left nothing is called.
   pub data InSubtree {R E : Type 0} (Call : C → Result R E → C → Type 0) (Gives : Error → E → Type 0) (old : C) (position : ℤ) (size align : ℕ) : Result R E → C → Type 0 where
     check_refused : {new : C} {e : Error} {given : E}
         → subtree_answer (state old) position size align ≡ Err e
@@ -33,12 +33,14 @@ module _ {C : Type 0} (state : C → RangeState) (positions : C → Positions) w
         → InSubtree Call Gives old position size align (Err given) new
     call_refused : {inner new : C} {root : ℕ} {given : E}
         → subtree_answer (state old) position size align ≡ Ok tt
+        → ((state old).depth ≡ Some 1 → ⊥)
         → position ≡ pos root
         → IsInState inner (pushed (state old) root) old
         → Call inner (Err given) new
         → InSubtree Call Gives old position size align (Err given) new
     pop_refused : {inner after new : C} {root : ℕ} {r : R} {e : Error} {given : E}
         → subtree_answer (state old) position size align ≡ Ok tt
+        → ((state old).depth ≡ Some 1 → ⊥)
         → position ≡ pos root
         → IsInState inner (pushed (state old) root) old
         → Call inner (Ok r) after
@@ -48,6 +50,7 @@ module _ {C : Type 0} (state : C → RangeState) (positions : C → Positions) w
         → InSubtree Call Gives old position size align (Err given) new
     entered_and_left : {inner after new : C} {root : ℕ} {r : R}
         → subtree_answer (state old) position size align ≡ Ok tt
+        → ((state old).depth ≡ Some 1 → ⊥)
         → position ≡ pos root
         → IsInState inner (pushed (state old) root) old
         → Call inner (Ok r) after

@@ -1,17 +1,24 @@
 -- The calls on the shared positions of a check, as functions of what was met.
 use Rattle.std.specs.Ordering.{int_eq}
-use Rattle.std.specs.Prelude.{◌≡◌, ◌≢◌, ℤ, Bool, true, false, Option, Some, None, option_map, cond, Result, Ok, Err}
+use Rattle.std.specs.Prelude.{◌≡◌, ◌≢◌, ℕ, ℤ, Bool, true, false, Option, Some, None, option_map, cond, Result, Ok, Err}
 use Rattle.std.specs.Map.{update}
 use Rattle.archive_check.specs.declared.format.error.Error.{Error}
 use Rattle.archive_check.specs.declared.format.error.Error.TheVariants.{OutOfMemory, NotStarted, AlreadyFinished, TypeMismatch, MetadataMismatch}
+use Rattle.archive_check.specs.declared.format.expr.FlavorInfo.{FlavorInfo}
+use Rattle.archive_check.specs.declared.format.expr.Pointee.{Pointee as PointeeExpr}
 use Rattle.archive_check.specs.declared.context.ValidationState.{ValidationState}
 use Rattle.archive_check.specs.declared.context.ValidationState.TheVariants.{Started, Pending, Finished}
+use Rattle.archive_check.specs.Expressions.{flavor_of, pointee_of}
 use Rattle.archive_check.specs.Tour.{Entry}
 
 -- how a position was first met, and whether what lies there is checked to its end
 pub record PositionState : Type 0 where
   pub entry : Entry
   pub finished : Bool
+
+-- how a position is met now
+abbrev pub entry_as : FlavorInfo → PointeeExpr → ℕ → Entry
+entry_as flavor pointee length = record { flavor = flavor_of flavor; pointee = pointee_of pointee; length = length }
 
 -- what was met at each position
 abbrev pub Positions : Type 0

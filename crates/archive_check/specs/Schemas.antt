@@ -28,13 +28,21 @@ pub record Suits (s : RustSchema) (t : Schema) : Type 0 where
   pub has : (name : Name) (Y : Shape) → definition (table_in s) name ≡ Some Y → definition t.table name ≡ Some Y
   pub laid_out : LaidOut t
 
--- whatever suits the schema, the buffer is an archive of its root, with no region too deep
-abbrev pub Accepts : RustSchema → List ℕ → Option ℕ → ℕ → Type 0
-Accepts s bytes limit root = (t : Schema) → Suits s t → ∥ AcceptedWithin t bytes limit root (root_of s) ∥₁
+-- some do
+abbrev pub IsSuited : RustSchema → Type 0
+IsSuited s = ∥ ((t : Schema) × Suits s t) ∥₁
 
--- whatever suits the schema, a check of its root comes to the fault that the refusal says
-abbrev pub Refuses : RustSchema → List ℕ → Option ℕ → ℕ → Error → Type 0
-Refuses s bytes limit root error = (fault : Fault) × IsFor fault error × ((t : Schema) → Suits s t → ∥ RootTrips t bytes limit root (root_of s) fault ∥₁)
+-- whatever suits the schema, and something does, the buffer is an archive of its root, with no region too deep
+pub record Accepts (s : RustSchema) (bytes : List ℕ) (limit : Option ℕ) (root : ℕ) : Type 0 where
+  pub suited : IsSuited s
+  pub accepted : (t : Schema) → Suits s t → ∥ AcceptedWithin t bytes limit root (root_of s) ∥₁
+
+-- whatever suits the schema, and something does, a check of its root comes to the fault that the refusal says
+pub record Refuses (s : RustSchema) (bytes : List ℕ) (limit : Option ℕ) (root : ℕ) (error : Error) : Type 0 where
+  pub suited : IsSuited s
+  pub fault : Fault
+  pub said : IsFor fault error
+  pub trips : (t : Schema) → Suits s t → ∥ RootTrips t bytes limit root (root_of s) fault ∥₁
 
 -- the answer is Ok exactly where the buffer is an archive with no region too deep, unless memory ran out
 abbrev pub IsExact : RustSchema → List ℕ → Option ℕ → ℕ → Result (Unit {0}) Error → Type 0
@@ -51,14 +59,16 @@ pub record IsSchemaOf (s : RustSchema) (X : Shape) (D : Definitions) : Type 0 wh
 abbrev pub HasHeld : RustSchema → Shape → Type 0
 HasHeld s X = (name : Name) → Holds name X → IsSome (definition (table_in s) name)
 
--- this is the layout of X, whatever suits the schema
+-- this is the layout of X, whatever suits the schema, and something does
 pub record IsLayoutOf (s : RustSchema) (X : Shape) (l : RustLayout) : Type 0 where
+  pub suited : IsSuited s
   pub size : (t : Schema) → Suits s t → l.size ≡ size_of t.layouts X
   pub align : (t : Schema) → Suits s t → l.align ≡ align_of t.layouts X
 
--- X takes more than usize::MAX, whatever suits the schema
-abbrev pub IsTooLarge : RustSchema → Shape → Type 0
-IsTooLarge s X = (t : Schema) → Suits s t → 2 ^ 64 ≤ size_of t.layouts X
+-- X takes more than usize::MAX, whatever suits the schema, and something does
+pub record IsTooLarge (s : RustSchema) (X : Shape) : Type 0 where
+  pub suited : IsSuited s
+  pub size : (t : Schema) → Suits s t → 2 ^ 64 ≤ size_of t.layouts X
 
 -- Why a shape has no schema: a name that it reaches has none or two definitions, or else one holds itself.
 abbrev pub ExplainsNoSchema : Shape → Definitions → Error → Type 0

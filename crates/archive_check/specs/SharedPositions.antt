@@ -1,5 +1,5 @@
 -- The shared positions that a validator keeps, as a check speaks of them.
-use Rattle.std.specs.Prelude.{◌≡◌, ℕ, ℤ, List, ◌++◌, length, ◌<◌, Option, Some, None, option_map, slice_get}
+use Rattle.std.specs.Prelude.{◌≡◌, ◌⊎◌, ℕ, ℤ, List, ◌++◌, length, ◌<◌, Option, Some, None, option_map, slice_get}
 use Rattle.std.specs.Option.{ForSome}
 use Rattle.archive_check.specs.declared.plan.SharedType.{SharedType}
 use Rattle.archive_check.specs.declared.context.positions.SharedPosition.{SharedPosition}
@@ -26,6 +26,10 @@ positions_in shared_types kept position = met_in shared_types (kept position)
 abbrev pub AreKnown : List SharedType → (ℤ → Option SharedPosition) → Type 0
 AreKnown shared_types kept = (position : ℤ) → ForSome (kept position) (λ k. k.shared_type < length shared_types)
 
+-- a type is this one
+abbrev pub IsType : SharedType → Flavor → Pointee → Type 0
+IsType shared_type flavor pointee = (flavor_of shared_type.flavor ≡ flavor) × (pointee_of shared_type.pointee ≡ pointee)
+
 -- the type at a place of a list
 pub record HasType (shared_types : List SharedType) (place : ℕ) (flavor : Flavor) (pointee : Pointee) : Type 0 where
   pub shared_type : SharedType
@@ -36,6 +40,10 @@ pub record HasType (shared_types : List SharedType) (place : ℕ) (flavor : Flav
 -- no place of a list has the type
 abbrev pub IsAbsent : List SharedType → Flavor → Pointee → Type 0
 IsAbsent shared_types flavor pointee = (place : ℕ) → HasType shared_types place flavor pointee → ⊥
+
+-- a list stays, or it didn't have the type
+abbrev pub IsAddedOnce : List SharedType → List SharedType → Flavor → Pointee → Type 0
+IsAddedOnce old new flavor pointee = (new ≡ old) ⊎ IsAbsent old flavor pointee
 
 -- a list with more types at its end
 pub record IsGrown (old new : List SharedType) : Type 0 where

@@ -118,7 +118,8 @@ impl Checker<'_> {
         requires fits { PartsFit self.now first last base }
         ensures below { result ≤ last }
         ensures above { result < last → first ≤ result }
-        ensures opened { (x : Part) → result < last → IsAt self.now.parts.now result x → ¬ LiesLegal self.now x.node (base + x.offset) }
+        ensures opened { (x : Part) → result < last → IsAt self.now.parts.now result x
+            → ¬ LiesLegal self.now x.node (base + x.offset) }
         ensures skipped { (k : ℕ) → first ≤ k → k < result → PartIsLegalHere self.now base k }
     {
         for index in first..last {

@@ -1,8 +1,7 @@
 //! What a check keeps: the range that regions may lie in, and the shared positions that it came to.
 
 ghost use Rattle.std.specs.Prelude.{◌≡◌, ◌<◌, ◌≤◌, ◌↔◌, OnOk, OnErr, IfOk, IfErr, IsErrOf, Some};
-ghost use Rattle.archive_check.specs.Expressions.{flavor_of, pointee_of};
-ghost use Rattle.archive_check.specs.PositionStates.{Positions, IsStartAnswer, started, finish_answer, finished};
+ghost use Rattle.archive_check.specs.PositionStates.{Positions, IsStartAnswer, started, finish_answer, finished, entry_as};
 ghost use Rattle.archive_check.specs.Ranges.{RangeState, subtree_answer, pushed, pop_answer, popped};
 
 pub mod positions;
@@ -84,8 +83,9 @@ pub trait SharedContext: Context {
         position: i128,
         length: usize,
     ) -> Result<ValidationState, Error>
-        ensures answer { IsStartAnswer (Self.positions self.old position) (record { flavor = flavor_of flavor.now; pointee = pointee_of pointee.now; length = length }) result }
-        ensures started { OnOk result (Self.positions self.new ≡ started (Self.positions self.old) position (record { flavor = flavor_of flavor.now; pointee = pointee_of pointee.now; length = length })) }
+        ensures answer { IsStartAnswer (Self.positions self.old position) (entry_as flavor.now pointee.now length) result }
+        ensures started { OnOk result (Self.positions self.new
+            ≡ started (Self.positions self.old) position (entry_as flavor.now pointee.now length)) }
         ensures unchanged { OnErr result (Self.positions self.new ≡ Self.positions self.old) }
         ensures range { Self.state self.new ≡ Self.state self.old };
 

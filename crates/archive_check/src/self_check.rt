@@ -59,8 +59,10 @@ pub trait SelfCheck {
     ) -> Option<()>
         requires fits { at + span ≤ length bytes.now }
         requires below { (C.state context.old).end ≤ length bytes.now }
-        ensures through { OnSome result (Goes definitions (shape_way bytes.now at shape) (C.state context.old) (C.state context.new)) }
-        ensures stops { IsTrue direct → IfNone result (Halts definitions (shape_way bytes.now at shape) (C.state context.old) refusal.new) }
+        ensures through { OnSome result
+            (Goes definitions (shape_way bytes.now at shape) (C.state context.old) (C.state context.new)) }
+        ensures stops { IsTrue direct → IfNone result
+            (Halts definitions (shape_way bytes.now at shape) (C.state context.old) refusal.new) }
         ensures spends { Spends span (C.state context.old) (C.state context.new) }
         ensures positions { OnSome result (C.positions context.new ≡ C.positions context.old) };
 }

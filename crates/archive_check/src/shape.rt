@@ -1,6 +1,7 @@
 //! Schemas: an expression with the definitions of its names, compiled to a plan once, and the check of bytes against it.
 
 ghost use Rattle.std.specs.Prelude.{◌≡◌, length};
+ghost use Rattle.archive_check.specs.Definitions.{HasLayouts};
 ghost use Rattle.archive_check.specs.Expressions.{shape_of, entries_of};
 ghost use Rattle.archive_check.specs.plan.Shallow.{AreShallow};
 ghost use Rattle.archive_check.specs.plan.PackedPlans.{ArePacked};
@@ -32,6 +33,7 @@ pub struct Schema {
     names: Vec<NamedNode>,
     shallow: Vec<bool>,
     ghost complete: { HasAll (entries_of definitions.items) (shape_of root) },
+    ghost laid_out: { HasLayouts (entries_of definitions.items) },
     ghost planned: { ∥ IsPlan definitions.items (shape_of root) plan node ∥₁ },
     ghost named: { ∥ HasNames definitions.items names.items plan ∥₁ },
     ghost sound: { AreShallow plan.nodes.items plan.parts.items plan.variants.items shallow.items },
@@ -42,7 +44,8 @@ pub struct Schema {
 impl Schema {
     ghost use Rattle.std.specs.Prelude.{◌≡◌, ◌⊎◌, ◌≤◌, length, OnOk, IfOk, IfErr};
     ghost use Rattle.archive_check.specs.declared.format.error.Error.TheVariants.{OutOfMemory, LayoutTooLarge};
-    ghost use Rattle.archive_check.specs.FreshContexts.{IsWhole};
+    ghost use Rattle.archive_check.specs.Faults.{IsOfCheck};
+    ghost use Rattle.archive_check.specs.FreshContexts.{HasLevels, KeepsLevels, IsWhole};
     ghost use Rattle.archive_check.specs.Pushes.{FewPushed};
     ghost use Rattle.archive_check.specs.Schemas.{Accepts, Refuses, IsExact, IsSchemaOf, HasHeld, ExplainsNoSchema, IsLayoutOf, IsTooLarge};
     ghost use Rattle.archive_check.specs.Expressions.{shape_of};
@@ -91,8 +94,9 @@ impl Schema {
     /// Asks that the context's range ends in the buffer. In a context for these bytes that met nothing yet the answer is exact: Ok where the buffer
     /// is an archive with its root there and with no region too deep, and else the refusal of the first test that is false, with its fields
     /// (12, 16 to 18 and 21 to 29 of docs/FORMAT.md). Refused with `OutOfMemory`, 1, where memory is refused for the list of what is left to check
-    /// or for a shared position. Accepted or refused, in any context, it enters at most one region, and one for each four bytes of the context's range:
-    /// 1 + n / 4 in n bytes. What else a context is left with isn't said: make a new one for the next check.
+    /// or for a shared position. In any context with levels left a refusal is one of these (1, 12, 16 to 18, 21 to 29), and after a success levels are
+    /// left. Accepted or refused, in any context, it enters at most one region, and one for each four bytes of the context's range: 1 + n / 4 in n
+    /// bytes. What else a context is left with isn't said: make a new one for the next check.
     pub fn check<C: ArchiveContext + SharedContext>(
         &self,
         bytes: &[u8],
@@ -100,9 +104,15 @@ impl Schema {
         context: &mut C,
     ) -> Result<(), Error>
         requires { (C.state context.old).end ≤ length bytes.now }
-        ensures ok { OnOk result (IsWhole (C.state context.old) (C.positions context.old) bytes.now → Accepts self.now bytes.now (C.state context.old).depth pos) }
-        ensures err { IfErr result (λ e. (e ≡ OutOfMemory) ⊎ (IsWhole (C.state context.old) (C.positions context.old) bytes.now → Refuses self.now bytes.now (C.state context.old).depth pos e)) }
-        ensures exact { IsWhole (C.state context.old) (C.positions context.old) bytes.now → IsExact self.now bytes.now (C.state context.old).depth pos result }
+        ensures ok { OnOk result (IsWhole (C.state context.old) (C.positions context.old) bytes.now
+            → Accepts self.now bytes.now (C.state context.old).depth pos) }
+        ensures err { IfErr result (λ e. (e ≡ OutOfMemory)
+            ⊎ (IsWhole (C.state context.old) (C.positions context.old) bytes.now
+            → Refuses self.now bytes.now (C.state context.old).depth pos e)) }
+        ensures exact { IsWhole (C.state context.old) (C.positions context.old) bytes.now
+            → IsExact self.now bytes.now (C.state context.old).depth pos result }
+        ensures of_check { IfErr result (λ e. HasLevels (C.state context.old).depth → IsOfCheck e) }
+        ensures levels { OnOk result (KeepsLevels (C.state context.old) (C.state context.new)) }
         ensures few_subtrees { FewPushed (C.state context.old) (C.state context.new) }
     {
         let checker = Checker {

@@ -2,10 +2,10 @@
 //! buffer's first one.
 
 ghost use Rattle.std.specs.Prelude.{◌≡◌, ◌⊎◌, ◌≤◌, ◌-◌, None, length, IfOk, OnOk, IfErr, ℕ, []};
-ghost use Rattle.archive_check.specs.FreshContexts.{IsWhole};
+ghost use Rattle.archive_check.specs.FreshContexts.{KeepsLevels, IsWhole};
 ghost use Rattle.archive_check.specs.Pushes.{FewPushed};
 ghost use Rattle.archive_check.specs.Schemas.{ExplainsNoSchema};
-ghost use Rattle.archive_check.specs.Archives.{IsArchive, Answers, root_in, ReadsWhole, RefusesWhole, RefusesAsCheck};
+ghost use Rattle.archive_check.specs.Archives.{IsArchive, IsAnswerable, Answers, root_in, ReadsWhole, RefusesWhole, RefusesAsCheck};
 ghost use Rattle.archive_check.specs.Defined.{WellFormed};
 ghost use Rattle.archive_check.specs.Definitions.{listed};
 ghost use Rattle.archive_check.specs.Entries.{ReadsBack, RefusesReading};
@@ -122,8 +122,9 @@ pub fn to_bytes<T: Serialize<HighSerializer<Vec<u8>, Global>>>(
 /// that met nothing yet the answer is exact. Memory for the schema and the check comes from `alloc`: refused with `OutOfMemory`, 1, where it is
 /// refused, with `ShapeConflict`, 30, or `RecursiveLayout`, 31, where the definitions of `T` have no meaning, before any byte is looked at, and else
 /// with the first fault of the bytes, in the order that docs/FORMAT.md gives. A type that checks itself takes
-/// no memory. Accepted or refused, in any context, it enters at most one region, and one for each four bytes of the context's range: 1 + n / 4 in n
-/// bytes.
+/// no memory. In any context with levels left it is refused with 30 or 31 or with what a check can answer (1, 12, 16 to 18, 21 to 29), and keeps
+/// levels where it is accepted. Accepted or refused, in any context, it enters at most one region, and one for each four bytes of the context's
+/// range: 1 + n / 4 in n bytes.
 pub fn check_pos_with_context<T: Portable, C: ArchiveContext + SharedContext>(
     alloc: Global,
     bytes: &[u8],
@@ -134,6 +135,8 @@ pub fn check_pos_with_context<T: Portable, C: ArchiveContext + SharedContext>(
     ensures meaning { IfErr result (λ e. ExplainsNoSchema T.shape T.definitions e ⊎ WellFormed (listed T.definitions) T.shape) }
     ensures answer { IsWhole (C.state context.old) (C.positions context.old) bytes.now
         → Answers T.definitions bytes.now (C.state context.old).depth pos T.shape result }
+    ensures of_check { IfErr result (IsAnswerable T.shape T.definitions (C.state context.old).depth) }
+    ensures levels { OnOk result (KeepsLevels (C.state context.old) (C.state context.new)) }
     ensures few_subtrees { FewPushed (C.state context.old) (C.state context.new) }
 {
     prove!(bytes.len() <= usize::MAX);
@@ -226,6 +229,7 @@ pub fn access_pos_with_context<'a, T: Portable, C: ArchiveContext + SharedContex
     ensures buffer { IfOk result (λ r. r.bytes.now ≡ bytes.now) }
     ensures position { IfOk result (λ r. r.pos ≡ pos) }
     ensures whole { IfOk result (λ r. r.len ≡ 0) }
+    ensures levels { OnOk result (KeepsLevels (C.state context.old) (C.state context.new)) }
     ensures few_subtrees { FewPushed (C.state context.old) (C.state context.new) }
 {
     if let Err(error) = check_pos_with_context::<T, C>(alloc, bytes, pos, context) {
@@ -246,6 +250,7 @@ pub fn access_with_context<'a, T: Portable, C: ArchiveContext + SharedContext>(
     ensures buffer { IfOk result (λ r. r.bytes.now ≡ bytes.now) }
     ensures position { IfOk result (λ r. r.pos ≡ root_in bytes.now T.layout) }
     ensures whole { IfOk result (λ r. r.len ≡ 0) }
+    ensures levels { OnOk result (KeepsLevels (C.state context.old) (C.state context.new)) }
     ensures few_subtrees { FewPushed (C.state context.old) (C.state context.new) }
 {
     access_pos_with_context(alloc, bytes, root_position::<T>(bytes.len()), context)

@@ -15,7 +15,7 @@ use Rattle.archive_check.specs.Faults.{IsFor}
 use Rattle.archive_check.specs.Definitions.{Definitions, Knows}
 use Rattle.archive_check.specs.check.Runs.{refused}
 use Rattle.archive_check.specs.check.Entered.{Lands}
-use Rattle.archive_check.specs.check.LoopInvariant.{HasLevels}
+use Rattle.archive_check.specs.FreshContexts.{HasLevels}
 use Rattle.archive_check.specs.plan.BoundedSizes.{fits}
 use Rattle.archive_check.specs.SelfCheck.Ways.{Goes, Halts, enter_way}
 use Rattle.archive_check.specs.SelfCheck.Regions.{NotEntered, not_sized, not_within, not_aligned, not_allowed, EntersNot, Begun, contents_way}

@@ -9,15 +9,15 @@ use Rattle.archive_check.specs.Trail.{Fault, TripsEnter, RootTrips}
 use Rattle.archive_check.specs.Walk.{Enter, enter, RootWalk}
 use Rattle.archive_check.specs.Ranges.{RangeState}
 use Rattle.archive_check.specs.PositionStates.{Positions}
-use Rattle.archive_check.specs.FreshContexts.{IsFresh, IsWhole}
+use Rattle.archive_check.specs.FreshContexts.{KeepsLevels, IsWhole}
 use Rattle.archive_check.specs.Definitions.{Definitions, listed, NoOthers}
 use Rattle.archive_check.specs.Defined.{WellFormed}
 use Rattle.archive_check.specs.Archives.{IsArchiveWithin, IsRefusal, ExplainsNoArchive}
-use Rattle.archive_check.specs.check.LoopInvariant.{HasLevels}
-use Rattle.archive_check.specs.SelfCheck.Ways.{Goes, Halts, enter_way}
+use Rattle.archive_check.specs.SelfCheck.Ways.{Way, Goes, Halts, enter_way}
 use Rattle.archive_check.proofs.ReadingUnique.{pos_one}
 use Rattle.archive_check.proofs.AcceptedWalks.{walked}
 use Rattle.archive_check.proofs.Archives.{some_knows, refusal_no_archive}
+use Rattle.archive_check.proofs.check.OrderlyContexts.{fresh_levels}
 
 -- the root is entered where it is said to lie
 entered_root : (s : Schema) (bytes : List ℕ) (limit : Option ℕ) (root : ℕ) (X : Shape) {t : ℕ} {last : Seen} {later : ℕ} → Enter s bytes [] limit (length bytes) (root_pointer root X) t 0 empty later last → RootWalk s bytes limit root X
@@ -25,11 +25,11 @@ entered_root s bytes limit root X (enter {t = t} target above below aligned allo
     let same : t ≡ root = sym (pos_one target) in
     record { later = _; last = _; walk = enter {t = root} refl (rw same at above) (rw same at below) (rw same at aligned) allowed (rw same at w) }
 
-fresh_levels : (s : RangeState) (met : Positions) → IsFresh s met → HasLevels s.depth
-fresh_levels s met fresh = record { levels = fresh.levels; few = fresh.few }
-
 root_trips : (t : Schema) (bytes : List ℕ) (root : ℕ) (X : Shape) (s : RangeState) (met : Positions) → IsWhole s met bytes → (f : Fault) → TripsEnter t bytes [] s.depth s.end (root_pointer root X) s.start empty f → RootTrips t bytes s.depth root X f
 root_trips t bytes root X s met whole f w = rw (whole.start, whole.end) at w
+
+pub goes_levels : (D : Definitions) (W : Way) (s s' : RangeState) → Goes D W s s' → KeepsLevels s s'
+goes_levels D W s s' goes some = rw (goes.depth some) some
 
 module _ (D : Definitions) (X : Shape) (bytes : List ℕ) (root : ℕ) (s : RangeState) (met : Positions) (well : WellFormed (listed D) X) where
   pub whole_archive : NoOthers D X → (s' : RangeState) → Goes D (enter_way bytes (root_pointer root X)) s s' → IsWhole s met bytes → IsArchiveWithin D bytes s.depth root X

@@ -17,7 +17,8 @@ use Rattle.archive_check.specs.Trail.{Fault, no_such_variant}
 use Rattle.archive_check.specs.check.Runs.{Outcome, done, refused, IsAt, IsNode, IsVariant, IsNoVariant, Takes, run_tag, run_choice, RegionIs, ElementsRun, parts_end, parts_next, parts_stop, elements_end, elements_next, elements_stop, list_part, list_part_stop}
 use Rattle.archive_check.specs.plan.SoundPlans.{span, SpanFits, ArrayFits, IsSound}
 use Rattle.archive_check.specs.plan.Shallow.{marked, free_at, parts_shallow, variants_shallow, IsShallow}
-use Rattle.archive_check.specs.check.LoopInvariant.{IsLegalHere, PartFits, PartsFit, ElementsFit, Stage, stage, pending_in, Ready, Listing, HasLevels, cost, rank}
+use Rattle.archive_check.specs.check.LoopInvariant.{IsLegalHere, PartFits, PartsFit, ElementsFit, Stage, stage, pending_in, Ready, Listing, cost, rank}
+use Rattle.archive_check.specs.FreshContexts.{HasLevels}
 use Rattle.archive_check.specs.check.Through.{Rule, Stops, Passed, PassesFrom, TestsFrom, node_rule, parts_rule, span_rule, elements_rule}
 use Rattle.archive_check.specs.check.Turns.{TurnsFrom}
 use Rattle.std.proofs.lemmas.Bool.{and_parts}
@@ -25,7 +26,9 @@ use Rattle.archive_check.proofs.Elements.{same_at, at_default, at_span}
 use Rattle.archive_check.proofs.plan.ShallowMarks.{kind_free}
 use Rattle.archive_check.proofs.check.TurnInvariants.{here_from, node_fits}
 use Rattle.archive_check.proofs.check.TurnsEnd.{falls_none}
-use Rattle.archive_check.proofs.check.EnteredRegions.{has_levels, times_size, through_same}
+use Rattle.archive_check.proofs.check.EnteredRegions.{times_size, through_same}
+use Rattle.archive_check.proofs.check.ContextAgrees.{levels_of}
+use Rattle.archive_check.proofs.check.OrderlyContexts.{orderly_levels}
 
 -- what is shallow
 
@@ -203,20 +206,23 @@ once_turns {m = m} {x = x} {y = y} {i = i} {p = p} {r = Some u} h ready =
     record {
       some = record {
         ready = rw (through.end, h.some.list) (record { below = ready.below; fits = ready.fits.1 });
-        leads = λ seen a.
-            let some = has_levels x.range x.met (PartWork i p ∷ x.work) seen a in
-            let back = through.depth some in (
-              seen,
-              rw (back, h.some.positions, h.some.list) a,
-              λ o q. list_part (through.runs some (pending_in x.work) seen) (rw (back, through.end, h.some.list) at q),
-            );
+        leads = record {
+          keeps = λ k. let back = through.depth (orderly_levels k) in rw (back, h.some.positions, h.some.list) k;
+          leads = λ seen a.
+              let some = levels_of a in
+              let back = through.depth some in (
+                seen,
+                rw (back, h.some.positions, h.some.list) a,
+                λ o q. list_part (through.runs some (pending_in x.work) seen) (rw (back, through.end, h.some.list) at q),
+              );
+        };
         ends = rw (through.end, h.some.list) (falls_none _ _);
       };
       none = tt;
     }
 once_turns {x = x} {i = i} {p = p} {r = None} h ready = record {
   some = tt;
-  none = inr (λ seen a. let f = h.none (has_levels x.range x.met (PartWork i p ∷ x.work) seen a) in (f.0, f.1, list_part_stop (f.2 (pending_in x.work) seen)));
+  none = inr (λ k. let f = h.none (orderly_levels k) in (f.0, f.1, λ seen a. list_part_stop (f.2 (pending_in x.work) seen)));
 }
 
 -- the parts of a node lie in the bytes where it does, and so do its elements

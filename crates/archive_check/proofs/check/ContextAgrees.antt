@@ -12,8 +12,8 @@ use Rattle.archive_check.specs.Depth.{Allows, inside}
 use Rattle.archive_check.specs.Ranges.{RangeState, one_more, is_full, pop_answer}
 use Rattle.archive_check.specs.PositionStates.{PositionState, Positions, started_at, started, finished, finish_answer}
 use Rattle.archive_check.specs.Tour.{Seen, Entry}
-use Rattle.archive_check.specs.FreshContexts.{IsFresh}
-use Rattle.archive_check.specs.check.LoopInvariant.{Agrees, HasLevels}
+use Rattle.archive_check.specs.FreshContexts.{HasLevels, IsFresh}
+use Rattle.archive_check.specs.check.LoopInvariant.{Agrees}
 use Rattle.archive_check.proofs.Elements.{contains_first, contains_later}
 use Rattle.archive_check.proofs.Seen.{same_some, inserted_has, inserted_apart}
 use Rattle.archive_check.proofs.Depths.{levels_allow}
@@ -29,13 +29,13 @@ contains_or_not (t ∷ ts) q = elim (cases_eq t q) [
 
 -- positions
 
-update_here : (met : Positions) (k : ℤ) (w : Option PositionState) → update int_eq met k w k ≡ w
+pub update_here : (met : Positions) (k : ℤ) (w : Option PositionState) → update int_eq met k w k ≡ w
 update_here met k w = update_same int_eq met k w k ((Decides-int_eq k k).1 refl)
 
-update_apart : (met : Positions) (k q : ℤ) (w : Option PositionState) → k ≢ q → update int_eq met k w q ≡ met q
+pub update_apart : (met : Positions) (k q : ℤ) (w : Option PositionState) → k ≢ q → update int_eq met k w q ≡ met q
 update_apart met k q w other = update_other int_eq met k w q (false_from_ne_true (int_eq k q) (λ e. other ((Decides-int_eq k q).0 e)))
 
-pos_apart : (t q : ℕ) → t ≢ q → pos t ≢ pos q
+pub pos_apart : (t q : ℕ) → t ≢ q → pos t ≢ pos q
 pos_apart t q other e = let same : t ≡ q = cc in other same
 
 signs_apart : (t n : ℕ) → pos t ≢ negsuc n
@@ -43,6 +43,32 @@ signs_apart t n e = cc
 
 int_or_not : (t q : ℤ) → (t ≡ q) ⊎ (t ≢ q)
 int_or_not t q = elim (int_eq t q) as (λ b. int_eq t q ≡ b → (t ≡ q) ⊎ (t ≢ q)) [ true ↦ λ e. inl ((Decides-int_eq t q).0 e) | false ↦ λ e. inr (λ s. let yes = (Decides-int_eq t q).1 s in cc) ] refl
+
+-- a position that was met before stays
+pub started_again : (met : Positions) (t : ℤ) (e : Entry) (m : PositionState) → met t ≡ Some m → (q : ℤ) → started met t e q ≡ met q
+started_again met t e m is q =
+    elim (int_or_not t q) [
+      | inl same ↦ ap (started met t e) (sym same) ∙ update_here met t (Some (started_at (met t) e)) ∙ ap (λ o. Some (started_at o e)) is ∙ sym is ∙ ap met same
+      | inr other ↦ update_apart met t q (Some (started_at (met t) e)) other
+    ]
+
+-- levels
+
+pub deeper_levels : (o : Option ℕ) → Allows o 1 → inside o ≢ Some 0
+deeper_levels None a e = cc
+deeper_levels (Some n) a e = let zeroed : n - 1 ≡ 0 = cc in omega arith
+
+pub deeper_few : (r : ℕ) (o : Option ℕ) (n : ℕ) → Allows o 1 → ((k : ℕ) → o ≡ Some k → k + r < 18446744073709551616) → inside o ≡ Some n → n + (1 + r) < 18446744073709551616
+deeper_few r None n a few e = cc
+deeper_few r (Some k) n a few e = let less : k - 1 ≡ n = cc in let most = few k refl in omega arith
+
+pub higher_levels : (o : Option ℕ) → one_more o ≢ Some 0
+higher_levels None e = cc
+higher_levels (Some n) e = let zeroed : n + 1 ≡ 0 = cc in omega arith
+
+pub higher_few : (r : ℕ) (o : Option ℕ) (n : ℕ) → ((k : ℕ) → o ≡ Some k → k + (1 + r) < 18446744073709551616) → one_more o ≡ Some n → n + r < 18446744073709551616
+higher_few r None n few e = cc
+higher_few r (Some k) n few e = let more : k + 1 ≡ n = cc in let most = few k refl in omega arith
 
 -- agreement
 
@@ -140,14 +166,6 @@ module _ {d : Option ℕ} {met : Positions} {pd : List ℕ} {r : ℕ} {seen : Se
         few = h.few;
       }
 
-  -- one that was met before stays
-  pub started_again : (t : ℤ) (e : Entry) (m : PositionState) → met t ≡ Some m → (q : ℤ) → started met t e q ≡ met q
-  started_again t e m is q =
-      elim (int_or_not t q) [
-        | inl same ↦ ap (started met t e) (sym same) ∙ update_here met t (Some (started_at (met t) e)) ∙ ap (λ o. Some (started_at o e)) is ∙ sym is ∙ ap met same
-        | inr other ↦ update_apart met t q (Some (started_at (met t) e)) other
-      ]
-
   -- a level less, in a region more
   pub allows : (d ≡ Some 1 → ⊥) → Allows d 1
   allows not = levels_allow d h.levels not
@@ -160,17 +178,9 @@ module _ {d : Option ℕ} {met : Positions} {pd : List ℕ} {r : ℕ} {seen : Se
     over = h.over;
     known = h.known;
     once = h.once;
-    levels = inside_levels d deep;
-    few = λ n is. inside_few d n deep h.few is;
+    levels = deeper_levels d deep;
+    few = λ n is. deeper_few r d n deep h.few is;
   }
-    where
-      inside_levels : (o : Option ℕ) → Allows o 1 → inside o ≢ Some 0
-      inside_levels None a e = cc
-      inside_levels (Some n) a e = let zeroed : n - 1 ≡ 0 = cc in omega arith
-
-      inside_few : (o : Option ℕ) (n : ℕ) → Allows o 1 → ((k : ℕ) → o ≡ Some k → k + r < 18446744073709551616) → inside o ≡ Some n → n + (1 + r) < 18446744073709551616
-      inside_few None n a few e = cc
-      inside_few (Some k) n a few e = let less : k - 1 ≡ n = cc in let most = few k refl in omega arith
 
 module _ {d : Option ℕ} {met : Positions} {t : ℕ} {rest : List ℕ} {r : ℕ} {seen : Seen} (h : Agrees d met (t ∷ rest) r seen) where
   -- the shared position that was started last is finished
@@ -198,13 +208,6 @@ module _ {d : Option ℕ} {met : Positions} {t : ℕ} {rest : List ℕ} {r : ℕ
     few = h.few;
   }
 
-  pub finish_fine : finish_answer (met (pos t)) ≡ Ok tt
-  finish_fine =
-      elim (get seen t) as (λ g. get seen t ≡ g → finish_answer (met (pos t)) ≡ Ok tt) [
-        | None ↦ λ none. absurd (h.known t (contains_first rest t) none)
-        | Some e ↦ λ some. ap finish_answer (h.begun t e some (contains_first rest t))
-      ] refl
-
 -- a level more, in a region less
 pub agrees_outside : (r : ℕ) {d : Option ℕ} {met : Positions} {pd : List ℕ} {seen : Seen} → Agrees d met pd (1 + r) seen → Agrees (one_more d) met pd r seen
 agrees_outside r {d = d} h = record {
@@ -214,17 +217,9 @@ agrees_outside r {d = d} h = record {
   over = h.over;
   known = h.known;
   once = h.once;
-  levels = more_levels d;
-  few = λ n is. more_few d n h.few is;
+  levels = higher_levels d;
+  few = λ n is. higher_few r d n h.few is;
 }
-  where
-    more_levels : (o : Option ℕ) → one_more o ≢ Some 0
-    more_levels None e = cc
-    more_levels (Some n) e = let zeroed : n + 1 ≡ 0 = cc in omega arith
-
-    more_few : (o : Option ℕ) (n : ℕ) → ((k : ℕ) → o ≡ Some k → k + (1 + r) < 18446744073709551616) → one_more o ≡ Some n → n + r < 18446744073709551616
-    more_few None n few e = cc
-    more_few (Some k) n few e = let more : k + 1 ≡ n = cc in let most = few k refl in omega arith
 
 pub inside_more : (d : Option ℕ) → d ≡ inside (one_more d)
 inside_more None = refl

@@ -21,9 +21,11 @@ use Rattle.archive_check.specs.Faults.{IsFor}
 use Rattle.archive_check.specs.declared.check.regions.Region.{Region}
 use Rattle.archive_check.specs.check.Entered.{Lands, Entered}
 use Rattle.archive_check.specs.check.Through.{Rule, Through, Stops, region_rule, contents_rule}
-use Rattle.archive_check.specs.check.LoopInvariant.{and_then, RegionIsLegalHere, Ready, stage, pending_in, regions_in, Agreeing, Listing, Entering, TurnLeads, HasLevels, power, level, cost}
+use Rattle.archive_check.specs.check.LoopInvariant.{and_then, RegionIsLegalHere, Ready, stage, pending_in, regions_in, Agreeing, IsOrderly, Listing, Entering, TurnLeads, power, level, cost}
+use Rattle.archive_check.specs.FreshContexts.{HasLevels}
 use Rattle.archive_check.proofs.check.TurnRules.{enter_one, enter_run}
-use Rattle.archive_check.proofs.check.ContextAgrees.{allows, agrees_inside, taken_back, not_taken}
+use Rattle.archive_check.proofs.check.ContextAgrees.{allows, agrees_inside, levels_of, taken_back, not_taken}
+use Rattle.archive_check.proofs.check.OrderlyContexts.{orderly_levels, orderly_inside}
 use Rattle.archive_check.proofs.check.TurnsEnd.{level_end, falls_enter}
 use Rattle.archive_check.proofs.Depths.{levels_allow}
 use Rattle.archive_check.proofs.RangeLevels.{lands, last_level, levels_inside, inside_few, level_back}
@@ -151,19 +153,18 @@ module _ (m : Checker) (j n : ℕ) (z : ℤ) (s s' : RangeState) (r : Region) (h
       let inward : s'.depth ≡ inside s.depth = h.depth in
       (f.0, f.1, λ pending seen. enter_stop h.region h.lands.target h.lands.above h.lands.below h.lands.aligned (levels_allow s.depth some.levels h.deep) (rw (inward, h.start) at (f.2 pending seen)))
 
--- levels are left where the context agrees
-pub has_levels : (s : RangeState) (met : Positions) (work : List Work) (seen : Seen) → Agreeing (stage s met work) seen → HasLevels s.depth
-has_levels s met work seen a = record { levels = a.levels; few = λ d e. omega (arith, a.few d e) }
-
 -- a region that is gone through is no longer to be entered
 pub region_leads : (m : Checker) (target : PointeeKind) (j n : ℕ) (z : ℤ) (s s' : RangeState) (met met' : Positions) (old : List Work) → Through (region_rule m target j n z) s s' → met' ≡ met → TurnLeads m (Entering m target j n z) (stage s met old) (stage s' met' old)
-region_leads m target j n z s s' met met' old through same seen a =
-    let some = has_levels s met old seen a in
-    let back = through.depth some in (
-      seen,
-      rw (back, same) a,
-      λ o r. and_then (through.runs some (pending_in old) seen) (rw (back, through.end) at r),
-    )
+region_leads m target j n z s s' met met' old through same = record {
+  keeps = λ h. let back = through.depth (orderly_levels h) in rw (back, same) h;
+  leads = λ seen a.
+      let some = levels_of a in
+      let back = through.depth some in (
+        seen,
+        rw (back, same) a,
+        λ o r. and_then (through.runs some (pending_in old) seen) (rw (back, through.end) at r),
+      );
+}
 
 module _ (m : Checker) (j n : ℕ) (z : ℤ) (s s' : RangeState) (met met' : Positions) (old mid : List Work) (r : Region) (h : Entered m j n z s s' r) (same : met' ≡ met) (list : mid ≡ Leave r.outer_start r.outer_end ∷ old) where
   listed : mid ≡ Leave (r.begin + r.size) s.end ∷ old
@@ -184,6 +185,9 @@ module _ (m : Checker) (j n : ℕ) (z : ℤ) (s s' : RangeState) (met met' : Pos
   agreed : {seen : Seen} (new : List Work) → pending_in new ≡ pending_in old → regions_in new ≡ 1 + regions_in old → Agreeing (stage s met old) seen → Agreeing (stage s' met' new) seen
   agreed new e f a = rw (h.depth, same, e, f) (agrees_inside a (allows a h.deep))
 
+  ordered : (new : List Work) → pending_in new ≡ pending_in old → regions_in new ≡ 1 + regions_in old → IsOrderly (stage s met old) → IsOrderly (stage s' met' new)
+  ordered new e f k = rw (h.depth, same, e, f) (orderly_inside h.deep k)
+
   module _ (new : List Work) (lt : 0 < r.size) where
     region_takes : (y : ℕ) × Takes m j y × (n * y ≡ r.size)
     region_takes =
@@ -191,20 +195,28 @@ module _ (m : Checker) (j n : ℕ) (z : ℤ) (s s' : RangeState) (met met' : Pos
         (k.0, record { node = h.region.node; at = h.region.at; size_is = k.1 }, k.2)
 
     pub entered_one : new ≡ PartWork j r.begin ∷ mid → TurnLeads m (Entering m One j n z) (stage s met old) (stage s' met' new)
-    entered_one e seen a =
-        let whole : new ≡ PartWork j r.begin ∷ Leave (r.begin + r.size) s.end ∷ old = e ∙ ap (λ w. PartWork j r.begin ∷ w) listed in (
-          seen,
-          agreed new (ap pending_in whole) (ap regions_in whole) a,
-          λ o q. entering {target = One} (enter_one m h.region h.lands.above h.lands.below h.lands.aligned (allows a h.deep) lt (moved whole q)),
-        )
+    entered_one e =
+        let whole : new ≡ PartWork j r.begin ∷ Leave (r.begin + r.size) s.end ∷ old = e ∙ ap (λ w. PartWork j r.begin ∷ w) listed in
+        record {
+          keeps = ordered new (ap pending_in whole) (ap regions_in whole);
+          leads = λ seen a. (
+            seen,
+            agreed new (ap pending_in whole) (ap regions_in whole) a,
+            λ o q. entering {target = One} (enter_one m h.region h.lands.above h.lands.below h.lands.aligned (allows a h.deep) lt (moved whole q)),
+          );
+        }
 
     pub entered_run : new ≡ Elements j n r.begin ∷ mid → TurnLeads m (Entering m Run j n z) (stage s met old) (stage s' met' new)
-    entered_run e seen a =
-        let whole : new ≡ Elements j n r.begin ∷ Leave (r.begin + r.size) s.end ∷ old = e ∙ ap (λ w. Elements j n r.begin ∷ w) listed in (
-          seen,
-          agreed new (ap pending_in whole) (ap regions_in whole) a,
-          λ o q. entering {target = Run} (enter_run m h.region h.lands.above h.lands.below h.lands.aligned (allows a h.deep) lt (moved whole q)),
-        )
+    entered_run e =
+        let whole : new ≡ Elements j n r.begin ∷ Leave (r.begin + r.size) s.end ∷ old = e ∙ ap (λ w. Elements j n r.begin ∷ w) listed in
+        record {
+          keeps = ordered new (ap pending_in whole) (ap regions_in whole);
+          leads = λ seen a. (
+            seen,
+            agreed new (ap pending_in whole) (ap regions_in whole) a,
+            λ o q. entering {target = Run} (enter_run m h.region h.lands.above h.lands.below h.lands.aligned (allows a h.deep) lt (moved whole q)),
+          );
+        }
 
     pub entered_one_ready : Ready m s old → n ≡ 1 → new ≡ PartWork j r.begin ∷ mid → Ready m s' new
     entered_one_ready q one e =

@@ -19,9 +19,10 @@ use Rattle.archive_check.specs.Reads.{i32_at}
 use Rattle.archive_check.specs.Tour.{Seen, Entry}
 use Rattle.archive_check.specs.Trail.{Fault, cyclic, other_type, other_length}
 use Rattle.archive_check.specs.check.Runs.{Outcome, refused, IsAt, pointee_count, pointee_length, entry_for, EnterRuns, FollowRuns, follow_before, follow_new, follow_again, follow_type, follow_length, follow_cycle}
-use Rattle.archive_check.specs.check.LoopInvariant.{Stage, stage, pending_in, Ready, Agreeing, Then, and_then, stops, Entering, Following, TurnLeads, TurnRefuses, IsStopped}
+use Rattle.archive_check.specs.check.LoopInvariant.{Stage, stage, pending_in, Ready, Agreeing, IsOrderly, Then, and_then, stops, Entering, Following, TurnLeads, TurnRefuses, IsStopped}
 use Rattle.archive_check.specs.check.Turns.{ComesInto}
-use Rattle.archive_check.proofs.check.ContextAgrees.{levels_of, agrees_same, SeenAs, seen_as, met_none, agrees_new, started_again}
+use Rattle.archive_check.proofs.check.ContextAgrees.{agrees_same, SeenAs, seen_as, met_none, agrees_new, started_again}
+use Rattle.archive_check.proofs.check.OrderlyContexts.{orderly_levels, orderly_same, orderly_new}
 use Rattle.archive_check.proofs.check.TurnRules.{turn_new}
 use Rattle.archive_check.proofs.check.TurnExits.{turn_refused, turn_taken, FollowsThere}
 use Rattle.archive_check.proofs.Elements.{at_default}
@@ -52,25 +53,40 @@ module _ (m : Checker) (s : RangeState) (met : Positions) (old : List Work) (k j
     where
       answered : (o : Option PositionState) → met z ≡ o → (e : Error) → IsStartAnswer o here (Err e) → TurnRefuses (Following m k target j p) (stage s met old) e
       answered None is e h = inl h
-      answered (Some was) is TypeMismatch h = inr (λ seen a.
-          let at_t = seen_at seen was.entry was.finished a is in
-          (other_type, refl, following (stops (follow_type at at_t.target_is at_t.seen_is.is h))))
-      answered (Some was) is MetadataMismatch h = inr (λ seen a.
-          let at_t = seen_at seen was.entry was.finished a is in
-          (other_length, refl, following (stops (follow_length at at_t.target_is at_t.seen_is.is h.0 h.1))))
+      answered (Some was) is TypeMismatch h = inr (λ k. (
+        other_type,
+        refl,
+        λ seen a.
+            let at_t = seen_at seen was.entry was.finished a is in
+            following (stops (follow_type at at_t.target_is at_t.seen_is.is h)),
+      ))
+      answered (Some was) is MetadataMismatch h = inr (λ k. (
+        other_length,
+        refl,
+        λ seen a.
+            let at_t = seen_at seen was.entry was.finished a is in
+            following (stops (follow_length at at_t.target_is at_t.seen_is.is h.0 h.1)),
+      ))
       answered (Some was) is e h = absurd h
 
   follow_cyclic : met z ≡ Some (record { entry = here; finished = false }) → shared_type.flavor.cycles ≡ false → TurnRefuses (Following m k target j p) (stage s met old) CyclicValidate
-  follow_cyclic is none = inr (λ seen a.
-      let at_t = seen_at seen here false a is in
-      (cyclic, refl, following (stops (follow_cycle at at_t.target_is at_t.seen_is.is (at_t.seen_is.here refl) none))))
+  follow_cyclic is none = inr (λ k. (
+    cyclic,
+    refl,
+    λ seen a.
+        let at_t = seen_at seen here false a is in
+        following (stops (follow_cycle at at_t.target_is at_t.seen_is.is (at_t.seen_is.here refl) none)),
+  ))
 
   module _ (s1 : RangeState) (met1 : Positions) (same : s1 ≡ s) (starts : met1 ≡ started met z here) where
     follow_known : (over : Bool) → met z ≡ Some (record { entry = here; finished = over }) → (over ≡ false → IsTrue shared_type.flavor.cycles) → TurnLeads m (Following m k target j p) (stage s met old) (stage s1 met1 old)
-    follow_known over is free seen a =
-        let at_t = seen_at seen here over a is in
-        let again : Agreeing (stage s1 met1 old) seen = rw (same, starts) (agrees_same (started_again a z here _ is) a) in
-        (seen, again, λ o r. following (and_then (follow_again at at_t.target_is at_t.seen_is.is (free_of over at_t.seen_is.gone free)) (rw same at r)))
+    follow_known over is free = record {
+      keeps = λ h. rw (same, starts) (orderly_same (started_again met z here _ is) h);
+      leads = λ seen a.
+          let at_t = seen_at seen here over a is in
+          let again : Agreeing (stage s1 met1 old) seen = rw (same, starts) (agrees_same (started_again met z here _ is) a) in
+          (seen, again, λ o r. following (and_then (follow_again at at_t.target_is at_t.seen_is.is (free_of over at_t.seen_is.gone free)) (rw same at r)));
+    }
       where
         free_of : {A : Type 0} (b : Bool) → (b ≡ true → A → ⊥) → (b ≡ false → IsTrue shared_type.flavor.cycles) → (A → ⊥) ⊎ IsTrue shared_type.flavor.cycles
         free_of true gone cycles = inl (gone refl)
@@ -84,18 +100,24 @@ module _ (m : Checker) (s : RangeState) (met : Positions) (old : List Work) (k j
       -- a region that isn't entered, wherever its position is
       refuses_new : (e : Error) → IsStopped m target j n z s1 e → TurnRefuses (Following m k target j p) (stage s met old) e
       refuses_new e (inl memory) = inl memory
-      refuses_new e (inr stopped) = inr (λ seen a.
-          let f = (rw same at stopped) (levels_of a) in
-          (f.0, f.1, following (stops (refused_by f.2 seen a z refl))))
+      refuses_new e (inr stopped) = inr (λ h.
+          let f = (rw same at stopped) (orderly_levels h) in
+          (f.0, f.1, λ seen a. following (stops (refused_by f.2 seen a z refl))))
 
       module _ (t : ℕ) (target_is : z ≡ pos t) (mid : List Work) (list : mid ≡ Finish k t ∷ old) where
         entered_leads : (x : Stage) → TurnLeads m (Entering m target j n z) (stage s1 met1 mid) x → TurnLeads m (Following m k target j p) (stage s met old) x
-        entered_leads x leads seen a =
-            let none = met_none a t (ap met (sym target_is) ∙ new) in
-            let begun = rw (← target_is) at (agrees_new a t here (ap met (sym target_is) ∙ new)) in
-            let more : Agreeing (stage s1 met1 mid) (insert seen t here) = rw (same, starts, list) begun in
-            let go = leads (insert seen t here) more in
-            (go.0, go.1, λ o r. following (turn_new m at target_is none (rw (same, list) at (go.2 o r))))
+        entered_leads x entering = record {
+          keeps = λ h.
+              let begun = rw (← target_is) at (orderly_new t here (ap met (sym target_is) ∙ new) h) in
+              let more : IsOrderly (stage s1 met1 mid) = rw (same, starts, list) begun in
+              entering.keeps more;
+          leads = λ seen a.
+              let none = met_none a t (ap met (sym target_is) ∙ new) in
+              let begun = rw (← target_is) at (agrees_new a t here (ap met (sym target_is) ∙ new)) in
+              let more : Agreeing (stage s1 met1 mid) (insert seen t here) = rw (same, starts, list) begun in
+              let go = entering.leads (insert seen t here) more in
+              (go.0, go.1, λ o r. following (turn_new m at target_is none (rw (same, list) at (go.2 o r))));
+        }
 
 -- positions as indices
 

@@ -68,11 +68,11 @@ module _ (m : Checker) (j z : ℕ) (takes : Takes m j z) where
     module _ (s : RangeState) (met : Positions) (n p c : ℕ) (le : c ≤ n) (stays : (k : ℕ) → k < c → IsLegalHere m j (p + k * z)) where
       -- all elements are passed over
       pub pass_all : c ≡ n → TurnLeads m (Listing m) (stage s met (Elements j n p ∷ old)) (stage s met old)
-      pass_all all seen agreed = (seen, agreed, λ o r. pass_runs c n p 0 (p + c * z) le (omega arith) refl stays (list_elements (elements_end refl) r))
+      pass_all all = record { keeps = λ h. h; leads = λ seen agreed. (seen, agreed, λ o r. pass_runs c n p 0 (p + c * z) le (omega arith) refl stays (list_elements (elements_end refl) r)) }
 
       -- those before the next one are passed over
       pub pass_leads : TurnLeads m (Listing m) (stage s met (Elements j n p ∷ old)) (stage s met (Elements j (n - c) (p + c * z) ∷ old))
-      pass_leads seen agreed = (seen, agreed, λ o r. pass_runs c n p (n - c) (p + c * z) le refl refl stays r)
+      pass_leads = record { keeps = λ h. h; leads = λ seen agreed. (seen, agreed, λ o r. pass_runs c n p (n - c) (p + c * z) le refl refl stays r) }
 
       pub pass_ready : Ready m s (Elements j n p ∷ old) → Ready m s (Elements j (n - c) (p + c * z) ∷ old)
       pass_ready r =

@@ -60,15 +60,15 @@ module _ (m : Checker) (p : ℕ) where
     module _ (s : RangeState) (met : Positions) (a b c : ℕ) (stays : (k : ℕ) → a ≤ k → k < c → PartIsLegalHere m p k) where
       -- all parts are passed over
       pub skip_all : c ≤ b → b ≤ c → TurnLeads m (Listing m) (stage s met (Parts a b p ∷ old)) (stage s met old)
-      skip_all le ge seen agreed = (seen, agreed, λ o r. over (nat_le a c) refl r)
+      skip_all le ge = record { keeps = λ h. h; leads = λ seen agreed. (seen, agreed, λ o r. over seen (nat_le a c) refl r) }
         where
-          over : {o : Outcome} (t : Bool) → nat_le a c ≡ t → ListRuns m (pending_in old) s.depth s.end old s.start seen o → ListRuns m (pending_in old) s.depth s.end (Parts a b p ∷ old) s.start seen o
-          over true e r = let under : a ≤ c = grind (arith, nat_tests) in skip_runs (c - a) a b c (omega arith) le stays (list_parts (parts_end ge) r)
-          over false e r = let beyond : c < a = grind (arith, nat_tests) in list_parts (parts_end (omega arith)) r
+          over : (seen : Seen) {o : Outcome} (t : Bool) → nat_le a c ≡ t → ListRuns m (pending_in old) s.depth s.end old s.start seen o → ListRuns m (pending_in old) s.depth s.end (Parts a b p ∷ old) s.start seen o
+          over seen true e r = let under : a ≤ c = grind (arith, nat_tests) in skip_runs (c - a) a b c (omega arith) le stays (list_parts (parts_end ge) r)
+          over seen false e r = let beyond : c < a = grind (arith, nat_tests) in list_parts (parts_end (omega arith)) r
 
       -- the parts before c are passed over
       pub skip_leads : a ≤ c → c ≤ b → TurnLeads m (Listing m) (stage s met (Parts a b p ∷ old)) (stage s met (Parts c b p ∷ old))
-      skip_leads from le seen agreed = (seen, agreed, λ o r. skip_runs (c - a) a b c (omega arith) le stays r)
+      skip_leads from le = record { keeps = λ h. h; leads = λ seen agreed. (seen, agreed, λ o r. skip_runs (c - a) a b c (omega arith) le stays r) }
 
       pub skip_ready : Ready m s (Parts a b p ∷ old) → a ≤ c → c ≤ b → Ready m s (Parts c b p ∷ old)
       skip_ready r from le = record { below = r.below; fits = (fits_from (c - a) a b c r.fits.0 (omega arith) le, r.fits.1) }

@@ -8,18 +8,19 @@ use Rattle.archive_check.specs.declared.check.Checker.{Checker}
 use Rattle.archive_check.specs.Shape.{Shape}
 use Rattle.archive_check.specs.Reads.{Schema}
 use Rattle.archive_check.specs.Tour.{root_pointer, Seen}
-use Rattle.archive_check.specs.Trail.{Fault}
+use Rattle.archive_check.specs.Trail.{Fault, RootTrips}
 use Rattle.archive_check.specs.Walk.{Enter, enter, RootWalk}
 use Rattle.archive_check.specs.Ranges.{RangeState}
 use Rattle.archive_check.specs.PositionStates.{Positions}
-use Rattle.archive_check.specs.FreshContexts.{IsFresh, IsWhole}
-use Rattle.archive_check.specs.Faults.{IsFor}
+use Rattle.archive_check.specs.FreshContexts.{HasLevels, IsFresh, IsWhole}
+use Rattle.archive_check.specs.Faults.{IsFor, IsOfCheck}
 use Rattle.archive_check.specs.check.Runs.{Outcome, done, refused, EnterRuns}
 use Rattle.archive_check.specs.plan.SoundPlans.{IsSound}
-use Rattle.archive_check.specs.check.PlanChecks.{PlanAccepts, PlanRefuses, PlanIsExact}
+use Rattle.archive_check.specs.check.PlanChecks.{PlanOf, PlanAccepts, PlanRefuses, PlanIsExact}
 use Rattle.archive_check.proofs.ReadingUnique.{pos_one}
 use Rattle.archive_check.proofs.AcceptedWalks.{walked, walks}
 use Rattle.archive_check.proofs.FaultyNotWalked.{root_no_walk}
+use Rattle.archive_check.proofs.check.OrderlyContexts.{fresh_levels}
 use Rattle.archive_check.proofs.plan.Represented.{enter_says}
 
 module _ (s : Schema) (bytes : List ℕ) (limit : Option ℕ) (root : ℕ) (X : Shape) where
@@ -45,7 +46,7 @@ module _ (m : Checker) (j root : ℕ) (r : RangeState) (met : Positions) (sound 
   RunDone = IsFresh r met → (last : ℕ) × (known : Seen) × RootRuns (done last known)
 
   abbrev pub RunRefused : Error → Type 0
-  RunRefused error = (error ≡ OutOfMemory) ⊎ (IsFresh r met → (f : Fault) × IsFor f error × RootRuns (refused f))
+  RunRefused error = (error ≡ OutOfMemory) ⊎ (HasLevels r.depth → (f : Fault) × IsFor f error × (IsFresh r met → RootRuns (refused f)))
 
   pub run_accepts : RunDone → IsWhole r met m.bytes.now → PlanAccepts m j r.depth root
   run_accepts runs whole s X plan =
@@ -53,14 +54,22 @@ module _ (m : Checker) (j root : ℕ) (r : RangeState) (met : Positions) (sound 
       let here = enter_says s plan.shapes m plan.represents sound None 0 (rw (whole.start, whole.end) at v.2) plan.points refl (omega arith) in
       walked s m.bytes.now r.depth root X (entered_root s m.bytes.now r.depth root X here.1)
 
-  fresh_refuses : (error : Error) → (IsFresh r met → (f : Fault) × IsFor f error × RootRuns (refused f)) → IsWhole r met m.bytes.now → PlanRefuses m j r.depth root error
+  refused_trips : (f : Fault) → RootRuns (refused f) → IsWhole r met m.bytes.now → (s : Schema) (X : Shape) → PlanOf m j s X → RootTrips s m.bytes.now r.depth root X f
+  refused_trips f run whole s X plan = enter_says s plan.shapes m plan.represents sound None 0 (rw (whole.start, whole.end) at run) plan.points refl (omega arith)
+
+  fresh_refuses : (error : Error) → (HasLevels r.depth → (f : Fault) × IsFor f error × (IsFresh r met → RootRuns (refused f))) → IsWhole r met m.bytes.now → PlanRefuses m j r.depth root error
   fresh_refuses error runs whole =
-      let v = runs whole.fresh in
-      (v.0, v.1, λ s X plan. (enter_says s plan.shapes m plan.represents sound None 0 (rw (whole.start, whole.end) at v.2) plan.points refl (omega arith)))
+      let v = runs (fresh_levels r met whole.fresh) in
+      (v.0, v.1, refused_trips v.0 (v.2 whole.fresh) whole)
 
   pub run_refuses : (error : Error) → RunRefused error → (error ≡ OutOfMemory) ⊎ (IsWhole r met m.bytes.now → PlanRefuses m j r.depth root error)
   run_refuses error (inl h) = inl h
   run_refuses error (inr runs) = inr (fresh_refuses error runs)
+
+  -- in whatever context
+  pub run_of_check : (error : Error) → RunRefused error → HasLevels r.depth → IsOfCheck error
+  run_of_check error (inl h) some = inl h
+  run_of_check error (inr runs) some = let v = runs some in inr (v.0, v.1)
 
   pub run_exact_ok : RunDone → IsWhole r met m.bytes.now → PlanIsExact m j r.depth root (Ok tt)
   run_exact_ok runs whole = exact_ok m j root r.depth (run_accepts runs whole)

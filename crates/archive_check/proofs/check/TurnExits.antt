@@ -22,7 +22,7 @@ use Rattle.archive_check.specs.check.Runs.{Outcome, refused, IsAt, IsNode, IsVar
 use Rattle.archive_check.specs.check.LoopInvariant.{Stage, stage, Ready, PartIsLegalHere, IsLegalHere, Listing, Entering, Following, TurnLeads, TurnRefuses, IsStopped, stops, pending_in, power, level, cost}
 use Rattle.archive_check.specs.check.Entered.{LeavesFrom}
 use Rattle.archive_check.specs.check.Turns.{Turned, TurnsFrom, ComesInto}
-use Rattle.archive_check.proofs.check.ContextAgrees.{levels_of}
+use Rattle.archive_check.proofs.check.OrderlyContexts.{orderly_levels}
 use Rattle.archive_check.proofs.check.TurnRules.{turn_record, turn_choice, turn_array, turn_pointer, turn_shared, turn_weak}
 use Rattle.archive_check.proofs.check.TurnsEnd.{level_same, falls_none, falls_under, falls_shared}
 use Rattle.archive_check.proofs.check.TurnInvariants.{node_fits, record_fits, variant_fits, parts_less, elements_less, node_leads, node_refuses, elements_free_leads, part_ready, part_leads, part_ends, element_ready, element_leads, element_ends, leave_leads, leave_refuses, finish_leads, finish_refuses}
@@ -50,11 +50,16 @@ turn_pushed {r = Some u} e memory taken = record { some = taken e; none = tt }
 turn_pushed {r = None} e memory taken = record { some = tt; none = inl memory }
 
 leads_then : (m : Checker) (Before : Stage → Seen → Outcome → Type 0) (x y z : Stage) → TurnLeads m Before x y → TurnLeads m (Listing m) y z → TurnLeads m Before x z
-leads_then m Before x y z first next seen a = let b = first seen a in let c = next b.0 b.1 in (c.0, c.1, λ o q. b.2 o (c.2 o q))
+leads_then m Before x y z first next = record {
+  keeps = λ h. next.keeps (first.keeps h);
+  leads = λ seen a. let b = first.leads seen a in let c = next.leads b.0 b.1 in (c.0, c.1, λ o q. b.2 o (c.2 o q));
+}
 
 refuses_then : (m : Checker) (Before : Stage → Seen → Outcome → Type 0) (x y : Stage) (e : Error) → TurnLeads m Before x y → TurnRefuses (Listing m) y e → TurnRefuses Before x e
 refuses_then m Before x y e first (inl memory) = inl memory
-refuses_then m Before x y e first (inr stopped) = inr (λ seen a. let b = first seen a in let f = stopped b.0 b.1 in (f.0, f.1, b.2 (refused f.0) f.2))
+refuses_then m Before x y e first (inr stopped) = inr (λ h.
+    let f = stopped (first.keeps h) in
+    (f.0, f.1, λ seen a. let b = first.leads seen a in b.2 (refused f.0) (f.2 b.0 b.1)))
 
 -- it is one step, and then another turn
 turn_then : {m : Checker} {Before : Stage → Seen → Outcome → Type 0} {most less : ℕ} {x y z : Stage} {r : Option (Unit {0})} {fault : Error} → TurnsFrom m (Listing m) less y z r fault → less ≤ most → TurnLeads m Before x y → TurnsFrom m Before most x z r fault
@@ -74,13 +79,13 @@ pub opens_record : {m : Checker} {s : RangeState} {met : Positions} {old : List 
     → IsSound m → Ready m s (PartWork i p ∷ old) → IsNode m i (Record a b) → OpensParts m s met old a b p y r fault → Opens m s met old i p y r fault
 opens_record {m = m} {s = s} {old = old} {p = p} sound ready is h =
     let less = parts_less s.end p old (record_fits sound is ready.fits.0) in
-    turn_then h (omega (arith, less)) (λ seen a. (seen, a, λ o q. turn_record m is q))
+    turn_then h (omega (arith, less)) (record { keeps = λ k. k; leads = λ seen a. (seen, a, λ o q. turn_record m is q) })
 
 pub opens_variant : {m : Checker} {s : RangeState} {met : Positions} {old old' : List Work} {i p a b : ℕ} {name : Bor (List ℕ)} {x : Span} {y : Stage} {r : Option (Unit {0})} {fault : Error}
     → IsSound m → Ready m s (PartWork i p ∷ old) → IsNode m i (Choice name a b) → IsVariant m a b p x → old' ≡ old → OpensParts m s met old' x.first x.last p y r fault → Opens m s met old i p y r fault
 opens_variant {m = m} {s = s} {old = old} {p = p} sound ready is variant same h =
     let less = parts_less s.end p old (variant_fits sound is variant ready.fits.0) in
-    turn_then (rw same at h) (omega (arith, less)) (λ seen a. (seen, a, λ o q. turn_choice m is variant.0 variant.1 q))
+    turn_then (rw same at h) (omega (arith, less)) (record { keeps = λ k. k; leads = λ seen a. (seen, a, λ o q. turn_choice m is variant.0 variant.1 q) })
 
 pub opens_no_variant : {m : Checker} {s : RangeState} {met : Positions} {old : List Work} {i p a b : ℕ} {name : Bor (List ℕ)} {y : Stage} {e : Error}
     → IsNode m i (Choice name a b) → IsNoVariant m name a b p e → Opens m s met old i p y None e
@@ -93,21 +98,24 @@ opens_array {m = m} {s = s} {old = old} {p = p} sound ready is some none =
     let fits = (node_fits sound is ready.fits.0).1 in
     turn_pushed some none (λ e. record {
       ready = record { below = ready.below; fits = rw e (record { size = fits.element; few = fits.few; takes = fits.takes; fits = omega (arith, fits.within, ready.fits.0.fits) }, ready.fits.1) };
-      leads = λ seen a. (seen, rw e a, λ o q. turn_array m is (rw e at q));
+      leads = record { keeps = λ k. rw e k; leads = λ seen a. (seen, rw e a, λ o q. turn_array m is (rw e at q)) };
       ends = rw e (elements_less s.end p old fits);
     })
 
 refuses_entering : (m : Checker) (s : RangeState) (met : Positions) (old : List Work) (i p j n : ℕ) (z : ℤ) (target : PointeeKind) (e : Error)
     → ((seen : Seen) (o : Outcome) → Entering m target j n z (stage s met old) seen o → Listing m (stage s met (PartWork i p ∷ old)) seen o) → IsStopped m target j n z s e → TurnRefuses (Listing m) (stage s met (PartWork i p ∷ old)) e
 refuses_entering m s met old i p j n z target e turn (inl memory) = inl memory
-refuses_entering m s met old i p j n z target e turn (inr stopped) = inr (λ seen a.
-    let f = stopped (levels_of a) in (f.0, f.1, turn seen (refused f.0) (stops (f.2 (pending_in old) seen))))
+refuses_entering m s met old i p j n z target e turn (inr stopped) = inr (λ h.
+    let f = stopped (orderly_levels h) in (f.0, f.1, λ seen a. turn seen (refused f.0) (stops (f.2 (pending_in old) seen))))
 
 pub opens_pointer : {m : Checker} {s : RangeState} {met : Positions} {old : List Work} {i p j n : ℕ} {z : ℤ} {target : PointeeKind} {y : Stage} {r : Option (Unit {0})} {fault : Error}
     → IsNode m i (PointerNode target j) → n ≡ pointee_count m.bytes.now p target → z ≡ pos p +ℤ i32_at m.bytes.now p → ComesInto m target j n z (stage s met old) y r fault → Opens m s met old i p y r fault
 opens_pointer {m = m} {s = s} {old = old} {i = i} {y = y} {r = Some u} is en ez h = turn_taken (record {
   ready = h.some.ready;
-  leads = λ seen a. let go = h.some.leads seen a in (go.0, go.1, λ o q. turn_pointer m is (rw (en, ez) at (go.2 o q)));
+  leads = record {
+    keeps = h.some.leads.keeps;
+    leads = λ seen a. let go = h.some.leads.leads seen a in (go.0, go.1, λ o q. turn_pointer m is (rw (en, ez) at (go.2 o q)));
+  };
   ends = falls_under (cost m y.range.end y.work) (level (length m.nodes.now) s.end 0 0) (level (length m.nodes.now) s.end i 18446744073709551616) (cost m s.end old) (omega (arith, h.some.ends))
       (level_same (length m.nodes.now) s.end i 0 18446744073709551616 0 (omega arith) (omega arith));
 })
@@ -122,7 +130,10 @@ opens_following : {m : Checker} {s : RangeState} {met : Positions} {old : List W
     → FollowsThere m s met old k target j p y r fault → ((seen : Seen) (o : Outcome) → Following m k target j p (stage s met old) seen o → Listing m (stage s met (PartWork i p ∷ old)) seen o) → Opens m s met old i p y r fault
 opens_following {m = m} {s = s} {old = old} {i = i} {y = y} {r = Some u} h turn = turn_taken (record {
   ready = h.some.ready;
-  leads = λ seen a. let go = h.some.leads seen a in (go.0, go.1, λ o q. turn seen o (go.2 o q));
+  leads = record {
+    keeps = h.some.leads.keeps;
+    leads = λ seen a. let go = h.some.leads.leads seen a in (go.0, go.1, λ o q. turn seen o (go.2 o q));
+  };
   ends = falls_shared (cost m y.range.end y.work) (level (length m.nodes.now) s.end 0 0) (level (length m.nodes.now) s.end i 18446744073709551616) (cost m s.end old) (omega (arith, h.some.ends))
       (level_same (length m.nodes.now) s.end i 0 18446744073709551616 0 (omega arith) (omega arith));
 })
@@ -130,7 +141,7 @@ opens_following {m = m} {s = s} {met = met} {old = old} {i = i} {p = p} {k = k} 
   where
     by_cause : TurnRefuses (Following m k target j p) (stage s met old) fault → TurnRefuses (Listing m) (stage s met (PartWork i p ∷ old)) fault
     by_cause (inl memory) = inl memory
-    by_cause (inr stopped) = inr (λ seen a. let f = stopped seen a in (f.0, f.1, turn seen (refused f.0) f.2))
+    by_cause (inr stopped) = inr (λ k. let f = stopped k in (f.0, f.1, λ seen a. turn seen (refused f.0) (f.2 seen a)))
 
 pub opens_shared : {m : Checker} {s : RangeState} {met : Positions} {old : List Work} {i p k j : ℕ} {target : PointeeKind} {y : Stage} {r : Option (Unit {0})} {fault : Error}
     → IsNode m i (Shared k target j) → FollowsThere m s met old k target j p y r fault → Opens m s met old i p y r fault

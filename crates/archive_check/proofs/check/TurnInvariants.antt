@@ -19,7 +19,8 @@ use Rattle.archive_check.specs.plan.SoundPlans.{span, PartsWithin, SpanFits, Arr
 use Rattle.archive_check.specs.Faults.{IsFor}
 use Rattle.archive_check.specs.check.LoopInvariant.{PartsHere, PartFits, Ready, stage, pending_in, regions_in, Listing, TurnLeads, TurnRefuses, level, rank, cost}
 use Rattle.archive_check.proofs.check.TurnRules.{turn_parts, turn_elements, turn_part_last, turn_element_last, turn_elements_free}
-use Rattle.archive_check.proofs.check.ContextAgrees.{agrees_finished, finish_fine, agrees_outside, inside_more, taken_back}
+use Rattle.archive_check.proofs.check.ContextAgrees.{agrees_finished, agrees_outside, inside_more, taken_back}
+use Rattle.archive_check.proofs.check.OrderlyContexts.{orderly_finished, finish_fine, orderly_outside}
 use Rattle.archive_check.proofs.check.TurnsEnd.{level_node, level_same, falls_one, falls_two}
 use Rattle.archive_check.proofs.Elements.{same_at, span_next}
 
@@ -32,13 +33,13 @@ module _ (m : Checker) (s : RangeState) (met : Positions) where
   pub same_leads : (old new : List Work) → pending_in new ≡ pending_in old → regions_in new ≡ regions_in old
       → ((seen : Seen) (o : Outcome) → ListRuns m (pending_in old) s.depth s.end new s.start seen o → ListRuns m (pending_in old) s.depth s.end old s.start seen o)
       → TurnLeads m (Listing m) (stage s met old) (stage s met new)
-  same_leads old new e f turn seen a = (seen, rw (e, f) a, λ o r. turn seen o (rw e at r))
+  same_leads old new e f turn = record { keeps = λ h. rw (e, f) h; leads = λ seen a. (seen, rw (e, f) a, λ o r. turn seen o (rw e at r)) }
 
   pub node_leads : (old : List Work) (i p : ℕ) → ((seen : Seen) → NodeRuns m (pending_in old) s.depth s.end i p s.start seen (done s.start seen)) → TurnLeads m (Listing m) (stage s met (PartWork i p ∷ old)) (stage s met old)
-  node_leads old i p run seen a = (seen, a, λ o r. list_part (run seen) r)
+  node_leads old i p run = record { keeps = λ h. h; leads = λ seen a. (seen, a, λ o r. list_part (run seen) r) }
 
   pub node_refuses : (old : List Work) (i p : ℕ) (f : Fault) (e : Error) → IsFor f e → ((seen : Seen) → NodeRuns m (pending_in old) s.depth s.end i p s.start seen (refused f)) → TurnRefuses (Listing m) (stage s met (PartWork i p ∷ old)) e
-  node_refuses old i p f e is run = inr (λ seen a. (f, is, list_part_stop (run seen)))
+  node_refuses old i p f e is run = inr (λ h. (f, is, λ seen a. list_part_stop (run seen)))
 
   module _ (old new : List Work) where
     two_parts_ready : (a b p : ℕ) (x : Part) → Ready m s (Parts a b p ∷ old) → a < b → IsAt m.parts.now a x → new ≡ PartWork x.node (p + x.offset) ∷ Parts (a + 1) b p ∷ old → Ready m s new
@@ -124,21 +125,25 @@ module _ (m : Checker) (s : RangeState) (met : Positions) where
 
   module _ (old : List Work) where
     pub elements_free_leads : (j n p : ℕ) → IsNode m j Free → Ready m s (Elements j n p ∷ old) → TurnLeads m (Listing m) (stage s met (Elements j n p ∷ old)) (stage s met old)
-    elements_free_leads j n p is ready seen a = (seen, a, λ o r. turn_elements_free m is ready.fits.0.takes ready.fits.0.fits r)
+    elements_free_leads j n p is ready = record { keeps = λ h. h; leads = λ seen a. (seen, a, λ o r. turn_elements_free m is ready.fits.0.takes ready.fits.0.fits r) }
 
     pub leave_leads : (s' : RangeState) (met' : Positions) (x y : ℕ) → s' ≡ popped s x y → met' ≡ met → TurnLeads m (Listing m) (stage s met (Leave x y ∷ old)) (stage s' met' old)
-    leave_leads s' met' x y e same seen a =
-        (seen, rw (e, same) (agrees_outside (regions_in old) a), λ o r. list_leave (inside_more s.depth) (rw e at r))
+    leave_leads s' met' x y e same = record {
+      keeps = λ h. rw (e, same) (orderly_outside (regions_in old) h);
+      leads = λ seen a. (seen, rw (e, same) (agrees_outside (regions_in old) a), λ o r. list_leave (inside_more s.depth) (rw e at r));
+    }
 
     pub leave_refuses : (x y : ℕ) (e : Error) → s.end ≤ x → pop_answer s x ≡ Err e → TurnRefuses (Listing m) (stage s met (Leave x y ∷ old)) e
-    leave_refuses x y e le is = inr (λ seen a. absurd (let fine = taken_back s x le (λ d same. omega (arith, a.few d same)) in let clash = sym is ∙ fine in cc))
+    leave_refuses x y e le is = inr (λ h. absurd (let fine = taken_back s x le (λ d same. omega (arith, h.few d same)) in let clash = sym is ∙ fine in cc))
 
     pub finish_leads : (s' : RangeState) (met' : Positions) (k t : ℕ) (z : ℤ) → z ≡ pos t → s' ≡ s → met' ≡ finished met z → TurnLeads m (Listing m) (stage s met (Finish k t ∷ old)) (stage s' met' old)
-    finish_leads s' met' k t z at same e seen a =
-        (seen, rw (same, e, at) (agrees_finished a), λ o r. list_finish (rw same at r))
+    finish_leads s' met' k t z at same e = record {
+      keeps = λ h. rw (same, e, at) (orderly_finished h);
+      leads = λ seen a. (seen, rw (same, e, at) (agrees_finished a), λ o r. list_finish (rw same at r));
+    }
 
     pub finish_refuses : (k t : ℕ) (z : ℤ) (e : Error) → z ≡ pos t → Err e ≡ finish_answer (met z) → TurnRefuses (Listing m) (stage s met (Finish k t ∷ old)) e
-    finish_refuses k t z e at is = inr (λ seen a. absurd (let fine = is ∙ ap (λ q. finish_answer (met q)) at ∙ finish_fine a in cc))
+    finish_refuses k t z e at is = inr (λ h. absurd (let fine = is ∙ ap (λ q. finish_answer (met q)) at ∙ finish_fine h in cc))
 
 pub here_from : (m : Checker) (i p z : ℕ) (xs : List Part) → PartsWithin m i z xs → p + z ≤ length m.bytes.now → PartsHere m p xs
 here_from m i p z [] h room = tt

@@ -43,6 +43,7 @@ module _ {C R E : Type 0} (state : C → RangeState) (positions : C → Position
   -- and is entered
   pub record Entered (z key : ℤ) (checked inner : C) : Type 0 where
     pub is_checked : Checked z key checked
+    pub deep : (state checked).depth ≡ Some 1 → ⊥
     pub state_is : state inner ≡ pushed (state checked) (nat_abs key)
     pub positions_are : positions inner ≡ positions checked
 
@@ -55,26 +56,29 @@ module _ {C R E : Type 0} (state : C → RangeState) (positions : C → Position
     positions_are = c.positions_are ∙ c.is_checked.positions_are;
   }
 
+  not_last : {z key : ℤ} {checked inner : C} → Entered z key checked inner → (state old).depth ≡ Some 1 → ⊥
+  not_last c e = c.deep (ap (λ s. s.depth) c.is_checked.state_is ∙ e)
+
   pub at_call : (z key : ℤ) (r : Result R E) (y : E) (checked inner new : C) → Entered z key checked inner
       → IsErrAnd r (λ x. x ≡ y) → Call inner (Err y) new
       → Answered z r new
   at_call z key (Ok x) y checked inner new c given call = absurd given
   at_call z key (Err x) y checked inner new c given call =
-      call_refused (accepted c.is_checked) (root_is c) (entered_at c) (subst (λ x. Call inner (Err x) new) (sym given) call)
+      call_refused (accepted c.is_checked) (not_last c) (root_is c) (entered_at c) (subst (λ x. Call inner (Err x) new) (sym given) call)
 
   pub at_pop : (z key : ℤ) (e : Error) (r : Result R E) (x : R) (start : ℕ) (checked inner after new : C) → Entered z key checked inner
       → Call inner (Ok x) after → start ≡ nat_abs key + size → Err e ≡ pop_answer (state after) start → IsErrAnd r (Gives e) → state new ≡ state after → positions new ≡ positions after
       → Answered z r new
   at_pop z key e (Ok y) x start checked inner after new c call from a given s p = absurd given
   at_pop z key e (Err y) x start checked inner after new c call from a given s p =
-      pop_refused (accepted c.is_checked) (root_is c) (entered_at c) call (sym (a ∙ ap (pop_answer (state after)) from)) given (record { state_is = s; positions_are = p })
+      pop_refused (accepted c.is_checked) (not_last c) (root_is c) (entered_at c) call (sym (a ∙ ap (pop_answer (state after)) from)) given (record { state_is = s; positions_are = p })
 
   pub at_end : (z key : ℤ) (x : R) (start end : ℕ) (checked inner after new : C) → Entered z key checked inner
       → Call inner (Ok x) after → start ≡ nat_abs key + size → end ≡ (state checked).end → Ok tt ≡ pop_answer (state after) start
       → state new ≡ popped (state after) start end → positions new ≡ positions after
       → Answered z (Ok x) new
   at_end z key x start end checked inner after new c call from upto a s p =
-      entered_and_left (accepted c.is_checked) (root_is c) (entered_at c) call (sym (a ∙ ap (pop_answer (state after)) from)) (record {
+      entered_and_left (accepted c.is_checked) (not_last c) (root_is c) (entered_at c) call (sym (a ∙ ap (pop_answer (state after)) from)) (record {
         state_is = s ∙ (λ i. popped (state after) (from i) (upto i)) ∙ ap (λ st. popped (state after) (nat_abs key + size) st.end) c.is_checked.state_is;
         positions_are = p;
       })

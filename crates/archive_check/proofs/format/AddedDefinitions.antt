@@ -123,3 +123,7 @@ record_refused old name X Y same e a = rw same at (not_extended old name X e a)
 pub record_extended : (old new : Table) (name : Name) (X Y : Shape) → X ≡ Y → (b : Bool) → IsAddAnswer (definition old name) X (Ok b) → new ≡ (if b then old ++ (name, X) ∷ [] else old)
     → Extended old (defines name Y) new
 record_extended old new name X Y same b a e = rw same at (extended_by old new name X b a e)
+
+pub ruleset joining = (extended_both, first_conflicts, later_conflicts)
+
+pub ruleset adding = (extended_by, not_extended, extended_both, first_conflicts, later_conflicts)

@@ -14,7 +14,7 @@ use Rattle.archive_check.specs.Layout.{up}
 use Rattle.archive_check.specs.Definitions.{IsAlign}
 use Rattle.archive_check.specs.check.Runs.{done, refused}
 use Rattle.archive_check.specs.check.Entered.{Lands}
-use Rattle.archive_check.specs.check.LoopInvariant.{HasLevels}
+use Rattle.archive_check.specs.FreshContexts.{HasLevels}
 use Rattle.archive_check.specs.SelfCheck.Ways.{Way}
 
 -- the pointer is followed

@@ -1,8 +1,8 @@
 -- What comes of a check that follows a type alone, with no schema at hand: the same under each schema that knows the type's definitions, whatever is
 -- seen and pending.
-use Rattle.std.specs.Prelude.{◌≡◌, ℕ, List, Option, Some}
+use Rattle.std.specs.Prelude.{◌≡◌, ℕ, ℤ, List, Option, Some, None}
 use Rattle.archive_check.specs.declared.format.error.Error.{Error}
-use Rattle.archive_check.specs.Shape.{Shape, Parts, Variants, variant_at}
+use Rattle.archive_check.specs.Shape.{Shape, Pointee, Parts, Variants, variant_at}
 use Rattle.archive_check.specs.Value.{Pointer}
 use Rattle.archive_check.specs.Reads.{Schema}
 use Rattle.archive_check.specs.Ranges.{RangeState}
@@ -12,7 +12,7 @@ use Rattle.archive_check.specs.Trail.{Fault, Trips, TripsParts, TripsRun, TripsE
 use Rattle.archive_check.specs.Faults.{IsFor}
 use Rattle.archive_check.specs.Definitions.{Definitions, Knows}
 use Rattle.archive_check.specs.check.Runs.{Outcome, done, refused}
-use Rattle.archive_check.specs.check.LoopInvariant.{HasLevels}
+use Rattle.archive_check.specs.FreshContexts.{HasLevels}
 
 -- a way through an archive, under a schema: by what is pending, the levels left, the range's end and start, what is seen, and the outcome
 abbrev pub Way : Type 1
@@ -32,6 +32,10 @@ parts_way bytes p at ps s pending depth stop start seen (refused f) = TripsParts
 abbrev pub run_way : List ℕ → ℕ → ℕ → Shape → Way
 run_way bytes p n X s pending depth stop start seen (done later last) = WalkRun s bytes pending depth stop p n X start seen later last
 run_way bytes p n X s pending depth stop start seen (refused f) = TripsRun s bytes pending depth stop p n X start seen f
+
+-- a pointer to a region that is its own alone
+abbrev pub owned : ℤ → Pointee → ℕ → Pointer
+owned z P n = record { target = z; sharing = None; pointee = P; length = n }
 
 -- the region is entered that the pointer leads to
 abbrev pub enter_way : List ℕ → Pointer → Way

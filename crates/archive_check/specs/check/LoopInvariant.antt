@@ -21,6 +21,7 @@ use Rattle.archive_check.specs.Reads.{bytes_at, i32_at, IsLegal}
 use Rattle.archive_check.specs.check.Runs.{Outcome, done, refused, Takes, pointee_count, pointee_length, IsAt, IsNode, NodeRuns, ContentsRun, EnterRuns, FollowRuns, ListRuns}
 use Rattle.archive_check.specs.plan.SoundPlans.{span}
 use Rattle.archive_check.specs.Faults.{IsFor}
+use Rattle.archive_check.specs.FreshContexts.{HasLevels}
 
 -- n of the node j may be pointed to
 pub record PointeeFits (m : Checker) (target : PointeeKind) (j n : ℕ) : Type 0 where
@@ -101,6 +102,14 @@ pub record Agrees (depth : Option ℕ) (met : Positions) (pending : List ℕ) (r
   pub levels : depth ≢ Some 0
   pub few : (d : ℕ) → depth ≡ Some d → d + regions < 18446744073709551616
 
+-- Each shared position that is still to be finished is pending in the context, and none stands twice; levels are left, and as many more can be as
+-- regions are still to be left. So it is from the start of a check on, in whatever context it began.
+pub record Orderly (depth : Option ℕ) (met : Positions) (pending : List ℕ) (regions : ℕ) : Type 0 where
+  pub begun : (t : ℕ) → Contains pending t → (e : Entry) × (met (pos t) ≡ Some (record { entry = e; finished = false }))
+  pub once : AreOnce pending
+  pub levels : depth ≢ Some 0
+  pub few : (d : ℕ) → depth ≡ Some d → d + regions < 18446744073709551616
+
 -- what a check is at: the range, the positions that the context met, and what is left to do
 pub record Stage : Type 0 where
   pub range : RangeState
@@ -114,6 +123,10 @@ stage s met work = record { range = s; met = met; work = work }
 -- the context agrees with what is seen and what the list holds
 abbrev pub Agreeing : Stage → Seen → Type 0
 Agreeing x seen = Agrees x.range.depth x.met (pending_in x.work) (regions_in x.work) seen
+
+-- the context is in order with what the list holds
+abbrev pub IsOrderly : Stage → Type 0
+IsOrderly x = Orderly x.range.depth x.met (pending_in x.work) (regions_in x.work)
 
 -- first this, and then the list
 pub data Then (m : Checker) (pending : List ℕ) (depth : Option ℕ) (stop : ℕ) (First : Outcome → Type 0) (work : List Work) : Outcome → Type 0 where
@@ -136,18 +149,14 @@ Following m k target j p x seen o =
     (FollowRuns m (pending_in x.work) x.range.depth x.range.end k target j (pointee_count m.bytes.now p target) (pointee_length m.bytes.now p target) (pos p +ℤ i32_at m.bytes.now p) x.range.start seen)
     x.work o
 
--- whatever comes of the list that is left came of what was before, and the context agrees again
-abbrev pub TurnLeads : Checker → (Stage → Seen → Outcome → Type 0) → Stage → Stage → Type 0
-TurnLeads m Before x y = (seen : Seen) → Agreeing x seen → (last : Seen) × Agreeing y last × ((o : Outcome) → Listing m y last o → Before x seen o)
+-- the context stays in order; and whatever comes of the list that is left came of what was before, and the context agrees again
+pub record TurnLeads (m : Checker) (Before : Stage → Seen → Outcome → Type 0) (x y : Stage) : Type 0 where
+  pub keeps : IsOrderly x → IsOrderly y
+  pub leads : (seen : Seen) → Agreeing x seen → (last : Seen) × Agreeing y last × ((o : Outcome) → Listing m y last o → Before x seen o)
 
--- the refusal is what comes of what was before, where the context agrees
+-- the refusal says a fault, in a context that is in order, and the fault is what comes of what was before, where the context agrees
 abbrev pub TurnRefuses : (Stage → Seen → Outcome → Type 0) → Stage → Error → Type 0
-TurnRefuses Before x e = (e ≡ OutOfMemory) ⊎ ((seen : Seen) → Agreeing x seen → (f : Fault) × IsFor f e × Before x seen (refused f))
-
--- levels are left, and no more than a number holds
-pub record HasLevels (depth : Option ℕ) : Type 0 where
-  pub levels : depth ≢ Some 0
-  pub few : (d : ℕ) → depth ≡ Some d → d < 18446744073709551616
+TurnRefuses Before x e = (e ≡ OutOfMemory) ⊎ (IsOrderly x → (f : Fault) × IsFor f e × ((seen : Seen) → Agreeing x seen → Before x seen (refused f)))
 
 -- a region isn't entered, whatever is seen and pending
 abbrev pub IsStopped : Checker → PointeeKind → ℕ → ℕ → ℤ → RangeState → Error → Type 0

@@ -13,7 +13,8 @@ use Rattle.archive_check.specs.Trail.{Fault}
 use Rattle.archive_check.specs.Faults.{IsFor}
 use Rattle.archive_check.specs.check.Runs.{Outcome, done, refused, NodeRuns, PartsRun, ElementsRun, EnterRuns, ContentsRun}
 use Rattle.archive_check.specs.check.Lists.{list_of}
-use Rattle.archive_check.specs.check.LoopInvariant.{HasLevels, Stage, stage}
+use Rattle.archive_check.specs.check.LoopInvariant.{Stage, stage}
+use Rattle.archive_check.specs.FreshContexts.{HasLevels}
 
 -- a rule of the check, by what is pending, the levels left, the range's end and start, what is seen, and the outcome
 abbrev pub Rule : Type 1

@@ -13,7 +13,7 @@ use Rattle.archive_check.specs.PositionStates.{Positions}
 use Rattle.archive_check.specs.Tour.{Seen}
 use Rattle.archive_check.specs.Trail.{Fault}
 use Rattle.archive_check.specs.Faults.{IsFor}
-use Rattle.archive_check.specs.FreshContexts.{IsFresh}
+use Rattle.archive_check.specs.FreshContexts.{HasLevels, IsFresh}
 use Rattle.archive_check.specs.plan.SoundPlans.{IsSound}
 use Rattle.archive_check.specs.plan.Shallow.{IsMarked}
 use Rattle.archive_check.specs.plan.PackedPlans.{ArePacked}
@@ -78,6 +78,6 @@ RootRuns m root at s o = EnterRuns m [] s.depth s.end One root 1 (pos at) s.star
 abbrev pub RootPasses : Checker → ℕ → ℕ → RangeState → Positions → Type 0
 RootPasses m root at s met = IsFresh s met → (last : ℕ) × (known : Seen) × RootRuns m root at s (done last known)
 
--- the whole comes to this refusal
+-- the whole comes to this refusal; in any other context it says a fault, too
 abbrev pub RootStops : Checker → ℕ → ℕ → RangeState → Positions → Error → Type 0
-RootStops m root at s met e = (e ≡ OutOfMemory) ⊎ (IsFresh s met → (f : Fault) × IsFor f e × RootRuns m root at s (refused f))
+RootStops m root at s met e = (e ≡ OutOfMemory) ⊎ (HasLevels s.depth → (f : Fault) × IsFor f e × (IsFresh s met → RootRuns m root at s (refused f)))

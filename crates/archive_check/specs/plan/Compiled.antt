@@ -6,9 +6,12 @@ use Rattle.archive_check.specs.declared.plan.Node.{Node}
 use Rattle.archive_check.specs.declared.plan.Part.{Part as PlanPart}
 use Rattle.archive_check.specs.declared.plan.Span.{Span}
 use Rattle.archive_check.specs.declared.check.Checker.{Checker}
+use Rattle.archive_check.specs.declared.plan.Plan.{Plan}
+use Rattle.archive_check.specs.declared.plan.compile.Scope.{Scope}
+use Rattle.archive_check.specs.declared.plan.queue.Queue.{Queue}
 use Rattle.archive_check.specs.declared.plan.growing.NamedNode.{NamedNode}
 use Rattle.archive_check.specs.declared.plan.growing.LaidRange.{LaidRange}
-use Rattle.archive_check.specs.Shape.{Name, Shape, named, shared, weak, Flavor, Pointee, Parts, Variants, variant_at}
+use Rattle.archive_check.specs.Shape.{Name, Shape, str, named, shared, weak, Flavor, Pointee, Parts, Variants, variant_at}
 use Rattle.archive_check.specs.Layout.{Layouts, size_of, align_of, parts_end, parts_align, variants_end, variants_align, pointer_size}
 use Rattle.archive_check.specs.Reads.{Schema, LaidOut}
 use Rattle.archive_check.specs.check.Runs.{IsAt, IsNode, Takes, pointer_bytes}
@@ -17,9 +20,9 @@ use Rattle.archive_check.specs.plan.Represents.{StandsFor, PartsStand, Sized, Po
 use Rattle.archive_check.specs.plan.BoundedSizes.{fits}
 use Rattle.archive_check.specs.plan.NodeCounts.{count_of, count_pointee, counts_of, variant_counts_of}
 use Rattle.archive_check.specs.plan.Measure.{measure_of, measure_of_parts, measure_of_variants, measure_of_pointee}
-use Rattle.archive_check.specs.plan.PlanGrowth.{node_of, PlanLists, lists_in, Goes, Grows}
+use Rattle.archive_check.specs.plan.PlanGrowth.{node_of, PlanLists, lists_of, lists_in, Goes, Grows}
 use Rattle.archive_check.specs.plan.Compilable.{Can, CanParts, CanVariants, CanPoint, CanWait, AllKnown}
-use Rattle.archive_check.specs.plan.CompileQueue.{Wait, Waits, Reserved, measure_of_waits}
+use Rattle.archive_check.specs.plan.CompileQueue.{Wait, Waits, waits_of, Reserved, measure_of_waits}
 
 -- a pointer to what others may point to as well: a weak one may be null
 abbrev pub counted : Bool → Flavor → Pointee → Shape
@@ -184,3 +187,34 @@ pub record CompiledVariants (names : List NamedNode) (done : ℕ) (vs : Variants
   pub stand : (s : Schema) (shapes : ℕ → Shape) (m : Checker) → Follows b m → Settled names w.items s shapes m → Given shapes (length a.nodes) gives
       → (e : ℕ) → laid.end ≡ Some e → (tag : ℕ) (x : Span) → laid.first + tag < laid.last → IsAt m.variants.now (laid.first + tag) x → IsVariant s shapes m vs tag x
   pub others : (tag : ℕ) → laid.last ≤ laid.first + tag → variant_at vs tag ≡ None
+
+-- what is compiled so far: what waits, and the plan's lists
+pub record Progress : Type 0 where
+  pub waits : Waits
+  pub lists : PlanLists
+
+abbrev pub so_far : Queue → Plan → Progress
+so_far queue plan = record { waits = waits_of queue; lists = lists_of plan }
+
+-- an X was compiled to the node j, from one progress to the next
+abbrev pub IsCompiled : Scope → Shape → Progress → Progress → ℕ → Type 0
+IsCompiled scope X x y j = Compiled scope.names.now scope.done X x.waits y.waits x.lists y.lists j
+
+-- likewise, whichever names are there
+abbrev pub IsCompiledAnywhere : List NamedNode → Shape → Progress → Progress → ℕ → Type 0
+IsCompiledAnywhere names X x y j = (done : ℕ) → Compiled names done X x.waits y.waits x.lists y.lists j
+
+-- a string, whatever the names and what waits
+abbrev pub IsStringCompiled : PlanLists → PlanLists → ℕ → Type 0
+IsStringCompiled a b j = (names : List NamedNode) (done : ℕ) (w : Waits) → Compiled names done str w w a b j
+
+-- what a pointer leads to
+abbrev pub IsPointeeCompiled : List NamedNode → Pointee → Progress → Progress → PointeeKind → ℕ → Type 0
+IsPointeeCompiled names P x y target j = CompiledPointee names P x.waits y.waits x.lists y.lists target j
+
+-- parts from an offset on, and variants
+abbrev pub ArePartsCompiled : Scope → ℕ → Parts → Progress → Progress → LaidRange → Type 0
+ArePartsCompiled scope start ps x y laid = CompiledParts scope.names.now scope.done start ps x.waits y.waits x.lists y.lists laid
+
+abbrev pub AreVariantsCompiled : Scope → Variants → Progress → Progress → LaidRange → Type 0
+AreVariantsCompiled scope vs x y laid = CompiledVariants scope.names.now scope.done vs x.waits y.waits x.lists y.lists laid

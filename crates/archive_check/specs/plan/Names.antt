@@ -1,9 +1,11 @@
 -- The names in expressions, and the definitions that they need.
-use Rattle.std.specs.Prelude.{◌≡◌, ◌≢◌, ℕ, suc, ◌<◌, Bool, true, false, Option, Some, None, cond, is_some, List, [], ◌∷◌, length, take, get_or, Contains, ◌++◌}
+use Rattle.std.specs.Prelude.{◌≡◌, ◌≢◌, ◌⊎◌, ℕ, suc, ◌<◌, Bool, true, false, Option, Some, None, cond, is_some, List, [], ◌∷◌, length, take, get_or, Contains, ◌++◌}
 use Rattle.std.specs.List.{remove}
 use Rattle.archive_check.specs.declared.format.defs.Def.{Def}
+use Rattle.archive_check.specs.declared.format.error.Error.{Error}
+use Rattle.archive_check.specs.declared.format.error.Error.TheVariants.{OutOfMemory, ShapeConflict, RecursiveLayout}
 use Rattle.archive_check.specs.Expressions.{shape_of, entries_of}
-use Rattle.archive_check.specs.Defined.{Reaches, WellFormed}
+use Rattle.archive_check.specs.Defined.{Reaches, HeldIn, WellFormed}
 use Rattle.archive_check.specs.Definitions.{Definitions, listed}
 use Rattle.archive_check.specs.plan.NodeNumbers.{def_shapes}
 use Rattle.archive_check.specs.Shape.{Name, Shape, parts, choice, array, boxed, vec, shared, weak, named, Pointee, one, run, text, Parts, no_part, part, Variants, no_variant, variant, Table, definition}
@@ -107,3 +109,17 @@ pub record Prepared (D : Definitions) (X : Shape) (table : Table) : Type 0 where
   pub complete : HasAll table X
   pub ordered : Arranged table table
   pub well_formed : WellFormed (listed D) X
+
+-- why names have no definitions, or no order: memory was refused, this name has none, one that X reaches has none, no definition is ready, or one is
+-- held in itself
+abbrev pub ExplainsUndefined : Table → Name → Error → Type 0
+ExplainsUndefined table name e = (e ≡ OutOfMemory) ⊎ ((e ≡ ShapeConflict) × (definition table name ≡ None))
+
+abbrev pub ExplainsMissing : Table → Shape → Error → Type 0
+ExplainsMissing table X e = (e ≡ OutOfMemory) ⊎ ((e ≡ ShapeConflict) × (name : Name) × Reaches table name X × (definition table name ≡ None))
+
+abbrev pub ExplainsNoneReady : Table → List Def → Error → Type 0
+ExplainsNoneReady placed rest e = (e ≡ OutOfMemory) ⊎ ((e ≡ RecursiveLayout) × NextReady placed rest None)
+
+abbrev pub ExplainsHeld : Table → Error → Type 0
+ExplainsHeld table e = (e ≡ OutOfMemory) ⊎ ((e ≡ RecursiveLayout) × (name : Name) × (Y : Shape) × (definition table name ≡ Some Y) × HeldIn table name Y)

@@ -6,6 +6,7 @@ use Rattle.archive_check.specs.declared.plan.NodeKind.TheVariants.{Free, Leaf, R
 use Rattle.archive_check.specs.declared.plan.Node.{Node}
 use Rattle.archive_check.specs.declared.plan.Part.{Part}
 use Rattle.archive_check.specs.declared.plan.Span.{Span}
+use Rattle.archive_check.specs.declared.plan.Plan.{Plan}
 use Rattle.archive_check.specs.declared.check.Checker.{Checker}
 use Rattle.archive_check.specs.check.Runs.{IsAt}
 use Rattle.archive_check.specs.plan.SoundPlans.{span}
@@ -90,3 +91,16 @@ pub record IsMarked (m : Checker) : Type 0 where
 -- the node i is shallow
 abbrev pub IsShallow : Checker → ℕ → Type 0
 IsShallow m i = (x : Node) → IsAt m.nodes.now i x → IsTrue (kind_shallow m.nodes.now m.parts.now m.variants.now m.shallow.now x.kind)
+
+-- the same of a plan's own lists
+abbrev pub shallow_in : Plan → List Bool → NodeKind → Bool
+shallow_in plan marks kind = kind_shallow plan.nodes.items plan.parts.items plan.variants.items marks kind
+
+abbrev pub HasItsIndexes : Plan → NodeKind → Type 0
+HasItsIndexes plan kind = HasIndexes plan.parts.items plan.variants.items kind
+
+abbrev pub AreShallowIn : Plan → List Bool → Type 0
+AreShallowIn plan marks = AreShallow plan.nodes.items plan.parts.items plan.variants.items marks
+
+abbrev pub AreAllMarkedIn : Plan → List Bool → Type 0
+AreAllMarkedIn plan marks = AreAllMarked plan.nodes.items plan.parts.items plan.variants.items marks

@@ -108,7 +108,8 @@ impl Checker<'_> {
         context: &mut C,
     ) -> Option<Region>
         requires known { pointee < length self.now.nodes.now }
-        ensures enters { EntersRegion C.state C.positions self.now pointee count position context.old context.new work.old work.new result }
+        ensures enters { EntersRegion C.state C.positions self.now pointee count position
+            context.old context.new work.old work.new result }
         ensures pushes { OnSome result ((C.state context.new).pushes ≤ (C.state context.old).pushes + 1) }
         ensures unchanged { IfNone result (C.state context.new ≡ C.state context.old) }
         ensures list { list_of work.new ≡ list_of work.old }
@@ -154,7 +155,8 @@ impl Checker<'_> {
         requires pointee { PointeeFits self.now target pointee count }
         requires within { begin + size ≤ length self.now.bytes.now }
         requires ends { (C.state context.old).end ≡ begin }
-        ensures passes { PassesHeld C.state C.positions self.now target pointee count begin size context.old context.new work.old work.new result }
+        ensures passes { PassesHeld C.state C.positions self.now target pointee count begin size
+            context.old context.new work.old work.new result }
         ensures pays { Pays C.state self.now size context.old context.new work.old work.new }
     {
         if let PointeeKind::Text = target {
@@ -194,7 +196,8 @@ impl Checker<'_> {
         requires plan { IsCheckable self.now }
         requires ready { Ready self.now (C.state context.old) (list_of work.old) }
         requires pointee { PointeeFits self.now target pointee count }
-        ensures enters { Enters C.state C.positions self.now target pointee count position context.old context.new work.old work.new result }
+        ensures enters { Enters C.state C.positions self.now target pointee count position
+            context.old context.new work.old work.new result }
         ensures pays { Pays C.state self.now 4 context.old context.new work.old work.new }
     {
         let region = self.enter_region(pointee, count, position, work, context)?;
@@ -227,7 +230,8 @@ impl Checker<'_> {
         requires plan { IsCheckable self.now }
         requires ready { Ready self.now (C.state context.old) (list_of work.old) }
         requires pointee { PointeeFits self.now target pointee count }
-        ensures enters { Enters C.state C.positions self.now target pointee count position context.old context.new work.old work.new result }
+        ensures enters { Enters C.state C.positions self.now target pointee count position
+            context.old context.new work.old work.new result }
         ensures pays { Pays C.state self.now 4 context.old context.new work.old work.new }
     {
         self.enter_here(target, pointee, count, position, work, context)

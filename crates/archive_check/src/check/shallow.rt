@@ -38,7 +38,8 @@ impl Checker<'_> {
         requires pointee { PointeeFits self.now target pointee count }
         requires shallow { target ≢ Text → IsTrue (free_at self.now.nodes.now pointee) }
         requires below { (C.state context.old).end ≤ length self.now.bytes.now }
-        ensures passes { PassesRegion C.state C.positions self.now target pointee count position context.old context.new work.old work.new result }
+        ensures passes { PassesRegion C.state C.positions self.now target pointee count position
+            context.old context.new work.old work.new result }
         ensures pays { Pays C.state self.now 4 context.old context.new work.old work.new }
     {
         let region = self.enter_region(pointee, count, position, work, context)?;
@@ -66,7 +67,8 @@ impl Checker<'_> {
         requires shallow { target ≢ Text → IsTrue (free_at self.now.nodes.now pointee) }
         requires fits { PartFits self.now node at }
         requires below { (C.state context.old).end ≤ length self.now.bytes.now }
-        ensures passes { Passes C.state C.positions (node_rule self.now node at) context.old context.new work.old work.new result }
+        ensures passes { Passes C.state C.positions (node_rule self.now node at)
+            context.old context.new work.old work.new result }
         ensures pays { Pays C.state self.now (size_at self.now.nodes.now node) context.old context.new work.old work.new }
     {
         let count = self.count(target, at);
@@ -88,7 +90,8 @@ impl Checker<'_> {
         requires kind { IsNode self.now node (Str pointee) }
         requires fits { PartFits self.now node at }
         requires below { (C.state context.old).end ≤ length self.now.bytes.now }
-        ensures passes { Passes C.state C.positions (node_rule self.now node at) context.old context.new work.old work.new result }
+        ensures passes { Passes C.state C.positions (node_rule self.now node at)
+            context.old context.new work.old work.new result }
         ensures pays { Pays C.state self.now (size_at self.now.nodes.now node) context.old context.new work.old work.new }
     {
         if is_out_of_line(self.bytes, at) {
@@ -126,7 +129,8 @@ impl Checker<'_> {
         requires shallow { IsShallow self.now node }
         requires fits { PartFits self.now node at }
         requires below { (C.state context.old).end ≤ length self.now.bytes.now }
-        ensures passes { PassesIf C.state C.positions (node_rule self.now node at) context.old context.new work.old work.new result }
+        ensures passes { PassesIf C.state C.positions (node_rule self.now node at)
+            context.old context.new work.old work.new result }
         ensures pays { Pays C.state self.now (size_at self.now.nodes.now node) context.old context.new work.old work.new }
     {
         let here = self.nodes[node];
@@ -157,8 +161,10 @@ impl Checker<'_> {
         requires shallow { IsTrue (parts_shallow self.now.shallow.now (span self.now.parts.now variant.first variant.last)) }
         requires fits { PartsFit self.now variant.first variant.last at }
         requires below { (C.state context.old).end ≤ length self.now.bytes.now }
-        ensures passes { PassesIf C.state C.positions (span_rule self.now variant at) context.old context.new work.old work.new result }
-        ensures pays { Pays C.state self.now (bytes_of_parts self.now variant.first variant.last) context.old context.new work.old work.new }
+        ensures passes { PassesIf C.state C.positions (span_rule self.now variant at)
+            context.old context.new work.old work.new result }
+        ensures pays { Pays C.state self.now (bytes_of_parts self.now variant.first variant.last)
+            context.old context.new work.old work.new }
     {
         if variant.last.saturating_sub(variant.first) == 1 {
             let part = self.parts[variant.first];
@@ -181,7 +187,8 @@ impl Checker<'_> {
         requires shallow { IsShallow self.now node }
         requires fits { PartFits self.now node at }
         requires below { (C.state context.old).end ≤ length self.now.bytes.now }
-        ensures passes { Passes C.state C.positions (node_rule self.now node at) context.old context.new work.old work.new result }
+        ensures passes { Passes C.state C.positions (node_rule self.now node at)
+            context.old context.new work.old work.new result }
         ensures pays { Pays C.state self.now (size_at self.now.nodes.now node) context.old context.new work.old work.new }
     {
         let here = self.nodes[node];
@@ -228,7 +235,8 @@ impl Checker<'_> {
         requires shallow { IsTrue (parts_shallow self.now.shallow.now (span self.now.parts.now first last)) }
         requires fits { PartsFit self.now first last base }
         requires below { (C.state context.old).end ≤ length self.now.bytes.now }
-        ensures passes { Passes C.state C.positions (parts_rule self.now first last base) context.old context.new work.old work.new result }
+        ensures passes { Passes C.state C.positions (parts_rule self.now first last base)
+            context.old context.new work.old work.new result }
         ensures pays { Pays C.state self.now (bytes_of_parts self.now first last) context.old context.new work.old work.new }
     {
         for index in first..last {
@@ -253,7 +261,8 @@ impl Checker<'_> {
         requires shallow { IsTrue (marked self.now.shallow.now node) }
         requires fits { ElementsFit self.now node count at }
         requires below { (C.state context.old).end ≤ length self.now.bytes.now }
-        ensures passes { Passes C.state C.positions (elements_rule self.now node count at) context.old context.new work.old work.new result }
+        ensures passes { Passes C.state C.positions (elements_rule self.now node count at)
+            context.old context.new work.old work.new result }
         ensures pays { Pays C.state self.now (bytes_of_elements self.now node count) context.old context.new work.old work.new }
     {
         let size = self.nodes[node].size.unwrap_or(0);

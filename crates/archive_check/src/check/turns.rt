@@ -5,6 +5,7 @@ ghost use Rattle.archive_check.specs.declared.check.worklist.Work.TheVariants.{P
 ghost use Rattle.archive_check.specs.check.Lists.{list_of};
 ghost use Rattle.archive_check.specs.check.Runs.{pointer_bytes};
 ghost use Rattle.archive_check.specs.check.LoopInvariant.{Ready};
+ghost use Rattle.archive_check.specs.FreshContexts.{KeepsLevels};
 ghost use Rattle.archive_check.specs.Pushes.{FewPushed};
 ghost use Rattle.archive_check.specs.plan.PackedPlans.{size_at};
 ghost use Rattle.archive_check.specs.check.Paid.{Pays, bytes_of, bytes_of_parts};
@@ -34,7 +35,8 @@ impl Checker<'_> {
         requires within { at + pointer_bytes target ≤ length self.now.bytes.now }
         requires shared_type { shared_type < length self.now.shared_types.now }
         requires pointee { pointee < length self.now.nodes.now }
-        ensures follows { Follows C.state C.positions self.now shared_type target pointee at context.old context.new work.old work.new result }
+        ensures follows { Follows C.state C.positions self.now shared_type target pointee at
+            context.old context.new work.old work.new result }
         ensures pays { Pays C.state self.now 4 context.old context.new work.old work.new }
     {
         let count = self.count(target, at);
@@ -72,7 +74,8 @@ impl Checker<'_> {
     ) -> Option<()>
         requires plan { IsCheckable self.now }
         requires ready { Ready self.now (C.state context.old) (PartsWork first last base ∷ list_of work.old) }
-        ensures turn { Turn C.state C.positions self.now (PartsWork first last base) context.old context.new work.old work.new result }
+        ensures turn { Turn C.state C.positions self.now (PartsWork first last base)
+            context.old context.new work.old work.new result }
         ensures pays { Pays C.state self.now (bytes_of_parts self.now first last) context.old context.new work.old work.new }
     {
         let next = self.first_to_open(first, last, base);
@@ -188,7 +191,9 @@ impl Checker<'_> {
         requires known { root < length self.now.nodes.now }
         requires none_left { list_of work.old ≡ [] }
         ensures ok { OnSome result (RootPasses self.now root at (C.state context.old) (C.positions context.old)) }
-        ensures err { IfNone result (RootStops self.now root at (C.state context.old) (C.positions context.old) work.new.fault) }
+        ensures err { IfNone result (RootStops self.now root at (C.state context.old) (C.positions context.old)
+            work.new.fault) }
+        ensures levels { OnSome result (KeepsLevels (C.state context.old) (C.state context.new)) }
         ensures few_subtrees { FewPushed (C.state context.old) (C.state context.new) }
     {
         self.enter_here(PointeeKind::One, root, 1, at as i128, work, context)?;

@@ -4,6 +4,8 @@ ghost use Rattle.std.specs.Prelude.{◌<◌, ◌≤◌, length, OnOk, IfErr};
 ghost use Rattle.archive_check.specs.plan.SoundPlans.{IsSound};
 ghost use Rattle.archive_check.specs.plan.Shallow.{IsMarked};
 ghost use Rattle.archive_check.specs.plan.PackedPlans.{ArePacked};
+ghost use Rattle.archive_check.specs.Faults.{IsOfCheck};
+ghost use Rattle.archive_check.specs.FreshContexts.{HasLevels, KeepsLevels};
 ghost use Rattle.archive_check.specs.Pushes.{FewPushed};
 ghost use Rattle.archive_check.specs.check.PlanChecks.{WholeAccepts, WholeRefuses, WholeIsExact};
 
@@ -32,6 +34,8 @@ impl Checker<'_> {
         ensures ok { OnOk result (WholeAccepts self.now root at (C.state context.old) (C.positions context.old)) }
         ensures err { IfErr result (λ e. WholeRefuses self.now root at (C.state context.old) (C.positions context.old) e) }
         ensures exact { WholeIsExact self.now root at (C.state context.old) (C.positions context.old) result }
+        ensures of_check { IfErr result (λ e. HasLevels (C.state context.old).depth → IsOfCheck e) }
+        ensures levels { OnOk result (KeepsLevels (C.state context.old) (C.state context.new)) }
         ensures few_subtrees { FewPushed (C.state context.old) (C.state context.new) }
     {
         prove!(self.bytes.len() <= usize::MAX);

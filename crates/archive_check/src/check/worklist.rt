@@ -138,7 +138,8 @@ impl Worklist {
 
     /// What `parts` leaves, where there are any.
     pub fn more_parts(&mut self, first: usize, last: usize, base: usize) -> Option<()>
-        ensures some { OnSome result (IsMore (Work.Parts first last base) (last ≤ first) (list_of self.new) (list_of self.old)) }
+        ensures some { OnSome result (IsMore (Work.Parts first last base) (last ≤ first) (list_of self.new)
+            (list_of self.old)) }
         ensures none { IfNone result (self.new.fault ≡ Error.OutOfMemory) }
         ensures kept { IfNone result (list_of self.new ≡ list_of self.old) }
     {

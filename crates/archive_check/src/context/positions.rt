@@ -3,10 +3,10 @@
 ghost use Rattle.std.specs.Prelude.{◌≡◌, ◌⊎◌, ◌↔◌, ◌≤◌, IsTrue, Some, None, IfOk, IfErr};
 ghost use Rattle.std.specs.HashMap.{get};
 ghost use Rattle.std.specs.Ordering.{int_eq};
-ghost use Rattle.archive_check.specs.SharedPositions.{met_as, AreKnown, HasType, IsAbsent, IsGrown};
+ghost use Rattle.archive_check.specs.SharedPositions.{met_as, AreKnown, HasType, IsGrown, IsType, IsAddedOnce};
 ghost use Rattle.archive_check.specs.Expressions.{flavor_of, pointee_of};
 ghost use Rattle.archive_check.specs.Ranges.{whole};
-ghost use Rattle.archive_check.specs.PositionStates.{nothing_met, IsStartAnswer};
+ghost use Rattle.archive_check.specs.PositionStates.{nothing_met, IsStartAnswer, entry_as};
 ghost use Rattle.archive_check.specs.declared.format.error.Error.TheVariants.{OutOfMemory};
 
 use crate::context::{Context, SharedContext, ValidationState};
@@ -28,7 +28,7 @@ struct SharedPosition {
 // Whether a type is this one, as written.
 #[tactic(auto, using(crate::proofs::context::SharedPositions::same_type))]
 fn is_of(shared_type: &SharedType, flavor: &FlavorInfo, pointee: &Pointee) -> bool
-    ensures { IsTrue result ↔ ((flavor_of shared_type.now.flavor ≡ flavor_of flavor.now) × (pointee_of shared_type.now.pointee ≡ pointee_of pointee.now)) }
+    ensures { IsTrue result ↔ IsType shared_type.now (flavor_of flavor.now) (pointee_of pointee.now) }
 {
     shared_type.flavor == *flavor && shared_type.pointee == *pointee
 }
@@ -42,7 +42,7 @@ impl SharedPosition {
         pointee: &Pointee,
         length: usize,
     ) -> Result<ValidationState, Error>
-        ensures { IsStartAnswer (Some (met_as self.now shared_type.now)) (record { flavor = flavor_of flavor.now; pointee = pointee_of pointee.now; length = length }) result }
+        ensures { IsStartAnswer (Some (met_as self.now shared_type.now)) (entry_as flavor.now pointee.now length) result }
     {
         if !is_of(shared_type, flavor, pointee) {
             return Err(Error::TypeMismatch);
@@ -159,7 +159,8 @@ fn type_index<A: Allocator>(
 ) -> Result<usize, AllocError>
     ensures found { IfOk result (λ k. HasType shared_types.new.items k (flavor_of flavor.now) (pointee_of pointee.now)) }
     ensures kept { IsGrown shared_types.old.items shared_types.new.items }
-    ensures once { (shared_types.new.items ≡ shared_types.old.items) ⊎ IsAbsent shared_types.old.items (flavor_of flavor.now) (pointee_of pointee.now) }
+    ensures once { IsAddedOnce shared_types.old.items shared_types.new.items (flavor_of flavor.now)
+        (pointee_of pointee.now) }
 {
     for (place, shared_type) in shared_types.iter().enumerate() {
         if is_of(shared_type, flavor, pointee) {

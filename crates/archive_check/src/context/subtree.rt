@@ -18,8 +18,10 @@ pub trait ArchiveContextExt: ArchiveContext {
         E: From<Error> + Drop,
         F: FnOnce(&mut Self) -> Result<R, E> + Drop,
     >(&mut self, position: i128, layout: &Layout, f: F) -> Result<R, E>
-        requires { IsCallable Self.state Self.positions (λ inner. F.pre f inner) self.old position layout.now.size layout.now.align }
-        ensures { InSubtree Self.state Self.positions (λ inner answer after. FnOnceReturnsAtMut F.FnOnce f inner answer after) E.from_gives self.old position layout.now.size layout.now.align result self.new }
+        requires { IsCallable Self.state Self.positions (λ inner. F.pre f inner) self.old position layout.now.size
+            layout.now.align }
+        ensures { InSubtree Self.state Self.positions (λ inner answer after. FnOnceReturnsAtMut F.FnOnce f inner answer after)
+            E.from_gives self.old position layout.now.size layout.now.align result self.new }
     {
         self.check_subtree_ptr(position, layout)?;
         let root = position as usize;

@@ -40,7 +40,8 @@ impl Defs {
     #[tactic(auto, using(crate::proofs::plan::Named::tables))]
     pub fn add(&mut self, name: &'static str, expr: Expr) -> Result<bool, Error>
         ensures answer { IsAddAnswer (definition (table_of self.old) name.now) (shape_of expr) result }
-        ensures added { IfOk result (λ new. table_of self.new ≡ (if new then table_of self.old ++ (name.now, shape_of expr) ∷ [] else table_of self.old)) }
+        ensures added { IfOk result (λ new. table_of self.new
+            ≡ (if new then table_of self.old ++ (name.now, shape_of expr) ∷ [] else table_of self.old)) }
         ensures unchanged { OnErr result (table_of self.new ≡ table_of self.old) }
     {
         match find(&self.items, name) {

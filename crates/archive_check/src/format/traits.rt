@@ -1,15 +1,15 @@
 //! What archived types, keys and entries tell of themselves.
 
-ghost use Rattle.std.specs.Prelude.{◌≡◌, ◌⊎◌, ℕ, min, Bool, true, false, refl, IsTrue, Option, None, OnOk, IfOk, IfErr};
+ghost use Rattle.std.specs.Prelude.{◌≡◌, ℕ, min, Bool, true, false, refl, IsTrue, Option, None, OnOk, IfOk, IfErr};
 ghost use Rattle.archive_check.specs.Shape.{Shape, Pointee, one};
 ghost use Rattle.archive_check.specs.Layout.{Layout as LayoutOf};
 ghost use Rattle.archive_check.specs.Expressions.{shape_of, table_of};
-ghost use Rattle.archive_check.specs.Definitions.{Definitions, HasLayout, IsAlign, NoOthers, Extended, Conflicts};
+ghost use Rattle.archive_check.specs.Definitions.{Definitions, HasLayout, IsAlign, NoOthers, Extended, ExplainsConflict};
 ghost use Rattle.archive_check.specs.Entries.{NoEntries};
 ghost use Rattle.archive_check.specs.Pooled.{Kept};
 ghost use Rattle.archive_check.specs.SelfCheck.Laws.{IsCheckOf};
 ghost use Rattle.archive_check.specs.WriterState.{WriterState, no_keys, only_keys, only_bytes};
-ghost use Rattle.archive_check.specs.declared.format.error.Error.TheVariants.{OutOfMemory, ShapeConflict};
+ghost use Rattle.archive_check.specs.declared.format.error.Error.TheVariants.{OutOfMemory};
 
 use crate::format::error::Error;
 use crate::format::expr::{Defs, Expr};
@@ -79,7 +79,7 @@ pub trait Portable: ArchivePointee {
     /// `ShapeConflict`, 30, where a name has another definition in `defs` already, or two. Memory comes from `alloc` and from that of `defs`.
     fn define(alloc: Global, defs: &mut Defs) -> Result<(), Error>
         ensures added { OnOk result (Extended (table_of defs.old) Self.definitions (table_of defs.new)) }
-        ensures refused { IfErr result (λ e. (e ≡ OutOfMemory) ⊎ ((e ≡ ShapeConflict) × Conflicts (table_of defs.old) Self.definitions)) };
+        ensures refused { IfErr result (ExplainsConflict (table_of defs.old) Self.definitions) };
 
     ghost is_one: { Self.pointee ≡ one shape };
 
@@ -89,7 +89,8 @@ pub trait Portable: ArchivePointee {
 
     ghost no_others: { NoOthers Self.definitions shape };
 
-    ghost checks: { IsTrue Self.Check.direct → IsCheckOf Self.definitions shape layout.size Self.Check.definitions Self.Check.shape Self.Check.span };
+    ghost checks: { IsTrue Self.Check.direct
+        → IsCheckOf Self.definitions shape layout.size Self.Check.definitions Self.Check.shape Self.Check.span };
 }
 
 /// What tells contracts the state of a writer: its bytes, its room, its device's failures and the states of the shared keys. It has no calls. Our own.

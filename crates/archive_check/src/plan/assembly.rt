@@ -28,7 +28,8 @@ fn compile_defs<'e>(
     requires new_plan { lists_of plan.old ≡ no_lists }
     requires new_queue { waits_of queue.old ≡ no_waits queue.old.next }
     requires can { CanChain names.now (def_shapes defs.now) }
-    ensures { OnOk result (Chained names.now (def_shapes defs.now) queue.old.next (waits_of queue.new) (lists_of plan.new)) }
+    ensures { OnOk result (Chained names.now (def_shapes defs.now) queue.old.next (waits_of queue.new)
+        (lists_of plan.new)) }
 {
     for i in 0..defs.len() {
         let done = plan.nodes.len();
@@ -46,7 +47,8 @@ fn compile_waiting<'e>(
     queue: &mut Queue<'e>,
 ) -> Result<(), AllocError>
     requires { CanFinish names.now (waits_of queue.old) (lists_of plan.old) }
-    ensures { OnOk result (Finishes names.now (waits_of queue.old) (waits_of queue.new) (lists_of plan.old) (lists_of plan.new)) }
+    ensures { OnOk result (Finishes names.now (waits_of queue.old) (waits_of queue.new) (lists_of plan.old)
+        (lists_of plan.new)) }
 {
     let mut i = 0;
     while i < queue.items.len() {

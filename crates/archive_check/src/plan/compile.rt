@@ -3,14 +3,12 @@
 //! Each case has a function of its own, which is never inlined: a call's frame is cleared when it is entered, so that one large function would
 //! clear at each node what all of the cases need.
 
-ghost use Rattle.std.specs.Prelude.{◌≡◌, ◌≤◌, ℕ, List, IfOk, true, false, length};
+ghost use Rattle.std.specs.Prelude.{◌≡◌, ◌≤◌, IfOk, true, false, length};
 ghost use Rattle.archive_check.specs.Expressions.{shape_of, flavor_of, pointee_of, shapes_in, variants_in};
-ghost use Rattle.archive_check.specs.Shape.{parts as record_of, choice, array, boxed, vec, str};
+ghost use Rattle.archive_check.specs.Shape.{parts as record_of, choice, array, boxed, vec};
 ghost use Rattle.archive_check.specs.plan.PlanGrowth.{lists_of, IsCopied};
-ghost use Rattle.archive_check.specs.plan.CompileQueue.{Waits, waits_of};
-ghost use Rattle.archive_check.specs.declared.plan.growing.NamedNode.{NamedNode};
 ghost use Rattle.archive_check.specs.plan.Compilable.{Can, CanParts, CanVariants, CanPoint, CanWait};
-ghost use Rattle.archive_check.specs.plan.Compiled.{counted, Compiled, CompiledPointee, CompiledParts, CompiledVariants};
+ghost use Rattle.archive_check.specs.plan.Compiled.{counted, so_far, IsCompiled, IsCompiledAnywhere, IsStringCompiled, IsPointeeCompiled, ArePartsCompiled, AreVariantsCompiled};
 
 use crate::format::expr::{Expr, FlavorInfo, Pointee};
 use crate::plan::extents::{offset_of, pointer_size, times};
@@ -73,7 +71,8 @@ fn compile_pointee<'e>(
     queue: &mut Queue<'e>,
 ) -> Result<(PointeeKind, usize), AllocError>
     requires { CanPoint names.now (pointee_of pointee.now) }
-    ensures { IfOk result (λ r. CompiledPointee names.now (pointee_of pointee.now) (waits_of queue.old) (waits_of queue.new) (lists_of plan.old) (lists_of plan.new) r.0 r.1) }
+    ensures { IfOk result (λ r. IsPointeeCompiled names.now (pointee_of pointee.now)
+        (so_far queue.old plan.old) (so_far queue.new plan.new) r.0 r.1) }
 {
     match pointee {
         Pointee::One(x) => {
@@ -100,7 +99,8 @@ fn compile_box<'e>(
     queue: &mut Queue<'e>,
 ) -> Result<usize, AllocError>
     requires { CanPoint names.now (pointee_of pointee.now) }
-    ensures { IfOk result (λ j. (done : ℕ) → Compiled names.now done (boxed (pointee_of pointee.now)) (waits_of queue.old) (waits_of queue.new) (lists_of plan.old) (lists_of plan.new) j) }
+    ensures { IfOk result (IsCompiledAnywhere names.now (boxed (pointee_of pointee.now))
+        (so_far queue.old plan.old) (so_far queue.new plan.new)) }
 {
     let (target, pointee) = compile_pointee(names, pointee, plan, queue)?;
     push(
@@ -120,7 +120,8 @@ fn compile_vec<'e>(
     queue: &mut Queue<'e>,
 ) -> Result<usize, AllocError>
     requires { CanWait names.now (shape_of element.now) }
-    ensures { IfOk result (λ j. (done : ℕ) → Compiled names.now done (vec (shape_of element.now)) (waits_of queue.old) (waits_of queue.new) (lists_of plan.old) (lists_of plan.new) j) }
+    ensures { IfOk result (IsCompiledAnywhere names.now (vec (shape_of element.now))
+        (so_far queue.old plan.old) (so_far queue.new plan.new)) }
 {
     let pointee = wait(names, element, queue)?;
     push(
@@ -137,7 +138,7 @@ fn compile_vec<'e>(
 // A string, behind the node of its text's bytes.
 #[inline(never)]
 fn compile_str(plan: &mut Plan) -> Result<usize, AllocError>
-    ensures { IfOk result (λ j. (names : List NamedNode) (done : ℕ) (w : Waits) → Compiled names done str w w (lists_of plan.old) (lists_of plan.new) j) }
+    ensures { IfOk result (IsStringCompiled (lists_of plan.old) (lists_of plan.new)) }
 {
     let pointee = push(plan, Some(1), 1, NodeKind::Free)?;
     push(plan, Some(8), 4, NodeKind::Str { pointee })
@@ -154,7 +155,8 @@ fn compile_counted<'e>(
     queue: &mut Queue<'e>,
 ) -> Result<usize, AllocError>
     requires { CanPoint names.now (pointee_of pointee.now) }
-    ensures { IfOk result (λ j. (done : ℕ) → Compiled names.now done (counted weak (flavor_of flavor) (pointee_of pointee.now)) (waits_of queue.old) (waits_of queue.new) (lists_of plan.old) (lists_of plan.new) j) }
+    ensures { IfOk result (IsCompiledAnywhere names.now (counted weak (flavor_of flavor) (pointee_of pointee.now))
+        (so_far queue.old plan.old) (so_far queue.new plan.new)) }
 {
     let (target, node) = compile_pointee(names, pointee, plan, queue)?;
     let shared_type = copy_shared_type(plan, flavor, pointee)?;
@@ -178,7 +180,8 @@ pub fn compile<'e>(
 ) -> Result<usize, AllocError>
     requires done { scope.now.done ≤ length plan.old.nodes.items }
     requires can { Can scope.now.names.now scope.now.done (shape_of expr.now) }
-    ensures { IfOk result (λ j. Compiled scope.now.names.now scope.now.done (shape_of expr.now) (waits_of queue.old) (waits_of queue.new) (lists_of plan.old) (lists_of plan.new) j) }
+    ensures { IfOk result (IsCompiled scope.now (shape_of expr.now) (so_far queue.old plan.old)
+        (so_far queue.new plan.new)) }
 {
     match expr {
         Expr::Leaf(kind) => push_leaf(plan, *kind),
@@ -206,7 +209,8 @@ fn compile_record<'e>(
 ) -> Result<usize, AllocError>
     requires done { scope.now.done ≤ length plan.old.nodes.items }
     requires can { CanParts scope.now.names.now scope.now.done (shapes_in parts.now) }
-    ensures { IfOk result (λ j. Compiled scope.now.names.now scope.now.done (record_of (shapes_in parts.now)) (waits_of queue.old) (waits_of queue.new) (lists_of plan.old) (lists_of plan.new) j) }
+    ensures { IfOk result (IsCompiled scope.now (record_of (shapes_in parts.now))
+        (so_far queue.old plan.old) (so_far queue.new plan.new)) }
 {
     let laid = compile_parts(scope, parts, 0, plan, queue)?;
     let size = offset_of(laid.end, laid.align);
@@ -235,7 +239,8 @@ fn compile_choice<'e>(
 ) -> Result<usize, AllocError>
     requires done { scope.now.done ≤ length plan.old.nodes.items }
     requires can { CanVariants scope.now.names.now scope.now.done (variants_in variants.now) }
-    ensures { IfOk result (λ j. Compiled scope.now.names.now scope.now.done (choice name.now (variants_in variants.now)) (waits_of queue.old) (waits_of queue.new) (lists_of plan.old) (lists_of plan.new) j) }
+    ensures { IfOk result (IsCompiled scope.now (choice name.now (variants_in variants.now))
+        (so_far queue.old plan.old) (so_far queue.new plan.new)) }
 {
     let laid = compile_variants(scope, variants, plan, queue)?;
     let size = offset_of(laid.end, laid.align);
@@ -265,7 +270,8 @@ fn compile_array<'e>(
 ) -> Result<usize, AllocError>
     requires done { scope.now.done ≤ length plan.old.nodes.items }
     requires can { Can scope.now.names.now scope.now.done (shape_of x.now) }
-    ensures { IfOk result (λ j. Compiled scope.now.names.now scope.now.done (array count (shape_of x.now)) (waits_of queue.old) (waits_of queue.new) (lists_of plan.old) (lists_of plan.new) j) }
+    ensures { IfOk result (IsCompiled scope.now (array count (shape_of x.now))
+        (so_far queue.old plan.old) (so_far queue.new plan.new)) }
 {
     let element = compile(scope, x, plan, queue)?;
     let here = plan.nodes[element];
@@ -291,7 +297,8 @@ fn compile_parts<'e>(
 ) -> Result<LaidRange, AllocError>
     requires done { scope.now.done ≤ length plan.old.nodes.items }
     requires can { CanParts scope.now.names.now scope.now.done (shapes_in parts.now) }
-    ensures { IfOk result (λ laid. CompiledParts scope.now.names.now scope.now.done start (shapes_in parts.now) (waits_of queue.old) (waits_of queue.new) (lists_of plan.old) (lists_of plan.new) laid) }
+    ensures { IfOk result (ArePartsCompiled scope.now start (shapes_in parts.now)
+        (so_far queue.old plan.old) (so_far queue.new plan.new)) }
 {
     let mut row = LaidParts::new(scope.alloc, start);
     for i in 0..parts.len() {
@@ -313,7 +320,8 @@ fn compile_variants<'e>(
 ) -> Result<LaidRange, AllocError>
     requires done { scope.now.done ≤ length plan.old.nodes.items }
     requires can { CanVariants scope.now.names.now scope.now.done (variants_in variants.now) }
-    ensures { IfOk result (λ laid. CompiledVariants scope.now.names.now scope.now.done (variants_in variants.now) (waits_of queue.old) (waits_of queue.new) (lists_of plan.old) (lists_of plan.new) laid) }
+    ensures { IfOk result (AreVariantsCompiled scope.now (variants_in variants.now)
+        (so_far queue.old plan.old) (so_far queue.new plan.new)) }
 {
     let mut spans = LaidVariants::new(scope.alloc);
     for i in 0..variants.len() {

@@ -114,7 +114,8 @@ pub fn push_shared_type(
     flavor: FlavorInfo,
     pointee: Pointee,
 ) -> Result<usize, AllocError>
-    ensures { IfOk result (λ k. IsTypeAdded (lists_of plan.old) (lists_of plan.new) (record { flavor = flavor; pointee = pointee }) k) }
+    ensures { IfOk result (λ k. IsTypeAdded (lists_of plan.old) (lists_of plan.new)
+        (record { flavor = flavor; pointee = pointee }) k) }
 {
     let shared_type = plan.shared_types.len();
     plan.shared_types.push(SharedType { flavor, pointee })?;
@@ -150,7 +151,8 @@ pub fn push_laid(
 
 /// A leaf's node.
 pub fn push_leaf(plan: &mut Plan, kind: Kind) -> Result<usize, AllocError>
-    ensures { IfOk result (λ j. IsMade (lists_of plan.old) (lists_of plan.new) (Some (kind_size (kind_of kind))) (kind_align (kind_of kind)) (is_plain_kind (kind_of kind)) (NodeKind.Leaf kind) j) }
+    ensures { IfOk result (λ j. IsMade (lists_of plan.old) (lists_of plan.new) (Some (kind_size (kind_of kind)))
+        (kind_align (kind_of kind)) (is_plain_kind (kind_of kind)) (NodeKind.Leaf kind) j) }
 {
     push_laid(
         plan,

@@ -1,13 +1,11 @@
 //! The names in an expression, and the order of their definitions.
 
-ghost use Rattle.std.specs.Prelude.{◌≡◌, ◌⊎◌, ◌≤◌, Some, None, OnOk, IfOk, IfErr, true, get_or, option_map, is_some, length};
+ghost use Rattle.std.specs.Prelude.{◌≡◌, ◌≤◌, Some, None, OnOk, IfOk, IfErr, true, get_or, option_map, is_some, length};
 ghost use Rattle.archive_check.specs.Shape.{definition};
 ghost use Rattle.archive_check.specs.Expressions.{shape_of, pointee_of, shapes_in, variants_in, entries_of};
-ghost use Rattle.archive_check.specs.plan.Names.{missing as missing_in, pointee_missing, parts_missing, variants_missing, Taken, IsGathered, Collected, Arranged, NextReady, IsOrderedNext, Complete, Prepared, shapes_from};
+ghost use Rattle.archive_check.specs.plan.Names.{missing as missing_in, pointee_missing, parts_missing, variants_missing, Taken, IsGathered, Collected, Arranged, NextReady, IsOrderedNext, Complete, Prepared, shapes_from, ExplainsUndefined, ExplainsMissing, ExplainsNoneReady, ExplainsHeld};
 ghost use Rattle.archive_check.specs.Schemas.{ExplainsNoSchema};
 ghost use Rattle.archive_check.specs.Shape.{Name, Shape};
-ghost use Rattle.archive_check.specs.Defined.{Reaches, HeldIn};
-ghost use Rattle.archive_check.specs.declared.format.error.Error.TheVariants.{OutOfMemory, ShapeConflict, RecursiveLayout};
 
 use crate::format::error::Error;
 use crate::format::expr::{Def, Defs, Expr, Pointee};
@@ -111,7 +109,8 @@ fn missing_variant(variants: &[Vec<Expr>], defs: &[Def], far: bool) -> Option<&'
 // The first name without a definition in the root, at 0, or in the definition before `at`.
 fn missing_at(root: &Expr, defs: &[Def], at: usize) -> Option<&'static str>
     requires { at ≤ length defs.now }
-    ensures { (X : Shape) → X ≡ get_or (shapes_from (shape_of root.now) defs.now) at X → option_map (λ name. name.now) result ≡ missing_in true (entries_of defs.now) X }
+    ensures { (X : Shape) → X ≡ get_or (shapes_from (shape_of root.now) defs.now) at X
+        → option_map (λ name. name.now) result ≡ missing_in true (entries_of defs.now) X }
 {
     if at == 0 {
         return missing(root, defs, true);
@@ -124,7 +123,7 @@ fn missing_at(root: &Expr, defs: &[Def], at: usize) -> Option<&'static str>
 #[inline(never)]
 fn gather(name: &str, rest: &mut Vec<Def>, found: &mut Vec<Def>) -> Result<(), Error>
     ensures ok { OnOk result (IsGathered name.now rest.old.items found.old.items rest.new.items found.new.items) }
-    ensures err { IfErr result (λ e. (e ≡ OutOfMemory) ⊎ ((e ≡ ShapeConflict) × (definition (entries_of rest.old.items) name.now ≡ None))) }
+    ensures err { IfErr result (ExplainsUndefined (entries_of rest.old.items) name.now) }
 {
     let Some(def) = take(rest, name) else {
         return Err(Error::ShapeConflict);
@@ -137,7 +136,7 @@ fn gather(name: &str, rest: &mut Vec<Def>, found: &mut Vec<Def>) -> Result<(), E
 /// is refused.
 pub fn collect(alloc: Global, root: &Expr, rest: &mut Vec<Def>) -> Result<Vec<Def>, Error>
     ensures ok { IfOk result (λ found. Collected (entries_of rest.old.items) (shape_of root.now) (entries_of found.items)) }
-    ensures err { IfErr result (λ e. (e ≡ OutOfMemory) ⊎ ((e ≡ ShapeConflict) × (name : Name) × Reaches (entries_of rest.old.items) name (shape_of root.now) × (definition (entries_of rest.old.items) name ≡ None))) }
+    ensures err { IfErr result (ExplainsMissing (entries_of rest.old.items) (shape_of root.now)) }
 {
     let mut found = Vec::new(alloc);
     let mut at = 0;
@@ -166,7 +165,7 @@ fn next_ready(placed: &[Def], rest: &[Def]) -> Option<usize>
 #[inline(never)]
 fn order_next(placed: &mut Vec<Def>, rest: &mut Vec<Def>) -> Result<(), Error>
     ensures ok { OnOk result (IsOrderedNext placed.old.items rest.old.items placed.new.items rest.new.items) }
-    ensures err { IfErr result (λ e. (e ≡ OutOfMemory) ⊎ ((e ≡ RecursiveLayout) × NextReady (entries_of placed.old.items) rest.old.items None)) }
+    ensures err { IfErr result (ExplainsNoneReady (entries_of placed.old.items) rest.old.items) }
 {
     let Some(i) = next_ready(placed, rest) else {
         return Err(Error::RecursiveLayout);
@@ -180,7 +179,7 @@ fn order_next(placed: &mut Vec<Def>, rest: &mut Vec<Def>) -> Result<(), Error>
 pub fn in_order(alloc: Global, rest: &mut Vec<Def>) -> Result<Vec<Def>, Error>
     requires { Complete (entries_of rest.old.items) }
     ensures ok { IfOk result (λ placed. Arranged (entries_of rest.old.items) (entries_of placed.items)) }
-    ensures err { IfErr result (λ e. (e ≡ OutOfMemory) ⊎ ((e ≡ RecursiveLayout) × (name : Name) × (Y : Shape) × (definition (entries_of rest.old.items) name ≡ Some Y) × HeldIn (entries_of rest.old.items) name Y)) }
+    ensures err { IfErr result (ExplainsHeld (entries_of rest.old.items)) }
 {
     let mut placed = Vec::new(alloc);
     while !rest.is_empty() {

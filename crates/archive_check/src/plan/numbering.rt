@@ -88,7 +88,8 @@ fn count_variants(variants: &[Vec<Expr>]) -> Result<usize, AllocError>
 /// 1 where the end is above `usize::MAX`.
 pub fn root(names: &[NamedNode], expr: &Expr, start: usize) -> Result<(usize, usize), AllocError>
     requires { (name : Name) → shape_of expr.now ≡ named name → IsSome (node_of names.now name) }
-    ensures { IfOk result (λ r. IsExpressionNode names.now start (shape_of expr.now) r.0 × (r.1 ≡ start + count_of (shape_of expr.now))) }
+    ensures { IfOk result (λ r. IsExpressionNode names.now start (shape_of expr.now) r.0
+        × (r.1 ≡ start + count_of (shape_of expr.now))) }
 {
     let more = count(expr)?;
     let end = add(start, more)?;
@@ -102,7 +103,8 @@ pub fn root(names: &[NamedNode], expr: &Expr, start: usize) -> Result<(usize, us
 /// Memory comes from `alloc`.
 pub fn number(alloc: Global, defs: &[Def]) -> Result<(Vec<NamedNode>, usize), AllocError>
     requires { DefsInOrder defs.now }
-    ensures { IfOk result (λ r. IsNumbered defs.now r.0.items (length defs.now) × (r.1 ≡ start_of (def_shapes defs.now) (length defs.now))) }
+    ensures { IfOk result (λ r. IsNumbered defs.now r.0.items (length defs.now)
+        × (r.1 ≡ start_of (def_shapes defs.now) (length defs.now))) }
 {
     let mut names: Vec<NamedNode> = Vec::new(alloc);
     let mut start = 0;

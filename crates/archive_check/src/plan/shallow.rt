@@ -2,7 +2,7 @@
 
 ghost use Rattle.std.specs.Prelude.{◌≡◌, length, IfOk, IsTrue};
 ghost use Rattle.archive_check.specs.plan.SoundPlans.{span};
-ghost use Rattle.archive_check.specs.plan.Shallow.{marked, free_at, parts_shallow, variants_shallow, kind_shallow, AreShallow, HasRange, HasSpans, HasIndexes, AreAllMarked};
+ghost use Rattle.archive_check.specs.plan.Shallow.{marked, free_at, parts_shallow, variants_shallow, HasRange, HasSpans, shallow_in, HasItsIndexes, AreShallowIn, AreAllMarkedIn};
 
 use crate::plan::growing::is_free;
 use crate::plan::{Node, NodeKind, Part, Plan, PointeeKind, Span};
@@ -37,7 +37,8 @@ fn are_marked(marks: &[bool], parts: &[Part]) -> bool
 // Whether the parts from `first` up to `last` are there, and all marked.
 fn is_span_shallow(marks: &[bool], parts: &[Part], first: usize, last: usize) -> bool
     ensures sound { IsTrue result → IsTrue (parts_shallow marks.now (span parts.now first last)) }
-    ensures found { HasRange parts.now first last → IsTrue (parts_shallow marks.now (span parts.now first last)) → IsTrue result }
+    ensures found { HasRange parts.now first last → IsTrue (parts_shallow marks.now (span parts.now first last))
+        → IsTrue result }
 {
     match parts.get(first..last) {
         Some(parts) => are_marked(marks, parts),
@@ -48,7 +49,8 @@ fn is_span_shallow(marks: &[bool], parts: &[Part], first: usize, last: usize) ->
 // Whether the parts of all these variants are there, and marked.
 fn are_shallow(marks: &[bool], parts: &[Part], variants: &[Span]) -> bool
     ensures sound { IsTrue result → IsTrue (variants_shallow marks.now parts.now variants.now) }
-    ensures found { HasSpans parts.now variants.now → IsTrue (variants_shallow marks.now parts.now variants.now) → IsTrue result }
+    ensures found { HasSpans parts.now variants.now → IsTrue (variants_shallow marks.now parts.now variants.now)
+        → IsTrue result }
 {
     for variant in variants {
         if !is_span_shallow(marks, parts, variant.first, variant.last) {
@@ -60,8 +62,8 @@ fn are_shallow(marks: &[bool], parts: &[Part], variants: &[Span]) -> bool
 
 // Whether a node that does this is shallow, where those that it holds and that are shallow are marked.
 fn is_shallow(plan: &Plan, marks: &[bool], kind: NodeKind) -> bool
-    ensures sound { IsTrue result → IsTrue (kind_shallow plan.now.nodes.items plan.now.parts.items plan.now.variants.items marks.now kind) }
-    ensures found { HasIndexes plan.now.parts.items plan.now.variants.items kind → IsTrue (kind_shallow plan.now.nodes.items plan.now.parts.items plan.now.variants.items marks.now kind) → IsTrue result }
+    ensures sound { IsTrue result → IsTrue (shallow_in plan.now marks.now kind) }
+    ensures found { HasItsIndexes plan.now kind → IsTrue (shallow_in plan.now marks.now kind) → IsTrue result }
 {
     match kind {
         NodeKind::Free | NodeKind::Leaf(_) | NodeKind::Str { .. } => true,
@@ -83,8 +85,8 @@ fn is_shallow(plan: &Plan, marks: &[bool], kind: NodeKind) -> bool
 /// node is marked that is shallow by the marks of those before it: so each shallow one is where the nodes in a node stand before it, as in each plan
 /// of an expression. Memory comes from `alloc`. Our own choice: rkyv 0.8.18 has no such marks.
 pub fn shallow_nodes(alloc: Global, plan: &Plan) -> Result<Vec<bool>, AllocError>
-    ensures ok { IfOk result (λ marks. AreShallow plan.now.nodes.items plan.now.parts.items plan.now.variants.items marks.items) }
-    ensures all { IfOk result (λ marks. AreAllMarked plan.now.nodes.items plan.now.parts.items plan.now.variants.items marks.items) }
+    ensures ok { IfOk result (λ marks. AreShallowIn plan.now marks.items) }
+    ensures all { IfOk result (λ marks. AreAllMarkedIn plan.now marks.items) }
     ensures count { IfOk result (λ marks. length marks.items ≡ length plan.now.nodes.items) }
 {
     let mut marks = Vec::with_capacity(alloc, plan.nodes.len())?;

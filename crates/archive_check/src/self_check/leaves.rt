@@ -26,8 +26,10 @@ pub fn check_leaf<C: ArchiveContext>(
     _context: &mut C,
 ) -> Option<()>
     requires { at + kind_size (kind_of kind) ≤ length bytes.now }
-    ensures through { OnSome result (Goes no_definition (shape_way bytes.now at (leaf (kind_of kind))) (C.state _context.old) (C.state _context.new)) }
-    ensures stops { IfNone result (Halts no_definition (shape_way bytes.now at (leaf (kind_of kind))) (C.state _context.old) refusal.new) }
+    ensures through { OnSome result
+        (Goes no_definition (shape_way bytes.now at (leaf (kind_of kind))) (C.state _context.old) (C.state _context.new)) }
+    ensures stops { IfNone result (Halts no_definition (shape_way bytes.now at (leaf (kind_of kind)))
+        (C.state _context.old) refusal.new) }
     ensures spends { Spends 0 (C.state _context.old) (C.state _context.new) }
     ensures positions { OnSome result (C.positions _context.new ≡ C.positions _context.old) }
 {

@@ -44,8 +44,10 @@ pub trait CheckedParts {
     ) -> Option<()>
         requires fits { base + end start ≤ length bytes.now }
         requires below { (C.state context.old).end ≤ length bytes.now }
-        ensures through { OnSome result (Goes definitions (parts_way bytes.now base start parts) (C.state context.old) (C.state context.new)) }
-        ensures stops { IsTrue direct → IfNone result (Halts definitions (parts_way bytes.now base start parts) (C.state context.old) refusal.new) }
+        ensures through { OnSome result
+            (Goes definitions (parts_way bytes.now base start parts) (C.state context.old) (C.state context.new)) }
+        ensures stops { IsTrue direct → IfNone result
+            (Halts definitions (parts_way bytes.now base start parts) (C.state context.old) refusal.new) }
         ensures spends { Spends (end start - start) (C.state context.old) (C.state context.new) }
         ensures positions { OnSome result (C.positions context.new ≡ C.positions context.old) };
 

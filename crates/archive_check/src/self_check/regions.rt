@@ -82,7 +82,8 @@ pub fn enter<C: ArchiveContext>(
     context: &mut C,
 ) -> Option<Region>
     requires { 0 < align }
-    ensures entered { IfSome result (λ r. (whole ≡ Some r.size) × Begun (C.state context.old) (C.state context.new) position align r) }
+    ensures entered { IfSome result (λ r. (whole ≡ Some r.size)
+        × Begun (C.state context.old) (C.state context.new) position align r) }
     ensures stops { IfNone result (EntersNot (C.state context.old) position align whole refusal.new) }
     ensures pushes { OnSome result ((C.state context.new).pushes ≤ (C.state context.old).pushes + 1) }
     ensures unchanged { IfNone result (C.state context.new ≡ C.state context.old) }

@@ -3,7 +3,8 @@
 ghost use Rattle.std.specs.Prelude.{◌≡◌, ◌⊎◌, ◌≤◌, length, OnOk, IfErr, IsTrue};
 ghost use Rattle.archive_check.specs.Definitions.{listed};
 ghost use Rattle.archive_check.specs.Defined.{WellFormed};
-ghost use Rattle.archive_check.specs.FreshContexts.{IsWhole};
+ghost use Rattle.archive_check.specs.Faults.{IsOfCheck};
+ghost use Rattle.archive_check.specs.FreshContexts.{HasLevels, KeepsLevels, IsWhole};
 ghost use Rattle.archive_check.specs.Pushes.{FewPushed};
 ghost use Rattle.archive_check.specs.Archives.{IsArchiveWithin, IsRefusal, ExplainsNoArchive};
 
@@ -14,7 +15,8 @@ use crate::format::traits::Portable;
 
 /// Checks that `bytes` are an archive whose root, a `T`, lies at `pos`, where `T` checks itself. In a context for these bytes that met nothing yet
 /// the answer is exact: Ok where they are one with no region too deep, else the refusal of the first test that is false, in the order that
-/// docs/FORMAT.md gives. It takes no memory and is never refused with 30 or 31: such a type has a meaning. Accepted or refused, in any context, it
+/// docs/FORMAT.md gives. It takes no memory and is never refused with 30 or 31: such a type has a meaning. In any context with levels left a refusal is
+/// one of those that a check can answer (1, 12, 16 to 18, 21 to 29), and after a success levels are left. Accepted or refused, in any context, it
 /// enters at most one region, and one for each four bytes of the context's range.
 pub fn check_root<T: Portable, C: ArchiveContext>(
     bytes: &[u8],
@@ -22,10 +24,18 @@ pub fn check_root<T: Portable, C: ArchiveContext>(
     context: &mut C,
 ) -> Result<(), Error>
     requires { (C.state context.old).end ≤ length bytes.now }
-    ensures accepted { IsTrue T.Check.direct → OnOk result (IsWhole (C.state context.old) (C.positions context.old) bytes.now → IsArchiveWithin T.definitions bytes.now (C.state context.old).depth pos T.shape) }
+    ensures accepted { IsTrue T.Check.direct
+        → OnOk result (IsWhole (C.state context.old) (C.positions context.old) bytes.now
+        → IsArchiveWithin T.definitions bytes.now (C.state context.old).depth pos T.shape) }
     ensures meaning { IsTrue T.Check.direct → WellFormed (listed T.definitions) T.shape }
-    ensures refused { IsTrue T.Check.direct → IfErr result (λ e. IsWhole (C.state context.old) (C.positions context.old) bytes.now → IsRefusal T.definitions bytes.now (C.state context.old).depth pos T.shape e) }
-    ensures exact { IsTrue T.Check.direct → IfErr result (λ e. IsWhole (C.state context.old) (C.positions context.old) bytes.now → ExplainsNoArchive T.definitions bytes.now (C.state context.old).depth pos T.shape e) }
+    ensures refused { IsTrue T.Check.direct
+        → IfErr result (λ e. IsWhole (C.state context.old) (C.positions context.old) bytes.now
+        → IsRefusal T.definitions bytes.now (C.state context.old).depth pos T.shape e) }
+    ensures exact { IsTrue T.Check.direct
+        → IfErr result (λ e. IsWhole (C.state context.old) (C.positions context.old) bytes.now
+        → ExplainsNoArchive T.definitions bytes.now (C.state context.old).depth pos T.shape e) }
+    ensures of_check { IsTrue T.Check.direct → IfErr result (λ e. HasLevels (C.state context.old).depth → IsOfCheck e) }
+    ensures levels { OnOk result (KeepsLevels (C.state context.old) (C.state context.new)) }
     ensures few_subtrees { FewPushed (C.state context.old) (C.state context.new) }
 {
     prove!(bytes.len() <= usize::MAX);

@@ -1,9 +1,9 @@
 // Texts and strings.
 
-ghost use Rattle.std.specs.Prelude.{◌≡◌, ◌≤◌, length, OnSome, IfNone, None, true};
+ghost use Rattle.std.specs.Prelude.{◌≡◌, ◌≤◌, length, OnSome, IfNone, true};
 ghost use Rattle.archive_check.specs.Shape.{text, str, boxed};
 ghost use Rattle.archive_check.specs.Definitions.{no_definition};
-ghost use Rattle.archive_check.specs.SelfCheck.Ways.{Goes, Halts, enter_way};
+ghost use Rattle.archive_check.specs.SelfCheck.Ways.{Goes, Halts, enter_way, owned};
 ghost use Rattle.archive_check.specs.Pushes.{Spends};
 
 use super::SelfCheck;
@@ -25,8 +25,10 @@ fn check_text<C: ArchiveContext>(
     context: &mut C,
 ) -> Option<()>
     requires { (C.state context.old).end ≤ length bytes.now }
-    ensures through { OnSome result (Goes no_definition (enter_way bytes.now (record { target = position; sharing = None; pointee = text; length = count })) (C.state context.old) (C.state context.new)) }
-    ensures stops { IfNone result (Halts no_definition (enter_way bytes.now (record { target = position; sharing = None; pointee = text; length = count })) (C.state context.old) refusal.new) }
+    ensures through { OnSome result
+        (Goes no_definition (enter_way bytes.now (owned position text count)) (C.state context.old) (C.state context.new)) }
+    ensures stops { IfNone result (Halts no_definition (enter_way bytes.now (owned position text count))
+        (C.state context.old) refusal.new) }
     ensures spends { Spends 4 (C.state context.old) (C.state context.new) }
     ensures positions { OnSome result (C.positions context.new ≡ C.positions context.old) }
 {

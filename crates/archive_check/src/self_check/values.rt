@@ -1,9 +1,9 @@
 // One value: where it lies, in a region of its own, and behind a pointer.
 
-ghost use Rattle.std.specs.Prelude.{◌≡◌, ◌+◌, ◌≤◌, length, OnSome, IfNone, None, IsTrue};
+ghost use Rattle.std.specs.Prelude.{◌≡◌, ◌+◌, ◌≤◌, length, OnSome, IfNone, IsTrue};
 ghost use Rattle.archive_check.specs.Shape.{one, boxed};
 ghost use Rattle.archive_check.specs.plan.BoundedSizes.{fits};
-ghost use Rattle.archive_check.specs.SelfCheck.Ways.{Goes, Halts, shape_way, enter_way};
+ghost use Rattle.archive_check.specs.SelfCheck.Ways.{Goes, Halts, shape_way, enter_way, owned};
 ghost use Rattle.archive_check.specs.Pushes.{Spends};
 
 use super::SelfCheck;
@@ -24,8 +24,10 @@ pub fn check_value<T: Portable, C: ArchiveContext>(
 ) -> Option<()>
     requires fits { at + T.layout.size ≤ length bytes.now }
     requires below { (C.state context.old).end ≤ length bytes.now }
-    ensures through { OnSome result (Goes T.definitions (shape_way bytes.now at T.shape) (C.state context.old) (C.state context.new)) }
-    ensures stops { IsTrue T.Check.direct → IfNone result (Halts T.definitions (shape_way bytes.now at T.shape) (C.state context.old) refusal.new) }
+    ensures through { OnSome result
+        (Goes T.definitions (shape_way bytes.now at T.shape) (C.state context.old) (C.state context.new)) }
+    ensures stops { IsTrue T.Check.direct
+        → IfNone result (Halts T.definitions (shape_way bytes.now at T.shape) (C.state context.old) refusal.new) }
     ensures spends { Spends T.layout.size (C.state context.old) (C.state context.new) }
     ensures positions { OnSome result (C.positions context.new ≡ C.positions context.old) }
 {
@@ -52,8 +54,12 @@ pub fn check_one<T: Portable, C: ArchiveContext>(
     context: &mut C,
 ) -> Option<()>
     requires below { (C.state context.old).end ≤ length bytes.now }
-    ensures through { OnSome result (Goes T.definitions (enter_way bytes.now (record { target = position; sharing = None; pointee = one T.shape; length = 0 })) (C.state context.old) (C.state context.new)) }
-    ensures stops { IsTrue T.Check.direct → IfNone result (Halts T.definitions (enter_way bytes.now (record { target = position; sharing = None; pointee = one T.shape; length = 0 })) (C.state context.old) refusal.new) }
+    ensures through { OnSome result
+        (Goes T.definitions (enter_way bytes.now (owned position (one T.shape) 0)) (C.state context.old)
+        (C.state context.new)) }
+    ensures stops { IsTrue T.Check.direct
+        → IfNone result (Halts T.definitions (enter_way bytes.now (owned position (one T.shape) 0)) (C.state context.old)
+        refusal.new) }
     ensures spends { Spends 4 (C.state context.old) (C.state context.new) }
     ensures positions { OnSome result (C.positions context.new ≡ C.positions context.old) }
 {

@@ -40,9 +40,11 @@ pub trait CheckedVariants {
     ) -> Option<bool>
         requires fits { base + end ≤ length bytes.now }
         requires below { (C.state context.old).end ≤ length bytes.now }
-        ensures through { IfSome result (λ known. IsTrue known → VariantGoes definitions bytes.now base variants tag (C.state context.old) (C.state context.new)) }
+        ensures through { IfSome result (λ known. IsTrue known
+            → VariantGoes definitions bytes.now base variants tag (C.state context.old) (C.state context.new)) }
         ensures unknown { IfSome result (λ known. known ≡ false → variant_at variants tag ≡ None) }
-        ensures stops { IsTrue direct → IfNone result (VariantHalts definitions bytes.now base variants tag (C.state context.old) refusal.new) }
+        ensures stops { IsTrue direct → IfNone result
+            (VariantHalts definitions bytes.now base variants tag (C.state context.old) refusal.new) }
         ensures spends { Spends end (C.state context.old) (C.state context.new) }
         ensures positions { OnSome result (C.positions context.new ≡ C.positions context.old) };
 }
@@ -114,8 +116,12 @@ pub fn check_choice<V: CheckedVariants, C: ArchiveContext>(
     requires tag { at < length bytes.now }
     requires fits { at + V.end ≤ length bytes.now }
     requires below { (C.state context.old).end ≤ length bytes.now }
-    ensures through { OnSome result (Goes V.definitions (shape_way bytes.now at (choice name.now V.variants)) (C.state context.old) (C.state context.new)) }
-    ensures stops { IsTrue V.direct → IfNone result (Halts V.definitions (shape_way bytes.now at (choice name.now V.variants)) (C.state context.old) refusal.new) }
+    ensures through { OnSome result
+        (Goes V.definitions (shape_way bytes.now at (choice name.now V.variants)) (C.state context.old)
+        (C.state context.new)) }
+    ensures stops { IsTrue V.direct
+        → IfNone result (Halts V.definitions (shape_way bytes.now at (choice name.now V.variants)) (C.state context.old)
+        refusal.new) }
     ensures spends { Spends V.end (C.state context.old) (C.state context.new) }
     ensures positions { OnSome result (C.positions context.new ≡ C.positions context.old) }
 {

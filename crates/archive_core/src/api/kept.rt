@@ -5,7 +5,8 @@ ghost use Rattle.std.proofs.Props.{props};
 ghost use Rattle.archive_check.specs.Archives.{IsArchive, Answers, root_in, ReadsWhole, RefusesWhole, RefusesAsCheck};
 ghost use Rattle.archive_check.specs.Defined.{WellFormed};
 ghost use Rattle.archive_check.specs.Definitions.{listed};
-ghost use Rattle.archive_check.specs.FreshContexts.{IsWhole};
+ghost use Rattle.archive_check.specs.Faults.{IsOfCheck};
+ghost use Rattle.archive_check.specs.FreshContexts.{HasLevels, KeepsLevels, IsWhole};
 ghost use Rattle.archive_check.specs.OneSchema.{IsSchemaOf-prop};
 ghost use Rattle.archive_check.specs.Pushes.{FewPushed};
 ghost use Rattle.archive_check.specs.Schemas.{IsSchemaOf, ExplainsNoSchema};
@@ -66,6 +67,8 @@ impl<T: Portable> Access<T> {
         requires { (C.state context.old).end ≤ length bytes.now }
         ensures answer { IsWhole (C.state context.old) (C.positions context.old) bytes.now
             → Answers T.definitions bytes.now (C.state context.old).depth pos T.shape result }
+        ensures of_check { IfErr result (λ e. HasLevels (C.state context.old).depth → IsOfCheck e) }
+        ensures levels { OnOk result (KeepsLevels (C.state context.old) (C.state context.new)) }
         ensures few_subtrees { FewPushed (C.state context.old) (C.state context.new) }
     {
         prove!(bytes.len() <= usize::MAX);

@@ -1,13 +1,13 @@
 // The parts of a record, nested pair by pair, and the records that have them.
 
-ghost use Rattle.std.specs.Prelude.{◌≡◌, ◌⊎◌, ℕ, ◌+◌, ◌≤◌, max, min, OnOk, IfOk, IfErr};
+ghost use Rattle.std.specs.Prelude.{◌≡◌, ℕ, ◌+◌, ◌≤◌, max, min, OnOk, IfOk, IfErr};
 ghost use Rattle.archive_check.specs.Shape.{parts, no_part, part};
 ghost use Rattle.archive_check.specs.Layout.{up};
 ghost use Rattle.archive_check.specs.Expressions.{shape_of, shapes_in, table_of};
-ghost use Rattle.archive_check.specs.Definitions.{defines, both, IsAlign, NoOthers, Extended, Conflicts};
+ghost use Rattle.archive_check.specs.Definitions.{both, IsAlign, NoOthers, Extended, ExplainsConflict, named_record};
 ghost use Rattle.archive_check.specs.NoOthers.{no_parts_reached, part_reached};
 ghost use Rattle.archive_check.specs.PartsLayout.{PartsLaidOut, IsRecord, joined, first_or, no_part_laid_out, part_laid_out, greater_align, one_align, begins_at, begins_over, within_at, within_over};
-ghost use Rattle.archive_check.specs.declared.format.error.Error.TheVariants.{OutOfMemory, ShapeConflict};
+ghost use Rattle.archive_check.specs.declared.format.error.Error.TheVariants.{OutOfMemory};
 
 use super::Portable;
 use crate::format::error::Error;
@@ -50,7 +50,7 @@ pub trait PortableParts: CheckedParts {
     /// Adds the definitions of the names that the parts reach, and no others. Refused as `Portable::define` is: `OutOfMemory`, 1, and `ShapeConflict`, 30.
     fn define(alloc: Global, defs: &mut Defs) -> Result<(), Error>
         ensures added { OnOk result (Extended (table_of defs.old) Self.definitions (table_of defs.new)) }
-        ensures refused { IfErr result (λ e. (e ≡ OutOfMemory) ⊎ ((e ≡ ShapeConflict) × Conflicts (table_of defs.old) Self.definitions)) };
+        ensures refused { IfErr result (ExplainsConflict (table_of defs.old) Self.definitions) };
 
     ghost is_align: { IsAlign greatest };
 
@@ -144,7 +144,7 @@ impl<A: Portable, R: PortableParts> PortableParts for (A, R) {
         R::push_exprs(alloc, list)
     }
 
-    #[tactic(auto, using(crate::proofs::format::AddedDefinitions::extended_both, crate::proofs::format::AddedDefinitions::first_conflicts, crate::proofs::format::AddedDefinitions::later_conflicts))]
+    #[tactic(auto, using(crate::proofs::format::AddedDefinitions::joining))]
     fn define(alloc: Global, defs: &mut Defs) -> Result<(), Error> {
         A::define(alloc, defs)?;
         R::define(alloc, defs)
@@ -190,14 +190,15 @@ pub fn expr_of_record<P: PortableParts>(alloc: Global) -> Result<Expr, Error>
 
 /// Adds the definition of a record that has a name, and those that its parts bring. Memory comes from `alloc` and from that of `defs`. Refused with
 /// `OutOfMemory`, 1, where memory is refused, and with `ShapeConflict`, 30, where a name has another definition already, or two. Our own.
-#[tactic(auto, using(crate::proofs::format::AddedDefinitions::extended_by, crate::proofs::format::AddedDefinitions::not_extended, crate::proofs::format::AddedDefinitions::extended_both, crate::proofs::format::AddedDefinitions::first_conflicts, crate::proofs::format::AddedDefinitions::later_conflicts))]
+#[tactic(auto, using(crate::proofs::format::AddedDefinitions::adding))]
 pub fn define_record<P: PortableParts>(
     alloc: Global,
     name: &'static str,
     defs: &mut Defs,
 ) -> Result<(), Error>
-    ensures added { OnOk result (Extended (table_of defs.old) (both (defines name.now (parts P.parts)) P.definitions) (table_of defs.new)) }
-    ensures refused { IfErr result (λ e. (e ≡ OutOfMemory) ⊎ ((e ≡ ShapeConflict) × Conflicts (table_of defs.old) (both (defines name.now (parts P.parts)) P.definitions))) }
+    ensures added { OnOk result (Extended (table_of defs.old) (named_record name.now P.parts P.definitions)
+        (table_of defs.new)) }
+    ensures refused { IfErr result (ExplainsConflict (table_of defs.old) (named_record name.now P.parts P.definitions)) }
 {
     defs.add(name, expr_of_record::<P>(alloc)?)?;
     P::define(alloc, defs)

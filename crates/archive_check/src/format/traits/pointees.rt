@@ -1,13 +1,13 @@
 // What the pointers of an archive lead to.
 
-ghost use Rattle.std.specs.Prelude.{◌≡◌, ◌⊎◌, true, false, IsTrue, OnOk, IfOk, IfErr};
+ghost use Rattle.std.specs.Prelude.{◌≡◌, true, false, IsTrue, OnOk, IfOk, IfErr};
 ghost use Rattle.archive_check.specs.Shape.{boxed};
 ghost use Rattle.archive_check.specs.Layout.{pointer_size, has_length};
 ghost use Rattle.archive_check.specs.Expressions.{pointee_of, table_of};
-ghost use Rattle.archive_check.specs.Definitions.{NoOthers, Extended, Conflicts};
+ghost use Rattle.archive_check.specs.Definitions.{NoOthers, Extended, ExplainsConflict};
 ghost use Rattle.archive_check.specs.SelfCheck.Laws.{IsCheckOf};
 ghost use Rattle.archive_check.specs.SelfCheck.Owners.{one_check, one_reaches};
-ghost use Rattle.archive_check.specs.declared.format.error.Error.TheVariants.{OutOfMemory, ShapeConflict};
+ghost use Rattle.archive_check.specs.declared.format.error.Error.TheVariants.{OutOfMemory};
 
 use super::{ArchivePointee, Portable};
 use crate::format::error::Error;
@@ -34,11 +34,13 @@ pub trait PortablePointee: ArchivePointee {
     /// `ShapeConflict`, 30.
     fn define_pointee(alloc: Global, defs: &mut Defs) -> Result<(), Error>
         ensures added { OnOk result (Extended (table_of defs.old) Self.definitions (table_of defs.new)) }
-        ensures refused { IfErr result (λ e. (e ≡ OutOfMemory) ⊎ ((e ≡ ShapeConflict) × Conflicts (table_of defs.old) Self.definitions)) };
+        ensures refused { IfErr result (ExplainsConflict (table_of defs.old) Self.definitions) };
 
     ghost box_reaches: { NoOthers Self.definitions (boxed Self.pointee) };
 
-    ghost box_checks: { IsTrue Self.BoxCheck.direct → IsCheckOf Self.definitions (boxed Self.pointee) (pointer_size Self.pointee) Self.BoxCheck.definitions Self.BoxCheck.shape Self.BoxCheck.span };
+    ghost box_checks: { IsTrue Self.BoxCheck.direct
+        → IsCheckOf Self.definitions (boxed Self.pointee) (pointer_size Self.pointee) Self.BoxCheck.definitions
+        Self.BoxCheck.shape Self.BoxCheck.span };
 }
 
 /// One value.
@@ -47,7 +49,8 @@ impl<T: Portable> PortablePointee for T {
 
     ghost box_reaches = { one_reaches T.definitions T.shape T.no_others T.pointee T.is_one };
 
-    ghost box_checks = { λ direct. one_check T.definitions T.shape T.layout.size T.Check.definitions T.Check.shape T.Check.span T.pointee T.is_one (T.checks direct) };
+    ghost box_checks = { λ direct. one_check T.definitions T.shape T.layout.size T.Check.definitions T.Check.shape
+        T.Check.span T.pointee T.is_one (T.checks direct) };
 
     fn has_length() -> bool {
         false

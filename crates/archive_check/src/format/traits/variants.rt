@@ -1,13 +1,13 @@
 // The variants of a choice, nested pair by pair, and the choices that have them.
 
-ghost use Rattle.std.specs.Prelude.{◌≡◌, ◌⊎◌, ℕ, max, min, OnOk, IfOk, IfErr};
+ghost use Rattle.std.specs.Prelude.{◌≡◌, ℕ, max, min, OnOk, IfOk, IfErr};
 ghost use Rattle.archive_check.specs.Shape.{Name, choice, no_variant, variant};
 ghost use Rattle.archive_check.specs.Layout.{up};
 ghost use Rattle.archive_check.specs.Expressions.{shape_of, variants_in, table_of};
-ghost use Rattle.archive_check.specs.Definitions.{defines, both, IsAlign, NoOthers, Extended, Conflicts};
+ghost use Rattle.archive_check.specs.Definitions.{both, IsAlign, NoOthers, Extended, ExplainsConflict, named_choice};
 ghost use Rattle.archive_check.specs.PartsLayout.{greater_align, one_align};
 ghost use Rattle.archive_check.specs.VariantsLayout.{VariantsLaidOut, IsChoice, joined_variants, first_variant_or, no_variant_laid_out, variant_laid_out, no_variants_reached, variant_reached};
-ghost use Rattle.archive_check.specs.declared.format.error.Error.TheVariants.{OutOfMemory, ShapeConflict};
+ghost use Rattle.archive_check.specs.declared.format.error.Error.TheVariants.{OutOfMemory};
 
 use super::Portable;
 use super::parts::PortableParts;
@@ -48,7 +48,7 @@ pub trait PortableVariants: CheckedVariants {
     /// Adds the definitions of the names that the parts reach, and no others. Refused as `Portable::define` is: `OutOfMemory`, 1, and `ShapeConflict`, 30.
     fn define(alloc: Global, defs: &mut Defs) -> Result<(), Error>
         ensures added { OnOk result (Extended (table_of defs.old) Self.definitions (table_of defs.new)) }
-        ensures refused { IfErr result (λ e. (e ≡ OutOfMemory) ⊎ ((e ≡ ShapeConflict) × Conflicts (table_of defs.old) Self.definitions)) };
+        ensures refused { IfErr result (ExplainsConflict (table_of defs.old) Self.definitions) };
 
     ghost is_align: { IsAlign greatest };
 
@@ -127,7 +127,7 @@ impl<P: PortableParts, V: PortableVariants> PortableVariants for (P, V) {
         V::push_variants(alloc, list)
     }
 
-    #[tactic(auto, using(crate::proofs::format::AddedDefinitions::extended_both, crate::proofs::format::AddedDefinitions::first_conflicts, crate::proofs::format::AddedDefinitions::later_conflicts))]
+    #[tactic(auto, using(crate::proofs::format::AddedDefinitions::joining))]
     fn define(alloc: Global, defs: &mut Defs) -> Result<(), Error> {
         P::define(alloc, defs)?;
         V::define(alloc, defs)
@@ -180,14 +180,15 @@ pub fn expr_of_choice<V: PortableVariants>(alloc: Global, name: &'static str) ->
 
 /// Adds the definition of a choice that stands under its own name, and those that its parts bring. Memory comes from `alloc` and from that of `defs`.
 /// Refused with `OutOfMemory`, 1, where memory is refused, and with `ShapeConflict`, 30, where a name has another definition already, or two. Our own.
-#[tactic(auto, using(crate::proofs::format::AddedDefinitions::extended_by, crate::proofs::format::AddedDefinitions::not_extended, crate::proofs::format::AddedDefinitions::extended_both, crate::proofs::format::AddedDefinitions::first_conflicts, crate::proofs::format::AddedDefinitions::later_conflicts))]
+#[tactic(auto, using(crate::proofs::format::AddedDefinitions::adding))]
 pub fn define_choice<V: PortableVariants>(
     alloc: Global,
     name: &'static str,
     defs: &mut Defs,
 ) -> Result<(), Error>
-    ensures added { OnOk result (Extended (table_of defs.old) (both (defines name.now (choice name.now V.variants)) V.definitions) (table_of defs.new)) }
-    ensures refused { IfErr result (λ e. (e ≡ OutOfMemory) ⊎ ((e ≡ ShapeConflict) × Conflicts (table_of defs.old) (both (defines name.now (choice name.now V.variants)) V.definitions))) }
+    ensures added { OnOk result (Extended (table_of defs.old) (named_choice name.now V.variants V.definitions)
+        (table_of defs.new)) }
+    ensures refused { IfErr result (ExplainsConflict (table_of defs.old) (named_choice name.now V.variants V.definitions)) }
 {
     defs.add(name, expr_of_choice::<V>(alloc, name)?)?;
     V::define(alloc, defs)

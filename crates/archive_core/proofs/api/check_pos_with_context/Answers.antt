@@ -35,3 +35,11 @@ returns-clause-answer g c whole =
       refused = IfErr-weaker c.check.result _ _ (λ e h. refuses c.in_ok-schema.schema g.T.ArchivePointee.definitions g.T.Portable.shape c.args.bytes.now (g.C.Context.state c.args.context.now).depth c.args.pos made e (⊎_elim inl (λ f. inr (f whole)) h)) c.check.ensures.err;
       exact = IfErr-weaker c.check.result _ _ (λ e h. refusal_no_archive _ _ _ _ _ e (omega arith) (refuses c.in_ok-schema.schema g.T.ArchivePointee.definitions g.T.Portable.shape c.args.bytes.now (g.C.Context.state c.args.context.now).depth c.args.pos made e (⊎_elim inl (λ f. inr (f whole)) h))) c.check.ensures.err;
     }
+
+-- in whatever context
+
+pub returns-then-is_direct-clause-of_check : goal.returns-then-is_direct-clause-of_check
+returns-then-is_direct-clause-of_check g c = IfErr-weaker c.check_root.result _ _ (λ e h some. inl (h some)) (c.check_root.ensures.of_check (sym c.is_direct.ensures ∙ c.if-is_direct.true))
+
+pub returns-clause-of_check : goal.returns-clause-of_check
+returns-clause-of_check g c = IfErr-weaker c.check.result _ _ (λ e h some. inl (h some)) c.check.ensures.of_check

@@ -1,5 +1,5 @@
 use Rattle.std.proofs.Common.{arith}
-use Rattle.archive_check.proofs.check.RootRuns.{run_accepts, run_refuses, run_exact_ok, run_exact_err}
+use Rattle.archive_check.proofs.check.RootRuns.{run_accepts, run_refuses, run_of_check, run_exact_ok, run_exact_err}
 use Rattle.archive_check.proofs.check.Checker.check.Goals as goal
 
 pub returns-in-Some-clause-ok : goal.returns-in-Some-clause-ok
@@ -17,3 +17,7 @@ returns-clause-err g c =
 pub returns-clause-exact : goal.returns-clause-exact
 returns-clause-exact g c =
     rw c.fault.ensures (run_exact_err c.args.self.now c.args.root c.args.at (g.C.Context.state c.args.context.now) (g.C.Context.positions c.args.context.now) c.requires.sound c.run.new.work.fault (omega arith) c.in-None.ensures.err)
+
+pub returns-clause-of_check : goal.returns-clause-of_check
+returns-clause-of_check g c =
+    rw c.fault.ensures (run_of_check c.args.self.now c.args.root c.args.at (g.C.Context.state c.args.context.now) (g.C.Context.positions c.args.context.now) c.requires.sound c.run.new.work.fault c.in-None.ensures.err)

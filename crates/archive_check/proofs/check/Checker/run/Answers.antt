@@ -3,7 +3,7 @@ use Rattle.std.proofs.lemmas.Int.{to_z_pos}
 use mir.Syntax.{w128}
 use Rattle.archive_check.specs.check.Lists.{list_of}
 use Rattle.archive_check.specs.check.LoopInvariant.{stage}
-use Rattle.archive_check.proofs.check.RootLoop.{root_leads, root_refuses, root_ends, turn_leads, turn_refuses}
+use Rattle.archive_check.proofs.check.RootLoop.{root_leads, root_refuses, root_ends, root_levels, turn_leads, turn_refuses}
 use Rattle.archive_check.specs.check.Paid.{bytes_in}
 use Rattle.archive_check.proofs.check.Checker.run.Goals as goal
 
@@ -49,6 +49,13 @@ returns-clause-ok g c =
     let st = g.C.Context.state in
     let met = g.C.Context.positions in
     root_ends m (st c.args.context.now) (met c.args.context.now) c.args.root c.args.at (st c.loop-entry.context) (met c.loop-entry.context) (list_of c.loop-entry.work) c.loop-entry.invariant.1 c.in_default.ensures.over
+
+pub returns-clause-levels : goal.returns-clause-levels
+returns-clause-levels g c =
+    let m = c.args.self.now in
+    let st = g.C.Context.state in
+    let met = g.C.Context.positions in
+    root_levels m (st c.args.context.now) (met c.args.context.now) c.args.root c.args.at (st c.loop-entry.context) (met c.loop-entry.context) (list_of c.loop-entry.work) c.loop-entry.invariant.1
 
 -- what is paid for regions
 

@@ -12,14 +12,14 @@ check-requires-clause-known g c = subst (λ xs. c.args.self.now.node < length xs
 
 pub returns-clause-ok : goal.returns-clause-ok
 returns-clause-ok g c = ok_map c.check.result
-    (λ h whole. plan_accepts c.args.self.now c.args.self.now.complete _ (record { nodes = c.deref.ensures.value; parts = c.deref-2.ensures.value; variants = c.deref-3.ensures.value; shared_types = c.deref-4.ensures.value }) c.args.self.now.planned _ c.args.pos (h whole))
+    (λ h whole. plan_accepts c.args.self.now c.args.self.now.laid_out c.args.self.now.complete _ (record { nodes = c.deref.ensures.value; parts = c.deref-2.ensures.value; variants = c.deref-3.ensures.value; shared_types = c.deref-4.ensures.value }) c.args.self.now.planned _ c.args.pos (h whole))
     c.check.ensures.ok
 
 pub returns-clause-err : goal.returns-clause-err
 returns-clause-err g c = err_map c.check.result
-    (λ e. ⊎_elim inl (λ h. inr (λ whole. plan_refuses c.args.self.now c.args.self.now.complete _ (record { nodes = c.deref.ensures.value; parts = c.deref-2.ensures.value; variants = c.deref-3.ensures.value; shared_types = c.deref-4.ensures.value }) c.args.self.now.planned _ c.args.pos e (h whole))))
+    (λ e. ⊎_elim inl (λ h. inr (λ whole. plan_refuses c.args.self.now c.args.self.now.laid_out c.args.self.now.complete _ (record { nodes = c.deref.ensures.value; parts = c.deref-2.ensures.value; variants = c.deref-3.ensures.value; shared_types = c.deref-4.ensures.value }) c.args.self.now.planned _ c.args.pos e (h whole))))
     c.check.ensures.err
 
 pub returns-clause-exact : goal.returns-clause-exact
 returns-clause-exact g c = λ whole.
-    plan_exact c.args.self.now c.args.self.now.complete _ (record { nodes = c.deref.ensures.value; parts = c.deref-2.ensures.value; variants = c.deref-3.ensures.value; shared_types = c.deref-4.ensures.value }) c.args.self.now.planned _ c.args.pos c.check.result (c.check.ensures.exact whole)
+    plan_exact c.args.self.now c.args.self.now.laid_out c.args.self.now.complete _ (record { nodes = c.deref.ensures.value; parts = c.deref-2.ensures.value; variants = c.deref-3.ensures.value; shared_types = c.deref-4.ensures.value }) c.args.self.now.planned _ c.args.pos c.check.result (c.check.ensures.exact whole)

@@ -1,6 +1,7 @@
 use Rattle.std.proofs.Common.{sym, subst, true}
 use Rattle.archive_check.specs.Expressions.{shape_of, entries_of}
 use Rattle.archive_check.specs.plan.Planned.{InOrder, IsPlan}
+use Rattle.archive_check.proofs.Archives.{prepared_laid_out}
 use Rattle.archive_check.proofs.plan.MissingNames.{held_known}
 use Rattle.archive_check.proofs.plan.PlansInOrder.{in_order_of}
 use Rattle.archive_check.proofs.plan.PackedPlans.{plan_packed}
@@ -21,3 +22,7 @@ invariant_of-result-clause-packed g c =
     let X = shape_of c.in_ok-root.root in
     let plan = subst (λ ds. IsPlan ds X c.in_ok-plan.plan c.in_ok-plan.node) c.deref.ensures.value c.in_ok-plan.ensures.made in
     plan_packed c.in_ok-definitions.definitions.items X c.in_ok-plan.plan c.in_ok-plan.node c.in_ok-definitions.ensures.made.ordered plan
+
+pub invariant_of-result-clause-laid_out : goal.invariant_of-result-clause-laid_out
+invariant_of-result-clause-laid_out g c =
+    prepared_laid_out g.T.ArchivePointee.definitions g.T.Portable.shape (entries_of c.in_ok-definitions.definitions.items) g.met.T.Portable.no_others c.in_ok-definitions.ensures.made

@@ -17,17 +17,17 @@ returns-in_err-outer g c =
 
 pub returns-in_err-answer : goal.returns-in_err-answer
 returns-in_err-answer g c =
-    at_call _ _ _ _ _ _ _ c.args.position _ _ _ c.check_subtree_ptr.new.self c.push_subtree_range.new.self _ (record { is_checked = record { same = to_z-of_z {w = w128} {z = c.args.position} c.ranges.position; accepted = c.in_ok-check_subtree_ptr.ensures.answer; state_is = c.check_subtree_ptr.ensures.unchanged; positions_are = c.check_subtree_ptr.ensures.positions }; state_is = c.in_ok-outer.ensures.entered; positions_are = c.in_ok-outer.ensures.positions })
+    at_call _ _ _ _ _ _ _ c.args.position _ _ _ c.check_subtree_ptr.new.self c.push_subtree_range.new.self _ (record { is_checked = record { same = to_z-of_z {w = w128} {z = c.args.position} c.ranges.position; accepted = c.in_ok-check_subtree_ptr.ensures.answer; state_is = c.check_subtree_ptr.ensures.unchanged; positions_are = c.check_subtree_ptr.ensures.positions }; deep = λ e. let clash = c.in_ok-outer.ensures.refused.1 e in cc; state_is = c.in_ok-outer.ensures.entered; positions_are = c.in_ok-outer.ensures.positions })
     c.from_residual-in_err-answer.ensures.1 (record { shown = _; shows = refl; left = _; met = c.in_err-answer.ensures; leaves = refl })
 
 pub returns-in_err-pop_subtree_range : goal.returns-in_err-pop_subtree_range
 returns-in_err-pop_subtree_range g c =
-    at_pop _ _ _ _ _ _ _ c.args.position _ _ _ _ _ c.check_subtree_ptr.new.self c.push_subtree_range.new.self c.f.new.arg2 _ (record { is_checked = record { same = to_z-of_z {w = w128} {z = c.args.position} c.ranges.position; accepted = c.in_ok-check_subtree_ptr.ensures.answer; state_is = c.check_subtree_ptr.ensures.unchanged; positions_are = c.check_subtree_ptr.ensures.positions }; state_is = c.in_ok-outer.ensures.entered; positions_are = c.in_ok-outer.ensures.positions })
+    at_pop _ _ _ _ _ _ _ c.args.position _ _ _ _ _ c.check_subtree_ptr.new.self c.push_subtree_range.new.self c.f.new.arg2 _ (record { is_checked = record { same = to_z-of_z {w = w128} {z = c.args.position} c.ranges.position; accepted = c.in_ok-check_subtree_ptr.ensures.answer; state_is = c.check_subtree_ptr.ensures.unchanged; positions_are = c.check_subtree_ptr.ensures.positions }; deep = λ e. let clash = c.in_ok-outer.ensures.refused.1 e in cc; state_is = c.in_ok-outer.ensures.entered; positions_are = c.in_ok-outer.ensures.positions })
     (record { shown = _; shows = refl; left = _; met = c.in_ok-answer.ensures; leaves = refl })
     c.in_ok-outer.ensures.outer.0 c.in_err-pop_subtree_range.ensures.answer c.from_residual-in_err-pop_subtree_range.ensures.1 c.in_err-pop_subtree_range.ensures.unchanged c.in_err-pop_subtree_range.ensures.positions
 
 pub returns : goal.returns
 returns g c =
-    at_end _ _ _ _ _ _ _ c.args.position _ _ _ _ c.check_subtree_ptr.new.self c.push_subtree_range.new.self c.f.new.arg2 _ (record { is_checked = record { same = to_z-of_z {w = w128} {z = c.args.position} c.ranges.position; accepted = c.in_ok-check_subtree_ptr.ensures.answer; state_is = c.check_subtree_ptr.ensures.unchanged; positions_are = c.check_subtree_ptr.ensures.positions }; state_is = c.in_ok-outer.ensures.entered; positions_are = c.in_ok-outer.ensures.positions })
+    at_end _ _ _ _ _ _ _ c.args.position _ _ _ _ c.check_subtree_ptr.new.self c.push_subtree_range.new.self c.f.new.arg2 _ (record { is_checked = record { same = to_z-of_z {w = w128} {z = c.args.position} c.ranges.position; accepted = c.in_ok-check_subtree_ptr.ensures.answer; state_is = c.check_subtree_ptr.ensures.unchanged; positions_are = c.check_subtree_ptr.ensures.positions }; deep = λ e. let clash = c.in_ok-outer.ensures.refused.1 e in cc; state_is = c.in_ok-outer.ensures.entered; positions_are = c.in_ok-outer.ensures.positions })
     (record { shown = _; shows = refl; left = _; met = c.in_ok-answer.ensures; leaves = refl })
     c.in_ok-outer.ensures.outer.0 c.in_ok-outer.ensures.outer.1 c.in_ok-pop_subtree_range.ensures.answer c.in_ok-pop_subtree_range.ensures.left c.in_ok-pop_subtree_range.ensures.positions

@@ -21,3 +21,6 @@ returns-in-Some-clause-answer g c whole =
       refused = IfErr-weaker c.check.result _ _ (λ e h. refuses c.in-Some.schema g.T.ArchivePointee.definitions g.T.Portable.shape c.args.bytes.now (g.C.Context.state c.args.context.now).depth c.args.pos made e (⊎_elim inl (λ f. inr (f whole)) h)) c.check.ensures.err;
       exact = IfErr-weaker c.check.result _ _ (λ e h. refusal_no_archive _ _ _ _ _ e (omega (arith, c.if-prove.false)) (refuses c.in-Some.schema g.T.ArchivePointee.definitions g.T.Portable.shape c.args.bytes.now (g.C.Context.state c.args.context.now).depth c.args.pos made e (⊎_elim inl (λ f. inr (f whole)) h))) c.check.ensures.err;
     }
+
+pub returns-in-None-clause-of_check : goal.returns-in-None-clause-of_check
+returns-in-None-clause-of_check g c = c.check_root.ensures.of_check (rw c.in-None.is at c.args.self.now.needed)
