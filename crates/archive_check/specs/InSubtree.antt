@@ -2,7 +2,11 @@
 use Rattle.std.specs.Prelude.{◌≡◌, ℕ, ◌+◌, ℤ, pos, Some, Result, Ok, Err}
 use Rattle.std.specs.Borrow.{MutBor}
 use Rattle.archive_check.specs.declared.format.error.Error.{Error}
-use Rattle.archive_check.specs.declared.format.error.Error.TheVariants.{ExceededMaximumSubtreeDepth}
+use Rattle.archive_check.specs.declared.format.error.Error.TheVariants.{ExceededMaximumSubtreeDepth, LayoutTooLarge}
+use Rattle.archive_check.specs.declared.format.layout.Layout.{Layout}
+use Rattle.archive_check.specs.Shape.{Pointee}
+use Rattle.archive_check.specs.Definitions.{Definitions}
+use Rattle.archive_check.specs.RegionLayout.{IsRegionLayout, IsLargeRegion}
 use Rattle.archive_check.specs.Ranges.{RangeState, subtree_answer, pushed, pop_answer, popped}
 use Rattle.archive_check.specs.PositionStates.{Positions}
 
@@ -16,6 +20,10 @@ module _ {C : Type 0} (state : C → RangeState) (positions : C → Positions) w
   abbrev pub IsCallable : (MutBor C → Type 0) → C → ℤ → ℕ → ℕ → Type 0
   IsCallable May old position size align =
       (inner : MutBor C) (root : ℕ) → subtree_answer (state old) position size align ≡ Ok tt → position ≡ pos root → IsInState inner.now (pushed (state old) root) old → May inner
+
+  -- the same, whatever layout a pointer to P with this length has
+  abbrev pub IsCallableIn : (MutBor C → Type 0) → Definitions → Pointee → ℕ → C → ℤ → Type 0
+  IsCallableIn May D P length old position = (layout : Layout) → IsRegionLayout D P length layout → IsCallable May old position layout.size layout.align
 
   -- `InSubtree Call Gives old position size align result new`: what is answered and left where the call answers and leaves as `Call` says, and
   -- a refusal of the context gives one of the call's as `Gives` says. With one level left nothing is called.
@@ -57,3 +65,14 @@ module _ {C : Type 0} (state : C → RangeState) (positions : C → Positions) w
         → pop_answer (state after) (root + size) ≡ Ok tt
         → IsInState new (popped (state after) (root + size) (state old).end) after
         → InSubtree Call Gives old position size align (Ok r) new
+
+  -- `InRegion Call Gives D P length old position result new`: the same of the region of a pointer to P with this length, whose layout is made first
+  pub data InRegion {R E : Type 0} (Call : C → Result R E → C → Type 0) (Gives : Error → E → Type 0) (D : Definitions) (P : Pointee) (length : ℕ) (old : C) (position : ℤ) : Result R E → C → Type 0 where
+    layout_refused : {given : E}
+        → IsLargeRegion D P length
+        → Gives LayoutTooLarge given
+        → InRegion Call Gives D P length old position (Err given) old
+    laid_out : {new : C} {result : Result R E} {layout : Layout}
+        → IsRegionLayout D P length layout
+        → InSubtree Call Gives old position layout.size layout.align result new
+        → InRegion Call Gives D P length old position result new

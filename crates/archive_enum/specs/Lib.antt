@@ -3,3 +3,4 @@ pub mod Items
 pub mod Lending
 pub mod Results
 pub mod StandsFor
+pub mod Orders

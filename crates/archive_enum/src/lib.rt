@@ -2,6 +2,7 @@
 //! `Result` do, and contracts say so by the option or result that each stands for. The names are those of rkyv 0.8.18.
 #![tactic(auto)]
 
+mod compare;
 mod formats;
 mod iter;
 pub mod option;

@@ -2,6 +2,12 @@
 use Rattle.std.proofs.Common.{◌≡◌, ◌⊎◌, inl, inr, ℕ, ℤ, zero, suc, pos, negsuc, ◌^◌, ◌<◌, ◌≤◌, ◌==◌, List, [], ◌∷◌, length, slice_index, Bool, true, false, refl, sym, ap, ◌∙◌, arith}
 use Rattle.std.specs.Int.{Width, byte_len, from_le_bytes, cast_signed, cast_unsigned, w8, w16, w32, w64, w128}
 use mir.Val.{bits}
+use Rattle.std.specs.Prelude.{◌<ℤ◌}
+use Rattle.std.proofs.Math.Facts.{yes_ltb}
+use Rattle.std.specs.Cmp.{ranks, int_cmp_is}
+use Rattle.std.specs.Ordering.{MatchOrdering, nat_cmp, int_cmp, bool_cmp}
+use Rattle.std.specs.declared.cmp.Ordering.{Ordering}
+use Rattle.std.specs.declared.cmp.Ordering.TheVariants.{Less, Equal, Greater}
 use Rattle.std.specs.Char.{IsScalar}
 use lib.Utf8.{scalar}
 use Rattle.std.proofs.lemmas.Bool.Decides.{nat_tests}
@@ -159,3 +165,19 @@ bool-reads (b ∷ c ∷ bs) e h = absurd (omega arith)
 pub bool-value : (bs : List ℕ) → IsLegal bool bs → pos (bool_byte (slice_index bs 0 == 1)) ≡ kind_value bool bs
 unfolding kind_value kind_number
 bool-value bs h = ap pos (byte-bool (slice_index bs 0) (byte_below bs h))
+
+-- the orders of values are those of their whole numbers
+
+ranked_whole : (x y : ℕ) (r : Ordering) → MatchOrdering r (x < y) (x ≡ y) (y < x) → MatchOrdering r (pos x <ℤ pos y) (pos x ≡ pos y) (pos y <ℤ pos x)
+ranked_whole x y Less h = record { lt = yes_ltb h }
+ranked_whole x y Equal h = ap pos h
+ranked_whole x y Greater h = record { lt = yes_ltb h }
+
+pub unsigned-order : (x y : ℕ) → nat_cmp x y ≡ int_cmp (pos x) (pos y)
+unsigned-order x y = int_cmp_is (pos x) (pos y) (nat_cmp x y) (ranked_whole x y (nat_cmp x y) (ranks x y))
+
+pub bool-order : (x y : Bool) → bool_cmp x y ≡ int_cmp (pos (bool_byte x)) (pos (bool_byte y))
+bool-order true true = refl
+bool-order true false = refl
+bool-order false true = refl
+bool-order false false = refl

@@ -2,6 +2,7 @@
 
 ghost use Rattle.std.specs.Prelude.{◌≡◌, ℕ, ℤ, List, length};
 ghost use Rattle.std.specs.Int.{Width};
+ghost use Rattle.std.specs.Ordering.{int_cmp};
 ghost use Rattle.archive_check.specs.Shape.{Kind as KindOf, Sign, number};
 ghost use Rattle.archive_check.specs.Layout.{kind_size};
 ghost use Rattle.archive_check.specs.Reads.{IsLegal, kind_value};
@@ -86,6 +87,9 @@ pub trait Native: Copy + Ord + Hash {
 
     // What the definitions read in a leaf's bytes is the value that they stand for.
     ghost value_law: { (bs : List ℕ) → IsLegal kind bs → value_of (number_of bs) ≡ kind_value kind bs };
+
+    // Values are ordered as these whole numbers are.
+    ghost order_law: { (x y : Self) → Self.cmp x y ≡ int_cmp (value_of x) (value_of y) };
 }
 
 /// A number of the machine, which may be 0. Our own.

@@ -1,11 +1,12 @@
 //! Calls within a region of a check.
 
 ghost use Rattle.std.specs.Fn.{FnOnceReturnsAtMut};
-ghost use Rattle.archive_check.specs.InSubtree.{InSubtree, IsCallable};
+ghost use Rattle.archive_check.specs.InSubtree.{InSubtree, InRegion, IsCallable, IsCallableIn};
 
 use crate::context::ArchiveContext;
 use crate::format::error::Error;
 use crate::format::layout::Layout;
+use crate::format::traits::LayoutRaw;
 
 /// What is made of the calls of any `ArchiveContext`.
 pub trait ArchiveContextExt: ArchiveContext {
@@ -29,6 +30,23 @@ pub trait ArchiveContextExt: ArchiveContext {
         let answer = f(self)?;
         self.pop_subtree_range(outer)?;
         Ok(answer)
+    }
+
+    /// Calls `f` within the region at `position`, in bytes from the buffer's first one, of a pointer to a `T` with this length: 0 for one value, else the
+    /// number of elements or bytes. First its layout is made (`LayoutTooLarge`, 23, as `layout_raw`, and then nothing has changed); the rest is
+    /// `in_subtree_raw`. Asks that `f` may be called in each state that entering leaves. As in rkyv 0.8.18, with a position and a length in place of a
+    /// pointer.
+    final fn in_subtree<
+        T: LayoutRaw,
+        R: Drop,
+        E: From<Error> + Drop,
+        F: FnOnce(&mut Self) -> Result<R, E> + Drop,
+    >(&mut self, position: i128, length: usize, f: F) -> Result<R, E>
+        requires { IsCallableIn Self.state Self.positions (λ inner. F.pre f inner) T.definitions T.pointee length self.old position }
+        ensures { InRegion Self.state Self.positions (λ inner answer after. FnOnceReturnsAtMut F.FnOnce f inner answer after) E.from_gives T.definitions T.pointee length self.old position result self.new }
+    {
+        let layout = T::layout_raw(length)?;
+        self.in_subtree_raw(position, &layout, f)
     }
 }
 

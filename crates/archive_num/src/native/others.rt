@@ -6,7 +6,7 @@ ghost use Rattle.archive_check.specs.Shape.{unit, bool, char};
 ghost use Rattle.archive_check.specs.LittleEndian.{little_bytes, little_number};
 ghost use Rattle.archive_num.specs.Digits.{bool_byte};
 ghost use Rattle.archive_check.proofs.LittleEndian.{length-little_bytes, AreBytes-little_bytes};
-ghost use Rattle.archive_num.specs.Leaves.{unit-bytes, unit-leaf, unit-reads, unit-value, bool-bytes, bool-kind, bool-legal, bool-leaf, bool-number, bool-reads, bool-value, char-kind, char-legal, char-leaf, char-number, char-reads, char-value};
+ghost use Rattle.archive_num.specs.Leaves.{unit-bytes, unit-leaf, unit-reads, unit-value, bool-bytes, bool-kind, bool-legal, bool-leaf, bool-number, bool-reads, bool-value, bool-order, char-kind, char-legal, char-leaf, char-number, char-reads, char-value, unsigned-order};
 
 use crate::Native;
 use archive_check::format::expr::Kind;
@@ -43,6 +43,8 @@ impl Native for () {
     ghost reads_law = { λ bs e h _. unit-reads bs e };
 
     ghost value_law = { λ bs h. unit-value bs };
+
+    ghost order_law = { λ x y. refl };
 
     fn kind() -> Kind {
         Kind::Unit
@@ -89,6 +91,8 @@ impl Native for bool {
     ghost reads_law = { λ bs e h l. bool-reads bs e l };
 
     ghost value_law = { λ bs h. bool-value bs h };
+
+    ghost order_law = { bool-order };
 
     fn kind() -> Kind {
         Kind::Bool
@@ -140,6 +144,8 @@ impl Native for char {
     ghost reads_law = { λ bs e h _. char-reads bs e h };
 
     ghost value_law = { λ bs h. char-value bs h };
+
+    ghost order_law = { unsigned-order };
 
     fn kind() -> Kind {
         Kind::Char

@@ -45,6 +45,8 @@ impl Native for i8 {
 
     ghost value_law = { λ bs h. signed-value w8 bs h };
 
+    ghost order_law = { λ x y. refl };
+
     fn kind() -> Kind {
         Kind::Number(i8::integer_kind())
     }
@@ -113,6 +115,8 @@ impl Native for i16 {
     ghost reads_law = { λ bs e h _. signed-reads w16 bs e h };
 
     ghost value_law = { λ bs h. signed-value w16 bs h };
+
+    ghost order_law = { λ x y. refl };
 
     fn kind() -> Kind {
         Kind::Number(i16::integer_kind())
@@ -183,6 +187,8 @@ impl Native for i32 {
 
     ghost value_law = { λ bs h. signed-value w32 bs h };
 
+    ghost order_law = { λ x y. refl };
+
     fn kind() -> Kind {
         Kind::Number(i32::integer_kind())
     }
@@ -252,6 +258,8 @@ impl Native for i64 {
 
     ghost value_law = { λ bs h. signed-value w64 bs h };
 
+    ghost order_law = { λ x y. refl };
+
     fn kind() -> Kind {
         Kind::Number(i64::integer_kind())
     }
@@ -320,6 +328,8 @@ impl Native for i128 {
     ghost reads_law = { λ bs e h _. signed-reads w128 bs e h };
 
     ghost value_law = { λ bs h. signed-value w128 bs h };
+
+    ghost order_law = { λ x y. refl };
 
     fn kind() -> Kind {
         Kind::Number(i128::integer_kind())

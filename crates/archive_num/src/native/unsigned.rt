@@ -5,7 +5,7 @@ ghost use Rattle.std.specs.Int.{w8, w16, w32, w64, w128};
 ghost use Rattle.archive_check.specs.Shape.{number, unsigned};
 ghost use Rattle.archive_check.specs.LittleEndian.{little_bytes, little_number};
 ghost use Rattle.archive_check.proofs.LittleEndian.{length-little_bytes, AreBytes-little_bytes};
-ghost use Rattle.archive_num.specs.Leaves.{number-leaf, unsigned-number, unsigned-reads, unsigned-value};
+ghost use Rattle.archive_num.specs.Leaves.{number-leaf, unsigned-number, unsigned-reads, unsigned-value, unsigned-order};
 
 use crate::{Integer, Native};
 use archive_check::format::expr::{IntegerKind, Kind};
@@ -43,6 +43,8 @@ impl Native for u8 {
     ghost reads_law = { λ bs e h _. unsigned-reads w8 bs e h };
 
     ghost value_law = { λ bs h. unsigned-value w8 bs h };
+
+    ghost order_law = { unsigned-order };
 
     fn kind() -> Kind {
         Kind::Number(u8::integer_kind())
@@ -113,6 +115,8 @@ impl Native for u16 {
 
     ghost value_law = { λ bs h. unsigned-value w16 bs h };
 
+    ghost order_law = { unsigned-order };
+
     fn kind() -> Kind {
         Kind::Number(u16::integer_kind())
     }
@@ -181,6 +185,8 @@ impl Native for u32 {
     ghost reads_law = { λ bs e h _. unsigned-reads w32 bs e h };
 
     ghost value_law = { λ bs h. unsigned-value w32 bs h };
+
+    ghost order_law = { unsigned-order };
 
     fn kind() -> Kind {
         Kind::Number(u32::integer_kind())
@@ -251,6 +257,8 @@ impl Native for u64 {
 
     ghost value_law = { λ bs h. unsigned-value w64 bs h };
 
+    ghost order_law = { unsigned-order };
+
     fn kind() -> Kind {
         Kind::Number(u64::integer_kind())
     }
@@ -319,6 +327,8 @@ impl Native for u128 {
     ghost reads_law = { λ bs e h _. unsigned-reads w128 bs e h };
 
     ghost value_law = { λ bs h. unsigned-value w128 bs h };
+
+    ghost order_law = { unsigned-order };
 
     fn kind() -> Kind {
         Kind::Number(u128::integer_kind())
