@@ -1,7 +1,7 @@
 -- Leaves are copied: they own nothing, are small, and have their bytes wherever they stand.
-use Rattle.std.proofs.Common.{◌≡◌, ℕ, ℤ, ◌≤◌, List, [], length, sym, ◌∙◌, arith}
+use Rattle.std.proofs.Common.{◌≡◌, ℕ, ℤ, ◌≤◌, List, [], length, sym, ap, ◌∙◌, arith}
 use Rattle.std.specs.Int.{Width, w8, w16, w32, w64, w128, byte_len}
-use Rattle.archive_check.specs.Shape.{Kind, unit, bool, char, number as number_kind, non_zero, raw_rel, leaf, Shape}
+use Rattle.archive_check.specs.Shape.{Sign, Kind, unit, bool, char, number as number_kind, non_zero, raw_rel, leaf, Shape}
 use Rattle.archive_check.specs.Layout.{kind_size}
 use Rattle.archive_check.specs.Definitions.{Definitions}
 use Rattle.archive_check.specs.Value.{Value, number}
@@ -26,6 +26,10 @@ kind_small (raw_rel sign w) = width_small w
 
 pub leaf_small : (kind : Kind) (n : ℕ) → kind_size kind ≡ n → n ≤ 1024
 leaf_small kind n e = rw (← e) (kind_small kind)
+
+-- a number that isn't 0 has as many bytes as one that may be
+pub non_zero_size : (kind : Kind) (sign : Sign) (w : Width) (n : ℕ) → kind ≡ number_kind sign w → kind_size kind ≡ n → kind_size (non_zero sign w) ≡ n
+non_zero_size kind sign w n e sized = ap kind_size (sym e) ∙ sized
 
 pub leaf_owns_nothing : (D : Definitions) (X : Shape) (kind : Kind) (z : ℤ) → X ≡ leaf kind → OwnsNothing D X [] (number z)
 leaf_owns_nothing D X kind z same w = serialized_leaf D X kind z w same

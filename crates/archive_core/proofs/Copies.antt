@@ -1,6 +1,7 @@
 -- Values that are copied: their bytes one behind another, and the region of all.
-use Rattle.std.proofs.Common.{◌≡◌, ℕ, suc, ◌+◌, ◌*◌, ◌<◌, ◌≤◌, ◌^◌, List, [], ◌∷◌, ◌++◌, length, take, drop, get_or, min, ◌/◌, refl, sym, ap, subst, ◌∙◌, append_assoc, length-append, arith, Bool, true, false, inl, inr}
-use Rattle.std.proofs.lemmas.List.{append-nil, take-append-drop}
+use Rattle.std.proofs.Common.{◌≡◌, ℕ, suc, ◌+◌, ◌*◌, ◌<◌, ◌≤◌, ◌^◌, List, [], ◌∷◌, ◌++◌, length, take, drop, replicate, get_or, min, ◌/◌, refl, sym, ap, subst, ◌∙◌, append_assoc, length-append, arith, Bool, true, false, inl, inr, Option, Some, None, Result, Ok, Err, IfOk, IfErr, OnOk, IsOk}
+use Rattle.std.specs.Prelude.{IfSome, IsSomeAnd, IsErrOf}
+use Rattle.std.proofs.lemmas.List.{append-nil, take-append-drop, length-replicate}
 use Rattle.std.proofs.lemmas.Bool.{cases_lt}
 use Rattle.std.proofs.lemmas.Slice.{take-put_mid}
 use Rattle.std.proofs.Math.Seq.{take-suc}
@@ -15,14 +16,14 @@ use Rattle.archive_check.specs.CleanRegions.{clean_none}
 use Rattle.archive_check.specs.WriterState.{WriterState, KeepsKeys}
 use Rattle.archive_core.specs.Writing.{Naming, Puts}
 use Rattle.archive_core.specs.Runs.{each_keys, each_meaning, SerializedRun, PutsRun, HindersRunAt}
-use Rattle.archive_core.specs.Copies.{each_bytes, IsCopied, EachCopied, OwnsNothing}
+use Rattle.archive_core.specs.Copies.{each_bytes, IsCopied, EachCopied, OwnsNothing, copies_from, copies_to, behind_zeros, IsUnwritten, IsCopyRefused, AreCopiesRefused, TakesCopy}
 use Rattle.archive_check.specs.declared.format.error.Error.{Error}
-use Rattle.archive_check.specs.declared.format.error.Error.TheVariants.{LayoutTooLarge}
-use Rattle.archive_write.specs.Written.{GoesOn, ExplainsRefusal}
-use Rattle.archive_core.specs.Causes.{Explains}
-use Rattle.archive_core.proofs.Causes.{goes_nowhere, goes_both, explains_later, explains_write}
+use Rattle.archive_check.specs.declared.format.error.Error.TheVariants.{OutOfMemory, PositionTooLarge, LengthTooLarge, LayoutTooLarge}
+use Rattle.archive_write.specs.Written.{GoesOn, ExplainsRefusal, padding}
+use Rattle.archive_core.specs.Causes.{Explains, no_memory, no_room, device_failed, own_cause}
+use Rattle.archive_core.proofs.Causes.{goes_nowhere, goes_both, explains_later, explains_sooner, explains_write}
 use Rattle.archive_core.proofs.Runs.{serialized_none, serialized_element}
-use Rattle.archive_core.proofs.RunRegions.{puts_element, run_too_large}
+use Rattle.archive_core.proofs.RunRegions.{puts_element}
 
 -- what owns nothing is serialized one after another as it is
 pub serialized_as_they_are : {A : Type 0} (D : Definitions) (X : Shape) (k : A → List Naming) (m : A → Value) → ((x : A) → OwnsNothing D X (k x) (m x)) → (xs : List A) (w : WriterState)
@@ -81,18 +82,26 @@ module _ {A : Type 0} (D : Definitions) (X : Shape) (size : ℕ) (m : A → Valu
         }
 
     -- a piece is refused
-    pub copies_broken : (own : Error → Type 0) (new : WriterState) (rest piece later : List A) (place : ℕ) (e : Error) → rest ≡ piece ++ later → Copies D X size m b first now all rest → GoesOn now new → place ≡ length now.bytes
-        → ExplainsRefusal (length piece * size) place now.room now.failures new.failures e → Explains own (λ n. n ≤ length first.bytes + length all * size) first new e
-    copies_broken own new rest piece later place e cut h g here refused =
+    pub copies_broken : (new : WriterState) (rest piece later : List A) (start bytes place : ℕ) (e : Error) → rest ≡ piece ++ later → start ≡ length first.bytes → bytes ≡ size
+        → Copies D X size m b first now all rest → GoesOn now new → place ≡ length now.bytes
+        → ExplainsRefusal (length piece * size) place now.room now.failures new.failures e → IsUnwritten (start + length all * bytes) first new e
+    copies_broken new rest piece later start bytes place e cut begin same h g here refused =
+        let end : ℕ = start + length all * bytes in
+        let whole : end ≡ length first.bytes + length all * size = λ i. begin i + length all * same i in
         let c : Copies D X size m b first now all (piece ++ later) = rw cut at h in
         let many : (length piece + length later) * size ≡ length piece * size + length later * size = add-mul (length piece) (length later) size in
-        explains_later own own (λ n. n ≤ length first.bytes + length all * size) _ first now new e c.goes g (λ x. x) (λ n x. x)
-        (explains_write own (λ n. n ≤ length first.bytes + length all * size) (length piece * size) place now new e here
-        (omega (arith, here, c.ends, many, ap (λ z. z * size) (length-append piece later))) refused)
+        explains_later (λ x. ⊥) (λ x. ⊥) (λ n. n ≤ end) _ first now new e c.goes g (λ x. x) (λ n x. x)
+        (explains_write (λ x. ⊥) (λ n. n ≤ end) (length piece * size) place now new e here
+        (omega (arith, here, whole, c.ends, many, ap (λ z. z * size) (length-append piece later))) refused)
 
-    pub copies_end : (L : Layout) (rest : List A) → L.size ≡ size → HasLayout D X L → length rest ≡ 0 → Copies D X size m b first now all rest → PutsRun D first now X L (length all) (each_meaning m all)
-    copies_end L [] same layout e h = copies_put D X L m b layout all first now (rw (sym same) at (h.read tt)) (sym (append-nil now.bytes) ∙ h.bytes) (λ i k. h.states k i)
-    copies_end L (x ∷ xs) same layout e h = absurd (omega (arith, e))
+    -- none is left
+    pub copies_written : (rest : List A) → length rest ≡ 0 → Copies D X size m b first now all rest → now.bytes ≡ first.bytes ++ each_bytes b all
+    copies_written [] e h = sym (append-nil now.bytes) ∙ h.bytes
+    copies_written (x ∷ xs) e h = absurd (omega (arith, e))
+
+    pub copies_read : (rest : List A) → length rest ≡ 0 → Copies D X size m b first now all rest → EachCopied D X size m b all
+    copies_read [] e h = h.read tt
+    copies_read (x ∷ xs) e h = absurd (omega (arith, e))
 
 -- a loop that copies values: a step at index i
 
@@ -126,9 +135,83 @@ pub cut_at : {A : Type 0} (n : ℕ) (xs front back : List A) → front ≡ take 
 cut_at n xs front back e f = sym (take-append-drop n xs) ∙ (λ j. sym e j ++ sym f j)
 
 -- so many don't fit where they are said not to
-pub copies_too_large : (D : Definitions) (X : Shape) (L : Layout) (n : ℕ) (flats : Values) (old new : WriterState) (p size : ℕ) (fits : Bool) → (p + n * size < 2 ^ 64 → fits ≡ true) → fits ≡ false → size ≡ L.size → p ≡ length old.bytes
-    → Explains (HindersRunAt D X L n flats (length old.bytes)) (λ m. m ≤ length old.bytes + n * L.size) old new LayoutTooLarge
-copies_too_large D X L n flats old new p size fits h not_so same here = elim (cases_lt (p + n * size) (2 ^ 64)) [
+pub copies_too_large : (old new : WriterState) (p n size : ℕ) (fits : Bool) → (p + n * size < 2 ^ 64 → fits ≡ true) → fits ≡ false → IsCopyRefused (p + n * size) old new LayoutTooLarge
+copies_too_large old new p n size fits h not_so = elim (cases_lt (p + n * size) (2 ^ 64)) [
   | inl less ↦ (let yes = h less in cc)
-  | inr more ↦ run_too_large D X L n flats old new (omega (arith, more, here, ap (λ z. n * z) same))
+  | inr more ↦ own_cause (refl, more)
 ]
+
+pub unwritten_refused : (end : ℕ) (old new : WriterState) (e : Error) → IsUnwritten end old new e → IsCopyRefused end old new e
+unwritten_refused end old new e h = explains_sooner (λ x. ⊥) _ (λ n. n ≤ end) _ old new e (λ x. absurd x) (λ n x. x) h
+
+-- the same of a region that stands where the writer does
+pub copy_unresolved : (D : Definitions) (X : Shape) (L : Layout) (n : ℕ) (flats : Values) (old new : WriterState) (p size : ℕ) (e : Error) → p ≡ length old.bytes → size ≡ L.size
+    → IsCopyRefused (p + n * size) old new e → Explains (HindersRunAt D X L n flats (length old.bytes)) (λ m. m ≤ length old.bytes + n * L.size) old new e
+copy_unresolved D X L n flats old new p size e here same h =
+    let whole : p + n * size ≡ length old.bytes + n * L.size = λ i. here i + n * same i in
+    explains_sooner _ _ _ _ old new e (λ x. inl (x.0, omega (arith, x.1, whole))) (λ m x. omega (arith, x, whole)) h
+
+-- the zeros in front of it are written
+pub copy_refused_later : (L : Layout) (n : ℕ) (old mid new : WriterState) (p q size : ℕ) (e : Error) → p ≡ length old.bytes → q ≡ length mid.bytes → size ≡ L.size
+    → mid.bytes ≡ old.bytes ++ replicate (padding L.align p) 0 → GoesOn old mid → GoesOn mid new → IsCopyRefused (q + n * size) mid new e → IsCopyRefused (copies_to L n p) old new e
+copy_refused_later L n old mid new p q size e here there same grown g k h =
+    let zeros : length mid.bytes ≡ length old.bytes + padding L.align p = ap length grown ∙ length-append old.bytes (replicate {A = ℕ} (padding L.align p) 0)
+    ∙ ap (λ z. length old.bytes + z) (length-replicate {A = ℕ} (padding L.align p) 0) in
+    let whole : q + n * size ≡ copies_to L n p = (λ i. there i + n * same i) ∙ omega (arith, zeros, here) in
+    explains_later _ _ _ _ old mid new e g k (λ x. (x.0, omega (arith, x.1, whole))) (λ m x. omega (arith, x, whole)) h
+
+-- or they aren't
+pub copy_not_padded : (L : Layout) (n : ℕ) (old new : WriterState) (p : ℕ) (e : Error) → p ≡ length old.bytes → ExplainsRefusal (padding L.align p) p old.room old.failures new.failures e
+    → IsCopyRefused (copies_to L n p) old new e
+copy_not_padded L n old new p e here h = explains_write _ (λ m. m ≤ copies_to L n p) (padding L.align p) p old new e here (omega arith) h
+
+-- behind the old bytes stand the zeros and what is copied
+pub behind_written : (r : Result ℕ Error) (L : Layout) (p : ℕ) (old mid new bytes : List ℕ) → p ≡ length old → mid ≡ old ++ replicate (padding L.align p) 0 → OnOk r (new ≡ mid ++ bytes)
+    → OnOk r (new ≡ behind_zeros L old bytes)
+behind_written (Ok t) L p old mid new bytes here padded grown = grown ∙ ap (λ z. z ++ bytes) padded ∙ ap (λ n. (old ++ replicate (padding L.align n) 0) ++ bytes) here
+behind_written (Err e) L p old mid new bytes here padded grown = tt
+
+pub begins_behind : (r : Result ℕ Error) (L : Layout) (p q : ℕ) (old mid : List ℕ) → p ≡ length old → q ≡ length mid → mid ≡ old ++ replicate (padding L.align p) 0 → IfOk r (λ t. t ≡ q)
+    → IfOk r (λ t. t ≡ copies_from L p)
+begins_behind (Ok t) L p q old mid here there padded at = at ∙ there ∙ ap length padded ∙ length-append old (replicate {A = ℕ} (padding L.align p) 0)
+    ∙ (λ i. sym here i + length-replicate {A = ℕ} (padding L.align p) 0 i)
+begins_behind (Err e) L p q old mid here there padded at = tt
+
+pub copies_put_if : {A : Type 0} (r : Result ℕ Error) (D : Definitions) (X : Shape) (L : Layout) (size : ℕ) (m : A → Value) (b : A → List ℕ) (xs : List A) (old new : WriterState) → HasLayout D X L → size ≡ L.size
+    → OnOk r (EachCopied D X size m b xs) → OnOk r (new.bytes ≡ old.bytes ++ each_bytes b xs) → KeepsKeys old.states new.states → OnOk r (PutsRun D old new X L (length xs) (each_meaning m xs))
+copies_put_if (Ok t) D X L size m b xs old new layout same each grown keys = copies_put D X L m b layout xs old new (rw same at each) grown (λ i k. keys k i)
+copies_put_if (Err e) D X L size m b xs old new layout same each grown keys = tt
+
+-- nothing refuses it
+
+has_room : (r : Option ℕ) (n end cap top : ℕ) → IfSome r (λ room. end ≤ n + room) → IsSomeAnd r (λ room. (cap ≡ n + room) × (cap < top)) → top ≤ end → ⊥
+has_room None n end cap top h k le = k
+has_room (Some room) n end cap top h k le = omega (arith, h, k.0, k.1, le)
+
+copy_not_refused : {B : Type 0} (takes : Type 0) (end : ℕ) (old new : WriterState) (e : Error) → TakesCopy takes end old new → GoesOn old new
+    → (IsErrOf {T = B} {E = Error} (Err e) OutOfMemory → takes) → IsCopyRefused end old new e → ⊥
+copy_not_refused takes end old new e t g memory no_memory = t.memory (memory refl)
+copy_not_refused takes end old new e t g memory (no_room h) = has_room old.room (length old.bytes) end _ _ t.room h.full h.planned
+copy_not_refused takes end old new e t g memory (device_failed (inl h)) = omega (arith, h, t.device)
+copy_not_refused takes end old new e t g memory (device_failed (inr h)) = omega (arith, h, t.device, g.device)
+copy_not_refused takes end old new e t g memory (own_cause h) = omega (arith, h.1, t.fits)
+
+pub copy_succeeds : {A : Type 0} (r : Result A Error) (takes : Type 0) (end : ℕ) (old new : WriterState) → GoesOn old new → (IsErrOf r OutOfMemory → takes) → IfErr r (IsCopyRefused end old new)
+    → TakesCopy takes end old new → IsOk r
+copy_succeeds (Ok a) takes end old new g memory refused t = refl
+copy_succeeds {A = A} (Err e) takes end old new g memory refused t = absurd (copy_not_refused {B = A} takes end old new e t g memory refused)
+
+pub copy_fails : {A B : Type 0} (r : Result A Error) (d : Error) (takes : Type 0) (end : ℕ) (old new : WriterState) → GoesOn old new → (IsErrOf {T = B} {E = Error} (Err d) OutOfMemory → takes)
+    → IsCopyRefused end old new d → TakesCopy takes end old new → IsOk r
+copy_fails {A = A} {B = B} r d takes end old new g memory refused t = absurd (copy_not_refused {B = B} takes end old new d t g memory refused)
+
+-- as a vector's elements
+
+pub copies_refused : (L : Layout) (n p : ℕ) (old new : WriterState) (e : Error) → IsCopyRefused (copies_to L n p) old new e → AreCopiesRefused L n p old new e
+copies_refused L n p old new e h = explains_sooner _ _ _ _ old new e (λ x. inr (inr x)) (λ m x. x) h
+
+pub long_copies_refused : (L : Layout) (n p : ℕ) (old new : WriterState) → 4294967295 < n → AreCopiesRefused L n p old new LengthTooLarge
+long_copies_refused L n p old new long = own_cause (inl (refl, long))
+
+pub far_copies_refused : (L : Layout) (n p : ℕ) (old new : WriterState) → 4294967295 < copies_from L p → AreCopiesRefused L n p old new PositionTooLarge
+far_copies_refused L n p old new far = own_cause (inr (inl (refl, far)))

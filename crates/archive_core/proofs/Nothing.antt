@@ -12,6 +12,7 @@ use Rattle.archive_check.specs.Entries.{ReadsBack}
 use Rattle.archive_check.specs.WriterState.{WriterState}
 use Rattle.archive_check.proofs.ReadBack.{read_back, bare}
 use Rattle.archive_check.proofs.StandingBytes.{zero_nowhere}
+use Rattle.archive_core.specs.Copies.{IsCopied}
 use Rattle.archive_core.specs.Writing.{Resolves}
 use Rattle.archive_core.specs.Plans.{cursor, plans_parts, plans_no_part, Serialized, serialized}
 use Rattle.archive_core.proofs.Appending.{writes_none, writes_product}
@@ -26,6 +27,9 @@ resolves_empty_product D p a = record {
   reads = λ s bytes k stands. reads_parts reads_no_part;
   clean = λ s bytes k stands. clean_parts (clean_no_part (zero_nowhere bytes (p + 0) (p + 0) (omega arith)));
 }
+
+pub empty_product_copied : (D : Definitions) → IsCopied D (parts no_part) 0 (product no_value) []
+empty_product_copied D = record { sized = refl; resolved = λ p. resolves_empty_product D p [] }
 
 no_value_there : {s : Schema} {bytes : List ℕ} {q : ℕ} {vs : _} → ReadsParts s bytes q 0 no_part vs → vs ≡ no_value
 no_value_there reads_no_part = refl

@@ -13,7 +13,8 @@ ghost use Rattle.archive_core.specs.Writing.{Fresh, Resolves};
 ghost use Rattle.archive_write.specs.Written.{GoesOn};
 
 use crate::place::Place;
-use crate::traits::{Archive, Deserialize, Entries, Keys, Serialize};
+use crate::slice::copy_slice;
+use crate::traits::{Archive, Copied, CopyOptimization, Deserialize, Entries, Keys, Serialize};
 use crate::view::RawView;
 use archive_check::format::error::Error;
 use archive_write::ser::Writer;
@@ -50,6 +51,36 @@ impl<T> Archive for PhantomData<T> {
         let Place { bytes: _bytes, .. } = place;
         Ok(())
     }
+
+    fn copy_optimization() -> CopyOptimization<PhantomData<T>> {
+        CopyOptimization::enable()
+    }
+
+    fn serialize_copied<S: Writer + Keys>(
+        values: &[PhantomData<T>],
+        serializer: &mut S,
+    ) -> Result<Option<usize>, Error> {
+        let pos = copy_slice(values, serializer)?;
+        Ok(Some(pos))
+    }
+}
+
+/// It has no bytes, so nothing is copied.
+impl<T> Copied for PhantomData<T> {
+    type CopiedAs = PhantomData<T>;
+
+    ghost copied_keys = { λ _. [] };
+
+    ghost copied_meaning = { λ _. product no_value };
+
+    ghost copied_bytes = { λ _. [] };
+
+    #[tactic(auto, using(crate::proofs::Nothing::serialized_empty_product))]
+    fn copied_size() -> usize {
+        0
+    }
+
+    fn copy_one(&self, _bytes: &mut [u8]) {}
 }
 
 impl<T, S: Writer + Keys> Serialize<S> for PhantomData<T> {

@@ -8,6 +8,7 @@ ghost use Rattle.archive_check.specs.Reads.{u32_at};
 ghost use Rattle.archive_check.specs.SelfCheck.Owners.{vec_check, vec_reaches};
 ghost use Rattle.archive_core.specs.Views.{ShowsPart, itself};
 
+mod copying;
 mod iterators;
 mod reading;
 mod sources;

@@ -19,8 +19,10 @@ ghost use Rattle.archive_write.specs.Written.{GoesOn};
 use super::write_leaf;
 use crate::place::Place;
 use crate::ser::serialize_one;
+use crate::slice::copy_slice;
 use crate::traits::{
-    Archive, ArchiveUnsized, Deserialize, Entries, Keys, Serialize, SerializeUnsized,
+    Archive, ArchiveUnsized, CopyOptimization, Deserialize, Entries, Keys, Serialize,
+    SerializeUnsized,
 };
 use crate::view::{RawView, Ref};
 use archive_check::format::error::Error;
@@ -58,6 +60,18 @@ impl<N: Integer> Archive for NonZero<N> {
         let Place { bytes, .. } = place;
         write_leaf(self.to_native(), bytes);
         Ok(())
+    }
+
+    fn copy_optimization() -> CopyOptimization<NonZero<N>> {
+        CopyOptimization::enable()
+    }
+
+    fn serialize_copied<S: Writer + Keys>(
+        values: &[NonZero<N>],
+        serializer: &mut S,
+    ) -> Result<Option<usize>, Error> {
+        let pos = copy_slice(values, serializer)?;
+        Ok(Some(pos))
     }
 }
 

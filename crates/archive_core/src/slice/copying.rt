@@ -1,13 +1,13 @@
 // Slices of values that are copied: their bytes are written a piece at a time.
 
-ghost use Rattle.std.specs.Prelude.{◌≡◌, ◌+◌, ◌*◌, ◌++◌, ◌<◌, ◌≤◌, ◌%◌, ◌^◌, IfOk, OnOk, OnErr, IfErr, length};
+ghost use Rattle.std.specs.Prelude.{◌≡◌, ◌+◌, ◌*◌, ◌++◌, ◌<◌, ◌≤◌, IfOk, OnOk, IfErr, IsOk, IsErrOf, IsTrue, length};
 ghost use Rattle.archive_check.specs.Shape.{run};
 ghost use Rattle.archive_check.specs.Value.{list};
 ghost use Rattle.archive_check.specs.WriterState.{KeepsKeys};
-ghost use Rattle.archive_core.specs.Causes.{Explains, IsRegionRefused};
-ghost use Rattle.archive_core.specs.Copies.{each_bytes, EachCopied};
+ghost use Rattle.archive_core.specs.Causes.{IsRegionRefused};
+ghost use Rattle.archive_core.specs.Copies.{each_bytes, EachCopied, copies_from, copies_to, behind_zeros, IsUnwritten, IsCopyRefused, TakesCopy};
 ghost use Rattle.archive_core.specs.Plans.{SerializedRegion};
-ghost use Rattle.archive_core.specs.Runs.{each_keys, each_meaning, PutsRun, HindersRunAt};
+ghost use Rattle.archive_core.specs.Runs.{each_keys, each_meaning};
 ghost use Rattle.archive_write.specs.Written.{GoesOn, ExplainsRefusal};
 
 use crate::ser::run_fits;
@@ -31,6 +31,7 @@ fn write_piece<W: Writer, T: Copied>(
     ensures goes_on { GoesOn (W.state writer.old) (W.state writer.new) }
     ensures refused { IfErr result (ExplainsRefusal (length values.now * T.CopiedAs.layout.size) (W.place writer.old) (W.state writer.old).room
         (W.state writer.old).failures (W.state writer.new).failures) }
+    ensures memory { IsErrOf result Error.OutOfMemory → IsTrue W.takes_memory }
     ensures keys { KeepsKeys (W.state writer.old).states (W.state writer.new).states }
 {
     T::copy_into(values, bytes);
@@ -59,10 +60,10 @@ fn count_at_once(size: usize, count: usize) -> usize
 fn copy_pieces<W: Writer, T: Copied>(values: &[T], size: usize, writer: &mut W) -> Result<(), Error>
     requires same { size ≡ T.CopiedAs.layout.size }
     requires small { size ≤ 1024 }
-    ensures put { OnOk result (PutsRun T.CopiedAs.definitions (W.state writer.old) (W.state writer.new)
-        T.CopiedAs.shape T.CopiedAs.layout (length values.now) (each_meaning T.copied_meaning values.now)) }
-    ensures refused { IfErr result (Explains (HindersRunAt T.CopiedAs.definitions T.CopiedAs.shape T.CopiedAs.layout (length values.now) (each_meaning T.copied_meaning values.now) (length (W.state writer.old).bytes))
-        (λ n. n ≤ length (W.state writer.old).bytes + length values.now * T.CopiedAs.layout.size) (W.state writer.old) (W.state writer.new)) }
+    ensures copied { OnOk result ((W.state writer.new).bytes ≡ (W.state writer.old).bytes ++ each_bytes T.copied_bytes values.now) }
+    ensures read { OnOk result (EachCopied T.CopiedAs.definitions T.CopiedAs.shape size T.copied_meaning T.copied_bytes values.now) }
+    ensures refused { IfErr result (IsUnwritten (W.place writer.old + length values.now * size) (W.state writer.old) (W.state writer.new)) }
+    ensures memory { IsErrOf result Error.OutOfMemory → IsTrue W.takes_memory }
     ensures goes_on { GoesOn (W.state writer.old) (W.state writer.new) }
     ensures keys { KeepsKeys (W.state writer.old).states (W.state writer.new).states }
 {
@@ -85,11 +86,11 @@ fn copy_aligned<W: Writer, T: Copied>(
 ) -> Result<usize, Error>
     requires same { size ≡ T.CopiedAs.layout.size }
     requires small { size ≤ 1024 }
-    ensures region { OnOk result (PutsRun T.CopiedAs.definitions (W.state writer.old) (W.state writer.new)
-        T.CopiedAs.shape T.CopiedAs.layout (length values.now) (each_meaning T.copied_meaning values.now)) }
+    ensures copied { OnOk result ((W.state writer.new).bytes ≡ (W.state writer.old).bytes ++ each_bytes T.copied_bytes values.now) }
+    ensures read { OnOk result (EachCopied T.CopiedAs.definitions T.CopiedAs.shape size T.copied_meaning T.copied_bytes values.now) }
     ensures position { IfOk result (λ p. p ≡ W.place writer.old) }
-    ensures refused { IfErr result (Explains (HindersRunAt T.CopiedAs.definitions T.CopiedAs.shape T.CopiedAs.layout (length values.now) (each_meaning T.copied_meaning values.now) (length (W.state writer.old).bytes))
-        (λ n. n ≤ length (W.state writer.old).bytes + length values.now * T.CopiedAs.layout.size) (W.state writer.old) (W.state writer.new)) }
+    ensures refused { IfErr result (IsCopyRefused (W.place writer.old + length values.now * size) (W.state writer.old) (W.state writer.new)) }
+    ensures memory { IsErrOf result Error.OutOfMemory → IsTrue W.takes_memory }
     ensures goes_on { GoesOn (W.state writer.old) (W.state writer.new) }
     ensures keys { KeepsKeys (W.state writer.old).states (W.state writer.new).states }
 {
@@ -103,18 +104,23 @@ fn copy_aligned<W: Writer, T: Copied>(
 
 /// Writes zeros up to the values' alignment, and then the bytes of all, one behind another, a piece of at most 1,024 bytes at a time; answers the region's
 /// position, in bytes from the first one. It asks nothing, and takes no memory of its own. Refused with `LayoutTooLarge`, 23, where the region would end
-/// above `usize::MAX`, or as the writer refuses (`OutOfMemory`, 1; `BufferOverflow`, 8; `WriterFailed`, 9), of a whole piece each time. After a refusal,
-/// too, the bytes from before are a beginning of those that `serializer` holds. rkyv 0.8.18 has it within `serialize_unsized` of a slice, and copies
-/// memory.
+/// above `usize::MAX`, or as the writer refuses (`OutOfMemory`, 1; `BufferOverflow`, 8; `WriterFailed`, 9), of a whole piece each time; so over a
+/// `Buffer` exactly where the bytes don't fit. After a refusal, too, the bytes from before are a beginning of those that `serializer` holds. rkyv
+/// 0.8.18 has it within `serialize_unsized` of a slice, and copies memory.
 pub fn copy_slice<S: Writer + Keys, T: Copied>(
     values: &[T],
     serializer: &mut S,
 ) -> Result<usize, Error>
     ensures serialized { IfOk result (λ p. SerializedRegion T.CopiedAs.definitions (run T.CopiedAs.shape) (length values.now) (each_keys T.copied_keys values.now) (list (each_meaning T.copied_meaning values.now)) p
         (S.state serializer.old) (S.state serializer.new)) }
+    ensures copied { OnOk result ((S.state serializer.new).bytes ≡ behind_zeros T.CopiedAs.layout (S.state serializer.old).bytes (each_bytes T.copied_bytes values.now)) }
+    ensures position { IfOk result (λ p. p ≡ copies_from T.CopiedAs.layout (S.place serializer.old)) }
     ensures goes_on { GoesOn (S.state serializer.old) (S.state serializer.new) }
     ensures refused { IfErr result (IsRegionRefused T.CopiedAs.definitions (run T.CopiedAs.shape) (length values.now) (each_keys T.copied_keys values.now) (list (each_meaning T.copied_meaning values.now))
         (S.state serializer.old) (S.state serializer.new)) }
+    ensures cause { IfErr result (IsCopyRefused (copies_to T.CopiedAs.layout (length values.now) (S.place serializer.old)) (S.state serializer.old) (S.state serializer.new)) }
+    ensures memory { IsErrOf result Error.OutOfMemory → IsTrue S.takes_memory }
+    ensures succeeds { TakesCopy (IsTrue S.takes_memory) (copies_to T.CopiedAs.layout (length values.now) (S.place serializer.old)) (S.state serializer.old) (S.state serializer.new) → IsOk result }
 {
     let size = T::copied_size();
     serializer.align_for::<T::CopiedAs>()?;
