@@ -6,7 +6,9 @@ use std::fs;
 use std::path::{Path, PathBuf};
 use std::process::Command;
 
-const SETS: [&str; 6] = ["u32", "string", "record", "numbers", "rows", "list"];
+const SETS: [&str; 8] = [
+    "u32", "string", "record", "plain", "numbers", "rows", "list", "shared",
+];
 
 fn run(command: &mut Command) -> String {
     let done = command
@@ -60,6 +62,7 @@ fn exports(library: &Path, out: &Path) {
     let on_bytes: Vec<String> = ["check", "access", "read"]
         .iter()
         .flat_map(|it| SETS.map(|set| format!("{it}_{set}")))
+        .chain(["compare_names".to_string()])
         .collect();
     let names = |of: &[&str]| {
         of.iter()
@@ -92,8 +95,15 @@ fn exports(library: &Path, out: &Path) {
         &mut text,
         &has,
         "Size",
-        &names(&["record", "rows", "list"]),
+        &names(&["record", "plain", "rows", "list", "shared"]),
         "size: usize, count: usize, reuse: bool",
+    );
+    table(
+        &mut text,
+        &has,
+        "Edit",
+        &["seal_record".to_string()],
+        "bytes: *mut u8, len: usize, count: usize",
     );
     fs::write(out.join("exports.rs"), text).unwrap();
 }

@@ -49,8 +49,12 @@ pub fn task(format: Format, set: Set, operation: Operation, limited: bool) -> Ta
         Operation::WriteReused => 1,
         Operation::Check | Operation::Access => 2,
         Operation::Read => 3,
+        Operation::Seal | Operation::Compare => return Task::Absent,
     };
-    let case = unsafe { make(set.number(), set.size(), limited) };
+    let Some(set_number) = set.number() else {
+        return Task::Absent;
+    };
+    let case = unsafe { make(set_number, set.size(), limited) };
     let bytes = unsafe { length(case) };
     let mut held = Held { case, run, free };
     Task::Ready(Ready {

@@ -9,12 +9,18 @@ pub enum Set {
     Text(usize),
     /// A record of a u8, a string and an optional list: 42, "hello world", Some([1, 2, 3, 4]).
     Record,
+    /// The same without the option.
+    Plain,
     /// So many u32.
     Numbers(usize),
     /// So many rows of a u64, a string of 20 bytes and 8 u32.
     Rows(usize),
     /// A chain of so many boxes, each within the one before it.
     List(usize),
+    /// So many pointers, in turns, to a hundredth as many strings of 20 bytes.
+    Shared(usize),
+    /// So many strings of 20 bytes and one, each of which is compared with the next one.
+    Names(usize),
 }
 
 impl Set {
@@ -24,29 +30,43 @@ impl Set {
             Set::Number => "u32",
             Set::Text(_) => "string",
             Set::Record => "record",
+            Set::Plain => "plain",
             Set::Numbers(_) => "numbers",
             Set::Rows(_) => "rows",
             Set::List(_) => "list",
+            Set::Shared(_) => "shared",
+            Set::Names(_) => "names",
         }
     }
 
-    /// Its number among the C++ peers' sets.
-    pub fn number(self) -> i32 {
+    /// Its number among the C++ peers' sets, if they have it. To them any list is an option.
+    pub fn number(self) -> Option<i32> {
         match self {
-            Set::Number => 0,
-            Set::Text(_) => 1,
-            Set::Record => 2,
-            Set::Numbers(_) => 3,
-            Set::Rows(_) => 4,
-            Set::List(_) => 5,
+            Set::Number => Some(0),
+            Set::Text(_) => Some(1),
+            Set::Record | Set::Plain => Some(2),
+            Set::Numbers(_) => Some(3),
+            Set::Rows(_) => Some(4),
+            Set::List(_) => Some(5),
+            Set::Shared(_) | Set::Names(_) => None,
+        }
+    }
+
+    /// What is done with it.
+    pub fn operations(self) -> Vec<Operation> {
+        match self {
+            Set::Names(_) => vec![Operation::Compare],
+            Set::Record => [&Operation::ALL[..], &[Operation::Seal]].concat(),
+            _ => Operation::ALL.to_vec(),
         }
     }
 
     /// How many elements or bytes it has.
     pub fn size(self) -> usize {
         match self {
-            Set::Number | Set::Record => 1,
+            Set::Number | Set::Record | Set::Plain => 1,
             Set::Text(n) | Set::Numbers(n) | Set::Rows(n) | Set::List(n) => n,
+            Set::Shared(n) | Set::Names(n) => n,
         }
     }
 
@@ -57,7 +77,8 @@ impl Set {
             Set::Numbers(_) => "u32, for one",
             Set::Rows(_) => "rows, for one",
             Set::List(_) => "chain, for a box",
-            Set::Number | Set::Record => "one",
+            Set::Shared(_) => "shared pointers, for one",
+            Set::Number | Set::Record | Set::Plain | Set::Names(_) => "one",
         }
     }
 
@@ -67,9 +88,16 @@ impl Set {
             Set::Number => "one u32".into(),
             Set::Text(n) => format!("string of {} bytes", grouped(n as f64)),
             Set::Record => "small record".into(),
+            Set::Plain => "small record without its option".into(),
             Set::Numbers(n) => format!("{} u32", grouped(n as f64)),
             Set::Rows(n) => format!("{} rows", grouped(n as f64)),
             Set::List(n) => format!("chain of {} boxes", grouped(n as f64)),
+            Set::Shared(n) => format!(
+                "{} pointers to {} strings",
+                grouped(n as f64),
+                grouped(crate::sets::shared_strings(n) as f64)
+            ),
+            Set::Names(n) => format!("{} comparisons of strings", grouped(n as f64)),
         }
     }
 }
@@ -82,9 +110,14 @@ pub enum Operation {
     Check,
     Access,
     Read,
+    /// A number of the record's list is written over where it lies.
+    Seal,
+    /// Each string is compared with the next one.
+    Compare,
 }
 
 impl Operation {
+    /// What is done with most sets: the columns of the table of ratios.
     pub const ALL: [Operation; 5] = [
         Operation::WriteNew,
         Operation::WriteReused,
@@ -101,6 +134,8 @@ impl Operation {
             Operation::Check => "Check bytes for access where they lie (archive-core: with a schema that is kept)",
             Operation::Access => "Check bytes for access where they lie (archive-core: by access)",
             Operation::Read => "Check bytes and read the value back",
+            Operation::Seal => "Write a number over where it lies",
+            Operation::Compare => "Compare strings where they lie",
         }
     }
 
@@ -112,6 +147,8 @@ impl Operation {
             Operation::Check => "checked access, schema kept",
             Operation::Access => "checked access, `access`",
             Operation::Read => "check and read back",
+            Operation::Seal => "sealed write",
+            Operation::Compare => "compare",
         }
     }
 }
@@ -135,6 +172,7 @@ impl Format {
         Format::Copy,
     ];
 
+    /// Its name in a column.
     pub fn title(self) -> &'static str {
         match self {
             Format::Project => "archive-core",
@@ -142,6 +180,14 @@ impl Format {
             Format::Flat => "FlatBuffers",
             Format::Proto => "Cap'n Proto",
             Format::Copy => "memcpy",
+        }
+    }
+
+    /// Its name in a column of a set's own table.
+    pub fn title_in(self, set: Set) -> &'static str {
+        match (self, set) {
+            (Format::Copy, Set::Names(_)) => "Rust's `cmp`",
+            _ => self.title(),
         }
     }
 
@@ -176,6 +222,8 @@ pub enum Task {
     Ready(Ready),
     /// The project can't do it yet.
     NotYet,
+    /// It isn't measured in this format.
+    Absent,
 }
 
 /// A number with commas between thousands; a small one with a digit after the point.

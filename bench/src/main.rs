@@ -5,6 +5,7 @@ mod chart;
 mod copy;
 mod cpp_peers;
 mod format;
+mod goals;
 mod measure;
 mod project;
 mod report;
@@ -12,7 +13,7 @@ mod rkyv_peer;
 mod sets;
 mod timing;
 
-use format::{Format, Operation};
+use format::{Format, Set};
 
 // Chains are written, checked and freed by calls within calls in some formats: the stack for those, in bytes.
 const STACK: usize = 8 << 30;
@@ -24,13 +25,23 @@ fn rounds() -> usize {
         .unwrap_or(40)
 }
 
+// Large sets take long, and what a round of one says changes little from round to round.
+fn rounds_of_growth(set: Set) -> usize {
+    if set.size() < 100_000 {
+        return rounds();
+    }
+    (rounds() / 10).max(2)
+}
+
 fn all() {
     sets::verify();
     let machine = report::Machine::now();
     let mut rows = Vec::new();
+    let mut beside = Vec::new();
     for (set, limited) in measure::SETS {
-        for operation in Operation::ALL {
+        for operation in set.operations() {
             eprintln!("{}: {}", set.title(), operation.title());
+            beside.push(report::others());
             rows.push(measure::row(
                 set,
                 operation,
@@ -49,14 +60,16 @@ fn all() {
                 operation,
                 false,
                 &measure::GROWING,
-                rounds(),
+                rounds_of_growth(set),
             ));
         }
     }
     eprintln!("the heap");
     let heap = measure::heap_of_child();
-    report::write(&machine, &rows, &growth, &heap, rounds());
+    let others = beside.iter().sum::<f64>() / beside.len() as f64;
+    report::write(&machine, &rows, &growth, &heap, rounds(), others);
     chart::write(&rows);
+    print!("{}", goals::table(&rows));
 }
 
 fn on_a_large_stack(work: fn()) {

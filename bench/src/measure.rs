@@ -37,16 +37,19 @@ impl Row {
 }
 
 /// The sets of the table, and whether a peer keeps its own limits of depth and size.
-pub const SETS: [(Set, bool); 9] = [
+pub const SETS: [(Set, bool); 12] = [
     (Set::Number, false),
     (Set::Text(11), false),
     (Set::Text(65_536), false),
     (Set::Record, false),
+    (Set::Plain, false),
     (Set::Numbers(100_000), false),
     (Set::Rows(10_000), false),
     (Set::List(1_000), false),
     (Set::List(100_000), false),
     (DEEP, true),
+    (Set::Shared(10_000), false),
+    (Set::Names(10_000), false),
 ];
 
 /// The deep set, which is run on the machine's own stack too.
@@ -79,7 +82,7 @@ pub fn deep(format: usize, operation: usize) -> i32 {
             // Nothing is freed: that may need a deep stack, too.
             std::process::exit(if refused { 3 } else { 0 })
         }
-        Task::NotYet => 0,
+        Task::NotYet | Task::Absent => 0,
     }
 }
 
@@ -102,6 +105,7 @@ pub fn row(
             match stops.map_or_else(|| Ok(format.task(set, operation, limited)), Err) {
                 Ok(Task::Ready(ready)) => Ok(ready),
                 Ok(Task::NotYet) => Err("not yet".into()),
+                Ok(Task::Absent) => Err("–".into()),
                 Err(why) => Err(why),
             },
         );
@@ -140,6 +144,7 @@ pub fn growing() -> Vec<Set> {
         of(Set::Numbers),
         of(Set::Rows),
         of(Set::List),
+        of(Set::Shared),
     ]
     .concat()
 }
@@ -173,7 +178,7 @@ pub fn heap() {
         for operation in GROWTH {
             let peaks = GROWING.map(|format| match format.task(set, operation, false) {
                 Task::Ready(mut ready) => peak(&mut ready).to_string(),
-                Task::NotYet => "-".into(),
+                Task::NotYet | Task::Absent => "-".into(),
             });
             println!("{}", peaks.join(" "));
         }

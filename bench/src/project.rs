@@ -39,7 +39,15 @@ fn on_bytes(set: Set, operation: Operation, call: Bytes) -> Ready {
                 (0..count).map(|i| u64::from(numbers[i % 1024])).sum()
             }))
         }
-        (Operation::Read, Set::Text(n)) => Some(Box::new(move |count| (n * count) as u64)),
+        (Operation::Read, Set::Record | Set::Plain) => {
+            Some(Box::new(|count| ("hello world".len() + 4) as u64 * count as u64))
+        }
+        (Operation::Read, _) => Some(Box::new(move |count| (set.size() * count) as u64)),
+        (Operation::Compare, _) => {
+            let names = sets::names(set.size());
+            let lesser = names.windows(2).filter(|it| it[0] < it[1]).count();
+            Some(Box::new(move |count| (lesser * count) as u64))
+        }
         _ => None,
     };
     let known = expected.is_some();
@@ -88,7 +96,8 @@ fn write(set: Set, reuse: bool) -> Option<Ready> {
             let value = sets::text(n);
             Box::new(move |count| unsafe { call(value.as_ptr(), value.len(), count, reuse) } as u64)
         }
-        Set::Record | Set::Rows(_) | Set::List(_) => {
+        Set::Names(_) => return None,
+        Set::Record | Set::Plain | Set::Rows(_) | Set::List(_) | Set::Shared(_) => {
             let call = size(&name)?;
             Box::new(move |count| unsafe { call(set.size(), count, reuse) } as u64)
         }
@@ -103,6 +112,19 @@ fn write(set: Set, reuse: bool) -> Option<Ready> {
     })
 }
 
+fn seal(set: Set) -> Option<Ready> {
+    let call = edit(&format!("seal_{}", set.export()))?;
+    let mut bytes = sets::archive(set);
+    Some(Ready {
+        bytes: bytes.len(),
+        run: Box::new(
+            move |count| unsafe { call(bytes.as_mut_ptr(), bytes.len(), count) } as u64,
+        ),
+        expected: Some(Box::new(|count| count as u64)),
+        prepares: true,
+    })
+}
+
 fn ready(set: Set, operation: Operation) -> Option<Ready> {
     let verb = match operation {
         Operation::WriteNew => return write(set, false),
@@ -110,6 +132,8 @@ fn ready(set: Set, operation: Operation) -> Option<Ready> {
         Operation::Check => "check",
         Operation::Access => "access",
         Operation::Read => "read",
+        Operation::Compare => "compare",
+        Operation::Seal => return seal(set),
     };
     let call = bytes(&format!("{verb}_{}", set.export()))?;
     Some(on_bytes(set, operation, call))

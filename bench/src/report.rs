@@ -1,6 +1,7 @@
 //! RESULTS.md, and the short table in the README.
 
-use crate::format::{grouped, Format, Operation};
+use crate::format::{grouped, Format, Operation, Set};
+use crate::goals;
 use crate::measure::{self, Cell, Row, GROWING, GROWTH, SETS};
 use std::fmt::Write;
 use std::fs;
@@ -27,6 +28,22 @@ fn said(program: &str, words: &[&str]) -> String {
 fn load() -> String {
     let text = fs::read_to_string("/proc/loadavg").unwrap_or_default();
     text.split(' ').take(3).collect::<Vec<_>>().join(" ")
+}
+
+/// How many others run or wait for a processor just now, but this program itself.
+pub fn others() -> f64 {
+    let text = fs::read_to_string("/proc/loadavg").unwrap_or_default();
+    let running = text.split(' ').nth(3).and_then(|it| it.split('/').next());
+    let running: f64 = running.and_then(|it| it.parse().ok()).unwrap_or(1.0);
+    (running - 1.0).max(0.0)
+}
+
+// What is said of a run beside which others ran; nothing on a quiet machine.
+fn warning(others: f64) -> String {
+    if others < 0.5 {
+        return String::new();
+    }
+    format!("**This run was not on a quiet machine**: {others:.1} others ran beside it on average, so its figures are to be taken anew.\n\n")
 }
 
 fn processor() -> String {
@@ -145,7 +162,9 @@ fn tables(out: &mut String, rows: &[Row]) {
         writeln!(
             out,
             "| |{}|",
-            Format::ALL.map(|it| format!(" {} ", it.title())).join("|")
+            Format::ALL
+                .map(|it| format!(" {} ", it.title_in(set)))
+                .join("|")
         )
         .unwrap();
         writeln!(out, "|---|{}|", ["---:"; 5].join("|")).unwrap();
@@ -234,8 +253,10 @@ fn short_table(rows: &[Row], wanted: impl Fn(&str) -> bool) -> String {
     )
     .unwrap();
     writeln!(out, "|---|{}|", ["---"; 5].join("|")).unwrap();
-    for (set, _) in SETS.into_iter().filter(|(set, _)| wanted(&set.title())) {
-        let cells = rows.iter().filter(|it| it.set == set).map(|row| {
+    let wanted = |set: Set| wanted(&set.title()) && set.operations().starts_with(&Operation::ALL);
+    for (set, _) in SETS.into_iter().filter(|(set, _)| wanted(*set)) {
+        let of_columns = |it: &&Row| it.set == set && Operation::ALL.contains(&it.operation);
+        let cells = rows.iter().filter(of_columns).map(|row| {
             if row.cells[Format::Project as usize].ns().is_none() {
                 return "not yet".to_string();
             }
@@ -288,8 +309,10 @@ pub fn write(
     growth: &[Row],
     heap: &[Vec<Option<usize>>],
     rounds: usize,
+    others: f64,
 ) {
     let mut out = String::from("# archive-core beside its peers\n\n");
+    out.push_str(&warning(others));
     out.push_str(INTRODUCTION);
     out.push('\n');
     for line in &machine.lines {
@@ -298,10 +321,11 @@ pub fn write(
     writeln!(out, "- The least of {rounds} rounds. Load of the machine (1, 5 and 15 minutes): {} at the start, {} at the end.", machine.load, load()).unwrap();
     writeln!(
         out,
-        "\n![The ratios as bars](results.svg)\n\n## The ratios\n\n{}",
-        short_table(rows, |_| true)
+        "\n![The ratios as bars](results.svg)\n\n## What is wanted, and what was measured\n\n{}",
+        goals::table(rows)
     )
     .unwrap();
+    writeln!(out, "## The ratios\n\n{}", short_table(rows, |_| true)).unwrap();
     out.push_str("## Times, speeds and ratios\n");
     tables(&mut out, rows);
     out.push_str("\n## How time and heap grow\n\n");
@@ -310,5 +334,6 @@ pub fn write(
     out.push_str("it makes included, as a counter in place of `malloc` tells (`bench/heap`).\n\n");
     growth_table(&mut out, growth, heap);
     fs::write("RESULTS.md", out).expect("RESULTS.md is written");
-    readme(&short_table(rows, |title| IN_README.contains(&title)));
+    let table = short_table(rows, |title| IN_README.contains(&title));
+    readme(&(warning(others) + &table));
 }

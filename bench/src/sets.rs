@@ -27,6 +27,22 @@ pub fn row(i: usize) -> (u64, String, Vec<u32>) {
     )
 }
 
+/// How many strings so many pointers lead to.
+pub fn shared_strings(pointers: usize) -> usize {
+    (pointers / 100).max(1)
+}
+
+/// The string that shared pointers with this number lead to.
+pub fn shared_string(key: usize) -> String {
+    format!("record-name-{key:08}")
+}
+
+/// So many strings of 20 bytes and one, in no order.
+pub fn names(n: usize) -> Vec<String> {
+    let numbers = numbers(n + 1).into_iter().map(|it| it % 100_000_000);
+    numbers.map(|it| format!("record-name-{it:08}")).collect()
+}
+
 fn pad(out: &mut Vec<u8>, align: usize) {
     while out.len() % align != 0 {
         out.push(0);
@@ -92,6 +108,18 @@ fn of_record() -> Vec<u8> {
     out
 }
 
+fn of_plain() -> Vec<u8> {
+    let mut out = Vec::new();
+    let text = region(&mut out, "hello world");
+    pad(&mut out, 4);
+    let values = out.len();
+    (1..5).for_each(|n| word(&mut out, n));
+    word(&mut out, 42);
+    string(&mut out, "hello world", text);
+    list(&mut out, values, 4);
+    out
+}
+
 fn of_numbers(n: usize) -> Vec<u8> {
     let mut out = Vec::new();
     numbers(n).into_iter().for_each(|it| word(&mut out, it));
@@ -121,6 +149,38 @@ fn of_rows(n: usize) -> Vec<u8> {
     out
 }
 
+// Each string stands where the first pointer to it is met.
+fn of_shared(n: usize) -> Vec<u8> {
+    let mut out = Vec::new();
+    let mut places = Vec::new();
+    for key in 0..shared_strings(n).min(n) {
+        let text = region(&mut out, &shared_string(key));
+        pad(&mut out, 4);
+        places.push(out.len());
+        string(&mut out, &shared_string(key), text);
+    }
+    let pointers = out.len();
+    for i in 0..n {
+        let here = out.len();
+        offset(&mut out, here, places[i % places.len()]);
+    }
+    list(&mut out, pointers, n);
+    out
+}
+
+fn of_names(n: usize) -> Vec<u8> {
+    let names = names(n);
+    let mut out = Vec::new();
+    let places: Vec<usize> = names.iter().map(|it| region(&mut out, it)).collect();
+    pad(&mut out, 4);
+    let strings = out.len();
+    for (name, place) in names.iter().zip(places) {
+        string(&mut out, name, place);
+    }
+    list(&mut out, strings, names.len());
+    out
+}
+
 /// A chain: the innermost, empty one first.
 pub fn of_list(n: usize) -> Vec<u8> {
     let mut out = vec![0; 8];
@@ -138,9 +198,12 @@ pub fn archive(set: Set) -> Vec<u8> {
         Set::Number => 42u32.to_le_bytes().to_vec(),
         Set::Text(n) => of_text(&text(n)),
         Set::Record => of_record(),
+        Set::Plain => of_plain(),
         Set::Numbers(n) => of_numbers(n),
         Set::Rows(n) => of_rows(n),
         Set::List(n) => of_list(n),
+        Set::Shared(n) => of_shared(n),
+        Set::Names(n) => of_names(n),
     }
 }
 
@@ -170,4 +233,6 @@ pub fn verify() {
         crate::rkyv_peer::written(Set::List(100))
     );
     assert_eq!(archive(Set::Rows(3)).len(), 3 * (20 + 32) + 4 + 3 * 24 + 8);
+    let shared = b"record-name-00000000\x94\0\0\0\xec\xff\xff\xff\xf8\xff\xff\xff\xf4\xff\xff\xff\xf8\xff\xff\xff\x02\0\0\0";
+    assert_eq!(archive(Set::Shared(2)), shared);
 }
