@@ -2,18 +2,17 @@
 
 ghost use Rattle.std.specs.Prelude.{◌≡◌, refl, IfOk};
 ghost use Rattle.std.proofs.Common.{inl, inr};
-ghost use Rattle.archive_check.specs.Shape.{one};
-ghost use Rattle.archive_check.specs.Expressions.{shape_of};
+ghost use Rattle.archive_check.specs.Shape.{choice, no_variant, one, variant};
+ghost use Rattle.archive_check.specs.Expressions.{shape_of, shapes_in};
 ghost use Rattle.archive_check.specs.NamedLayout.{name_reached};
 ghost use Rattle.archive_check.specs.SelfCheck.Laws.{by_schema};
 ghost use Rattle.arc.specs.AllValuesShape.{all_name, all_shape, all_choice, all_definitions, all_layout, all_has_layout};
 
 use archive_core::error::Error;
-use archive_core::rc::{ArchivedRc, RcFlavor};
 use archive_core::self_check::BySchema;
-use archive_core::shape::{Defs, Expr};
+use archive_core::shape::{Defs, Expr, FlavorInfo, Pointee};
 use archive_core::traits::{ArchivePointee, Portable};
-use std::alloc::Global;
+use std::alloc::{AllocError, Global};
 
 #[cfg(test)]
 mod tests;
@@ -36,13 +35,25 @@ impl ArchivePointee for ArchivedAllValues {
     }
 }
 
+// A choice of one variant with these parts.
+fn choice_of(alloc: Global, name: &'static str, only: Vec<Expr>) -> Result<Expr, AllocError>
+    ensures { IfOk result (λ e. shape_of e ≡ choice name.now (variant (shapes_in only.items) no_variant)) }
+{
+    let variants = vec![in alloc; only]?;
+    Ok(Expr::Choice(name, variants))
+}
+
 // The definition of its name.
-fn definition(alloc: Global) -> Result<Expr, Error>
+fn definition(alloc: Global) -> Result<Expr, AllocError>
     ensures { IfOk result (λ e. shape_of e ≡ all_choice) }
 {
-    let inner = ArchivedRc::<ArchivedAllValues, RcFlavor>::expr(alloc)?;
-    let variants = vec![in alloc; vec![in alloc; inner]?]?;
-    Ok(Expr::Choice("ArchivedAllValues", variants))
+    let pointee = Box::new(alloc, Pointee::One(Expr::Named("ArchivedAllValues")))?;
+    let flavor = FlavorInfo {
+        name: "RcFlavor",
+        cycles: false,
+    };
+    let inner = Expr::Shared(flavor, pointee);
+    choice_of(alloc, "ArchivedAllValues", vec![in alloc; inner]?)
 }
 
 impl Portable for ArchivedAllValues {

@@ -11,7 +11,11 @@ fn a_circle_is_refused(rt: HostRuntime) -> Result<(), Fail> {
             1,
             "refused: 12 CyclicValidate\n",
         ),
-        ("check|all-values|", 1, "refused: 16 InvalidSubtreePointer\n"),
+        (
+            "check|all-values|",
+            1,
+            "refused: 16 InvalidSubtreePointer\n",
+        ),
         ("write|all-values|0", 2, "bad arguments\n"),
     ];
     for (command, status, line) in rows {
