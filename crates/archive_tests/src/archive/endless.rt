@@ -1,7 +1,8 @@
 // Values that lead to themselves: a flavor may let a shared value hold a pointer to itself. Such a buffer is accepted, and reading it back comes to a
 // position that is still being read.
 
-ghost use Rattle.std.specs.Prelude.{◌≡◌, refl, true, codes, IfOk, IfErr};
+ghost use Rattle.std.specs.Prelude.{◌≡◌, ⊤, [], length, refl, true, codes, OnOk, IfOk, IfErr};
+ghost use Rattle.archive_check.specs.Value.{case, no_value};
 ghost use Rattle.std.proofs.Common.{inl, inr};
 ghost use Rattle.archive_check.specs.Shape.{choice, no_variant, one, variant};
 ghost use Rattle.archive_check.specs.Expressions.{shape_of, shapes_in};
@@ -137,19 +138,25 @@ impl Archive for Endless {
 
     type Resolver = ();
 
-    ghost meaning = { λ e. elim e [ ] };
+    ghost meaning = { λ _. case 0 no_value };
 
-    ghost flat = { λ e. elim e [ ] };
+    ghost flat = { λ _ _. case 0 no_value };
 
-    ghost keys = { λ e. elim e [ ] };
+    ghost keys = { λ _. [] };
 
-    ghost belongs = { λ e. elim e [ ] };
+    ghost belongs = { λ _ _. ⊤ };
 
     ghost keyed = { λ e. elim e [ ] };
 
     ghost planned = { λ e. elim e [ ] };
 
-    fn resolve(&self, _resolver: (), _place: Place<'_, ArchivedEndless>) -> Result<(), Error> {
+    fn resolve(&self, _resolver: (), place: Place<'_, ArchivedEndless>) -> Result<(), Error>
+        requires fresh { Fresh 8 place.pos place.bytes.now }
+        requires same_value { ⊤ }
+        ensures resolved { OnOk result (Resolves endless_definitions place.entry.pos place.exit.0.now endless_shape (case 0 no_value)) }
+        ensures same_length { length place.exit.0.now ≡ length place.entry.bytes.now }
+        ensures refused { IfErr result (HindersAt endless_definitions endless_shape (case 0 no_value) place.entry.pos) }
+    {
         match *self {}
     }
 }
@@ -161,7 +168,7 @@ fn refusal_of<D: Pooling<Shared<Endless>>>(
     further: usize,
 ) -> Error
     requires { Viewed endless_definitions part.bytes.now part.pos (one endless_shape) part.len }
-    ensures { RefusesReading endless_definitions part.bytes.now part.pos (one endless_shape) part.len (D.entry_of deserializer.old) result }
+    ensures { RefusesReading endless_definitions part.entry.bytes.now part.entry.pos (one endless_shape) part.entry.len (D.entry_of deserializer.old) result }
 {
     let view: Ref<'_, ArchivedEndless> = Ref::at(part);
     let inner: Ref<'_, Inner> = view.payload(0);
@@ -184,6 +191,9 @@ impl<D: Pooling<Shared<Endless>>> Deserialize<Endless, D> for ArchivedEndless {
         deserializer: &mut D,
     ) -> Result<Endless, Error>
         requires { Viewed endless_definitions part.bytes.now part.pos (one endless_shape) part.len }
+        ensures read { IfOk result (λ t. ReadsBack endless_definitions part.entry.bytes.now part.entry.pos (one endless_shape) part.entry.len
+            (D.entry_of deserializer.old) (D.entry_of deserializer.new) (case 0 no_value) []) }
+        ensures refused { IfErr result (RefusesReading endless_definitions part.entry.bytes.now part.entry.pos (one endless_shape) part.entry.len (D.entry_of deserializer.old)) }
     {
         let most = part.bytes.len();
         Err(refusal_of(part, deserializer, most))

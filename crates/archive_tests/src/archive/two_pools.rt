@@ -1,12 +1,12 @@
 // A deserializer of two pools: shared numbers and shared texts of one buffer.
 
-ghost use Rattle.std.specs.Prelude.{true, IfOk};
+ghost use Rattle.std.specs.Prelude.{◌≡◌, is_some, refl, true};
 ghost use Rattle.std.proofs.Common.{true≢false};
 ghost use Rattle.archive_tests.specs.TwoPools.{known_first};
 
 use archive_core::api::{from_bytes, to_bytes};
 use archive_core::error::Error;
-use archive_core::pooling::{Pool, Pooling, PoolingState};
+use archive_core::pooling::{Pool, Pooled, Pooling, PoolingState};
 use archive_core::rc::{Shared, SharedStr};
 use archive_core::traits::Entries;
 use std::alloc::Global;
@@ -19,63 +19,76 @@ const BOTH: &[u8] =
 
 type Both = (Shared<u32>, SharedStr, Shared<u32>);
 
-// The pools. A position is one's that knows it: the other has no value of its type there and refuses it with 1. In an archive it isn't asked to.
-#[derive(Drop)]
-struct TwoPools {
-    numbers: Pool<Shared<u32>>,
-    texts: Pool<SharedStr>,
+// What keeps pending positions and says which ones it knows.
+trait Knowing: Entries {
+    ghost is_keeping: { Self.keeps ≡ true };
+
+    fn knows(&self, pos: usize) -> bool
+        ensures { result ≡ is_some (Self.entry_of self.now pos) };
 }
 
-impl TwoPools {
-    fn new(alloc: Global) -> TwoPools {
-        TwoPools {
-            numbers: Pool::new(alloc),
-            texts: Pool::new(alloc),
-        }
+impl<T: Pooled> Knowing for Pool<T> {
+    ghost is_keeping = { refl };
+
+    fn knows(&self, pos: usize) -> bool {
+        self.is_known(pos)
     }
 }
 
-impl Entries for TwoPools {
-    ghost entry_of = { λ p t. known_first (⟦<Pool<Shared<u32>> as Entries>⟧.entry_of p.numbers t) (⟦<Pool<SharedStr> as Entries>⟧.entry_of p.texts t) };
+// The pools. A position is one's that knows it: the other has no value of its type there and refuses it with 1. In an archive it isn't asked to.
+#[derive(Drop)]
+struct TwoPools<A, B> {
+    numbers: A,
+    texts: B,
+}
+
+impl<A: Knowing, B: Knowing> Entries for TwoPools<A, B> {
+    ghost entry_of = { λ p t. known_first (A.entry_of p.numbers t) (B.entry_of p.texts t) };
 
     ghost keeps = { true };
 
     ghost keeps_nothing = { λ p e. absurd (true≢false e) };
 }
 
-impl Pooling<Shared<u32>> for TwoPools {
-    #[tactic(auto, using(crate::proofs::TwoPools::first_alone, crate::proofs::TwoPools::put_first, crate::proofs::TwoPools::same_first))]
+impl<A: Knowing + Pooling<Shared<u32>>, B: Knowing> Pooling<Shared<u32>> for TwoPools<A, B> {
     fn start_pooling(&mut self, pos: usize) -> Result<PoolingState<Shared<u32>>, Error> {
-        if self.texts.is_known(pos) {
+        if self.texts.knows(pos) {
             return Err(Error::OutOfMemory);
         }
         self.numbers.start_pooling(pos)
     }
 
-    #[tactic(auto, using(crate::proofs::TwoPools::first_alone, crate::proofs::TwoPools::put_first, crate::proofs::TwoPools::same_first))]
     fn finish_pooling(&mut self, pos: usize, value: Shared<u32>) -> Result<(), Error> {
-        if self.texts.is_known(pos) {
+        if self.texts.knows(pos) {
             return Err(Error::OutOfMemory);
         }
         self.numbers.finish_pooling(pos, value)
     }
 }
 
-impl Pooling<SharedStr> for TwoPools {
-    #[tactic(auto, using(crate::proofs::TwoPools::second_alone, crate::proofs::TwoPools::put_second, crate::proofs::TwoPools::same_second))]
+impl<A: Knowing, B: Knowing + Pooling<SharedStr>> Pooling<SharedStr> for TwoPools<A, B> {
     fn start_pooling(&mut self, pos: usize) -> Result<PoolingState<SharedStr>, Error> {
-        if self.numbers.is_known(pos) {
+        if self.numbers.knows(pos) {
             return Err(Error::OutOfMemory);
         }
         self.texts.start_pooling(pos)
     }
 
-    #[tactic(auto, using(crate::proofs::TwoPools::second_alone, crate::proofs::TwoPools::put_second, crate::proofs::TwoPools::same_second))]
     fn finish_pooling(&mut self, pos: usize, value: SharedStr) -> Result<(), Error> {
-        if self.numbers.is_known(pos) {
+        if self.numbers.knows(pos) {
             return Err(Error::OutOfMemory);
         }
         self.texts.finish_pooling(pos, value)
+    }
+}
+
+type Pools = TwoPools<Pool<Shared<u32>>, Pool<SharedStr>>;
+
+// Pools that know no position.
+fn pools(alloc: Global) -> Pools {
+    TwoPools {
+        numbers: Pool::new(alloc),
+        texts: Pool::new(alloc),
     }
 }
 
@@ -94,7 +107,7 @@ fn one_buffer_is_read_through_two_pools(rt: HostRuntime) -> Result<(), Fail> {
         to_bytes(rt.alloc(), &(first, text, third))?.as_slice(),
         BOTH
     );
-    let mut pools = TwoPools::new(rt.alloc());
+    let mut pools = pools(rt.alloc());
     let (first, text, third): Both = from_bytes(rt.alloc(), BOTH, &mut pools)?;
     assert_eq!(rt; (first.key, *first.value), (0, 10));
     assert_eq!(rt; (text.key, text.value.as_str()), (4, "hello"));
@@ -105,7 +118,7 @@ fn one_buffer_is_read_through_two_pools(rt: HostRuntime) -> Result<(), Fail> {
 
 #[test]
 fn a_position_of_the_other_pool_is_refused(rt: HostRuntime) -> Result<(), Fail> {
-    let mut pools = TwoPools::new(rt.alloc());
+    let mut pools = pools(rt.alloc());
     let _both: Both = from_bytes(rt.alloc(), BOTH, &mut pools)?;
     assert!(rt; pools.numbers.is_known(0) && pools.texts.is_known(4));
     assert!(rt; !pools.numbers.is_known(4) && !pools.texts.is_known(0));
