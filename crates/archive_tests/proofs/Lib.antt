@@ -1,1 +1,3 @@
 pub mod Repeated
+pub mod TwoPools
+pub mod Endless

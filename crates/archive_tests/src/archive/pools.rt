@@ -1,14 +1,18 @@
 // Shared values are read back, by pools and without one.
 
-use archive_core::api::{HighDeserializer, from_bytes};
+use archive_core::api::{HighDeserializer, access, deserialize_using, from_bytes};
 use archive_core::error::Error;
 use archive_core::pooling::{Pool, Pooling, PoolingState, Unpool};
-use archive_core::rc::{Shared, SharedSlice, SharedStr, WeakShared};
+use archive_core::primitive::ArchivedU32;
+use archive_core::rc::{ArchivedRc, RcFlavor, Shared, SharedSlice, SharedStr, WeakShared};
+use archive_core::vec::ArchivedVec;
 use std::rc::{Rc, RcStr};
 use std::test::Fail;
 
 // Two pointers to one number, as elements of a vector.
 const TWO_NUMBERS: &[u8] = b"\x0a\0\0\0\xfc\xff\xff\xff\xf8\xff\xff\xff\xf8\xff\xff\xff\x02\0\0\0";
+
+type Numbers = ArchivedVec<ArchivedRc<ArchivedU32, RcFlavor>>;
 
 // An empty shared slice and one of a 100, as elements of a vector.
 const TWO_SLICES: &[u8] =
@@ -24,6 +28,22 @@ fn a_pool_gives_one_value_for_a_position(rt: HostRuntime) -> Result<(), Fail> {
     assert_eq!(rt; (first.key, *first.value), (0, 10));
     assert_eq!(rt; (second.key, *second.value), (0, 10));
     assert!(rt; Rc::ptr_eq(&first.value, &second.value));
+    Ok(())
+}
+
+#[test]
+fn a_pool_is_used_twice_for_one_buffer(rt: HostRuntime) -> Result<(), Fail> {
+    let mut pool: Pool<Shared<u32>> = Pool::new(rt.alloc());
+    let numbers: Vec<Shared<u32>> = from_bytes(rt.alloc(), TWO_NUMBERS, &mut pool)?;
+    assert!(rt; pool.is_known(0) && !pool.is_known(4));
+    let view = access::<Numbers>(rt.alloc(), TWO_NUMBERS)?
+        .as_slice()
+        .index(0);
+    let again: Shared<u32> = deserialize_using(rt.alloc(), view, &mut pool)?;
+    assert_eq!(rt; (again.key, *again.value), (0, 10));
+    for number in numbers {
+        assert!(rt; Rc::ptr_eq(&number.value, &again.value));
+    }
     Ok(())
 }
 

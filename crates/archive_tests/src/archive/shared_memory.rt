@@ -1,0 +1,183 @@
+// Shared values under want of memory, which moves from request to request until all are served: the refusal is 1, and what stood before stands.
+
+ghost use Rattle.std.specs.Prelude.{true, IfOk, ◌≤◌, length};
+ghost use Rattle.std.proofs.Common.{true≢false};
+
+use archive_check::context::positions::SharedValidator;
+use archive_check::context::range::ArchiveValidator;
+use archive_check::context::validator::Validator;
+use archive_check::context::{ArchiveContext, SharedContext};
+use archive_core::api::{check_pos_with_context, from_bytes, serialize_using};
+use archive_core::error::Error;
+use archive_core::pooling::{Pool, Pooling, PoolingState};
+use archive_core::primitive::ArchivedU32;
+use archive_core::rc::{ArchivedRc, RcFlavor, Shared};
+use archive_core::ser::{Serializer, Writer};
+use archive_core::sharing::Share;
+use archive_core::traits::Entries;
+use archive_tuple::ArchivedTuple2;
+use linked_list_allocator::LocalHeap;
+use std::alloc::{Allocator, Global};
+use std::rc::Rc;
+use std::test::Fail;
+
+// Two pointers to one 10.
+const ONE_NUMBER: &[u8] = b"\x0a\0\0\0\xfc\xff\xff\xff\xf8\xff\xff\xff";
+
+// The same behind four other bytes.
+const BEHIND_OTHERS: &[u8] = b"\xaa\xbb\xcc\xdd\x0a\0\0\0\xfc\xff\xff\xff\xf8\xff\xff\xff";
+
+type Pair = (Shared<u32>, Shared<u32>);
+
+type ArchivedPair = ArchivedTuple2<
+    ArchivedRc<ArchivedU32, RcFlavor>,
+    ArchivedRc<ArchivedU32, RcFlavor>,
+>;
+
+fn pair_of(alloc: Global, number: u32) -> Result<Pair, Error> {
+    let first = Shared {
+        key: 1,
+        value: Rc::new(alloc, number)?,
+    };
+    let second = first.clone()?;
+    Ok((first, second))
+}
+
+// Four bytes and then the pair, with all memory from `alloc`: what was written, and what was answered.
+fn written_in<A: Allocator + Copy + Drop>(
+    alloc: A,
+    pair: &Pair,
+) -> (Vec<u8, A>, Result<usize, Error>) {
+    let mut serializer = Serializer::new(Vec::new(alloc), alloc, Share::new(alloc));
+    if let Err(error) = serializer.write(b"\xaa\xbb\xcc\xdd") {
+        return (serializer.into_writer(), Err(error));
+    }
+    let root = serialize_using(pair, &mut serializer);
+    (serializer.into_writer(), root)
+}
+
+#[test]
+fn what_was_written_before_stands(rt: HostRuntime) -> Result<(), Fail> {
+    let pair = pair_of(rt.alloc(), 10)?;
+    let mut most = 0usize;
+    let mut served = false;
+    for units in 1..64usize {
+        let heap = LocalHeap::new(rt.alloc(), units * 16)?;
+        let (bytes, root) = written_in(&heap, &pair);
+        assert!(rt;
+            BEHIND_OTHERS.starts_with(bytes.as_slice()),
+            "with {units} units"
+        );
+        match root {
+            Ok(root) => {
+                assert_eq!(rt; (root, bytes.as_slice()), (8, BEHIND_OTHERS));
+                served = true;
+            }
+            Err(error) => {
+                assert_eq!(rt; error, Error::OutOfMemory, "with {units} units");
+                assert!(rt; !served && most <= bytes.len(), "with {units} units");
+                most = bytes.len();
+            }
+        }
+    }
+    assert!(rt; served && most >= 4);
+    Ok(())
+}
+
+// The number of the refusal of the pair's bytes in a context of them, or 0 where they are accepted.
+fn refusal_in<C: ArchiveContext + SharedContext>(
+    alloc: Global,
+    bytes: &[u8],
+    context: &mut C,
+) -> u32
+    requires { (C.state context.old).end ≤ length bytes.now }
+{
+    match check_pos_with_context::<ArchivedPair, C>(alloc, bytes, 4, context) {
+        Ok(()) => 0,
+        Err(error) => error.number(),
+    }
+}
+
+#[test]
+fn a_check_is_served_or_refused(rt: HostRuntime) -> Result<(), Fail> {
+    let mut refused = false;
+    let mut served = false;
+    for units in 1..64usize {
+        let heap = LocalHeap::new(rt.alloc(), units * 32)?;
+        let range = ArchiveValidator::new(ONE_NUMBER);
+        let mut context = Validator::new(range, SharedValidator::new(&heap));
+        match refusal_in(rt.alloc(), ONE_NUMBER, &mut context) {
+            0 => served = true,
+            number => {
+                assert_eq!(rt; number, 1, "with {units} units");
+                assert!(rt; !served, "with {units} units");
+                refused = true;
+            }
+        }
+    }
+    assert!(rt; refused && served);
+    Ok(())
+}
+
+// A pool that serves so many requests and refuses those behind them.
+#[derive(Drop)]
+struct Refusing {
+    pool: Pool<Shared<u32>>,
+    served: usize,
+}
+
+impl Entries for Refusing {
+    ghost entry_of = { λ p. ⟦<Pool<Shared<u32>> as Entries>⟧.entry_of p.pool };
+
+    ghost keeps = { true };
+
+    ghost keeps_nothing = { λ p e. absurd (true≢false e) };
+}
+
+impl Pooling<Shared<u32>> for Refusing {
+    fn start_pooling(&mut self, pos: usize) -> Result<PoolingState<Shared<u32>>, Error> {
+        let Some(served) = self.served.checked_sub(1) else {
+            return Err(Error::OutOfMemory);
+        };
+        self.served = served;
+        self.pool.start_pooling(pos)
+    }
+
+    fn finish_pooling(&mut self, pos: usize, value: Shared<u32>) -> Result<(), Error> {
+        let Some(served) = self.served.checked_sub(1) else {
+            return Err(Error::OutOfMemory);
+        };
+        self.served = served;
+        self.pool.finish_pooling(pos, value)
+    }
+}
+
+// What a reading with so many requests served answers, and what the pool has then at the number's position: nothing, or it is pending, or the number.
+fn read_with(alloc: Global, served: usize) -> Result<(Option<Error>, Option<Option<u32>>), Error> {
+    let pool = Pool::new(alloc);
+    let mut refusing = Refusing { pool, served };
+    let read: Result<Pair, Error> = from_bytes(alloc, ONE_NUMBER, &mut refusing);
+    let Refusing { mut pool, .. } = refusing;
+    if !pool.is_known(0) {
+        return Ok((read.err(), None));
+    }
+    let state = match pool.start_pooling(0)? {
+        PoolingState::Finished(number) => Some(*number.value),
+        PoolingState::Pending | PoolingState::Started => None,
+    };
+    Ok((read.err(), Some(state)))
+}
+
+#[test]
+fn what_a_pool_finished_stands(rt: HostRuntime) -> Result<(), Fail> {
+    let rows = [
+        (0, Some(Error::OutOfMemory), None),
+        (1, Some(Error::OutOfMemory), Some(None)),
+        (2, Some(Error::OutOfMemory), Some(Some(10))),
+        (3, None, Some(Some(10))),
+    ];
+    for (served, refusal, state) in rows {
+        assert_eq!(rt; read_with(rt.alloc(), served), Ok((refusal, state)));
+    }
+    Ok(())
+}
