@@ -16,7 +16,8 @@ use crate::format::traits::Portable;
 /// Checks that `bytes` are an archive whose root, a `T`, lies at `pos`, where `T` checks itself. In a context for these bytes that met nothing yet
 /// the answer is exact: Ok where they are one with no region too deep, else the refusal of the first test that is false, in the order that
 /// docs/FORMAT.md gives. It takes no memory and is never refused with 30 or 31: such a type has a meaning. In any context with levels left a refusal is
-/// one of those that a check can answer (1, 12, 16 to 18, 21 to 29), and after a success levels are left. Accepted or refused, in any context, it
+/// one of those that a check can answer (1, 12, 16 to 18, 21 to 29), and after a success levels are left. A type that doesn't check itself is never
+/// accepted. Accepted or refused, in any context, it
 /// enters at most one region, and one for each four bytes of the context's range.
 pub fn check_root<T: Portable, C: ArchiveContext>(
     bytes: &[u8],
@@ -35,6 +36,7 @@ pub fn check_root<T: Portable, C: ArchiveContext>(
         → IfErr result (λ e. IsWhole (C.state context.old) (C.positions context.old) bytes.now
         → ExplainsNoArchive T.definitions bytes.now (C.state context.old).depth pos T.shape e) }
     ensures of_check { IsTrue T.Check.direct → IfErr result (λ e. HasLevels (C.state context.old).depth → IsOfCheck e) }
+    ensures direct { OnOk result (IsTrue T.Check.direct) }
     ensures levels { OnOk result (KeepsLevels (C.state context.old) (C.state context.new)) }
     ensures few_subtrees { FewPushed (C.state context.old) (C.state context.new) }
 {

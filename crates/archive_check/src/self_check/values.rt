@@ -60,6 +60,7 @@ pub fn check_one<T: Portable, C: ArchiveContext>(
     ensures stops { IsTrue T.Check.direct
         → IfNone result (Halts T.definitions (enter_way bytes.now (owned position (one T.shape) 0)) (C.state context.old)
         refusal.new) }
+    ensures direct { OnSome result (IsTrue T.Check.direct) }
     ensures spends { Spends 4 (C.state context.old) (C.state context.new) }
     ensures positions { OnSome result (C.positions context.new ≡ C.positions context.old) }
 {
