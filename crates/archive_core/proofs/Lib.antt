@@ -1,4 +1,5 @@
 pub mod Compared
+pub mod ComparedValues
 pub mod StandingLeaves
 pub mod StandingParts
 pub mod ViewsTogether

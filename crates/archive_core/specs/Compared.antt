@@ -1,8 +1,9 @@
 -- By what views of one type are compared: where they stand.
 use Rattle.std.proofs.Common.{ap, refl, sym, ◌∙◌}
 use mathlib.Core.Bool.{true≢false}
-use Rattle.std.specs.Prelude.{◌≡◌, ℕ, zero, suc, ◌+◌, ◌*◌, ◌==◌, if◌then◌else◌, pos as whole, Bool, true, IsTrue, List, [], ◌∷◌, ◌++◌, slice_index, Option, Some, None}
+use Rattle.std.specs.Prelude.{◌≡◌, ℕ, zero, suc, ◌+◌, ◌*◌, ◌==◌, if◌then◌else◌, pos as whole, Bool, true, IsTrue, List, [], ◌∷◌, ◌++◌, slice_index, Option, Some, None, Result, Ok, Err}
 use Rattle.std.specs.Option.{option_cmp}
+use Rattle.std.specs.Result.{result_cmp}
 use Rattle.archive_check.specs.Shape.{Pointee}
 use Rattle.archive_check.specs.Reads.{u32_at, length_at}
 use Rattle.archive_check.specs.Readable.{target_from}
@@ -83,3 +84,21 @@ option_order R None None = Equal
 option_order R None (Some u) = Less
 option_order R (Some v) None = Greater
 option_order R (Some v) (Some u) = R v u
+
+-- the value or the error of a result
+abbrev pub result_in : ℕ → ℕ → Standing → Result Standing Standing
+result_in align error_align v = if slice_index v.bytes v.pos == 0 then Ok (standing v.bytes (v.pos + align) 0) else Err (standing v.bytes (v.pos + error_align) 0)
+
+-- the order of a result and one of other values: `Ok` is less than `Err`
+abbrev pub result_order : {U W : Type 0} → (Standing → U → Ordering) → (Standing → W → Ordering) → Result Standing Standing → Result U W → Ordering
+result_order R S (Ok v) (Ok u) = R v u
+result_order R S (Ok v) (Err u) = Less
+result_order R S (Err v) (Ok u) = Greater
+result_order R S (Err v) (Err u) = S v u
+
+pub result_fed : (R S : Standing → Standing → Ordering) (feed errors : Standing → List (List ℕ)) → ((x y : Standing) → IsTrue (eq_by_cmp R x y) → feed x ≡ feed y)
+    → ((x y : Standing) → IsTrue (eq_by_cmp S x y) → errors x ≡ errors y) → (p q : Result Standing Standing) → IsTrue (eq_by_cmp (result_cmp R S) p q) → fed.result feed errors p ≡ fed.result feed errors q
+result_fed R S feed errors alike also (Ok x) (Ok y) h = ap (λ us. fed.isize (whole 0) ++ us) (alike x y h)
+result_fed R S feed errors alike also (Ok x) (Err y) h = absurd (true≢false (sym h))
+result_fed R S feed errors alike also (Err x) (Ok y) h = absurd (true≢false (sym h))
+result_fed R S feed errors alike also (Err x) (Err y) h = ap (λ us. fed.isize (whole 1) ++ us) (also x y h)

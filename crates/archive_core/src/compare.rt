@@ -7,6 +7,7 @@ ghost use Rattle.std.specs.Ordering.{on, eq_by_cmp, as_partial_cmp};
 ghost use Rattle.std.specs.declared.cmp.Ordering.{Ordering as Order};
 ghost use Rattle.archive_check.specs.Viewed.{Viewed};
 ghost use Rattle.archive_core.specs.Compared.{Standing, standing};
+ghost use Rattle.archive_core.specs.ValueOrder.{OrdersValues};
 
 mod leaves;
 mod lists;
@@ -14,6 +15,7 @@ mod native;
 mod native_lists;
 mod options;
 mod owners;
+mod results;
 mod texts;
 
 use crate::traits::ArchivePointee;
@@ -46,6 +48,9 @@ pub trait Ordered: ArchivePointee {
 
     // What is equal feeds a hasher alike.
     ghost respects: { (x y : Standing) → IsTrue (eq_by_cmp order x y) → hash_input x ≡ hash_input y };
+
+    // It is the order of the values that the parts mean.
+    ghost by_value: { OrdersValues Self.definitions Self.pointee order };
 }
 
 /// Two views are equal where neither is less.

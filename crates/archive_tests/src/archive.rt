@@ -3,6 +3,7 @@
 mod arrays;
 mod boxed_slices;
 mod comparisons;
+mod contexts;
 mod copies;
 mod device;
 mod endless;

@@ -1,10 +1,13 @@
 // Lists of boxes in boxes: written, checked, viewed and read back.
 
+ghost use Rattle.std.specs.Prelude.{◌≢◌, Some};
+
 use super::{ArchivedNode, Node};
 use crate::formats::Format;
 use crate::tests::said;
-use archive_core::api::{access, from_bytes};
+use archive_core::api::{HighValidator, access, access_with_context, from_bytes};
 use archive_core::error::Error;
+use std::alloc::Global;
 use std::test::Fail;
 
 // One box: nothing at 0, and at 8 the box that points back at it.
@@ -78,5 +81,46 @@ fn nodes_are_viewed_and_come_back(rt: HostRuntime) -> Result<(), Fail> {
     assert_eq!(rt; boxes_in(&node), 1);
     let none: Node = from_bytes(rt.alloc(), b"\0\0\0\0\0\0\0\0", &mut ())?;
     assert_eq!(rt; boxes_in(&none), 0);
+    Ok(())
+}
+
+// The archive of so many boxes, one in another, with its root at the end.
+fn chain(alloc: Global, count: usize) -> Result<Vec<u8>, Fail> {
+    let mut bytes = vec![in alloc; 0u8; 8]?;
+    for _ in 0..count {
+        bytes.extend_from_slice(b"\x01\0\0\0\xf4\xff\xff\xff")?;
+    }
+    Ok(bytes)
+}
+
+// How many regions a check of a node enters, with a limit of depth.
+fn entered(alloc: Global, bytes: &[u8], levels: Option<usize>) -> Result<usize, Error>
+    requires { levels ≢ Some 0 }
+{
+    let mut context = HighValidator::with_max_depth(alloc, bytes, levels);
+    let _ = access_with_context::<ArchivedNode, HighValidator<'_>>(alloc, bytes, &mut context)?;
+    Ok(context.subtrees())
+}
+
+#[test]
+fn a_node_is_as_deep_as_its_boxes(rt: HostRuntime) -> Result<(), Fail> {
+    let bytes = chain(rt.alloc(), 3)?;
+    for levels in [1, 2, 3, 4] {
+        assert_eq!(rt;
+            entered(rt.alloc(), &bytes, Some(levels)),
+            Err(Error::ExceededMaximumSubtreeDepth),
+            "at depth {levels}"
+        );
+    }
+    assert_eq!(rt; entered(rt.alloc(), &bytes, Some(5)), Ok(4));
+    Ok(())
+}
+
+#[test]
+fn a_long_chain_is_checked(rt: HostRuntime) -> Result<(), Fail> {
+    let bytes = chain(rt.alloc(), 200_000)?;
+    let view = access::<ArchivedNode>(rt.alloc(), &bytes)?;
+    assert_eq!(rt; view.tag(), 1);
+    assert_eq!(rt; entered(rt.alloc(), &bytes, None), Ok(200_001));
     Ok(())
 }

@@ -1,6 +1,8 @@
 // Options.
 
+use super::hash_of;
 use archive_enum::option::{ArchivedOption, Iter};
+use std::cmp::Ordering;
 use std::test::Fail;
 
 #[test]
@@ -70,4 +72,14 @@ fn an_item_comes_once_from_either_end(rt: HostRuntime) -> Result<(), Fail> {
     let mut owned = Iter::new(Some(3u8));
     assert_eq!(rt; (owned.next(), owned.next()), (Some(3), None));
     Ok(())
+}
+
+#[test]
+fn options_are_compared_as_rusts(rt: HostRuntime) {
+    let none = ArchivedOption::<i32>::None;
+    let (less, more) = (ArchivedOption::Some(-1), ArchivedOption::Some(1));
+    assert!(rt; none < less && less < more && none == none && less != more);
+    assert_eq!(rt; more.cmp(&none), Ordering::Greater);
+    assert_eq!(rt; hash_of(&none), hash_of(&None::<i32>));
+    assert_eq!(rt; hash_of(&more), hash_of(&Some(1)));
 }

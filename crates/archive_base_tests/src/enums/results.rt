@@ -1,6 +1,8 @@
 // Results.
 
+use super::hash_of;
 use archive_enum::result::{ArchivedResult, Iter};
+use std::cmp::Ordering;
 use std::test::Fail;
 
 fn ok() -> ArchivedResult<u32, u8> {
@@ -49,4 +51,14 @@ fn the_value_of_an_ok_comes_once(rt: HostRuntime) -> Result<(), Fail> {
     assert!(rt; items.next().is_none() && items.next_back().is_none());
     assert_eq!(rt; err().iter().count(), 0);
     Ok(())
+}
+
+#[test]
+fn results_are_compared_as_rusts(rt: HostRuntime) {
+    let (value, error) = (ok(), err());
+    assert!(rt; value < error && value == ok() && error == err() && value != error);
+    assert_eq!(rt; error.cmp(&ArchivedResult::Err(4)), Ordering::Greater);
+    assert_eq!(rt; value.cmp(&ArchivedResult::Ok(2)), Ordering::Less);
+    assert_eq!(rt; hash_of(&value), hash_of(&Ok::<u32, u8>(1)));
+    assert_eq!(rt; hash_of(&error), hash_of(&Err::<u32, u8>(5)));
 }

@@ -1,10 +1,14 @@
 // Leaves are compared as their values.
 
 ghost use Rattle.std.specs.Prelude.{◌≡◌};
+ghost use Rattle.std.proofs.Common.{sym};
 ghost use Rattle.std.specs.Cmp.{on_total};
 ghost use Rattle.std.specs.Ordering.{on};
 ghost use Rattle.archive_check.specs.Reads.{bytes_at};
+ghost use Rattle.archive_check.specs.Definitions.{no_definition};
+ghost use Rattle.archive_check.specs.Shape.{leaf, non_zero, one};
 ghost use Rattle.archive_core.specs.Compared.{level_fed};
+ghost use Rattle.archive_core.specs.OrderedParts.{as_pointee, leaves_ordered, non_zero_law, non_zero_size};
 
 use super::Ordered;
 use crate::primitive::Plain;
@@ -22,6 +26,8 @@ impl<N: Native> Ordered for LittleEndian<N> {
     ghost total = { on_total (λ v. N.number_of (bytes_at v.bytes v.pos N.byte_count)) N.total };
 
     ghost respects = { λ v w. level_fed N.cmp N.hash_input N.matches_eq N.respects_eq (N.number_of (bytes_at v.bytes v.pos N.byte_count)) (N.number_of (bytes_at w.bytes w.pos N.byte_count)) };
+
+    ghost by_value = { leaves_ordered N.value_of N.number_of N.cmp no_definition N.kind N.byte_count N.size_law N.value_law N.order_law };
 
     fn compare(a: RawView<'_>, b: RawView<'_>) -> Ordering {
         let a: Ref<'_, LittleEndian<N>> = Ref::at(a);
@@ -44,6 +50,8 @@ impl<N: Integer> Ordered for NonZero<N> {
 
     ghost respects = { λ v w. level_fed N.cmp N.hash_input N.matches_eq N.respects_eq (N.number_of (bytes_at v.bytes v.pos N.byte_count)) (N.number_of (bytes_at w.bytes w.pos N.byte_count)) };
 
+    ghost by_value = { leaves_ordered N.value_of N.number_of N.cmp no_definition (non_zero N.sign N.width) N.byte_count (non_zero_size N.sign N.width N.kind N.byte_count N.integer_law N.size_law) (non_zero_law N.value_of N.number_of N.sign N.width N.kind N.integer_law N.value_law) N.order_law };
+
     fn compare(a: RawView<'_>, b: RawView<'_>) -> Ordering {
         let a: Ref<'_, NonZero<N>> = Ref::at(a);
         let b: Ref<'_, NonZero<N>> = Ref::at(b);
@@ -64,6 +72,8 @@ impl<N: Plain> Ordered for N {
     ghost total = { on_total (λ v. N.number_of (bytes_at v.bytes v.pos N.byte_count)) N.total };
 
     ghost respects = { λ v w. level_fed N.cmp N.hash_input N.matches_eq N.respects_eq (N.number_of (bytes_at v.bytes v.pos N.byte_count)) (N.number_of (bytes_at w.bytes w.pos N.byte_count)) };
+
+    ghost by_value = { as_pointee N.definitions (one (leaf N.kind)) N.pointee (on (λ v. N.number_of (bytes_at v.bytes v.pos N.byte_count)) N.cmp) (sym N.same_pointee) (leaves_ordered N.value_of N.number_of N.cmp N.definitions N.kind N.byte_count N.size_law N.value_law N.order_law) };
 
     fn compare(a: RawView<'_>, b: RawView<'_>) -> Ordering {
         let a: Ref<'_, N> = Ref::at(a);

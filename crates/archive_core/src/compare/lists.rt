@@ -1,10 +1,11 @@
 // Slices and vectors are compared element by element, as Rust's slices are: the first elements that differ decide, and else the lengths.
 
-ghost use Rattle.std.specs.Prelude.{◌≡◌, fold};
+ghost use Rattle.std.specs.Prelude.{◌≡◌, ◌+◌, ◌*◌, ◌<◌, fold};
 ghost use Rattle.std.specs.Hash as fed;
-ghost use Rattle.archive_check.specs.Shape.{run};
+ghost use Rattle.archive_check.specs.Shape.{one, run};
 ghost use Rattle.archive_check.specs.Viewed.{Viewed};
 ghost use Rattle.archive_core.specs.Compared.{standing, elements, slices, slices_total, slices_fed};
+ghost use Rattle.archive_core.specs.OrderedParts.{as_pointee, slices_ordered};
 
 use super::Ordered;
 use crate::slice::ArchivedSlice;
@@ -21,6 +22,8 @@ impl<T: Portable + Ordered> Ordered for ArchivedSlice<T> {
     ghost total = { slices_total T.layout.size T.total };
 
     ghost respects = { slices_fed T.layout.size T.order T.hash_input T.respects };
+
+    ghost by_value = { slices_ordered T.definitions T.shape T.layout T.has_layout T.order (as_pointee T.definitions T.pointee (one T.shape) T.order T.is_one T.by_value) };
 
     fn compare(a: RawView<'_>, b: RawView<'_>) -> Ordering {
         compare_elements::<T>(Ref::at(a), Ref::at(b))
@@ -46,10 +49,22 @@ fn compare_elements<T: Portable + Ordered>(
         if index >= b.len() {
             return Ordering::Greater;
         }
-        let order = T::compare(a.index(index).part(), b.index(index).part());
+        let order = compare_at(a, b, index);
         if order.is_ne() {
             return order;
         }
     }
     a.len().cmp(&b.len())
+}
+
+// The order of the two elements of an index.
+fn compare_at<T: Portable + Ordered>(
+    a: Ref<'_, ArchivedSlice<T>>,
+    b: Ref<'_, ArchivedSlice<T>>,
+    index: usize,
+) -> Ordering
+    requires both { (index < a.len) × (index < b.len) }
+    ensures { result ≡ T.order (standing a.entry.bytes.now (a.entry.pos + index * T.layout.size) 0) (standing b.entry.bytes.now (b.entry.pos + index * T.layout.size) 0) }
+{
+    T::compare(a.index(index).part(), b.index(index).part())
 }

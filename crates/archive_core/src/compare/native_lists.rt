@@ -1,42 +1,46 @@
-// Views of slices, vectors and options compared to those of the machine.
+// Views of slices, vectors, options and results compared to those of the machine.
 
-ghost use Rattle.std.specs.Prelude.{◌≡◌};
+ghost use Rattle.std.specs.Prelude.{◌≡◌, ◌+◌, ◌*◌, ◌<◌};
 ghost use Rattle.std.specs.Cmp.Lexicographic.{slice_cmp};
 ghost use Rattle.std.specs.Ordering.{is_eq};
-ghost use Rattle.archive_core.specs.Compared.{standing, elements, slice_of, value_of, option_order};
+ghost use Rattle.archive_check.specs.Definitions.{both};
+ghost use Rattle.archive_check.specs.Shape.{one, run, vec};
+ghost use Rattle.archive_check.specs.Value.{list};
+ghost use Rattle.archive_enum.specs.Choices.{option_shape};
+ghost use Rattle.archive_enum.specs.Results.{result_shape};
+ghost use Rattle.archive_core.specs.Compared.{standing, elements, slice_of, value_of, option_order, result_in, result_order};
+ghost use Rattle.archive_core.specs.Options.{option_meaning};
+ghost use Rattle.archive_core.specs.Results.{result_meaning};
+ghost use Rattle.archive_core.specs.Runs.{each_meaning};
+ghost use Rattle.archive_core.specs.ValueOrder.{ComparesTo, EqualsTo};
 
 use super::CompareNative;
 use crate::option::ArchivedOption;
+use crate::result::ArchivedResult;
 use crate::slice::ArchivedSlice;
-use crate::traits::Portable;
+use crate::traits::{Archive, Portable};
 use crate::vec::ArchivedVec;
 use crate::view::Ref;
 use std::cmp::Ordering;
 
 impl<'a, T: Portable> Ref<'a, ArchivedSlice<T>> {
     /// The order of the elements and of those of a slice of the machine: the first that differ decide, and else the lengths. Our own.
-    pub fn cmp_slice<U>(self, values: &[U]) -> Ordering
+    pub fn cmp_slice<U: Archive>(self, values: &[U]) -> Ordering
     where
         T: CompareNative<U>,
-        ensures { result ≡ slice_cmp T.native_order (elements T.layout.size (standing self.entry.bytes.now self.entry.pos self.entry.len)) values.now }
+        ensures order { result ≡ slice_cmp T.native_order (elements T.layout.size (standing self.entry.bytes.now self.entry.pos self.entry.len)) values.now }
+        ensures by_value { ComparesTo T.definitions (run T.shape) self.entry.bytes.now self.entry.pos self.entry.len (list (each_meaning U.meaning values.now)) result }
     {
-        for index in 0..self.len() {
-            if index >= values.len() {
-                return Ordering::Greater;
-            }
-            let order = T::compare_native(self.index(index).part(), &values[index]);
-            if order.is_ne() {
-                return order;
-            }
-        }
-        self.len().cmp(&values.len())
+        compare_slice(self, values)
     }
 
     /// Whether the elements equal those of a slice of the machine, and are as many. Our own.
-    pub fn eq_slice<U>(self, values: &[U]) -> bool
+    #[tactic(auto, using(crate::proofs::ComparedValues::slice_equals))]
+    pub fn eq_slice<U: Archive>(self, values: &[U]) -> bool
     where
         T: CompareNative<U>,
-        ensures { result ≡ is_eq (slice_cmp T.native_order (elements T.layout.size (standing self.entry.bytes.now self.entry.pos self.entry.len)) values.now) }
+        ensures order { result ≡ is_eq (slice_cmp T.native_order (elements T.layout.size (standing self.entry.bytes.now self.entry.pos self.entry.len)) values.now) }
+        ensures by_value { EqualsTo T.definitions (run T.shape) self.entry.bytes.now self.entry.pos self.entry.len (list (each_meaning U.meaning values.now)) result }
     {
         self.cmp_slice(values).is_eq()
     }
@@ -44,19 +48,22 @@ impl<'a, T: Portable> Ref<'a, ArchivedSlice<T>> {
 
 impl<'a, T: Portable> Ref<'a, ArchivedVec<T>> {
     /// The order of the elements and of those of a slice of the machine: the first that differ decide, and else the lengths. Our own.
-    pub fn cmp_slice<U>(self, values: &[U]) -> Ordering
+    pub fn cmp_slice<U: Archive>(self, values: &[U]) -> Ordering
     where
         T: CompareNative<U>,
-        ensures { result ≡ slice_cmp T.native_order (elements T.layout.size (slice_of (standing self.entry.bytes.now self.entry.pos self.entry.len))) values.now }
+        ensures order { result ≡ slice_cmp T.native_order (elements T.layout.size (slice_of (standing self.entry.bytes.now self.entry.pos self.entry.len))) values.now }
+        ensures by_value { ComparesTo T.definitions (one (vec T.shape)) self.entry.bytes.now self.entry.pos self.entry.len (list (each_meaning U.meaning values.now)) result }
     {
         self.as_slice().cmp_slice(values)
     }
 
     /// Whether the elements equal those of a slice of the machine, and are as many. Our own.
-    pub fn eq_slice<U>(self, values: &[U]) -> bool
+    #[tactic(auto, using(crate::proofs::ComparedValues::vec_equals))]
+    pub fn eq_slice<U: Archive>(self, values: &[U]) -> bool
     where
         T: CompareNative<U>,
-        ensures { result ≡ is_eq (slice_cmp T.native_order (elements T.layout.size (slice_of (standing self.entry.bytes.now self.entry.pos self.entry.len))) values.now) }
+        ensures order { result ≡ is_eq (slice_cmp T.native_order (elements T.layout.size (slice_of (standing self.entry.bytes.now self.entry.pos self.entry.len))) values.now) }
+        ensures by_value { EqualsTo T.definitions (one (vec T.shape)) self.entry.bytes.now self.entry.pos self.entry.len (list (each_meaning U.meaning values.now)) result }
     {
         self.cmp_slice(values).is_eq()
     }
@@ -64,25 +71,98 @@ impl<'a, T: Portable> Ref<'a, ArchivedVec<T>> {
 
 impl<'a, T: Portable> Ref<'a, ArchivedOption<T>> {
     /// The order of the option and one of the machine: `None` is less than `Some`. Our own.
-    pub fn cmp_option<U>(self, option: &Option<U>) -> Ordering
+    pub fn cmp_option<U: Archive>(self, option: &Option<U>) -> Ordering
     where
         T: CompareNative<U>,
-        ensures { result ≡ option_order T.native_order (value_of T.layout.align (standing self.entry.bytes.now self.entry.pos self.entry.len)) option.now }
+        ensures order { result ≡ option_order T.native_order (value_of T.layout.align (standing self.entry.bytes.now self.entry.pos self.entry.len)) option.now }
+        ensures by_value { ComparesTo T.definitions (one (option_shape T.shape)) self.entry.bytes.now self.entry.pos self.entry.len (option_meaning U.meaning option.now) result }
     {
-        match (self.as_ref(), option) {
-            (None, None) => Ordering::Equal,
-            (None, Some(_)) => Ordering::Less,
-            (Some(_), None) => Ordering::Greater,
-            (Some(view), Some(value)) => T::compare_native(view.part(), value),
-        }
+        compare_option(self, option)
     }
 
     /// Whether the option equals one of the machine. Our own.
-    pub fn eq_option<U>(self, option: &Option<U>) -> bool
+    #[tactic(auto, using(crate::proofs::ComparedValues::option_equals))]
+    pub fn eq_option<U: Archive>(self, option: &Option<U>) -> bool
     where
         T: CompareNative<U>,
-        ensures { result ≡ is_eq (option_order T.native_order (value_of T.layout.align (standing self.entry.bytes.now self.entry.pos self.entry.len)) option.now) }
+        ensures order { result ≡ is_eq (option_order T.native_order (value_of T.layout.align (standing self.entry.bytes.now self.entry.pos self.entry.len)) option.now) }
+        ensures by_value { EqualsTo T.definitions (one (option_shape T.shape)) self.entry.bytes.now self.entry.pos self.entry.len (option_meaning U.meaning option.now) result }
     {
         self.cmp_option(option).is_eq()
+    }
+}
+
+impl<'a, T: Portable, E: Portable> Ref<'a, ArchivedResult<T, E>> {
+    /// Whether the result equals one of the machine: both are `Ok` or both `Err`, with equal values. Our own.
+    pub fn eq_result<U: Archive, W: Archive>(self, result_of: &Result<U, W>) -> bool
+    where
+        T: CompareNative<U>,
+        E: CompareNative<W>,
+        ensures order { result ≡ is_eq (result_order T.native_order E.native_order (result_in T.layout.align E.layout.align (standing self.entry.bytes.now self.entry.pos self.entry.len)) result_of.now) }
+        ensures by_value { EqualsTo (both T.definitions E.definitions) (one (result_shape T.shape E.shape)) self.entry.bytes.now self.entry.pos self.entry.len (result_meaning U.meaning W.meaning result_of.now) result }
+    {
+        is_result(self, result_of)
+    }
+}
+
+// The order of an element and a value.
+fn compare_native_at<U: Archive, T: Portable + CompareNative<U>>(
+    view: Ref<'_, ArchivedSlice<T>>,
+    index: usize,
+    value: &U,
+) -> Ordering
+    requires { index < view.len }
+    ensures { result ≡ T.native_order (standing view.entry.bytes.now (view.entry.pos + index * T.layout.size) 0) value.now }
+{
+    T::compare_native(view.index(index).part(), value)
+}
+
+// The first that differ decide, and else the lengths.
+fn compare_slice<U: Archive, T: Portable + CompareNative<U>>(
+    view: Ref<'_, ArchivedSlice<T>>,
+    values: &[U],
+) -> Ordering
+    ensures { result ≡ slice_cmp T.native_order (elements T.layout.size (standing view.entry.bytes.now view.entry.pos view.entry.len)) values.now }
+{
+    for index in 0..view.len() {
+        if index >= values.len() {
+            return Ordering::Greater;
+        }
+        let order = compare_native_at(view, index, &values[index]);
+        if order.is_ne() {
+            return order;
+        }
+    }
+    view.len().cmp(&values.len())
+}
+
+// `None` is less than `Some`.
+fn compare_option<U: Archive, T: Portable + CompareNative<U>>(
+    view: Ref<'_, ArchivedOption<T>>,
+    option: &Option<U>,
+) -> Ordering
+    ensures { result ≡ option_order T.native_order (value_of T.layout.align (standing view.entry.bytes.now view.entry.pos view.entry.len)) option.now }
+{
+    match (view.as_ref(), option) {
+        (None, None) => Ordering::Equal,
+        (None, Some(_)) => Ordering::Less,
+        (Some(_), None) => Ordering::Greater,
+        (Some(view), Some(value)) => T::compare_native(view.part(), value),
+    }
+}
+
+// Both are `Ok` or both `Err`, with equal values.
+fn is_result<
+    U: Archive,
+    W: Archive,
+    T: Portable + CompareNative<U>,
+    E: Portable + CompareNative<W>,
+>(view: Ref<'_, ArchivedResult<T, E>>, result_of: &Result<U, W>) -> bool
+    ensures { result ≡ is_eq (result_order T.native_order E.native_order (result_in T.layout.align E.layout.align (standing view.entry.bytes.now view.entry.pos view.entry.len)) result_of.now) }
+{
+    match (view.as_ref(), result_of) {
+        (Ok(view), Ok(value)) => T::compare_native(view.part(), value).is_eq(),
+        (Err(view), Err(error)) => E::compare_native(view.part(), error).is_eq(),
+        (Ok(_), Err(_)) | (Err(_), Ok(_)) => false,
     }
 }

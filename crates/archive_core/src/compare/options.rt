@@ -6,7 +6,9 @@ ghost use Rattle.std.specs.Cmp.Lexicographic.{options_total};
 ghost use Rattle.std.specs.Hash as fed;
 ghost use Rattle.std.specs.Option.{option_cmp};
 ghost use Rattle.std.specs.Ordering.{on};
+ghost use Rattle.archive_check.specs.Shape.{one};
 ghost use Rattle.archive_core.specs.Compared.{value_of, option_fed};
+ghost use Rattle.archive_core.specs.OrderedParts.{as_pointee, options_ordered};
 
 use super::Ordered;
 use crate::option::ArchivedOption;
@@ -23,6 +25,8 @@ impl<T: Portable + Ordered> Ordered for ArchivedOption<T> {
     ghost total = { on_total (value_of T.layout.align) (options_total T.total) };
 
     ghost respects = { λ v w. option_fed T.order T.hash_input T.respects (value_of T.layout.align v) (value_of T.layout.align w) };
+
+    ghost by_value = { options_ordered T.definitions T.shape T.layout T.is_align T.has_layout T.order (as_pointee T.definitions T.pointee (one T.shape) T.order T.is_one T.by_value) };
 
     fn compare(a: RawView<'_>, b: RawView<'_>) -> Ordering {
         let a: Ref<'_, ArchivedOption<T>> = Ref::at(a);

@@ -4,7 +4,10 @@ ghost use Rattle.std.specs.Prelude.{◌≡◌};
 ghost use Rattle.std.specs.Cmp.{on_total};
 ghost use Rattle.std.specs.Hash as fed;
 ghost use Rattle.std.specs.Ordering.{on};
+ghost use Rattle.archive_check.specs.Shape.{one};
 ghost use Rattle.archive_core.specs.Compared.{elements, pointee_at, slice_of, slices, slices_total, slices_fed};
+ghost use Rattle.archive_core.specs.OrderedParts.{as_pointee, boxes_ordered, shared_ordered, slices_ordered, vecs_ordered};
+ghost use Rattle.archive_core.specs.SharedLaws.{flavor_as};
 
 use super::Ordered;
 use crate::boxed::ArchivedBox;
@@ -24,6 +27,8 @@ impl<T: PortablePointee + Ordered> Ordered for ArchivedBox<T> {
     ghost total = { on_total (pointee_at T.pointee) T.total };
 
     ghost respects = { λ v w. T.respects (pointee_at T.pointee v) (pointee_at T.pointee w) };
+
+    ghost by_value = { boxes_ordered T.definitions T.pointee T.order T.by_value };
 
     fn compare(a: RawView<'_>, b: RawView<'_>) -> Ordering {
         let a: Ref<'_, ArchivedBox<T>> = Ref::at(a);
@@ -46,6 +51,8 @@ impl<T: PortablePointee + Ordered, F: Acyclic> Ordered for ArchivedRc<T, F> {
 
     ghost respects = { λ v w. T.respects (pointee_at T.pointee v) (pointee_at T.pointee w) };
 
+    ghost by_value = { shared_ordered T.definitions T.pointee (flavor_as F.name F.ALLOW_CYCLES) T.order T.by_value };
+
     fn compare(a: RawView<'_>, b: RawView<'_>) -> Ordering {
         let a: Ref<'_, ArchivedRc<T, F>> = Ref::at(a);
         let b: Ref<'_, ArchivedRc<T, F>> = Ref::at(b);
@@ -66,6 +73,8 @@ impl<T: Portable + Ordered> Ordered for ArchivedVec<T> {
     ghost total = { on_total slice_of (slices_total T.layout.size T.total) };
 
     ghost respects = { λ v w. slices_fed T.layout.size T.order T.hash_input T.respects (slice_of v) (slice_of w) };
+
+    ghost by_value = { vecs_ordered T.definitions T.shape (slices T.layout.size T.order) (slices_ordered T.definitions T.shape T.layout T.has_layout T.order (as_pointee T.definitions T.pointee (one T.shape) T.order T.is_one T.by_value)) };
 
     fn compare(a: RawView<'_>, b: RawView<'_>) -> Ordering {
         let a: Ref<'_, ArchivedVec<T>> = Ref::at(a);

@@ -6,7 +6,9 @@ ghost use Rattle.std.specs.Cmp.Lexicographic.{slice_cmp, on_texts};
 ghost use Rattle.std.specs.Ordering.{on, nat_cmp};
 ghost use Rattle.archive_check.specs.Reads.{bytes_at};
 ghost use Rattle.archive_check.specs.Readable.{string_text};
+ghost use Rattle.archive_check.specs.Definitions.{no_definition};
 ghost use Rattle.archive_core.specs.Compared.{text_fed};
+ghost use Rattle.archive_core.specs.OrderedParts.{texts_ordered, strings_ordered};
 
 use super::Ordered;
 use crate::string::{ArchivedStr, ArchivedString};
@@ -22,6 +24,8 @@ impl Ordered for ArchivedStr {
     ghost total = { on_texts (λ v. bytes_at v.bytes v.pos v.len) };
 
     ghost respects = { λ v w. text_fed (bytes_at v.bytes v.pos v.len) (bytes_at w.bytes w.pos w.len) };
+
+    ghost by_value = { texts_ordered no_definition };
 
     fn compare(a: RawView<'_>, b: RawView<'_>) -> Ordering {
         let a: Ref<'_, ArchivedStr> = Ref::at(a);
@@ -43,6 +47,8 @@ impl Ordered for ArchivedString {
     ghost total = { on_texts (λ v. string_text v.bytes v.pos) };
 
     ghost respects = { λ v w. text_fed (string_text v.bytes v.pos) (string_text w.bytes w.pos) };
+
+    ghost by_value = { strings_ordered no_definition };
 
     fn compare(a: RawView<'_>, b: RawView<'_>) -> Ordering {
         let a: Ref<'_, ArchivedString> = Ref::at(a);

@@ -6,6 +6,7 @@ use archive_core::boxed::ArchivedBox;
 use archive_core::option::ArchivedOption;
 use archive_core::primitive::{ArchivedI32, ArchivedU32};
 use archive_core::rc::{ArchivedRc, RcFlavor};
+use archive_core::result::ArchivedResult;
 use archive_core::string::{ArchivedStr, ArchivedString};
 use archive_core::vec::ArchivedVec;
 use std::cmp::Ordering;
@@ -83,5 +84,42 @@ fn an_option_is_less_without_a_value(rt: HostRuntime) -> Result<(), Fail> {
     assert_eq!(rt; some.cmp_option(&Some(43)), Ordering::Less);
     assert!(rt; none.eq_option::<u32>(&None));
     assert_eq!(rt; hash_of(&some), hash_of(&Some(42u32)));
+    Ok(())
+}
+
+#[test]
+fn options_are_compared_with_those_of_the_machine(rt: HostRuntime) -> Result<(), Fail> {
+    let rows = [
+        (b"\x01\0\0\0\x2a\0\0\0".as_slice(), 42, Ordering::Equal),
+        (b"\x01\0\0\0\x01\0\0\0".as_slice(), 2, Ordering::Less),
+        (b"\x01\0\0\0\x02\0\0\0".as_slice(), 1, Ordering::Greater),
+    ];
+    for (archive, value, order) in rows {
+        let view = access::<ArchivedOption<ArchivedU32>>(rt.alloc(), archive)?;
+        assert_eq!(rt; view.cmp_option(&Some(value)), order, "{archive:?}");
+        assert_eq!(rt; view.eq_option(&Some(value)), order.is_eq(), "{archive:?}");
+    }
+    Ok(())
+}
+
+#[test]
+fn an_ok_is_less_than_an_err(rt: HostRuntime) -> Result<(), Fail> {
+    let nine = access::<ArchivedResult<ArchivedU32, ArchivedU32>>(
+        rt.alloc(),
+        b"\0\0\0\0\x09\0\0\0",
+    )?;
+    let seven = access::<ArchivedResult<ArchivedU32, ArchivedU32>>(
+        rt.alloc(),
+        b"\x01\0\0\0\x07\0\0\0",
+    )?;
+    assert!(rt; nine < seven);
+    assert!(rt; nine == nine && nine != seven);
+    assert_eq!(rt; seven.cmp(&seven), Ordering::Equal);
+    assert!(rt; nine.eq_result::<u32, u32>(&Ok(9)));
+    assert!(rt; seven.eq_result::<u32, u32>(&Err(7)));
+    assert!(rt; !nine.eq_result::<u32, u32>(&Err(9)));
+    let (value, error): (Result<u32, u32>, Result<u32, u32>) = (Ok(9), Err(7));
+    assert_eq!(rt; hash_of(&nine), hash_of(&value));
+    assert_eq!(rt; hash_of(&seven), hash_of(&error));
     Ok(())
 }

@@ -1,6 +1,5 @@
 use Rattle.std.proofs.Common.{◌≡◌, ◌+◌, ◌*◌, ◌<◌, ◌≤◌, true, false, arith, sym, ◌∙◌}
 use Rattle.std.specs.Ordering.{is_ne, nat_cmp}
-use Rattle.archive_core.specs.Compared.{standing}
 use Rattle.archive_core.proofs.Compared.{rest_start, rest_over, rest_done, rest_here, rest_later}
 use Rattle.archive_core.proofs.compare.lists.compare_elements.Goals as goal
 
@@ -19,23 +18,8 @@ returns-then-is_ne g c =
     let i = c.loop-index.index in
     let below : i < c.args.a.len = omega (arith, c.loop-index-test.true, c.len-index-end.ensures) in
     let under : i < c.args.b.len = omega (arith, c.if-index-len.false, c.len.ensures) in
-    let order : c.compare-order.result ≡ g.T.Ordered.order (standing c.args.a.bytes.now (c.args.a.pos + i * z) 0) (standing c.args.b.bytes.now (c.args.b.pos + i * z) 0) =
-    rw (
-      c.part.ensures.buffer,
-      c.part.ensures.position,
-      c.part.ensures.length,
-      c.index.ensures.buffer,
-      c.index.ensures.position,
-      c.index.ensures.length,
-      c.part-in-loop-index.ensures.buffer,
-      c.part-in-loop-index.ensures.position,
-      c.part-in-loop-index.ensures.length,
-      c.index-in-loop-index.ensures.buffer,
-      c.index-in-loop-index.ensures.position,
-      c.index-in-loop-index.ensures.length,
-    ) at c.compare-order.ensures in
-    let other : is_ne c.compare-order.result ≡ true = sym c.is_ne.ensures ∙ c.if-is_ne.true in
-    sym (c.loop-index.invariant.1 ∙ rest_here g.T.Ordered.order c.args.a.bytes.now c.args.a.pos z c.args.b.bytes.now c.args.b.pos i c.args.a.len c.args.b.len c.compare-order.result below under order other)
+    let other : is_ne c.compare_at-order.result ≡ true = sym c.is_ne.ensures ∙ c.if-is_ne.true in
+    sym (c.loop-index.invariant.1 ∙ rest_here g.T.Ordered.order c.args.a.bytes.now c.args.a.pos z c.args.b.bytes.now c.args.b.pos i c.args.a.len c.args.b.len c.compare_at-order.result below under c.compare_at-order.ensures other)
 
 pub loop-index-preserved : goal.loop-index-preserved
 loop-index-preserved g c =
@@ -43,24 +27,9 @@ loop-index-preserved g c =
     let i = c.loop-index.index in
     let below : i < c.args.a.len = omega (arith, c.loop-index-test.true, c.len-index-end.ensures) in
     let under : i < c.args.b.len = omega (arith, c.if-index-len.false, c.len.ensures) in
-    let order : c.compare-order.result ≡ g.T.Ordered.order (standing c.args.a.bytes.now (c.args.a.pos + i * z) 0) (standing c.args.b.bytes.now (c.args.b.pos + i * z) 0) =
-    rw (
-      c.part.ensures.buffer,
-      c.part.ensures.position,
-      c.part.ensures.length,
-      c.index.ensures.buffer,
-      c.index.ensures.position,
-      c.index.ensures.length,
-      c.part-in-loop-index.ensures.buffer,
-      c.part-in-loop-index.ensures.position,
-      c.part-in-loop-index.ensures.length,
-      c.index-in-loop-index.ensures.buffer,
-      c.index-in-loop-index.ensures.position,
-      c.index-in-loop-index.ensures.length,
-    ) at c.compare-order.ensures in
-    let same : is_ne c.compare-order.result ≡ false = sym c.is_ne.ensures ∙ c.if-is_ne.false in (
+    let same : is_ne c.compare_at-order.result ≡ false = sym c.is_ne.ensures ∙ c.if-is_ne.false in (
       omega (arith, under),
-      c.loop-index.invariant.1 ∙ rest_later g.T.Ordered.order c.args.a.bytes.now c.args.a.pos z c.args.b.bytes.now c.args.b.pos i c.args.a.len c.args.b.len c.compare-order.result below under order same,
+      c.loop-index.invariant.1 ∙ rest_later g.T.Ordered.order c.args.a.bytes.now c.args.a.pos z c.args.b.bytes.now c.args.b.pos i c.args.a.len c.args.b.len c.compare_at-order.result below under c.compare_at-order.ensures same,
     )
 
 pub returns : goal.returns

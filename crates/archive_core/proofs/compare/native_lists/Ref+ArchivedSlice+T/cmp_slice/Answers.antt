@@ -1,47 +1,5 @@
-use Rattle.std.proofs.Common.{◌≡◌, ◌+◌, ◌*◌, ◌<◌, ◌≤◌, true, false, length, arith, sym, ap, ◌∙◌}
-use Rattle.std.specs.Ordering.{is_ne, nat_cmp}
-use Rattle.archive_core.specs.Compared.{standing}
-use Rattle.archive_core.proofs.Compared.{left_start, left_over, left_done, left_here, left_later}
+use Rattle.archive_core.proofs.ComparedValues.{slice_compares}
 use Rattle.archive_core.proofs.compare.native_lists.Ref+ArchivedSlice+T.cmp_slice.Goals as goal
 
-pub loop-index-init : goal.loop-index-init
-loop-index-init g c = (omega arith, left_start g.T.CompareNative.native_order c.args.self.bytes.now c.args.self.pos g.T.Portable.layout.size c.args.values.now c.args.self.len)
-
-pub returns-then-index-values : goal.returns-then-index-values
-returns-then-index-values g c =
-    let below : c.loop-index.index < c.args.self.len = omega (arith, c.loop-index-test.true, c.len-index-end.ensures) in
-    sym (c.loop-index.invariant.1 ∙ left_over g.T.CompareNative.native_order c.args.self.bytes.now c.args.self.pos g.T.Portable.layout.size c.args.values.now c.loop-index.index c.args.self.len below c.if-index-values.true)
-
-pub returns-then-is_ne : goal.returns-then-is_ne
-returns-then-is_ne g c =
-    let z = g.T.Portable.layout.size in
-    let i = c.loop-index.index in
-    let below : i < c.args.self.len = omega (arith, c.loop-index-test.true, c.len-index-end.ensures) in
-    let under : i < length c.args.values.now = omega (arith, c.if-index-values.false) in
-    let order : c.compare_native-order.result ≡ g.T.CompareNative.native_order (standing c.args.self.bytes.now (c.args.self.pos + i * z) 0) c.index-values-index.result =
-    rw (c.part.ensures.buffer, c.part.ensures.position, c.part.ensures.length, c.index.ensures.buffer, c.index.ensures.position, c.index.ensures.length) at c.compare_native-order.ensures in
-    let here = order ∙ ap (g.T.CompareNative.native_order (standing c.args.self.bytes.now (c.args.self.pos + i * z) 0)) c.index-values-index.is in
-    let other : is_ne c.compare_native-order.result ≡ true = sym c.is_ne.ensures ∙ c.if-is_ne.true in
-    sym (c.loop-index.invariant.1 ∙ left_here g.T.CompareNative.native_order c.args.self.bytes.now c.args.self.pos z c.args.values.now i c.args.self.len c.compare_native-order.result c.index-values-index.result below under here other)
-
-pub loop-index-preserved : goal.loop-index-preserved
-loop-index-preserved g c =
-    let z = g.T.Portable.layout.size in
-    let i = c.loop-index.index in
-    let below : i < c.args.self.len = omega (arith, c.loop-index-test.true, c.len-index-end.ensures) in
-    let under : i < length c.args.values.now = omega (arith, c.if-index-values.false) in
-    let order : c.compare_native-order.result ≡ g.T.CompareNative.native_order (standing c.args.self.bytes.now (c.args.self.pos + i * z) 0) c.index-values-index.result =
-    rw (c.part.ensures.buffer, c.part.ensures.position, c.part.ensures.length, c.index.ensures.buffer, c.index.ensures.position, c.index.ensures.length) at c.compare_native-order.ensures in
-    let here = order ∙ ap (g.T.CompareNative.native_order (standing c.args.self.bytes.now (c.args.self.pos + i * z) 0)) c.index-values-index.is in
-    let same : is_ne c.compare_native-order.result ≡ false = sym c.is_ne.ensures ∙ c.if-is_ne.false in (
-      omega (arith, under),
-      c.loop-index.invariant.1 ∙ left_later g.T.CompareNative.native_order c.args.self.bytes.now c.args.self.pos z c.args.values.now i c.args.self.len c.compare_native-order.result c.index-values-index.result below under here same,
-    )
-
-pub returns : goal.returns
-returns g c =
-    let end : c.args.self.len ≤ c.loop-index.index = omega (arith, c.loop-index-test.false, c.len-index-end.ensures) in
-    let within : c.loop-index.index ≤ c.args.self.len = omega (arith, c.loop-index.auto.index-end, c.len-index-end.ensures) in
-    let order : c.cmp.result ≡ nat_cmp c.args.self.len (length c.args.values.now) = rw c.len.ensures at c.cmp.ensures in
-    order
-    ∙ sym (c.loop-index.invariant.1 ∙ left_done g.T.CompareNative.native_order c.args.self.bytes.now c.args.self.pos g.T.Portable.layout.size c.args.values.now c.loop-index.index c.args.self.len end within c.loop-index.invariant.0)
+pub returns-clause-by_value : goal.returns-clause-by_value
+returns-clause-by_value g c = slice_compares g.T.ArchivePointee.definitions g.T.Portable.shape g.T.Portable.layout g.met.T.Portable.has_layout g.T.ArchivePointee.pointee g.met.T.Portable.is_one g.U.Archive.meaning g.T.CompareNative.native_order g.met.T.CompareNative.native_by_value c.args.self.bytes.now c.args.self.pos c.args.self.len c.args.values.now c.compare_slice.result c.compare_slice.ensures

@@ -1,0 +1,72 @@
+// What checks enter, and calls within regions.
+
+use crate::archive::HELLO_WORLD;
+use archive_core::api::{HighValidator, access_with_context};
+use archive_core::error::Error;
+use archive_core::option::ArchivedOption;
+use archive_core::primitive::{ArchivedI32, ArchivedU32};
+use archive_core::rc::{ArchivedRc, RcFlavor};
+use archive_core::slice::ArchivedSlice;
+use archive_core::string::{ArchivedStr, ArchivedString};
+use archive_core::traits::Portable;
+use archive_core::validation::{ArchiveContextExt, ArchiveValidator};
+use archive_core::vec::ArchivedVec;
+use archive_tuple::{ArchivedTuple2, ArchivedTuple3};
+use std::alloc::Global;
+use std::test::Fail;
+
+// How many regions a check of a `T` at the end enters.
+fn entered<T: Portable>(alloc: Global, bytes: &[u8]) -> Result<usize, Error> {
+    let mut context = HighValidator::new(alloc, bytes);
+    let _ = access_with_context::<T, HighValidator<'_>>(alloc, bytes, &mut context)?;
+    Ok(context.subtrees())
+}
+
+// A byte, a text and perhaps a list, one behind another.
+type Test = ArchivedTuple3<u8, ArchivedString, ArchivedOption<ArchivedVec<ArchivedI32>>>;
+
+#[test]
+fn a_check_enters_each_region_once(rt: HostRuntime) -> Result<(), Fail> {
+    assert_eq!(rt; entered::<ArchivedString>(rt.alloc(), HELLO_WORLD), Ok(2));
+    let empty = b"\0\0\0\0\0\0\0\0";
+    assert_eq!(rt;
+        entered::<ArchivedVec<ArchivedU32>>(rt.alloc(), empty),
+        Ok(2)
+    );
+    let test =
+        b"hello world\0\x01\0\0\0\x02\0\0\0\x03\0\0\0\x04\0\0\0\x2a\0\0\0\x8b\0\0\0\xe0\xff\xff\xff\x01\0\0\0\xe0\xff\xff\xff\x04\0\0\0";
+    assert_eq!(rt; entered::<Test>(rt.alloc(), test), Ok(3));
+    let shared = b"\x0a\0\0\0\xfc\xff\xff\xff\xf8\xff\xff\xff";
+    let regions = entered::<
+        ArchivedTuple2<ArchivedRc<ArchivedU32, RcFlavor>, ArchivedRc<ArchivedU32, RcFlavor>>,
+    >(rt.alloc(), shared);
+    assert_eq!(rt; regions, Ok(2));
+    Ok(())
+}
+
+#[test]
+fn a_call_is_made_within_the_region_of_a_length(rt: HostRuntime) -> Result<(), Fail> {
+    let mut range = ArchiveValidator::with_max_depth(&[0; 12], Some(2));
+    let inside = range.in_subtree::<ArchivedStr, _, _, _>(5, 7, |inner| -> Result<Error, Error> {
+        let too_long = inner.in_subtree::<ArchivedStr, _, _, _>(0, 6, |_| -> Result<(), Error> {
+            Ok(())
+        });
+        Ok(too_long.err().unwrap_or(Error::OutOfMemory))
+    });
+    let too_long = Error::InvalidSubtreePointer {
+        position: 0,
+        size: 6,
+        start: 0,
+        end: 5,
+    };
+    assert_eq!(rt; inside, Ok(too_long));
+    assert_eq!(rt; range.subtrees(), 1);
+    let large = range.in_subtree::<ArchivedSlice<ArchivedU32>, _, _, _>(
+        12,
+        usize::MAX,
+        |_| -> Result<(), Error> { Ok(()) },
+    );
+    assert_eq!(rt; large, Err(Error::LayoutTooLarge));
+    assert_eq!(rt; range.subtrees(), 1);
+    Ok(())
+}
