@@ -1,6 +1,7 @@
 //! Choices: views of their tags and of what stands behind them, and places of their tags.
 
-ghost use Rattle.std.specs.Prelude.{◌≡◌, ◌+◌, ◌<◌, Some, is_some, length, slice_index, slice_set, true};
+ghost use Rattle.std.specs.Prelude.{◌≡◌, ◌+◌, ◌<◌, ◌≤◌, ◌^◌, Some, is_some, length, slice_index, slice_set, true};
+ghost use Rattle.archive_check.specs.Reads.{bytes_at};
 ghost use Rattle.archive_check.specs.Shape.{variant_at};
 ghost use Rattle.archive_check.specs.VariantsLayout.{payload_at, payload_definitions};
 ghost use Rattle.archive_core.specs.Payloads.{payload_in};
@@ -49,5 +50,20 @@ impl<'a, T: Choice> Place<'a, T> {
         ensures written { self.new.bytes.now ≡ slice_set self.old.bytes.now 0 tag }
     {
         self.bytes[0] = tag;
+    }
+
+    /// The place of part `i` of the variant with this tag. Asks that this part is a `U` and lies within the place's bytes, and that their end fits
+    /// `usize`. The other bytes, the tag among them, are out of its reach. Our own.
+    pub fn payload<U: Portable>(self, tag: u8, i: usize) -> Place<'a, U>
+        requires part { payload_at T.Variants.variants tag i ≡ Some U.shape }
+        requires definitions { payload_definitions T.Variants.definitions tag i ≡ U.definitions }
+        requires inside { T.Variants.begin tag i + U.layout.size ≤ length self.bytes.now }
+        requires ends { self.pos + length self.bytes.now < 2 ^ 64 }
+        ensures buffer { result.bytes.now ≡ bytes_at self.entry.bytes.now (T.Variants.begin tag i) U.layout.size }
+        ensures position { result.pos ≡ self.entry.pos + T.Variants.begin tag i }
+    {
+        let Place { bytes, pos, .. } = self;
+        let begin = T::offset(tag, i);
+        Place::new(pos + begin, &mut bytes[begin..begin + U::size()])
     }
 }
