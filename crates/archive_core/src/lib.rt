@@ -8,6 +8,7 @@ pub mod choice;
 pub mod compare;
 mod fields;
 pub mod option;
+pub mod own;
 pub mod parts;
 mod phantom;
 pub mod place;
