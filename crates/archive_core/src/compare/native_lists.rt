@@ -4,6 +4,7 @@ ghost use Rattle.std.specs.Prelude.{◌≡◌};
 ghost use Rattle.std.specs.Cmp.Lexicographic.{slice_cmp};
 ghost use Rattle.std.specs.Ordering.{is_eq};
 ghost use Rattle.archive_core.specs.Compared.{standing, elements, slice_of, value_of, option_order};
+ghost use Rattle.archive_core.specs.Seen.{shown};
 
 use super::CompareNative;
 use crate::option::ArchivedOption;
@@ -18,7 +19,7 @@ impl<'a, T: Portable> Ref<'a, ArchivedSlice<T>> {
     pub fn cmp_slice<U>(self, values: &[U]) -> Ordering
     where
         T: CompareNative<U>,
-        ensures { result ≡ slice_cmp T.native_order (elements T.layout.size (standing self.entry.bytes.now self.entry.pos self.entry.len)) values.now }
+        ensures { result ≡ slice_cmp T.native_order (elements T.layout.size (shown self.entry)) values.now }
     {
         for index in 0..self.len() {
             if index >= values.len() {
@@ -36,7 +37,7 @@ impl<'a, T: Portable> Ref<'a, ArchivedSlice<T>> {
     pub fn eq_slice<U>(self, values: &[U]) -> bool
     where
         T: CompareNative<U>,
-        ensures { result ≡ is_eq (slice_cmp T.native_order (elements T.layout.size (standing self.entry.bytes.now self.entry.pos self.entry.len)) values.now) }
+        ensures { result ≡ is_eq (slice_cmp T.native_order (elements T.layout.size (shown self.entry)) values.now) }
     {
         self.cmp_slice(values).is_eq()
     }
@@ -47,7 +48,7 @@ impl<'a, T: Portable> Ref<'a, ArchivedVec<T>> {
     pub fn cmp_slice<U>(self, values: &[U]) -> Ordering
     where
         T: CompareNative<U>,
-        ensures { result ≡ slice_cmp T.native_order (elements T.layout.size (slice_of (standing self.entry.bytes.now self.entry.pos self.entry.len))) values.now }
+        ensures { result ≡ slice_cmp T.native_order (elements T.layout.size (slice_of (shown self.entry))) values.now }
     {
         self.as_slice().cmp_slice(values)
     }
@@ -56,7 +57,7 @@ impl<'a, T: Portable> Ref<'a, ArchivedVec<T>> {
     pub fn eq_slice<U>(self, values: &[U]) -> bool
     where
         T: CompareNative<U>,
-        ensures { result ≡ is_eq (slice_cmp T.native_order (elements T.layout.size (slice_of (standing self.entry.bytes.now self.entry.pos self.entry.len))) values.now) }
+        ensures { result ≡ is_eq (slice_cmp T.native_order (elements T.layout.size (slice_of (shown self.entry))) values.now) }
     {
         self.cmp_slice(values).is_eq()
     }
@@ -67,7 +68,7 @@ impl<'a, T: Portable> Ref<'a, ArchivedOption<T>> {
     pub fn cmp_option<U>(self, option: &Option<U>) -> Ordering
     where
         T: CompareNative<U>,
-        ensures { result ≡ option_order T.native_order (value_of T.layout.align (standing self.entry.bytes.now self.entry.pos self.entry.len)) option.now }
+        ensures { result ≡ option_order T.native_order (value_of T.layout.align (shown self.entry)) option.now }
     {
         match (self.as_ref(), option) {
             (None, None) => Ordering::Equal,
@@ -81,7 +82,7 @@ impl<'a, T: Portable> Ref<'a, ArchivedOption<T>> {
     pub fn eq_option<U>(self, option: &Option<U>) -> bool
     where
         T: CompareNative<U>,
-        ensures { result ≡ is_eq (option_order T.native_order (value_of T.layout.align (standing self.entry.bytes.now self.entry.pos self.entry.len)) option.now) }
+        ensures { result ≡ is_eq (option_order T.native_order (value_of T.layout.align (shown self.entry)) option.now) }
     {
         self.cmp_option(option).is_eq()
     }
