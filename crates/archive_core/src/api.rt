@@ -13,8 +13,11 @@ ghost use Rattle.archive_check.specs.Unshared.{IsNeverOpen};
 ghost use Rattle.archive_check.specs.declared.format.error.Error.TheVariants.{OutOfMemory};
 ghost use Rattle.archive_check.specs.Shape.{one};
 ghost use Rattle.archive_check.specs.Viewed.{Viewed};
+ghost use Rattle.archive_core.specs.ArchivesOf.{Leaves, LeavesOne, LeavesIn, IsArchiveOf, NoArchiveOf, EndsWithNone, IsArchiveIn, ReadsArchive, RefusesArchive, AsCheckIfNeverOpen, IsNew};
 ghost use Rattle.archive_core.specs.Causes.{HindersRegion, IsRegionRefused};
 ghost use Rattle.archive_core.specs.Plans.{at_start, unshared};
+ghost use Rattle.archive_core.specs.Seen.{ReadsView, RefusesView};
+ghost use Rattle.archive_core.specs.Sources.{OneUnstored};
 ghost use Rattle.archive_core.specs.Writing.{Archives};
 ghost use Rattle.archive_write.specs.Sharing.{KnowsNone};
 ghost use Rattle.archive_write.specs.Written.{GoesOn};
@@ -56,8 +59,7 @@ fn serialize_whole<
     A: Allocator + Copy + Drop,
     T: Serialize<HighSerializer<W, A>>,
 >(alloc: Global, resolvers: A, value: &T, writer: W) -> (W, Result<usize, Error>)
-    ensures archived { IfOk result.1 (λ root. Archives T.Archived.definitions (W.state writer).bytes (W.state result.0).bytes root T.Archived.shape T.Archived.layout.size
-        (T.keys value.now) (T.meaning value.now)) }
+    ensures archived { IfOk result.1 (Leaves T.Archive T.Archived.Portable value.now W.Keys writer result.0) }
     ensures goes_on { GoesOn (unshared (W.state writer)) (unshared (W.state result.0)) }
     ensures refused { IfErr result.1 (IsRegionRefused T.Archived.definitions (one T.Archived.shape) 0 (T.keys value.now) (T.meaning value.now)
         (unshared (W.state writer)) (unshared (W.state result.0))) }
@@ -76,12 +78,9 @@ pub fn to_bytes_in<W: Writer + Drop, T: Serialize<HighSerializer<W, Global>>>(
     value: &T,
     writer: W,
 ) -> Result<W, Error>
-    ensures archived { IfOk result (λ w. (root : ℕ) × Archives T.Archived.definitions (W.state writer).bytes (W.state w).bytes root T.Archived.shape T.Archived.layout.size
-        (T.keys value.now) (T.meaning value.now)) }
+    ensures archived { IfOk result (LeavesOne T.Archive T.Archived.Portable value.now W.Keys writer) }
     ensures goes_on { IfOk result (λ w. GoesOn (unshared (W.state writer)) (unshared (W.state w))) }
-    ensures refused { IfErr result (λ e. (end : W) × GoesOn (unshared (W.state writer)) (unshared (W.state end))
-        × IsRegionRefused T.Archived.definitions (one T.Archived.shape) 0 (T.keys value.now) (T.meaning value.now)
-        (unshared (W.state writer)) (unshared (W.state end)) e) }
+    ensures refused { IfErr result (EndsWithNone T.Archive T.Archived.Portable value.now W.Keys writer) }
 {
     to_bytes_in_with_alloc(alloc, value, writer, alloc)
 }
@@ -95,11 +94,9 @@ pub fn to_bytes_into<W: Writer, T: Serialize<W>>(
     value: &T,
     writer: &mut W,
 ) -> Result<usize, Error>
-    ensures archived { KnowsNone (W.state writer.old).states → IfOk result (λ root. Archives T.Archived.definitions (W.state writer.old).bytes
-        (W.state writer.new).bytes root T.Archived.shape T.Archived.layout.size (T.keys value.now) (T.meaning value.now)) }
+    ensures archived { IsNew W.Keys writer → IfOk result (LeavesIn T.Archive T.Archived.Portable value.now W.Keys writer) }
     ensures goes_on { GoesOn (W.state writer.old) (W.state writer.new) }
-    ensures refused { IfErr result (IsRegionRefused T.Archived.definitions (one T.Archived.shape) 0 (T.keys value.now) (T.meaning value.now)
-        (W.state writer.old) (W.state writer.new)) }
+    ensures refused { IfErr result (OneUnstored T.Archive T.Archived.Portable value.now W.Keys writer) }
 {
     serialize_with(alloc, value, writer)
 }
@@ -110,10 +107,8 @@ pub fn to_bytes<T: Serialize<HighSerializer<Vec<u8>, Global>>>(
     alloc: Global,
     value: &T,
 ) -> Result<Vec<u8>, Error>
-    ensures archived { IfOk result (λ bytes. (root : ℕ) × Archives T.Archived.definitions [] bytes.items root T.Archived.shape T.Archived.layout.size
-        (T.keys value.now) (T.meaning value.now)) }
-    ensures refused { IfErr result (λ e. (e ≡ OutOfMemory)
-        ⊎ HindersRegion T.Archived.definitions (one T.Archived.shape) 0 (T.keys value.now) (T.meaning value.now) at_start e) }
+    ensures archived { IfOk result (λ bytes. IsArchiveOf T.Archive T.Archived.Portable value.now bytes.items) }
+    ensures refused { IfErr result (NoArchiveOf T.Archive T.Archived.Portable value.now) }
 {
     to_bytes_with_alloc(alloc, value, alloc)
 }
@@ -267,12 +262,10 @@ pub fn from_bytes<T: Archive, D: Entries>(
 ) -> Result<T, Error>
 where
     T::Archived: Deserialize<T, D>,
-    ensures accepted { OnOk result (IsArchive T.Archived.definitions bytes.now (root_in bytes.now T.Archived.layout) T.Archived.shape) }
-    ensures read { IfOk result (λ t. ReadsWhole T.Archived.definitions bytes.now (root_in bytes.now T.Archived.layout) T.Archived.shape
-        (D.entry_of deserializer.old) (D.entry_of deserializer.new) (T.meaning t) (T.keys t)) }
-    ensures refused { IfErr result (RefusesWhole T.Archived.definitions bytes.now (root_in bytes.now T.Archived.layout) T.Archived.shape (D.entry_of deserializer.old)) }
-    ensures never_open { IsNeverOpen T.Archived.definitions T.Archived.shape (D.entry_of deserializer.old)
-        → IfErr result (RefusesAsCheck T.Archived.definitions bytes.now (root_in bytes.now T.Archived.layout) T.Archived.shape) }
+    ensures accepted { OnOk result (IsArchiveIn T.Archived.Portable bytes.now) }
+    ensures read { IfOk result (ReadsArchive T.Archived.Portable bytes.now D.Entries deserializer T.Archive) }
+    ensures refused { IfErr result (RefusesArchive T.Archived.Portable bytes.now D.Entries deserializer) }
+    ensures never_open { AsCheckIfNeverOpen T.Archived.Portable bytes.now D.Entries deserializer result }
 {
     let root = access::<T::Archived>(alloc, bytes)?;
     <T::Archived as Deserialize<T, D>>::deserialize(alloc, root, deserializer)
@@ -286,9 +279,8 @@ pub fn deserialize_using<T: Archive, U: Deserialize<T, D>, D: Entries>(
     view: Ref<'_, U>,
     deserializer: &mut D,
 ) -> Result<T, Error>
-    ensures read { IfOk result (λ t. ReadsBack U.definitions view.entry.bytes.now view.entry.pos U.pointee view.entry.len
-        (D.entry_of deserializer.old) (D.entry_of deserializer.new) (T.meaning t) (T.keys t)) }
-    ensures refused { IfErr result (RefusesReading U.definitions view.entry.bytes.now view.entry.pos U.pointee view.entry.len (D.entry_of deserializer.old)) }
+    ensures read { IfOk result (λ t. ReadsView view.entry D.Entries deserializer (T.meaning t) (T.keys t)) }
+    ensures refused { IfErr result (RefusesView view.entry D.Entries deserializer) }
 {
     U::deserialize(alloc, view, deserializer)
 }
@@ -301,9 +293,8 @@ pub fn deserialize<T: Archive, U: Deserialize<T, D>, D: Entries>(
     view: Ref<'_, U>,
     deserializer: &mut D,
 ) -> Result<T, Error>
-    ensures read { IfOk result (λ t. ReadsBack U.definitions view.entry.bytes.now view.entry.pos U.pointee view.entry.len
-        (D.entry_of deserializer.old) (D.entry_of deserializer.new) (T.meaning t) (T.keys t)) }
-    ensures refused { IfErr result (RefusesReading U.definitions view.entry.bytes.now view.entry.pos U.pointee view.entry.len (D.entry_of deserializer.old)) }
+    ensures read { IfOk result (λ t. ReadsView view.entry D.Entries deserializer (T.meaning t) (T.keys t)) }
+    ensures refused { IfErr result (RefusesView view.entry D.Entries deserializer) }
 {
     deserialize_using(alloc, view, deserializer)
 }

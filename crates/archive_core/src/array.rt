@@ -2,6 +2,7 @@
 
 ghost use Rattle.std.specs.Prelude.{◌≡◌, ◌+◌, ◌*◌, ◌<◌, ◌↔◌, IfSome, IsSome, IsTrue};
 ghost use Rattle.archive_check.specs.Shape.{one, array as array_shape};
+ghost use Rattle.archive_core.specs.Seen.{ShowsPartOf};
 ghost use Rattle.archive_core.specs.Views.{ShowsPart, element_in};
 
 use crate::traits::Portable;
@@ -28,7 +29,7 @@ impl<'a, T: Portable, const N: usize> Ref<'a, [T; N]> {
         ensures buffer { result.bytes.now ≡ self.entry.bytes.now }
         ensures position { result.pos ≡ self.entry.pos + index * T.layout.size }
         ensures length { result.len ≡ 0 }
-        ensures shows { ShowsPart T.definitions self.entry.bytes.now self.entry.pos (one (array_shape N T.shape)) self.entry.len result.pos T.pointee result.len (element_in index) }
+        ensures shows { ShowsPartOf result self.entry (element_in index) }
     {
         let RawView { bytes, pos, .. } = self.part();
         Ref::at(RawView {
@@ -44,7 +45,7 @@ impl<'a, T: Portable, const N: usize> Ref<'a, [T; N]> {
         ensures buffer { IfSome result (λ r. r.bytes.now ≡ self.entry.bytes.now) }
         ensures position { IfSome result (λ r. r.pos ≡ self.entry.pos + index * T.layout.size) }
         ensures length { IfSome result (λ r. r.len ≡ 0) }
-        ensures shows { IfSome result (λ r. ShowsPart T.definitions self.entry.bytes.now self.entry.pos (one (array_shape N T.shape)) self.entry.len r.pos T.pointee r.len (element_in index)) }
+        ensures shows { IfSome result (λ r. ShowsPartOf r self.entry (element_in index)) }
     {
         if index >= N {
             return None;

@@ -6,6 +6,7 @@ ghost use Rattle.archive_check.specs.Shape.{one, boxed};
 ghost use Rattle.archive_check.specs.Layout.{pointer_size};
 ghost use Rattle.archive_check.specs.Readable.{target_from};
 ghost use Rattle.archive_check.specs.Reads.{length_at};
+ghost use Rattle.archive_core.specs.Seen.{ShowsPartOf};
 ghost use Rattle.archive_core.specs.Views.{ShowsPart, boxed_in};
 
 mod inner;
@@ -100,7 +101,7 @@ impl<'a, T: PortablePointee> Ref<'a, ArchivedBox<T>> {
         ensures buffer { result.bytes.now ≡ self.entry.bytes.now }
         ensures position { result.pos ≡ target_from self.entry.bytes.now self.entry.pos self.entry.pos }
         ensures length { result.len ≡ length_at self.entry.bytes.now self.entry.pos T.pointee }
-        ensures shows { ShowsPart T.definitions self.entry.bytes.now self.entry.pos (one (boxed T.pointee)) self.entry.len result.pos T.pointee result.len boxed_in }
+        ensures shows { ShowsPartOf result self.entry boxed_in }
     {
         let RawView { bytes, pos, .. } = self.part();
         Ref::at(RawView {

@@ -5,6 +5,7 @@ ghost use Rattle.archive_check.specs.Reads.{bytes_at};
 ghost use Rattle.archive_check.specs.Shape.{variant_at};
 ghost use Rattle.archive_check.specs.VariantsLayout.{payload_at, payload_definitions};
 ghost use Rattle.archive_core.specs.Payloads.{payload_in};
+ghost use Rattle.archive_core.specs.Seen.{tag_of, ShowsValueOf};
 ghost use Rattle.archive_core.specs.Views.{ShowsPart};
 
 use crate::place::Place;
@@ -24,11 +25,11 @@ impl<'a, T: Choice> Ref<'a, T> {
     /// The view of part `i` of the variant that the tag names. Asks that this part is a `U`. Our own.
     pub fn payload<U: Portable>(self, i: usize) -> Ref<'a, U>
         requires part { payload_at T.Variants.variants (slice_index self.bytes.now self.pos) i ≡ Some U.shape }
-        requires definitions { payload_definitions T.Variants.definitions (slice_index self.bytes.now self.pos) i ≡ U.definitions }
+        requires definitions { payload_definitions T.Variants.definitions (tag_of self) i ≡ U.definitions }
         ensures buffer { result.bytes.now ≡ self.entry.bytes.now }
         ensures position { result.pos ≡ self.entry.pos + T.Variants.begin (slice_index self.entry.bytes.now self.entry.pos) i }
         ensures length { result.len ≡ 0 }
-        ensures shows { ShowsPart T.definitions self.entry.bytes.now self.entry.pos T.pointee self.entry.len result.pos U.pointee 0 (payload_in i) }
+        ensures shows { ShowsValueOf result self.entry (payload_in i) }
     {
         let RawView { bytes, pos, .. } = self.part();
         let tag = bytes[pos];

@@ -8,6 +8,7 @@ ghost use Rattle.std.specs.declared.cmp.Ordering.{Ordering as Order};
 ghost use Rattle.archive_check.specs.Viewed.{Viewed};
 ghost use Rattle.archive_core.specs.Compared.{Standing, standing};
 ghost use Rattle.archive_core.specs.ValueOrder.{OrdersValues};
+ghost use Rattle.archive_core.specs.Seen.{part_shown};
 
 mod leaves;
 mod lists;
@@ -36,12 +37,12 @@ pub trait Ordered: ArchivePointee {
     fn compare(a: RawView<'_>, b: RawView<'_>) -> Ordering
         requires first { Viewed Self.definitions a.bytes.now a.pos Self.pointee a.len }
         requires second { Viewed Self.definitions b.bytes.now b.pos Self.pointee b.len }
-        ensures { result ≡ order (standing a.entry.bytes.now a.entry.pos a.entry.len) (standing b.entry.bytes.now b.entry.pos b.entry.len) };
+        ensures { result ≡ order (part_shown a.entry) (part_shown b.entry) };
 
     /// Feeds a hasher with what a part shows. Asks that it was checked.
     fn hash_part<H: Hasher>(part: RawView<'_>, state: &mut H)
         requires { Viewed Self.definitions part.bytes.now part.pos Self.pointee part.len }
-        ensures { state.new ≡ fold H.write state.old (hash_input (standing part.entry.bytes.now part.entry.pos part.entry.len)) };
+        ensures { state.new ≡ fold H.write state.old (hash_input (part_shown part.entry)) };
 
     // It is a total order.
     ghost total: { IsTotalOrder order };

@@ -3,6 +3,7 @@
 ghost use Rattle.std.specs.Prelude.{◌≡◌, ◌+◌, Some};
 ghost use Rattle.archive_check.specs.PartsLayout.{part_at, definitions_at};
 ghost use Rattle.archive_core.specs.Fields.{field_in};
+ghost use Rattle.archive_core.specs.Seen.{ShowsValueOf};
 ghost use Rattle.archive_core.specs.Views.{ShowsPart};
 
 use crate::traits::{Portable, Record};
@@ -16,7 +17,7 @@ impl<'a, T: Record> Ref<'a, T> {
         ensures buffer { result.bytes.now ≡ self.entry.bytes.now }
         ensures position { result.pos ≡ self.entry.pos + T.Parts.begin 0 i }
         ensures length { result.len ≡ 0 }
-        ensures shows { ShowsPart T.definitions self.entry.bytes.now self.entry.pos T.pointee self.entry.len result.pos U.pointee 0 (field_in i) }
+        ensures shows { ShowsValueOf result self.entry (field_in i) }
     {
         let RawView { bytes, pos, .. } = self.part();
         Ref::at(RawView {

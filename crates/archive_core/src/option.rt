@@ -7,14 +7,18 @@ ghost use Rattle.archive_check.specs.Entries.{ReadsBack, RefusesReading};
 ghost use Rattle.archive_enum.specs.Choices.{option_shape, option_layout};
 ghost use Rattle.archive_core.specs.Causes.{HindersAt};
 ghost use Rattle.archive_core.specs.Options.{option_meaning, option_keys, option_flat, OptionBelongs, option_keyed, option_planned};
+ghost use Rattle.archive_core.specs.Placed.{Resolved, Hindered};
 ghost use Rattle.archive_core.specs.PlannedOwners.{one_planned};
+ghost use Rattle.archive_core.specs.Seen.{tag_of, StandsBeside, IsPartOf, RefusesPart};
+ghost use Rattle.archive_core.specs.Sources.{Read};
 ghost use Rattle.archive_core.specs.Standing.{StandsWith, view};
 ghost use Rattle.archive_core.specs.Writing.{Fresh, Resolves};
 
 use crate::place::Place;
 use crate::ser::serialize_one;
 use crate::traits::{
-    Archive, ArchiveUnsized, Deserialize, Entries, Keys, Portable, Serialize, SerializeUnsized,
+    Archive, ArchivePointee, ArchiveUnsized, Deserialize, Entries, Keys, Portable, Serialize,
+    SerializeUnsized,
 };
 use crate::variants::resolve_case;
 use crate::view::{RawView, Ref};
@@ -48,9 +52,9 @@ impl<T: Archive> Archive for Option<T> {
     ) -> Result<(), Error>
         requires fresh { Fresh (option_layout T.Archived.layout).size place.pos place.bytes.now }
         requires same_value { OptionBelongs T.belongs self.now resolver }
-        ensures resolved { OnOk result (Resolves T.Archived.definitions place.entry.pos place.exit.0.now (option_shape T.Archived.shape) (option_flat T.flat self.now resolver)) }
+        ensures resolved { OnOk result (Resolved ⟦<Self::Archived as Portable>⟧ place (option_flat T.flat self.now resolver)) }
         ensures same_length { length place.exit.0.now ≡ length place.entry.bytes.now }
-        ensures refused { IfErr result (HindersAt T.Archived.definitions (option_shape T.Archived.shape) (option_flat T.flat self.now resolver) place.entry.pos) }
+        ensures refused { IfErr result (Hindered ⟦<Self::Archived as Portable>⟧ place (option_flat T.flat self.now resolver)) }
     {
         let Place { bytes, pos, .. } = place;
         let value = match self {
@@ -104,12 +108,11 @@ impl<T: Serialize<S>, S: Writer + ResolverAlloc> SerializeUnsized<S> for Option<
 impl<'a, T: Portable> Ref<'a, ArchivedOption<T>> {
     /// The view of the value, if there is one; as `Option::as_ref`. What stands behind a `None` isn't looked at.
     pub fn as_ref(self) -> Option<Ref<'a, T>>
-        ensures tag { MatchOption result (slice_index self.entry.bytes.now self.entry.pos ≡ 0) (λ v. slice_index self.entry.bytes.now self.entry.pos ≡ 1) }
+        ensures tag { MatchOption result (tag_of self.entry ≡ 0) (λ v. tag_of self.entry ≡ 1) }
         ensures buffer { IfSome result (λ v. v.bytes.now ≡ self.entry.bytes.now) }
         ensures position { IfSome result (λ v. v.pos ≡ self.entry.pos + T.layout.align) }
         ensures length { IfSome result (λ v. v.len ≡ 0) }
-        ensures beside { IfSome result (λ v. StandsWith T.definitions self.entry.bytes.now
-            (view self.entry.pos (one (option_shape T.shape)) self.entry.len) (view v.pos T.pointee v.len)) }
+        ensures beside { IfSome result (λ v. StandsBeside v self.entry) }
     {
         let RawView { bytes, pos, .. } = self.part();
         if bytes[pos] == 0 {
@@ -125,7 +128,7 @@ impl<'a, T: Portable> Ref<'a, ArchivedOption<T>> {
 
     /// An iterator over the view of the value: it comes once, from either end, and then none; as `Option::iter`.
     pub fn iter(self) -> Iter<Ref<'a, T>>
-        ensures tag { MatchOption result (slice_index self.entry.bytes.now self.entry.pos ≡ 0) (λ v. slice_index self.entry.bytes.now self.entry.pos ≡ 1) }
+        ensures tag { MatchOption result (tag_of self.entry ≡ 0) (λ v. tag_of self.entry ≡ 1) }
         ensures buffer { IfSome result (λ v. v.bytes.now ≡ self.entry.bytes.now) }
         ensures position { IfSome result (λ v. v.pos ≡ self.entry.pos + T.layout.align) }
         ensures length { IfSome result (λ v. v.len ≡ 0) }
@@ -141,10 +144,9 @@ impl<T: Archive, A: Portable + Deserialize<T, D>, D: Entries> Deserialize<Option
         part: RawView<'_>,
         deserializer: &mut D,
     ) -> Result<Option<T>, Error>
-        requires { Viewed A.definitions part.bytes.now part.pos (one (option_shape A.shape)) part.len }
-        ensures read { IfOk result (λ t. ReadsBack A.definitions part.entry.bytes.now part.entry.pos (one (option_shape A.shape)) part.entry.len
-            (D.entry_of deserializer.old) (D.entry_of deserializer.new) (option_meaning T.meaning t) (option_keys T.keys t)) }
-        ensures refused { IfErr result (RefusesReading A.definitions part.entry.bytes.now part.entry.pos (one (option_shape A.shape)) part.entry.len (D.entry_of deserializer.old)) }
+        requires { IsPartOf ⟦<Self as ArchivePointee>⟧ part }
+        ensures read { IfOk result (Read ⟦<Self as ArchivePointee>⟧ part D.Entries deserializer ⟦<Option<T> as Archive>⟧) }
+        ensures refused { IfErr result (RefusesPart ⟦<Self as ArchivePointee>⟧ part D.Entries deserializer) }
     {
         let view: Ref<'_, ArchivedOption<A>> = Ref::at(part);
         match view.as_ref() {

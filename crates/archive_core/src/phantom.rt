@@ -7,14 +7,18 @@ ghost use Rattle.archive_check.specs.Entries.{ReadsBack};
 ghost use Rattle.archive_check.specs.Value.{product, no_value};
 ghost use Rattle.archive_check.specs.Viewed.{Viewed};
 ghost use Rattle.archive_core.specs.Causes.{HindersAt, IsRefused};
+ghost use Rattle.archive_core.specs.KindsWritten.{NothingSerialized, NothingRefused};
 ghost use Rattle.archive_core.specs.Nothing.{empty_product_keyed, empty_product_planned};
+ghost use Rattle.archive_core.specs.Placed.{Resolved};
 ghost use Rattle.archive_core.specs.Plans.{Serialized};
+ghost use Rattle.archive_core.specs.Seen.{IsPartOf};
+ghost use Rattle.archive_core.specs.Sources.{Read};
 ghost use Rattle.archive_core.specs.Writing.{Fresh, Resolves};
 ghost use Rattle.archive_write.specs.Written.{GoesOn};
 
 use crate::place::Place;
 use crate::slice::copy_slice;
-use crate::traits::{Archive, Copied, CopyOptimization, Deserialize, Entries, Keys, Serialize};
+use crate::traits::{Archive, ArchivePointee, Copied, CopyOptimization, Deserialize, Entries, Keys, Portable, Serialize};
 use crate::view::RawView;
 use archive_check::format::error::Error;
 use archive_write::ser::Writer;
@@ -43,7 +47,7 @@ impl<T> Archive for PhantomData<T> {
     fn resolve(&self, _resolver: (), place: Place<'_, PhantomData<T>>) -> Result<(), Error>
         requires fresh { Fresh 0 place.pos place.bytes.now }
         requires same_value { ⊤ }
-        ensures resolved { OnOk result (Resolves no_definition place.entry.pos place.exit.0.now (parts no_part) (product no_value)) }
+        ensures resolved { OnOk result (Resolved ⟦<Self::Archived as Portable>⟧ place (product no_value)) }
         ensures same_length { length place.exit.0.now ≡ length place.entry.bytes.now }
         ensures refused { IfErr result (HindersAt no_definition (parts no_part) (product no_value) place.entry.pos) }
         ensures succeeds { IsOk result }
@@ -86,10 +90,10 @@ impl<T> Copied for PhantomData<T> {
 impl<T, S: Writer + Keys> Serialize<S> for PhantomData<T> {
     #[tactic(auto, using(crate::proofs::Nothing::serialized_empty_product, crate::proofs::Causes::goes_nowhere))]
     fn serialize(&self, _serializer: &mut S) -> Result<(), Error>
-        ensures serialized { IfOk result (λ _. Serialized no_definition (parts no_part) [] (product no_value) (product no_value) (S.state _serializer.old) (S.state _serializer.new)) }
+        ensures serialized { IfOk result (NothingSerialized S.Keys _serializer) }
         ensures same_value { ⊤ }
         ensures goes_on { GoesOn (S.state _serializer.old) (S.state _serializer.new) }
-        ensures refused { IfErr result (IsRefused no_definition (parts no_part) [] (product no_value) (S.state _serializer.old) (S.state _serializer.new)) }
+        ensures refused { IfErr result (NothingRefused S.Keys _serializer) }
         ensures unchanged { S.state _serializer.new ≡ S.state _serializer.old }
         ensures succeeds { IsOk result }
     {
@@ -103,9 +107,8 @@ impl<T, D: Entries> Deserialize<PhantomData<T>, D> for PhantomData<T> {
         part: RawView<'_>,
         _deserializer: &mut D,
     ) -> Result<PhantomData<T>, Error>
-        requires { Viewed no_definition part.bytes.now part.pos (one (parts no_part)) part.len }
-        ensures read { IfOk result (λ _. ReadsBack no_definition part.entry.bytes.now part.entry.pos (one (parts no_part)) part.entry.len
-            (D.entry_of _deserializer.old) (D.entry_of _deserializer.new) (product no_value) []) }
+        requires { IsPartOf ⟦<Self as ArchivePointee>⟧ part }
+        ensures read { IfOk result (Read ⟦<Self as ArchivePointee>⟧ part D.Entries _deserializer ⟦<Self as Archive>⟧) }
         ensures unchanged { D.entry_of _deserializer.new ≡ D.entry_of _deserializer.old }
         ensures succeeds { IsOk result }
     {

@@ -11,9 +11,13 @@ ghost use Rattle.archive_check.specs.Entries.{ReadsBack};
 ghost use Rattle.archive_check.specs.Layout.{kind_size};
 ghost use Rattle.archive_core.specs.Keyed.{number_keyed};
 ghost use Rattle.archive_core.specs.Causes.{HindersAt, IsRefused};
+ghost use Rattle.archive_core.specs.KindsWritten.{NumberSerialized, NumberRefused, LeafSerialized, LeafRefused, LeafResolved, LeafHindered};
+ghost use Rattle.archive_core.specs.Placed.{Resolved, Hindered};
 ghost use Rattle.archive_core.specs.Planned.{leaf_planned};
 ghost use Rattle.archive_core.specs.PlannedOwners.{one_planned, pointee_planned};
 ghost use Rattle.archive_core.specs.Plans.{Serialized};
+ghost use Rattle.archive_core.specs.Seen.{IsPartOf};
+ghost use Rattle.archive_core.specs.Sources.{Read};
 ghost use Rattle.archive_core.specs.Writing.{Fresh, Resolves};
 ghost use Rattle.archive_write.specs.Written.{GoesOn};
 
@@ -98,9 +102,9 @@ impl<N: Source> Archive for N {
     fn resolve(&self, _resolver: (), place: Place<'_, N::Format>) -> Result<(), Error>
         requires fresh { Fresh (N.Format.layout.size) place.pos place.bytes.now }
         requires same_value { ⊤ }
-        ensures resolved { OnOk result (Resolves N.Format.definitions place.entry.pos place.exit.0.now (N.Format.shape) (number (N.value_of self.now))) }
+        ensures resolved { OnOk result (Resolved N.Format.Portable place (number (N.value_of self.now))) }
         ensures same_length { length place.exit.0.now ≡ length place.entry.bytes.now }
-        ensures refused { IfErr result (HindersAt N.Format.definitions N.Format.shape (number (N.value_of self.now)) place.entry.pos) }
+        ensures refused { IfErr result (Hindered N.Format.Portable place (number (N.value_of self.now))) }
         ensures written { place.exit.0.now ≡ N.bytes_of self.now }
         ensures succeeds { IsOk result }
     {
@@ -125,10 +129,10 @@ impl<N: Source> Archive for N {
 impl<N: Source, S: Writer + Keys> Serialize<S> for N {
     #[tactic(auto, using(crate::proofs::Causes::goes_nowhere))]
     fn serialize(&self, _serializer: &mut S) -> Result<(), Error>
-        ensures serialized { IfOk result (λ _. Serialized N.Format.definitions N.Format.shape [] (number (N.value_of self.now)) (number (N.value_of self.now)) (S.state _serializer.old) (S.state _serializer.new)) }
+        ensures serialized { IfOk result (NumberSerialized N.Format.Portable (N.value_of self.now) S.Keys _serializer) }
         ensures same_value { ⊤ }
         ensures goes_on { GoesOn (S.state _serializer.old) (S.state _serializer.new) }
-        ensures refused { IfErr result (IsRefused N.Format.definitions N.Format.shape [] (number (N.value_of self.now)) (S.state _serializer.old) (S.state _serializer.new)) }
+        ensures refused { IfErr result (NumberRefused N.Format.Portable (N.value_of self.now) S.Keys _serializer) }
         ensures unchanged { S.state _serializer.new ≡ S.state _serializer.old }
         ensures succeeds { IsOk result }
     {
@@ -185,9 +189,9 @@ impl<N: Native> Archive for LittleEndian<N> {
     fn resolve(&self, _resolver: (), place: Place<'_, LittleEndian<N>>) -> Result<(), Error>
         requires fresh { Fresh (kind_size N.kind) place.pos place.bytes.now }
         requires same_value { ⊤ }
-        ensures resolved { OnOk result (Resolves no_definition place.entry.pos place.exit.0.now (leaf N.kind) (number (N.value_of self.now))) }
+        ensures resolved { OnOk result (LeafResolved N.kind place (N.value_of self.now)) }
         ensures same_length { length place.exit.0.now ≡ length place.entry.bytes.now }
-        ensures refused { IfErr result (HindersAt no_definition (leaf N.kind) (number (N.value_of self.now)) place.entry.pos) }
+        ensures refused { IfErr result (LeafHindered N.kind place (N.value_of self.now)) }
         ensures written { place.exit.0.now ≡ N.bytes_of self.now }
         ensures succeeds { IsOk result }
     {
@@ -212,10 +216,10 @@ impl<N: Native> Archive for LittleEndian<N> {
 impl<N: Native, S: Writer + Keys> Serialize<S> for LittleEndian<N> {
     #[tactic(auto, using(crate::proofs::Causes::goes_nowhere))]
     fn serialize(&self, _serializer: &mut S) -> Result<(), Error>
-        ensures serialized { IfOk result (λ _. Serialized no_definition (leaf N.kind) [] (number (N.value_of self.now)) (number (N.value_of self.now)) (S.state _serializer.old) (S.state _serializer.new)) }
+        ensures serialized { IfOk result (LeafSerialized N.kind (N.value_of self.now) S.Keys _serializer) }
         ensures same_value { ⊤ }
         ensures goes_on { GoesOn (S.state _serializer.old) (S.state _serializer.new) }
-        ensures refused { IfErr result (IsRefused no_definition (leaf N.kind) [] (number (N.value_of self.now)) (S.state _serializer.old) (S.state _serializer.new)) }
+        ensures refused { IfErr result (LeafRefused N.kind (N.value_of self.now) S.Keys _serializer) }
         ensures unchanged { S.state _serializer.new ≡ S.state _serializer.old }
         ensures succeeds { IsOk result }
     {
@@ -256,9 +260,8 @@ impl<N: Source, D: Entries> Deserialize<N, D> for LittleEndian<N> {
         part: RawView<'_>,
         _deserializer: &mut D,
     ) -> Result<N, Error>
-        requires { Viewed no_definition part.bytes.now part.pos (one (leaf N.kind)) part.len }
-        ensures read { IfOk result (λ n. ReadsBack no_definition part.entry.bytes.now part.entry.pos (one (leaf N.kind)) part.entry.len
-            (D.entry_of _deserializer.old) (D.entry_of _deserializer.new) (number (N.value_of n)) []) }
+        requires { IsPartOf ⟦<Self as ArchivePointee>⟧ part }
+        ensures read { IfOk result (Read ⟦<Self as ArchivePointee>⟧ part D.Entries _deserializer ⟦<N as Archive>⟧) }
         ensures number { IfOk result (λ n. n ≡ N.number_of (bytes_at part.entry.bytes.now part.entry.pos N.byte_count)) }
         ensures unchanged { D.entry_of _deserializer.new ≡ D.entry_of _deserializer.old }
         ensures succeeds { IsOk result }
@@ -274,9 +277,8 @@ impl<N: Native, D: Entries> Deserialize<LittleEndian<N>, D> for LittleEndian<N> 
         part: RawView<'_>,
         _deserializer: &mut D,
     ) -> Result<LittleEndian<N>, Error>
-        requires { Viewed no_definition part.bytes.now part.pos (one (leaf N.kind)) part.len }
-        ensures read { IfOk result (λ n. ReadsBack no_definition part.entry.bytes.now part.entry.pos (one (leaf N.kind)) part.entry.len
-            (D.entry_of _deserializer.old) (D.entry_of _deserializer.new) (number (N.value_of n)) []) }
+        requires { IsPartOf ⟦<Self as ArchivePointee>⟧ part }
+        ensures read { IfOk result (Read ⟦<Self as ArchivePointee>⟧ part D.Entries _deserializer ⟦<Self as Archive>⟧) }
         ensures number { IfOk result (λ n. n ≡ N.number_of (bytes_at part.entry.bytes.now part.entry.pos N.byte_count)) }
         ensures unchanged { D.entry_of _deserializer.new ≡ D.entry_of _deserializer.old }
         ensures succeeds { IsOk result }
@@ -292,9 +294,8 @@ impl<N: Plain, D: Entries> Deserialize<N, D> for N {
         part: RawView<'_>,
         _deserializer: &mut D,
     ) -> Result<N, Error>
-        requires { Viewed N.definitions part.bytes.now part.pos N.pointee part.len }
-        ensures read { IfOk result (λ n. ReadsBack N.definitions part.entry.bytes.now part.entry.pos N.pointee part.entry.len
-            (D.entry_of _deserializer.old) (D.entry_of _deserializer.new) (number (N.value_of n)) []) }
+        requires { IsPartOf ⟦<Self as ArchivePointee>⟧ part }
+        ensures read { IfOk result (Read ⟦<Self as ArchivePointee>⟧ part D.Entries _deserializer ⟦<N as Archive>⟧) }
         ensures number { IfOk result (λ n. n ≡ N.number_of (bytes_at part.entry.bytes.now part.entry.pos N.byte_count)) }
         ensures unchanged { D.entry_of _deserializer.new ≡ D.entry_of _deserializer.old }
         ensures succeeds { IsOk result }

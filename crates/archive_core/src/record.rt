@@ -5,7 +5,10 @@ ghost use Rattle.archive_check.specs.Entries.{ReadsBack, RefusesReading};
 ghost use Rattle.archive_check.specs.Value.{product};
 ghost use Rattle.archive_check.specs.Viewed.{Viewed};
 ghost use Rattle.archive_core.specs.Causes.{HindersAt, IsRefused};
+ghost use Rattle.archive_core.specs.KindsWritten.{RecordSerialized, RecordRefused};
+ghost use Rattle.archive_core.specs.Placed.{Resolved, Hindered};
 ghost use Rattle.archive_core.specs.Plans.{Serialized};
+ghost use Rattle.archive_core.specs.Seen.{IsPartOf, RefusesPart, ReadsRecord};
 ghost use Rattle.archive_core.specs.Writing.{Fresh, Resolves};
 ghost use Rattle.archive_write.specs.Written.{GoesOn};
 
@@ -26,12 +29,10 @@ pub fn serialize_record<
     X: Record<Parts = P::Archived>,
     S: Writer + Keys,
 >(whole: &T, serializer: &mut S) -> Result<P::Resolvers, Error>
-    ensures serialized { IfOk result (λ r. Serialized X.definitions X.shape (P.keys whole.now) (product (P.meanings whole.now))
-        (product (P.flats whole.now r)) (S.state serializer.old) (S.state serializer.new)) }
+    ensures serialized { IfOk result (RecordSerialized X.Portable P.keys P.meanings P.flats whole.now S.Keys serializer) }
     ensures same_values { IfOk result (λ r. P.belongs whole.now r) }
     ensures goes_on { GoesOn (S.state serializer.old) (S.state serializer.new) }
-    ensures refused { IfErr result (IsRefused X.definitions X.shape (P.keys whole.now) (product (P.meanings whole.now))
-        (S.state serializer.old) (S.state serializer.new)) }
+    ensures refused { IfErr result (RecordRefused X.Portable P.keys P.meanings whole.now S.Keys serializer) }
 {
     P::serialize_parts(whole, serializer)
 }
@@ -46,9 +47,9 @@ pub fn resolve_record<T, P: SourceParts<T>, X: Record<Parts = P::Archived>>(
 ) -> Result<(), Error>
     requires fresh { Fresh X.layout.size place.pos place.bytes.now }
     requires same_values { P.belongs whole.now resolvers }
-    ensures resolved { OnOk result (Resolves X.definitions place.entry.pos place.exit.0.now X.shape (product (P.flats whole.now resolvers))) }
+    ensures resolved { OnOk result (Resolved X.Portable place (product (P.flats whole.now resolvers))) }
     ensures same_length { length place.exit.0.now ≡ length place.entry.bytes.now }
-    ensures refused { IfErr result (HindersAt X.definitions X.shape (product (P.flats whole.now resolvers)) place.entry.pos) }
+    ensures refused { IfErr result (Hindered X.Portable place (product (P.flats whole.now resolvers))) }
 {
     let Place { bytes, pos, .. } = place;
     P::resolve_parts(whole, resolvers, pos, 0, bytes)
@@ -63,10 +64,9 @@ pub fn deserialize_record<X: Record, T: OwnedParts, D: Entries>(
 ) -> Result<T, Error>
 where
     X::Parts: DeserializeParts<T, D>,
-    requires { Viewed X.definitions part.bytes.now part.pos X.pointee part.len }
-    ensures read { IfOk result (λ t. ReadsBack X.definitions part.entry.bytes.now part.entry.pos X.pointee part.entry.len
-        (D.entry_of deserializer.old) (D.entry_of deserializer.new) (product (T.meanings t)) (T.keys t)) }
-    ensures refused { IfErr result (RefusesReading X.definitions part.entry.bytes.now part.entry.pos X.pointee part.entry.len (D.entry_of deserializer.old)) }
+    requires { IsPartOf X.ArchivePointee part }
+    ensures read { IfOk result (ReadsRecord X.ArchivePointee part D.Entries deserializer T.meanings T.keys) }
+    ensures refused { IfErr result (RefusesPart X.ArchivePointee part D.Entries deserializer) }
 {
     let RawView { bytes, pos, .. } = part;
     <X::Parts as DeserializeParts<T, D>>::deserialize_parts(alloc, bytes, pos, 0, deserializer)

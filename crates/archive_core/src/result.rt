@@ -9,12 +9,15 @@ ghost use Rattle.archive_enum.specs.Results.{result_shape, result_layout};
 ghost use Rattle.archive_core.specs.Causes.{HindersAt};
 ghost use Rattle.archive_core.specs.PlannedOwners.{one_planned};
 ghost use Rattle.archive_core.specs.Results.{result_meaning, result_keys, result_flat, ResultBelongs, result_keyed, result_planned};
+ghost use Rattle.archive_core.specs.Seen.{tag_of, IsPartOf, RefusesPart, IsBufferOf, IsBehind};
+ghost use Rattle.archive_core.specs.Sources.{Read, ResolvedAs, HinderedAs};
 ghost use Rattle.archive_core.specs.Writing.{Fresh, Resolves};
 
 use crate::place::Place;
 use crate::ser::serialize_one;
 use crate::traits::{
-    Archive, ArchiveUnsized, Deserialize, Entries, Keys, Portable, Serialize, SerializeUnsized,
+    Archive, ArchivePointee, ArchiveUnsized, Deserialize, Entries, Keys, Portable, Serialize,
+    SerializeUnsized,
 };
 use crate::variants::resolve_case;
 use crate::view::{RawView, Ref};
@@ -48,11 +51,9 @@ impl<T: Archive, E: Archive> Archive for Result<T, E> {
     ) -> Result<(), Error>
         requires fresh { Fresh (result_layout T.Archived.layout E.Archived.layout).size place.pos place.bytes.now }
         requires same_value { ResultBelongs T.belongs E.belongs self.now resolver }
-        ensures resolved { OnOk result (Resolves (both T.Archived.definitions E.Archived.definitions) place.entry.pos place.exit.0.now
-            (result_shape T.Archived.shape E.Archived.shape) (result_flat T.flat E.flat self.now resolver)) }
+        ensures resolved { OnOk result (ResolvedAs ⟦<Self as Archive>⟧ ⟦<Self::Archived as Portable>⟧ place self.now resolver) }
         ensures same_length { length place.exit.0.now ≡ length place.entry.bytes.now }
-        ensures refused { IfErr result (HindersAt (both T.Archived.definitions E.Archived.definitions) (result_shape T.Archived.shape E.Archived.shape)
-            (result_flat T.flat E.flat self.now resolver) place.entry.pos) }
+        ensures refused { IfErr result (HinderedAs ⟦<Self as Archive>⟧ ⟦<Self::Archived as Portable>⟧ place self.now resolver) }
     {
         let Place { bytes, pos, .. } = place;
         match self {
@@ -114,9 +115,9 @@ impl<T: Serialize<S>, E: Serialize<S>, S: Writer + ResolverAlloc> SerializeUnsiz
 impl<'a, T: Portable, E: Portable> Ref<'a, ArchivedResult<T, E>> {
     /// The view of the value or of the error; as `Result::as_ref`. What stands behind it isn't looked at.
     pub fn as_ref(self) -> Result<Ref<'a, T>, Ref<'a, E>>
-        ensures tag { MatchResult result (λ v. slice_index self.entry.bytes.now self.entry.pos ≡ 0) (λ e. slice_index self.entry.bytes.now self.entry.pos ≡ 1) }
-        ensures buffer { MatchResult result (λ v. v.bytes.now ≡ self.entry.bytes.now) (λ e. e.bytes.now ≡ self.entry.bytes.now) }
-        ensures position { MatchResult result (λ v. v.pos ≡ self.entry.pos + T.layout.align) (λ e. e.pos ≡ self.entry.pos + E.layout.align) }
+        ensures tag { MatchResult result (λ v. tag_of self.entry ≡ 0) (λ e. tag_of self.entry ≡ 1) }
+        ensures buffer { MatchResult result (IsBufferOf self.entry) (IsBufferOf self.entry) }
+        ensures position { MatchResult result (IsBehind self.entry T.layout.align) (IsBehind self.entry E.layout.align) }
         ensures length { MatchResult result (λ v. v.len ≡ 0) (λ e. e.len ≡ 0) }
     {
         let RawView { bytes, pos, .. } = self.part();
@@ -138,7 +139,7 @@ impl<'a, T: Portable, E: Portable> Ref<'a, ArchivedResult<T, E>> {
 
     /// An iterator over the view of the value, if it is an `Ok`: it comes once, from either end, and then none; as `Result::iter`.
     pub fn iter(self) -> Iter<Ref<'a, T>>
-        ensures tag { MatchOption result (slice_index self.entry.bytes.now self.entry.pos ≡ 1) (λ v. slice_index self.entry.bytes.now self.entry.pos ≡ 0) }
+        ensures tag { MatchOption result (tag_of self.entry ≡ 1) (λ v. tag_of self.entry ≡ 0) }
         ensures buffer { IfSome result (λ v. v.bytes.now ≡ self.entry.bytes.now) }
         ensures position { IfSome result (λ v. v.pos ≡ self.entry.pos + T.layout.align) }
         ensures length { IfSome result (λ v. v.len ≡ 0) }
@@ -162,11 +163,9 @@ impl<
         part: RawView<'_>,
         deserializer: &mut D,
     ) -> Result<Result<T, E>, Error>
-        requires { Viewed (both A.definitions B.definitions) part.bytes.now part.pos (one (result_shape A.shape B.shape)) part.len }
-        ensures read { IfOk result (λ r. ReadsBack (both A.definitions B.definitions) part.entry.bytes.now part.entry.pos (one (result_shape A.shape B.shape)) part.entry.len
-            (D.entry_of deserializer.old) (D.entry_of deserializer.new) (result_meaning T.meaning E.meaning r) (result_keys T.keys E.keys r)) }
-        ensures refused { IfErr result (RefusesReading (both A.definitions B.definitions) part.entry.bytes.now part.entry.pos (one (result_shape A.shape B.shape)) part.entry.len
-            (D.entry_of deserializer.old)) }
+        requires { IsPartOf ⟦<Self as ArchivePointee>⟧ part }
+        ensures read { IfOk result (Read ⟦<Self as ArchivePointee>⟧ part D.Entries deserializer ⟦<Result<T, E> as Archive>⟧) }
+        ensures refused { IfErr result (RefusesPart ⟦<Self as ArchivePointee>⟧ part D.Entries deserializer) }
     {
         let view: Ref<'_, ArchivedResult<A, B>> = Ref::at(part);
         match view.as_ref() {

@@ -18,10 +18,14 @@ ghost use Rattle.archive_check.specs.WriterState.{KeepsKeys};
 ghost use Rattle.archive_write.specs.Written.{GoesOn};
 ghost use Rattle.archive_core.specs.Causes.{HindersAt, IsRefused, IsRegionRefused};
 ghost use Rattle.archive_core.specs.Keyed.{text_keyed};
+ghost use Rattle.archive_core.specs.KindsWritten.{TextStored, TextUnstored, NoTextSince, StringSerialized, StringRefused, NoStringSince, StringResolved, StringHindered};
 ghost use Rattle.archive_core.specs.Offsets.{distance, IsTooFar};
+ghost use Rattle.archive_core.specs.Placed.{IsTooFarFrom, AtOnce, Added};
 ghost use Rattle.archive_core.specs.Planned.{string_planned, text_planned};
 ghost use Rattle.archive_core.specs.PlannedOwners.{is_long, one_planned};
 ghost use Rattle.archive_core.specs.Plans.{Serialized, SerializedRegion};
+ghost use Rattle.archive_core.specs.Seen.{ShowsValue, IsPartOf};
+ghost use Rattle.archive_core.specs.Sources.{Read};
 ghost use Rattle.archive_core.specs.Strings.{string_form, string_flat};
 ghost use Rattle.archive_core.specs.TextPlans.{HindersStringAt, ExplainsTextRefusal, ExplainsStringRefusal};
 ghost use Rattle.archive_core.specs.Writing.{Fresh, Resolves};
@@ -198,14 +202,14 @@ impl<'a> ArchiveUnsized for Text<'a> {
 impl<'a, S: Writer + Keys> SerializeUnsized<S> for Text<'a> {
     #[tactic(auto, using(crate::proofs::Planned::serialized_text, crate::proofs::Planned::text_refused, crate::proofs::Planned::long_text_refused, crate::proofs::Causes::goes_nowhere, crate::proofs::Causes::goes_written, crate::proofs::Causes::goes_refused))]
     fn serialize_unsized(&self, serializer: &mut S) -> Result<usize, Error>
-        ensures serialized { IfOk result (λ p. SerializedRegion no_definition text (length self.now.text.now) [] (text_value self.now.text.now) p (S.state serializer.old) (S.state serializer.new)) }
+        ensures serialized { IfOk result (TextStored self.now.text.now S.Keys serializer) }
         ensures goes_on { GoesOn (S.state serializer.old) (S.state serializer.new) }
-        ensures refused { IfErr result (IsRegionRefused no_definition text (length self.now.text.now) [] (text_value self.now.text.now) (S.state serializer.old) (S.state serializer.new)) }
+        ensures refused { IfErr result (TextUnstored self.now.text.now S.Keys serializer) }
         ensures there { IfOk result (λ p. p ≡ length (S.state serializer.old).bytes) }
         ensures text { OnOk result ((S.state serializer.new).bytes ≡ (S.state serializer.old).bytes ++ self.now.text.now) }
         ensures keys { KeepsKeys (S.state serializer.old).states (S.state serializer.new).states }
-        ensures too_long { 4294967295 < length self.now.text.now → IsErrOf result LengthTooLarge × (S.state serializer.new ≡ S.state serializer.old) }
-        ensures cause { IfErr result (ExplainsTextRefusal self.now.text.now (S.place serializer.old) (S.state serializer.old) (S.state serializer.new)) }
+        ensures too_long { 4294967295 < length self.now.text.now → AtOnce result LengthTooLarge S.Keys serializer }
+        ensures cause { IfErr result (NoTextSince self.now.text.now S.place S.Keys serializer) }
     {
         if let Err(error) = self.archived_metadata() {
             return Err(error);
@@ -222,9 +226,8 @@ impl<D: Entries> DeserializeUnsized<String, D> for ArchivedStr {
         part: RawView<'_>,
         _deserializer: &mut D,
     ) -> Result<String, Error>
-        requires { Viewed no_definition part.bytes.now part.pos text part.len }
-        ensures read { IfOk result (λ s. ReadsBack no_definition part.entry.bytes.now part.entry.pos text part.entry.len
-            (D.entry_of _deserializer.old) (D.entry_of _deserializer.new) (text_value (string_bytes s)) []) }
+        requires { IsPartOf ⟦<Self as ArchivePointee>⟧ part }
+        ensures read { IfOk result (Read ⟦<Self as ArchivePointee>⟧ part D.Entries _deserializer ⟦<String as Archive>⟧) }
         ensures text { IfOk result (λ s. string_bytes s ≡ bytes_at part.entry.bytes.now part.entry.pos part.entry.len) }
         ensures unchanged { D.entry_of _deserializer.new ≡ D.entry_of _deserializer.old }
         ensures refused { IfErr result (λ e. e ≡ OutOfMemory) }
@@ -244,17 +247,16 @@ impl ArchivedString {
         value: &str,
         serializer: &mut S,
     ) -> Result<StringResolver, Error>
-        ensures serialized { IfOk result (λ r. Serialized no_definition str_shape [] (text_value value.now) (string_flat value.now r) (S.state serializer.old) (S.state serializer.new)) }
+        ensures serialized { IfOk result (StringSerialized value.now S.Keys serializer) }
         ensures held { OnOk result (length value.now ≤ 1073741823) }
         ensures goes_on { GoesOn (S.state serializer.old) (S.state serializer.new) }
-        ensures refused { IfErr result (IsRefused no_definition str_shape [] (text_value value.now) (S.state serializer.old) (S.state serializer.new)) }
+        ensures refused { IfErr result (StringRefused value.now S.Keys serializer) }
         ensures inline { length value.now ≤ 8 → IsOk result × (S.state serializer.new ≡ S.state serializer.old) }
-        ensures too_long { 1073741823 < length value.now → IsErrOf result StringTooLong × (S.state serializer.new ≡ S.state serializer.old) }
+        ensures too_long { 1073741823 < length value.now → AtOnce result StringTooLong S.Keys serializer }
         ensures near { 8 < length value.now → OnOk result (length (S.state serializer.old).bytes ≤ 4294967295) }
-        ensures elsewhere { 8 < length value.now → IfOk result (λ r. (r ≡ length (S.state serializer.old).bytes)
-            × ((S.state serializer.new).bytes ≡ (S.state serializer.old).bytes ++ value.now)) }
+        ensures elsewhere { 8 < length value.now → IfOk result (Added value.now S.Keys serializer) }
         ensures keys { KeepsKeys (S.state serializer.old).states (S.state serializer.new).states }
-        ensures cause { IfErr result (ExplainsStringRefusal value.now (S.place serializer.old) (S.state serializer.old) (S.state serializer.new)) }
+        ensures cause { IfErr result (NoStringSince value.now S.place S.Keys serializer) }
     {
         if value.len() <= repr::INLINE_CAPACITY {
             return Ok(StringResolver { pos: 0 });
@@ -280,11 +282,11 @@ impl ArchivedString {
     ) -> Result<(), Error>
         requires sized { length place.bytes.now ≡ 8 }
         requires held { length value.now ≤ 1073741823 }
-        ensures resolved { OnOk result (Resolves no_definition place.entry.pos place.exit.0.now str_shape (string_flat value.now resolver)) }
+        ensures resolved { OnOk result (StringResolved value.now place resolver) }
         ensures written { OnOk result (place.exit.0.now ≡ string_form value.now place.entry.pos resolver) }
         ensures inline { length value.now ≤ 8 → IsOk result }
         ensures fits { 8 < length value.now → OnOk result (FitsSigned w32 (distance place.entry.pos resolver)) }
-        ensures refused { IfErr result (λ e. (place.exit.0.now ≡ place.entry.bytes.now) × IsTooFar e (distance place.entry.pos resolver)) }
+        ensures refused { IfErr result (IsTooFarFrom place resolver) }
         ensures same_length { length place.exit.0.now ≡ length place.entry.bytes.now }
     {
         let Place { bytes, pos, .. } = place;
@@ -320,9 +322,9 @@ impl Archive for String {
     ) -> Result<(), Error>
         requires fresh { Fresh 8 place.pos place.bytes.now }
         requires same_value { length (string_bytes self.now) ≤ 1073741823 }
-        ensures resolved { OnOk result (Resolves no_definition place.entry.pos place.exit.0.now str_shape (string_flat (string_bytes self.now) resolver)) }
+        ensures resolved { OnOk result (StringResolved (string_bytes self.now) place resolver) }
         ensures same_length { length place.exit.0.now ≡ length place.entry.bytes.now }
-        ensures refused { IfErr result (HindersAt no_definition str_shape (string_flat (string_bytes self.now) resolver) place.entry.pos) }
+        ensures refused { IfErr result (StringHindered (string_bytes self.now) place resolver) }
         ensures cause { IfErr result (HindersStringAt (string_bytes self.now) resolver place.entry.pos) }
         ensures written { OnOk result (place.exit.0.now ≡ string_form (string_bytes self.now) place.entry.pos resolver) }
         ensures inline { length (string_bytes self.now) ≤ 8 → IsOk result }
@@ -334,16 +336,15 @@ impl Archive for String {
 
 impl<S: Writer + Keys> Serialize<S> for String {
     fn serialize(&self, serializer: &mut S) -> Result<StringResolver, Error>
-        ensures serialized { IfOk result (λ r. Serialized no_definition str_shape [] (text_value (string_bytes self.now)) (string_flat (string_bytes self.now) r) (S.state serializer.old) (S.state serializer.new)) }
+        ensures serialized { IfOk result (StringSerialized (string_bytes self.now) S.Keys serializer) }
         ensures same_value { OnOk result (length (string_bytes self.now) ≤ 1073741823) }
         ensures goes_on { GoesOn (S.state serializer.old) (S.state serializer.new) }
-        ensures refused { IfErr result (IsRefused no_definition str_shape [] (text_value (string_bytes self.now)) (S.state serializer.old) (S.state serializer.new)) }
+        ensures refused { IfErr result (StringRefused (string_bytes self.now) S.Keys serializer) }
         ensures keys { KeepsKeys (S.state serializer.old).states (S.state serializer.new).states }
         ensures inline { length (string_bytes self.now) ≤ 8 → IsOk result × (S.state serializer.new ≡ S.state serializer.old) }
-        ensures too_long { 1073741823 < length (string_bytes self.now) → IsErrOf result StringTooLong × (S.state serializer.new ≡ S.state serializer.old) }
-        ensures elsewhere { 8 < length (string_bytes self.now) → IfOk result (λ r. (r ≡ length (S.state serializer.old).bytes)
-            × ((S.state serializer.new).bytes ≡ (S.state serializer.old).bytes ++ string_bytes self.now)) }
-        ensures cause { IfErr result (ExplainsStringRefusal (string_bytes self.now) (S.place serializer.old) (S.state serializer.old) (S.state serializer.new)) }
+        ensures too_long { 1073741823 < length (string_bytes self.now) → AtOnce result StringTooLong S.Keys serializer }
+        ensures elsewhere { 8 < length (string_bytes self.now) → IfOk result (Added (string_bytes self.now) S.Keys serializer) }
+        ensures cause { IfErr result (NoStringSince (string_bytes self.now) S.place S.Keys serializer) }
     {
         ArchivedString::serialize_from_str(self.as_str(), serializer)
     }
@@ -382,9 +383,8 @@ impl<D: Entries> Deserialize<String, D> for ArchivedString {
         part: RawView<'_>,
         _deserializer: &mut D,
     ) -> Result<String, Error>
-        requires { Viewed no_definition part.bytes.now part.pos (one str_shape) part.len }
-        ensures read { IfOk result (λ s. ReadsBack no_definition part.entry.bytes.now part.entry.pos (one str_shape) part.entry.len
-            (D.entry_of _deserializer.old) (D.entry_of _deserializer.new) (text_value (string_bytes s)) []) }
+        requires { IsPartOf ⟦<Self as ArchivePointee>⟧ part }
+        ensures read { IfOk result (Read ⟦<Self as ArchivePointee>⟧ part D.Entries _deserializer ⟦<String as Archive>⟧) }
         ensures text { IfOk result (λ s. string_bytes s ≡ string_text part.entry.bytes.now part.entry.pos) }
         ensures unchanged { D.entry_of _deserializer.new ≡ D.entry_of _deserializer.old }
         ensures refused { IfErr result (λ e. e ≡ OutOfMemory) }
@@ -398,7 +398,7 @@ impl<'a> Ref<'a, ArchivedStr> {
     /// The text.
     pub fn as_str(self) -> &'a str
         ensures text { result.now ≡ bytes_at self.entry.bytes.now self.entry.pos self.entry.len }
-        ensures says { Says no_definition self.entry.bytes.now self.entry.pos text self.entry.len (text_value result.now) }
+        ensures says { ShowsValue self.entry (text_value result.now) }
     {
         let RawView { bytes, pos, len } = self.part();
         read_text(bytes, pos, len)
@@ -430,7 +430,7 @@ impl<'a> Ref<'a, ArchivedString> {
     /// The text, wherever it stands.
     pub fn as_str(self) -> &'a str
         ensures text { result.now ≡ string_text self.entry.bytes.now self.entry.pos }
-        ensures says { Says no_definition self.entry.bytes.now self.entry.pos (one str_shape) self.entry.len (text_value result.now) }
+        ensures says { ShowsValue self.entry (text_value result.now) }
     {
         let RawView { bytes, pos, .. } = self.part();
         if is_out_of_line(bytes, pos) {

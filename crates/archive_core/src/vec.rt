@@ -6,6 +6,7 @@ ghost use Rattle.archive_check.specs.Shape.{one, run, vec as vec_shape};
 ghost use Rattle.archive_check.specs.Readable.{target_from};
 ghost use Rattle.archive_check.specs.Reads.{u32_at};
 ghost use Rattle.archive_check.specs.SelfCheck.Owners.{vec_check, vec_reaches};
+ghost use Rattle.archive_core.specs.Seen.{ShowsPartOf};
 ghost use Rattle.archive_core.specs.Views.{ShowsPart, itself};
 
 mod copying;
@@ -84,7 +85,7 @@ impl<'a, T: Portable> Ref<'a, ArchivedVec<T>> {
         ensures buffer { result.bytes.now ≡ self.entry.bytes.now }
         ensures position { result.pos ≡ target_from self.entry.bytes.now self.entry.pos self.entry.pos }
         ensures length { result.len ≡ u32_at self.entry.bytes.now (self.entry.pos + 4) }
-        ensures shows { ShowsPart T.definitions self.entry.bytes.now self.entry.pos (one (vec_shape T.shape)) self.entry.len result.pos (run T.shape) result.len itself }
+        ensures shows { ShowsPartOf result self.entry itself }
     {
         let RawView { bytes, pos, .. } = self.part();
         Ref::at(RawView {

@@ -98,33 +98,39 @@ fn read_leaf<N: Native>(part: RawView<'_>) -> N
 }
 
 impl<'a, N: Native> Ref<'a, LittleEndian<N>> {
+    ghost use Rattle.archive_core.specs.Seen.{ShowsValue};
+
     /// The number.
     #[tactic(auto, using(archive_check::proofs::ViewedValues::leaf_readable))]
     pub fn get(self) -> N
         ensures number { result ≡ N.number_of (bytes_at self.entry.bytes.now self.entry.pos N.byte_count) }
-        ensures says { Says no_definition self.entry.bytes.now self.entry.pos (one (leaf N.kind)) self.entry.len (number (N.value_of result)) }
+        ensures says { ShowsValue self.entry (number (N.value_of result)) }
     {
         read_leaf(self.part())
     }
 }
 
 impl<'a, N: Integer> Ref<'a, NonZero<N>> {
+    ghost use Rattle.archive_core.specs.Seen.{ShowsValue};
+
     /// The number, which isn't 0.
     pub fn get(self) -> N
         ensures number { result ≡ N.number_of (bytes_at self.entry.bytes.now self.entry.pos N.byte_count) }
         ensures not_zero { is_zero (N.value_of result) ≡ false }
-        ensures says { Says no_definition self.entry.bytes.now self.entry.pos (one (leaf (non_zero N.sign N.width))) self.entry.len (number (N.value_of result)) }
+        ensures says { ShowsValue self.entry (number (N.value_of result)) }
     {
         read_leaf(self.part())
     }
 }
 
 impl<'a, N: Plain> Ref<'a, N> {
+    ghost use Rattle.archive_core.specs.Seen.{ShowsValue};
+
     /// The value: nothing, a bool, or a number of one byte.
     #[tactic(auto, using(archive_check::proofs::ViewedValues::leaf_readable))]
     pub fn get(self) -> N
         ensures number { result ≡ N.number_of (bytes_at self.entry.bytes.now self.entry.pos N.byte_count) }
-        ensures says { Says N.definitions self.entry.bytes.now self.entry.pos N.pointee self.entry.len (number (N.value_of result)) }
+        ensures says { ShowsValue self.entry (number (N.value_of result)) }
     {
         read_leaf(self.part())
     }

@@ -11,6 +11,7 @@ ghost use Rattle.archive_check.specs.OneSchema.{IsSchemaOf-prop};
 ghost use Rattle.archive_check.specs.Pushes.{FewPushed};
 ghost use Rattle.archive_check.specs.Schemas.{IsSchemaOf, ExplainsNoSchema};
 ghost use Rattle.archive_check.specs.Unshared.{IsNeverOpen};
+ghost use Rattle.archive_core.specs.ArchivesOf.{IsArchiveIn, ReadsArchive, RefusesArchive, AsCheckIfNeverOpen};
 
 use crate::traits::{Archive, Deserialize, Entries, Portable};
 use crate::view::{RawView, Ref};
@@ -113,12 +114,10 @@ impl<T: Portable> Access<T> {
     ) -> Result<U, Error>
     where
         T: Deserialize<U, D>,
-        ensures accepted { OnOk result (IsArchive T.definitions bytes.now (root_in bytes.now T.layout) T.shape) }
-        ensures read { IfOk result (λ t. ReadsWhole T.definitions bytes.now (root_in bytes.now T.layout) T.shape
-            (D.entry_of deserializer.old) (D.entry_of deserializer.new) (U.meaning t) (U.keys t)) }
-        ensures refused { IfErr result (RefusesWhole T.definitions bytes.now (root_in bytes.now T.layout) T.shape (D.entry_of deserializer.old)) }
-        ensures never_open { IsNeverOpen T.definitions T.shape (D.entry_of deserializer.old)
-            → IfErr result (RefusesAsCheck T.definitions bytes.now (root_in bytes.now T.layout) T.shape) }
+        ensures accepted { OnOk result (IsArchiveIn T.Portable bytes.now) }
+        ensures read { IfOk result (ReadsArchive T.Portable bytes.now D.Entries deserializer U.Archive) }
+        ensures refused { IfErr result (RefusesArchive T.Portable bytes.now D.Entries deserializer) }
+        ensures never_open { AsCheckIfNeverOpen T.Portable bytes.now D.Entries deserializer result }
     {
         let root = self.access(bytes)?;
         <T as Deserialize<U, D>>::deserialize(self.alloc, root, deserializer)

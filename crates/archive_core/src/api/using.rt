@@ -3,6 +3,7 @@
 ghost use Rattle.std.specs.Prelude.{◌≡◌, ◌⊎◌, IfOk, IfErr, ℕ, []};
 ghost use Rattle.archive_check.specs.Shape.{one};
 ghost use Rattle.archive_check.specs.declared.format.error.Error.TheVariants.{OutOfMemory};
+ghost use Rattle.archive_core.specs.ArchivesOf.{LeavesOne, IsArchiveOf, NoArchiveOf, EndsWithNone, Stored, Unstored};
 ghost use Rattle.archive_core.specs.Causes.{HindersRegion, IsRegionRefused};
 ghost use Rattle.archive_core.specs.Plans.{SerializedRegion, at_start, unshared};
 ghost use Rattle.archive_core.specs.Writing.{Archives};
@@ -20,12 +21,9 @@ pub fn to_bytes_in_with_alloc<
     A: Allocator + Copy + Drop,
     T: Serialize<HighSerializer<W, A>>,
 >(alloc: Global, value: &T, writer: W, resolvers: A) -> Result<W, Error>
-    ensures archived { IfOk result (λ w. (root : ℕ) × Archives T.Archived.definitions (W.state writer).bytes (W.state w).bytes root T.Archived.shape T.Archived.layout.size
-        (T.keys value.now) (T.meaning value.now)) }
+    ensures archived { IfOk result (LeavesOne T.Archive T.Archived.Portable value.now W.Keys writer) }
     ensures goes_on { IfOk result (λ w. GoesOn (unshared (W.state writer)) (unshared (W.state w))) }
-    ensures refused { IfErr result (λ e. (end : W) × GoesOn (unshared (W.state writer)) (unshared (W.state end))
-        × IsRegionRefused T.Archived.definitions (one T.Archived.shape) 0 (T.keys value.now) (T.meaning value.now)
-        (unshared (W.state writer)) (unshared (W.state end)) e) }
+    ensures refused { IfErr result (EndsWithNone T.Archive T.Archived.Portable value.now W.Keys writer) }
 {
     let (writer, root) = serialize_whole(alloc, resolvers, value, writer);
     root?;
@@ -38,10 +36,8 @@ pub fn to_bytes_with_alloc<A: Allocator + Copy + Drop, T: Serialize<HighSerializ
     value: &T,
     resolvers: A,
 ) -> Result<Vec<u8>, Error>
-    ensures archived { IfOk result (λ bytes. (root : ℕ) × Archives T.Archived.definitions [] bytes.items root T.Archived.shape T.Archived.layout.size
-        (T.keys value.now) (T.meaning value.now)) }
-    ensures refused { IfErr result (λ e. (e ≡ OutOfMemory)
-        ⊎ HindersRegion T.Archived.definitions (one T.Archived.shape) 0 (T.keys value.now) (T.meaning value.now) at_start e) }
+    ensures archived { IfOk result (λ bytes. IsArchiveOf T.Archive T.Archived.Portable value.now bytes.items) }
+    ensures refused { IfErr result (NoArchiveOf T.Archive T.Archived.Portable value.now) }
 {
     let (bytes, root) = serialize_whole(alloc, resolvers, value, Vec::new(alloc));
     root?;
@@ -54,11 +50,9 @@ pub fn serialize_using<S: Writer + Keys, T: SerializeUnsized<S>>(
     value: &T,
     serializer: &mut S,
 ) -> Result<usize, Error>
-    ensures serialized { IfOk result (λ p. SerializedRegion T.Archived.definitions T.Archived.pointee (T.source_length value.now) (T.keys value.now)
-        (T.meaning value.now) p (S.state serializer.old) (S.state serializer.new)) }
+    ensures serialized { IfOk result (Stored T.ArchiveUnsized T.Archived.ArchivePointee value.now S.Keys serializer) }
     ensures goes_on { GoesOn (S.state serializer.old) (S.state serializer.new) }
-    ensures refused { IfErr result (IsRegionRefused T.Archived.definitions T.Archived.pointee (T.source_length value.now) (T.keys value.now)
-        (T.meaning value.now) (S.state serializer.old) (S.state serializer.new)) }
+    ensures refused { IfErr result (Unstored T.ArchiveUnsized T.Archived.ArchivePointee value.now S.Keys serializer) }
 {
     value.serialize_unsized(serializer)
 }

@@ -6,6 +6,8 @@ ghost use Rattle.archive_check.specs.Shape.{boxed, one};
 ghost use Rattle.archive_check.specs.Value.{box, hole};
 ghost use Rattle.archive_core.specs.Causes.{HindersAt};
 ghost use Rattle.archive_core.specs.Inner.{IsBoxed, IsNotBoxed};
+ghost use Rattle.archive_core.specs.KindsWritten.{BoxCase, InnerResolved, InnerHindered};
+ghost use Rattle.archive_core.specs.Sources.{InnerBoxed, InnerUnboxed};
 ghost use Rattle.archive_core.specs.Variants.{HoldsCase};
 ghost use Rattle.archive_core.specs.Writing.{Resolves, to_pointee};
 ghost use Rattle.archive_write.specs.Written.{GoesOn};
@@ -29,11 +31,9 @@ pub fn serialize_inner<S: Writer + ResolverAlloc, T: Archive>(
     serializer: &mut S,
 ) -> Result<BoxResolver, Error>
     requires same_value { T.belongs value.now resolver }
-    ensures boxed { IfOk result (λ r. IsBoxed T.Archived.definitions T.Archived.shape (T.keys value.now) (T.meaning value.now)
-        (T.flat value.now resolver) r (S.state serializer.old) (S.state serializer.new)) }
+    ensures boxed { IfOk result (InnerBoxed T.Archive T.Archived.Portable value.now resolver S.Keys serializer) }
     ensures goes_on { GoesOn (S.state serializer.old) (S.state serializer.new) }
-    ensures refused { IfErr result (IsNotBoxed T.Archived.definitions T.Archived.shape (T.keys value.now) (T.meaning value.now)
-        (T.flat value.now resolver) (S.state serializer.old) (S.state serializer.new)) }
+    ensures refused { IfErr result (InnerUnboxed T.Archive T.Archived.Portable value.now resolver S.Keys serializer) }
 {
     let alloc = serializer.resolver_alloc();
     write_inner(alloc, value, resolver, serializer)
@@ -47,11 +47,9 @@ fn write_inner<A: Allocator + Drop, S: Writer, T: Archive>(
     serializer: &mut S,
 ) -> Result<BoxResolver, Error>
     requires same_value { T.belongs value.now resolver }
-    ensures boxed { IfOk result (λ r. IsBoxed T.Archived.definitions T.Archived.shape (T.keys value.now) (T.meaning value.now)
-        (T.flat value.now resolver) r (S.state serializer.old) (S.state serializer.new)) }
+    ensures boxed { IfOk result (InnerBoxed T.Archive T.Archived.Portable value.now resolver S.Keys serializer) }
     ensures goes_on { GoesOn (S.state serializer.old) (S.state serializer.new) }
-    ensures refused { IfErr result (IsNotBoxed T.Archived.definitions T.Archived.shape (T.keys value.now) (T.meaning value.now)
-        (T.flat value.now resolver) (S.state serializer.old) (S.state serializer.new)) }
+    ensures refused { IfErr result (InnerUnboxed T.Archive T.Archived.Portable value.now resolver S.Keys serializer) }
 {
     serializer.align_for::<T::Archived>()?;
     let pos = serializer.resolve_aligned(alloc, value, resolver)?;
@@ -73,9 +71,9 @@ pub fn resolve_inner<T: Portable>(
     requires zeroed { IsZeroed bytes.old }
     requires few { 8 ≤ length bytes.old }
     requires ends { pos + length bytes.old < 2 ^ 64 }
-    ensures held { OnOk result (HoldsCase T.definitions pos tag 4 4 (boxed (one T.shape)) (box (hole (to_pointee resolver (one T.shape) 0))) bytes.new) }
+    ensures held { OnOk result (BoxCase T.Portable pos tag resolver bytes.new) }
     ensures same_length { length bytes.new ≡ length bytes.old }
-    ensures refused { IfErr result (HindersAt T.definitions (boxed (one T.shape)) (box (hole (to_pointee resolver (one T.shape) 0))) (pos + 4)) }
+    ensures refused { IfErr result (InnerHindered T.Portable (pos + 4) resolver) }
 {
     bytes[0] = tag;
     resolve_box::<T>(resolver, pos + 4, &mut bytes[4..8])
@@ -88,9 +86,9 @@ fn resolve_box<T: Portable>(
     bytes: &mut [u8],
 ) -> Result<(), Error>
     requires sized { length bytes.old ≡ 4 }
-    ensures resolved { OnOk result (Resolves T.definitions pos bytes.new (boxed (one T.shape)) (box (hole (to_pointee resolver (one T.shape) 0)))) }
+    ensures resolved { OnOk result (InnerResolved T.Portable pos resolver bytes.new) }
     ensures same_length { length bytes.new ≡ 4 }
-    ensures refused { IfErr result (HindersAt T.definitions (boxed (one T.shape)) (box (hole (to_pointee resolver (one T.shape) 0))) pos) }
+    ensures refused { IfErr result (InnerHindered T.Portable pos resolver) }
 {
     ArchivedBox::<T>::resolve_from_raw_parts(resolver, 0, Place::new(pos, bytes))
 }

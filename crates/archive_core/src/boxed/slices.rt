@@ -9,12 +9,16 @@ ghost use Rattle.archive_check.specs.Viewed.{Viewed};
 ghost use Rattle.archive_check.specs.declared.format.error.Error.TheVariants.{LengthTooLarge, OutOfMemory};
 ghost use Rattle.archive_core.specs.Causes.{HindersAt, IsRefused};
 ghost use Rattle.archive_core.specs.Keyed.{box_keyed, each_keyed, text_keyed};
+ghost use Rattle.archive_core.specs.KindsWritten.{SliceBoxResolved, SliceBoxHindered, TextBoxResolved, TextBoxHindered, TextBoxed, TextUnboxed};
 ghost use Rattle.archive_core.specs.Offsets.{distance, IsTooFar};
 ghost use Rattle.archive_core.specs.OwnerBytes.{owner_bytes};
+ghost use Rattle.archive_core.specs.Placed.{PointsTo, AtOnce};
 ghost use Rattle.archive_core.specs.Planned.{text_planned};
 ghost use Rattle.archive_core.specs.PlannedOwners.{box_planned, one_planned, slice_planned};
 ghost use Rattle.archive_core.specs.Plans.{Serialized};
 ghost use Rattle.archive_core.specs.Runs.{each_keys, each_meaning};
+ghost use Rattle.archive_core.specs.Seen.{IsPartOf, RefusesPart};
+ghost use Rattle.archive_core.specs.Sources.{Read, SliceBoxed, SliceUnboxed};
 ghost use Rattle.archive_core.specs.Writing.{Fresh, Resolves, to_pointee};
 ghost use Rattle.archive_write.specs.Written.{GoesOn};
 
@@ -24,8 +28,8 @@ use crate::ser::serialize_one;
 use crate::slice::{ArchivedSlice, read_elements, serialize_slice};
 use crate::string::{ArchivedStr, Text};
 use crate::traits::{
-    Archive, ArchiveUnsized, Deserialize, DeserializeUnsized, Entries, Portable, Serialize,
-    SerializeUnsized,
+    Archive, ArchivePointee, ArchiveUnsized, Deserialize, DeserializeUnsized, Entries, Portable,
+    Serialize, SerializeUnsized,
 };
 use crate::view::{RawView, Ref};
 use archive_check::format::error::Error;
@@ -72,12 +76,10 @@ impl<T: Archive> Archive for BoxSlice<T> {
     ) -> Result<(), Error>
         requires fresh { Fresh 8 place.pos place.bytes.now }
         requires same_value { length self.now.items.items ≤ 4294967295 }
-        ensures resolved { OnOk result (Resolves T.Archived.definitions place.entry.pos place.exit.0.now (boxed (run T.Archived.shape))
-            (box (hole (to_pointee resolver (run T.Archived.shape) (length self.now.items.items))))) }
+        ensures resolved { OnOk result (SliceBoxResolved T.Archived.Portable place resolver (length self.now.items.items)) }
         ensures same_length { length place.exit.0.now ≡ length place.entry.bytes.now }
-        ensures refused { IfErr result (HindersAt T.Archived.definitions (boxed (run T.Archived.shape))
-            (box (hole (to_pointee resolver (run T.Archived.shape) (length self.now.items.items)))) place.entry.pos) }
-        ensures written { OnOk result (place.exit.0.now ≡ owner_bytes true (distance place.entry.pos resolver) (length self.now.items.items)) }
+        ensures refused { IfErr result (SliceBoxHindered T.Archived.Portable place resolver (length self.now.items.items)) }
+        ensures written { OnOk result (PointsTo place true resolver (length self.now.items.items)) }
         ensures cause { IfErr result (λ e. IsTooFar e (distance place.entry.pos resolver)) }
     {
         let Place { bytes, pos, .. } = place;
@@ -95,14 +97,11 @@ impl<S: Writer + ResolverAlloc, T: Serialize<S>> Serialize<S> for BoxSlice<T> {
     /// `serialize_unsized` of a `Slice` refuses.
     #[tactic(auto, using(crate::proofs::Owners::serialized_box, crate::proofs::Owners::box_refused, crate::proofs::Owners::far_box_refused))]
     fn serialize(&self, serializer: &mut S) -> Result<BoxResolver, Error>
-        ensures serialized { IfOk result (λ r. Serialized T.Archived.definitions (boxed (run T.Archived.shape)) (each_keys T.keys self.now.items.items)
-            (box (list (each_meaning T.meaning self.now.items.items))) (box (hole (to_pointee r (run T.Archived.shape) (length self.now.items.items))))
-            (S.state serializer.old) (S.state serializer.new)) }
+        ensures serialized { IfOk result (SliceBoxed T.Archive T.Archived.Portable self.now.items.items S.Keys serializer) }
         ensures same_value { OnOk result (length self.now.items.items ≤ 4294967295) }
         ensures goes_on { GoesOn (S.state serializer.old) (S.state serializer.new) }
-        ensures refused { IfErr result (IsRefused T.Archived.definitions (boxed (run T.Archived.shape)) (each_keys T.keys self.now.items.items)
-            (box (list (each_meaning T.meaning self.now.items.items))) (S.state serializer.old) (S.state serializer.new)) }
-        ensures too_long { 4294967295 < length self.now.items.items → IsErrOf result LengthTooLarge × (S.state serializer.new ≡ S.state serializer.old) }
+        ensures refused { IfErr result (SliceUnboxed T.Archive T.Archived.Portable self.now.items.items S.Keys serializer) }
+        ensures too_long { 4294967295 < length self.now.items.items → AtOnce result LengthTooLarge S.Keys serializer }
     {
         let pos = serialize_slice(self.items.as_slice(), serializer)?;
         if pos > u32::MAX as usize {
@@ -148,10 +147,9 @@ impl<T: Portable + Deserialize<U, D>, U: Archive + Drop, D: Entries> Deserialize
         part: RawView<'_>,
         deserializer: &mut D,
     ) -> Result<BoxSlice<U>, Error>
-        requires { Viewed T.definitions part.bytes.now part.pos (one (boxed (run T.shape))) part.len }
-        ensures read { IfOk result (λ b. ReadsBack T.definitions part.entry.bytes.now part.entry.pos (one (boxed (run T.shape))) part.entry.len
-            (D.entry_of deserializer.old) (D.entry_of deserializer.new) (box (list (each_meaning U.meaning b.items.items))) (each_keys U.keys b.items.items)) }
-        ensures refused { IfErr result (RefusesReading T.definitions part.entry.bytes.now part.entry.pos (one (boxed (run T.shape))) part.entry.len (D.entry_of deserializer.old)) }
+        requires { IsPartOf ⟦<Self as ArchivePointee>⟧ part }
+        ensures read { IfOk result (Read ⟦<Self as ArchivePointee>⟧ part D.Entries deserializer ⟦<BoxSlice<U> as Archive>⟧) }
+        ensures refused { IfErr result (RefusesPart ⟦<Self as ArchivePointee>⟧ part D.Entries deserializer) }
     {
         let view: Ref<'_, ArchivedBox<ArchivedSlice<T>>> = Ref::at(part);
         let items = read_elements::<T, U, D>(alloc, view.get().part(), deserializer)?;
@@ -183,12 +181,10 @@ impl Archive for BoxStr {
     ) -> Result<(), Error>
         requires fresh { Fresh 8 place.pos place.bytes.now }
         requires same_value { length (string_bytes self.now.text) ≤ 4294967295 }
-        ensures resolved { OnOk result (Resolves no_definition place.entry.pos place.exit.0.now (boxed text_pointee)
-            (box (hole (to_pointee resolver text_pointee (length (string_bytes self.now.text)))))) }
+        ensures resolved { OnOk result (TextBoxResolved place resolver (length (string_bytes self.now.text))) }
         ensures same_length { length place.exit.0.now ≡ length place.entry.bytes.now }
-        ensures refused { IfErr result (HindersAt no_definition (boxed text_pointee)
-            (box (hole (to_pointee resolver text_pointee (length (string_bytes self.now.text))))) place.entry.pos) }
-        ensures written { OnOk result (place.exit.0.now ≡ owner_bytes true (distance place.entry.pos resolver) (length (string_bytes self.now.text))) }
+        ensures refused { IfErr result (TextBoxHindered place resolver (length (string_bytes self.now.text))) }
+        ensures written { OnOk result (PointsTo place true resolver (length (string_bytes self.now.text))) }
         ensures cause { IfErr result (λ e. IsTooFar e (distance place.entry.pos resolver)) }
     {
         let Place { bytes, pos, .. } = place;
@@ -205,12 +201,11 @@ impl<S: Writer + ResolverAlloc> Serialize<S> for BoxStr {
     /// 4,294,967,295 bytes, with `PositionTooLarge`, 4, where it stands above 4,294,967,295, and else as the writer refuses.
     #[tactic(auto, using(crate::proofs::Owners::serialized_box, crate::proofs::Owners::box_refused, crate::proofs::Owners::far_box_refused))]
     fn serialize(&self, serializer: &mut S) -> Result<BoxResolver, Error>
-        ensures serialized { IfOk result (λ r. Serialized no_definition (boxed text_pointee) [] (box (text_value (string_bytes self.now.text)))
-            (box (hole (to_pointee r text_pointee (length (string_bytes self.now.text))))) (S.state serializer.old) (S.state serializer.new)) }
+        ensures serialized { IfOk result (TextBoxed (string_bytes self.now.text) S.Keys serializer) }
         ensures same_value { OnOk result (length (string_bytes self.now.text) ≤ 4294967295) }
         ensures goes_on { GoesOn (S.state serializer.old) (S.state serializer.new) }
-        ensures refused { IfErr result (IsRefused no_definition (boxed text_pointee) [] (box (text_value (string_bytes self.now.text))) (S.state serializer.old) (S.state serializer.new)) }
-        ensures too_long { 4294967295 < length (string_bytes self.now.text) → IsErrOf result LengthTooLarge × (S.state serializer.new ≡ S.state serializer.old) }
+        ensures refused { IfErr result (TextUnboxed (string_bytes self.now.text) S.Keys serializer) }
+        ensures too_long { 4294967295 < length (string_bytes self.now.text) → AtOnce result LengthTooLarge S.Keys serializer }
     {
         let pos = Text {
             text: self.text.as_str(),
@@ -257,9 +252,8 @@ impl<D: Entries> Deserialize<BoxStr, D> for ArchivedBox<ArchivedStr> {
         part: RawView<'_>,
         deserializer: &mut D,
     ) -> Result<BoxStr, Error>
-        requires { Viewed no_definition part.bytes.now part.pos (one (boxed text_pointee)) part.len }
-        ensures read { IfOk result (λ b. ReadsBack no_definition part.entry.bytes.now part.entry.pos (one (boxed text_pointee)) part.entry.len
-            (D.entry_of deserializer.old) (D.entry_of deserializer.new) (box (text_value (string_bytes b.text))) []) }
+        requires { IsPartOf ⟦<Self as ArchivePointee>⟧ part }
+        ensures read { IfOk result (Read ⟦<Self as ArchivePointee>⟧ part D.Entries deserializer ⟦<BoxStr as Archive>⟧) }
         ensures refused { IfErr result (λ e. e ≡ OutOfMemory) }
     {
         let view: Ref<'_, ArchivedBox<ArchivedStr>> = Ref::at(part);

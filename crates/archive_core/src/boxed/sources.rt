@@ -8,10 +8,13 @@ ghost use Rattle.archive_check.specs.Value.{box, hole};
 ghost use Rattle.archive_check.specs.declared.format.error.Error.TheVariants.{LengthTooLarge};
 ghost use Rattle.archive_core.specs.Causes.{HindersAt, IsRefused};
 ghost use Rattle.archive_core.specs.Keyed.{box_keyed};
+ghost use Rattle.archive_core.specs.KindsWritten.{BoxResolved, BoxHindered};
 ghost use Rattle.archive_core.specs.Offsets.{distance, IsTooFar};
 ghost use Rattle.archive_core.specs.OwnerBytes.{owner_bytes};
+ghost use Rattle.archive_core.specs.Placed.{IsTooFarFrom, PointsTo, IsNoPointer};
 ghost use Rattle.archive_core.specs.PlannedOwners.{one_planned, boxed_one_planned};
 ghost use Rattle.archive_core.specs.Plans.{Serialized};
+ghost use Rattle.archive_core.specs.Sources.{BoxSerialized, BoxRefused, OneBoxed, OneUnboxed};
 ghost use Rattle.archive_core.specs.Writing.{Fresh, Resolves, to_pointee};
 ghost use Rattle.archive_write.specs.Written.{GoesOn};
 
@@ -57,10 +60,9 @@ impl<T: PortablePointee> ArchivedBox<T> {
         value: &U,
         serializer: &mut S,
     ) -> Result<BoxResolver, Error>
-        ensures serialized { IfOk result (λ r. Serialized T.definitions (boxed T.pointee) (U.keys value.now) (box (U.meaning value.now))
-            (box (hole (to_pointee r T.pointee (U.source_length value.now)))) (S.state serializer.old) (S.state serializer.new)) }
+        ensures serialized { IfOk result (BoxSerialized T.ArchivePointee U.ArchiveUnsized value.now S.Keys serializer) }
         ensures goes_on { GoesOn (S.state serializer.old) (S.state serializer.new) }
-        ensures refused { IfErr result (IsRefused T.definitions (boxed T.pointee) (U.keys value.now) (box (U.meaning value.now)) (S.state serializer.old) (S.state serializer.new)) }
+        ensures refused { IfErr result (BoxRefused T.ArchivePointee U.ArchiveUnsized value.now S.Keys serializer) }
     {
         let pos = value.serialize_unsized(serializer)?;
         let Ok(pos) = u32::try_from(pos) else {
@@ -80,11 +82,11 @@ impl<T: PortablePointee> ArchivedBox<T> {
     ) -> Result<(), Error>
         requires sized { length place.bytes.now ≡ pointer_size T.pointee }
         requires plain { has_length T.pointee ≡ false → count ≡ 0 }
-        ensures resolved { OnOk result (Resolves T.definitions place.entry.pos place.exit.0.now (boxed T.pointee) (box (hole (to_pointee resolver T.pointee count)))) }
-        ensures written { OnOk result (place.exit.0.now ≡ owner_bytes (has_length T.pointee) (distance place.entry.pos resolver) count) }
+        ensures resolved { OnOk result (BoxResolved T.ArchivePointee place resolver count) }
+        ensures written { OnOk result (PointsTo place (has_length T.pointee) resolver count) }
         ensures fits { OnOk result (FitsSigned w32 (distance place.entry.pos resolver)) }
-        ensures refused { IfErr result (HindersAt T.definitions (boxed T.pointee) (box (hole (to_pointee resolver T.pointee count))) place.entry.pos) }
-        ensures cause { IfErr result (λ e. (place.exit.0.now ≡ place.entry.bytes.now) × IsTooFar e (distance place.entry.pos resolver)) }
+        ensures refused { IfErr result (BoxHindered T.ArchivePointee place resolver count) }
+        ensures cause { IfErr result (IsTooFarFrom place resolver) }
         ensures same_length { length place.exit.0.now ≡ length place.entry.bytes.now }
     {
         let Place { bytes, pos, .. } = place;
@@ -100,10 +102,9 @@ impl<T: PortablePointee> ArchivedBox<T> {
     where
         T::ArchivedMetadata: Metadata,
         requires sized { length place.bytes.now ≡ pointer_size T.pointee }
-        ensures resolved { OnOk result (Resolves T.definitions place.entry.pos place.exit.0.now (boxed T.pointee) (box (hole (to_pointee resolver T.pointee (U.source_length value.now))))) }
-        ensures written { OnOk result (place.exit.0.now ≡ owner_bytes (has_length T.pointee) (distance place.entry.pos resolver) (U.source_length value.now)) }
-        ensures refused { IfErr result (λ e. (place.exit.0.now ≡ place.entry.bytes.now)
-            × (((e ≡ LengthTooLarge) × (4294967295 < U.source_length value.now)) ⊎ IsTooFar e (distance place.entry.pos resolver))) }
+        ensures resolved { OnOk result (BoxResolved T.ArchivePointee place resolver (U.source_length value.now)) }
+        ensures written { OnOk result (PointsTo place (has_length T.pointee) resolver (U.source_length value.now)) }
+        ensures refused { IfErr result (IsNoPointer place resolver (U.source_length value.now)) }
     {
         let Place { bytes, pos, .. } = place;
         let metadata = value.archived_metadata()?;
@@ -136,10 +137,10 @@ impl<T: Archive> Archive for Box<T> {
     ) -> Result<(), Error>
         requires fresh { Fresh (pointer_size T.Archived.pointee) place.pos place.bytes.now }
         requires same_value { ⊤ }
-        ensures resolved { OnOk result (Resolves T.Archived.definitions place.entry.pos place.exit.0.now (boxed T.Archived.pointee) (box (hole (to_pointee resolver T.Archived.pointee 0)))) }
+        ensures resolved { OnOk result (BoxResolved T.Archived.ArchivePointee place resolver 0) }
         ensures same_length { length place.exit.0.now ≡ length place.entry.bytes.now }
-        ensures refused { IfErr result (HindersAt T.Archived.definitions (boxed T.Archived.pointee) (box (hole (to_pointee resolver T.Archived.pointee 0))) place.entry.pos) }
-        ensures written { OnOk result (place.exit.0.now ≡ owner_bytes (has_length T.Archived.pointee) (distance place.entry.pos resolver) 0) }
+        ensures refused { IfErr result (BoxHindered T.Archived.ArchivePointee place resolver 0) }
+        ensures written { OnOk result (PointsTo place (has_length T.Archived.pointee) resolver 0) }
         ensures cause { IfErr result (λ e. IsTooFar e (distance place.entry.pos resolver)) }
     {
         let Place { bytes, pos, .. } = place;
@@ -152,11 +153,10 @@ impl<S: Writer + ResolverAlloc, T: Serialize<S>> Serialize<S> for Box<T> {
     /// with `LayoutTooLarge`, 23, where it would end above `usize::MAX`, as the value refuses, and as the trait says it.
     #[tactic(auto, using(crate::proofs::Owners::serialized_boxed_one, crate::proofs::Owners::boxed_one_refused, crate::proofs::Owners::far_boxed_one_refused))]
     fn serialize(&self, serializer: &mut S) -> Result<BoxResolver, Error>
-        ensures serialized { IfOk result (λ r. Serialized T.Archived.definitions (boxed T.Archived.pointee) (T.keys self.now.value) (box (T.meaning self.now.value))
-            (box (hole (to_pointee r T.Archived.pointee 0))) (S.state serializer.old) (S.state serializer.new)) }
+        ensures serialized { IfOk result (OneBoxed T.Archived.ArchivePointee T.Archive self.now.value S.Keys serializer) }
         ensures same_value { ⊤ }
         ensures goes_on { GoesOn (S.state serializer.old) (S.state serializer.new) }
-        ensures refused { IfErr result (IsRefused T.Archived.definitions (boxed T.Archived.pointee) (T.keys self.now.value) (box (T.meaning self.now.value)) (S.state serializer.old) (S.state serializer.new)) }
+        ensures refused { IfErr result (OneUnboxed T.Archived.ArchivePointee T.Archive self.now.value S.Keys serializer) }
     {
         let pos = serialize_one(&**self, serializer)?;
         let Ok(pos) = u32::try_from(pos) else {

@@ -6,6 +6,7 @@ ghost use Rattle.archive_check.specs.Shape.{one, run};
 ghost use Rattle.archive_check.specs.Viewed.{Viewed};
 ghost use Rattle.archive_core.specs.Compared.{standing, elements, slices, slices_total, slices_fed};
 ghost use Rattle.archive_core.specs.OrderedParts.{as_pointee, slices_ordered};
+ghost use Rattle.archive_core.specs.Seen.{shown};
 
 use super::Ordered;
 use crate::slice::ArchivedSlice;
@@ -43,7 +44,7 @@ fn compare_elements<T: Portable + Ordered>(
     a: Ref<'_, ArchivedSlice<T>>,
     b: Ref<'_, ArchivedSlice<T>>,
 ) -> Ordering
-    ensures { result ≡ slices T.layout.size T.order (standing a.entry.bytes.now a.entry.pos a.entry.len) (standing b.entry.bytes.now b.entry.pos b.entry.len) }
+    ensures { result ≡ slices T.layout.size T.order (shown a.entry) (shown b.entry) }
 {
     for index in 0..a.len() {
         if index >= b.len() {

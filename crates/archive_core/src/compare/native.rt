@@ -9,11 +9,12 @@ ghost use Rattle.archive_check.specs.Reads.{bytes_at};
 ghost use Rattle.archive_check.specs.Readable.{string_text};
 ghost use Rattle.archive_check.specs.Viewed.{Viewed};
 ghost use Rattle.archive_check.specs.Definitions.{no_definition};
-ghost use Rattle.archive_check.specs.Shape.{leaf, non_zero, str, one, text as text_pointee};
+ghost use Rattle.archive_check.specs.Shape.{leaf, non_zero, str, one};
 ghost use Rattle.archive_check.specs.Value.{number, text_value};
 ghost use Rattle.archive_core.specs.Compared.{Standing, standing, number_alike};
 ghost use Rattle.archive_core.specs.OrderedParts.{as_native_pointee, leaves_native, non_zero_law, non_zero_size};
-ghost use Rattle.archive_core.specs.ValueOrder.{OrdersNative, ComparesTo, EqualsTo};
+ghost use Rattle.archive_core.specs.Seen.{shown, ViewComparesTo, ViewEquals};
+ghost use Rattle.archive_core.specs.ValueOrder.{OrdersNative};
 
 use super::Ordered;
 use crate::primitive::{Plain, Source};
@@ -47,8 +48,8 @@ impl<'a, T: Ordered> Ref<'a, T> {
     pub fn cmp_native<U: Archive>(self, value: &U) -> Ordering
     where
         T: CompareNative<U>,
-        ensures order { result ≡ T.native_order (standing self.entry.bytes.now self.entry.pos self.entry.len) value.now }
-        ensures by_value { ComparesTo T.definitions T.pointee self.entry.bytes.now self.entry.pos self.entry.len (U.meaning value.now) result }
+        ensures order { result ≡ T.native_order (shown self.entry) value.now }
+        ensures by_value { ViewComparesTo self.entry (U.meaning value.now) result }
     {
         T::compare_native(self.part(), value)
     }
@@ -58,8 +59,8 @@ impl<'a, T: Ordered> Ref<'a, T> {
     pub fn eq_native<U: Archive>(self, value: &U) -> bool
     where
         T: CompareNative<U>,
-        ensures order { result ≡ is_eq (T.native_order (standing self.entry.bytes.now self.entry.pos self.entry.len) value.now) }
-        ensures by_value { EqualsTo T.definitions T.pointee self.entry.bytes.now self.entry.pos self.entry.len (U.meaning value.now) result }
+        ensures order { result ≡ is_eq (T.native_order (shown self.entry) value.now) }
+        ensures by_value { ViewEquals self.entry (U.meaning value.now) result }
     {
         T::compare_native(self.part(), value).is_eq()
     }
@@ -108,7 +109,7 @@ impl<'a> Ref<'a, ArchivedStr> {
     /// The order of the text and another one, by their bytes. Our own.
     pub fn cmp_str(self, text: &str) -> Ordering
         ensures bytes { result ≡ slice_cmp nat_cmp (bytes_at self.entry.bytes.now self.entry.pos self.entry.len) text.now }
-        ensures by_value { ComparesTo no_definition text_pointee self.entry.bytes.now self.entry.pos self.entry.len (text_value text.now) result }
+        ensures by_value { ViewComparesTo self.entry (text_value text.now) result }
     {
         self.as_str().cmp(text)
     }
@@ -116,7 +117,7 @@ impl<'a> Ref<'a, ArchivedStr> {
     /// Whether it is the same text as another one. Our own.
     pub fn eq_str(self, text: &str) -> bool
         ensures bytes { result ≡ pointwise nat_eq (bytes_at self.entry.bytes.now self.entry.pos self.entry.len) text.now }
-        ensures by_value { EqualsTo no_definition text_pointee self.entry.bytes.now self.entry.pos self.entry.len (text_value text.now) result }
+        ensures by_value { ViewEquals self.entry (text_value text.now) result }
     {
         self.as_str() == text
     }
@@ -126,7 +127,7 @@ impl<'a> Ref<'a, ArchivedString> {
     /// The order of the text, wherever it stands, and another one, by their bytes. Our own.
     pub fn cmp_str(self, text: &str) -> Ordering
         ensures bytes { result ≡ slice_cmp nat_cmp (string_text self.entry.bytes.now self.entry.pos) text.now }
-        ensures by_value { ComparesTo no_definition (one str) self.entry.bytes.now self.entry.pos self.entry.len (text_value text.now) result }
+        ensures by_value { ViewComparesTo self.entry (text_value text.now) result }
     {
         self.as_str().cmp(text)
     }
@@ -134,7 +135,7 @@ impl<'a> Ref<'a, ArchivedString> {
     /// Whether the text, wherever it stands, is the same as another one. Our own.
     pub fn eq_str(self, text: &str) -> bool
         ensures bytes { result ≡ pointwise nat_eq (string_text self.entry.bytes.now self.entry.pos) text.now }
-        ensures by_value { EqualsTo no_definition (one str) self.entry.bytes.now self.entry.pos self.entry.len (text_value text.now) result }
+        ensures by_value { ViewEquals self.entry (text_value text.now) result }
     {
         self.as_str() == text
     }

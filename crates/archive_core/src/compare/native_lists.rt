@@ -4,15 +4,13 @@ ghost use Rattle.std.specs.Prelude.{◌≡◌, ◌+◌, ◌*◌, ◌<◌};
 ghost use Rattle.std.specs.Cmp.Lexicographic.{slice_cmp};
 ghost use Rattle.std.specs.Ordering.{is_eq};
 ghost use Rattle.archive_check.specs.Definitions.{both};
-ghost use Rattle.archive_check.specs.Shape.{one, run, vec};
+ghost use Rattle.archive_check.specs.Shape.{one, vec};
 ghost use Rattle.archive_check.specs.Value.{list};
-ghost use Rattle.archive_enum.specs.Choices.{option_shape};
-ghost use Rattle.archive_enum.specs.Results.{result_shape};
 ghost use Rattle.archive_core.specs.Compared.{standing, elements, slice_of, value_of, option_order, result_in, result_order};
 ghost use Rattle.archive_core.specs.Options.{option_meaning};
 ghost use Rattle.archive_core.specs.Results.{result_meaning};
 ghost use Rattle.archive_core.specs.Runs.{each_meaning};
-ghost use Rattle.archive_core.specs.ValueOrder.{ComparesTo, EqualsTo};
+ghost use Rattle.archive_core.specs.Seen.{shown, ViewComparesTo, ViewEquals};
 
 use super::CompareNative;
 use crate::option::ArchivedOption;
@@ -28,8 +26,8 @@ impl<'a, T: Portable> Ref<'a, ArchivedSlice<T>> {
     pub fn cmp_slice<U: Archive>(self, values: &[U]) -> Ordering
     where
         T: CompareNative<U>,
-        ensures order { result ≡ slice_cmp T.native_order (elements T.layout.size (standing self.entry.bytes.now self.entry.pos self.entry.len)) values.now }
-        ensures by_value { ComparesTo T.definitions (run T.shape) self.entry.bytes.now self.entry.pos self.entry.len (list (each_meaning U.meaning values.now)) result }
+        ensures order { result ≡ slice_cmp T.native_order (elements T.layout.size (shown self.entry)) values.now }
+        ensures by_value { ViewComparesTo self.entry (list (each_meaning U.meaning values.now)) result }
     {
         compare_slice(self, values)
     }
@@ -39,8 +37,8 @@ impl<'a, T: Portable> Ref<'a, ArchivedSlice<T>> {
     pub fn eq_slice<U: Archive>(self, values: &[U]) -> bool
     where
         T: CompareNative<U>,
-        ensures order { result ≡ is_eq (slice_cmp T.native_order (elements T.layout.size (standing self.entry.bytes.now self.entry.pos self.entry.len)) values.now) }
-        ensures by_value { EqualsTo T.definitions (run T.shape) self.entry.bytes.now self.entry.pos self.entry.len (list (each_meaning U.meaning values.now)) result }
+        ensures order { result ≡ is_eq (slice_cmp T.native_order (elements T.layout.size (shown self.entry)) values.now) }
+        ensures by_value { ViewEquals self.entry (list (each_meaning U.meaning values.now)) result }
     {
         self.cmp_slice(values).is_eq()
     }
@@ -51,8 +49,8 @@ impl<'a, T: Portable> Ref<'a, ArchivedVec<T>> {
     pub fn cmp_slice<U: Archive>(self, values: &[U]) -> Ordering
     where
         T: CompareNative<U>,
-        ensures order { result ≡ slice_cmp T.native_order (elements T.layout.size (slice_of (standing self.entry.bytes.now self.entry.pos self.entry.len))) values.now }
-        ensures by_value { ComparesTo T.definitions (one (vec T.shape)) self.entry.bytes.now self.entry.pos self.entry.len (list (each_meaning U.meaning values.now)) result }
+        ensures order { result ≡ slice_cmp T.native_order (elements T.layout.size (slice_of (shown self.entry))) values.now }
+        ensures by_value { ViewComparesTo self.entry (list (each_meaning U.meaning values.now)) result }
     {
         self.as_slice().cmp_slice(values)
     }
@@ -62,8 +60,8 @@ impl<'a, T: Portable> Ref<'a, ArchivedVec<T>> {
     pub fn eq_slice<U: Archive>(self, values: &[U]) -> bool
     where
         T: CompareNative<U>,
-        ensures order { result ≡ is_eq (slice_cmp T.native_order (elements T.layout.size (slice_of (standing self.entry.bytes.now self.entry.pos self.entry.len))) values.now) }
-        ensures by_value { EqualsTo T.definitions (one (vec T.shape)) self.entry.bytes.now self.entry.pos self.entry.len (list (each_meaning U.meaning values.now)) result }
+        ensures order { result ≡ is_eq (slice_cmp T.native_order (elements T.layout.size (slice_of (shown self.entry))) values.now) }
+        ensures by_value { ViewEquals self.entry (list (each_meaning U.meaning values.now)) result }
     {
         self.cmp_slice(values).is_eq()
     }
@@ -74,8 +72,8 @@ impl<'a, T: Portable> Ref<'a, ArchivedOption<T>> {
     pub fn cmp_option<U: Archive>(self, option: &Option<U>) -> Ordering
     where
         T: CompareNative<U>,
-        ensures order { result ≡ option_order T.native_order (value_of T.layout.align (standing self.entry.bytes.now self.entry.pos self.entry.len)) option.now }
-        ensures by_value { ComparesTo T.definitions (one (option_shape T.shape)) self.entry.bytes.now self.entry.pos self.entry.len (option_meaning U.meaning option.now) result }
+        ensures order { result ≡ option_order T.native_order (value_of T.layout.align (shown self.entry)) option.now }
+        ensures by_value { ViewComparesTo self.entry (option_meaning U.meaning option.now) result }
     {
         compare_option(self, option)
     }
@@ -85,8 +83,8 @@ impl<'a, T: Portable> Ref<'a, ArchivedOption<T>> {
     pub fn eq_option<U: Archive>(self, option: &Option<U>) -> bool
     where
         T: CompareNative<U>,
-        ensures order { result ≡ is_eq (option_order T.native_order (value_of T.layout.align (standing self.entry.bytes.now self.entry.pos self.entry.len)) option.now) }
-        ensures by_value { EqualsTo T.definitions (one (option_shape T.shape)) self.entry.bytes.now self.entry.pos self.entry.len (option_meaning U.meaning option.now) result }
+        ensures order { result ≡ is_eq (option_order T.native_order (value_of T.layout.align (shown self.entry)) option.now) }
+        ensures by_value { ViewEquals self.entry (option_meaning U.meaning option.now) result }
     {
         self.cmp_option(option).is_eq()
     }
@@ -98,8 +96,8 @@ impl<'a, T: Portable, E: Portable> Ref<'a, ArchivedResult<T, E>> {
     where
         T: CompareNative<U>,
         E: CompareNative<W>,
-        ensures order { result ≡ is_eq (result_order T.native_order E.native_order (result_in T.layout.align E.layout.align (standing self.entry.bytes.now self.entry.pos self.entry.len)) result_of.now) }
-        ensures by_value { EqualsTo (both T.definitions E.definitions) (one (result_shape T.shape E.shape)) self.entry.bytes.now self.entry.pos self.entry.len (result_meaning U.meaning W.meaning result_of.now) result }
+        ensures order { result ≡ is_eq (result_order T.native_order E.native_order (result_in T.layout.align E.layout.align (shown self.entry)) result_of.now) }
+        ensures by_value { ViewEquals self.entry (result_meaning U.meaning W.meaning result_of.now) result }
     {
         is_result(self, result_of)
     }

@@ -10,9 +10,12 @@ ghost use Rattle.archive_check.specs.Viewed.{Viewed};
 ghost use Rattle.archive_check.specs.Entries.{ReadsBack};
 ghost use Rattle.archive_core.specs.Keyed.{number_keyed};
 ghost use Rattle.archive_core.specs.Causes.{HindersAt, IsRefused};
+ghost use Rattle.archive_core.specs.KindsWritten.{LeafSerialized, LeafRefused, LeafResolved, LeafHindered};
 ghost use Rattle.archive_core.specs.Planned.{leaf_planned};
 ghost use Rattle.archive_core.specs.PlannedOwners.{one_planned};
 ghost use Rattle.archive_core.specs.Plans.{Serialized};
+ghost use Rattle.archive_core.specs.Seen.{IsPartOf};
+ghost use Rattle.archive_core.specs.Sources.{Read};
 ghost use Rattle.archive_core.specs.Writing.{Fresh, Resolves};
 ghost use Rattle.archive_write.specs.Written.{GoesOn};
 
@@ -21,7 +24,7 @@ use crate::place::Place;
 use crate::ser::serialize_one;
 use crate::slice::copy_slice;
 use crate::traits::{
-    Archive, ArchiveUnsized, CopyOptimization, Deserialize, Entries, Keys, Serialize,
+    Archive, ArchivePointee, ArchiveUnsized, CopyOptimization, Deserialize, Entries, Keys, Serialize,
     SerializeUnsized,
 };
 use crate::view::{RawView, Ref};
@@ -51,8 +54,8 @@ impl<N: Integer> Archive for NonZero<N> {
     fn resolve(&self, _resolver: (), place: Place<'_, NonZero<N>>) -> Result<(), Error>
         requires fresh { Fresh (kind_size (non_zero N.sign N.width)) place.pos place.bytes.now }
         requires same_value { ⊤ }
-        ensures resolved { OnOk result (Resolves no_definition place.entry.pos place.exit.0.now (leaf (non_zero N.sign N.width)) (number (N.value_of self.now))) }
-        ensures refused { IfErr result (HindersAt no_definition (leaf (non_zero N.sign N.width)) (number (N.value_of self.now)) place.entry.pos) }
+        ensures resolved { OnOk result (LeafResolved (non_zero N.sign N.width) place (N.value_of self.now)) }
+        ensures refused { IfErr result (LeafHindered (non_zero N.sign N.width) place (N.value_of self.now)) }
         ensures same_length { length place.exit.0.now ≡ length place.entry.bytes.now }
         ensures written { place.exit.0.now ≡ N.bytes_of self.now }
         ensures succeeds { IsOk result }
@@ -78,10 +81,10 @@ impl<N: Integer> Archive for NonZero<N> {
 impl<N: Integer, S: Writer + Keys> Serialize<S> for NonZero<N> {
     #[tactic(auto, using(crate::proofs::Causes::goes_nowhere))]
     fn serialize(&self, _serializer: &mut S) -> Result<(), Error>
-        ensures serialized { IfOk result (λ _. Serialized no_definition (leaf (non_zero N.sign N.width)) [] (number (N.value_of self.now)) (number (N.value_of self.now)) (S.state _serializer.old) (S.state _serializer.new)) }
+        ensures serialized { IfOk result (LeafSerialized (non_zero N.sign N.width) (N.value_of self.now) S.Keys _serializer) }
         ensures same_value { ⊤ }
         ensures goes_on { GoesOn (S.state _serializer.old) (S.state _serializer.new) }
-        ensures refused { IfErr result (IsRefused no_definition (leaf (non_zero N.sign N.width)) [] (number (N.value_of self.now)) (S.state _serializer.old) (S.state _serializer.new)) }
+        ensures refused { IfErr result (LeafRefused (non_zero N.sign N.width) (N.value_of self.now) S.Keys _serializer) }
         ensures unchanged { S.state _serializer.new ≡ S.state _serializer.old }
         ensures succeeds { IsOk result }
     {
@@ -123,9 +126,8 @@ impl<N: Integer, D: Entries> Deserialize<NonZero<N>, D> for NonZero<N> {
         part: RawView<'_>,
         _deserializer: &mut D,
     ) -> Result<NonZero<N>, Error>
-        requires { Viewed no_definition part.bytes.now part.pos (one (leaf (non_zero N.sign N.width))) part.len }
-        ensures read { IfOk result (λ n. ReadsBack no_definition part.entry.bytes.now part.entry.pos (one (leaf (non_zero N.sign N.width))) part.entry.len
-            (D.entry_of _deserializer.old) (D.entry_of _deserializer.new) (number (N.value_of n)) []) }
+        requires { IsPartOf ⟦<Self as ArchivePointee>⟧ part }
+        ensures read { IfOk result (Read ⟦<Self as ArchivePointee>⟧ part D.Entries _deserializer ⟦<Self as Archive>⟧) }
         ensures number { IfOk result (λ n. n ≡ N.number_of (bytes_at part.entry.bytes.now part.entry.pos N.byte_count)) }
         ensures unchanged { D.entry_of _deserializer.new ≡ D.entry_of _deserializer.old }
         ensures succeeds { IsOk result }

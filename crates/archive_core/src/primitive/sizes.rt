@@ -13,16 +13,20 @@ ghost use Rattle.archive_check.specs.declared.format.error.Error.TheVariants.{Nu
 ghost use Rattle.archive_check.specs.LittleEndian.{little_bytes, little_number};
 ghost use Rattle.archive_core.specs.Keyed.{number_keyed};
 ghost use Rattle.archive_core.specs.Causes.{HindersAt, IsRefused};
+ghost use Rattle.archive_core.specs.KindsWritten.{LeafSerialized, LeafRefused, LeafResolved, LeafHindered};
 ghost use Rattle.archive_core.specs.Planned.{leaf_planned};
 ghost use Rattle.archive_core.specs.PlannedOwners.{one_planned};
 ghost use Rattle.archive_core.specs.Plans.{Serialized};
+ghost use Rattle.archive_core.specs.Seen.{IsPartOf};
+ghost use Rattle.archive_core.specs.Sources.{Read};
 ghost use Rattle.archive_core.specs.Writing.{Fresh, Resolves};
 ghost use Rattle.archive_write.specs.Written.{GoesOn};
 
 use crate::place::Place;
 use crate::ser::serialize_one;
 use crate::traits::{
-    Archive, ArchiveUnsized, Deserialize, Entries, Keys, Serialize, SerializeUnsized,
+    Archive, ArchivePointee, ArchiveUnsized, Deserialize, Entries, Keys, Serialize,
+    SerializeUnsized,
 };
 use crate::view::{RawView, Ref};
 use archive_check::format::error::Error;
@@ -51,9 +55,9 @@ impl Archive for usize {
     fn resolve(&self, _resolver: (), place: Place<'_, ArchivedUsize>) -> Result<(), Error>
         requires fresh { Fresh 4 place.pos place.bytes.now }
         requires same_value { self.now < 2 ^ 32 }
-        ensures resolved { OnOk result (Resolves no_definition place.entry.pos place.exit.0.now (leaf (number unsigned w32)) (number_value (pos self.now))) }
+        ensures resolved { OnOk result (LeafResolved (number unsigned w32) place (pos self.now)) }
         ensures same_length { length place.exit.0.now ≡ length place.entry.bytes.now }
-        ensures refused { IfErr result (HindersAt no_definition (leaf (number unsigned w32)) (number_value (pos self.now)) place.entry.pos) }
+        ensures refused { IfErr result (LeafHindered (number unsigned w32) place (pos self.now)) }
         ensures written { place.exit.0.now ≡ little_bytes 4 self.now }
         ensures succeeds { IsOk result }
     {
@@ -67,10 +71,10 @@ impl<S: Writer + Keys> Serialize<S> for usize {
     /// Writes nothing. Refused with `NumberTooLarge`, 6, exactly where the number doesn't fit 32 bits without a sign. rkyv 0.8.18 cuts it off.
     #[tactic(auto, using(crate::proofs::Causes::goes_nowhere, crate::proofs::Planned::usize_refused))]
     fn serialize(&self, _serializer: &mut S) -> Result<(), Error>
-        ensures serialized { IfOk result (λ _. Serialized no_definition (leaf (number unsigned w32)) [] (number_value (pos self.now)) (number_value (pos self.now)) (S.state _serializer.old) (S.state _serializer.new)) }
+        ensures serialized { IfOk result (LeafSerialized (number unsigned w32) (pos self.now) S.Keys _serializer) }
         ensures same_value { IfOk result (λ _. self.now < 2 ^ 32) }
         ensures goes_on { GoesOn (S.state _serializer.old) (S.state _serializer.new) }
-        ensures refused { IfErr result (IsRefused no_definition (leaf (number unsigned w32)) [] (number_value (pos self.now)) (S.state _serializer.old) (S.state _serializer.new)) }
+        ensures refused { IfErr result (LeafRefused (number unsigned w32) (pos self.now) S.Keys _serializer) }
         ensures unchanged { S.state _serializer.new ≡ S.state _serializer.old }
         ensures cause { IfErr result (λ e. (e ≡ NumberTooLarge) × (self.now < 2 ^ 32 → ⊥)) }
     {
@@ -114,9 +118,8 @@ impl<D: Entries> Deserialize<usize, D> for ArchivedUsize {
         part: RawView<'_>,
         _deserializer: &mut D,
     ) -> Result<usize, Error>
-        requires { Viewed no_definition part.bytes.now part.pos (one (leaf (number unsigned w32))) part.len }
-        ensures read { IfOk result (λ n. ReadsBack no_definition part.entry.bytes.now part.entry.pos (one (leaf (number unsigned w32))) part.entry.len
-            (D.entry_of _deserializer.old) (D.entry_of _deserializer.new) (number_value (pos n)) []) }
+        requires { IsPartOf ⟦<Self as ArchivePointee>⟧ part }
+        ensures read { IfOk result (Read ⟦<Self as ArchivePointee>⟧ part D.Entries _deserializer ⟦<usize as Archive>⟧) }
         ensures number { IfOk result (λ n. n ≡ little_number (bytes_at part.entry.bytes.now part.entry.pos 4)) }
         ensures unchanged { D.entry_of _deserializer.new ≡ D.entry_of _deserializer.old }
         ensures succeeds { IsOk result }
@@ -147,9 +150,9 @@ impl Archive for isize {
     fn resolve(&self, _resolver: (), place: Place<'_, ArchivedIsize>) -> Result<(), Error>
         requires fresh { Fresh 4 place.pos place.bytes.now }
         requires same_value { FitsSigned w32 self.now }
-        ensures resolved { OnOk result (Resolves no_definition place.entry.pos place.exit.0.now (leaf (number signed w32)) (number_value self.now)) }
+        ensures resolved { OnOk result (LeafResolved (number signed w32) place self.now) }
         ensures same_length { length place.exit.0.now ≡ length place.entry.bytes.now }
-        ensures refused { IfErr result (HindersAt no_definition (leaf (number signed w32)) (number_value self.now) place.entry.pos) }
+        ensures refused { IfErr result (LeafHindered (number signed w32) place self.now) }
         ensures written { place.exit.0.now ≡ little_bytes 4 (cast_unsigned w32 self.now) }
         ensures succeeds { IsOk result }
     {
@@ -163,10 +166,10 @@ impl<S: Writer + Keys> Serialize<S> for isize {
     /// Writes nothing. Refused with `NumberTooLarge`, 6, exactly where the number doesn't fit 32 bits with a sign. rkyv 0.8.18 cuts it off.
     #[tactic(auto, using(crate::proofs::Causes::goes_nowhere, crate::proofs::Planned::isize_refused))]
     fn serialize(&self, _serializer: &mut S) -> Result<(), Error>
-        ensures serialized { IfOk result (λ _. Serialized no_definition (leaf (number signed w32)) [] (number_value self.now) (number_value self.now) (S.state _serializer.old) (S.state _serializer.new)) }
+        ensures serialized { IfOk result (LeafSerialized (number signed w32) self.now S.Keys _serializer) }
         ensures same_value { IfOk result (λ _. FitsSigned w32 self.now) }
         ensures goes_on { GoesOn (S.state _serializer.old) (S.state _serializer.new) }
-        ensures refused { IfErr result (IsRefused no_definition (leaf (number signed w32)) [] (number_value self.now) (S.state _serializer.old) (S.state _serializer.new)) }
+        ensures refused { IfErr result (LeafRefused (number signed w32) self.now S.Keys _serializer) }
         ensures unchanged { S.state _serializer.new ≡ S.state _serializer.old }
         ensures cause { IfErr result (λ e. (e ≡ NumberTooLarge) × (FitsSigned w32 self.now → ⊥)) }
     {
@@ -210,9 +213,8 @@ impl<D: Entries> Deserialize<isize, D> for ArchivedIsize {
         part: RawView<'_>,
         _deserializer: &mut D,
     ) -> Result<isize, Error>
-        requires { Viewed no_definition part.bytes.now part.pos (one (leaf (number signed w32))) part.len }
-        ensures read { IfOk result (λ n. ReadsBack no_definition part.entry.bytes.now part.entry.pos (one (leaf (number signed w32))) part.entry.len
-            (D.entry_of _deserializer.old) (D.entry_of _deserializer.new) (number_value n) []) }
+        requires { IsPartOf ⟦<Self as ArchivePointee>⟧ part }
+        ensures read { IfOk result (Read ⟦<Self as ArchivePointee>⟧ part D.Entries _deserializer ⟦<isize as Archive>⟧) }
         ensures number { IfOk result (λ n. n ≡ cast_signed w32 (little_number (bytes_at part.entry.bytes.now part.entry.pos 4))) }
         ensures unchanged { D.entry_of _deserializer.new ≡ D.entry_of _deserializer.old }
         ensures succeeds { IsOk result }

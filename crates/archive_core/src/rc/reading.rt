@@ -9,15 +9,17 @@ ghost use Rattle.archive_check.specs.Value.{list, shared_value, text_value};
 ghost use Rattle.archive_check.specs.Viewed.{Viewed};
 ghost use Rattle.archive_core.specs.Pooling.{kept_at};
 ghost use Rattle.archive_core.specs.Runs.{each_keys, each_meaning};
+ghost use Rattle.archive_core.specs.Seen.{IsPartOf, RefusesPart};
 ghost use Rattle.archive_core.specs.SharedLaws.{flavor_as, weak_keys, weak_value};
 ghost use Rattle.archive_core.specs.SharedSources.{rc_keys};
+ghost use Rattle.archive_core.specs.Sources.{Read};
 ghost use Rattle.archive_core.specs.Spans.{one_spans, text_spans, slice_spans, cloned_kept};
 
 use super::{ArchivedRc, ArchivedRcWeak, Flavor, Shared, SharedSlice, SharedStr, WeakShared};
 use crate::pooling::{Pooled, Pooling, PoolingExt};
 use crate::slice::ArchivedSlice;
 use crate::string::ArchivedStr;
-use crate::traits::{Archive, Deserialize, DeserializeUnsized, Portable};
+use crate::traits::{Archive, ArchivePointee, Deserialize, DeserializeUnsized, Portable};
 use crate::view::{RawView, Ref};
 use archive_check::format::error::Error;
 use std::alloc::{AllocError, Global};
@@ -139,11 +141,9 @@ impl<
         part: RawView<'_>,
         deserializer: &mut D,
     ) -> Result<Shared<U>, Error>
-        requires { Viewed T.definitions part.bytes.now part.pos (one (shared (flavor_as F.name F.ALLOW_CYCLES) T.pointee)) part.len }
-        ensures read { IfOk result (λ s. ReadsBack T.definitions part.entry.bytes.now part.entry.pos (one (shared (flavor_as F.name F.ALLOW_CYCLES) T.pointee)) part.entry.len
-            (D.entry_of deserializer.old) (D.entry_of deserializer.new) (shared_value s.key) (rc_keys s.key T.pointee 0 (U.meaning s.value.value) (U.keys s.value.value))) }
-        ensures refused { IfErr result (RefusesReading T.definitions part.entry.bytes.now part.entry.pos (one (shared (flavor_as F.name F.ALLOW_CYCLES) T.pointee)) part.entry.len
-            (D.entry_of deserializer.old)) }
+        requires { IsPartOf ⟦<Self as ArchivePointee>⟧ part }
+        ensures read { IfOk result (Read ⟦<Self as ArchivePointee>⟧ part D.Entries deserializer ⟦<Shared<U> as Archive>⟧) }
+        ensures refused { IfErr result (RefusesPart ⟦<Self as ArchivePointee>⟧ part D.Entries deserializer) }
     {
         let view: Ref<'_, ArchivedRc<T, F>> = Ref::at(part);
         PoolingExt::<Shared<U>>::deserialize_shared(deserializer, alloc, view.get())
@@ -162,12 +162,9 @@ impl<
         part: RawView<'_>,
         deserializer: &mut D,
     ) -> Result<SharedSlice<U>, Error>
-        requires { Viewed T.definitions part.bytes.now part.pos (one (shared (flavor_as F.name F.ALLOW_CYCLES) (run T.shape))) part.len }
-        ensures read { IfOk result (λ s. ReadsBack T.definitions part.entry.bytes.now part.entry.pos (one (shared (flavor_as F.name F.ALLOW_CYCLES) (run T.shape))) part.entry.len
-            (D.entry_of deserializer.old) (D.entry_of deserializer.new) (shared_value s.key)
-            (rc_keys s.key (run T.shape) (length (rc_slice_items s.value)) (list (each_meaning U.meaning (rc_slice_items s.value))) (each_keys U.keys (rc_slice_items s.value)))) }
-        ensures refused { IfErr result (RefusesReading T.definitions part.entry.bytes.now part.entry.pos (one (shared (flavor_as F.name F.ALLOW_CYCLES) (run T.shape))) part.entry.len
-            (D.entry_of deserializer.old)) }
+        requires { IsPartOf ⟦<Self as ArchivePointee>⟧ part }
+        ensures read { IfOk result (Read ⟦<Self as ArchivePointee>⟧ part D.Entries deserializer ⟦<SharedSlice<U> as Archive>⟧) }
+        ensures refused { IfErr result (RefusesPart ⟦<Self as ArchivePointee>⟧ part D.Entries deserializer) }
     {
         let view: Ref<'_, ArchivedRc<ArchivedSlice<T>, F>> = Ref::at(part);
         PoolingExt::<SharedSlice<U>>::deserialize_shared(deserializer, alloc, view.get())
@@ -181,12 +178,9 @@ impl<F: Flavor, D: Pooling<SharedStr>> Deserialize<SharedStr, D> for ArchivedRc<
         part: RawView<'_>,
         deserializer: &mut D,
     ) -> Result<SharedStr, Error>
-        requires { Viewed no_definition part.bytes.now part.pos (one (shared (flavor_as F.name F.ALLOW_CYCLES) text)) part.len }
-        ensures read { IfOk result (λ s. ReadsBack no_definition part.entry.bytes.now part.entry.pos (one (shared (flavor_as F.name F.ALLOW_CYCLES) text)) part.entry.len
-            (D.entry_of deserializer.old) (D.entry_of deserializer.new) (shared_value s.key)
-            (rc_keys s.key text (length (rc_str_bytes s.value)) (text_value (rc_str_bytes s.value)) [])) }
-        ensures refused { IfErr result (RefusesReading no_definition part.entry.bytes.now part.entry.pos (one (shared (flavor_as F.name F.ALLOW_CYCLES) text)) part.entry.len
-            (D.entry_of deserializer.old)) }
+        requires { IsPartOf ⟦<Self as ArchivePointee>⟧ part }
+        ensures read { IfOk result (Read ⟦<Self as ArchivePointee>⟧ part D.Entries deserializer ⟦<SharedStr as Archive>⟧) }
+        ensures refused { IfErr result (RefusesPart ⟦<Self as ArchivePointee>⟧ part D.Entries deserializer) }
     {
         let view: Ref<'_, ArchivedRc<ArchivedStr, F>> = Ref::at(part);
         PoolingExt::<SharedStr>::deserialize_shared(deserializer, alloc, view.get())
@@ -205,12 +199,9 @@ impl<
         part: RawView<'_>,
         deserializer: &mut D,
     ) -> Result<WeakShared<U>, Error>
-        requires { Viewed T.definitions part.bytes.now part.pos (one (weak (flavor_as F.name F.ALLOW_CYCLES) T.pointee)) part.len }
-        ensures read { IfOk result (λ w. ReadsBack T.definitions part.entry.bytes.now part.entry.pos (one (weak (flavor_as F.name F.ALLOW_CYCLES) T.pointee)) part.entry.len
-            (D.entry_of deserializer.old) (D.entry_of deserializer.new) (weak_value (λ s. shared_value s.key) w.value)
-            (weak_keys (λ s. rc_keys s.key T.pointee 0 (U.meaning s.value.value) (U.keys s.value.value)) w.value)) }
-        ensures refused { IfErr result (RefusesReading T.definitions part.entry.bytes.now part.entry.pos (one (weak (flavor_as F.name F.ALLOW_CYCLES) T.pointee)) part.entry.len
-            (D.entry_of deserializer.old)) }
+        requires { IsPartOf ⟦<Self as ArchivePointee>⟧ part }
+        ensures read { IfOk result (Read ⟦<Self as ArchivePointee>⟧ part D.Entries deserializer ⟦<WeakShared<U> as Archive>⟧) }
+        ensures refused { IfErr result (RefusesPart ⟦<Self as ArchivePointee>⟧ part D.Entries deserializer) }
     {
         let view: Ref<'_, ArchivedRcWeak<T, F>> = Ref::at(part);
         let Some(value) = view.upgrade() else {

@@ -8,6 +8,7 @@ ghost use Rattle.archive_core.specs.Causes.{HindersAt, IsRefused};
 ghost use Rattle.archive_core.specs.PlannedOwners.{one_planned};
 ghost use Rattle.archive_core.specs.Plans.{Serialized};
 ghost use Rattle.archive_core.specs.SharedSources.{rc_flavor, rc_keys, rc_flat, rc_keyed, rc_planned, rc_one_planned};
+ghost use Rattle.archive_core.specs.Sources.{ResolvedAs, HinderedAs, Wrote, Refused};
 ghost use Rattle.archive_core.specs.Writing.{Fresh, Resolves};
 ghost use Rattle.archive_write.specs.Written.{GoesOn};
 
@@ -114,11 +115,9 @@ impl<T: Archive> Archive for Shared<T> {
     ) -> Result<(), Error>
         requires fresh { Fresh (pointer_size T.Archived.pointee) place.pos place.bytes.now }
         requires same_value { ⊤ }
-        ensures resolved { OnOk result (Resolves T.Archived.definitions place.entry.pos place.exit.0.now (shared rc_flavor T.Archived.pointee)
-            (rc_flat resolver T.Archived.pointee 0)) }
+        ensures resolved { OnOk result (ResolvedAs ⟦<Self as Archive>⟧ ⟦<Self::Archived as Portable>⟧ place self.now resolver) }
         ensures same_length { length place.exit.0.now ≡ length place.entry.bytes.now }
-        ensures refused { IfErr result (HindersAt T.Archived.definitions (shared rc_flavor T.Archived.pointee)
-            (rc_flat resolver T.Archived.pointee 0) place.entry.pos) }
+        ensures refused { IfErr result (HinderedAs ⟦<Self as Archive>⟧ ⟦<Self::Archived as Portable>⟧ place self.now resolver) }
     {
         let Place { bytes, pos, .. } = place;
         write_pointer::<T::Archived>(resolver.pos as usize, 0, pos, bytes)
@@ -130,14 +129,10 @@ impl<T: Serialize<S>, S: Sharing + Writer + ResolverAlloc> Serialize<S> for Shar
     /// its refusals.
     #[tactic(auto, using(crate::proofs::SharedOnes::shared_one, crate::proofs::SharedOnes::shared_one_refused, crate::proofs::SharedOnes::far_shared_one_refused))]
     fn serialize(&self, serializer: &mut S) -> Result<RcResolver, Error>
-        ensures serialized { IfOk result (λ r. Serialized T.Archived.definitions (shared rc_flavor T.Archived.pointee)
-            (rc_keys self.now.key T.Archived.pointee 0 (T.meaning self.now.value.value) (T.keys self.now.value.value)) (shared_value self.now.key)
-            (rc_flat r T.Archived.pointee 0) (S.state serializer.old) (S.state serializer.new)) }
+        ensures serialized { IfOk result (Wrote ⟦<Self as Archive>⟧ ⟦<Self::Archived as Portable>⟧ self.now S.Keys serializer) }
         ensures same_value { ⊤ }
         ensures goes_on { GoesOn (S.state serializer.old) (S.state serializer.new) }
-        ensures refused { IfErr result (IsRefused T.Archived.definitions (shared rc_flavor T.Archived.pointee)
-            (rc_keys self.now.key T.Archived.pointee 0 (T.meaning self.now.value.value) (T.keys self.now.value.value)) (shared_value self.now.key)
-            (S.state serializer.old) (S.state serializer.new)) }
+        ensures refused { IfErr result (Refused ⟦<Self as Archive>⟧ ⟦<Self::Archived as Portable>⟧ self.now S.Keys serializer) }
     {
         let value = One {
             value: &*self.value,

@@ -8,6 +8,7 @@ ghost use Rattle.archive_check.specs.Reads.{i32_at, length_at};
 ghost use Rattle.archive_check.specs.Shape.{one, shared, weak};
 ghost use Rattle.archive_check.specs.Value.{null, shared_value};
 ghost use Rattle.archive_check.specs.Viewed.{Says};
+ghost use Rattle.archive_core.specs.Seen.{ShowsValue, StandsBeside, IsTargetOf};
 ghost use Rattle.archive_core.specs.SharedLaws.{flavor_as};
 ghost use Rattle.archive_core.specs.Standing.{StandsWith, view};
 
@@ -42,10 +43,8 @@ impl<'a, T: PortablePointee, F: Flavor> Ref<'a, ArchivedRc<T, F>> {
         ensures buffer { result.bytes.now ≡ self.entry.bytes.now }
         ensures position { result.pos ≡ target_from self.entry.bytes.now self.entry.pos self.entry.pos }
         ensures length { result.len ≡ length_at self.entry.bytes.now self.entry.pos T.pointee }
-        ensures says { Says T.definitions self.entry.bytes.now self.entry.pos (one (shared (flavor_as F.name F.ALLOW_CYCLES) T.pointee)) self.entry.len (shared_value result.pos) }
-        ensures beside { StandsWith T.definitions self.entry.bytes.now
-            (view self.entry.pos (one (shared (flavor_as F.name F.ALLOW_CYCLES) T.pointee)) self.entry.len)
-            (view result.pos T.pointee result.len) }
+        ensures says { ShowsValue self.entry (shared_value result.pos) }
+        ensures beside { StandsBeside result self.entry }
     {
         let RawView { bytes, pos, .. } = self.part();
         let target = read_target(bytes, pos, pos);
@@ -60,16 +59,11 @@ impl<'a, T: PortablePointee, F: Flavor> Ref<'a, ArchivedRc<T, F>> {
 impl<'a, T: PortablePointee, F: Flavor> Ref<'a, ArchivedRcWeak<T, F>> {
     /// What the pointer leads to; none exactly where it is null, whose offset is 1. As in rkyv 0.8.18.
     pub fn upgrade(self) -> Option<Ref<'a, T>>
-        ensures some { IfSome result (λ r. (r.bytes.now ≡ self.entry.bytes.now)
-            × (r.pos ≡ target_from self.entry.bytes.now self.entry.pos self.entry.pos)
-            × (r.len ≡ length_at self.entry.bytes.now self.entry.pos T.pointee)
-            × Says T.definitions self.entry.bytes.now self.entry.pos (one (weak (flavor_as F.name F.ALLOW_CYCLES) T.pointee)) self.entry.len (shared_value r.pos)) }
-        ensures none { IfNone result (Says T.definitions self.entry.bytes.now self.entry.pos (one (weak (flavor_as F.name F.ALLOW_CYCLES) T.pointee)) self.entry.len null) }
+        ensures some { IfSome result (IsTargetOf self.entry) }
+        ensures none { IfNone result (ShowsValue self.entry null) }
         ensures offset { IfSome result (λ r. i32_at self.entry.bytes.now self.entry.pos ≡ whole 1 → ⊥) }
         ensures null { i32_at self.entry.bytes.now self.entry.pos ≡ whole 1 → IsNone result }
-        ensures beside { IfSome result (λ r. StandsWith T.definitions self.entry.bytes.now
-            (view self.entry.pos (one (weak (flavor_as F.name F.ALLOW_CYCLES) T.pointee)) self.entry.len)
-            (view r.pos T.pointee r.len)) }
+        ensures beside { IfSome result (λ r. StandsBeside r self.entry) }
         ensures is_null { IfNone result (i32_at self.entry.bytes.now self.entry.pos ≡ whole 1) }
     {
         let RawView { bytes, pos, .. } = self.part();

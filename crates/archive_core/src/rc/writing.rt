@@ -10,8 +10,10 @@ ghost use Rattle.archive_check.specs.declared.format.error.Error.TheVariants.{Cy
 ghost use Rattle.archive_core.specs.Causes.{HindersAt, IsRefused};
 ghost use Rattle.archive_core.specs.Offsets.{distance, IsTooFar};
 ghost use Rattle.archive_core.specs.OwnerBytes.{owner_bytes};
+ghost use Rattle.archive_core.specs.Placed.{IsTooFarFrom};
 ghost use Rattle.archive_core.specs.Plans.{Serialized};
 ghost use Rattle.archive_core.specs.SharedLaws.{flavor_as, naming_of, weak_value, weak_keys, weak_count, weak_flat};
+ghost use Rattle.archive_core.specs.SharedWriting.{AnswersPending, SharedResolved, SharedHindered, WeakResolved, WeakHindered, IsShared, IsntShared, IsWeak, IsntWeak};
 ghost use Rattle.archive_core.specs.Writing.{Resolves, to_shared};
 ghost use Rattle.archive_write.specs.Written.{GoesOn};
 
@@ -60,15 +62,10 @@ pub(super) fn write_shared<F: Flavor, U: SerializeUnsized<S>, S: Sharing + Write
     value: &U,
     serializer: &mut S,
 ) -> Result<usize, Error>
-    ensures serialized { IfOk result (λ p. Serialized U.Archived.definitions (shared (flavor_as F.name F.ALLOW_CYCLES) U.Archived.pointee)
-        (naming_of key (flavor_as F.name F.ALLOW_CYCLES) U.Archived.pointee (U.source_length value.now) (U.meaning value.now) ∷ U.keys value.now) (shared_value key)
-        (hole (to_shared p (flavor_as F.name F.ALLOW_CYCLES) U.Archived.pointee (U.source_length value.now))) (S.state serializer.old) (S.state serializer.new)) }
+    ensures serialized { IfOk result (IsShared F.Flavor U.Archived.ArchivePointee U.ArchiveUnsized key value.now S.Keys serializer) }
     ensures goes_on { GoesOn (S.state serializer.old) (S.state serializer.new) }
-    ensures refused { IfErr result (IsRefused U.Archived.definitions (shared (flavor_as F.name F.ALLOW_CYCLES) U.Archived.pointee)
-        (naming_of key (flavor_as F.name F.ALLOW_CYCLES) U.Archived.pointee (U.source_length value.now) (U.meaning value.now) ∷ U.keys value.now) (shared_value key)
-        (S.state serializer.old) (S.state serializer.new)) }
-    ensures pending { (S.state serializer.old).states key ≡ Some None → IsErrOf result CyclicSerialize × KeepsBytes (S.state serializer.old) (S.state serializer.new)
-        × KeepsKeys (S.state serializer.old).states (S.state serializer.new).states }
+    ensures refused { IfErr result (IsntShared F.Flavor U.Archived.ArchivePointee U.ArchiveUnsized key value.now S.Keys serializer) }
+    ensures pending { AnswersPending key result S.Keys serializer }
 {
     let pos = serializer.serialize_shared(key, value)?;
     if serializer.pos() != pos {
@@ -121,16 +118,11 @@ where
         value: &U,
         serializer: &mut S,
     ) -> Result<RcResolver, Error>
-        ensures serialized { IfOk result (λ r. Serialized T.definitions (shared (flavor_as F.name F.ALLOW_CYCLES) T.pointee)
-            (naming_of key (flavor_as F.name F.ALLOW_CYCLES) T.pointee (U.source_length value.now) (U.meaning value.now) ∷ U.keys value.now) (shared_value key)
-            (hole (to_shared r (flavor_as F.name F.ALLOW_CYCLES) T.pointee (U.source_length value.now))) (S.state serializer.old) (S.state serializer.new)) }
+        ensures serialized { IfOk result (IsShared F.Flavor T.ArchivePointee U.ArchiveUnsized key value.now S.Keys serializer) }
         ensures held { OnOk result (U.source_length value.now ≤ 4294967295) }
         ensures goes_on { GoesOn (S.state serializer.old) (S.state serializer.new) }
-        ensures refused { IfErr result (IsRefused T.definitions (shared (flavor_as F.name F.ALLOW_CYCLES) T.pointee)
-            (naming_of key (flavor_as F.name F.ALLOW_CYCLES) T.pointee (U.source_length value.now) (U.meaning value.now) ∷ U.keys value.now) (shared_value key)
-            (S.state serializer.old) (S.state serializer.new)) }
-        ensures pending { (S.state serializer.old).states key ≡ Some None → IsErrOf result CyclicSerialize × KeepsBytes (S.state serializer.old) (S.state serializer.new)
-            × KeepsKeys (S.state serializer.old).states (S.state serializer.new).states }
+        ensures refused { IfErr result (IsntShared F.Flavor T.ArchivePointee U.ArchiveUnsized key value.now S.Keys serializer) }
+        ensures pending { AnswersPending key result S.Keys serializer }
     {
         let pos = write_shared::<F, U, S>(key, value, serializer)?;
         if value.archived_metadata().is_err() {
@@ -155,11 +147,9 @@ where
         requires sized { length place.bytes.now ≡ pointer_size T.pointee }
         requires one_value { has_length T.pointee ≡ false → U.source_length value.now ≡ 0 }
         requires held { U.source_length value.now ≤ 4294967295 }
-        ensures resolved { OnOk result (Resolves T.definitions place.entry.pos place.exit.0.now (shared (flavor_as F.name F.ALLOW_CYCLES) T.pointee)
-            (hole (to_shared resolver (flavor_as F.name F.ALLOW_CYCLES) T.pointee (U.source_length value.now)))) }
-        ensures refused { IfErr result (HindersAt T.definitions (shared (flavor_as F.name F.ALLOW_CYCLES) T.pointee)
-            (hole (to_shared resolver (flavor_as F.name F.ALLOW_CYCLES) T.pointee (U.source_length value.now))) place.entry.pos) }
-        ensures cause { IfErr result (λ e. (place.exit.0.now ≡ place.entry.bytes.now) × IsTooFar e (distance place.entry.pos resolver)) }
+        ensures resolved { OnOk result (SharedResolved F.Flavor T.ArchivePointee U.ArchiveUnsized place value.now resolver) }
+        ensures refused { IfErr result (SharedHindered F.Flavor T.ArchivePointee U.ArchiveUnsized place value.now resolver) }
+        ensures cause { IfErr result (IsTooFarFrom place resolver) }
         ensures same_length { length place.exit.0.now ≡ length place.entry.bytes.now }
     {
         let Place { bytes, pos, .. } = place;
@@ -192,14 +182,10 @@ where
         value: Option<&U>,
         serializer: &mut S,
     ) -> Result<RcWeakResolver, Error>
-        ensures serialized { IfOk result (λ r. Serialized T.definitions (weak (flavor_as F.name F.ALLOW_CYCLES) T.pointee)
-            (weak_keys (λ u. naming_of key (flavor_as F.name F.ALLOW_CYCLES) T.pointee (U.source_length u.now) (U.meaning u.now) ∷ U.keys u.now) value.entry) (weak_value (λ u. shared_value key) value.entry)
-            (weak_flat (flavor_as F.name F.ALLOW_CYCLES) T.pointee (weak_count (λ u. U.source_length u.now) value.entry) r) (S.state serializer.old) (S.state serializer.new)) }
+        ensures serialized { IfOk result (IsWeak F.Flavor T.ArchivePointee U.ArchiveUnsized key value.entry S.Keys serializer) }
         ensures held { OnOk result (weak_count (λ u. U.source_length u.now) value.entry ≤ 4294967295) }
         ensures goes_on { GoesOn (S.state serializer.old) (S.state serializer.new) }
-        ensures refused { IfErr result (IsRefused T.definitions (weak (flavor_as F.name F.ALLOW_CYCLES) T.pointee)
-            (weak_keys (λ u. naming_of key (flavor_as F.name F.ALLOW_CYCLES) T.pointee (U.source_length u.now) (U.meaning u.now) ∷ U.keys u.now) value.entry) (weak_value (λ u. shared_value key) value.entry)
-            (S.state serializer.old) (S.state serializer.new)) }
+        ensures refused { IfErr result (IsntWeak F.Flavor T.ArchivePointee U.ArchiveUnsized key value.entry S.Keys serializer) }
         ensures null { value.entry ≡ None → IsOk result × (S.state serializer.new ≡ S.state serializer.old) }
     {
         let Some(value) = value else {
@@ -223,10 +209,8 @@ where
         requires sized { length place.bytes.now ≡ pointer_size T.pointee }
         requires one_value { has_length T.pointee ≡ false → weak_count (λ u. U.source_length u.now) value ≡ 0 }
         requires held { weak_count (λ u. U.source_length u.now) value ≤ 4294967295 }
-        ensures resolved { OnOk result (Resolves T.definitions place.entry.pos place.exit.0.now (weak (flavor_as F.name F.ALLOW_CYCLES) T.pointee)
-            (weak_flat (flavor_as F.name F.ALLOW_CYCLES) T.pointee (weak_count (λ u. U.source_length u.now) value.entry) resolver)) }
-        ensures refused { IfErr result (HindersAt T.definitions (weak (flavor_as F.name F.ALLOW_CYCLES) T.pointee)
-            (weak_flat (flavor_as F.name F.ALLOW_CYCLES) T.pointee (weak_count (λ u. U.source_length u.now) value.entry) resolver) place.entry.pos) }
+        ensures resolved { OnOk result (WeakResolved F.Flavor T.ArchivePointee U.ArchiveUnsized place value.entry resolver) }
+        ensures refused { IfErr result (WeakHindered F.Flavor T.ArchivePointee U.ArchiveUnsized place value.entry resolver) }
         ensures null { resolver ≡ None → IsOk result × (place.exit.0.now ≡ owner_bytes (has_length T.pointee) (whole 1) 0) }
         ensures same_length { length place.exit.0.now ≡ length place.entry.bytes.now }
     {

@@ -3,6 +3,7 @@
 ghost use Rattle.std.specs.Prelude.{◌≡◌, ◌+◌, Some};
 ghost use Rattle.archive_check.specs.PartsLayout.{part_at, definitions_at};
 ghost use Rattle.archive_check.specs.Viewed.{Viewed};
+ghost use Rattle.archive_core.specs.SealsWritten.{SealsBeside};
 ghost use Rattle.archive_core.specs.Standing.{StandsWith, view};
 
 use super::Seal;
@@ -20,8 +21,7 @@ impl<'a, T: Record> Seal<'a, T> {
         ensures position { result.pos ≡ self.entry.pos + T.Parts.begin 0 i }
         ensures length { result.len ≡ 0 }
         ensures viewed { Viewed U.definitions result.bytes.now result.pos U.pointee result.len }
-        ensures beside { StandsWith T.definitions self.entry.bytes.now
-            (view self.entry.pos T.pointee self.entry.len) (view result.pos U.pointee result.len) }
+        ensures beside { SealsBeside T.definitions T.pointee U.pointee result self.entry }
     {
         let spot = self.as_ref().field::<U>(i).spot();
         let Seal { bytes, .. } = self;

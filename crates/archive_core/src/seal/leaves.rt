@@ -10,6 +10,7 @@ ghost use Rattle.archive_check.specs.LittleEndian.{little_bytes, little_number};
 ghost use Rattle.archive_check.specs.Shape.{Kind as KindOf, bool, number, signed, unsigned, leaf, non_zero, one};
 ghost use Rattle.archive_check.specs.Viewed.{Viewed};
 ghost use Rattle.archive_core.specs.Sealed.{Holds, StandsIn, leaf_at, value_holds, non_zero_holds, non_zero_size};
+ghost use Rattle.archive_core.specs.SealsWritten.{LeafStands, LeafWritten};
 ghost use Rattle.archive_core.specs.Standing.{KeepsParts, KeepsViews, view};
 ghost use Rattle.archive_num.specs.Digits.{is_zero, bool_byte};
 ghost use Rattle.archive_num.specs.Leaves.{bool-leaf, bool-number, bool-value, number-leaf, signed-number, signed-value, unsigned-number, unsigned-value};
@@ -130,7 +131,7 @@ fn write_over<T: SealedLeaf>(bytes: &mut [u8], pos: usize, value: T::Written)
     requires fits { pos + T.Written.byte_count ≤ length bytes.old }
     requires can_hold { T.can_hold value }
     ensures edited { bytes.new ≡ edit bytes.old pos (T.Written.bytes_of value) }
-    ensures leaf { WritesLeaf (leaf_at T.kind bytes.old pos) (number_leaf pos T.kind (T.Written.value_of value)) bytes.old bytes.new }
+    ensures leaf { LeafWritten T.kind pos (T.Written.value_of value) bytes.old bytes.new }
     ensures parts { KeepsParts (leaf_at T.kind bytes.old pos) bytes.old bytes.new }
 {
     write_value(value, bytes, pos);
@@ -145,9 +146,8 @@ impl<'a, T: SealedLeaf> Seal<'a, T> {
         requires viewed { Viewed T.definitions self.bytes.now self.pos T.pointee self.len }
         requires can_hold { T.can_hold value }
         ensures edited { self.exit.0.now ≡ edit self.entry.bytes.now self.entry.pos (T.Written.bytes_of value) }
-        ensures stands { StandsIn self.entry.bytes.now self.entry.pos T.pointee self.entry.len (leaf_at T.kind self.entry.bytes.now self.entry.pos) }
-        ensures leaf { WritesLeaf (leaf_at T.kind self.entry.bytes.now self.entry.pos) (number_leaf self.entry.pos T.kind (T.Written.value_of value))
-            self.entry.bytes.now self.exit.0.now }
+        ensures stands { LeafStands T.kind self.entry.bytes.now self.entry.pos T.pointee self.entry.len }
+        ensures leaf { LeafWritten T.kind self.entry.pos (T.Written.value_of value) self.entry.bytes.now self.exit.0.now }
         ensures parts { KeepsParts (leaf_at T.kind self.entry.bytes.now self.entry.pos)
             self.entry.bytes.now self.exit.0.now }
         ensures views { KeepsViews self.entry.bytes.now self.exit.0.now (view self.entry.pos T.pointee self.entry.len) }
@@ -168,8 +168,7 @@ impl<'a, T: ArchivePointee> Seal<'a, T> {
         ensures length { self.new.len ≡ self.old.len }
         ensures edited { self.new.bytes.now ≡ edit self.old.bytes.now spot.pos (U.Written.bytes_of value) }
         ensures stands { StandsIn self.old.bytes.now spot.pos U.pointee spot.len (leaf_at U.kind self.old.bytes.now spot.pos) }
-        ensures leaf { WritesLeaf (leaf_at U.kind self.old.bytes.now spot.pos) (number_leaf spot.pos U.kind (U.Written.value_of value))
-            self.old.bytes.now self.new.bytes.now }
+        ensures leaf { LeafWritten U.kind spot.pos (U.Written.value_of value) self.old.bytes.now self.new.bytes.now }
         ensures parts { KeepsParts (leaf_at U.kind self.old.bytes.now spot.pos) self.old.bytes.now self.new.bytes.now }
         ensures views { KeepsViews self.old.bytes.now self.new.bytes.now (view spot.pos U.pointee spot.len) }
     {

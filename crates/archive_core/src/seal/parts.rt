@@ -6,7 +6,9 @@ ghost use Rattle.archive_check.specs.Readable.{target_from};
 ghost use Rattle.archive_check.specs.Reads.{i32_at, length_at, u32_at};
 ghost use Rattle.archive_check.specs.Shape.{one, run, text, boxed, shared, weak, vec as vec_shape};
 ghost use Rattle.archive_check.specs.Viewed.{Viewed};
+ghost use Rattle.archive_core.specs.SealsWritten.{SealsBeside, seal_tag};
 ghost use Rattle.archive_core.specs.SharedLaws.{flavor_as};
+ghost use Rattle.archive_core.specs.SharedWriting.{flavor_of, weak_to};
 ghost use Rattle.archive_core.specs.Standing.{StandsWith, view};
 ghost use Rattle.archive_enum.specs.Choices.{option_shape};
 
@@ -29,8 +31,7 @@ impl<'a, T: PortablePointee> Seal<'a, ArchivedBox<T>> {
         ensures position { result.pos ≡ target_from self.entry.bytes.now self.entry.pos self.entry.pos }
         ensures length { result.len ≡ length_at self.entry.bytes.now self.entry.pos T.pointee }
         ensures viewed { Viewed T.definitions result.bytes.now result.pos T.pointee result.len }
-        ensures beside { StandsWith T.definitions self.entry.bytes.now
-            (view self.entry.pos (one (boxed T.pointee)) self.entry.len) (view result.pos T.pointee result.len) }
+        ensures beside { SealsBeside T.definitions (one (boxed T.pointee)) T.pointee result self.entry }
     {
         let spot = self.as_ref().get().spot();
         let Seal { bytes, .. } = self;
@@ -48,8 +49,7 @@ impl<'a> Seal<'a, ArchivedBox<ArchivedStr>> {
         ensures position { result.pos ≡ target_from self.entry.bytes.now self.entry.pos self.entry.pos }
         ensures length { result.len ≡ u32_at self.entry.bytes.now (self.entry.pos + 4) }
         ensures viewed { Viewed no_definition result.bytes.now result.pos text result.len }
-        ensures beside { StandsWith no_definition self.entry.bytes.now
-            (view self.entry.pos (one (boxed text)) self.entry.len) (view result.pos text result.len) }
+        ensures beside { SealsBeside no_definition (one (boxed text)) text result self.entry }
     {
         let spot = self.as_ref().get().spot();
         let Seal { bytes, .. } = self;
@@ -62,15 +62,13 @@ impl<'a, T: PortablePointee, F: Flavor> Seal<'a, ArchivedRc<T, F>> {
     /// In rkyv 0.8.18 it is unsafe (`get_seal_unchecked`); here the whole buffer is borrowed for writing, so no other pointer to the value can be used
     /// meanwhile.
     pub fn get_seal(self) -> Seal<'a, T>
-        requires { Viewed T.definitions self.bytes.now self.pos (one (shared (flavor_as F.name F.ALLOW_CYCLES) T.pointee)) self.len }
+        requires { Viewed T.definitions self.bytes.now self.pos (one (shared (flavor_of F.Flavor) T.pointee)) self.len }
         ensures same_reference { result.bytes.ghost_name ≡ self.entry.bytes.ghost_name }
         ensures buffer { result.bytes.now ≡ self.entry.bytes.now }
         ensures position { result.pos ≡ target_from self.entry.bytes.now self.entry.pos self.entry.pos }
         ensures length { result.len ≡ length_at self.entry.bytes.now self.entry.pos T.pointee }
         ensures viewed { Viewed T.definitions result.bytes.now result.pos T.pointee result.len }
-        ensures beside { StandsWith T.definitions self.entry.bytes.now
-            (view self.entry.pos (one (shared (flavor_as F.name F.ALLOW_CYCLES) T.pointee)) self.entry.len)
-            (view result.pos T.pointee result.len) }
+        ensures beside { SealsBeside T.definitions (one (shared (flavor_of F.Flavor) T.pointee)) T.pointee result self.entry }
     {
         let spot = self.as_ref().get().spot();
         let Seal { bytes, .. } = self;
@@ -82,7 +80,7 @@ impl<'a, T: PortablePointee, F: Flavor> Seal<'a, ArchivedRcWeak<T, F>> {
     /// A seal of what the pointer leads to; none exactly where it is null, whose offset is 1. Asks that the seal shows a part of a buffer that was
     /// checked, as it does when it is made. No byte changes. As in rkyv 0.8.18.
     pub fn upgrade_seal(self) -> Option<Seal<'a, T>>
-        requires { Viewed T.definitions self.bytes.now self.pos (one (weak (flavor_as F.name F.ALLOW_CYCLES) T.pointee)) self.len }
+        requires { Viewed T.definitions self.bytes.now self.pos (weak_to F.Flavor T.pointee) self.len }
         ensures offset { IfSome result (λ _. i32_at self.entry.bytes.now self.entry.pos ≡ whole 1 → ⊥) }
         ensures null { IfNone result (i32_at self.entry.bytes.now self.entry.pos ≡ whole 1) }
         ensures same_reference { IfSome result (λ s. s.bytes.ghost_name ≡ self.entry.bytes.ghost_name) }
@@ -90,9 +88,7 @@ impl<'a, T: PortablePointee, F: Flavor> Seal<'a, ArchivedRcWeak<T, F>> {
         ensures position { IfSome result (λ s. s.pos ≡ target_from self.entry.bytes.now self.entry.pos self.entry.pos) }
         ensures length { IfSome result (λ s. s.len ≡ length_at self.entry.bytes.now self.entry.pos T.pointee) }
         ensures viewed { IfSome result (λ s. Viewed T.definitions s.bytes.now s.pos T.pointee s.len) }
-        ensures beside { IfSome result (λ s. StandsWith T.definitions self.entry.bytes.now
-            (view self.entry.pos (one (weak (flavor_as F.name F.ALLOW_CYCLES) T.pointee)) self.entry.len)
-            (view s.pos T.pointee s.len)) }
+        ensures beside { IfSome result (λ s. SealsBeside T.definitions (weak_to F.Flavor T.pointee) T.pointee s self.entry) }
     {
         let spot = match self.as_ref().upgrade() {
             None => return None,
@@ -113,8 +109,7 @@ impl<'a, T: Portable> Seal<'a, ArchivedVec<T>> {
         ensures position { result.pos ≡ target_from self.entry.bytes.now self.entry.pos self.entry.pos }
         ensures length { result.len ≡ u32_at self.entry.bytes.now (self.entry.pos + 4) }
         ensures viewed { Viewed T.definitions result.bytes.now result.pos (run T.shape) result.len }
-        ensures beside { StandsWith T.definitions self.entry.bytes.now
-            (view self.entry.pos (one (vec_shape T.shape)) self.entry.len) (view result.pos (run T.shape) result.len) }
+        ensures beside { SealsBeside T.definitions (one (vec_shape T.shape)) (run T.shape) result self.entry }
     {
         let spot = self.as_ref().as_slice().spot();
         let Seal { bytes, .. } = self;
@@ -133,8 +128,7 @@ impl<'a, T: Portable> Seal<'a, ArchivedVec<T>> {
         ensures position { result.pos ≡ target_from self.entry.bytes.now self.entry.pos self.entry.pos + index * T.layout.size }
         ensures length { result.len ≡ 0 }
         ensures viewed { Viewed T.definitions result.bytes.now result.pos T.pointee result.len }
-        ensures beside { StandsWith T.definitions self.entry.bytes.now
-            (view self.entry.pos (one (vec_shape T.shape)) self.entry.len) (view result.pos T.pointee result.len) }
+        ensures beside { SealsBeside T.definitions (one (vec_shape T.shape)) T.pointee result self.entry }
     {
         let spot = self.as_ref().as_slice().index(index).spot();
         let Seal { bytes, .. } = self;
@@ -160,8 +154,7 @@ impl<'a, T: Portable> Seal<'a, ArchivedSlice<T>> {
         ensures position { result.pos ≡ self.entry.pos + index * T.layout.size }
         ensures length { result.len ≡ 0 }
         ensures viewed { Viewed T.definitions result.bytes.now result.pos T.pointee result.len }
-        ensures beside { StandsWith T.definitions self.entry.bytes.now
-            (view self.entry.pos (run T.shape) self.entry.len) (view result.pos T.pointee result.len) }
+        ensures beside { SealsBeside T.definitions (run T.shape) T.pointee result self.entry }
     {
         let spot = self.as_ref().index(index).spot();
         let Seal { bytes, .. } = self;
@@ -174,14 +167,13 @@ impl<'a, T: Portable> Seal<'a, ArchivedOption<T>> {
     /// and what stands behind a `None` isn't looked at. As in rkyv 0.8.18.
     pub fn as_seal(self) -> Option<Seal<'a, T>>
         requires { Viewed T.definitions self.bytes.now self.pos (one (option_shape T.shape)) self.len }
-        ensures tag { MatchOption result (slice_index self.entry.bytes.now self.entry.pos ≡ 0) (λ s. slice_index self.entry.bytes.now self.entry.pos ≡ 1) }
+        ensures tag { MatchOption result (seal_tag self.entry ≡ 0) (λ s. seal_tag self.entry ≡ 1) }
         ensures same_reference { IfSome result (λ s. s.bytes.ghost_name ≡ self.entry.bytes.ghost_name) }
         ensures buffer { IfSome result (λ s. s.bytes.now ≡ self.entry.bytes.now) }
         ensures position { IfSome result (λ s. s.pos ≡ self.entry.pos + T.layout.align) }
         ensures length { IfSome result (λ s. s.len ≡ 0) }
         ensures viewed { IfSome result (λ s. Viewed T.definitions s.bytes.now s.pos T.pointee s.len) }
-        ensures beside { IfSome result (λ s. StandsWith T.definitions self.entry.bytes.now
-            (view self.entry.pos (one (option_shape T.shape)) self.entry.len) (view s.pos T.pointee s.len)) }
+        ensures beside { IfSome result (λ s. SealsBeside T.definitions (one (option_shape T.shape)) T.pointee s self.entry) }
     {
         let spot = match self.as_ref().as_ref() {
             None => return None,
@@ -194,14 +186,13 @@ impl<'a, T: Portable> Seal<'a, ArchivedOption<T>> {
     /// checked, as it does when it is made. No byte changes. As in rkyv 0.8.18.
     pub fn iter_seal(self) -> Iter<Seal<'a, T>>
         requires { Viewed T.definitions self.bytes.now self.pos (one (option_shape T.shape)) self.len }
-        ensures tag { MatchOption result (slice_index self.entry.bytes.now self.entry.pos ≡ 0) (λ s. slice_index self.entry.bytes.now self.entry.pos ≡ 1) }
+        ensures tag { MatchOption result (seal_tag self.entry ≡ 0) (λ s. seal_tag self.entry ≡ 1) }
         ensures same_reference { IfSome result (λ s. s.bytes.ghost_name ≡ self.entry.bytes.ghost_name) }
         ensures buffer { IfSome result (λ s. s.bytes.now ≡ self.entry.bytes.now) }
         ensures position { IfSome result (λ s. s.pos ≡ self.entry.pos + T.layout.align) }
         ensures length { IfSome result (λ s. s.len ≡ 0) }
         ensures viewed { IfSome result (λ s. Viewed T.definitions s.bytes.now s.pos T.pointee s.len) }
-        ensures beside { IfSome result (λ s. StandsWith T.definitions self.entry.bytes.now
-            (view self.entry.pos (one (option_shape T.shape)) self.entry.len) (view s.pos T.pointee s.len)) }
+        ensures beside { IfSome result (λ s. SealsBeside T.definitions (one (option_shape T.shape)) T.pointee s self.entry) }
     {
         Iter::new(self.as_seal())
     }

@@ -9,6 +9,7 @@ ghost use Rattle.archive_check.specs.Revised.{WritesLeaf};
 ghost use Rattle.archive_check.specs.Shape.{str as str_shape, one, text};
 ghost use Rattle.archive_check.specs.Viewed.{Viewed};
 ghost use Rattle.archive_core.specs.Sealed.{StandsIn, text_begin, string_leaf};
+ghost use Rattle.archive_core.specs.SealsWritten.{SealsBeside, TextStands, TextWritten, TextKeepsParts, StringStands, StringWritten, string_edit};
 ghost use Rattle.archive_core.specs.Standing.{KeepsParts, KeepsViews, StandsWith, view};
 
 use super::{Seal, Spot};
@@ -30,7 +31,7 @@ fn write_text(value: &str, bytes: &mut [u8], pos: usize)
 fn write_text_over(value: &str, bytes: &mut [u8], pos: usize)
     requires { pos + length value.now ≤ length bytes.old }
     ensures edited { bytes.new ≡ edit bytes.old pos value.now }
-    ensures leaf { WritesLeaf (text_leaf pos (bytes_at bytes.old pos (length value.now))) (text_leaf pos value.now) bytes.old bytes.new }
+    ensures leaf { TextWritten pos (length value.now) value.now bytes.old bytes.new }
     ensures parts { KeepsParts (text_leaf pos (bytes_at bytes.old pos (length value.now))) bytes.old bytes.new }
 {
     write_text(value, bytes, pos);
@@ -62,11 +63,9 @@ impl<'a> Seal<'a, ArchivedStr> {
         requires viewed { Viewed no_definition self.bytes.now self.pos text self.len }
         requires same_length { length value.now ≡ self.len }
         ensures edited { self.exit.0.now ≡ edit self.entry.bytes.now self.entry.pos value.now }
-        ensures stands { StandsIn self.entry.bytes.now self.entry.pos text self.entry.len (text_leaf self.entry.pos (bytes_at self.entry.bytes.now self.entry.pos self.entry.len)) }
-        ensures leaf { WritesLeaf (text_leaf self.entry.pos (bytes_at self.entry.bytes.now self.entry.pos self.entry.len)) (text_leaf self.entry.pos value.now)
-            self.entry.bytes.now self.exit.0.now }
-        ensures parts { KeepsParts (text_leaf self.entry.pos (bytes_at self.entry.bytes.now self.entry.pos self.entry.len))
-            self.entry.bytes.now self.exit.0.now }
+        ensures stands { TextStands self.entry.bytes.now self.entry.pos self.entry.len }
+        ensures leaf { TextWritten self.entry.pos self.entry.len value.now self.entry.bytes.now self.exit.0.now }
+        ensures parts { TextKeepsParts self.entry.pos self.entry.len self.entry.bytes.now self.exit.0.now }
         ensures views { KeepsViews self.entry.bytes.now self.exit.0.now (view self.entry.pos text self.entry.len) }
     {
         let Seal { bytes, pos, .. } = self;
@@ -84,8 +83,7 @@ impl<'a> Seal<'a, ArchivedString> {
         ensures position { result.pos ≡ text_begin self.entry.bytes.now self.entry.pos }
         ensures length { result.len ≡ length (string_text self.entry.bytes.now self.entry.pos) }
         ensures viewed { Viewed no_definition result.bytes.now result.pos text result.len }
-        ensures beside { StandsWith no_definition self.entry.bytes.now
-            (view self.entry.pos (one str_shape) self.entry.len) (view result.pos text result.len) }
+        ensures beside { SealsBeside no_definition (one str_shape) text result self.entry }
     {
         let spot = text_spot(self.as_ref());
         let Seal { bytes, .. } = self;
@@ -97,10 +95,9 @@ impl<'a> Seal<'a, ArchivedString> {
     pub fn write_str(self, value: &str)
         requires viewed { Viewed no_definition self.bytes.now self.pos (one str_shape) self.len }
         requires same_length { length value.now ≡ length (string_text self.bytes.now self.pos) }
-        ensures edited { self.exit.0.now ≡ edit self.entry.bytes.now (text_begin self.entry.bytes.now self.entry.pos) value.now }
-        ensures stands { StandsIn self.entry.bytes.now self.entry.pos (one str_shape) self.entry.len (string_leaf self.entry.bytes.now self.entry.pos) }
-        ensures leaf { WritesLeaf (string_leaf self.entry.bytes.now self.entry.pos) (text_leaf (text_begin self.entry.bytes.now self.entry.pos) value.now)
-            self.entry.bytes.now self.exit.0.now }
+        ensures edited { self.exit.0.now ≡ string_edit self.entry.bytes.now self.entry.pos value.now }
+        ensures stands { StringStands self.entry.bytes.now self.entry.pos self.entry.len }
+        ensures leaf { StringWritten self.entry.pos value.now self.entry.bytes.now self.exit.0.now }
         ensures parts { KeepsParts (string_leaf self.entry.bytes.now self.entry.pos)
             self.entry.bytes.now self.exit.0.now }
         ensures views { KeepsViews self.entry.bytes.now self.exit.0.now (view self.entry.pos (one str_shape) self.entry.len) }

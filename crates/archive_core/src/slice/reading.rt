@@ -6,9 +6,11 @@ ghost use Rattle.archive_check.specs.Value.{list};
 ghost use Rattle.archive_check.specs.Viewed.{Viewed};
 ghost use Rattle.archive_check.specs.Entries.{ReadsBack, RefusesReading};
 ghost use Rattle.archive_core.specs.Runs.{each_meaning, each_keys};
+ghost use Rattle.archive_core.specs.Seen.{IsPartOf, RefusesPart};
+ghost use Rattle.archive_core.specs.Sources.{Read, AreElementsOf, ReadsElements, RefusesElements};
 
 use super::ArchivedSlice;
-use crate::traits::{Archive, Deserialize, DeserializeUnsized, Entries, Portable};
+use crate::traits::{Archive, ArchivePointee, Deserialize, DeserializeUnsized, Entries, Portable};
 use crate::view::{RawView, Ref};
 use archive_check::format::error::Error;
 use std::alloc::Global;
@@ -19,10 +21,9 @@ pub fn read_elements<T: Portable + Deserialize<U, D>, U: Archive + Drop, D: Entr
     part: RawView<'_>,
     deserializer: &mut D,
 ) -> Result<Vec<U>, Error>
-    requires { Viewed T.definitions part.bytes.now part.pos (run T.shape) part.len }
-    ensures read { IfOk result (λ v. ReadsBack T.definitions part.entry.bytes.now part.entry.pos (run T.shape) part.entry.len
-        (D.entry_of deserializer.old) (D.entry_of deserializer.new) (list (each_meaning U.meaning v.items)) (each_keys U.keys v.items)) }
-    ensures refused { IfErr result (RefusesReading T.definitions part.entry.bytes.now part.entry.pos (run T.shape) part.entry.len (D.entry_of deserializer.old)) }
+    requires { AreElementsOf T.Portable part }
+    ensures read { IfOk result (λ v. ReadsElements T.Portable part D.Entries deserializer U.Archive v.items) }
+    ensures refused { IfErr result (RefusesElements T.Portable part D.Entries deserializer) }
 {
     let slice: Ref<'_, ArchivedSlice<T>> = Ref::at(part);
     let mut items = Vec::with_capacity(alloc, slice.len())?;
@@ -41,10 +42,9 @@ impl<T: Portable + Deserialize<U, D>, U: Archive + Drop, D: Entries> Deserialize
         part: RawView<'_>,
         deserializer: &mut D,
     ) -> Result<Vec<U>, Error>
-        requires { Viewed T.definitions part.bytes.now part.pos (run T.shape) part.len }
-        ensures read { IfOk result (λ v. ReadsBack T.definitions part.entry.bytes.now part.entry.pos (run T.shape) part.entry.len
-            (D.entry_of deserializer.old) (D.entry_of deserializer.new) (list (each_meaning U.meaning v.items)) (each_keys U.keys v.items)) }
-        ensures refused { IfErr result (RefusesReading T.definitions part.entry.bytes.now part.entry.pos (run T.shape) part.entry.len (D.entry_of deserializer.old)) }
+        requires { IsPartOf ⟦<Self as ArchivePointee>⟧ part }
+        ensures read { IfOk result (Read ⟦<Self as ArchivePointee>⟧ part D.Entries deserializer ⟦<Vec<U> as Archive>⟧) }
+        ensures refused { IfErr result (RefusesPart ⟦<Self as ArchivePointee>⟧ part D.Entries deserializer) }
     {
         read_elements::<T, U, D>(alloc, part, deserializer)
     }

@@ -6,9 +6,11 @@ ghost use Rattle.archive_check.specs.Value.{list};
 ghost use Rattle.archive_check.specs.declared.format.error.Error.TheVariants.{LengthTooLarge};
 ghost use Rattle.archive_core.specs.Causes.{IsRegionRefused};
 ghost use Rattle.archive_core.specs.Keyed.{each_keyed};
+ghost use Rattle.archive_core.specs.Placed.{AtOnce};
 ghost use Rattle.archive_core.specs.PlannedOwners.{is_long, slice_planned};
 ghost use Rattle.archive_core.specs.Plans.{SerializedRegion};
 ghost use Rattle.archive_core.specs.Runs.{each_keys, each_meaning, each_flat, EachBelongs, SerializedRun, IsRunRefused};
+ghost use Rattle.archive_core.specs.Sources.{EachOwned, EachRefused, SliceStored, SliceUnstored};
 ghost use Rattle.archive_write.specs.Written.{GoesOn};
 
 use super::ArchivedSlice;
@@ -33,12 +35,10 @@ pub(crate) fn serialize_each<A: Allocator + Drop, S: Writer, T: Serialize<S>>(
     values: &[T],
     serializer: &mut S,
 ) -> Result<Vec<T::Resolver, A>, Error>
-    ensures serialized { IfOk result (λ rs. SerializedRun T.Archived.definitions T.Archived.shape (length values.now) (each_keys T.keys values.now) (each_meaning T.meaning values.now)
-        (each_flat T.flat values.now rs.items) (S.state serializer.old) (S.state serializer.new)) }
+    ensures serialized { IfOk result (λ rs. EachOwned T.Archive T.Archived.Portable values.now rs.items S.Keys serializer) }
     ensures same_values { IfOk result (λ rs. EachBelongs T.belongs values.now rs.items) }
     ensures goes_on { GoesOn (S.state serializer.old) (S.state serializer.new) }
-    ensures refused { IfErr result (IsRunRefused T.Archived.definitions T.Archived.shape (length values.now) (each_keys T.keys values.now) (each_meaning T.meaning values.now)
-        (S.state serializer.old) (S.state serializer.new)) }
+    ensures refused { IfErr result (EachRefused T.Archive T.Archived.Portable values.now S.Keys serializer) }
 {
     let mut resolvers = Vec::with_capacity(alloc, values.len())?;
     for value in values {
@@ -53,11 +53,9 @@ fn serialize_in_turn<S: Writer + ResolverAlloc, T: Serialize<S>>(
     values: &[T],
     serializer: &mut S,
 ) -> Result<usize, Error>
-    ensures serialized { IfOk result (λ p. SerializedRegion T.Archived.definitions (run T.Archived.shape) (length values.now) (each_keys T.keys values.now) (list (each_meaning T.meaning values.now)) p
-        (S.state serializer.old) (S.state serializer.new)) }
+    ensures serialized { IfOk result (SliceStored T.Archive T.Archived.Portable values.now S.Keys serializer) }
     ensures goes_on { GoesOn (S.state serializer.old) (S.state serializer.new) }
-    ensures refused { IfErr result (IsRegionRefused T.Archived.definitions (run T.Archived.shape) (length values.now) (each_keys T.keys values.now) (list (each_meaning T.meaning values.now))
-        (S.state serializer.old) (S.state serializer.new)) }
+    ensures refused { IfErr result (SliceUnstored T.Archive T.Archived.Portable values.now S.Keys serializer) }
 {
     let alloc = serializer.resolver_alloc();
     let resolvers = serialize_each(alloc, values, serializer)?;
@@ -71,13 +69,11 @@ pub(crate) fn serialize_slice<S: Writer + ResolverAlloc, T: Serialize<S>>(
     values: &[T],
     serializer: &mut S,
 ) -> Result<usize, Error>
-    ensures serialized { IfOk result (λ p. SerializedRegion T.Archived.definitions (run T.Archived.shape) (length values.now) (each_keys T.keys values.now) (list (each_meaning T.meaning values.now)) p
-        (S.state serializer.old) (S.state serializer.new)) }
+    ensures serialized { IfOk result (SliceStored T.Archive T.Archived.Portable values.now S.Keys serializer) }
     ensures held { OnOk result (length values.now ≤ 4294967295) }
     ensures goes_on { GoesOn (S.state serializer.old) (S.state serializer.new) }
-    ensures refused { IfErr result (IsRegionRefused T.Archived.definitions (run T.Archived.shape) (length values.now) (each_keys T.keys values.now) (list (each_meaning T.meaning values.now))
-        (S.state serializer.old) (S.state serializer.new)) }
-    ensures too_long { 4294967295 < length values.now → IsErrOf result LengthTooLarge × (S.state serializer.new ≡ S.state serializer.old) }
+    ensures refused { IfErr result (SliceUnstored T.Archive T.Archived.Portable values.now S.Keys serializer) }
+    ensures too_long { 4294967295 < length values.now → AtOnce result LengthTooLarge S.Keys serializer }
 {
     if values.len() > u32::MAX as usize {
         return Err(Error::LengthTooLarge);
@@ -120,13 +116,11 @@ impl<'a, S: Writer + ResolverAlloc, T: Serialize<S>> SerializeUnsized<S> for Sli
     /// 4,294,967,295 elements, with `LayoutTooLarge`, 23, where the region would end above `usize::MAX`, as the elements refuse, and as the trait
     /// says it.
     fn serialize_unsized(&self, serializer: &mut S) -> Result<usize, Error>
-        ensures serialized { IfOk result (λ p. SerializedRegion T.Archived.definitions (run T.Archived.shape) (length self.now.slice.now) (each_keys T.keys self.now.slice.now)
-            (list (each_meaning T.meaning self.now.slice.now)) p (S.state serializer.old) (S.state serializer.new)) }
+        ensures serialized { IfOk result (SliceStored T.Archive T.Archived.Portable self.now.slice.now S.Keys serializer) }
         ensures goes_on { GoesOn (S.state serializer.old) (S.state serializer.new) }
-        ensures refused { IfErr result (IsRegionRefused T.Archived.definitions (run T.Archived.shape) (length self.now.slice.now) (each_keys T.keys self.now.slice.now)
-            (list (each_meaning T.meaning self.now.slice.now)) (S.state serializer.old) (S.state serializer.new)) }
+        ensures refused { IfErr result (SliceUnstored T.Archive T.Archived.Portable self.now.slice.now S.Keys serializer) }
         ensures held { OnOk result (length self.now.slice.now ≤ 4294967295) }
-        ensures too_long { 4294967295 < length self.now.slice.now → IsErrOf result LengthTooLarge × (S.state serializer.new ≡ S.state serializer.old) }
+        ensures too_long { 4294967295 < length self.now.slice.now → AtOnce result LengthTooLarge S.Keys serializer }
     {
         serialize_slice(self.slice, serializer)
     }

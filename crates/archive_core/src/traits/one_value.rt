@@ -3,6 +3,7 @@
 ghost use Rattle.std.specs.Prelude.{◌≡◌, IfOk, IfErr};
 ghost use Rattle.archive_check.specs.Viewed.{Viewed};
 ghost use Rattle.archive_check.specs.Entries.{ReadsBack, RefusesReading};
+ghost use Rattle.archive_core.specs.Seen.{IsPartOf, ReadsPart, RefusesPart};
 
 use super::{Archive, Deserialize, DeserializeUnsized, Entries, Portable};
 use crate::view::RawView;
@@ -16,10 +17,9 @@ impl<T: Portable + Deserialize<U, D>, U: Archive, D: Entries> DeserializeUnsized
         part: RawView<'_>,
         deserializer: &mut D,
     ) -> Result<U, Error>
-        requires { Viewed T.definitions part.bytes.now part.pos T.pointee part.len }
-        ensures read { IfOk result (λ t. ReadsBack T.definitions part.entry.bytes.now part.entry.pos T.pointee part.entry.len
-            (D.entry_of deserializer.old) (D.entry_of deserializer.new) (U.meaning t) (U.keys t)) }
-        ensures refused { IfErr result (RefusesReading T.definitions part.entry.bytes.now part.entry.pos T.pointee part.entry.len (D.entry_of deserializer.old)) }
+        requires { IsPartOf T.ArchivePointee part }
+        ensures read { IfOk result (λ t. ReadsPart T.ArchivePointee part D.Entries deserializer (U.meaning t) (U.keys t)) }
+        ensures refused { IfErr result (RefusesPart T.ArchivePointee part D.Entries deserializer) }
     {
         T::deserialize_part(alloc, part, deserializer)
     }

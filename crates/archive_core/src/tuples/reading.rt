@@ -3,6 +3,8 @@
 ghost use Rattle.std.specs.Prelude.{◌≡◌, IfOk, IfErr};
 ghost use Rattle.archive_check.specs.Entries.{ReadsBack, RefusesReading};
 ghost use Rattle.archive_check.specs.Viewed.{Viewed};
+ghost use Rattle.archive_core.specs.Seen.{IsPartOf, RefusesPart};
+ghost use Rattle.archive_core.specs.Sources.{Read};
 
 use crate::record::deserialize_record;
 use crate::traits::{Archive, ArchivePointee, Deserialize, Entries, Portable};
@@ -18,12 +20,9 @@ impl<A: Archive + Drop, De: Entries, N: Portable + Deserialize<A, De>> Deseriali
         part: RawView<'_>,
         deserializer: &mut De,
     ) -> Result<(A,), Error>
-        requires { Viewed ⟦<Self as ArchivePointee>⟧.definitions part.bytes.now part.pos ⟦<Self as ArchivePointee>⟧.pointee part.len }
-        ensures read { IfOk result (λ t. ReadsBack ⟦<Self as ArchivePointee>⟧.definitions part.entry.bytes.now part.entry.pos
-            ⟦<Self as ArchivePointee>⟧.pointee part.entry.len (De.entry_of deserializer.old) (De.entry_of deserializer.new)
-            (⟦<(A,) as Archive>⟧.meaning t) (⟦<(A,) as Archive>⟧.keys t)) }
-        ensures refused { IfErr result (RefusesReading ⟦<Self as ArchivePointee>⟧.definitions part.entry.bytes.now part.entry.pos
-            ⟦<Self as ArchivePointee>⟧.pointee part.entry.len (De.entry_of deserializer.old)) }
+        requires { IsPartOf ⟦<Self as ArchivePointee>⟧ part }
+        ensures read { IfOk result (Read ⟦<Self as ArchivePointee>⟧ part De.Entries deserializer ⟦<(A,) as Archive>⟧) }
+        ensures refused { IfErr result (RefusesPart ⟦<Self as ArchivePointee>⟧ part De.Entries deserializer) }
     {
         let (a, ()) = deserialize_record::<Self, (A, ()), De>(alloc, part, deserializer)?;
         Ok((a,))
@@ -42,12 +41,9 @@ impl<
         part: RawView<'_>,
         deserializer: &mut De,
     ) -> Result<(A, B), Error>
-        requires { Viewed ⟦<Self as ArchivePointee>⟧.definitions part.bytes.now part.pos ⟦<Self as ArchivePointee>⟧.pointee part.len }
-        ensures read { IfOk result (λ t. ReadsBack ⟦<Self as ArchivePointee>⟧.definitions part.entry.bytes.now part.entry.pos
-            ⟦<Self as ArchivePointee>⟧.pointee part.entry.len (De.entry_of deserializer.old) (De.entry_of deserializer.new)
-            (⟦<(A, B) as Archive>⟧.meaning t) (⟦<(A, B) as Archive>⟧.keys t)) }
-        ensures refused { IfErr result (RefusesReading ⟦<Self as ArchivePointee>⟧.definitions part.entry.bytes.now part.entry.pos
-            ⟦<Self as ArchivePointee>⟧.pointee part.entry.len (De.entry_of deserializer.old)) }
+        requires { IsPartOf ⟦<Self as ArchivePointee>⟧ part }
+        ensures read { IfOk result (Read ⟦<Self as ArchivePointee>⟧ part De.Entries deserializer ⟦<(A, B) as Archive>⟧) }
+        ensures refused { IfErr result (RefusesPart ⟦<Self as ArchivePointee>⟧ part De.Entries deserializer) }
     {
         let (a, (b, ())) = deserialize_record::<Self, (A, (B, ())), De>(alloc, part, deserializer)?;
         Ok((a, b))
@@ -68,12 +64,9 @@ impl<
         part: RawView<'_>,
         deserializer: &mut De,
     ) -> Result<(A, B, C), Error>
-        requires { Viewed ⟦<Self as ArchivePointee>⟧.definitions part.bytes.now part.pos ⟦<Self as ArchivePointee>⟧.pointee part.len }
-        ensures read { IfOk result (λ t. ReadsBack ⟦<Self as ArchivePointee>⟧.definitions part.entry.bytes.now part.entry.pos
-            ⟦<Self as ArchivePointee>⟧.pointee part.entry.len (De.entry_of deserializer.old) (De.entry_of deserializer.new)
-            (⟦<(A, B, C) as Archive>⟧.meaning t) (⟦<(A, B, C) as Archive>⟧.keys t)) }
-        ensures refused { IfErr result (RefusesReading ⟦<Self as ArchivePointee>⟧.definitions part.entry.bytes.now part.entry.pos
-            ⟦<Self as ArchivePointee>⟧.pointee part.entry.len (De.entry_of deserializer.old)) }
+        requires { IsPartOf ⟦<Self as ArchivePointee>⟧ part }
+        ensures read { IfOk result (Read ⟦<Self as ArchivePointee>⟧ part De.Entries deserializer ⟦<(A, B, C) as Archive>⟧) }
+        ensures refused { IfErr result (RefusesPart ⟦<Self as ArchivePointee>⟧ part De.Entries deserializer) }
     {
         let (a, (b, (c, ()))) = deserialize_record::<Self, (A, (B, (C, ()))), De>(
             alloc,

@@ -5,6 +5,7 @@ ghost use Rattle.archive_check.specs.Value.{product};
 ghost use Rattle.archive_core.specs.Causes.{HindersAt};
 ghost use Rattle.archive_core.specs.Keyed.{nothing_keyed, part_keyed, record_keyed};
 ghost use Rattle.archive_core.specs.PartsPlanned.{no_part_planned, part_planned, product_planned};
+ghost use Rattle.archive_core.specs.Sources.{ResolvedAs, HinderedAs};
 ghost use Rattle.archive_core.specs.Writing.{Fresh, Resolves};
 
 use super::parts::{Parts1, Parts2, Parts3};
@@ -40,11 +41,9 @@ impl<A: Archive> Archive for (A,) {
     ) -> Result<(), Error>
         requires fresh { Fresh ⟦<Self::Archived as Portable>⟧.layout.size place.pos place.bytes.now }
         requires same_value { ⟦<Self as Archive>⟧.belongs self.now resolver }
-        ensures resolved { OnOk result (Resolves ⟦<Self::Archived as ArchivePointee>⟧.definitions place.entry.pos place.exit.0.now
-            ⟦<Self::Archived as Portable>⟧.shape (⟦<Self as Archive>⟧.flat self.now resolver)) }
+        ensures resolved { OnOk result (ResolvedAs ⟦<Self as Archive>⟧ ⟦<Self::Archived as Portable>⟧ place self.now resolver) }
         ensures same_length { length place.exit.0.now ≡ length place.entry.bytes.now }
-        ensures refused { IfErr result (HindersAt ⟦<Self::Archived as ArchivePointee>⟧.definitions ⟦<Self::Archived as Portable>⟧.shape
-            (⟦<Self as Archive>⟧.flat self.now resolver) place.entry.pos) }
+        ensures refused { IfErr result (HinderedAs ⟦<Self as Archive>⟧ ⟦<Self::Archived as Portable>⟧ place self.now resolver) }
     {
         let Place { bytes, pos, .. } = place;
         resolve_record::<Self, Parts1, Self::Archived>(self, resolver, Place::new(pos, bytes))
@@ -81,11 +80,9 @@ impl<A: Archive, B: Archive> Archive for (A, B) {
     ) -> Result<(), Error>
         requires fresh { Fresh ⟦<Self::Archived as Portable>⟧.layout.size place.pos place.bytes.now }
         requires same_value { ⟦<Self as Archive>⟧.belongs self.now resolver }
-        ensures resolved { OnOk result (Resolves ⟦<Self::Archived as ArchivePointee>⟧.definitions place.entry.pos place.exit.0.now
-            ⟦<Self::Archived as Portable>⟧.shape (⟦<Self as Archive>⟧.flat self.now resolver)) }
+        ensures resolved { OnOk result (ResolvedAs ⟦<Self as Archive>⟧ ⟦<Self::Archived as Portable>⟧ place self.now resolver) }
         ensures same_length { length place.exit.0.now ≡ length place.entry.bytes.now }
-        ensures refused { IfErr result (HindersAt ⟦<Self::Archived as ArchivePointee>⟧.definitions ⟦<Self::Archived as Portable>⟧.shape
-            (⟦<Self as Archive>⟧.flat self.now resolver) place.entry.pos) }
+        ensures refused { IfErr result (HinderedAs ⟦<Self as Archive>⟧ ⟦<Self::Archived as Portable>⟧ place self.now resolver) }
     {
         let Place { bytes, pos, .. } = place;
         resolve_record::<Self, Parts2, Self::Archived>(self, resolver, Place::new(pos, bytes))
@@ -122,11 +119,9 @@ impl<A: Archive, B: Archive, C: Archive> Archive for (A, B, C) {
     ) -> Result<(), Error>
         requires fresh { Fresh ⟦<Self::Archived as Portable>⟧.layout.size place.pos place.bytes.now }
         requires same_value { ⟦<Self as Archive>⟧.belongs self.now resolver }
-        ensures resolved { OnOk result (Resolves ⟦<Self::Archived as ArchivePointee>⟧.definitions place.entry.pos place.exit.0.now
-            ⟦<Self::Archived as Portable>⟧.shape (⟦<Self as Archive>⟧.flat self.now resolver)) }
+        ensures resolved { OnOk result (ResolvedAs ⟦<Self as Archive>⟧ ⟦<Self::Archived as Portable>⟧ place self.now resolver) }
         ensures same_length { length place.exit.0.now ≡ length place.entry.bytes.now }
-        ensures refused { IfErr result (HindersAt ⟦<Self::Archived as ArchivePointee>⟧.definitions ⟦<Self::Archived as Portable>⟧.shape
-            (⟦<Self as Archive>⟧.flat self.now resolver) place.entry.pos) }
+        ensures refused { IfErr result (HinderedAs ⟦<Self as Archive>⟧ ⟦<Self::Archived as Portable>⟧ place self.now resolver) }
     {
         let Place { bytes, pos, .. } = place;
         resolve_record::<Self, Parts3, Self::Archived>(self, resolver, Place::new(pos, bytes))

@@ -7,8 +7,10 @@ ghost use Rattle.archive_check.specs.Value.{list, hole};
 ghost use Rattle.archive_check.specs.declared.format.error.Error.TheVariants.{LengthTooLarge};
 ghost use Rattle.archive_core.specs.Causes.{HindersAt, IsRefused};
 ghost use Rattle.archive_core.specs.Keyed.{each_keyed};
+ghost use Rattle.archive_core.specs.KindsWritten.{VecSerialized, VecRefused, VecResolved, VecHindered};
 ghost use Rattle.archive_core.specs.Offsets.{distance, IsTooFar};
 ghost use Rattle.archive_core.specs.OwnerBytes.{owner_bytes};
+ghost use Rattle.archive_core.specs.Placed.{IsTooFarFrom, PointsTo, AtOnce};
 ghost use Rattle.archive_core.specs.PlannedOwners.{one_planned, vec_planned, slice_planned};
 ghost use Rattle.archive_core.specs.Plans.{Serialized};
 ghost use Rattle.archive_core.specs.Runs.{each_keys, each_meaning};
@@ -62,13 +64,11 @@ impl<T: Portable> ArchivedVec<T> {
         value: &[U],
         serializer: &mut S,
     ) -> Result<VecResolver, Error>
-        ensures serialized { IfOk result (λ r. Serialized T.definitions (vec_shape T.shape) (each_keys U.keys value.now) (list (each_meaning U.meaning value.now))
-            (hole (to_pointee r (run T.shape) (length value.now))) (S.state serializer.old) (S.state serializer.new)) }
+        ensures serialized { IfOk result (VecSerialized U.keys U.meaning T.Portable value.now S.Keys serializer) }
         ensures held { OnOk result (length value.now ≤ 4294967295) }
         ensures goes_on { GoesOn (S.state serializer.old) (S.state serializer.new) }
-        ensures refused { IfErr result (IsRefused T.definitions (vec_shape T.shape) (each_keys U.keys value.now) (list (each_meaning U.meaning value.now))
-            (S.state serializer.old) (S.state serializer.new)) }
-        ensures too_long { 4294967295 < length value.now → IsErrOf result LengthTooLarge × (S.state serializer.new ≡ S.state serializer.old) }
+        ensures refused { IfErr result (VecRefused U.keys U.meaning T.Portable value.now S.Keys serializer) }
+        ensures too_long { 4294967295 < length value.now → AtOnce result LengthTooLarge S.Keys serializer }
     {
         let pos = serialize_slice(value, serializer)?;
         let Ok(pos) = u32::try_from(pos) else {
@@ -88,11 +88,11 @@ impl<T: Portable> ArchivedVec<T> {
     ) -> Result<(), Error>
         requires sized { length place.bytes.now ≡ 8 }
         requires held { len ≤ 4294967295 }
-        ensures resolved { OnOk result (Resolves T.definitions place.entry.pos place.exit.0.now (vec_shape T.shape) (hole (to_pointee resolver (run T.shape) len))) }
-        ensures written { OnOk result (place.exit.0.now ≡ owner_bytes true (distance place.entry.pos resolver) len) }
+        ensures resolved { OnOk result (VecResolved T.Portable place resolver len) }
+        ensures written { OnOk result (PointsTo place true resolver len) }
         ensures fits { OnOk result (FitsSigned w32 (distance place.entry.pos resolver)) }
-        ensures refused { IfErr result (HindersAt T.definitions (vec_shape T.shape) (hole (to_pointee resolver (run T.shape) len)) place.entry.pos) }
-        ensures cause { IfErr result (λ e. (place.exit.0.now ≡ place.entry.bytes.now) × IsTooFar e (distance place.entry.pos resolver)) }
+        ensures refused { IfErr result (VecHindered T.Portable place resolver len) }
+        ensures cause { IfErr result (IsTooFarFrom place resolver) }
         ensures same_length { length place.exit.0.now ≡ length place.entry.bytes.now }
     {
         let Place { bytes, pos, .. } = place;
@@ -107,11 +107,11 @@ impl<T: Portable> ArchivedVec<T> {
     ) -> Result<(), Error>
         requires sized { length place.bytes.now ≡ 8 }
         requires held { length value.now ≤ 4294967295 }
-        ensures resolved { OnOk result (Resolves T.definitions place.entry.pos place.exit.0.now (vec_shape T.shape) (hole (to_pointee resolver (run T.shape) (length value.now)))) }
-        ensures written { OnOk result (place.exit.0.now ≡ owner_bytes true (distance place.entry.pos resolver) (length value.now)) }
+        ensures resolved { OnOk result (VecResolved T.Portable place resolver (length value.now)) }
+        ensures written { OnOk result (PointsTo place true resolver (length value.now)) }
         ensures fits { OnOk result (FitsSigned w32 (distance place.entry.pos resolver)) }
-        ensures refused { IfErr result (HindersAt T.definitions (vec_shape T.shape) (hole (to_pointee resolver (run T.shape) (length value.now))) place.entry.pos) }
-        ensures cause { IfErr result (λ e. (place.exit.0.now ≡ place.entry.bytes.now) × IsTooFar e (distance place.entry.pos resolver)) }
+        ensures refused { IfErr result (VecHindered T.Portable place resolver (length value.now)) }
+        ensures cause { IfErr result (IsTooFarFrom place resolver) }
         ensures same_length { length place.exit.0.now ≡ length place.entry.bytes.now }
     {
         let Place { bytes, pos, .. } = place;
@@ -144,10 +144,10 @@ impl<T: Archive> Archive for Vec<T> {
     ) -> Result<(), Error>
         requires fresh { Fresh 8 place.pos place.bytes.now }
         requires same_value { length self.now.items ≤ 4294967295 }
-        ensures resolved { OnOk result (Resolves T.Archived.definitions place.entry.pos place.exit.0.now (vec_shape T.Archived.shape) (hole (to_pointee resolver (run T.Archived.shape) (length self.now.items)))) }
+        ensures resolved { OnOk result (VecResolved T.Archived.Portable place resolver (length self.now.items)) }
         ensures same_length { length place.exit.0.now ≡ length place.entry.bytes.now }
-        ensures refused { IfErr result (HindersAt T.Archived.definitions (vec_shape T.Archived.shape) (hole (to_pointee resolver (run T.Archived.shape) (length self.now.items))) place.entry.pos) }
-        ensures written { OnOk result (place.exit.0.now ≡ owner_bytes true (distance place.entry.pos resolver) (length self.now.items)) }
+        ensures refused { IfErr result (VecHindered T.Archived.Portable place resolver (length self.now.items)) }
+        ensures written { OnOk result (PointsTo place true resolver (length self.now.items)) }
         ensures cause { IfErr result (λ e. IsTooFar e (distance place.entry.pos resolver)) }
     {
         let Place { bytes, pos, .. } = place;
@@ -158,13 +158,11 @@ impl<T: Archive> Archive for Vec<T> {
 impl<S: Writer + ResolverAlloc, T: Serialize<S>> Serialize<S> for Vec<T> {
     /// Writes the elements, as `ArchivedVec::serialize_from_slice` does, with its refusals.
     fn serialize(&self, serializer: &mut S) -> Result<VecResolver, Error>
-        ensures serialized { IfOk result (λ r. Serialized T.Archived.definitions (vec_shape T.Archived.shape) (each_keys T.keys self.now.items) (list (each_meaning T.meaning self.now.items))
-            (hole (to_pointee r (run T.Archived.shape) (length self.now.items))) (S.state serializer.old) (S.state serializer.new)) }
+        ensures serialized { IfOk result (VecSerialized T.keys T.meaning T.Archived.Portable self.now.items S.Keys serializer) }
         ensures same_value { OnOk result (length self.now.items ≤ 4294967295) }
         ensures goes_on { GoesOn (S.state serializer.old) (S.state serializer.new) }
-        ensures refused { IfErr result (IsRefused T.Archived.definitions (vec_shape T.Archived.shape) (each_keys T.keys self.now.items) (list (each_meaning T.meaning self.now.items))
-            (S.state serializer.old) (S.state serializer.new)) }
-        ensures too_long { 4294967295 < length self.now.items → IsErrOf result LengthTooLarge × (S.state serializer.new ≡ S.state serializer.old) }
+        ensures refused { IfErr result (VecRefused T.keys T.meaning T.Archived.Portable self.now.items S.Keys serializer) }
+        ensures too_long { 4294967295 < length self.now.items → AtOnce result LengthTooLarge S.Keys serializer }
     {
         ArchivedVec::<T::Archived>::serialize_from_slice(self.as_slice(), serializer)
     }

@@ -12,6 +12,7 @@ ghost use Rattle.archive_core.specs.PlannedOwners.{one_planned, slice_planned};
 ghost use Rattle.archive_core.specs.Plans.{Serialized};
 ghost use Rattle.archive_core.specs.Runs.{each_keys, each_meaning};
 ghost use Rattle.archive_core.specs.SharedSources.{rc_flavor, rc_keys, rc_flat, rc_keyed, rc_planned};
+ghost use Rattle.archive_core.specs.Sources.{ResolvedAs, HinderedAs};
 ghost use Rattle.archive_core.specs.Writing.{Fresh, Resolves};
 ghost use Rattle.archive_write.specs.Written.{GoesOn};
 
@@ -21,7 +22,7 @@ use crate::ser::{ResolverAlloc, Writer, serialize_one};
 use crate::sharing::Sharing;
 use crate::slice::{ArchivedSlice, Slice};
 use crate::string::{ArchivedStr, Text};
-use crate::traits::{Archive, ArchiveUnsized, Serialize, SerializeUnsized};
+use crate::traits::{Archive, ArchiveUnsized, Portable, Serialize, SerializeUnsized};
 use archive_check::format::error::Error;
 use std::rc::{RcSlice, RcStr};
 
@@ -68,11 +69,9 @@ impl Archive for SharedStr {
     ) -> Result<(), Error>
         requires fresh { Fresh 8 place.pos place.bytes.now }
         requires same_value { length (rc_str_bytes self.now.value) ≤ 4294967295 }
-        ensures resolved { OnOk result (Resolves no_definition place.entry.pos place.exit.0.now (shared rc_flavor text)
-            (rc_flat resolver text (length (rc_str_bytes self.now.value)))) }
+        ensures resolved { OnOk result (ResolvedAs ⟦<Self as Archive>⟧ ⟦<Self::Archived as Portable>⟧ place self.now resolver) }
         ensures same_length { length place.exit.0.now ≡ length place.entry.bytes.now }
-        ensures refused { IfErr result (HindersAt no_definition (shared rc_flavor text)
-            (rc_flat resolver text (length (rc_str_bytes self.now.value))) place.entry.pos) }
+        ensures refused { IfErr result (HinderedAs ⟦<Self as Archive>⟧ ⟦<Self::Archived as Portable>⟧ place self.now resolver) }
     {
         let Place { bytes, pos, .. } = place;
         let text = Text {
@@ -154,11 +153,9 @@ impl<T: Archive> Archive for SharedSlice<T> {
     ) -> Result<(), Error>
         requires fresh { Fresh 8 place.pos place.bytes.now }
         requires same_value { length (rc_slice_items self.now.value) ≤ 4294967295 }
-        ensures resolved { OnOk result (Resolves T.Archived.definitions place.entry.pos place.exit.0.now (shared rc_flavor (run T.Archived.shape))
-            (rc_flat resolver (run T.Archived.shape) (length (rc_slice_items self.now.value)))) }
+        ensures resolved { OnOk result (ResolvedAs ⟦<Self as Archive>⟧ ⟦<Self::Archived as Portable>⟧ place self.now resolver) }
         ensures same_length { length place.exit.0.now ≡ length place.entry.bytes.now }
-        ensures refused { IfErr result (HindersAt T.Archived.definitions (shared rc_flavor (run T.Archived.shape))
-            (rc_flat resolver (run T.Archived.shape) (length (rc_slice_items self.now.value))) place.entry.pos) }
+        ensures refused { IfErr result (HinderedAs ⟦<Self as Archive>⟧ ⟦<Self::Archived as Portable>⟧ place self.now resolver) }
     {
         let Place { bytes, pos, .. } = place;
         let slice = Slice {

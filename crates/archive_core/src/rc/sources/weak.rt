@@ -9,6 +9,7 @@ ghost use Rattle.archive_core.specs.PlannedOwners.{one_planned};
 ghost use Rattle.archive_core.specs.Plans.{Serialized};
 ghost use Rattle.archive_core.specs.SharedLaws.{weak_value, weak_keys, weak_flat, weak_keyed, weak_planned};
 ghost use Rattle.archive_core.specs.SharedSources.{rc_flavor, rc_keys, rc_keyed, rc_one_planned};
+ghost use Rattle.archive_core.specs.Sources.{ResolvedAs, HinderedAs, Wrote, Refused};
 ghost use Rattle.archive_core.specs.Writing.{Fresh, Resolves};
 ghost use Rattle.archive_write.specs.Written.{GoesOn};
 
@@ -18,7 +19,7 @@ use crate::rc::writing::{write_null, write_pointer};
 use crate::rc::{ArchivedRcWeak, RcFlavor, RcWeakResolver};
 use crate::ser::{ResolverAlloc, Writer, serialize_one};
 use crate::sharing::Sharing;
-use crate::traits::{Archive, ArchiveUnsized, Serialize, SerializeUnsized};
+use crate::traits::{Archive, ArchiveUnsized, Portable, Serialize, SerializeUnsized};
 use archive_check::format::error::Error;
 
 /// A weak pointer to a shared value, or to none. Our own: it stands for `rc::Weak` of rkyv 0.8.18, which is null where its value is gone.
@@ -57,11 +58,9 @@ impl<T: Archive> Archive for WeakShared<T> {
     ) -> Result<(), Error>
         requires fresh { Fresh (pointer_size T.Archived.pointee) place.pos place.bytes.now }
         requires same_value { ⊤ }
-        ensures resolved { OnOk result (Resolves T.Archived.definitions place.entry.pos place.exit.0.now (weak rc_flavor T.Archived.pointee)
-            (weak_flat rc_flavor T.Archived.pointee 0 resolver)) }
+        ensures resolved { OnOk result (ResolvedAs ⟦<Self as Archive>⟧ ⟦<Self::Archived as Portable>⟧ place self.now resolver) }
         ensures same_length { length place.exit.0.now ≡ length place.entry.bytes.now }
-        ensures refused { IfErr result (HindersAt T.Archived.definitions (weak rc_flavor T.Archived.pointee)
-            (weak_flat rc_flavor T.Archived.pointee 0 resolver) place.entry.pos) }
+        ensures refused { IfErr result (HinderedAs ⟦<Self as Archive>⟧ ⟦<Self::Archived as Portable>⟧ place self.now resolver) }
     {
         let Place { bytes, pos, .. } = place;
         let Some(resolver) = resolver else {
@@ -79,14 +78,10 @@ impl<T: Serialize<S>, S: Sharing + Writer + ResolverAlloc> Serialize<S> for Weak
     /// Writes what it leads to as a shared value, with its refusals; where that is none, nothing, and it isn't refused.
     #[tactic(auto, using(crate::proofs::SharedWritten::weak_serialized, crate::proofs::SharedWritten::weak_refused, crate::proofs::SharedWritten::null_serialized, crate::proofs::Causes::goes_nowhere))]
     fn serialize(&self, serializer: &mut S) -> Result<RcWeakResolver, Error>
-        ensures serialized { IfOk result (λ r. Serialized T.Archived.definitions (weak rc_flavor T.Archived.pointee)
-            (weak_keys (λ s. rc_keys s.key T.Archived.pointee 0 (T.meaning s.value.value) (T.keys s.value.value)) self.now.value)
-            (weak_value (λ s. shared_value s.key) self.now.value) (weak_flat rc_flavor T.Archived.pointee 0 r) (S.state serializer.old) (S.state serializer.new)) }
+        ensures serialized { IfOk result (Wrote ⟦<Self as Archive>⟧ ⟦<Self::Archived as Portable>⟧ self.now S.Keys serializer) }
         ensures same_value { ⊤ }
         ensures goes_on { GoesOn (S.state serializer.old) (S.state serializer.new) }
-        ensures refused { IfErr result (IsRefused T.Archived.definitions (weak rc_flavor T.Archived.pointee)
-            (weak_keys (λ s. rc_keys s.key T.Archived.pointee 0 (T.meaning s.value.value) (T.keys s.value.value)) self.now.value)
-            (weak_value (λ s. shared_value s.key) self.now.value) (S.state serializer.old) (S.state serializer.new)) }
+        ensures refused { IfErr result (Refused ⟦<Self as Archive>⟧ ⟦<Self::Archived as Portable>⟧ self.now S.Keys serializer) }
     {
         let Some(value) = &self.value else {
             return Ok(None);
