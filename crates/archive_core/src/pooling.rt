@@ -1,7 +1,7 @@
 //! Pools: shared values that are read back once for each position, and handed out at each pointer. The position is unknown, then pending while its
 //! value is read, then finished with the value.
 
-ghost use Rattle.std.specs.Prelude.{◌≡◌, ◌⊎◌, ◌≤◌, ℕ, true, false, refl, None, Some, Err, IfOk, OnOk, IfErr, OnErr, nat_eq};
+ghost use Rattle.std.specs.Prelude.{◌≡◌, ◌⊎◌, ◌≤◌, ℕ, true, false, refl, None, Some, is_some, Err, IfOk, OnOk, IfErr, OnErr, nat_eq};
 ghost use Rattle.std.specs.HashMap.{get, spare};
 ghost use Rattle.std.proofs.Common.{true≢false};
 ghost use Rattle.archive_check.specs.Entries.{NoEntries};
@@ -133,6 +133,13 @@ impl<T: Pooled> Pool<T> {
         Ok(Pool {
             values: HashMap::with_capacity(alloc, capacity)?,
         })
+    }
+
+    /// Whether the position is pending or finished here. A deserializer of several pools asks it before it starts a position in another one. Our own.
+    pub fn is_known(&self, pos: usize) -> bool
+        ensures { result ≡ is_some (⟦<Pool<T> as Entries>⟧.entry_of self.now pos) }
+    {
+        self.values.contains_key(&pos)
     }
 }
 
