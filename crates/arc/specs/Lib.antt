@@ -1,2 +1,3 @@
 pub mod NodeShape
 pub mod Node
+pub mod AllValuesShape

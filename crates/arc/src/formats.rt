@@ -1,6 +1,8 @@
 //! The formats that the program knows.
 
+use crate::all_values::ArchivedAllValues;
 use crate::node::{ArchivedNode, Node, node_of};
+use crate::shared::{TwoShared, check_shared_and_weak, check_two_shared, two_shared};
 use archive_core::api::{access, to_bytes};
 use archive_core::boxed::{ArchivedBox, BoxSlice};
 use archive_core::error::Error;
@@ -28,8 +30,18 @@ pub enum Format {
     TwoBoxBytes,
     /// `vec-u32`, written as digits between commas; no word at all is an empty list.
     VecU32,
+    /// `two-rc`, two shared numbers, written as `a`, two pointers to one, or as `a,b`, a pointer to each.
+    TwoRc,
+    /// `two-rc-unit`, two shared units, which is checked alone.
+    TwoRcUnit,
+    /// `two-rc-bytes`, two shared slices of bytes, which is checked alone.
+    TwoRcBytes,
+    /// `rc-weak`, a shared number and a weak pointer to one, which is checked alone.
+    RcWeak,
     /// `node`, written as how many boxes there are, at most 1,000.
     Node,
+    /// `all-values`, a shared value of its own type, which is checked alone.
+    AllValues,
 }
 
 /// A value that a command gives.
@@ -43,6 +55,8 @@ pub enum Value<'a> {
     OptBoxBytes(Option<Vec<u8>>),
     /// Numbers.
     VecU32(Vec<u32>),
+    /// Two shared numbers.
+    TwoRc(TwoShared),
     /// A list of boxes in boxes.
     Node(Node),
 }
@@ -57,7 +71,12 @@ impl Format {
             "opt-box-bytes" => Some(Format::OptBoxBytes),
             "two-box-bytes" => Some(Format::TwoBoxBytes),
             "vec-u32" => Some(Format::VecU32),
+            "two-rc" => Some(Format::TwoRc),
+            "two-rc-unit" => Some(Format::TwoRcUnit),
+            "two-rc-bytes" => Some(Format::TwoRcBytes),
+            "rc-weak" => Some(Format::RcWeak),
             "node" => Some(Format::Node),
+            "all-values" => Some(Format::AllValues),
             _ => None,
         }
     }
@@ -70,13 +89,22 @@ impl Format {
                 None => Ok(None),
             },
             Format::String => Ok(Some(Value::String(word))),
-            Format::OptU32 | Format::TwoBoxBytes => Ok(None),
+            Format::OptU32
+            | Format::TwoBoxBytes
+            | Format::TwoRcUnit
+            | Format::TwoRcBytes
+            | Format::RcWeak
+            | Format::AllValues => Ok(None),
             Format::OptBoxBytes => match optional_bytes(alloc, word.as_str())? {
                 Some(bytes) => Ok(Some(Value::OptBoxBytes(bytes))),
                 None => Ok(None),
             },
             Format::VecU32 => match numbers(alloc, word.as_str())? {
                 Some(numbers) => Ok(Some(Value::VecU32(numbers))),
+                None => Ok(None),
+            },
+            Format::TwoRc => match one_or_two(word.as_str()) {
+                Some((first, second)) => Ok(Some(Value::TwoRc(two_shared(alloc, first, second)?))),
                 None => Ok(None),
             },
             Format::Node => match number(word.as_str()) {
@@ -95,7 +123,12 @@ impl Format {
             Format::OptBoxBytes => check_option::<ArchivedBox<ArchivedSlice<u8>>>(alloc, bytes),
             Format::TwoBoxBytes => check_two_boxes::<ArchivedSlice<u8>>(alloc, bytes),
             Format::VecU32 => check_as::<ArchivedVec<ArchivedU32>>(alloc, bytes),
+            Format::TwoRc => check_two_shared::<ArchivedU32>(alloc, bytes),
+            Format::TwoRcUnit => check_two_shared::<()>(alloc, bytes),
+            Format::TwoRcBytes => check_two_shared::<ArchivedSlice<u8>>(alloc, bytes),
+            Format::RcWeak => check_shared_and_weak::<ArchivedU32>(alloc, bytes),
             Format::Node => check_as::<ArchivedNode>(alloc, bytes),
+            Format::AllValues => check_as::<ArchivedAllValues>(alloc, bytes),
         }
     }
 }
@@ -114,6 +147,7 @@ impl Value<'_> {
                 to_bytes(alloc, &value)
             }
             Value::VecU32(numbers) => to_bytes(alloc, &numbers),
+            Value::TwoRc(pair) => to_bytes(alloc, &pair),
             Value::Node(node) => to_bytes(alloc, &node),
         }
     }
@@ -143,6 +177,14 @@ fn number(word: &str) -> Option<u32> {
         word.parse().ok()
     } else {
         None
+    }
+}
+
+// The number, or the two with a comma between them.
+fn one_or_two(word: &str) -> Option<(u32, Option<u32>)> {
+    match word.split_once(',') {
+        None => Some((number(word)?, None)),
+        Some((first, second)) => Some((number(first)?, Some(number(second)?))),
     }
 }
 
