@@ -18,7 +18,10 @@ ghost use Rattle.archive_write.specs.Written.{GoesOn};
 
 use crate::place::Place;
 use crate::slice::copy_slice;
-use crate::traits::{Archive, ArchivePointee, Copied, CopyOptimization, Deserialize, Entries, Keys, Portable, Serialize};
+use crate::traits::{
+    Archive, ArchivePointee, Copied, CopyOptimization, Deserialize, Entries, Keys, Portable,
+    Serialize,
+};
 use crate::view::RawView;
 use archive_check::format::error::Error;
 use archive_write::ser::Writer;

@@ -24,8 +24,8 @@ use crate::place::Place;
 use crate::ser::serialize_one;
 use crate::slice::copy_slice;
 use crate::traits::{
-    Archive, ArchivePointee, ArchiveUnsized, CopyOptimization, Deserialize, Entries, Keys, Serialize,
-    SerializeUnsized,
+    Archive, ArchivePointee, ArchiveUnsized, CopyOptimization, Deserialize, Entries, Keys,
+    Serialize, SerializeUnsized,
 };
 use crate::view::{RawView, Ref};
 use archive_check::format::error::Error;
