@@ -1,6 +1,7 @@
 //! The formats that the program knows.
 
 use crate::node::{ArchivedNode, Node, node_of};
+use crate::test_record::{ArchivedTest, Test};
 use archive_core::api::{access, to_bytes};
 use archive_core::boxed::{ArchivedBox, BoxSlice};
 use archive_core::error::Error;
@@ -30,6 +31,8 @@ pub enum Format {
     VecU32,
     /// `node`, written as how many boxes there are, at most 1,000.
     Node,
+    /// `test`, a record of a number, a text and perhaps a list, written with semicolons between them; the list as `none`, or as numbers between commas.
+    Test,
 }
 
 /// A value that a command gives.
@@ -45,6 +48,8 @@ pub enum Value<'a> {
     VecU32(Vec<u32>),
     /// A list of boxes in boxes.
     Node(Node),
+    /// A record.
+    Test(Test),
 }
 
 impl Format {
@@ -58,6 +63,7 @@ impl Format {
             "two-box-bytes" => Some(Format::TwoBoxBytes),
             "vec-u32" => Some(Format::VecU32),
             "node" => Some(Format::Node),
+            "test" => Some(Format::Test),
             _ => None,
         }
     }
@@ -65,7 +71,7 @@ impl Format {
     /// The value that a word stands for: none where it stands for none, or the format is checked alone. Refused with 1 where memory is refused.
     pub fn value(self, alloc: Global, word: &String) -> Result<Option<Value<'_>>, Error> {
         match self {
-            Format::U32 => match number(word.as_str()) {
+            Format::U32 => match u32::read(word.as_str()) {
                 Some(number) => Ok(Some(Value::U32(number))),
                 None => Ok(None),
             },
@@ -79,9 +85,13 @@ impl Format {
                 Some(numbers) => Ok(Some(Value::VecU32(numbers))),
                 None => Ok(None),
             },
-            Format::Node => match number(word.as_str()) {
+            Format::Node => match u32::read(word.as_str()) {
                 Some(count) if count <= 1000 => Ok(Some(Value::Node(node_of(alloc, count)?))),
                 _ => Ok(None),
+            },
+            Format::Test => match test_record(alloc, word.as_str())? {
+                Some(record) => Ok(Some(Value::Test(record))),
+                None => Ok(None),
             },
         }
     }
@@ -96,6 +106,7 @@ impl Format {
             Format::TwoBoxBytes => check_two_boxes::<ArchivedSlice<u8>>(alloc, bytes),
             Format::VecU32 => check_as::<ArchivedVec<ArchivedU32>>(alloc, bytes),
             Format::Node => check_as::<ArchivedNode>(alloc, bytes),
+            Format::Test => check_as::<ArchivedTest>(alloc, bytes),
         }
     }
 }
@@ -115,6 +126,7 @@ impl Value<'_> {
             }
             Value::VecU32(numbers) => to_bytes(alloc, &numbers),
             Value::Node(node) => to_bytes(alloc, &node),
+            Value::Test(record) => to_bytes(alloc, &record),
         }
     }
 }
@@ -137,13 +149,44 @@ fn check_two_boxes<T: PortablePointee>(alloc: Global, bytes: &[u8]) -> Result<()
     Ok(())
 }
 
-// The number of one or more digits.
-fn number(word: &str) -> Option<u32> {
-    if word.bytes().all(|byte| byte.is_ascii_digit()) {
-        word.parse().ok()
-    } else {
-        None
+// A number that a word may stand for.
+trait Digits {
+    // The number of one or more digits, behind a `-` where it may be negative.
+    fn read(word: &str) -> Option<Self>;
+}
+
+impl Digits for u8 {
+    fn read(word: &str) -> Option<u8> {
+        if are_digits(word) {
+            word.parse().ok()
+        } else {
+            None
+        }
     }
+}
+
+impl Digits for u32 {
+    fn read(word: &str) -> Option<u32> {
+        if are_digits(word) {
+            word.parse().ok()
+        } else {
+            None
+        }
+    }
+}
+
+impl Digits for i32 {
+    fn read(word: &str) -> Option<i32> {
+        if are_digits(word.strip_prefix('-').unwrap_or(word)) {
+            word.parse().ok()
+        } else {
+            None
+        }
+    }
+}
+
+fn are_digits(word: &str) -> bool {
+    word.bytes().all(|byte| byte.is_ascii_digit())
 }
 
 // Bytes in hexadecimal behind `some:`, or `none`. No answer where the word is neither.
@@ -162,16 +205,39 @@ fn optional_bytes(alloc: Global, word: &str) -> Result<Option<Option<Vec<u8>>>, 
 }
 
 // The numbers that stand between commas.
-fn numbers(alloc: Global, word: &str) -> Result<Option<Vec<u32>>, Error> {
+fn numbers<N: Digits + Drop>(alloc: Global, word: &str) -> Result<Option<Vec<N>>, Error> {
     let mut all = Vec::new(alloc);
     if word.is_empty() {
         return Ok(Some(all));
     }
     for digits in word.split(',') {
-        let Some(number) = number(digits) else {
+        let Some(number) = N::read(digits) else {
             return Ok(None);
         };
         all.push(number)?;
     }
     Ok(Some(all))
+}
+
+// A number, a text and a list, with semicolons between them: the first and the last one of the word.
+fn test_record(alloc: Global, word: &str) -> Result<Option<Test>, Error> {
+    let Some((first, rest)) = word.split_once(';') else {
+        return Ok(None);
+    };
+    let Some((text, last)) = rest.rsplit_once(';') else {
+        return Ok(None);
+    };
+    let Some(number) = u8::read(first) else {
+        return Ok(None);
+    };
+    let list = if last == "none" {
+        None
+    } else {
+        match numbers(alloc, last)? {
+            Some(list) => Some(list),
+            None => return Ok(None),
+        }
+    };
+    let text = String::from_str(alloc, text)?;
+    Ok(Some(Test { number, text, list }))
 }
