@@ -6,8 +6,11 @@ ghost use Rattle.archive_check.specs.Value.{list};
 ghost use Rattle.archive_check.specs.WriterState.{KeepsKeys};
 ghost use Rattle.archive_core.specs.Causes.{Explains, IsRegionRefused};
 ghost use Rattle.archive_core.specs.Copies.{each_bytes, EachCopied};
+ghost use Rattle.archive_core.specs.KindsWritten.{CopiesPut, CopiesHindered, EachCopiedAs};
+ghost use Rattle.archive_core.specs.Placed.{BytesAdded, WriteRefused};
 ghost use Rattle.archive_core.specs.Plans.{SerializedRegion};
 ghost use Rattle.archive_core.specs.Runs.{each_keys, each_meaning, PutsRun, HindersRunAt};
+ghost use Rattle.archive_core.specs.Sources.{CopiesStored, CopiesUnstored};
 ghost use Rattle.archive_write.specs.Written.{GoesOn, ExplainsRefusal};
 
 use crate::ser::run_fits;
@@ -26,11 +29,10 @@ fn write_piece<W: Writer, T: Copied>(
     writer: &mut W,
 ) -> Result<(), Error>
     requires sized { length bytes.old ≡ length values.now * T.CopiedAs.layout.size }
-    ensures copied { OnOk result ((W.state writer.new).bytes ≡ (W.state writer.old).bytes ++ each_bytes T.copied_bytes values.now) }
-    ensures read { EachCopied T.CopiedAs.definitions T.CopiedAs.shape T.CopiedAs.layout.size T.copied_meaning T.copied_bytes values.now }
+    ensures copied { OnOk result (BytesAdded (each_bytes T.copied_bytes values.now) W.Keys writer) }
+    ensures read { EachCopiedAs T.CopiedAs.Portable T.copied_meaning T.copied_bytes values.now }
     ensures goes_on { GoesOn (W.state writer.old) (W.state writer.new) }
-    ensures refused { IfErr result (ExplainsRefusal (length values.now * T.CopiedAs.layout.size) (W.place writer.old) (W.state writer.old).room
-        (W.state writer.old).failures (W.state writer.new).failures) }
+    ensures refused { IfErr result (WriteRefused (length values.now * T.CopiedAs.layout.size) W.place W.Keys writer) }
     ensures keys { KeepsKeys (W.state writer.old).states (W.state writer.new).states }
 {
     T::copy_into(values, bytes);
@@ -59,10 +61,8 @@ fn count_at_once(size: usize, count: usize) -> usize
 fn copy_pieces<W: Writer, T: Copied>(values: &[T], size: usize, writer: &mut W) -> Result<(), Error>
     requires same { size ≡ T.CopiedAs.layout.size }
     requires small { size ≤ 1024 }
-    ensures put { OnOk result (PutsRun T.CopiedAs.definitions (W.state writer.old) (W.state writer.new)
-        T.CopiedAs.shape T.CopiedAs.layout (length values.now) (each_meaning T.copied_meaning values.now)) }
-    ensures refused { IfErr result (Explains (HindersRunAt T.CopiedAs.definitions T.CopiedAs.shape T.CopiedAs.layout (length values.now) (each_meaning T.copied_meaning values.now) (length (W.state writer.old).bytes))
-        (λ n. n ≤ length (W.state writer.old).bytes + length values.now * T.CopiedAs.layout.size) (W.state writer.old) (W.state writer.new)) }
+    ensures put { OnOk result (CopiesPut T.CopiedAs.Portable T.copied_meaning values.now W.Keys writer) }
+    ensures refused { IfErr result (CopiesHindered T.CopiedAs.Portable T.copied_meaning values.now W.Keys writer) }
     ensures goes_on { GoesOn (W.state writer.old) (W.state writer.new) }
     ensures keys { KeepsKeys (W.state writer.old).states (W.state writer.new).states }
 {
@@ -85,11 +85,9 @@ fn copy_aligned<W: Writer, T: Copied>(
 ) -> Result<usize, Error>
     requires same { size ≡ T.CopiedAs.layout.size }
     requires small { size ≤ 1024 }
-    ensures region { OnOk result (PutsRun T.CopiedAs.definitions (W.state writer.old) (W.state writer.new)
-        T.CopiedAs.shape T.CopiedAs.layout (length values.now) (each_meaning T.copied_meaning values.now)) }
+    ensures region { OnOk result (CopiesPut T.CopiedAs.Portable T.copied_meaning values.now W.Keys writer) }
     ensures position { IfOk result (λ p. p ≡ W.place writer.old) }
-    ensures refused { IfErr result (Explains (HindersRunAt T.CopiedAs.definitions T.CopiedAs.shape T.CopiedAs.layout (length values.now) (each_meaning T.copied_meaning values.now) (length (W.state writer.old).bytes))
-        (λ n. n ≤ length (W.state writer.old).bytes + length values.now * T.CopiedAs.layout.size) (W.state writer.old) (W.state writer.new)) }
+    ensures refused { IfErr result (CopiesHindered T.CopiedAs.Portable T.copied_meaning values.now W.Keys writer) }
     ensures goes_on { GoesOn (W.state writer.old) (W.state writer.new) }
     ensures keys { KeepsKeys (W.state writer.old).states (W.state writer.new).states }
 {
@@ -110,11 +108,9 @@ pub fn copy_slice<S: Writer + Keys, T: Copied>(
     values: &[T],
     serializer: &mut S,
 ) -> Result<usize, Error>
-    ensures serialized { IfOk result (λ p. SerializedRegion T.CopiedAs.definitions (run T.CopiedAs.shape) (length values.now) (each_keys T.copied_keys values.now) (list (each_meaning T.copied_meaning values.now)) p
-        (S.state serializer.old) (S.state serializer.new)) }
+    ensures serialized { IfOk result (CopiesStored T.Copied T.CopiedAs.Portable values.now S.Keys serializer) }
     ensures goes_on { GoesOn (S.state serializer.old) (S.state serializer.new) }
-    ensures refused { IfErr result (IsRegionRefused T.CopiedAs.definitions (run T.CopiedAs.shape) (length values.now) (each_keys T.copied_keys values.now) (list (each_meaning T.copied_meaning values.now))
-        (S.state serializer.old) (S.state serializer.new)) }
+    ensures refused { IfErr result (CopiesUnstored T.Copied T.CopiedAs.Portable values.now S.Keys serializer) }
 {
     let size = T::copied_size();
     serializer.align_for::<T::CopiedAs>()?;
