@@ -2,8 +2,11 @@
 -- and what it is at the return.
 use denote.Triple.Both.{Both}
 use denote.Ref.{MutBor}
-use Rattle.std.specs.Prelude.{◌≡◌, ◌⊎◌, ℕ, List, [], Result, IfErr}
-use Rattle.archive_check.specs.Archives.{IsArchive, ReadsWhole, RefusesWhole, RefusesAsCheck, root_in}
+use Rattle.std.specs.Prelude.{◌≡◌, ◌⊎◌, ℕ, List, [], Option, Result, IfErr}
+use Rattle.archive_check.specs.Archives.{Answers, IsArchive, ReadsWhole, RefusesWhole, RefusesAsCheck, root_in}
+use Rattle.archive_check.specs.Defined.{WellFormed}
+use Rattle.archive_check.specs.Definitions.{listed}
+use Rattle.archive_check.specs.Schemas.{ExplainsNoSchema}
 use Rattle.archive_check.specs.Shape.{one}
 use Rattle.archive_check.specs.Unshared.{IsNeverOpen}
 use Rattle.archive_check.specs.declared.format.error.Error.{Error}
@@ -72,3 +75,11 @@ AsCheckIfNeverOpen f bytes d b result =
 -- a writer that knows no shared key, as the call begins
 abbrev pub IsNew : {W : Type 0} → Keys.Ghosts W → Both (MutBor W) (MutBor W) → Type 0
 IsNew k w = KnowsNone (k.state w.entry.now).states
+
+-- a type has no schema, and why, or it is well formed and something else was refused
+abbrev pub LacksSchema : {M : Type 0} → FormatOf M → Error → Type 0
+LacksSchema f e = ExplainsNoSchema f.shape f.definitions e ⊎ WellFormed (listed f.definitions) f.shape
+
+-- what a check of the root at the end answers
+abbrev pub AnswersRoot : {M T : Type 0} → FormatOf M → List ℕ → Option ℕ → Result T Error → Type 0
+AnswersRoot f bytes depth result = Answers f.definitions bytes depth (root_in bytes f.layout) f.shape result

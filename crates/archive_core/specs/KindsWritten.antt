@@ -2,7 +2,7 @@
 -- it was as the call began, and what it is at the return.
 use denote.Triple.Both.{Both}
 use denote.Ref.{MutBor}
-use Rattle.std.specs.Prelude.{ℕ, ℤ, ◌+◌, ◌*◌, ◌≤◌, List, [], length}
+use Rattle.std.specs.Prelude.{ℕ, ℤ, ◌+◌, ◌*◌, ◌≤◌, List, [], length, Option, IfSome}
 use Rattle.archive_check.specs.Shape.{Kind, leaf, parts, str, boxed, vec, one, run, text, no_part}
 use Rattle.archive_check.specs.Value.{Value, number, product, list, text_value, box, hole, Values, no_value}
 use Rattle.archive_check.specs.Definitions.{no_definition}
@@ -71,6 +71,10 @@ StringHindered bytes p t e = HindersAt no_definition str (string_flat bytes t) p
 abbrev pub RunStored : {T M S : Type 0} → (T → List Naming) → (T → Value) → FormatOf M → List T → Keys.Ghosts S → Both (MutBor S) (MutBor S) → ℕ → Type 0
 RunStored keys meaning f xs k w p =
     SerializedRegion f.definitions (run f.shape) (length xs) (each_keys keys xs) (list (each_meaning meaning xs)) p (k.state w.entry.now) (k.state w.exit.now)
+
+-- the same where there is a position
+abbrev pub RunStoredIf : {T M S : Type 0} → (T → List Naming) → (T → Value) → FormatOf M → List T → Keys.Ghosts S → Both (MutBor S) (MutBor S) → Option ℕ → Type 0
+RunStoredIf keys meaning f xs k w o = IfSome o (λ p. RunStored keys meaning f xs k w p)
 
 abbrev pub RunUnstored : {T M S : Type 0} → (T → List Naming) → (T → Value) → FormatOf M → List T → Keys.Ghosts S → Both (MutBor S) (MutBor S) → Error → Type 0
 RunUnstored keys meaning f xs k w e =

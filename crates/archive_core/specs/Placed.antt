@@ -9,11 +9,13 @@ use Rattle.archive_check.specs.Value.{Value}
 use Rattle.archive_check.specs.Definitions.{Definitions}
 use Rattle.archive_check.specs.declared.format.error.Error.{Error}
 use Rattle.archive_check.specs.declared.format.error.Error.TheVariants.{LengthTooLarge}
+use Rattle.archive_check.specs.declared.format.traits.ArchivePointee as ArchivePointee
 use Rattle.archive_check.specs.declared.format.traits.Keys as Keys
 use Rattle.archive_core.specs.Causes.{HindersAt}
 use Rattle.archive_core.specs.Offsets.{distance, IsTooFar}
 use Rattle.archive_core.specs.OwnerBytes.{owner_bytes}
-use Rattle.archive_core.specs.Writing.{Resolves}
+use Rattle.archive_core.specs.Plans.{HasRegionPlan}
+use Rattle.archive_core.specs.Writing.{Naming, Resolves}
 use Rattle.archive_core.specs.declared.place.Place.{Place}
 use Rattle.archive_write.specs.Written.{ExplainsRefusal}
 
@@ -59,3 +61,7 @@ GrowsBy n k w = length (k.state w.exit.now).bytes ≡ length (k.state w.entry.no
 -- why a write of n bytes was refused, where the writer stood at its place
 abbrev pub WriteRefused : {S : Type 0} → ℕ → (S → ℕ) → Keys.Ghosts S → Both (MutBor S) (MutBor S) → Error → Type 0
 WriteRefused n place k w e = ExplainsRefusal n (place w.entry.now) (k.state w.entry.now).room (k.state w.entry.now).failures (k.state w.exit.now).failures e
+
+-- there is a plan of a pointee of n elements or bytes, with its region
+abbrev pub IsPlanned : {T M : Type 0} → ArchivePointee.Ghosts T M → ℕ → List Naming → Value → Type 0
+IsPlanned g n keys v = HasRegionPlan g.definitions g.pointee n keys v

@@ -13,7 +13,7 @@ ghost use Rattle.archive_check.specs.Unshared.{IsNeverOpen};
 ghost use Rattle.archive_check.specs.declared.format.error.Error.TheVariants.{OutOfMemory};
 ghost use Rattle.archive_check.specs.Shape.{one};
 ghost use Rattle.archive_check.specs.Viewed.{Viewed};
-ghost use Rattle.archive_core.specs.ArchivesOf.{Leaves, LeavesOne, LeavesIn, IsArchiveOf, NoArchiveOf, EndsWithNone, IsArchiveIn, ReadsArchive, RefusesArchive, AsCheckIfNeverOpen, IsNew};
+ghost use Rattle.archive_core.specs.ArchivesOf.{Leaves, LeavesOne, LeavesIn, IsArchiveOf, NoArchiveOf, EndsWithNone, IsArchiveIn, ReadsArchive, RefusesArchive, AsCheckIfNeverOpen, IsNew, LacksSchema, AnswersRoot};
 ghost use Rattle.archive_core.specs.Causes.{HindersRegion, IsRegionRefused};
 ghost use Rattle.archive_core.specs.Plans.{at_start, unshared};
 ghost use Rattle.archive_core.specs.Seen.{ReadsView, RefusesView};
@@ -127,7 +127,7 @@ pub fn check_pos_with_context<T: Portable, C: ArchiveContext + SharedContext>(
     context: &mut C,
 ) -> Result<(), Error>
     requires { (C.state context.old).end ≤ length bytes.now }
-    ensures meaning { IfErr result (λ e. ExplainsNoSchema T.shape T.definitions e ⊎ WellFormed (listed T.definitions) T.shape) }
+    ensures meaning { IfErr result (LacksSchema T.Portable) }
     ensures answer { IsWhole (C.state context.old) (C.positions context.old) bytes.now
         → Answers T.definitions bytes.now (C.state context.old).depth pos T.shape result }
     ensures of_check { IfErr result (IsAnswerable T.shape T.definitions (C.state context.old).depth) }
@@ -241,7 +241,7 @@ pub fn access_with_context<'a, T: Portable, C: ArchiveContext + SharedContext>(
     context: &mut C,
 ) -> Result<Ref<'a, T>, Error>
     requires { IsWhole (C.state context.old) (C.positions context.old) bytes.now }
-    ensures answer { Answers T.definitions bytes.now (C.state context.old).depth (root_in bytes.now T.layout) T.shape result }
+    ensures answer { AnswersRoot T.Portable bytes.now (C.state context.old).depth result }
     ensures buffer { IfOk result (λ r. r.bytes.now ≡ bytes.now) }
     ensures position { IfOk result (λ r. r.pos ≡ root_in bytes.now T.layout) }
     ensures whole { IfOk result (λ r. r.len ≡ 0) }

@@ -8,6 +8,7 @@ ghost use Rattle.archive_check.specs.Entries.{NoEntries};
 ghost use Rattle.archive_check.specs.Pooled.{Kept, pooled, finish_answer};
 ghost use Rattle.archive_check.specs.declared.format.error.Error.TheVariants.{OutOfMemory};
 ghost use Rattle.archive_core.specs.Pooling.{kept_at, known_by, IsStartAnswer, IsPut, IsSame, ReadsShared, RefusesShared, Spans};
+ghost use Rattle.archive_core.specs.Seen.{ReadsKept, RefusesKept, PutAt};
 
 use crate::traits::{Archive, ArchivePointee, DeserializeUnsized, Entries};
 use crate::view::Ref;
@@ -59,7 +60,7 @@ pub trait Pooling<T: Pooled>: Entries {
     /// Answers what the position was, and makes it pending where it was unknown. Refused with `OutOfMemory`, 1, where memory is refused.
     fn start_pooling(&mut self, pos: usize) -> Result<PoolingState<T>, Error>
         ensures answer { IfOk result (IsStartAnswer T.kept (Self.entry_of self.old pos)) }
-        ensures after { Self.keeps ≡ true → OnOk result (IsPut (Self.entry_of self.old) pos (pooled (Self.entry_of self.old pos)) (Self.entry_of self.new)) }
+        ensures after { Self.keeps ≡ true → OnOk result (PutAt Self.Entries self pos (pooled (Self.entry_of self.old pos))) }
         ensures unchanged { OnErr result (IsSame (Self.entry_of self.old) (Self.entry_of self.new)) }
         ensures refused { IfErr result (λ e. e ≡ OutOfMemory) };
 
@@ -67,7 +68,7 @@ pub trait Pooling<T: Pooled>: Entries {
     /// and with `OutOfMemory`, 1, where memory is refused.
     fn finish_pooling(&mut self, pos: usize, value: T) -> Result<(), Error>
         ensures answer { Self.keeps ≡ true → (result ≡ finish_answer (Self.entry_of self.old pos)) ⊎ (result ≡ Err OutOfMemory) }
-        ensures after { Self.keeps ≡ true → OnOk result (IsPut (Self.entry_of self.old) pos (Some (Some (T.kept value))) (Self.entry_of self.new)) }
+        ensures after { Self.keeps ≡ true → OnOk result (PutAt Self.Entries self pos (Some (Some (T.kept value)))) }
         ensures unchanged { OnErr result (IsSame (Self.entry_of self.old) (Self.entry_of self.new)) }
         ensures refused { Self.keeps ≡ false → IfErr result (λ e. e ≡ OutOfMemory) };
 }
@@ -85,10 +86,8 @@ pub trait PoolingExt<T: Pooled>: Pooling<T> {
     where
         Self: Sized,
         T::Archived: DeserializeUnsized<T::Value, Self>,
-        ensures read { IfOk result (λ v. ReadsShared T.Archived.definitions view.entry.bytes.now view.entry.pos T.Archived.pointee view.entry.len
-            (Self.entry_of self.old) (Self.entry_of self.new) (T.kept v)) }
-        ensures refused { IfErr result (RefusesShared T.Archived.definitions view.entry.bytes.now view.entry.pos T.Archived.pointee view.entry.len
-            (Self.entry_of self.old)) }
+        ensures read { IfOk result (λ v. ReadsKept view.entry Self.Entries self (T.kept v)) }
+        ensures refused { IfErr result (RefusesKept view.entry Self.Entries self) }
     {
         let part = view.part();
         let pos = part.pos;

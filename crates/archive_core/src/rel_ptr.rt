@@ -3,6 +3,7 @@
 ghost use Rattle.std.specs.Prelude.{◌≡◌, MatchResult, FitsSigned};
 ghost use Rattle.std.specs.Int.{w64};
 ghost use Rattle.archive_core.specs.Offsets.{distance};
+ghost use Rattle.archive_core.specs.OffsetsWritten.{GivesDistance};
 ghost use Rattle.archive_check.specs.declared.format.error.Error.TheVariants.{IsizeOverflow};
 
 use archive_check::format::error::Error;
@@ -23,7 +24,7 @@ pub use typed::{Metadata, RelPtr};
 /// How far it is from one position to another, in bytes. Refused with `IsizeOverflow`, 2, exactly where the difference doesn't fit `isize`. As in rkyv
 /// 0.8.18.
 pub fn signed_offset(from: usize, to: usize) -> Result<isize, Error>
-    ensures { MatchResult result (λ z. z ≡ distance from to) (λ e. (e ≡ IsizeOverflow) × ¬ FitsSigned w64 (distance from to)) }
+    ensures { GivesDistance from to result }
 {
     let Ok(offset) = isize::try_from(to as i128 - from as i128) else {
         return Err(Error::IsizeOverflow);

@@ -5,10 +5,13 @@ ghost use Rattle.archive_check.specs.WriterState.{KeepsKeys};
 ghost use Rattle.archive_check.specs.Layout.{pointer_size, has_length};
 ghost use Rattle.archive_check.specs.Shape.{one};
 ghost use Rattle.archive_core.specs.Causes.{Explains, HindersAt, HindersRegionAt, IsRegionRefused};
+ghost use Rattle.archive_core.specs.KindsWritten.{BytesResolved, RegionPut, RegionRefused, EachPut, EachHindered};
 ghost use Rattle.archive_core.specs.Offsets.{distance};
 ghost use Rattle.archive_core.specs.OwnerBytes.{owner_bytes, HindersPointerAt};
+ghost use Rattle.archive_core.specs.Placed.{GrowsBy};
 ghost use Rattle.archive_core.specs.Plans.{SerializedRegion};
 ghost use Rattle.archive_core.specs.Runs.{each_flat, EachBelongs, PutsRun, HindersRunAt};
+ghost use Rattle.archive_core.specs.Sources.{OneStored, OneUnstored};
 ghost use Rattle.archive_core.specs.Writing.{Fresh, Resolves, Puts};
 ghost use Rattle.archive_write.specs.Written.{GoesOn, ExplainsRefusal};
 
@@ -35,11 +38,9 @@ fn resolve_region<W: Writer, T: Archive>(
 ) -> Result<usize, Error>
     requires fresh { Fresh T.Archived.layout.size (length (W.state writer.old).bytes) region.old }
     requires same_value { T.belongs value.now resolver }
-    ensures put { OnOk result (Puts T.Archived.definitions (W.state writer.old) (W.state writer.new)
-        T.Archived.shape T.Archived.layout (T.flat value.now resolver)) }
+    ensures put { OnOk result (RegionPut T.Archived.Portable (T.flat value.now resolver) W.Keys writer) }
     ensures position { IfOk result (λ p. p ≡ length (W.state writer.old).bytes) }
-    ensures refused { IfErr result (Explains (HindersRegionAt T.Archived.definitions T.Archived.shape T.Archived.layout (T.flat value.now resolver) (length (W.state writer.old).bytes))
-        (λ n. n ≤ length (W.state writer.old).bytes + T.Archived.layout.size) (W.state writer.old) (W.state writer.new)) }
+    ensures refused { IfErr result (RegionRefused T.Archived.Portable (T.flat value.now resolver) W.Keys writer) }
     ensures goes_on { GoesOn (W.state writer.old) (W.state writer.new) }
     ensures keys { KeepsKeys (W.state writer.old).states (W.state writer.new).states }
     ensures same_length { length region.new ≡ length region.old }
@@ -59,7 +60,7 @@ pub(crate) fn resolve_into<T: Archive>(
 ) -> Result<(), Error>
     requires fresh { Fresh T.Archived.layout.size pos bytes.old }
     requires same_value { T.belongs value.now resolver }
-    ensures resolved { OnOk result (Resolves T.Archived.definitions pos bytes.new T.Archived.shape (T.flat value.now resolver)) }
+    ensures resolved { OnOk result (BytesResolved T.Archived.Portable pos bytes.new (T.flat value.now resolver)) }
     ensures same_length { length bytes.new ≡ length bytes.old }
     ensures refused { IfErr result (HindersAt T.Archived.definitions T.Archived.shape (T.flat value.now resolver) pos) }
 {
@@ -77,10 +78,8 @@ fn resolve_each<W: Writer, T: Archive, A: Allocator + Drop>(
     requires sized { length region.old ≡ T.Archived.layout.size }
     requires ends { length (W.state writer.old).bytes + length values.now * T.Archived.layout.size < 2 ^ 64 }
     requires same_values { EachBelongs T.belongs values.now resolvers.items }
-    ensures put { OnOk result (PutsRun T.Archived.definitions (W.state writer.old) (W.state writer.new)
-        T.Archived.shape T.Archived.layout (length values.now) (each_flat T.flat values.now resolvers.items)) }
-    ensures refused { IfErr result (Explains (HindersRunAt T.Archived.definitions T.Archived.shape T.Archived.layout (length values.now) (each_flat T.flat values.now resolvers.items) (length (W.state writer.old).bytes))
-        (λ n. n ≤ length (W.state writer.old).bytes + length values.now * T.Archived.layout.size) (W.state writer.old) (W.state writer.new)) }
+    ensures put { OnOk result (EachPut T.Archived.Portable T.flat values.now resolvers.items W.Keys writer) }
+    ensures refused { IfErr result (EachHindered T.Archived.Portable T.flat values.now resolvers.items W.Keys writer) }
     ensures goes_on { GoesOn (W.state writer.old) (W.state writer.new) }
     ensures keys { KeepsKeys (W.state writer.old).states (W.state writer.new).states }
 {
@@ -124,13 +123,11 @@ pub trait ResolveExt: Writer {
         Self: Sized,
         requires aligned { Self.place self.old % T.Archived.layout.align ≡ 0 }
         requires same_value { T.belongs value.now resolver }
-        ensures region { OnOk result (Puts T.Archived.definitions (Self.state self.old) (Self.state self.new)
-            T.Archived.shape T.Archived.layout (T.flat value.now resolver)) }
+        ensures region { OnOk result (RegionPut T.Archived.Portable (T.flat value.now resolver) Self.Keys self) }
         ensures position { IfOk result (λ p. p ≡ Self.place self.old) }
-        ensures refused { IfErr result (Explains (HindersRegionAt T.Archived.definitions T.Archived.shape T.Archived.layout (T.flat value.now resolver) (length (Self.state self.old).bytes))
-            (λ n. n ≤ length (Self.state self.old).bytes + T.Archived.layout.size) (Self.state self.old) (Self.state self.new)) }
+        ensures refused { IfErr result (RegionRefused T.Archived.Portable (T.flat value.now resolver) Self.Keys self) }
         ensures goes_on { GoesOn (Self.state self.old) (Self.state self.new) }
-        ensures sized { OnOk result (length (Self.state self.new).bytes ≡ length (Self.state self.old).bytes + T.Archived.layout.size) }
+        ensures sized { OnOk result (GrowsBy T.Archived.layout.size Self.Keys self) }
         ensures keys { KeepsKeys (Self.state self.old).states (Self.state self.new).states }
     {
         let size = T::Archived::size();
@@ -162,11 +159,9 @@ pub trait ResolveExt: Writer {
         Self: Sized,
         requires aligned { Self.place self.old % T.Archived.layout.align ≡ 0 }
         requires same_values { EachBelongs T.belongs values.now resolvers.items }
-        ensures region { OnOk result (PutsRun T.Archived.definitions (Self.state self.old) (Self.state self.new)
-            T.Archived.shape T.Archived.layout (length values.now) (each_flat T.flat values.now resolvers.items)) }
+        ensures region { OnOk result (EachPut T.Archived.Portable T.flat values.now resolvers.items Self.Keys self) }
         ensures position { IfOk result (λ p. p ≡ Self.place self.old) }
-        ensures refused { IfErr result (Explains (HindersRunAt T.Archived.definitions T.Archived.shape T.Archived.layout (length values.now) (each_flat T.flat values.now resolvers.items) (length (Self.state self.old).bytes))
-            (λ n. n ≤ length (Self.state self.old).bytes + length values.now * T.Archived.layout.size) (Self.state self.old) (Self.state self.new)) }
+        ensures refused { IfErr result (EachHindered T.Archived.Portable T.flat values.now resolvers.items Self.Keys self) }
         ensures goes_on { GoesOn (Self.state self.old) (Self.state self.new) }
         ensures keys { KeepsKeys (Self.state self.old).states (Self.state self.new).states }
     {
@@ -233,12 +228,10 @@ pub(crate) fn serialize_with<A: Allocator + Drop, S: Writer, T: Serialize<S>>(
     value: &T,
     serializer: &mut S,
 ) -> Result<usize, Error>
-    ensures serialized { IfOk result (λ p. SerializedRegion T.Archived.definitions (one T.Archived.shape) 0 (T.keys value.now) (T.meaning value.now) p
-        (S.state serializer.old) (S.state serializer.new)) }
+    ensures serialized { IfOk result (OneStored T.Archive T.Archived.Portable value.now S.Keys serializer) }
     ensures ends { IfOk result (λ p. p + T.Archived.layout.size ≡ length (S.state serializer.new).bytes) }
     ensures goes_on { GoesOn (S.state serializer.old) (S.state serializer.new) }
-    ensures refused { IfErr result (IsRegionRefused T.Archived.definitions (one T.Archived.shape) 0 (T.keys value.now) (T.meaning value.now)
-        (S.state serializer.old) (S.state serializer.new)) }
+    ensures refused { IfErr result (OneUnstored T.Archive T.Archived.Portable value.now S.Keys serializer) }
 {
     let resolver = value.serialize(serializer)?;
     serializer.align_for::<T::Archived>()?;
@@ -254,12 +247,10 @@ pub fn serialize_one<S: Writer + ResolverAlloc, T: Serialize<S>>(
     value: &T,
     serializer: &mut S,
 ) -> Result<usize, Error>
-    ensures serialized { IfOk result (λ p. SerializedRegion T.Archived.definitions (one T.Archived.shape) 0 (T.keys value.now) (T.meaning value.now) p
-        (S.state serializer.old) (S.state serializer.new)) }
+    ensures serialized { IfOk result (OneStored T.Archive T.Archived.Portable value.now S.Keys serializer) }
     ensures ends { IfOk result (λ p. p + T.Archived.layout.size ≡ length (S.state serializer.new).bytes) }
     ensures goes_on { GoesOn (S.state serializer.old) (S.state serializer.new) }
-    ensures refused { IfErr result (IsRegionRefused T.Archived.definitions (one T.Archived.shape) 0 (T.keys value.now) (T.meaning value.now)
-        (S.state serializer.old) (S.state serializer.new)) }
+    ensures refused { IfErr result (OneUnstored T.Archive T.Archived.Portable value.now S.Keys serializer) }
 {
     let alloc = serializer.resolver_alloc();
     serialize_with(alloc, value, serializer)

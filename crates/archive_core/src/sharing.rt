@@ -4,6 +4,7 @@ ghost use Rattle.std.specs.Prelude.{◌≡◌, ◌⊎◌, None, Option, Some, �
 ghost use Rattle.archive_check.specs.WriterState.{KeepsBytes, KeepsKeys};
 ghost use Rattle.archive_core.specs.Causes.{Explains, HindersShared, HindersRegion, RegionReaches};
 ghost use Rattle.archive_core.specs.Plans.{cursor, begun, SerializedShared};
+ghost use Rattle.archive_core.specs.SharedWriting.{IsUnchangedIfKnown, IsUnfinished, StoresIfUnknown, UnstoredUnder};
 ghost use Rattle.archive_write.specs.Sharing.{known_answer};
 ghost use Rattle.archive_write.specs.Written.{GoesOn};
 
@@ -28,18 +29,12 @@ pub trait SharingExt: Sharing + Writer {
     where
         Self: Sized,
         ensures known { (s : Option ℕ) → (Self.state self.old).states key ≡ Some s → result ≡ known_answer s }
-        ensures unchanged { (s : Option ℕ) → (Self.state self.old).states key ≡ Some s → KeepsBytes (Self.state self.old) (Self.state self.new)
-            × KeepsKeys (Self.state self.old).states (Self.state self.new).states }
-        ensures serialized { (Self.state self.old).states key ≡ None → IfOk result (λ p. SerializedShared T.Archived.definitions T.Archived.pointee (T.source_length value.now) key
-            (T.keys value.now) (T.meaning value.now) p (Self.state self.old) (Self.state self.new)) }
+        ensures unchanged { IsUnchangedIfKnown key Self.Keys self }
+        ensures serialized { StoresIfUnknown key T.ArchiveUnsized T.Archived.ArchivePointee value.now Self.Keys self result }
         ensures goes_on { GoesOn (Self.state self.old) (Self.state self.new) }
-        ensures refused { IfErr result (Explains
-            (HindersShared ((Self.state self.old).states key)
-            (HindersRegion T.Archived.definitions T.Archived.pointee (T.source_length value.now) (T.keys value.now) (T.meaning value.now) (begun (cursor (Self.state self.old)) key)))
-            (RegionReaches T.Archived.definitions T.Archived.pointee (T.source_length value.now) (T.keys value.now) (T.meaning value.now) (begun (cursor (Self.state self.old)) key))
-            (Self.state self.old) (Self.state self.new)) }
+        ensures refused { IfErr result (UnstoredUnder key T.ArchiveUnsized T.Archived.ArchivePointee value.now Self.Keys self) }
         ensures finished { IfOk result (λ p. (Self.state self.new).states key ≡ Some (Some p)) }
-        ensures unfinished { OnErr result (((Self.state self.new).states key ≡ None) ⊎ ((Self.state self.new).states key ≡ Some None)) }
+        ensures unfinished { OnErr result (IsUnfinished key Self.Keys self) }
     {
         match self.start_sharing(key)? {
             SharingState::Started => {

@@ -7,6 +7,9 @@ ghost use Rattle.archive_check.specs.Shape.{run};
 ghost use Rattle.archive_check.specs.Value.{Value, list};
 ghost use Rattle.archive_check.specs.Viewed.{Viewed};
 ghost use Rattle.archive_check.specs.declared.format.error.Error.TheVariants.{LengthTooLarge};
+ghost use Rattle.archive_core.specs.KindsWritten.{RunStoredIf, RunUnstored};
+ghost use Rattle.archive_core.specs.Placed.{Resolved, Hindered, IsPlanned};
+ghost use Rattle.archive_core.specs.Seen.{IsPartOf, RefusesPart, ReadsView, RefusesView};
 ghost use Rattle.archive_core.specs.Causes.{HindersAt, IsRefused, IsRegionRefused};
 ghost use Rattle.archive_core.specs.Plans.{HasPlan, HasRegionPlan, Serialized, SerializedRegion};
 ghost use Rattle.archive_core.specs.Runs.{each_keys, each_meaning};
@@ -66,9 +69,9 @@ pub trait Archive {
     ) -> Result<(), Error>
         requires fresh { Fresh Self.Archived.layout.size place.pos place.bytes.now }
         requires same_value { belongs self.now resolver }
-        ensures resolved { OnOk result (Resolves Self.Archived.definitions place.entry.pos place.exit.0.now Self.Archived.shape (flat self.now resolver)) }
+        ensures resolved { OnOk result (Resolved Self.Archived.Portable place (flat self.now resolver)) }
         ensures same_length { length place.exit.0.now ≡ length place.entry.bytes.now }
-        ensures refused { IfErr result (HindersAt Self.Archived.definitions Self.Archived.shape (flat self.now resolver) place.entry.pos) };
+        ensures refused { IfErr result (Hindered Self.Archived.Portable place (flat self.now resolver)) };
 
     /// Whether slices of such values are written in bulk, by `serialize_copied`. Off by default. As in rkyv 0.8.18, where it is a constant.
     fn copy_optimization() -> CopyOptimization<Self> {
@@ -82,12 +85,10 @@ pub trait Archive {
         _values: &[Self],
         _serializer: &mut S,
     ) -> Result<Option<usize>, Error>
-        ensures serialized { IfOk result (λ o. IfSome o (λ p. SerializedRegion Self.Archived.definitions (run Self.Archived.shape) (length _values.now)
-            (each_keys keys _values.now) (list (each_meaning meaning _values.now)) p (S.state _serializer.old) (S.state _serializer.new))) }
+        ensures serialized { IfOk result (RunStoredIf keys meaning Self.Archived.Portable _values.now S.Keys _serializer) }
         ensures untouched { IfOk result (λ o. o ≡ None → S.state _serializer.new ≡ S.state _serializer.old) }
         ensures goes_on { GoesOn (S.state _serializer.old) (S.state _serializer.new) }
-        ensures refused { IfErr result (IsRegionRefused Self.Archived.definitions (run Self.Archived.shape) (length _values.now) (each_keys keys _values.now)
-            (list (each_meaning meaning _values.now)) (S.state _serializer.old) (S.state _serializer.new)) }
+        ensures refused { IfErr result (RunUnstored keys meaning Self.Archived.Portable _values.now S.Keys _serializer) }
     {
         Ok(None)
     }
@@ -101,28 +102,29 @@ pub trait Archive {
 
 /// A source that can be serialized to an `S`. As in rkyv 0.8.18.
 pub trait Serialize<S: Writer + Keys>: Archive {
+    ghost use Rattle.archive_core.specs.Sources.{Wrote, Refused};
+
     /// Writes what the value owns, region by region, and answers what its archived form is resolved with. It asks nothing. Refused for a cause of the
     /// value's own, as the writer refuses (`BufferOverflow`, 8; `WriterFailed`, 9), or with `OutOfMemory`, 1, where memory is refused; never with
     /// `NotStarted`, 14, or `AlreadyFinished`, 15. After a refusal, too, the bytes from before are a beginning of those that `serializer` holds, and
     /// each key that was known keeps its state.
     fn serialize(&self, serializer: &mut S) -> Result<Self::Resolver, Error>
-        ensures serialized { IfOk result (λ r. Serialized Self.Archived.definitions Self.Archived.shape (Self.keys self.now) (Self.meaning self.now)
-            (Self.flat self.now r) (S.state serializer.old) (S.state serializer.new)) }
+        ensures serialized { IfOk result (Wrote Self.Archive Self.Archived.Portable self.now S.Keys serializer) }
         ensures same_value { IfOk result (λ r. Self.belongs self.now r) }
         ensures goes_on { GoesOn (S.state serializer.old) (S.state serializer.new) }
-        ensures refused { IfErr result (IsRefused Self.Archived.definitions Self.Archived.shape (Self.keys self.now) (Self.meaning self.now)
-            (S.state serializer.old) (S.state serializer.new)) };
+        ensures refused { IfErr result (Refused Self.Archive Self.Archived.Portable self.now S.Keys serializer) };
 }
 
 /// A format that can be read back as a `T`. As in rkyv 0.8.18, by views in place of references.
 pub trait Deserialize<T: Archive, D: Entries>: ArchivePointee {
+    ghost use Rattle.archive_core.specs.Sources.{Read};
+
     /// What implements this trait writes this call, over the part of a view, and callers use `deserialize`. Asks for what a view promises of the part.
     /// Our own.
     fn deserialize_part(alloc: Global, part: RawView<'_>, deserializer: &mut D) -> Result<T, Error>
-        requires { Viewed Self.definitions part.bytes.now part.pos Self.pointee part.len }
-        ensures read { IfOk result (λ t. ReadsBack Self.definitions part.entry.bytes.now part.entry.pos Self.pointee part.entry.len
-            (D.entry_of deserializer.old) (D.entry_of deserializer.new) (T.meaning t) (T.keys t)) }
-        ensures refused { IfErr result (RefusesReading Self.definitions part.entry.bytes.now part.entry.pos Self.pointee part.entry.len (D.entry_of deserializer.old)) };
+        requires { IsPartOf Self.ArchivePointee part }
+        ensures read { IfOk result (Read Self.ArchivePointee part D.Entries deserializer T.Archive) }
+        ensures refused { IfErr result (RefusesPart Self.ArchivePointee part D.Entries deserializer) };
 
     /// The value that the view shows, each shared value named by its position, as those are that `deserializer` keeps from before; it keeps what it
     /// kept. Memory comes from `alloc`: refused with `OutOfMemory`, 1, where it is refused, and with `CyclicDeserialize`, 13, only where a shared
@@ -132,9 +134,8 @@ pub trait Deserialize<T: Archive, D: Entries>: ArchivePointee {
         view: Ref<'_, Self>,
         deserializer: &mut D,
     ) -> Result<T, Error>
-        ensures read { IfOk result (λ t. ReadsBack Self.definitions view.entry.bytes.now view.entry.pos Self.pointee view.entry.len
-            (D.entry_of deserializer.old) (D.entry_of deserializer.new) (T.meaning t) (T.keys t)) }
-        ensures refused { IfErr result (RefusesReading Self.definitions view.entry.bytes.now view.entry.pos Self.pointee view.entry.len (D.entry_of deserializer.old)) }
+        ensures read { IfOk result (λ t. ReadsView view.entry D.Entries deserializer (T.meaning t) (T.keys t)) }
+        ensures refused { IfErr result (RefusesView view.entry D.Entries deserializer) }
     {
         Self::deserialize_part(alloc, view.part(), deserializer)
     }
@@ -168,25 +169,27 @@ pub trait ArchiveUnsized {
     ghost one_length: { (v : Self) → has_length Self.Archived.pointee ≡ false → source_length v ≡ 0 };
 
     // There is a plan of it, with its region.
-    ghost planned: { (v : Self) → HasRegionPlan Self.Archived.definitions Self.Archived.pointee (source_length v) (keys v) (meaning v) };
+    ghost planned: { (v : Self) → IsPlanned Self.Archived.ArchivePointee (source_length v) (keys v) (meaning v) };
 }
 
 /// A source that can be serialized to an `S` as a region of its own. As in rkyv 0.8.18.
 pub trait SerializeUnsized<S: Writer + Keys>: ArchiveUnsized {
+    ghost use Rattle.archive_core.specs.ArchivesOf.{Stored, Unstored};
+
     /// Writes what the source owns and then its region, and answers the region's position, in bytes from the first one. It asks nothing. Refused for a
     /// cause of the source's own, as the writer refuses (`BufferOverflow`, 8; `WriterFailed`, 9), or with `OutOfMemory`, 1, where memory is refused;
     /// never with `NotStarted`, 14, or `AlreadyFinished`, 15. After a refusal, too, the bytes from before are a beginning of those that `serializer`
     /// holds, and each key that was known keeps its state.
     fn serialize_unsized(&self, serializer: &mut S) -> Result<usize, Error>
-        ensures serialized { IfOk result (λ p. SerializedRegion Self.Archived.definitions Self.Archived.pointee (Self.source_length self.now) (Self.keys self.now)
-            (Self.meaning self.now) p (S.state serializer.old) (S.state serializer.new)) }
+        ensures serialized { IfOk result (Stored Self.ArchiveUnsized Self.Archived.ArchivePointee self.now S.Keys serializer) }
         ensures goes_on { GoesOn (S.state serializer.old) (S.state serializer.new) }
-        ensures refused { IfErr result (IsRegionRefused Self.Archived.definitions Self.Archived.pointee (Self.source_length self.now) (Self.keys self.now)
-            (Self.meaning self.now) (S.state serializer.old) (S.state serializer.new)) };
+        ensures refused { IfErr result (Unstored Self.ArchiveUnsized Self.Archived.ArchivePointee self.now S.Keys serializer) };
 }
 
 /// A pointee that can be read back as a `T`: the value, a vector of the elements, or a string. As in rkyv 0.8.18, by views in place of references.
 pub trait DeserializeUnsized<T: Archive, D: Entries>: ArchivePointee {
+    ghost use Rattle.archive_core.specs.Sources.{Read};
+
     /// What implements this trait writes this call, over the part of a view, and callers use `deserialize_unsized`. Asks for what a view promises of
     /// the part. Our own.
     fn deserialize_unsized_part(
@@ -194,10 +197,9 @@ pub trait DeserializeUnsized<T: Archive, D: Entries>: ArchivePointee {
         part: RawView<'_>,
         deserializer: &mut D,
     ) -> Result<T, Error>
-        requires { Viewed Self.definitions part.bytes.now part.pos Self.pointee part.len }
-        ensures read { IfOk result (λ t. ReadsBack Self.definitions part.entry.bytes.now part.entry.pos Self.pointee part.entry.len
-            (D.entry_of deserializer.old) (D.entry_of deserializer.new) (T.meaning t) (T.keys t)) }
-        ensures refused { IfErr result (RefusesReading Self.definitions part.entry.bytes.now part.entry.pos Self.pointee part.entry.len (D.entry_of deserializer.old)) };
+        requires { IsPartOf Self.ArchivePointee part }
+        ensures read { IfOk result (Read Self.ArchivePointee part D.Entries deserializer T.Archive) }
+        ensures refused { IfErr result (RefusesPart Self.ArchivePointee part D.Entries deserializer) };
 
     /// What the view shows, as `Deserialize::deserialize` says it. Memory comes from `alloc`: refused with `OutOfMemory`, 1, where it is refused, and
     /// with `CyclicDeserialize`, 13, only where a shared position is met that is still being read.
@@ -206,9 +208,8 @@ pub trait DeserializeUnsized<T: Archive, D: Entries>: ArchivePointee {
         view: Ref<'_, Self>,
         deserializer: &mut D,
     ) -> Result<T, Error>
-        ensures read { IfOk result (λ t. ReadsBack Self.definitions view.entry.bytes.now view.entry.pos Self.pointee view.entry.len
-            (D.entry_of deserializer.old) (D.entry_of deserializer.new) (T.meaning t) (T.keys t)) }
-        ensures refused { IfErr result (RefusesReading Self.definitions view.entry.bytes.now view.entry.pos Self.pointee view.entry.len (D.entry_of deserializer.old)) }
+        ensures read { IfOk result (λ t. ReadsView view.entry D.Entries deserializer (T.meaning t) (T.keys t)) }
+        ensures refused { IfErr result (RefusesView view.entry D.Entries deserializer) }
     {
         Self::deserialize_unsized_part(alloc, view.part(), deserializer)
     }

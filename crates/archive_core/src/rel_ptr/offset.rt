@@ -3,6 +3,7 @@
 ghost use Rattle.std.specs.Prelude.{◌≡◌, MatchResult};
 ghost use Rattle.archive_check.specs.declared.format.error.Error.TheVariants.{OffsetOverflow};
 ghost use Rattle.archive_core.specs.Offsets.{Fits, as_isize};
+ghost use Rattle.archive_core.specs.OffsetsWritten.{GivesNumber};
 
 use archive_check::format::error::Error;
 use archive_num::{Integer, LittleEndian};
@@ -11,7 +12,7 @@ use archive_num::{Integer, LittleEndian};
 pub trait OffsetNumber: Integer {
     /// The number that is this distance, in bytes. Refused with `OffsetOverflow`, 3, exactly where it doesn't fit the type.
     fn from_distance(distance: isize) -> Result<Self, Error>
-        ensures { MatchResult result (λ n. Self.value_of n ≡ distance) (λ e. (e ≡ OffsetOverflow) × ¬ Fits Self.sign Self.width distance) };
+        ensures { GivesNumber Self.value_of Self.sign Self.width distance result };
 
     /// The distance that it is, in bytes. A `u64` above `isize::MAX` wraps, as Rust's cast does.
     fn to_distance(self) -> isize
@@ -116,7 +117,7 @@ pub trait Offset: Copy {
 
     /// The offset of this distance, in bytes. Refused with `OffsetOverflow`, 3, exactly where it doesn't fit.
     final fn from_isize(value: isize) -> Result<Self, Error>
-        ensures { MatchResult result (λ o. Self.Number.value_of (Self.number_in o) ≡ value) (λ e. (e ≡ OffsetOverflow) × ¬ Fits Self.Number.sign Self.Number.width value) }
+        ensures { GivesNumber (λ o. Self.Number.value_of (Self.number_in o)) Self.Number.sign Self.Number.width value result }
     {
         match Self::Number::from_distance(value) {
             Ok(number) => Ok(Self::from_number(number)),

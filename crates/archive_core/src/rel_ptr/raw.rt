@@ -11,6 +11,7 @@ ghost use Rattle.archive_check.specs.SelfCheck.Laws.{leaf_check};
 ghost use Rattle.archive_check.specs.LeafLayout.{leaf_layout, leaf_align, leaf_has_layout, no_definition_reached};
 ghost use Rattle.archive_check.specs.declared.format.error.Error.TheVariants.{OffsetOverflow};
 ghost use Rattle.archive_core.specs.Offsets.{distance, Fits, IsBeyond, offset_bytes, offset_at};
+ghost use Rattle.archive_core.specs.OffsetsWritten.{OffsetWritten, OffsetPut};
 
 use super::offset::{Offset, OffsetNumber};
 use super::signed_offset;
@@ -68,9 +69,7 @@ pub(super) fn raw_kind<N: Integer>() -> Kind
 // Writes the offset of this distance; the bytes are unchanged where it is refused.
 pub(super) fn write_offset<N: OffsetNumber>(distance: isize, bytes: &mut [u8]) -> Result<(), Error>
     requires { length bytes.old ≡ byte_len N.width }
-    ensures { MatchResult result
-        (λ _. Fits N.sign N.width distance × (bytes.new ≡ offset_bytes N.width distance))
-        (λ e. (bytes.new ≡ bytes.old) × (e ≡ OffsetOverflow) × ¬ Fits N.sign N.width distance) }
+    ensures { OffsetWritten N.sign N.width distance bytes.old bytes.new result }
 {
     match N::from_distance(distance) {
         Ok(number) => {
@@ -168,9 +167,7 @@ impl<O: Offset> RawRelPtr<O> {
     /// unchanged.
     pub fn try_emplace(to: usize, place: Place<'_, RawRelPtr<O>>) -> Result<(), Error>
         requires { length place.bytes.now ≡ byte_len O.Number.width }
-        ensures { MatchResult result
-            (λ _. Fits O.Number.sign O.Number.width (distance place.entry.pos to) × (place.exit.0.now ≡ offset_bytes O.Number.width (distance place.entry.pos to)))
-            (λ e. (place.exit.0.now ≡ place.entry.bytes.now) × IsBeyond O.Number.sign O.Number.width e (distance place.entry.pos to)) }
+        ensures { OffsetPut O.Number.sign O.Number.width to place result }
     {
         let Place { bytes, pos, .. } = place;
         let distance = signed_offset(pos, to)?;

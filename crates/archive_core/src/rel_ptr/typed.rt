@@ -12,6 +12,7 @@ ghost use Rattle.archive_check.specs.LittleEndian.{little_bytes};
 ghost use Rattle.archive_check.specs.Reads.{u32_at};
 ghost use Rattle.archive_check.specs.declared.format.error.Error.TheVariants.{OutOfMemory, OffsetOverflow};
 ghost use Rattle.archive_core.specs.Offsets.{distance, Fits, IsBeyond, offset_at};
+ghost use Rattle.archive_core.specs.OffsetsWritten.{RelWritten, RelPut};
 ghost use Rattle.archive_core.specs.RelativePointers.{rel_parts, length_begin, rel_layout, written_at, rel_bytes};
 ghost use Rattle.archive_core.specs.RelativeLayout.{rel_align, rel_has_layout};
 
@@ -135,9 +136,7 @@ fn write_pointer<N: OffsetNumber, M: Metadata>(
     bytes: &mut [u8],
 ) -> Result<(), Error>
     requires { length bytes.old ≡ (rel_layout N.width M.is_length).size }
-    ensures { MatchResult result
-        (λ _. Fits N.sign N.width distance × (bytes.new ≡ rel_bytes N.width M.is_length distance (M.count metadata) bytes.old))
-        (λ e. (bytes.new ≡ bytes.old) × (e ≡ OffsetOverflow) × ¬ Fits N.sign N.width distance) }
+    ensures { RelWritten N.sign N.width M.is_length distance (M.count metadata) bytes.old bytes.new result }
 {
     let (offset, _) = bytes.split_at_mut(N::integer_kind().size());
     write_offset::<N>(distance, offset)?;
@@ -223,10 +222,8 @@ where
         place: Place<'_, RelPtr<T, O>>,
     ) -> Result<(), Error>
         requires { length place.bytes.now ≡ (rel_layout O.Number.width T.ArchivedMetadata.is_length).size }
-        ensures { MatchResult result
-            (λ _. Fits O.Number.sign O.Number.width (distance place.entry.pos to)
-            × (place.exit.0.now ≡ rel_bytes O.Number.width T.ArchivedMetadata.is_length (distance place.entry.pos to) (T.ArchivedMetadata.count metadata) place.entry.bytes.now))
-            (λ e. (place.exit.0.now ≡ place.entry.bytes.now) × IsBeyond O.Number.sign O.Number.width e (distance place.entry.pos to)) }
+        ensures { RelPut O.Number.sign O.Number.width T.ArchivedMetadata.is_length
+            (T.ArchivedMetadata.count metadata) to place result }
     {
         let Place { bytes, pos, .. } = place;
         let distance = signed_offset(pos, to)?;
@@ -250,10 +247,7 @@ impl<T: ArchivePointee<ArchivedMetadata = ()>, O: Offset> RelPtr<T, O> {
     /// Writes a pointer to the position `to` over the bytes of `place`, where a `T` is one value. Asks and refuses as `try_emplace_unsized` does.
     pub fn try_emplace(to: usize, place: Place<'_, RelPtr<T, O>>) -> Result<(), Error>
         requires { length place.bytes.now ≡ byte_len O.Number.width }
-        ensures { MatchResult result
-            (λ _. Fits O.Number.sign O.Number.width (distance place.entry.pos to)
-            × (place.exit.0.now ≡ rel_bytes O.Number.width false (distance place.entry.pos to) 0 place.entry.bytes.now))
-            (λ e. (place.exit.0.now ≡ place.entry.bytes.now) × IsBeyond O.Number.sign O.Number.width e (distance place.entry.pos to)) }
+        ensures { RelPut O.Number.sign O.Number.width false 0 to place result }
     {
         let Place { bytes, pos, .. } = place;
         Self::try_emplace_unsized(to, (), Place::new(pos, bytes))

@@ -7,7 +7,7 @@ ghost use Rattle.archive_check.specs.WriterState.{KeepsKeys};
 ghost use Rattle.archive_core.specs.Causes.{IsRegionRefused};
 ghost use Rattle.archive_core.specs.Copies.{each_bytes, EachCopied, copies_from, copies_to, behind_zeros, IsUnwritten, IsCopyRefused, TakesCopy};
 ghost use Rattle.archive_core.specs.Plans.{SerializedRegion};
-ghost use Rattle.archive_core.specs.Runs.{each_keys, each_meaning};
+ghost use Rattle.archive_core.specs.Sources.{CopiesStored, CopiesUnstored};
 ghost use Rattle.archive_write.specs.Written.{GoesOn, ExplainsRefusal};
 
 use crate::ser::run_fits;
@@ -111,13 +111,11 @@ pub fn copy_slice<S: Writer + Keys, T: Copied>(
     values: &[T],
     serializer: &mut S,
 ) -> Result<usize, Error>
-    ensures serialized { IfOk result (λ p. SerializedRegion T.CopiedAs.definitions (run T.CopiedAs.shape) (length values.now) (each_keys T.copied_keys values.now) (list (each_meaning T.copied_meaning values.now)) p
-        (S.state serializer.old) (S.state serializer.new)) }
+    ensures serialized { IfOk result (CopiesStored T.Copied T.CopiedAs.Portable values.now S.Keys serializer) }
     ensures copied { OnOk result ((S.state serializer.new).bytes ≡ behind_zeros T.CopiedAs.layout (S.state serializer.old).bytes (each_bytes T.copied_bytes values.now)) }
     ensures position { IfOk result (λ p. p ≡ copies_from T.CopiedAs.layout (S.place serializer.old)) }
     ensures goes_on { GoesOn (S.state serializer.old) (S.state serializer.new) }
-    ensures refused { IfErr result (IsRegionRefused T.CopiedAs.definitions (run T.CopiedAs.shape) (length values.now) (each_keys T.copied_keys values.now) (list (each_meaning T.copied_meaning values.now))
-        (S.state serializer.old) (S.state serializer.new)) }
+    ensures refused { IfErr result (CopiesUnstored T.Copied T.CopiedAs.Portable values.now S.Keys serializer) }
     ensures cause { IfErr result (IsCopyRefused (copies_to T.CopiedAs.layout (length values.now) (S.place serializer.old)) (S.state serializer.old) (S.state serializer.new)) }
     ensures memory { IsErrOf result Error.OutOfMemory → IsTrue S.takes_memory }
     ensures succeeds { TakesCopy (IsTrue S.takes_memory) (copies_to T.CopiedAs.layout (length values.now) (S.place serializer.old)) (S.state serializer.old) (S.state serializer.new) → IsOk result }

@@ -3,6 +3,7 @@
 ghost use Rattle.std.specs.Prelude.{◌≡◌, ◌<◌, ◌≤◌, MatchResult, FitsSigned, length};
 ghost use Rattle.std.specs.Int.{w32};
 ghost use Rattle.archive_core.specs.Offsets.{distance, IsTooFar};
+ghost use Rattle.archive_core.specs.OffsetsWritten.{OutOfLineWritten};
 ghost use Rattle.archive_core.specs.Strings.{inline_bytes, out_of_line_bytes, coded_length};
 
 use crate::rel_ptr::signed_offset;
@@ -48,9 +49,7 @@ pub fn try_emplace_out_of_line(
     requires long { 8 < length value.now }
     requires held { length value.now ≤ 1073741823 }
     requires sized { length out.old ≡ 8 }
-    ensures { MatchResult result
-        (λ _. FitsSigned w32 (distance pos target) × (out.new ≡ out_of_line_bytes (length value.now) (distance pos target)))
-        (λ e. (out.new ≡ out.old) × IsTooFar e (distance pos target)) }
+    ensures { OutOfLineWritten (length value.now) (distance pos target) out.old out.new result }
 {
     let Ok(offset) = i32::try_from(signed_offset(pos, target)?) else {
         return Err(Error::OffsetOverflow);

@@ -6,6 +6,7 @@ ghost use Rattle.archive_check.specs.Shape.{vec as vec_shape, run};
 ghost use Rattle.archive_check.specs.Value.{list, hole};
 ghost use Rattle.archive_check.specs.declared.format.error.Error.TheVariants.{OutOfMemory};
 ghost use Rattle.archive_core.specs.Causes.{IsRefused};
+ghost use Rattle.archive_core.specs.KindsWritten.{VecSerialized, VecRefused};
 ghost use Rattle.archive_core.specs.Plans.{Serialized};
 ghost use Rattle.archive_core.specs.Runs.{each_keys, each_meaning};
 ghost use Rattle.archive_core.specs.Writing.{to_pointee};
@@ -28,11 +29,10 @@ impl<T: Portable> ArchivedVec<T> {
         requires can { I.can_next iter }
         requires ends { IsFinite (I.remaining iter) }
         ensures serialized { IfOk result (λ r. (xs : List U) × Drains I.next_gives iter xs × (length xs ≤ 4294967295)
-            × Serialized T.definitions (vec_shape T.shape) (each_keys U.keys xs) (list (each_meaning U.meaning xs))
-            (hole (to_pointee r (run T.shape) (length xs))) (S.state serializer.old) (S.state serializer.new)) }
+            × VecSerialized U.keys U.meaning T.Portable xs S.Keys serializer r) }
         ensures goes_on { GoesOn (S.state serializer.old) (S.state serializer.new) }
         ensures refused { IfErr result (λ e. ((e ≡ OutOfMemory) × (serializer.new ≡ serializer.old)) ⊎ ((xs : List U) × Drains I.next_gives iter xs
-            × IsRefused T.definitions (vec_shape T.shape) (each_keys U.keys xs) (list (each_meaning U.meaning xs)) (S.state serializer.old) (S.state serializer.new) e)) }
+            × VecRefused U.keys U.meaning T.Portable xs S.Keys serializer e)) }
     {
         let alloc = serializer.resolver_alloc();
         let Ok(items) = iter.collect::<Vec<U, S::Alloc>>(alloc) else {
