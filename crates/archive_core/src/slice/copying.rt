@@ -1,12 +1,8 @@
 // Slices of values that are copied: their bytes are written a piece at a time.
 
 ghost use Rattle.std.specs.Prelude.{◌≡◌, ◌+◌, ◌*◌, ◌++◌, ◌<◌, ◌≤◌, IfOk, OnOk, IfErr, IsOk, IsErrOf, IsTrue, length};
-ghost use Rattle.archive_check.specs.Shape.{run};
-ghost use Rattle.archive_check.specs.Value.{list};
 ghost use Rattle.archive_check.specs.WriterState.{KeepsKeys};
-ghost use Rattle.archive_core.specs.Causes.{IsRegionRefused};
 ghost use Rattle.archive_core.specs.Copies.{each_bytes, EachCopied, copies_from, copies_to, behind_zeros, IsUnwritten, IsCopyRefused, TakesCopy};
-ghost use Rattle.archive_core.specs.Plans.{SerializedRegion};
 ghost use Rattle.archive_core.specs.Sources.{CopiesStored, CopiesUnstored};
 ghost use Rattle.archive_write.specs.Written.{GoesOn, ExplainsRefusal};
 
