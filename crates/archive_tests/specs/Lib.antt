@@ -1,3 +1,1 @@
 pub mod Repeated
-pub mod TwoPools
-pub mod Endless

@@ -1,36 +1,14 @@
 // Whole archives, and the parts that they are written and read by.
 
-mod arrays;
-mod boxed_slices;
-mod comparisons;
-mod contexts;
-mod copies;
 mod device;
-mod endless;
-mod iterators;
 mod memory;
 mod numbers;
-mod options;
-mod own_choices;
-mod owner_reading;
-mod owner_views;
-mod owners;
-mod pools;
 mod positions;
-mod rc;
 mod reading;
 mod readme;
 mod rel_ptr;
-mod results;
-mod seals;
 mod self_checks;
-mod shared;
-mod shared_memory;
-mod shared_pairs;
-mod shared_sources;
 mod strings;
-mod tuples;
-mod two_pools;
 mod without_meaning;
 mod writing;
 

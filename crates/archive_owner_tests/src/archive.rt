@@ -1,0 +1,16 @@
+// Boxes, vectors, arrays, tuples, options, results, and records and choices of their own.
+
+mod arrays;
+mod boxed_slices;
+mod copies;
+mod iterators;
+mod options;
+mod own_choices;
+mod owner_reading;
+mod owner_views;
+mod owners;
+mod results;
+mod tuples;
+
+// The archive of the text "hello world": the text, a zero, and at 12 the string that points back at it.
+const HELLO_WORLD: &[u8] = b"hello world\0\x8b\0\0\0\xf4\xff\xff\xff";

@@ -1,0 +1,5 @@
+//! Tests of owners, records and choices, through public calls.
+#![tactic(auto)]
+
+#[cfg(test)]
+mod archive;

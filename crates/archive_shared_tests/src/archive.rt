@@ -1,0 +1,14 @@
+// Shared and weak pointers, pools, seals, and what is compared where it lies.
+
+mod comparisons;
+mod contexts;
+mod pools;
+mod rc;
+mod seals;
+mod shared;
+mod shared_memory;
+mod shared_pairs;
+mod shared_sources;
+
+// The archive of the text "hello world": the text, a zero, and at 12 the string that points back at it.
+const HELLO_WORLD: &[u8] = b"hello world\0\x8b\0\0\0\xf4\xff\xff\xff";

@@ -1,0 +1,5 @@
+//! Tests of shared pointers, pools, seals and comparisons, through public calls.
+#![tactic(auto)]
+
+#[cfg(test)]
+mod archive;
