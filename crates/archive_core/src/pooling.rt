@@ -87,7 +87,7 @@ pub trait PoolingExt<T: Pooled>: Pooling<T> {
         Self: Sized,
         T::Archived: DeserializeUnsized<T::Value, Self>,
         ensures read { IfOk result (λ v. ReadsKept view.entry Self.Entries self (T.kept v)) }
-        ensures refused { IfErr result (RefusesKept view.entry Self.Entries self) }
+        ensures refused { IfErr result (λ e. RefusesKept view.entry Self.Entries self e) }
     {
         let part = view.part();
         let pos = part.pos;
