@@ -36,9 +36,12 @@ fn a_pool_is_used_twice_for_one_buffer(rt: HostRuntime) -> Result<(), Fail> {
     let mut pool: Pool<Shared<u32>> = Pool::new(rt.alloc());
     let numbers: Vec<Shared<u32>> = from_bytes(rt.alloc(), TWO_NUMBERS, &mut pool)?;
     assert!(rt; pool.is_known(0) && !pool.is_known(4));
-    let view = access::<Numbers>(rt.alloc(), TWO_NUMBERS)?
+    let Some(view) = access::<Numbers>(rt.alloc(), TWO_NUMBERS)?
         .as_slice()
-        .index(0);
+        .get(0)
+    else {
+        panic!(rt; "no number")
+    };
     let again: Shared<u32> = deserialize_using(rt.alloc(), view, &mut pool)?;
     assert_eq!(rt; (again.key, *again.value), (0, 10));
     for number in numbers {
