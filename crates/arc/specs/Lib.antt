@@ -1,3 +1,4 @@
 pub mod NodeShape
 pub mod Node
 pub mod AllValuesShape
+pub mod TwoVariants

@@ -2,15 +2,16 @@
 
 ghost use Rattle.std.specs.Prelude.{◌≡◌, [], length, refl, ⊤, OnOk, IfOk, IfErr};
 ghost use Rattle.std.proofs.Common.{inl, inr};
-ghost use Rattle.archive_check.specs.Shape.{choice, no_variant, one, variant};
+ghost use Rattle.archive_check.specs.Shape.{choice, one};
 ghost use Rattle.archive_check.specs.Expressions.{shape_of, shapes_in};
 ghost use Rattle.archive_check.specs.NamedLayout.{name_reached};
 ghost use Rattle.archive_check.specs.SelfCheck.Laws.{by_schema};
 ghost use Rattle.archive_check.specs.VariantsLayout.{is_recursive_choice};
 ghost use Rattle.archive_check.specs.Viewed.{Viewed};
-ghost use Rattle.archive_check.specs.Entries.{ReadsBack, RefusesReading};
-ghost use Rattle.archive_core.specs.Causes.{HindersAt};
-ghost use Rattle.archive_core.specs.Writing.{Fresh, Resolves};
+ghost use Rattle.archive_core.specs.Placed.{Resolved, Hindered};
+ghost use Rattle.archive_core.specs.Seen.{ReadsPart, RefusesPart};
+ghost use Rattle.archive_core.specs.Writing.{Fresh};
+ghost use Rattle.arc.specs.TwoVariants.{two_variants};
 ghost use Rattle.arc.specs.NodeShape.{node_name, node_shape, node_variants, node_choice, node_definitions, node_layout, node_has_layout, knows_variants};
 
 use archive_core::boxed::{ArchivedBox, BoxResolver, resolve_inner, serialize_inner};
@@ -68,7 +69,7 @@ fn choice_of(
     first: Vec<Expr>,
     second: Vec<Expr>,
 ) -> Result<Expr, AllocError>
-    ensures { IfOk result (λ e. shape_of e ≡ choice name.now (variant (shapes_in first.items) (variant (shapes_in second.items) no_variant))) }
+    ensures { IfOk result (λ e. shape_of e ≡ choice name.now (two_variants (shapes_in first.items) (shapes_in second.items))) }
 {
     let variants = vec![in alloc; first, second]?;
     Ok(Expr::Choice(name, variants))
@@ -157,9 +158,9 @@ impl Archive for Node {
     ) -> Result<(), Error>
         requires fresh { Fresh 8 place.pos place.bytes.now }
         requires same_value { ⊤ }
-        ensures resolved { OnOk result (Resolves node_definitions place.entry.pos place.exit.0.now node_shape (node_flat resolver)) }
+        ensures resolved { OnOk result (Resolved ⟦<Self::Archived as Portable>⟧ place (node_flat resolver)) }
         ensures same_length { length place.exit.0.now ≡ length place.entry.bytes.now }
-        ensures refused { IfErr result (HindersAt node_definitions node_shape (node_flat resolver) place.entry.pos) }
+        ensures refused { IfErr result (Hindered ⟦<Self::Archived as Portable>⟧ place (node_flat resolver)) }
     {
         let Place { bytes, pos, .. } = place;
         let rest = match resolver {
@@ -196,9 +197,8 @@ impl<D: Entries> Deserialize<Node, D> for ArchivedNode {
         deserializer: &mut D,
     ) -> Result<Node, Error>
         requires { Viewed node_definitions part.bytes.now part.pos (one node_shape) part.len }
-        ensures read { IfOk result (λ t. ReadsBack node_definitions part.entry.bytes.now part.entry.pos (one node_shape) part.entry.len
-            (D.entry_of deserializer.old) (D.entry_of deserializer.new) (node_meaning t) []) }
-        ensures refused { IfErr result (RefusesReading node_definitions part.entry.bytes.now part.entry.pos (one node_shape) part.entry.len (D.entry_of deserializer.old)) }
+        ensures read { IfOk result (λ t. ReadsPart ⟦<Self as ArchivePointee>⟧ part D.Entries deserializer (node_meaning t) []) }
+        ensures refused { IfErr result (RefusesPart ⟦<Self as ArchivePointee>⟧ part D.Entries deserializer) }
     {
         let view: Ref<'_, ArchivedNode> = Ref::at(part);
         if view.tag() == 0 {
