@@ -1,5 +1,6 @@
 -- Leaves are copied: they own nothing, are small, and have their bytes wherever they stand.
-use Rattle.std.proofs.Common.{◌≡◌, ℕ, ℤ, ◌≤◌, List, [], length, sym, ap, ◌∙◌, arith}
+use Rattle.std.proofs.Common.{◌≡◌, ℕ, ℤ, ◌≤◌, List, [], length, min, sym, ap, ◌∙◌, arith}
+use Rattle.std.proofs.Math.Nat.{min-eq_left}
 use Rattle.std.specs.Int.{Width, w8, w16, w32, w64, w128, byte_len}
 use Rattle.archive_check.specs.Shape.{Sign, Kind, unit, bool, char, number as number_kind, non_zero, raw_rel, leaf, Shape}
 use Rattle.archive_check.specs.Layout.{kind_size}
@@ -24,8 +25,12 @@ kind_small (number_kind sign w) = width_small w
 kind_small (non_zero sign w) = width_small w
 kind_small (raw_rel sign w) = width_small w
 
-pub leaf_small : (kind : Kind) (n : ℕ) → kind_size kind ≡ n → n ≤ 1024
-leaf_small kind n e = rw (← e) (kind_small kind)
+-- so the size that a type tells of itself is not cut off, and small
+pub leaf_sized : (kind : Kind) (size n : ℕ) → size ≡ kind_size kind → n ≡ min size 18446744073709551615 → n ≡ size
+leaf_sized kind size n e told = told ∙ min-eq_left (omega (arith, e, kind_small kind))
+
+pub leaf_small : (kind : Kind) (size n : ℕ) → size ≡ kind_size kind → n ≡ min size 18446744073709551615 → n ≤ 1024
+leaf_small kind size n e told = omega (arith, leaf_sized kind size n e told, e, kind_small kind)
 
 -- a number that isn't 0 has as many bytes as one that may be
 pub non_zero_size : (kind : Kind) (sign : Sign) (w : Width) (n : ℕ) → kind ≡ number_kind sign w → kind_size kind ≡ n → kind_size (non_zero sign w) ≡ n

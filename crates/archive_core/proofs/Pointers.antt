@@ -1,22 +1,22 @@
 -- What the bytes of an offset say, and where they lie.
-use Rattle.std.proofs.Common.{◌≡◌, ◌<◌, ◌≤◌, ◌+◌, ◌*◌, Bool, true, false, ◌^◌, ◌≤ℤ◌, ◌<ℤ◌, ℕ, ℤ, pos, negsuc, List, length, refl, sym, ap, ◌∙◌, arith, take, drop}
+use Rattle.std.proofs.Common.{◌≡◌, ◌<◌, ◌≤◌, ◌+◌, ◌*◌, Bool, true, false, ◌^◌, ℕ, ℤ, List, length, sym, ap, ◌∙◌, arith}
 use Rattle.std.specs.Coded.{le_prop}
 use Rattle.std.proofs.Math.Logic.{∥∥₁_elim}
-use Rattle.std.specs.Int.{Width, byte_len, from_le_bytes, cast_signed, cast_unsigned, w8, w16, w32, w64, w128}
-use Rattle.std.specs.Int.RustNames.{FitsSigned}
+use Rattle.std.specs.Int.{Width, byte_len, from_le_bytes, cast_unsigned, w64}
 use mir.Val.{bits}
 use Rattle.std.proofs.lemmas.Int.{to_z-of_z}
 use lib.Dec.{le→leb, lt→ltb}
 use borrow.Author.Gap.{read_sfits}
 use Rattle.archive_check.specs.Shape.{Sign, unsigned, signed, Kind, number, Shape, parts, one}
-use Rattle.archive_check.specs.Layout.{Layout, kind_size}
-use Rattle.archive_check.specs.LittleEndian.{little_bytes, little_number, AreBytes}
-use Rattle.archive_check.specs.Reads.{IsLegal, kind_value, with_sign, bytes_at}
-use Rattle.archive_check.specs.Definitions.{Definitions, no_definition, HasLayout, Knows}
-use Rattle.archive_check.specs.Viewed.{Viewed, Lies}
+use Rattle.archive_check.specs.Layout.{Layout}
+use Rattle.archive_check.specs.LittleEndian.{little_number, AreBytes}
+use Rattle.archive_check.specs.Reads.{IsLegal, kind_value, with_sign}
+use Rattle.archive_check.specs.Definitions.{Definitions, no_definition, HasLayout}
+use Rattle.archive_check.specs.Viewed.{Viewed}
 use Rattle.archive_check.proofs.LittleEndian.{from_le_bytes-little, little_number-lt, pow_bits}
 use Rattle.archive_check.proofs.Viewed.{lies_fits}
 use Rattle.archive_num.specs.Leaves.{number-leaf, unsigned-reads, signed-reads}
+use Rattle.archive_core.specs.OffsetWidths.{IsOffsetWidth}
 use Rattle.archive_core.specs.RelativePointers.{rel_parts, rel_layout, length_begin}
 use Rattle.archive_core.specs.RelativeLayout.{rel_has_layout}
 use Rattle.archive_core.specs.Offsets.{Fits, offset_bytes, as_isize}
@@ -65,31 +65,19 @@ as_isize_again z = to_z-of_z w64 (as_isize z) (read_sfits w64 (cast_unsigned w64
 -- relative pointers that say what they lead to
 
 offset_part : (w : Width) (has : Bool) → byte_len w ≤ (rel_layout w has).size
-offset_part w8 false = omega arith
-offset_part w16 false = omega arith
-offset_part w32 false = omega arith
-offset_part w64 false = omega arith
-offset_part w128 false = omega arith
-offset_part w8 true = omega arith
-offset_part w16 true = omega arith
-offset_part w32 true = omega arith
-offset_part w64 true = omega arith
-offset_part w128 true = omega arith
+offset_part w false = omega arith
+offset_part w true = omega arith
 
 length_part : (w : Width) → length_begin w + 4 ≤ 2 * length_begin w
-length_part w8 = omega arith
-length_part w16 = omega arith
-length_part w32 = omega arith
-length_part w64 = omega arith
-length_part w128 = omega arith
+length_part w = omega arith
 
 -- the offset lies in the buffer
-pub rel_offset_inside : (bytes : List ℕ) (q n : ℕ) (sign : Sign) (w : Width) (has : Bool) → Viewed no_definition bytes q (one (parts (rel_parts sign w has))) n → q + byte_len w ≤ length bytes
-rel_offset_inside bytes q n sign w has v =
-    omega (arith, offset_part w has, view_fits no_definition bytes q n (parts (rel_parts sign w has)) (rel_layout w has) (rel_has_layout sign w has) v)
+pub rel_offset_inside : (bytes : List ℕ) (q n : ℕ) (sign : Sign) (w : Width) → IsOffsetWidth w → (has : Bool) → Viewed no_definition bytes q (one (parts (rel_parts sign w has))) n → q + byte_len w ≤ length bytes
+rel_offset_inside bytes q n sign w h has v =
+    omega (arith, offset_part w has, view_fits no_definition bytes q n (parts (rel_parts sign w has)) (rel_layout w has) (rel_has_layout sign w h has) v)
 
 -- and so does the length
-pub rel_length_inside : (bytes : List ℕ) (q n : ℕ) (sign : Sign) (w : Width) (has : Bool) → has ≡ true → Viewed no_definition bytes q (one (parts (rel_parts sign w has))) n → q + length_begin w + 4 ≤ length bytes
-rel_length_inside bytes q n sign w has e v =
+pub rel_length_inside : (bytes : List ℕ) (q n : ℕ) (sign : Sign) (w : Width) → IsOffsetWidth w → (has : Bool) → has ≡ true → Viewed no_definition bytes q (one (parts (rel_parts sign w has))) n → q + length_begin w + 4 ≤ length bytes
+rel_length_inside bytes q n sign w h has e v =
     let with : Viewed no_definition bytes q (one (parts (rel_parts sign w true))) n = rw e at v in
-    omega (arith, length_part w, view_fits no_definition bytes q n (parts (rel_parts sign w true)) (rel_layout w true) (rel_has_layout sign w true) with)
+    omega (arith, length_part w, view_fits no_definition bytes q n (parts (rel_parts sign w true)) (rel_layout w true) (rel_has_layout sign w h true) with)

@@ -9,7 +9,7 @@ ghost use Rattle.archive_enum.specs.Results.{result_shape, result_layout};
 ghost use Rattle.archive_core.specs.Causes.{HindersAt};
 ghost use Rattle.archive_core.specs.PlannedOwners.{one_planned};
 ghost use Rattle.archive_core.specs.Results.{result_meaning, result_keys, result_flat, ResultBelongs, result_keyed, result_planned};
-ghost use Rattle.archive_core.specs.Seen.{tag_of, IsPartOf, RefusesPart, IsBufferOf, IsBehind};
+ghost use Rattle.archive_core.specs.Seen.{tag_of, StandsBeside, IsPartOf, RefusesPart, IsBufferOf, IsBehind};
 ghost use Rattle.archive_core.specs.Sources.{Read, ResolvedAs, HinderedAs};
 ghost use Rattle.archive_core.specs.Writing.{Fresh, Resolves};
 
@@ -119,6 +119,7 @@ impl<'a, T: Portable, E: Portable> Ref<'a, ArchivedResult<T, E>> {
         ensures buffer { MatchResult result (IsBufferOf self.entry) (IsBufferOf self.entry) }
         ensures position { MatchResult result (IsBehind self.entry T.layout.align) (IsBehind self.entry E.layout.align) }
         ensures length { MatchResult result (λ v. v.len ≡ 0) (λ e. e.len ≡ 0) }
+        ensures beside { MatchResult result (λ v. StandsBeside v self.entry) (λ e. StandsBeside e self.entry) }
     {
         let RawView { bytes, pos, .. } = self.part();
         if bytes[pos] == 0 {

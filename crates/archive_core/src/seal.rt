@@ -7,6 +7,7 @@ mod choices;
 mod fields;
 mod leaves;
 mod parts;
+mod results;
 mod text;
 
 use crate::view::{RawView, Ref};

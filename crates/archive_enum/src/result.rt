@@ -108,3 +108,29 @@ impl<T, E> ArchivedResult<T, E> {
         }
     }
 }
+
+/// Iterates as `iter` does.
+impl<'a, T, E> IntoIterator for &'a ArchivedResult<T, E> {
+    type Item = &'a T;
+
+    type IntoIter = Iter<&'a T>;
+
+    ghost into_iter_gives = { λ s it. (option_copied it ≡ result_ok (result_of s.now)) × YieldsItsValue T };
+
+    fn into_iter(self) -> Iter<&'a T> {
+        self.iter()
+    }
+}
+
+/// Iterates as `iter_mut` does.
+impl<'a, T, E> IntoIterator for &'a mut ArchivedResult<T, E> {
+    type Item = &'a mut T;
+
+    type IntoIter = Iter<&'a mut T>;
+
+    ghost into_iter_gives = { λ s it. (option_copied_mut it ≡ result_ok (result_of s.now)) × YieldsItsValueMut T };
+
+    fn into_iter(self) -> Iter<&'a mut T> {
+        self.iter_mut()
+    }
+}

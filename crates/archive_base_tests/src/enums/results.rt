@@ -33,7 +33,11 @@ fn a_result_is_changed_where_it_lies(rt: HostRuntime) -> Result<(), Fail> {
     for at in value.iter_mut() {
         *at = 5;
     }
-    assert_eq!(rt; value.ok(), Some(5));
+    assert_eq!(rt; *value.as_ref().ok().unwrap_or(&0), 5);
+    for at in &mut value {
+        *at = 7;
+    }
+    assert_eq!(rt; value.ok(), Some(7));
     let mut error = err();
     if let Err(at) = error.as_mut() {
         *at = 6;
@@ -50,6 +54,14 @@ fn the_value_of_an_ok_comes_once(rt: HostRuntime) -> Result<(), Fail> {
     assert_eq!(rt; items.next().copied(), Some(1));
     assert!(rt; items.next().is_none() && items.next_back().is_none());
     assert_eq!(rt; err().iter().count(), 0);
+    let mut last = 0;
+    for at in &value {
+        last = *at;
+    }
+    for at in &err() {
+        last = *at;
+    }
+    assert_eq!(rt; last, 1);
     Ok(())
 }
 

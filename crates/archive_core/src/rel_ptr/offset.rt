@@ -1,8 +1,9 @@
 //! Offsets: the numbers that relative pointers hold.
 
-ghost use Rattle.std.specs.Prelude.{◌≡◌, MatchResult};
+ghost use Rattle.std.specs.Prelude.{◌≡◌, MatchResult, refl};
 ghost use Rattle.archive_check.specs.declared.format.error.Error.TheVariants.{OffsetOverflow};
 ghost use Rattle.archive_core.specs.Offsets.{Fits, as_isize};
+ghost use Rattle.archive_core.specs.OffsetWidths.{IsOffsetWidth};
 ghost use Rattle.archive_core.specs.OffsetsWritten.{GivesNumber};
 
 use archive_check::format::error::Error;
@@ -17,9 +18,14 @@ pub trait OffsetNumber: Integer {
     /// The distance that it is, in bytes. A `u64` above `isize::MAX` wraps, as Rust's cast does.
     fn to_distance(self) -> isize
         ensures { result ≡ as_isize (Self.value_of self) };
+
+    // It has eight bytes at most.
+    ghost at_most_64_bits: { IsOffsetWidth Self.width };
 }
 
 impl OffsetNumber for i8 {
+    ghost at_most_64_bits = { refl };
+
     fn from_distance(distance: isize) -> Result<i8, Error> {
         i8::try_from(distance).map_err(|_| Error::OffsetOverflow)
     }
@@ -30,6 +36,8 @@ impl OffsetNumber for i8 {
 }
 
 impl OffsetNumber for i16 {
+    ghost at_most_64_bits = { refl };
+
     fn from_distance(distance: isize) -> Result<i16, Error> {
         i16::try_from(distance).map_err(|_| Error::OffsetOverflow)
     }
@@ -40,6 +48,8 @@ impl OffsetNumber for i16 {
 }
 
 impl OffsetNumber for i32 {
+    ghost at_most_64_bits = { refl };
+
     fn from_distance(distance: isize) -> Result<i32, Error> {
         i32::try_from(distance).map_err(|_| Error::OffsetOverflow)
     }
@@ -50,6 +60,8 @@ impl OffsetNumber for i32 {
 }
 
 impl OffsetNumber for i64 {
+    ghost at_most_64_bits = { refl };
+
     fn from_distance(distance: isize) -> Result<i64, Error> {
         i64::try_from(distance).map_err(|_| Error::OffsetOverflow)
     }
@@ -60,6 +72,8 @@ impl OffsetNumber for i64 {
 }
 
 impl OffsetNumber for u8 {
+    ghost at_most_64_bits = { refl };
+
     fn from_distance(distance: isize) -> Result<u8, Error> {
         u8::try_from(distance).map_err(|_| Error::OffsetOverflow)
     }
@@ -70,6 +84,8 @@ impl OffsetNumber for u8 {
 }
 
 impl OffsetNumber for u16 {
+    ghost at_most_64_bits = { refl };
+
     fn from_distance(distance: isize) -> Result<u16, Error> {
         u16::try_from(distance).map_err(|_| Error::OffsetOverflow)
     }
@@ -80,6 +96,8 @@ impl OffsetNumber for u16 {
 }
 
 impl OffsetNumber for u32 {
+    ghost at_most_64_bits = { refl };
+
     fn from_distance(distance: isize) -> Result<u32, Error> {
         u32::try_from(distance).map_err(|_| Error::OffsetOverflow)
     }
@@ -90,6 +108,8 @@ impl OffsetNumber for u32 {
 }
 
 impl OffsetNumber for u64 {
+    ghost at_most_64_bits = { refl };
+
     fn from_distance(distance: isize) -> Result<u64, Error> {
         u64::try_from(distance).map_err(|_| Error::OffsetOverflow)
     }

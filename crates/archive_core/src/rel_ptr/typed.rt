@@ -175,9 +175,9 @@ where
 
     ghost is_one = { refl };
 
-    ghost is_align = { rel_align O.Number.width T.ArchivedMetadata.is_length };
+    ghost is_align = { rel_align O.Number.width O.Number.at_most_64_bits T.ArchivedMetadata.is_length };
 
-    ghost has_layout = { rel_has_layout O.Number.sign O.Number.width T.ArchivedMetadata.is_length };
+    ghost has_layout = { rel_has_layout O.Number.sign O.Number.width O.Number.at_most_64_bits T.ArchivedMetadata.is_length };
 
     ghost no_others = { no_definition_reached (parts (rel_parts O.Number.sign O.Number.width T.ArchivedMetadata.is_length)) };
 
