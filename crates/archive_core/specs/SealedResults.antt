@@ -22,9 +22,9 @@ BorrowsSame v u = u.bytes.ghost_name ≡ v.bytes.ghost_name
 abbrev pub HasSameBytes : {T U : Type 0} → Seal T → Seal U → Type 0
 HasSameBytes v u = u.bytes.now ≡ v.bytes.now
 
--- it begins so many bytes behind the first one
-abbrev pub BeginsBehind : {T U : Type 0} → Seal T → ℕ → Seal U → Type 0
-BeginsBehind v o u = u.pos ≡ v.pos + o
+-- it begins so many bytes after the first one
+abbrev pub BeginsAfter : {T U : Type 0} → Seal T → ℕ → Seal U → Type 0
+BeginsAfter v o u = u.pos ≡ v.pos + o
 
 -- wherever the result that the seal shows is a part of an archive, so is this part of it, a P
 abbrev pub IsBesideResult : {T U M N : Type 0} → FormatOf M → FormatOf N → Pointee → Seal T → Seal U → Type 0

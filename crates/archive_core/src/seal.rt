@@ -5,6 +5,7 @@ ghost use Rattle.archive_check.specs.Viewed.{Viewed};
 
 mod choices;
 mod fields;
+mod items;
 mod leaves;
 mod parts;
 mod results;

@@ -46,13 +46,13 @@ pub trait Leaf {
     fn leaf_metadata() -> <Self::LeafFormat as ArchivePointee>::ArchivedMetadata
         ensures { Self.LeafFormat.metadata_length result ≡ 0 };
 
-    /// Writes the bytes of the value over `bytes`, the lowest first. Asks that these are as many as the leaf has. Wherever they stand, they are read as
+    /// Writes the bytes of the value over `out`, the lowest first. Asks that these are as many as the leaf has. Wherever they stand, they are read as
     /// the value.
-    fn write_bytes(&self, bytes: &mut [u8])
-        requires { length bytes.old ≡ kind_size leaf_kind }
-        ensures bytes { bytes.new ≡ leaf_bytes self.now }
-        ensures sized { length bytes.new ≡ kind_size leaf_kind }
-        ensures resolved { (D : Definitions) (p : ℕ) → Resolves D p bytes.new (leaf leaf_kind) (number (leaf_number self.now)) };
+    fn write_bytes(&self, out: &mut [u8])
+        requires { length out.old ≡ kind_size leaf_kind }
+        ensures bytes { out.new ≡ leaf_bytes self.now }
+        ensures sized { length out.new ≡ kind_size leaf_kind }
+        ensures resolved { (D : Definitions) (p : ℕ) → Resolves D p out.new (leaf leaf_kind) (number (leaf_number self.now)) };
 
     // The format has the size of the leaf.
     ghost leaf_size: { Self.LeafFormat.layout.size ≡ kind_size leaf_kind };
@@ -74,8 +74,8 @@ impl<N: Source> Leaf for N {
         N::metadata()
     }
 
-    fn write_bytes(&self, bytes: &mut [u8]) {
-        write_leaf(*self, bytes);
+    fn write_bytes(&self, out: &mut [u8]) {
+        write_leaf(*self, out);
     }
 
     ghost leaf_size = { N.same_size ∙ sym N.size_law };
@@ -94,8 +94,8 @@ impl<N: Native> Leaf for LittleEndian<N> {
 
     fn leaf_metadata() {}
 
-    fn write_bytes(&self, bytes: &mut [u8]) {
-        write_leaf(self.to_native(), bytes);
+    fn write_bytes(&self, out: &mut [u8]) {
+        write_leaf(self.to_native(), out);
     }
 
     ghost leaf_size = { refl };
@@ -114,9 +114,9 @@ impl<N: Integer> Leaf for NonZero<N> {
 
     fn leaf_metadata() {}
 
-    fn write_bytes(&self, bytes: &mut [u8]) {
+    fn write_bytes(&self, out: &mut [u8]) {
         let number = self.to_native();
-        write_leaf(number, bytes);
+        write_leaf(number, out);
     }
 
     ghost leaf_size = { refl };

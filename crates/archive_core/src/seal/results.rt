@@ -2,7 +2,7 @@
 
 ghost use Rattle.std.specs.Prelude.{◌≡◌, ◌+◌, IfSome, MatchOption, MatchResult};
 ghost use Rattle.archive_check.specs.Viewed.{Viewed};
-ghost use Rattle.archive_core.specs.SealedResults.{BorrowsSame, HasSameBytes, BeginsBehind, ShowsA, ShowsResult, HeldBesideResult, IsBesideResult};
+ghost use Rattle.archive_core.specs.SealedResults.{BorrowsSame, HasSameBytes, BeginsAfter, ShowsA, ShowsResult, HeldBesideResult, IsBesideResult};
 ghost use Rattle.archive_core.specs.SealsWritten.{seal_tag};
 
 use super::Seal;
@@ -17,7 +17,7 @@ impl<'a, T: Portable, E: Portable> Seal<'a, ArchivedResult<T, E>> {
         ensures tag { MatchResult result (λ s. seal_tag self.entry ≡ 0) (λ e. seal_tag self.entry ≡ 1) }
         ensures same_reference { MatchResult result (BorrowsSame self.entry) (BorrowsSame self.entry) }
         ensures buffer { MatchResult result (HasSameBytes self.entry) (HasSameBytes self.entry) }
-        ensures position { MatchResult result (BeginsBehind self.entry T.layout.align) (BeginsBehind self.entry E.layout.align) }
+        ensures position { MatchResult result (BeginsAfter self.entry T.layout.align) (BeginsAfter self.entry E.layout.align) }
         ensures length { MatchResult result (λ s. s.len ≡ 0) (λ e. e.len ≡ 0) }
         ensures viewed { MatchResult result (ShowsA T.definitions T.pointee) (ShowsA E.definitions E.pointee) }
         ensures beside { HeldBesideResult T.Portable E.Portable self.entry result }
@@ -43,7 +43,7 @@ impl<'a, T: Portable, E: Portable> Seal<'a, ArchivedResult<T, E>> {
         ensures tag { MatchOption result (seal_tag self.entry ≡ 1) (λ s. seal_tag self.entry ≡ 0) }
         ensures same_reference { IfSome result (BorrowsSame self.entry) }
         ensures buffer { IfSome result (HasSameBytes self.entry) }
-        ensures position { IfSome result (BeginsBehind self.entry T.layout.align) }
+        ensures position { IfSome result (BeginsAfter self.entry T.layout.align) }
         ensures length { IfSome result (λ s. s.len ≡ 0) }
         ensures viewed { IfSome result (ShowsA T.definitions T.pointee) }
         ensures beside { IfSome result (IsBesideResult T.Portable E.Portable T.pointee self.entry) }

@@ -10,6 +10,7 @@ use archive_core::error::Error;
 use archive_core::option::ArchivedOption;
 use archive_core::primitive::{ArchivedChar, ArchivedI32, ArchivedNonZeroU16, ArchivedU32};
 use archive_core::rc::{ArchivedRc, ArchivedRcWeak, RcFlavor};
+use archive_core::result::ArchivedResult;
 use archive_core::seal::SealedLeaf;
 use archive_core::string::{ArchivedStr, ArchivedString};
 use archive_core::traits::Portable;
@@ -19,6 +20,8 @@ use std::alloc::Global;
 use std::test::Fail;
 
 type SharedNumber = ArchivedRc<ArchivedU32, RcFlavor>;
+
+type Outcome = ArchivedResult<ArchivedU32, ArchivedU32>;
 
 type WeakNumber = ArchivedRcWeak<ArchivedU32, RcFlavor>;
 
@@ -179,5 +182,32 @@ fn owned_and_optional_values_written_over(rt: HostRuntime) -> Result<(), Fail> {
             .as_seal()
             .is_none()
     );
+    Ok(())
+}
+
+#[test]
+fn what_a_result_holds_is_written_over(rt: HostRuntime) -> Result<(), Fail> {
+    let alloc = rt.alloc();
+    let mut bytes = [0, 0, 0, 0, 9, 0, 0, 0];
+    if let Ok(value) = access_mut::<Outcome>(alloc, &mut bytes)?.as_seal() {
+        value.write(7);
+    }
+    let mut items = access_mut::<Outcome>(alloc, &mut bytes)?.iter_seal();
+    assert_eq!(rt; items.len(), 1);
+    if let Some(value) = items.next() {
+        assert_eq!(rt; value.as_ref().get(), 7);
+        value.write(8);
+    }
+    assert_eq!(rt; bytes, [0, 0, 0, 0, 8, 0, 0, 0]);
+    let mut bytes = [1, 0, 0, 0, 7, 0, 0, 0];
+    if let Err(error) = access_mut::<Outcome>(alloc, &mut bytes)?.as_seal() {
+        error.write(5);
+    }
+    assert_eq!(rt; bytes, [1, 0, 0, 0, 5, 0, 0, 0]);
+    let mut items = access_mut::<ArchivedOption<ArchivedU32>>(alloc, &mut bytes)?.into_iter();
+    if let Some(value) = items.next() {
+        value.write(6);
+    }
+    assert_eq!(rt; bytes, [1, 0, 0, 0, 6, 0, 0, 0]);
     Ok(())
 }
