@@ -82,7 +82,7 @@ pub finished_more : (s : KeyStates) (v : Value) (vs : Values) → AreFinished s 
 finished_more s v vs h i k (names_first n) = h k n
 finished_more s v vs h i k (names_later n) = i k n
 
-finished_none : (s : KeyStates) → AllFinished s no_value
+pub finished_none : (s : KeyStates) → AllFinished s no_value
 finished_none s k n = elim n [ ]
 
 finished_product : (s : KeyStates) (vs : Values) → AllFinished s vs → AreFinished s (product vs)

@@ -54,3 +54,6 @@ pub mod OwnKeys
 pub mod OwnersRead
 pub mod Copies
 pub mod CopiedLeaves
+pub mod SilentPlans
+pub mod ItemsLaid
+pub mod SaidOrder

@@ -28,7 +28,7 @@ laid_append (meets key ∷ C) D = laid_append C D
 tight_both : (C D : List Step) (a b c : ℕ) → Tight a (laid C) b → Tight b (laid D) c → Tight a (laid (C ++ D)) c
 tight_both C D a b c h i = rw (laid_append C D) (tight_append a (laid C) b (laid D) c h i)
 
-pointee_align_low : (s : Schema) → LaidOut s → (P : Pointee) → 1 ≤ pointee_align s P
+pub pointee_align_low : (s : Schema) → LaidOut s → (P : Pointee) → 1 ≤ pointee_align s P
 pointee_align_low s l (one X) = align_pos s.layouts l.aligned X
 pointee_align_low s l (run X) = align_pos s.layouts l.aligned X
 pointee_align_low s l text = omega arith
@@ -110,7 +110,7 @@ mutual
   shared_forward s l names (plans_pending at) = omega arith
 
 -- a shared region ends behind its begin
-ends_behind : (t size : ℕ) → t < t + cond (true && nat_eq size 0) 1 size
+pub ends_behind : (t size : ℕ) → t < t + cond (true && nat_eq size 0) 1 size
 ends_behind t zero = omega arith
 ends_behind t (suc size) = grind arith
 
@@ -126,7 +126,7 @@ ended_below b key p less below k t is = elim (cases_eq k key) [
   | inr n ↦ below k t (sym (update_apart b.states key (Some (Some p)) k n) ∙ is)
 ]
 
-region_ends : (s : Schema) (names : NameMap) {P : Pointee} {n t : ℕ} {v : Value} {a b : Cursor} {C : List Step} → PlansRegion s names true P n v a t C b → t < b.place
+pub region_ends : (s : Schema) (names : NameMap) {P : Pointee} {n t : ℕ} {v : Value} {a b : Cursor} {C : List Step} → PlansRegion s names true P n v a t C b → t < b.place
 region_ends s names (plans_region {P = P} {n = n} {t = t} h at) = ends_behind t (pointee_size s P n)
 
 -- where the keys that are finished stand below, so they do where the plan ends

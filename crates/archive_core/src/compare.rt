@@ -17,6 +17,7 @@ mod native_lists;
 mod options;
 mod owners;
 mod results;
+mod said;
 mod texts;
 
 use crate::traits::ArchivePointee;

@@ -51,6 +51,34 @@ fn resolve_region<W: Writer, T: Archive>(
     Ok(pos)
 }
 
+// Resolves a value into zeros at the writer's end, wherever that is, and writes them. Memory for a region above 64 bytes comes from `alloc`.
+#[tactic(auto, using(crate::proofs::Regions::fresh_zeros, crate::proofs::Regions::fresh_front, crate::proofs::Regions::region_too_large, crate::proofs::Causes::goes_nowhere))]
+pub(crate) fn resolve_next<W: Writer, A: Allocator + Drop, T: Archive>(
+    writer: &mut W,
+    alloc: A,
+    value: &T,
+    resolver: T::Resolver,
+) -> Result<usize, Error>
+    requires same_value { T.belongs value.now resolver }
+    ensures region { OnOk result (RegionPut T.Archived.Portable (T.flat value.now resolver) W.Keys writer) }
+    ensures position { IfOk result (λ p. p ≡ W.place writer.old) }
+    ensures refused { IfErr result (RegionRefused T.Archived.Portable (T.flat value.now resolver) W.Keys writer) }
+    ensures goes_on { GoesOn (W.state writer.old) (W.state writer.new) }
+    ensures sized { OnOk result (GrowsBy T.Archived.layout.size W.Keys writer) }
+    ensures keys { KeepsKeys (W.state writer.old).states (W.state writer.new).states }
+{
+    let size = T::Archived::size();
+    if writer.pos().checked_add(size).is_none() {
+        return Err(Error::LayoutTooLarge);
+    }
+    if size <= LOCAL_SIZE {
+        let mut region = [0; LOCAL_SIZE];
+        return resolve_region(writer, value, resolver, &mut region[..size]);
+    }
+    let mut region = vec![in alloc; 0u8; size]?;
+    resolve_region(writer, value, resolver, &mut region)
+}
+
 // Resolves a value into zeros that stand at a position.
 pub(crate) fn resolve_into<T: Archive>(
     value: &T,
@@ -112,7 +140,6 @@ pub trait ResolveExt: Writer {
     /// above 64 bytes comes from `alloc`: refused with `OutOfMemory`, 1, where it is refused, with `LayoutTooLarge`, 23, where the region would end
     /// above `usize::MAX`, with what `resolve` refuses with, or as the writer refuses (`BufferOverflow`, 8; `WriterFailed`, 9). After a refusal,
     /// too, the bytes from before are a beginning of those that the writer holds.
-    #[tactic(auto, using(crate::proofs::Regions::fresh_zeros, crate::proofs::Regions::fresh_front, crate::proofs::Regions::region_too_large, crate::proofs::Causes::goes_nowhere))]
     final fn resolve_aligned<A: Allocator + Drop, T: Archive>(
         &mut self,
         alloc: A,
@@ -130,16 +157,7 @@ pub trait ResolveExt: Writer {
         ensures sized { OnOk result (GrowsBy T.Archived.layout.size Self.Keys self) }
         ensures keys { KeepsKeys (Self.state self.old).states (Self.state self.new).states }
     {
-        let size = T::Archived::size();
-        if self.pos().checked_add(size).is_none() {
-            return Err(Error::LayoutTooLarge);
-        }
-        if size <= LOCAL_SIZE {
-            let mut region = [0; LOCAL_SIZE];
-            return resolve_region(self, value, resolver, &mut region[..size]);
-        }
-        let mut region = vec![in alloc; 0u8; size]?;
-        resolve_region(self, value, resolver, &mut region)
+        resolve_next(self, alloc, value, resolver)
     }
 
     /// Resolves `values`, one after another, into the next region and writes it; answers the region's position, in bytes from the first one. Asks

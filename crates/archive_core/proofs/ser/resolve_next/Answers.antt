@@ -3,12 +3,12 @@ use Rattle.archive_check.specs.declared.format.error.Error.TheVariants.{OutOfMem
 use Rattle.archive_core.specs.Causes.{no_memory}
 use Rattle.archive_core.proofs.Causes.{err_by}
 use Rattle.archive_core.proofs.Regions.{fresh_front, sum_fits}
-use Rattle.archive_core.proofs.ser.ResolveExt.resolve_aligned.Goals as goal
+use Rattle.archive_core.proofs.ser.resolve_next.Goals as goal
 
 pub resolve_region-requires-clause-fresh : goal.resolve_region-requires-clause-fresh
 resolve_region-requires-clause-fresh g c =
     let sum = sum_fits c.checked_add.result _ _ c.checked_add.ensures c.if-is_none.ensures in
-    let here = g.met.Self.Writer.place_law c.args.self.now in
+    let here = g.met.W.Writer.place_law c.args.writer.now in
     let there = c.pos.ensures in
     let size = c.size-size.ensures in
     let few = c.if-size-le-LOCAL_SIZE.true in
