@@ -1,5 +1,6 @@
 -- A context that a check begins with.
 use Rattle.std.specs.Prelude.{◌≡◌, ◌≢◌, ◌<◌, ℕ, ℤ, List, length, Option, Some, None}
+use Rattle.archive_check.specs.declared.context.Context as Context
 use Rattle.archive_check.specs.Ranges.{RangeState}
 use Rattle.archive_check.specs.PositionStates.{Positions}
 
@@ -23,3 +24,7 @@ pub record IsWhole (s : RangeState) (met : Positions) (bytes : List ℕ) : Type 
   pub fresh : IsFresh s met
   pub start : s.start ≡ 0
   pub end : s.end ≡ length bytes
+
+-- the context is for these bytes, and met nothing yet
+abbrev pub IsWholeIn : {C : Type 0} → Context.Ghosts C → C → List ℕ → Type 0
+IsWholeIn k c bytes = IsWhole (k.state c) (k.positions c) bytes

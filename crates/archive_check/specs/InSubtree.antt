@@ -1,9 +1,12 @@
 -- A call within a region: the check of the region, its push, the call and the pop, up to the first of them that is refused.
+use denote.Triple.Both.{Both}
 use Rattle.std.specs.Prelude.{◌≡◌, ℕ, ◌+◌, ℤ, pos, Some, Result, Ok, Err}
 use Rattle.std.specs.Borrow.{MutBor}
+use Rattle.archive_check.specs.declared.context.Context as Context
 use Rattle.archive_check.specs.declared.format.error.Error.{Error}
 use Rattle.archive_check.specs.declared.format.error.Error.TheVariants.{ExceededMaximumSubtreeDepth, LayoutTooLarge}
 use Rattle.archive_check.specs.declared.format.layout.Layout.{Layout}
+use Rattle.archive_check.specs.declared.format.traits.ArchivePointee as ArchivePointee
 use Rattle.archive_check.specs.Shape.{Pointee}
 use Rattle.archive_check.specs.Definitions.{Definitions}
 use Rattle.archive_check.specs.RegionLayout.{IsRegionLayout, IsLargeRegion}
@@ -76,3 +79,19 @@ module _ {C : Type 0} (state : C → RangeState) (positions : C → Positions) w
         → IsRegionLayout D P length layout
         → InSubtree Call Gives old position layout.size layout.align result new
         → InRegion Call Gives D P length old position result new
+
+-- The same in the words of a context, of the region of a layout. `Both` is a parameter as a clause names it: what it was as the call began, and what it is
+-- at the return.
+module _ {C : Type 0} (k : Context.Ghosts C) where
+  abbrev pub MayCall : (MutBor C → Type 0) → MutBor C → ℤ → Layout → Type 0
+  MayCall May c position layout = IsCallable k.state k.positions May c.now position layout.size layout.align
+
+  abbrev pub CalledIn : {R E : Type 0} → (C → Result R E → C → Type 0) → (Error → E → Type 0) → Both (MutBor C) (MutBor C) → ℤ → Layout → Result R E → Type 0
+  CalledIn Call Gives c position layout result = InSubtree k.state k.positions Call Gives c.entry.now position layout.size layout.align result c.exit.now
+
+  -- and of a pointer to such a pointee, with this length
+  abbrev pub MayCallAt : {T M : Type 0} → (MutBor C → Type 0) → ArchivePointee.Ghosts T M → MutBor C → ℤ → ℕ → Type 0
+  MayCallAt May p c position length = IsCallableIn k.state k.positions May p.definitions p.pointee length c.now position
+
+  abbrev pub CalledAt : {T M R E : Type 0} → (C → Result R E → C → Type 0) → (Error → E → Type 0) → ArchivePointee.Ghosts T M → Both (MutBor C) (MutBor C) → ℤ → ℕ → Result R E → Type 0
+  CalledAt Call Gives p c position length result = InRegion k.state k.positions Call Gives p.definitions p.pointee length c.entry.now position result c.exit.now

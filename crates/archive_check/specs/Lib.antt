@@ -21,6 +21,7 @@ pub mod Revised
 pub mod PlainData
 pub mod Laws
 pub mod Definitions
+pub mod Formats
 pub mod LeafLayout
 pub mod NoOthers
 pub mod NamedLayout
@@ -46,6 +47,8 @@ pub mod Unshared
 pub mod CleanRegions
 pub mod WriterState
 pub mod OneSchema
+pub mod AddedDefinitions
+pub mod Contexts
 pub mod SelfCheck
 pub mod plan
 pub mod check

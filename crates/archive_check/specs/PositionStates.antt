@@ -1,4 +1,7 @@
 -- The calls on the shared positions of a check, as functions of what was met.
+use denote.Triple.Both.{Both}
+use denote.Ref.{MutBor}
+use Rattle.std.specs.Borrow.{Bor}
 use Rattle.std.specs.Ordering.{int_eq}
 use Rattle.std.specs.Prelude.{◌≡◌, ◌≢◌, ℕ, ℤ, Bool, true, false, Option, Some, None, option_map, cond, Result, Ok, Err}
 use Rattle.std.specs.Map.{update}
@@ -48,6 +51,12 @@ started_at (Some old) new = old
 
 abbrev pub started : Positions → ℤ → Entry → Positions
 started met position new = update int_eq met position (Some (started_at (met position) new))
+
+-- it was started as one of this flavor, pointee and length. `Both` is a parameter as a clause names it: what it was as the call began, and what it is at
+-- the return
+abbrev pub Starts : {A : Type 0} → (A → Positions) → Both (MutBor A) (MutBor A) → ℤ → Both (Bor FlavorInfo) (Bor FlavorInfo) → Both (Bor PointeeExpr) (Bor PointeeExpr) → ℕ → Type 0
+Starts met c position flavor pointee length =
+    met c.exit.now ≡ started (met c.entry.now) position (entry_as flavor.entry.now pointee.entry.now length)
 
 -- what is answered where a position is finished
 abbrev pub finish_answer : Option PositionState → Result (Unit {0}) Error

@@ -5,3 +5,4 @@ pub mod Orders
 pub mod Regions
 pub mod Owners
 pub mod Arrays
+pub mod Steps

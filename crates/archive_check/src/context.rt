@@ -1,7 +1,7 @@
 //! What a check keeps: the range that regions may lie in, and the shared positions that it came to.
 
 ghost use Rattle.std.specs.Prelude.{◌≡◌, ◌<◌, ◌≤◌, ◌↔◌, OnOk, OnErr, IfOk, IfErr, IsErrOf, Some};
-ghost use Rattle.archive_check.specs.PositionStates.{Positions, IsStartAnswer, started, finish_answer, finished, entry_as};
+ghost use Rattle.archive_check.specs.PositionStates.{Positions, IsStartAnswer, Starts, finish_answer, finished, entry_as};
 ghost use Rattle.archive_check.specs.Ranges.{RangeState, subtree_answer, pushed, pop_answer, popped};
 
 pub mod positions;
@@ -84,8 +84,7 @@ pub trait SharedContext: Context {
         length: usize,
     ) -> Result<ValidationState, Error>
         ensures answer { IsStartAnswer (Self.positions self.old position) (entry_as flavor.now pointee.now length) result }
-        ensures started { OnOk result (Self.positions self.new
-            ≡ started (Self.positions self.old) position (entry_as flavor.now pointee.now length)) }
+        ensures started { OnOk result (Starts Self.positions self position flavor pointee length) }
         ensures unchanged { OnErr result (Self.positions self.new ≡ Self.positions self.old) }
         ensures range { Self.state self.new ≡ Self.state self.old };
 

@@ -5,8 +5,9 @@ ghost use Rattle.std.specs.Prelude.{Bool, ◌≡◌, ◌+◌, ◌≤◌, ℕ, le
 ghost use Rattle.std.specs.Int.{w8};
 ghost use Rattle.archive_check.specs.Shape.{Shape, leaf, unit};
 ghost use Rattle.archive_check.specs.Definitions.{Definitions, no_definition};
-ghost use Rattle.archive_check.specs.SelfCheck.Ways.{Goes, Halts, shape_way};
+ghost use Rattle.archive_check.specs.SelfCheck.Ways.{shape_way};
 ghost use Rattle.archive_check.specs.Pushes.{Spends};
+ghost use Rattle.archive_check.specs.SelfCheck.Steps.{Went, Stopped};
 
 use crate::context::ArchiveContext;
 use crate::format::error::Error;
@@ -59,10 +60,8 @@ pub trait SelfCheck {
     ) -> Option<()>
         requires fits { at + span ≤ length bytes.now }
         requires below { (C.state context.old).end ≤ length bytes.now }
-        ensures through { OnSome result
-            (Goes definitions (shape_way bytes.now at shape) (C.state context.old) (C.state context.new)) }
-        ensures stops { IsTrue direct → IfNone result
-            (Halts definitions (shape_way bytes.now at shape) (C.state context.old) refusal.new) }
+        ensures through { Went C.Context context definitions (shape_way bytes.now at shape) result }
+        ensures stops { IsTrue direct → Stopped C.Context context definitions (shape_way bytes.now at shape) result refusal }
         ensures spends { Spends span (C.state context.old) (C.state context.new) }
         ensures positions { OnSome result (C.positions context.new ≡ C.positions context.old) };
 }

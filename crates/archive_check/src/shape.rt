@@ -42,12 +42,13 @@ pub struct Schema {
 }
 
 impl Schema {
-    ghost use Rattle.std.specs.Prelude.{◌≡◌, ◌⊎◌, ◌≤◌, length, OnOk, IfOk, IfErr};
-    ghost use Rattle.archive_check.specs.declared.format.error.Error.TheVariants.{OutOfMemory, LayoutTooLarge};
+    ghost use Rattle.std.specs.Prelude.{◌≡◌, ◌≤◌, length, OnOk, IfOk, IfErr};
+    ghost use Rattle.archive_check.specs.declared.format.error.Error.TheVariants.{LayoutTooLarge};
+    ghost use Rattle.archive_check.specs.Contexts.{SchemaAccepts, SchemaRefuses, SchemaIsExact};
     ghost use Rattle.archive_check.specs.Faults.{IsOfCheck};
-    ghost use Rattle.archive_check.specs.FreshContexts.{HasLevels, KeepsLevels, IsWhole};
+    ghost use Rattle.archive_check.specs.FreshContexts.{HasLevels, KeepsLevels};
     ghost use Rattle.archive_check.specs.Pushes.{FewPushed};
-    ghost use Rattle.archive_check.specs.Schemas.{Accepts, Refuses, IsExact, IsSchemaOf, HasHeld, ExplainsNoSchema, IsLayoutOf, IsTooLarge};
+    ghost use Rattle.archive_check.specs.Schemas.{IsSchemaOf, HasHeld, ExplainsNoSchema, IsLayoutOf, IsTooLarge};
     ghost use Rattle.archive_check.specs.Expressions.{shape_of};
 
     /// The schema of `T`: its expression and the definitions of all names that it reaches, compiled. Memory comes from `alloc`, also that which a
@@ -104,13 +105,9 @@ impl Schema {
         context: &mut C,
     ) -> Result<(), Error>
         requires { (C.state context.old).end ≤ length bytes.now }
-        ensures ok { OnOk result (IsWhole (C.state context.old) (C.positions context.old) bytes.now
-            → Accepts self.now bytes.now (C.state context.old).depth pos) }
-        ensures err { IfErr result (λ e. (e ≡ OutOfMemory)
-            ⊎ (IsWhole (C.state context.old) (C.positions context.old) bytes.now
-            → Refuses self.now bytes.now (C.state context.old).depth pos e)) }
-        ensures exact { IsWhole (C.state context.old) (C.positions context.old) bytes.now
-            → IsExact self.now bytes.now (C.state context.old).depth pos result }
+        ensures ok { SchemaAccepts self.now C.Context context bytes.now pos result }
+        ensures err { SchemaRefuses self.now C.Context context bytes.now pos result }
+        ensures exact { SchemaIsExact self.now C.Context context bytes.now pos result }
         ensures of_check { IfErr result (λ e. HasLevels (C.state context.old).depth → IsOfCheck e) }
         ensures levels { OnOk result (KeepsLevels (C.state context.old) (C.state context.new)) }
         ensures few_subtrees { FewPushed (C.state context.old) (C.state context.new) }

@@ -15,7 +15,7 @@ use Rattle.archive_check.specs.declared.format.traits.ArchivePointee as ArchiveP
 use Rattle.archive_check.specs.declared.format.traits.Entries as Entries
 use Rattle.archive_check.specs.declared.format.traits.Keys as Keys
 use Rattle.archive_core.specs.Causes.{HindersRegion, IsRegionRefused}
-use Rattle.archive_core.specs.Placed.{FormatOf}
+use Rattle.archive_check.specs.Formats.{FormatOf}
 use Rattle.archive_core.specs.Plans.{SerializedRegion, at_start, unshared}
 use Rattle.archive_core.specs.Writing.{Archives}
 use Rattle.archive_core.specs.declared.traits.Archive as Archive

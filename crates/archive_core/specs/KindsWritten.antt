@@ -11,7 +11,7 @@ use Rattle.archive_check.specs.declared.format.traits.ArchivePointee as ArchiveP
 use Rattle.archive_check.specs.declared.format.traits.Keys as Keys
 use Rattle.archive_core.specs.Causes.{HindersAt, HindersRegionAt, Explains, IsRefused, IsRegionRefused}
 use Rattle.archive_core.specs.Copies.{OwnsNothing, IsCopied, EachCopied}
-use Rattle.archive_core.specs.Placed.{FormatOf}
+use Rattle.archive_check.specs.Formats.{FormatOf}
 use Rattle.archive_core.specs.Plans.{Serialized, SerializedRegion}
 use Rattle.archive_core.specs.Runs.{each_keys, each_meaning, each_flat, HindersRunAt, PutsRun}
 use Rattle.archive_core.specs.Strings.{string_flat}

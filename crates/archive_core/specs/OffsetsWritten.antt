@@ -2,7 +2,7 @@
 -- return.
 use denote.Triple.Both.{Both}
 use denote.Ref.{MutBor}
-use Rattle.std.specs.Prelude.{◌≡◌, ℕ, ℤ, Bool, List, Result, MatchResult, FitsSigned}
+use Rattle.std.specs.Prelude.{◌≡◌, ℕ, ℤ, pos, Bool, List, Result, MatchResult, FitsSigned}
 use Rattle.std.specs.Int.{Width, w32, w64}
 use Rattle.archive_check.specs.Shape.{Sign}
 use Rattle.archive_check.specs.declared.format.error.Error.{Error}
@@ -40,6 +40,10 @@ abbrev pub RelPut : {F R T : Type 0} → Sign → Width → Bool → ℕ → ℕ
 RelPut sign width is_long n to p result =
     MatchResult result (λ _. Fits sign width (distance p.entry.pos to) × (p.exit.0.now ≡ rel_bytes width is_long (distance p.entry.pos to) n p.entry.bytes.now))
     (λ e. (p.exit.0.now ≡ p.entry.bytes.now) × IsBeyond sign width e (distance p.entry.pos to))
+
+-- the bytes of the place are an invalid pointer
+abbrev pub InvalidPut : {F R : Type 0} → Width → Bool → Both (Place F) (MutBor (List ℕ) × R) → Type 0
+InvalidPut width is_long p = p.exit.0.now ≡ rel_bytes width is_long (pos 1) 0 p.entry.bytes.now
 
 -- the bytes are those of a string out of line, z away from its text of n bytes, or nothing was written where z doesn't fit
 abbrev pub OutOfLineWritten : {T : Type 0} → ℕ → ℤ → List ℕ → List ℕ → Result T Error → Type 0

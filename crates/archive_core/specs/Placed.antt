@@ -3,25 +3,21 @@
 use denote.Triple.Both.{Both}
 use denote.Ref.{MutBor}
 use Rattle.std.specs.Prelude.{◌≡◌, ◌<◌, ◌⊎◌, ◌+◌, ◌++◌, ℕ, Bool, List, length, Result, IsErrOf}
-use Rattle.archive_check.specs.Layout.{Layout}
-use Rattle.archive_check.specs.Shape.{Shape, Pointee}
+use Rattle.archive_check.specs.Formats.{FormatOf}
+use Rattle.archive_check.specs.Layout.{pointer_size, has_length}
+use Rattle.archive_check.specs.Shape.{Pointee}
 use Rattle.archive_check.specs.Value.{Value}
-use Rattle.archive_check.specs.Definitions.{Definitions}
 use Rattle.archive_check.specs.declared.format.error.Error.{Error}
 use Rattle.archive_check.specs.declared.format.error.Error.TheVariants.{LengthTooLarge}
 use Rattle.archive_check.specs.declared.format.traits.ArchivePointee as ArchivePointee
 use Rattle.archive_check.specs.declared.format.traits.Keys as Keys
 use Rattle.archive_core.specs.Causes.{HindersAt}
 use Rattle.archive_core.specs.Offsets.{distance, IsTooFar}
-use Rattle.archive_core.specs.OwnerBytes.{owner_bytes}
+use Rattle.archive_core.specs.OwnerBytes.{owner_bytes, HindersPointerAt}
 use Rattle.archive_core.specs.Plans.{HasRegionPlan}
 use Rattle.archive_core.specs.Writing.{Naming, Resolves}
 use Rattle.archive_core.specs.declared.place.Place.{Place}
 use Rattle.archive_write.specs.Written.{ExplainsRefusal}
-
--- what an archived type tells of itself
-abbrev pub FormatOf : Type 0 → Type 0
-FormatOf M = record { pointee : Pointee; definitions : Definitions; metadata_length : M → ℕ; shape : Shape; layout : Layout }
 
 -- the bytes of the place are clean and read as the value, with its pointers
 abbrev pub Resolved : {F M R : Type 0} → FormatOf M → Both (Place F) (MutBor (List ℕ) × R) → Value → Type 0
@@ -61,6 +57,14 @@ GrowsBy n k w = length (k.state w.exit.now).bytes ≡ length (k.state w.entry.no
 -- why a write of n bytes was refused, where the writer stood at its place
 abbrev pub WriteRefused : {S : Type 0} → ℕ → (S → ℕ) → Keys.Ghosts S → Both (MutBor S) (MutBor S) → Error → Type 0
 WriteRefused n place k w e = ExplainsRefusal n (place w.entry.now) (k.state w.entry.now).room (k.state w.entry.now).failures (k.state w.exit.now).failures e
+
+-- a pointer to such a pointee of n elements or bytes at t was appended, at the writer's place; why it wasn't
+abbrev pub Pointed : {S : Type 0} → Pointee → ℕ → ℕ → (S → ℕ) → Keys.Ghosts S → Both (MutBor S) (MutBor S) → Type 0
+Pointed P n t place k w = (k.state w.exit.now).bytes ≡ (k.state w.entry.now).bytes ++ owner_bytes (has_length P) (distance (place w.entry.now) t) n
+
+abbrev pub Unpointed : {S : Type 0} → Pointee → ℕ → ℕ → (S → ℕ) → Keys.Ghosts S → Both (MutBor S) (MutBor S) → Error → Type 0
+Unpointed P n t place k w e =
+    (HindersPointerAt n (pointer_size P) (place w.entry.now) t e × (k.state w.exit.now ≡ k.state w.entry.now)) ⊎ WriteRefused (pointer_size P) place k w e
 
 -- there is a plan of a pointee of n elements or bytes, with its region
 abbrev pub IsPlanned : {T M : Type 0} → ArchivePointee.Ghosts T M → ℕ → List Naming → Value → Type 0

@@ -3,7 +3,8 @@
 use denote.Triple.Both.{Both}
 use denote.Ref.{MutBor}
 use Rattle.std.specs.declared.cmp.Ordering.{Ordering}
-use Rattle.std.specs.Prelude.{Bool, ◌≡◌, ◌+◌, ℕ, List, Option, slice_index}
+use Rattle.std.specs.Prelude.{Bool, ◌≡◌, ◌+◌, ◌*◌, ◌-◌, ℕ, List, Option, Result, slice_index}
+use Rattle.archive_check.specs.Layout.{Layout}
 use Rattle.archive_check.specs.Shape.{Pointee}
 use Rattle.archive_check.specs.Reads.{length_at}
 use Rattle.archive_check.specs.Readable.{target_from}
@@ -16,17 +17,38 @@ use Rattle.archive_check.specs.Viewed.{Viewed, Says}
 use Rattle.archive_check.specs.declared.format.error.Error.{Error}
 use Rattle.archive_check.specs.declared.format.traits.ArchivePointee as ArchivePointee
 use Rattle.archive_check.specs.declared.format.traits.Entries as Entries
-use Rattle.archive_core.specs.Compared.{Standing, standing}
+use Rattle.archive_core.specs.Compared.{Standing, standing, elements, slice_of, result_in, result_order}
 use Rattle.archive_core.specs.Pooling.{IsPut, ReadsShared, RefusesShared}
 use Rattle.archive_core.specs.Standing.{StandsWith, view}
 use Rattle.archive_core.specs.ValueOrder.{ComparesTo, EqualsTo}
-use Rattle.archive_core.specs.Views.{ShowsPart}
+use Rattle.archive_core.specs.Views.{ShowsPart, spots}
 use Rattle.archive_core.specs.declared.view.RawView.{RawView}
 use Rattle.archive_core.specs.declared.view.Ref.{Ref}
 
 -- the buffer, the position and the length of what a view shows, by which views are compared
 abbrev pub shown : {T M : Type 0} {g : ArchivePointee.Ghosts T M} → Ref T M g → Standing
 shown v = standing v.bytes.now v.pos v.len
+
+-- the elements of the slice that a view shows, and of the vector
+abbrev pub elements_shown : {T M : Type 0} {g : ArchivePointee.Ghosts T M} → ℕ → Ref T M g → List Standing
+elements_shown size v = elements size (shown v)
+
+abbrev pub elements_in : {T M : Type 0} {g : ArchivePointee.Ghosts T M} → ℕ → Ref T M g → List Standing
+elements_in size v = elements size (slice_of (shown v))
+
+-- an element of a slice; the order of a result, of such a value and such an error, and of one of the machine
+abbrev pub element_shown : {T M : Type 0} {g : ArchivePointee.Ghosts T M} → ℕ → ℕ → Ref T M g → Standing
+element_shown size i v = standing v.bytes.now (v.pos + i * size) 0
+
+abbrev pub result_native : {T M U W : Type 0} {g : ArchivePointee.Ghosts T M} → (Standing → U → Ordering) → (Standing → W → Ordering) → Layout → Layout → Ref T M g → Result U W → Ordering
+result_native R S L E v r = result_order R S (result_in L.align E.align (shown v)) r
+
+-- where the elements of a slice stand, from the one of index a up to b; all of those that a view shows
+abbrev pub spots_between : RawView → ℕ → ℕ → ℕ → List (List ℕ × ℕ)
+spots_between s size a b = spots s.bytes.now s.pos size a (b - a)
+
+abbrev pub spots_shown : {T M : Type 0} {g : ArchivePointee.Ghosts T M} → ℕ → Ref T M g → List (List ℕ × ℕ)
+spots_shown size v = spots v.bytes.now v.pos size 0 v.len
 
 abbrev pub part_shown : RawView → Standing
 part_shown p = standing p.bytes.now p.pos p.len

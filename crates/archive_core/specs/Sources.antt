@@ -13,7 +13,7 @@ use Rattle.archive_check.specs.declared.format.traits.Keys as Keys
 use Rattle.archive_core.specs.Causes.{HindersAt, IsRefused, IsRegionRefused}
 use Rattle.archive_core.specs.Inner.{IsBoxed, IsNotBoxed}
 use Rattle.archive_core.specs.KindsWritten.{RunStored, RunUnstored}
-use Rattle.archive_core.specs.Placed.{FormatOf}
+use Rattle.archive_check.specs.Formats.{FormatOf}
 use Rattle.archive_core.specs.Plans.{Serialized, SerializedRegion}
 use Rattle.archive_core.specs.Runs.{each_keys, each_meaning, each_flat, SerializedRun, IsRunRefused}
 use Rattle.archive_core.specs.Seen.{ReadsPart}

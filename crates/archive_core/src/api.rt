@@ -4,23 +4,17 @@
 ghost use Rattle.std.specs.Prelude.{◌≡◌, ◌⊎◌, ◌≤◌, ◌-◌, None, length, IfOk, OnOk, IfErr, ℕ, []};
 ghost use Rattle.archive_check.specs.FreshContexts.{KeepsLevels, IsWhole};
 ghost use Rattle.archive_check.specs.Pushes.{FewPushed};
-ghost use Rattle.archive_check.specs.Schemas.{ExplainsNoSchema};
-ghost use Rattle.archive_check.specs.Archives.{IsArchive, IsAnswerable, Answers, root_in, ReadsWhole, RefusesWhole, RefusesAsCheck};
-ghost use Rattle.archive_check.specs.Defined.{WellFormed};
-ghost use Rattle.archive_check.specs.Definitions.{listed};
-ghost use Rattle.archive_check.specs.Entries.{ReadsBack, RefusesReading};
-ghost use Rattle.archive_check.specs.Unshared.{IsNeverOpen};
+ghost use Rattle.archive_check.specs.Archives.{IsAnswerable, Answers, root_in};
 ghost use Rattle.archive_check.specs.declared.format.error.Error.TheVariants.{OutOfMemory};
 ghost use Rattle.archive_check.specs.Shape.{one};
 ghost use Rattle.archive_check.specs.Viewed.{Viewed};
 ghost use Rattle.archive_core.specs.ArchivesOf.{Leaves, LeavesOne, LeavesIn, IsArchiveOf, NoArchiveOf, EndsWithNone, IsArchiveIn, ReadsArchive, RefusesArchive, AsCheckIfNeverOpen, IsNew, LacksSchema, AnswersRoot};
-ghost use Rattle.archive_core.specs.Causes.{HindersRegion, IsRegionRefused};
-ghost use Rattle.archive_core.specs.Plans.{at_start, unshared};
+ghost use Rattle.archive_core.specs.Causes.{IsRegionRefused};
+ghost use Rattle.archive_core.specs.Plans.{unshared};
 ghost use Rattle.archive_core.specs.Seen.{ReadsView, RefusesView};
 ghost use Rattle.archive_core.specs.Sources.{OneUnstored};
-ghost use Rattle.archive_core.specs.Writing.{Archives};
-ghost use Rattle.archive_write.specs.Sharing.{KnowsNone};
 ghost use Rattle.archive_write.specs.Written.{GoesOn};
+ghost use Rattle.archive_check.specs.Contexts.{AnswersIn};
 
 mod kept;
 mod using;
@@ -128,8 +122,7 @@ pub fn check_pos_with_context<T: Portable, C: ArchiveContext + SharedContext>(
 ) -> Result<(), Error>
     requires { (C.state context.old).end ≤ length bytes.now }
     ensures meaning { IfErr result (LacksSchema T.Portable) }
-    ensures answer { IsWhole (C.state context.old) (C.positions context.old) bytes.now
-        → Answers T.definitions bytes.now (C.state context.old).depth pos T.shape result }
+    ensures answer { AnswersIn T.Portable C.Context context bytes.now pos result }
     ensures of_check { IfErr result (IsAnswerable T.shape T.definitions (C.state context.old).depth) }
     ensures levels { OnOk result (KeepsLevels (C.state context.old) (C.state context.new)) }
     ensures few_subtrees { FewPushed (C.state context.old) (C.state context.new) }

@@ -5,9 +5,10 @@ ghost use Rattle.std.specs.Prelude.{◌≡◌, ◌⊎◌, ◌≤◌, ℕ, true, 
 ghost use Rattle.std.specs.HashMap.{get, spare};
 ghost use Rattle.std.proofs.Common.{true≢false};
 ghost use Rattle.archive_check.specs.Entries.{NoEntries};
-ghost use Rattle.archive_check.specs.Pooled.{Kept, pooled, finish_answer};
+ghost use Rattle.archive_check.specs.Pooled.{Kept, pooled};
 ghost use Rattle.archive_check.specs.declared.format.error.Error.TheVariants.{OutOfMemory};
-ghost use Rattle.archive_core.specs.Pooling.{kept_at, known_by, IsStartAnswer, IsPut, IsSame, ReadsShared, RefusesShared, Spans};
+ghost use Rattle.archive_core.specs.Pooling.{known_by, IsStartAnswer, IsSame, Spans, IsFinishAnswer};
+ghost use Rattle.archive_core.specs.KeptValues.{kept_value};
 ghost use Rattle.archive_core.specs.Seen.{ReadsKept, RefusesKept, PutAt};
 
 use crate::traits::{Archive, ArchivePointee, DeserializeUnsized, Entries};
@@ -44,7 +45,7 @@ pub trait Pooled: Clone + Drop {
     /// The shared value whose key is this position, in bytes from the first one. Memory comes from `alloc`; refused with `OutOfMemory`, 1, where it is
     /// refused.
     fn from_value(alloc: Global, pos: usize, value: Self::Value) -> Result<Self, Error>
-        ensures kept { IfOk result (λ s. kept s ≡ kept_at pos Self.Archived.pointee (count value) (Self.Value.meaning value) (Self.Value.keys value)) }
+        ensures kept { IfOk result (λ s. kept s ≡ kept_value pos Self.Archived.pointee (count value) Self.Value.Archive value) }
         ensures refused { IfErr result (λ e. e ≡ OutOfMemory) };
 
     // A clone is the same shared value.
@@ -67,7 +68,7 @@ pub trait Pooling<T: Pooled>: Entries {
     /// Finishes the pending position with `value`. Refused with `NotStarted`, 14, where it is unknown, with `AlreadyFinished`, 15, where it is finished,
     /// and with `OutOfMemory`, 1, where memory is refused.
     fn finish_pooling(&mut self, pos: usize, value: T) -> Result<(), Error>
-        ensures answer { Self.keeps ≡ true → (result ≡ finish_answer (Self.entry_of self.old pos)) ⊎ (result ≡ Err OutOfMemory) }
+        ensures answer { Self.keeps ≡ true → IsFinishAnswer (Self.entry_of self.old pos) result }
         ensures after { Self.keeps ≡ true → OnOk result (PutAt Self.Entries self pos (Some (Some (T.kept value)))) }
         ensures unchanged { OnErr result (IsSame (Self.entry_of self.old) (Self.entry_of self.new)) }
         ensures refused { Self.keeps ≡ false → IfErr result (λ e. e ≡ OutOfMemory) };

@@ -2,18 +2,15 @@
 
 ghost use Rattle.std.specs.Prelude.{◌≡◌, ◌⊎◌, ◌+◌, ◌++◌, ◌*◌, ◌^◌, ◌<◌, ◌≤◌, ◌%◌, ◌↔◌, true, length, IfOk, OnOk, IfErr};
 ghost use Rattle.archive_check.specs.WriterState.{KeepsKeys};
-ghost use Rattle.archive_check.specs.Layout.{pointer_size, has_length};
+ghost use Rattle.archive_check.specs.Layout.{has_length};
 ghost use Rattle.archive_check.specs.Shape.{one};
-ghost use Rattle.archive_core.specs.Causes.{Explains, HindersAt, HindersRegionAt, IsRegionRefused};
+ghost use Rattle.archive_core.specs.Causes.{HindersAt};
 ghost use Rattle.archive_core.specs.KindsWritten.{BytesResolved, RegionPut, RegionRefused, EachPut, EachHindered};
-ghost use Rattle.archive_core.specs.Offsets.{distance};
-ghost use Rattle.archive_core.specs.OwnerBytes.{owner_bytes, HindersPointerAt};
-ghost use Rattle.archive_core.specs.Placed.{GrowsBy};
-ghost use Rattle.archive_core.specs.Plans.{SerializedRegion};
-ghost use Rattle.archive_core.specs.Runs.{each_flat, EachBelongs, PutsRun, HindersRunAt};
+ghost use Rattle.archive_core.specs.Placed.{GrowsBy, Pointed, Unpointed};
+ghost use Rattle.archive_core.specs.Runs.{EachBelongs};
 ghost use Rattle.archive_core.specs.Sources.{OneStored, OneUnstored};
-ghost use Rattle.archive_core.specs.Writing.{Fresh, Resolves, Puts};
-ghost use Rattle.archive_write.specs.Written.{GoesOn, ExplainsRefusal};
+ghost use Rattle.archive_core.specs.Writing.{Fresh, Resolves};
+ghost use Rattle.archive_write.specs.Written.{GoesOn};
 
 use crate::place::Place;
 use crate::rel_ptr::emplace_pointer;
@@ -214,12 +211,9 @@ pub trait ResolveExt: Writer {
         T::Archived: PortablePointee,
         ArchivedMetadata<T>: Drop,
         requires aligned { Self.place self.old % 4 ≡ 0 }
-        ensures written { OnOk result ((Self.state self.new).bytes ≡ (Self.state self.old).bytes
-            ++ owner_bytes (has_length T.Archived.pointee) (distance (Self.place self.old) to) (T.source_length value.now)) }
+        ensures written { OnOk result (Pointed T.Archived.pointee (T.source_length value.now) to Self.place Self.Keys self) }
         ensures position { IfOk result (λ p. p ≡ Self.place self.old) }
-        ensures refused { IfErr result (λ e. (HindersPointerAt (T.source_length value.now) (pointer_size T.Archived.pointee) (Self.place self.old) to e
-            × (Self.state self.new ≡ Self.state self.old))
-            ⊎ ExplainsRefusal (pointer_size T.Archived.pointee) (Self.place self.old) (Self.state self.old).room (Self.state self.old).failures (Self.state self.new).failures e) }
+        ensures refused { IfErr result (Unpointed T.Archived.pointee (T.source_length value.now) to Self.place Self.Keys self) }
         ensures goes_on { GoesOn (Self.state self.old) (Self.state self.new) }
         ensures keys { KeepsKeys (Self.state self.old).states (Self.state self.new).states }
     {

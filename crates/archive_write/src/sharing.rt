@@ -4,7 +4,8 @@
 ghost use Rattle.std.specs.Prelude.{◌≡◌, ◌+◌, ◌≤◌, ◌<◌, None, Some, OnOk, OnErr, IfOk, IfErr, IsOk, nat_eq};
 ghost use Rattle.std.specs.HashMap.{get, spare};
 ghost use Rattle.archive_check.specs.WriterState.{KeepsKeys, KeepsBytes, only_keys};
-ghost use Rattle.archive_write.specs.Sharing.{start_answer, started, finish_answer, IsSet, KnowsNone};
+ghost use Rattle.archive_write.specs.Sharing.{start_answer, finish_answer, IsSet, KnowsNone};
+ghost use Rattle.archive_write.specs.Writes.{IsStarted};
 
 use crate::ser::Serializer;
 use archive_check::format::error::Error;
@@ -31,7 +32,7 @@ pub trait Sharing: Keys {
     /// alone.
     fn start_sharing(&mut self, key: u64) -> Result<SharingState, Error>
         ensures answer { IfOk result (λ s. s ≡ start_answer ((Self.state self.old).states key)) }
-        ensures after { OnOk result (IsSet (Self.state self.old).states key (started ((Self.state self.old).states key)) (Self.state self.new).states) }
+        ensures after { OnOk result (IsStarted (Self.state self.old).states key (Self.state self.new).states) }
         ensures unchanged { OnErr result (KeepsKeys (Self.state self.old).states (Self.state self.new).states) }
         ensures refusal { IfErr result (λ e. (e ≡ Error.OutOfMemory) × ((Self.state self.old).states key ≡ None)) }
         ensures bytes { KeepsBytes (Self.state self.old) (Self.state self.new) };
@@ -114,7 +115,7 @@ impl<A: Allocator + Clone> Keys for Share<A> {
 impl<A: Allocator + Clone> Sharing for Share<A> {
     fn start_sharing(&mut self, key: u64) -> Result<SharingState, Error>
         ensures answer { IfOk result (λ s. s ≡ start_answer (get nat_eq self.old.states key)) }
-        ensures after { OnOk result (IsSet (get nat_eq self.old.states) key (started (get nat_eq self.old.states key)) (get nat_eq self.new.states)) }
+        ensures after { OnOk result (IsStarted (get nat_eq self.old.states) key (get nat_eq self.new.states)) }
         ensures unchanged { OnErr result (KeepsKeys (get nat_eq self.old.states) (get nat_eq self.new.states)) }
         ensures refusal { IfErr result (λ e. (e ≡ Error.OutOfMemory) × (get nat_eq self.old.states key ≡ None)) }
         ensures bytes { KeepsBytes (only_keys (get nat_eq self.old.states)) (only_keys (get nat_eq self.new.states)) }

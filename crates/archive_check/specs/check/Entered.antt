@@ -1,5 +1,8 @@
 -- A region that is entered, and one that is left.
+use denote.Triple.Both.{Both}
+use denote.Ref.{MutBor}
 use Rattle.std.specs.Prelude.{◌≡◌, ℕ, ◌+◌, ◌%◌, ◌≤◌, ℤ, pos, Option, Some, Ok, Err, OnSome, IfSome, IfNone}
+use Rattle.archive_check.specs.declared.context.Context as Context
 use Rattle.archive_check.specs.declared.format.error.Error.{Error}
 use Rattle.archive_check.specs.declared.plan.PointeeKind.{PointeeKind}
 use Rattle.archive_check.specs.declared.check.Checker.{Checker}
@@ -10,7 +13,7 @@ use Rattle.archive_check.specs.Ranges.{RangeState, pop_answer, popped}
 use Rattle.archive_check.specs.PositionStates.{Positions}
 use Rattle.archive_check.specs.check.Runs.{RegionIs}
 use Rattle.archive_check.specs.check.LoopInvariant.{Stage}
-use Rattle.archive_check.specs.check.Through.{Stops, region_rule, stage_of}
+use Rattle.archive_check.specs.check.Through.{Stops, region_rule, stage_before, stage_behind}
 
 -- a region of this size and alignment lies at t, within the range
 pub record Lands (s : RangeState) (z : ℤ) (size align t : ℕ) : Type 0 where
@@ -47,9 +50,9 @@ pub record LeavesFrom (start end : ℕ) (x y : Stage) (result : Option (Unit {0}
   pub none : IfNone result (pop_answer x.range start ≡ Err fault)
 
 -- a call enters the region, from one context and list to the next
-abbrev pub EntersRegion : {A : Type 0} → (A → RangeState) → (A → Positions) → Checker → ℕ → ℕ → ℤ → A → A → Worklist → Worklist → Option Region → Type 0
-EntersRegion range met m j n z c c' work work' result = EntersFrom m j n z (stage_of range met c work) (stage_of range met c' work') result work'.fault
+abbrev pub EntersRegion : {A : Type 0} → Context.Ghosts A → Checker → ℕ → ℕ → ℤ → Both (MutBor A) (MutBor A) → Both (MutBor Worklist) (MutBor Worklist) → Option Region → Type 0
+EntersRegion k m j n z c w result = EntersFrom m j n z (stage_before k c w) (stage_behind k c w) result w.exit.now.fault
 
 -- a call leaves a region
-abbrev pub LeavesRegion : {A : Type 0} → (A → RangeState) → (A → Positions) → ℕ → ℕ → A → A → Worklist → Worklist → Option (Unit {0}) → Type 0
-LeavesRegion range met start end c c' work work' result = LeavesFrom start end (stage_of range met c work) (stage_of range met c' work') result work'.fault
+abbrev pub LeavesRegion : {A : Type 0} → Context.Ghosts A → ℕ → ℕ → Both (MutBor A) (MutBor A) → Both (MutBor Worklist) (MutBor Worklist) → Option (Unit {0}) → Type 0
+LeavesRegion k start end c w result = LeavesFrom start end (stage_before k c w) (stage_behind k c w) result w.exit.now.fault

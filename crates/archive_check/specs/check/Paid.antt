@@ -1,5 +1,8 @@
 -- What each call of a check pays for the regions that it enters: four bytes for each, of those that it was given in place.
+use denote.Triple.Both.{Both}
+use denote.Ref.{MutBor}
 use Rattle.std.specs.Prelude.{ℕ, ◌+◌, ◌-◌, ◌*◌, ◌≤◌, List, [], ◌∷◌}
+use Rattle.archive_check.specs.declared.context.Context as Context
 use Rattle.archive_check.specs.declared.check.Checker.{Checker}
 use Rattle.archive_check.specs.declared.check.worklist.Work.{Work}
 use Rattle.archive_check.specs.declared.check.worklist.Work.TheVariants.{Part as PartWork, Parts, Elements, Leave, Finish}
@@ -35,5 +38,5 @@ abbrev pub PaysFrom : Checker → ℕ → RangeState → List Work → RangeStat
 PaysFrom m n s work s' work' = worth s' + bytes_in m work' ≤ n + (worth s + bytes_in m work)
 
 -- so does a call, from one context and list to the next
-abbrev pub Pays : {A : Type 0} → (A → RangeState) → Checker → ℕ → A → A → Worklist → Worklist → Type 0
-Pays range m n c c' work work' = PaysFrom m n (range c) (list_of work) (range c') (list_of work')
+abbrev pub Pays : {A : Type 0} → Context.Ghosts A → Checker → ℕ → Both (MutBor A) (MutBor A) → Both (MutBor Worklist) (MutBor Worklist) → Type 0
+Pays k m n c w = PaysFrom m n (k.state c.entry.now) (list_of w.entry.now) (k.state c.exit.now) (list_of w.exit.now)

@@ -1,5 +1,8 @@
 -- What is checked at once, with nothing listed: what comes of it, whatever is seen and pending.
+use denote.Triple.Both.{Both}
+use denote.Ref.{MutBor}
 use Rattle.std.specs.Prelude.{◌≡◌, ◌≢◌, ℕ, ◌<◌, ℤ, List, Option, OnSome, IfSome, IfNone, Bool, IsTrue, false}
+use Rattle.archive_check.specs.declared.context.Context as Context
 use Rattle.archive_check.specs.declared.format.error.Error.{Error}
 use Rattle.archive_check.specs.declared.plan.PointeeKind.{PointeeKind}
 use Rattle.archive_check.specs.declared.plan.Span.{Span}
@@ -71,23 +74,30 @@ pub record TestsFrom (R : Rule) (Other : Type 0) (x y : Stage) (result : Option 
   pub other : IfSome result (λ known. known ≡ false → Other × (y ≡ x))
   pub none : IfNone result (Stops R x.range fault)
 
--- what a check is at, by its context and its list
+-- what a check is at, by its context and its list. `Both` is a parameter as a clause names it: what it was as the call began, and what it is at the return
 abbrev pub stage_of : {A : Type 0} → (A → RangeState) → (A → Positions) → A → Worklist → Stage
 stage_of range met context work = stage (range context) (met context) (list_of work)
 
+-- so as a call begins; so at its return
+abbrev pub stage_before : {A : Type 0} → Context.Ghosts A → Both (MutBor A) (MutBor A) → Both (MutBor Worklist) (MutBor Worklist) → Stage
+stage_before k c w = stage_of k.state k.positions c.entry.now w.entry.now
+
+abbrev pub stage_behind : {A : Type 0} → Context.Ghosts A → Both (MutBor A) (MutBor A) → Both (MutBor Worklist) (MutBor Worklist) → Stage
+stage_behind k c w = stage_of k.state k.positions c.exit.now w.exit.now
+
 -- a call goes through a rule, from one context and list to the next
-abbrev pub Passes : {A : Type 0} → (A → RangeState) → (A → Positions) → Rule → A → A → Worklist → Worklist → Option (Unit {0}) → Type 0
-Passes range met R c c' work work' result = PassesFrom R (stage_of range met c work) (stage_of range met c' work') result work'.fault
+abbrev pub Passes : {A : Type 0} → Context.Ghosts A → Rule → Both (MutBor A) (MutBor A) → Both (MutBor Worklist) (MutBor Worklist) → Option (Unit {0}) → Type 0
+Passes k R c w result = PassesFrom R (stage_before k c w) (stage_behind k c w) result w.exit.now.fault
 
 -- likewise where it knows the rule
-abbrev pub PassesIf : {A : Type 0} → (A → RangeState) → (A → Positions) → Rule → A → A → Worklist → Worklist → Option Bool → Type 0
-PassesIf range met R c c' work work' result = TestsFrom R (Unit {0}) (stage_of range met c work) (stage_of range met c' work') result work'.fault
+abbrev pub PassesIf : {A : Type 0} → Context.Ghosts A → Rule → Both (MutBor A) (MutBor A) → Both (MutBor Worklist) (MutBor Worklist) → Option Bool → Type 0
+PassesIf k R c w result = TestsFrom R (Unit {0}) (stage_before k c w) (stage_behind k c w) result w.exit.now.fault
 
 -- a call goes through a region that a pointer leads to
-abbrev pub PassesRegion : {A : Type 0} → (A → RangeState) → (A → Positions) → Checker → PointeeKind → ℕ → ℕ → ℤ → A → A → Worklist → Worklist → Option (Unit {0}) → Type 0
-PassesRegion range met m target j n where_to c c' work work' result = Passes range met (region_rule m target j n where_to) c c' work work' result
+abbrev pub PassesRegion : {A : Type 0} → Context.Ghosts A → Checker → PointeeKind → ℕ → ℕ → ℤ → Both (MutBor A) (MutBor A) → Both (MutBor Worklist) (MutBor Worklist) → Option (Unit {0}) → Type 0
+PassesRegion k m target j n where_to c w result = Passes k (region_rule m target j n where_to) c w result
 
 -- a call goes through what a region holds, z bytes at t, where that is shallow; else there are bytes, and they are no text
-abbrev pub PassesHeld : {A : Type 0} → (A → RangeState) → (A → Positions) → Checker → PointeeKind → ℕ → ℕ → ℕ → ℕ → A → A → Worklist → Worklist → Option Bool → Type 0
-PassesHeld range met m target j n t z c c' work work' result =
-    TestsFrom (contents_rule m target j n z t) ((0 < z) × (target ≢ Text)) (stage_of range met c work) (stage_of range met c' work') result work'.fault
+abbrev pub PassesHeld : {A : Type 0} → Context.Ghosts A → Checker → PointeeKind → ℕ → ℕ → ℕ → ℕ → Both (MutBor A) (MutBor A) → Both (MutBor Worklist) (MutBor Worklist) → Option Bool → Type 0
+PassesHeld k m target j n t z c w result =
+    TestsFrom (contents_rule m target j n z t) ((0 < z) × (target ≢ Text)) (stage_before k c w) (stage_behind k c w) result w.exit.now.fault

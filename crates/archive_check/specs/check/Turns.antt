@@ -1,6 +1,9 @@
 -- What each turn of a check keeps, as one record: what is safe, what came of what, and that less is left.
+use denote.Triple.Both.{Both}
+use denote.Ref.{MutBor}
 use Rattle.std.specs.Prelude.{◌≡◌, ◌⊎◌, ℕ, ◌+◌, ◌<◌, ℤ, pos, [], ◌∷◌, length, Option, OnSome, IfNone}
 use Rattle.std.specs.FinMap.{empty}
+use Rattle.archive_check.specs.declared.context.Context as Context
 use Rattle.archive_check.specs.declared.format.error.Error.{Error}
 use Rattle.archive_check.specs.declared.format.error.Error.TheVariants.{OutOfMemory}
 use Rattle.archive_check.specs.declared.plan.PointeeKind.{PointeeKind}
@@ -19,7 +22,7 @@ use Rattle.archive_check.specs.plan.Shallow.{IsMarked}
 use Rattle.archive_check.specs.plan.PackedPlans.{ArePacked}
 use Rattle.archive_check.specs.check.Runs.{Outcome, done, refused, EnterRuns}
 use Rattle.archive_check.specs.check.LoopInvariant.{Stage, stage, Ready, Listing, Entering, Following, TurnLeads, TurnRefuses, IsStopped, power, level, cost}
-use Rattle.archive_check.specs.check.Through.{stage_of}
+use Rattle.archive_check.specs.check.Through.{stage_before, stage_behind}
 
 -- a check can go over the plan: it is sound, so are its marks, and it is packed
 pub record IsCheckable (m : Checker) : Type 0 where
@@ -57,18 +60,18 @@ abbrev pub with_entry : Work → Stage → Stage
 with_entry entry x = stage x.range x.met (entry ∷ x.work)
 
 -- a call takes this entry, from one context and list to the next
-abbrev pub Turn : {A : Type 0} → (A → RangeState) → (A → Positions) → Checker → Work → A → A → Worklist → Worklist → Option (Unit {0}) → Type 0
-Turn range met m entry c c' work work' result =
-    TurnsFrom m (Listing m) (cost_at m (with_entry entry (stage_of range met c work))) (with_entry entry (stage_of range met c work)) (stage_of range met c' work') result work'.fault
+abbrev pub Turn : {A : Type 0} → Context.Ghosts A → Checker → Work → Both (MutBor A) (MutBor A) → Both (MutBor Worklist) (MutBor Worklist) → Option (Unit {0}) → Type 0
+Turn k m entry c w result =
+    TurnsFrom m (Listing m) (cost_at m (with_entry entry (stage_before k c w))) (with_entry entry (stage_before k c w)) (stage_behind k c w) result w.exit.now.fault
 
 -- a call enters a region
-abbrev pub Enters : {A : Type 0} → (A → RangeState) → (A → Positions) → Checker → PointeeKind → ℕ → ℕ → ℤ → A → A → Worklist → Worklist → Option (Unit {0}) → Type 0
-Enters range met m target j n z c c' work work' result = ComesInto m target j n z (stage_of range met c work) (stage_of range met c' work') result work'.fault
+abbrev pub Enters : {A : Type 0} → Context.Ghosts A → Checker → PointeeKind → ℕ → ℕ → ℤ → Both (MutBor A) (MutBor A) → Both (MutBor Worklist) (MutBor Worklist) → Option (Unit {0}) → Type 0
+Enters k m target j n z c w result = ComesInto m target j n z (stage_before k c w) (stage_behind k c w) result w.exit.now.fault
 
 -- a call follows the shared pointer at p
-abbrev pub Follows : {A : Type 0} → (A → RangeState) → (A → Positions) → Checker → ℕ → PointeeKind → ℕ → ℕ → A → A → Worklist → Worklist → Option (Unit {0}) → Type 0
-Follows range met m k target j p c c' work work' result =
-    TurnsFrom m (Following m k target j p) (2 + (region_cost m (stage_of range met c work) + cost_at m (stage_of range met c work))) (stage_of range met c work) (stage_of range met c' work') result work'.fault
+abbrev pub Follows : {A : Type 0} → Context.Ghosts A → Checker → ℕ → PointeeKind → ℕ → ℕ → Both (MutBor A) (MutBor A) → Both (MutBor Worklist) (MutBor Worklist) → Option (Unit {0}) → Type 0
+Follows g m k target j p c w result =
+    TurnsFrom m (Following m k target j p) (2 + (region_cost m (stage_before g c w) + cost_at m (stage_before g c w))) (stage_before g c w) (stage_behind g c w) result w.exit.now.fault
 
 -- in a context that met nothing, this comes of the root node at a position
 abbrev pub RootRuns : Checker → ℕ → ℕ → RangeState → Outcome → Type 0

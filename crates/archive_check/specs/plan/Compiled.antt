@@ -1,4 +1,6 @@
 -- Compiling: what an expression adds to a plan, and what the new nodes stand for. All is said of a checker whose lists go on from the plan's.
+use denote.Triple.Both.{Both}
+use denote.Ref.{MutBor}
 use Rattle.std.specs.Prelude.{◌≡◌, ◌⊎◌, ℕ, ◌+◌, ◌<◌, ◌≤◌, max, List, [], length, Bool, true, false, Option, Some, None}
 use Rattle.archive_check.specs.declared.plan.PointeeKind.{PointeeKind}
 use Rattle.archive_check.specs.declared.plan.NodeKind.TheVariants.{Free}
@@ -188,33 +190,26 @@ pub record CompiledVariants (names : List NamedNode) (done : ℕ) (vs : Variants
       → (e : ℕ) → laid.end ≡ Some e → (tag : ℕ) (x : Span) → laid.first + tag < laid.last → IsAt m.variants.now (laid.first + tag) x → IsVariant s shapes m vs tag x
   pub others : (tag : ℕ) → laid.last ≤ laid.first + tag → variant_at vs tag ≡ None
 
--- what is compiled so far: what waits, and the plan's lists
-pub record Progress : Type 0 where
-  pub waits : Waits
-  pub lists : PlanLists
-
-abbrev pub so_far : Queue → Plan → Progress
-so_far queue plan = record { waits = waits_of queue; lists = lists_of plan }
-
--- an X was compiled to the node j, from one progress to the next
-abbrev pub IsCompiled : Scope → Shape → Progress → Progress → ℕ → Type 0
-IsCompiled scope X x y j = Compiled scope.names.now scope.done X x.waits y.waits x.lists y.lists j
+-- An X was compiled to the node j, by a call with this queue and this plan. `Both` is a parameter as a clause names it: what it was as the call began,
+-- and what it is at the return.
+abbrev pub IsCompiled : Scope → Shape → Both (MutBor Queue) (MutBor Queue) → Both (MutBor Plan) (MutBor Plan) → ℕ → Type 0
+IsCompiled scope X q p j = Compiled scope.names.now scope.done X (waits_of q.entry.now) (waits_of q.exit.now) (lists_of p.entry.now) (lists_of p.exit.now) j
 
 -- likewise, whichever names are there
-abbrev pub IsCompiledAnywhere : List NamedNode → Shape → Progress → Progress → ℕ → Type 0
-IsCompiledAnywhere names X x y j = (done : ℕ) → Compiled names done X x.waits y.waits x.lists y.lists j
+abbrev pub IsCompiledAnywhere : List NamedNode → Shape → Both (MutBor Queue) (MutBor Queue) → Both (MutBor Plan) (MutBor Plan) → ℕ → Type 0
+IsCompiledAnywhere names X q p j = (done : ℕ) → Compiled names done X (waits_of q.entry.now) (waits_of q.exit.now) (lists_of p.entry.now) (lists_of p.exit.now) j
 
 -- a string, whatever the names and what waits
 abbrev pub IsStringCompiled : PlanLists → PlanLists → ℕ → Type 0
 IsStringCompiled a b j = (names : List NamedNode) (done : ℕ) (w : Waits) → Compiled names done str w w a b j
 
 -- what a pointer leads to
-abbrev pub IsPointeeCompiled : List NamedNode → Pointee → Progress → Progress → PointeeKind → ℕ → Type 0
-IsPointeeCompiled names P x y target j = CompiledPointee names P x.waits y.waits x.lists y.lists target j
+abbrev pub IsPointeeCompiled : List NamedNode → Pointee → Both (MutBor Queue) (MutBor Queue) → Both (MutBor Plan) (MutBor Plan) → PointeeKind → ℕ → Type 0
+IsPointeeCompiled names P q p target j = CompiledPointee names P (waits_of q.entry.now) (waits_of q.exit.now) (lists_of p.entry.now) (lists_of p.exit.now) target j
 
 -- parts from an offset on, and variants
-abbrev pub ArePartsCompiled : Scope → ℕ → Parts → Progress → Progress → LaidRange → Type 0
-ArePartsCompiled scope start ps x y laid = CompiledParts scope.names.now scope.done start ps x.waits y.waits x.lists y.lists laid
+abbrev pub ArePartsCompiled : Scope → ℕ → Parts → Both (MutBor Queue) (MutBor Queue) → Both (MutBor Plan) (MutBor Plan) → LaidRange → Type 0
+ArePartsCompiled scope start ps q p laid = CompiledParts scope.names.now scope.done start ps (waits_of q.entry.now) (waits_of q.exit.now) (lists_of p.entry.now) (lists_of p.exit.now) laid
 
-abbrev pub AreVariantsCompiled : Scope → Variants → Progress → Progress → LaidRange → Type 0
-AreVariantsCompiled scope vs x y laid = CompiledVariants scope.names.now scope.done vs x.waits y.waits x.lists y.lists laid
+abbrev pub AreVariantsCompiled : Scope → Variants → Both (MutBor Queue) (MutBor Queue) → Both (MutBor Plan) (MutBor Plan) → LaidRange → Type 0
+AreVariantsCompiled scope vs q p laid = CompiledVariants scope.names.now scope.done vs (waits_of q.entry.now) (waits_of q.exit.now) (lists_of p.entry.now) (lists_of p.exit.now) laid

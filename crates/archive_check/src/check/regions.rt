@@ -85,7 +85,7 @@ pub fn leave_region<C: ArchiveContext>(
     work: &mut Worklist,
     context: &mut C,
 ) -> Option<()>
-    ensures leaves { LeavesRegion C.state C.positions start end context.old context.new work.old work.new result }
+    ensures leaves { LeavesRegion C.Context start end context work result }
     ensures unchanged { IfNone result (C.state context.new ≡ C.state context.old) }
     ensures list { list_of work.new ≡ list_of work.old }
 {
@@ -108,8 +108,8 @@ impl Checker<'_> {
         context: &mut C,
     ) -> Option<Region>
         requires known { pointee < length self.now.nodes.now }
-        ensures enters { EntersRegion C.state C.positions self.now pointee count position
-            context.old context.new work.old work.new result }
+        ensures enters { EntersRegion C.Context self.now pointee count position
+            context work result }
         ensures pushes { OnSome result ((C.state context.new).pushes ≤ (C.state context.old).pushes + 1) }
         ensures unchanged { IfNone result (C.state context.new ≡ C.state context.old) }
         ensures list { list_of work.new ≡ list_of work.old }
@@ -155,9 +155,9 @@ impl Checker<'_> {
         requires pointee { PointeeFits self.now target pointee count }
         requires within { begin + size ≤ length self.now.bytes.now }
         requires ends { (C.state context.old).end ≡ begin }
-        ensures passes { PassesHeld C.state C.positions self.now target pointee count begin size
-            context.old context.new work.old work.new result }
-        ensures pays { Pays C.state self.now size context.old context.new work.old work.new }
+        ensures passes { PassesHeld C.Context self.now target pointee count begin size
+            context work result }
+        ensures pays { Pays C.Context self.now size context work }
     {
         if let PointeeKind::Text = target {
             if !is_text(self.bytes, begin, size) {
@@ -196,9 +196,9 @@ impl Checker<'_> {
         requires plan { IsCheckable self.now }
         requires ready { Ready self.now (C.state context.old) (list_of work.old) }
         requires pointee { PointeeFits self.now target pointee count }
-        ensures enters { Enters C.state C.positions self.now target pointee count position
-            context.old context.new work.old work.new result }
-        ensures pays { Pays C.state self.now 4 context.old context.new work.old work.new }
+        ensures enters { Enters C.Context self.now target pointee count position
+            context work result }
+        ensures pays { Pays C.Context self.now 4 context work }
     {
         let region = self.enter_region(pointee, count, position, work, context)?;
         let Region {
@@ -230,9 +230,9 @@ impl Checker<'_> {
         requires plan { IsCheckable self.now }
         requires ready { Ready self.now (C.state context.old) (list_of work.old) }
         requires pointee { PointeeFits self.now target pointee count }
-        ensures enters { Enters C.state C.positions self.now target pointee count position
-            context.old context.new work.old work.new result }
-        ensures pays { Pays C.state self.now 4 context.old context.new work.old work.new }
+        ensures enters { Enters C.Context self.now target pointee count position
+            context work result }
+        ensures pays { Pays C.Context self.now 4 context work }
     {
         self.enter_here(target, pointee, count, position, work, context)
     }

@@ -38,9 +38,9 @@ impl Checker<'_> {
         requires pointee { PointeeFits self.now target pointee count }
         requires shallow { target ≢ Text → IsTrue (free_at self.now.nodes.now pointee) }
         requires below { (C.state context.old).end ≤ length self.now.bytes.now }
-        ensures passes { PassesRegion C.state C.positions self.now target pointee count position
-            context.old context.new work.old work.new result }
-        ensures pays { Pays C.state self.now 4 context.old context.new work.old work.new }
+        ensures passes { PassesRegion C.Context self.now target pointee count position
+            context work result }
+        ensures pays { Pays C.Context self.now 4 context work }
     {
         let region = self.enter_region(pointee, count, position, work, context)?;
         if let PointeeKind::Text = target {
@@ -67,9 +67,9 @@ impl Checker<'_> {
         requires shallow { target ≢ Text → IsTrue (free_at self.now.nodes.now pointee) }
         requires fits { PartFits self.now node at }
         requires below { (C.state context.old).end ≤ length self.now.bytes.now }
-        ensures passes { Passes C.state C.positions (node_rule self.now node at)
-            context.old context.new work.old work.new result }
-        ensures pays { Pays C.state self.now (size_at self.now.nodes.now node) context.old context.new work.old work.new }
+        ensures passes { Passes C.Context (node_rule self.now node at)
+            context work result }
+        ensures pays { Pays C.Context self.now (size_at self.now.nodes.now node) context work }
     {
         let count = self.count(target, at);
         let position = read_position(self.bytes, at, at);
@@ -90,9 +90,9 @@ impl Checker<'_> {
         requires kind { IsNode self.now node (Str pointee) }
         requires fits { PartFits self.now node at }
         requires below { (C.state context.old).end ≤ length self.now.bytes.now }
-        ensures passes { Passes C.state C.positions (node_rule self.now node at)
-            context.old context.new work.old work.new result }
-        ensures pays { Pays C.state self.now (size_at self.now.nodes.now node) context.old context.new work.old work.new }
+        ensures passes { Passes C.Context (node_rule self.now node at)
+            context work result }
+        ensures pays { Pays C.Context self.now (size_at self.now.nodes.now node) context work }
     {
         if is_out_of_line(self.bytes, at) {
             let length = read_coded_length(self.bytes, at);
@@ -129,9 +129,9 @@ impl Checker<'_> {
         requires shallow { IsShallow self.now node }
         requires fits { PartFits self.now node at }
         requires below { (C.state context.old).end ≤ length self.now.bytes.now }
-        ensures passes { PassesIf C.state C.positions (node_rule self.now node at)
-            context.old context.new work.old work.new result }
-        ensures pays { Pays C.state self.now (size_at self.now.nodes.now node) context.old context.new work.old work.new }
+        ensures passes { PassesIf C.Context (node_rule self.now node at)
+            context work result }
+        ensures pays { Pays C.Context self.now (size_at self.now.nodes.now node) context work }
     {
         let here = self.nodes[node];
         match here.kind {
@@ -161,10 +161,10 @@ impl Checker<'_> {
         requires shallow { IsTrue (parts_shallow self.now.shallow.now (span self.now.parts.now variant.first variant.last)) }
         requires fits { PartsFit self.now variant.first variant.last at }
         requires below { (C.state context.old).end ≤ length self.now.bytes.now }
-        ensures passes { PassesIf C.state C.positions (span_rule self.now variant at)
-            context.old context.new work.old work.new result }
-        ensures pays { Pays C.state self.now (bytes_of_parts self.now variant.first variant.last)
-            context.old context.new work.old work.new }
+        ensures passes { PassesIf C.Context (span_rule self.now variant at)
+            context work result }
+        ensures pays { Pays C.Context self.now (bytes_of_parts self.now variant.first variant.last)
+            context work }
     {
         if variant.last.saturating_sub(variant.first) == 1 {
             let part = self.parts[variant.first];
@@ -187,9 +187,9 @@ impl Checker<'_> {
         requires shallow { IsShallow self.now node }
         requires fits { PartFits self.now node at }
         requires below { (C.state context.old).end ≤ length self.now.bytes.now }
-        ensures passes { Passes C.state C.positions (node_rule self.now node at)
-            context.old context.new work.old work.new result }
-        ensures pays { Pays C.state self.now (size_at self.now.nodes.now node) context.old context.new work.old work.new }
+        ensures passes { Passes C.Context (node_rule self.now node at)
+            context work result }
+        ensures pays { Pays C.Context self.now (size_at self.now.nodes.now node) context work }
     {
         let here = self.nodes[node];
         match here.kind {
@@ -235,9 +235,9 @@ impl Checker<'_> {
         requires shallow { IsTrue (parts_shallow self.now.shallow.now (span self.now.parts.now first last)) }
         requires fits { PartsFit self.now first last base }
         requires below { (C.state context.old).end ≤ length self.now.bytes.now }
-        ensures passes { Passes C.state C.positions (parts_rule self.now first last base)
-            context.old context.new work.old work.new result }
-        ensures pays { Pays C.state self.now (bytes_of_parts self.now first last) context.old context.new work.old work.new }
+        ensures passes { Passes C.Context (parts_rule self.now first last base)
+            context work result }
+        ensures pays { Pays C.Context self.now (bytes_of_parts self.now first last) context work }
     {
         for index in first..last {
             let part = self.parts[index];
@@ -261,9 +261,9 @@ impl Checker<'_> {
         requires shallow { IsTrue (marked self.now.shallow.now node) }
         requires fits { ElementsFit self.now node count at }
         requires below { (C.state context.old).end ≤ length self.now.bytes.now }
-        ensures passes { Passes C.state C.positions (elements_rule self.now node count at)
-            context.old context.new work.old work.new result }
-        ensures pays { Pays C.state self.now (bytes_of_elements self.now node count) context.old context.new work.old work.new }
+        ensures passes { Passes C.Context (elements_rule self.now node count at)
+            context work result }
+        ensures pays { Pays C.Context self.now (bytes_of_elements self.now node count) context work }
     {
         let size = self.nodes[node].size.unwrap_or(0);
         let passed = self.count_legal(node, count, at, size);

@@ -35,9 +35,9 @@ impl Checker<'_> {
         requires within { at + pointer_bytes target ≤ length self.now.bytes.now }
         requires shared_type { shared_type < length self.now.shared_types.now }
         requires pointee { pointee < length self.now.nodes.now }
-        ensures follows { Follows C.state C.positions self.now shared_type target pointee at
-            context.old context.new work.old work.new result }
-        ensures pays { Pays C.state self.now 4 context.old context.new work.old work.new }
+        ensures follows { Follows C.Context self.now shared_type target pointee at
+            context work result }
+        ensures pays { Pays C.Context self.now 4 context work }
     {
         let count = self.count(target, at);
         let length = self.length(target, at);
@@ -74,9 +74,9 @@ impl Checker<'_> {
     ) -> Option<()>
         requires plan { IsCheckable self.now }
         requires ready { Ready self.now (C.state context.old) (PartsWork first last base ∷ list_of work.old) }
-        ensures turn { Turn C.state C.positions self.now (PartsWork first last base)
-            context.old context.new work.old work.new result }
-        ensures pays { Pays C.state self.now (bytes_of_parts self.now first last) context.old context.new work.old work.new }
+        ensures turn { Turn C.Context self.now (PartsWork first last base)
+            context work result }
+        ensures pays { Pays C.Context self.now (bytes_of_parts self.now first last) context work }
     {
         let next = self.first_to_open(first, last, base);
         if next >= last {
@@ -98,8 +98,8 @@ impl Checker<'_> {
     ) -> Option<()>
         requires plan { IsCheckable self.now }
         requires ready { Ready self.now (C.state context.old) (PartWork node at ∷ list_of work.old) }
-        ensures turn { Turn C.state C.positions self.now (PartWork node at) context.old context.new work.old work.new result }
-        ensures pays { Pays C.state self.now (size_at self.now.nodes.now node) context.old context.new work.old work.new }
+        ensures turn { Turn C.Context self.now (PartWork node at) context work result }
+        ensures pays { Pays C.Context self.now (size_at self.now.nodes.now node) context work }
     {
         if self.shallow[node] {
             return self.check_shallow(node, at, work, context);
@@ -147,8 +147,8 @@ impl Checker<'_> {
     ) -> Option<()>
         requires plan { IsCheckable self.now }
         requires ready { Ready self.now (C.state context.old) (entry ∷ list_of work.old) }
-        ensures turn { Turn C.state C.positions self.now entry context.old context.new work.old work.new result }
-        ensures pays { Pays C.state self.now (bytes_of self.now entry) context.old context.new work.old work.new }
+        ensures turn { Turn C.Context self.now entry context work result }
+        ensures pays { Pays C.Context self.now (bytes_of self.now entry) context work }
     {
         match entry {
             Work::Part { node, at } => self.open(node, at, work, context),

@@ -1,7 +1,7 @@
 //! Calls within a region of a check.
 
-ghost use Rattle.std.specs.Fn.{FnOnceReturnsAtMut};
-ghost use Rattle.archive_check.specs.InSubtree.{InSubtree, InRegion, IsCallable, IsCallableIn};
+ghost use Rattle.std.specs.Fn.{FnOnceReturnsAtMut as Returns};
+ghost use Rattle.archive_check.specs.InSubtree.{MayCall, MayCallAt, CalledIn, CalledAt};
 
 use crate::context::ArchiveContext;
 use crate::format::error::Error;
@@ -19,10 +19,8 @@ pub trait ArchiveContextExt: ArchiveContext {
         E: From<Error> + Drop,
         F: FnOnce(&mut Self) -> Result<R, E> + Drop,
     >(&mut self, position: i128, layout: &Layout, f: F) -> Result<R, E>
-        requires { IsCallable Self.state Self.positions (λ inner. F.pre f inner) self.old position layout.now.size
-            layout.now.align }
-        ensures { InSubtree Self.state Self.positions (λ inner answer after. FnOnceReturnsAtMut F.FnOnce f inner answer after)
-            E.from_gives self.old position layout.now.size layout.now.align result self.new }
+        requires { MayCall Self.Context (λ inner. F.pre f inner) self position layout.now }
+        ensures { CalledIn Self.Context (Returns F.FnOnce f) E.from_gives self position layout.now result }
     {
         self.check_subtree_ptr(position, layout)?;
         let root = position as usize;
@@ -42,8 +40,8 @@ pub trait ArchiveContextExt: ArchiveContext {
         E: From<Error> + Drop,
         F: FnOnce(&mut Self) -> Result<R, E> + Drop,
     >(&mut self, position: i128, length: usize, f: F) -> Result<R, E>
-        requires { IsCallableIn Self.state Self.positions (λ inner. F.pre f inner) T.definitions T.pointee length self.old position }
-        ensures { InRegion Self.state Self.positions (λ inner answer after. FnOnceReturnsAtMut F.FnOnce f inner answer after) E.from_gives T.definitions T.pointee length self.old position result self.new }
+        requires { MayCallAt Self.Context (λ inner. F.pre f inner) T.ArchivePointee self position length }
+        ensures { CalledAt Self.Context (Returns F.FnOnce f) E.from_gives T.ArchivePointee self position length result }
     {
         let layout = T::layout_raw(length)?;
         self.in_subtree_raw(position, &layout, f)

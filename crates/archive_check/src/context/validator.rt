@@ -2,6 +2,7 @@
 
 ghost use Rattle.std.specs.Prelude.{◌≡◌, ◌≢◌, Some, None};
 ghost use Rattle.archive_check.specs.FreshContexts.{IsWhole};
+ghost use Rattle.archive_check.specs.FreshContexts.{IsWholeIn};
 
 use crate::context::positions::SharedValidator;
 use crate::context::{ArchiveContext, ArchiveValidator, Context, SharedContext, ValidationState};
@@ -92,8 +93,7 @@ pub struct HighValidator<'a> {
 impl<'a> HighValidator<'a> {
     /// The whole of `bytes`, of which nothing was met yet, with no limit of depth. Memory comes from `alloc`, and none is taken yet. Our own.
     pub fn new(alloc: Global, bytes: &'a [u8]) -> HighValidator<'a>
-        ensures whole { IsWhole (⟦<HighValidator<'a> as Context>⟧.state result)
-            (⟦<HighValidator<'a> as Context>⟧.positions result) bytes.now }
+        ensures whole { IsWholeIn ⟦<HighValidator<'a> as Context>⟧ result bytes.now }
         ensures unlimited { (⟦<HighValidator<'a> as Context>⟧.state result).depth ≡ None }
         ensures none_entered { (⟦<HighValidator<'a> as Context>⟧.state result).pushes ≡ 0 }
     {
@@ -104,8 +104,7 @@ impl<'a> HighValidator<'a> {
     /// that `depth` isn't 0; None is no limit. Memory comes from `alloc`, and none is taken yet. Our own.
     pub fn with_max_depth(alloc: Global, bytes: &'a [u8], depth: Option<usize>) -> HighValidator<'a>
         requires { depth ≢ Some 0 }
-        ensures whole { IsWhole (⟦<HighValidator<'a> as Context>⟧.state result)
-            (⟦<HighValidator<'a> as Context>⟧.positions result) bytes.now }
+        ensures whole { IsWholeIn ⟦<HighValidator<'a> as Context>⟧ result bytes.now }
         ensures limited { (⟦<HighValidator<'a> as Context>⟧.state result).depth ≡ depth }
         ensures none_entered { (⟦<HighValidator<'a> as Context>⟧.state result).pushes ≡ 0 }
     {

@@ -4,6 +4,7 @@ ghost use Rattle.std.specs.Prelude.{◌≡◌, ◌++◌, ◌∷◌, [], IfOk, On
 ghost use Rattle.archive_check.specs.Shape.{definition};
 ghost use Rattle.archive_check.specs.Expressions.{shape_of, entries_of, table_of};
 ghost use Rattle.archive_check.specs.AddAnswer.{IsFound, IsAddAnswer};
+ghost use Rattle.archive_check.specs.AddedDefinitions.{table_after};
 
 use crate::format::error::Error;
 use crate::format::expr::Expr;
@@ -40,8 +41,7 @@ impl Defs {
     #[tactic(auto, using(crate::proofs::plan::Named::tables))]
     pub fn add(&mut self, name: &'static str, expr: Expr) -> Result<bool, Error>
         ensures answer { IsAddAnswer (definition (table_of self.old) name.now) (shape_of expr) result }
-        ensures added { IfOk result (λ new. table_of self.new
-            ≡ (if new then table_of self.old ++ (name.now, shape_of expr) ∷ [] else table_of self.old)) }
+        ensures added { IfOk result (λ new. table_of self.new ≡ table_after (table_of self.old) name.now (shape_of expr) new) }
         ensures unchanged { OnErr result (table_of self.new ≡ table_of self.old) }
     {
         match find(&self.items, name) {

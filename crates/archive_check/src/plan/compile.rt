@@ -8,7 +8,7 @@ ghost use Rattle.archive_check.specs.Expressions.{shape_of, flavor_of, pointee_o
 ghost use Rattle.archive_check.specs.Shape.{parts as record_of, choice, array, boxed, vec};
 ghost use Rattle.archive_check.specs.plan.PlanGrowth.{lists_of, IsCopied};
 ghost use Rattle.archive_check.specs.plan.Compilable.{Can, CanParts, CanVariants, CanPoint, CanWait};
-ghost use Rattle.archive_check.specs.plan.Compiled.{counted, so_far, IsCompiled, IsCompiledAnywhere, IsStringCompiled, IsPointeeCompiled, ArePartsCompiled, AreVariantsCompiled};
+ghost use Rattle.archive_check.specs.plan.Compiled.{counted, IsCompiled, IsCompiledAnywhere, IsStringCompiled, IsPointeeCompiled, ArePartsCompiled, AreVariantsCompiled};
 
 use crate::format::expr::{Expr, FlavorInfo, Pointee};
 use crate::plan::extents::{offset_of, pointer_size, times};
@@ -72,7 +72,7 @@ fn compile_pointee<'e>(
 ) -> Result<(PointeeKind, usize), AllocError>
     requires { CanPoint names.now (pointee_of pointee.now) }
     ensures { IfOk result (λ r. IsPointeeCompiled names.now (pointee_of pointee.now)
-        (so_far queue.old plan.old) (so_far queue.new plan.new) r.0 r.1) }
+        queue plan r.0 r.1) }
 {
     match pointee {
         Pointee::One(x) => {
@@ -100,7 +100,7 @@ fn compile_box<'e>(
 ) -> Result<usize, AllocError>
     requires { CanPoint names.now (pointee_of pointee.now) }
     ensures { IfOk result (IsCompiledAnywhere names.now (boxed (pointee_of pointee.now))
-        (so_far queue.old plan.old) (so_far queue.new plan.new)) }
+        queue plan) }
 {
     let (target, pointee) = compile_pointee(names, pointee, plan, queue)?;
     push(
@@ -121,7 +121,7 @@ fn compile_vec<'e>(
 ) -> Result<usize, AllocError>
     requires { CanWait names.now (shape_of element.now) }
     ensures { IfOk result (IsCompiledAnywhere names.now (vec (shape_of element.now))
-        (so_far queue.old plan.old) (so_far queue.new plan.new)) }
+        queue plan) }
 {
     let pointee = wait(names, element, queue)?;
     push(
@@ -156,7 +156,7 @@ fn compile_counted<'e>(
 ) -> Result<usize, AllocError>
     requires { CanPoint names.now (pointee_of pointee.now) }
     ensures { IfOk result (IsCompiledAnywhere names.now (counted weak (flavor_of flavor) (pointee_of pointee.now))
-        (so_far queue.old plan.old) (so_far queue.new plan.new)) }
+        queue plan) }
 {
     let (target, node) = compile_pointee(names, pointee, plan, queue)?;
     let shared_type = copy_shared_type(plan, flavor, pointee)?;
@@ -180,8 +180,7 @@ pub fn compile<'e>(
 ) -> Result<usize, AllocError>
     requires done { scope.now.done ≤ length plan.old.nodes.items }
     requires can { Can scope.now.names.now scope.now.done (shape_of expr.now) }
-    ensures { IfOk result (IsCompiled scope.now (shape_of expr.now) (so_far queue.old plan.old)
-        (so_far queue.new plan.new)) }
+    ensures { IfOk result (IsCompiled scope.now (shape_of expr.now) queue plan) }
 {
     match expr {
         Expr::Leaf(kind) => push_leaf(plan, *kind),
@@ -210,7 +209,7 @@ fn compile_record<'e>(
     requires done { scope.now.done ≤ length plan.old.nodes.items }
     requires can { CanParts scope.now.names.now scope.now.done (shapes_in parts.now) }
     ensures { IfOk result (IsCompiled scope.now (record_of (shapes_in parts.now))
-        (so_far queue.old plan.old) (so_far queue.new plan.new)) }
+        queue plan) }
 {
     let laid = compile_parts(scope, parts, 0, plan, queue)?;
     let size = offset_of(laid.end, laid.align);
@@ -240,7 +239,7 @@ fn compile_choice<'e>(
     requires done { scope.now.done ≤ length plan.old.nodes.items }
     requires can { CanVariants scope.now.names.now scope.now.done (variants_in variants.now) }
     ensures { IfOk result (IsCompiled scope.now (choice name.now (variants_in variants.now))
-        (so_far queue.old plan.old) (so_far queue.new plan.new)) }
+        queue plan) }
 {
     let laid = compile_variants(scope, variants, plan, queue)?;
     let size = offset_of(laid.end, laid.align);
@@ -271,7 +270,7 @@ fn compile_array<'e>(
     requires done { scope.now.done ≤ length plan.old.nodes.items }
     requires can { Can scope.now.names.now scope.now.done (shape_of x.now) }
     ensures { IfOk result (IsCompiled scope.now (array count (shape_of x.now))
-        (so_far queue.old plan.old) (so_far queue.new plan.new)) }
+        queue plan) }
 {
     let element = compile(scope, x, plan, queue)?;
     let here = plan.nodes[element];
@@ -298,7 +297,7 @@ fn compile_parts<'e>(
     requires done { scope.now.done ≤ length plan.old.nodes.items }
     requires can { CanParts scope.now.names.now scope.now.done (shapes_in parts.now) }
     ensures { IfOk result (ArePartsCompiled scope.now start (shapes_in parts.now)
-        (so_far queue.old plan.old) (so_far queue.new plan.new)) }
+        queue plan) }
 {
     let mut row = LaidParts::new(scope.alloc, start);
     for i in 0..parts.len() {
@@ -321,7 +320,7 @@ fn compile_variants<'e>(
     requires done { scope.now.done ≤ length plan.old.nodes.items }
     requires can { CanVariants scope.now.names.now scope.now.done (variants_in variants.now) }
     ensures { IfOk result (AreVariantsCompiled scope.now (variants_in variants.now)
-        (so_far queue.old plan.old) (so_far queue.new plan.new)) }
+        queue plan) }
 {
     let mut spans = LaidVariants::new(scope.alloc);
     for i in 0..variants.len() {

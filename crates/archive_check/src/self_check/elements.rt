@@ -2,8 +2,9 @@
 
 ghost use Rattle.std.specs.Prelude.{◌≡◌, ◌+◌, ◌*◌, ◌≤◌, length, OnSome, IfNone, IsTrue};
 ghost use Rattle.archive_check.specs.Shape.{run, vec};
-ghost use Rattle.archive_check.specs.SelfCheck.Ways.{Goes, Halts, shape_way, run_way, enter_way, owned};
+ghost use Rattle.archive_check.specs.SelfCheck.Ways.{run_way};
 ghost use Rattle.archive_check.specs.Pushes.{Spends};
+ghost use Rattle.archive_check.specs.SelfCheck.Steps.{WentOver, StoppedIn, run_at};
 
 use super::SelfCheck;
 use super::regions::{enter, leave};
@@ -26,10 +27,8 @@ fn check_no_bytes<T: Portable, C: ArchiveContext>(
     requires empty { T.layout.size ≡ 0 }
     requires fits { at ≤ length bytes.now }
     requires below { (C.state context.old).end ≤ length bytes.now }
-    ensures through { OnSome result
-        (Goes T.definitions (run_way bytes.now at count T.shape) (C.state context.old) (C.state context.new)) }
-    ensures stops { IsTrue T.Check.direct
-        → IfNone result (Halts T.definitions (run_way bytes.now at count T.shape) (C.state context.old) refusal.new) }
+    ensures through { WentOver C.Context context T.Portable (run_way bytes.now at count) result }
+    ensures stops { StoppedIn C.Context context T.Check.direct T.Portable (run_way bytes.now at count) result refusal }
     ensures spends { Spends 0 (C.state context.old) (C.state context.new) }
     ensures positions { OnSome result (C.positions context.new ≡ C.positions context.old) }
 {
@@ -50,10 +49,8 @@ pub fn check_elements<T: Portable, C: ArchiveContext>(
 ) -> Option<()>
     requires fits { at + count * T.layout.size ≤ length bytes.now }
     requires below { (C.state context.old).end ≤ length bytes.now }
-    ensures through { OnSome result
-        (Goes T.definitions (run_way bytes.now at count T.shape) (C.state context.old) (C.state context.new)) }
-    ensures stops { IsTrue T.Check.direct
-        → IfNone result (Halts T.definitions (run_way bytes.now at count T.shape) (C.state context.old) refusal.new) }
+    ensures through { WentOver C.Context context T.Portable (run_way bytes.now at count) result }
+    ensures stops { StoppedIn C.Context context T.Check.direct T.Portable (run_way bytes.now at count) result refusal }
     ensures spends { Spends (count * T.layout.size) (C.state context.old) (C.state context.new) }
     ensures positions { OnSome result (C.positions context.new ≡ C.positions context.old) }
 {
@@ -78,12 +75,8 @@ pub fn check_run<T: Portable, C: ArchiveContext>(
     context: &mut C,
 ) -> Option<()>
     requires below { (C.state context.old).end ≤ length bytes.now }
-    ensures through { OnSome result
-        (Goes T.definitions (enter_way bytes.now (owned position (run T.shape) count)) (C.state context.old)
-        (C.state context.new)) }
-    ensures stops { IsTrue T.Check.direct
-        → IfNone result (Halts T.definitions (enter_way bytes.now (owned position (run T.shape) count))
-        (C.state context.old) refusal.new) }
+    ensures through { WentOver C.Context context T.Portable (run_at bytes.now position count) result }
+    ensures stops { StoppedIn C.Context context T.Check.direct T.Portable (run_at bytes.now position count) result refusal }
     ensures spends { Spends 4 (C.state context.old) (C.state context.new) }
     ensures positions { OnSome result (C.positions context.new ≡ C.positions context.old) }
 {

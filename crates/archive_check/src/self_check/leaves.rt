@@ -6,8 +6,9 @@ ghost use Rattle.archive_check.specs.Shape.{leaf, unit, bool, number, unsigned, 
 ghost use Rattle.archive_check.specs.Layout.{kind_size};
 ghost use Rattle.archive_check.specs.Expressions.{kind_of};
 ghost use Rattle.archive_check.specs.Definitions.{no_definition};
-ghost use Rattle.archive_check.specs.SelfCheck.Ways.{Goes, Halts, shape_way};
+ghost use Rattle.archive_check.specs.SelfCheck.Ways.{shape_way};
 ghost use Rattle.archive_check.specs.Pushes.{Spends};
+ghost use Rattle.archive_check.specs.SelfCheck.Steps.{Went, Stopped};
 
 use super::SelfCheck;
 use super::refusals::refuse;
@@ -26,10 +27,8 @@ pub fn check_leaf<C: ArchiveContext>(
     _context: &mut C,
 ) -> Option<()>
     requires { at + kind_size (kind_of kind) ≤ length bytes.now }
-    ensures through { OnSome result
-        (Goes no_definition (shape_way bytes.now at (leaf (kind_of kind))) (C.state _context.old) (C.state _context.new)) }
-    ensures stops { IfNone result (Halts no_definition (shape_way bytes.now at (leaf (kind_of kind)))
-        (C.state _context.old) refusal.new) }
+    ensures through { Went C.Context _context no_definition (shape_way bytes.now at (leaf (kind_of kind))) result }
+    ensures stops { Stopped C.Context _context no_definition (shape_way bytes.now at (leaf (kind_of kind))) result refusal }
     ensures spends { Spends 0 (C.state _context.old) (C.state _context.new) }
     ensures positions { OnSome result (C.positions _context.new ≡ C.positions _context.old) }
 {

@@ -4,9 +4,10 @@ ghost use Rattle.std.specs.Prelude.{Bool, ◌&&◌, ◌≡◌, ◌+◌, ◌-◌,
 ghost use Rattle.archive_check.specs.Shape.{Parts, part, no_part, parts};
 ghost use Rattle.archive_check.specs.Layout.{up};
 ghost use Rattle.archive_check.specs.Definitions.{Definitions, both, no_definition};
-ghost use Rattle.archive_check.specs.SelfCheck.Ways.{Goes, Halts, parts_way};
+ghost use Rattle.archive_check.specs.SelfCheck.Ways.{parts_way};
 ghost use Rattle.archive_check.specs.SelfCheck.Regions.{no_lower, rises_over};
 ghost use Rattle.archive_check.specs.Pushes.{Spends};
+ghost use Rattle.archive_check.specs.SelfCheck.Steps.{Went, StoppedIf as Stops};
 
 use super::SelfCheck;
 use super::values::check_value;
@@ -44,10 +45,8 @@ pub trait CheckedParts {
     ) -> Option<()>
         requires fits { base + end start ≤ length bytes.now }
         requires below { (C.state context.old).end ≤ length bytes.now }
-        ensures through { OnSome result
-            (Goes definitions (parts_way bytes.now base start parts) (C.state context.old) (C.state context.new)) }
-        ensures stops { IsTrue direct → IfNone result
-            (Halts definitions (parts_way bytes.now base start parts) (C.state context.old) refusal.new) }
+        ensures through { Went C.Context context definitions (parts_way bytes.now base start parts) result }
+        ensures stops { Stops C.Context context direct definitions (parts_way bytes.now base start parts) result refusal }
         ensures spends { Spends (end start - start) (C.state context.old) (C.state context.new) }
         ensures positions { OnSome result (C.positions context.new ≡ C.positions context.old) };
 

@@ -4,9 +4,9 @@ ghost use Rattle.std.specs.Prelude.{◌≡◌, ◌⊎◌, ◌≤◌, length, OnO
 ghost use Rattle.archive_check.specs.Definitions.{listed};
 ghost use Rattle.archive_check.specs.Defined.{WellFormed};
 ghost use Rattle.archive_check.specs.Faults.{IsOfCheck};
-ghost use Rattle.archive_check.specs.FreshContexts.{HasLevels, KeepsLevels, IsWhole};
+ghost use Rattle.archive_check.specs.FreshContexts.{HasLevels, KeepsLevels};
 ghost use Rattle.archive_check.specs.Pushes.{FewPushed};
-ghost use Rattle.archive_check.specs.Archives.{IsArchiveWithin, IsRefusal, ExplainsNoArchive};
+ghost use Rattle.archive_check.specs.Contexts.{AcceptsIn, RefusesIn, IsExactIn};
 
 use super::values::check_one;
 use crate::context::ArchiveContext;
@@ -26,15 +26,12 @@ pub fn check_root<T: Portable, C: ArchiveContext>(
 ) -> Result<(), Error>
     requires { (C.state context.old).end ≤ length bytes.now }
     ensures accepted { IsTrue T.Check.direct
-        → OnOk result (IsWhole (C.state context.old) (C.positions context.old) bytes.now
-        → IsArchiveWithin T.definitions bytes.now (C.state context.old).depth pos T.shape) }
+        → AcceptsIn T.Portable C.Context context bytes.now pos result }
     ensures meaning { IsTrue T.Check.direct → WellFormed (listed T.definitions) T.shape }
     ensures refused { IsTrue T.Check.direct
-        → IfErr result (λ e. IsWhole (C.state context.old) (C.positions context.old) bytes.now
-        → IsRefusal T.definitions bytes.now (C.state context.old).depth pos T.shape e) }
+        → RefusesIn T.Portable C.Context context bytes.now pos result }
     ensures exact { IsTrue T.Check.direct
-        → IfErr result (λ e. IsWhole (C.state context.old) (C.positions context.old) bytes.now
-        → ExplainsNoArchive T.definitions bytes.now (C.state context.old).depth pos T.shape e) }
+        → IsExactIn T.Portable C.Context context bytes.now pos result }
     ensures of_check { IsTrue T.Check.direct → IfErr result (λ e. HasLevels (C.state context.old).depth → IsOfCheck e) }
     ensures direct { OnOk result (IsTrue T.Check.direct) }
     ensures levels { OnOk result (KeepsLevels (C.state context.old) (C.state context.new)) }

@@ -3,8 +3,8 @@
 ghost use Rattle.std.specs.Prelude.{◌≡◌, ◌≤◌, length, OnSome, IfNone, true};
 ghost use Rattle.archive_check.specs.Shape.{text, str, boxed};
 ghost use Rattle.archive_check.specs.Definitions.{no_definition};
-ghost use Rattle.archive_check.specs.SelfCheck.Ways.{Goes, Halts, enter_way, owned};
 ghost use Rattle.archive_check.specs.Pushes.{Spends};
+ghost use Rattle.archive_check.specs.SelfCheck.Steps.{Went, Stopped, text_at};
 
 use super::SelfCheck;
 use super::refusals::refuse;
@@ -25,10 +25,8 @@ fn check_text<C: ArchiveContext>(
     context: &mut C,
 ) -> Option<()>
     requires { (C.state context.old).end ≤ length bytes.now }
-    ensures through { OnSome result
-        (Goes no_definition (enter_way bytes.now (owned position text count)) (C.state context.old) (C.state context.new)) }
-    ensures stops { IfNone result (Halts no_definition (enter_way bytes.now (owned position text count))
-        (C.state context.old) refusal.new) }
+    ensures through { Went C.Context context no_definition (text_at bytes.now position count) result }
+    ensures stops { Stopped C.Context context no_definition (text_at bytes.now position count) result refusal }
     ensures spends { Spends 4 (C.state context.old) (C.state context.new) }
     ensures positions { OnSome result (C.positions context.new ≡ C.positions context.old) }
 {

@@ -3,8 +3,9 @@
 ghost use Rattle.std.specs.Prelude.{◌≡◌, ◌+◌, ◌≤◌, length, OnSome, IfNone, IsTrue};
 ghost use Rattle.archive_check.specs.Shape.{one, boxed};
 ghost use Rattle.archive_check.specs.plan.BoundedSizes.{fits};
-ghost use Rattle.archive_check.specs.SelfCheck.Ways.{Goes, Halts, shape_way, enter_way, owned};
+ghost use Rattle.archive_check.specs.SelfCheck.Ways.{shape_way};
 ghost use Rattle.archive_check.specs.Pushes.{Spends};
+ghost use Rattle.archive_check.specs.SelfCheck.Steps.{WentOver, StoppedIn, one_at};
 
 use super::SelfCheck;
 use super::regions::{enter, leave};
@@ -24,10 +25,8 @@ pub fn check_value<T: Portable, C: ArchiveContext>(
 ) -> Option<()>
     requires fits { at + T.layout.size ≤ length bytes.now }
     requires below { (C.state context.old).end ≤ length bytes.now }
-    ensures through { OnSome result
-        (Goes T.definitions (shape_way bytes.now at T.shape) (C.state context.old) (C.state context.new)) }
-    ensures stops { IsTrue T.Check.direct
-        → IfNone result (Halts T.definitions (shape_way bytes.now at T.shape) (C.state context.old) refusal.new) }
+    ensures through { WentOver C.Context context T.Portable (shape_way bytes.now at) result }
+    ensures stops { StoppedIn C.Context context T.Check.direct T.Portable (shape_way bytes.now at) result refusal }
     ensures spends { Spends T.layout.size (C.state context.old) (C.state context.new) }
     ensures positions { OnSome result (C.positions context.new ≡ C.positions context.old) }
 {
@@ -54,12 +53,8 @@ pub fn check_one<T: Portable, C: ArchiveContext>(
     context: &mut C,
 ) -> Option<()>
     requires below { (C.state context.old).end ≤ length bytes.now }
-    ensures through { OnSome result
-        (Goes T.definitions (enter_way bytes.now (owned position (one T.shape) 0)) (C.state context.old)
-        (C.state context.new)) }
-    ensures stops { IsTrue T.Check.direct
-        → IfNone result (Halts T.definitions (enter_way bytes.now (owned position (one T.shape) 0)) (C.state context.old)
-        refusal.new) }
+    ensures through { WentOver C.Context context T.Portable (one_at bytes.now position) result }
+    ensures stops { StoppedIn C.Context context T.Check.direct T.Portable (one_at bytes.now position) result refusal }
     ensures direct { OnSome result (IsTrue T.Check.direct) }
     ensures spends { Spends 4 (C.state context.old) (C.state context.new) }
     ensures positions { OnSome result (C.positions context.new ≡ C.positions context.old) }

@@ -3,8 +3,8 @@
 ghost use Rattle.std.specs.Prelude.{Bool, ◌&&◌, ◌≡◌, ◌+◌, ◌<◌, ◌≤◌, ℕ, length, max, OnSome, IfSome, IfNone, None, true, false, IsTrue};
 ghost use Rattle.archive_check.specs.Shape.{choice, Variants, no_variant, variant, variant_at};
 ghost use Rattle.archive_check.specs.Definitions.{Definitions, both, no_definition};
-ghost use Rattle.archive_check.specs.SelfCheck.Ways.{Goes, Halts, shape_way, VariantGoes, VariantHalts};
 ghost use Rattle.archive_check.specs.Pushes.{Spends};
+ghost use Rattle.archive_check.specs.SelfCheck.Steps.{Went, StoppedIf as Stops, VariantWent, VariantStops, choice_at};
 
 use super::parts::CheckedParts;
 use super::refusals::refuse;
@@ -40,11 +40,9 @@ pub trait CheckedVariants {
     ) -> Option<bool>
         requires fits { base + end ≤ length bytes.now }
         requires below { (C.state context.old).end ≤ length bytes.now }
-        ensures through { IfSome result (λ known. IsTrue known
-            → VariantGoes definitions bytes.now base variants tag (C.state context.old) (C.state context.new)) }
+        ensures through { VariantWent C.Context context definitions bytes.now base variants tag result }
         ensures unknown { IfSome result (λ known. known ≡ false → variant_at variants tag ≡ None) }
-        ensures stops { IsTrue direct → IfNone result
-            (VariantHalts definitions bytes.now base variants tag (C.state context.old) refusal.new) }
+        ensures stops { IsTrue direct → VariantStops C.Context context definitions bytes.now base variants tag result refusal }
         ensures spends { Spends end (C.state context.old) (C.state context.new) }
         ensures positions { OnSome result (C.positions context.new ≡ C.positions context.old) };
 }
@@ -116,12 +114,8 @@ pub fn check_choice<V: CheckedVariants, C: ArchiveContext>(
     requires tag { at < length bytes.now }
     requires fits { at + V.end ≤ length bytes.now }
     requires below { (C.state context.old).end ≤ length bytes.now }
-    ensures through { OnSome result
-        (Goes V.definitions (shape_way bytes.now at (choice name.now V.variants)) (C.state context.old)
-        (C.state context.new)) }
-    ensures stops { IsTrue V.direct
-        → IfNone result (Halts V.definitions (shape_way bytes.now at (choice name.now V.variants)) (C.state context.old)
-        refusal.new) }
+    ensures through { Went C.Context context V.definitions (choice_at bytes.now at name V.variants) result }
+    ensures stops { Stops C.Context context V.direct V.definitions (choice_at bytes.now at name V.variants) result refusal }
     ensures spends { Spends V.end (C.state context.old) (C.state context.new) }
     ensures positions { OnSome result (C.positions context.new ≡ C.positions context.old) }
 {

@@ -2,16 +2,16 @@
 
 ghost use Rattle.std.specs.Prelude.{◌≡◌, ◌≤◌, length, IsTrue, IsOk, IfSome, IfNone, IfOk, OnOk, IfErr};
 ghost use Rattle.std.proofs.Props.{props};
-ghost use Rattle.archive_check.specs.Archives.{IsArchive, Answers, root_in, ReadsWhole, RefusesWhole, RefusesAsCheck};
+ghost use Rattle.archive_check.specs.Archives.{Answers, root_in};
 ghost use Rattle.archive_check.specs.Defined.{WellFormed};
 ghost use Rattle.archive_check.specs.Definitions.{listed};
 ghost use Rattle.archive_check.specs.Faults.{IsOfCheck};
-ghost use Rattle.archive_check.specs.FreshContexts.{HasLevels, KeepsLevels, IsWhole};
+ghost use Rattle.archive_check.specs.FreshContexts.{HasLevels, KeepsLevels};
 ghost use Rattle.archive_check.specs.OneSchema.{IsSchemaOf-prop};
 ghost use Rattle.archive_check.specs.Pushes.{FewPushed};
 ghost use Rattle.archive_check.specs.Schemas.{IsSchemaOf, ExplainsNoSchema};
-ghost use Rattle.archive_check.specs.Unshared.{IsNeverOpen};
 ghost use Rattle.archive_core.specs.ArchivesOf.{IsArchiveIn, ReadsArchive, RefusesArchive, AsCheckIfNeverOpen};
+ghost use Rattle.archive_check.specs.Contexts.{AnswersIn};
 
 use crate::traits::{Archive, Deserialize, Entries, Portable};
 use crate::view::{RawView, Ref};
@@ -66,8 +66,7 @@ impl<T: Portable> Access<T> {
         context: &mut C,
     ) -> Result<(), Error>
         requires { (C.state context.old).end ≤ length bytes.now }
-        ensures answer { IsWhole (C.state context.old) (C.positions context.old) bytes.now
-            → Answers T.definitions bytes.now (C.state context.old).depth pos T.shape result }
+        ensures answer { AnswersIn T.Portable C.Context context bytes.now pos result }
         ensures of_check { IfErr result (λ e. HasLevels (C.state context.old).depth → IsOfCheck e) }
         ensures levels { OnOk result (KeepsLevels (C.state context.old) (C.state context.new)) }
         ensures few_subtrees { FewPushed (C.state context.old) (C.state context.new) }

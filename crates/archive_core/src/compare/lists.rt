@@ -2,11 +2,10 @@
 
 ghost use Rattle.std.specs.Prelude.{◌≡◌, ◌+◌, ◌*◌, ◌<◌, fold};
 ghost use Rattle.std.specs.Hash as fed;
-ghost use Rattle.archive_check.specs.Shape.{one, run};
-ghost use Rattle.archive_check.specs.Viewed.{Viewed};
-ghost use Rattle.archive_core.specs.Compared.{standing, elements, slices, slices_total, slices_fed};
+ghost use Rattle.archive_check.specs.Shape.{one};
+ghost use Rattle.archive_core.specs.Compared.{elements, slices, slices_total, slices_fed};
 ghost use Rattle.archive_core.specs.OrderedParts.{as_pointee, slices_ordered};
-ghost use Rattle.archive_core.specs.Seen.{shown};
+ghost use Rattle.archive_core.specs.Seen.{shown, element_shown};
 
 use super::Ordered;
 use crate::slice::ArchivedSlice;
@@ -65,7 +64,7 @@ fn compare_at<T: Portable + Ordered>(
     index: usize,
 ) -> Ordering
     requires both { (index < a.len) × (index < b.len) }
-    ensures { result ≡ T.order (standing a.entry.bytes.now (a.entry.pos + index * T.layout.size) 0) (standing b.entry.bytes.now (b.entry.pos + index * T.layout.size) 0) }
+    ensures { result ≡ T.order (element_shown T.layout.size index a.entry) (element_shown T.layout.size index b.entry) }
 {
     T::compare(a.index(index).part(), b.index(index).part())
 }

@@ -6,11 +6,11 @@ ghost use Rattle.std.specs.Ordering.{is_eq};
 ghost use Rattle.archive_check.specs.Definitions.{both};
 ghost use Rattle.archive_check.specs.Shape.{one, vec};
 ghost use Rattle.archive_check.specs.Value.{list};
-ghost use Rattle.archive_core.specs.Compared.{standing, elements, slice_of, value_of, option_order, result_in, result_order};
+ghost use Rattle.archive_core.specs.Compared.{elements, value_of, option_order, result_order};
 ghost use Rattle.archive_core.specs.Options.{option_meaning};
 ghost use Rattle.archive_core.specs.Results.{result_meaning};
 ghost use Rattle.archive_core.specs.Runs.{each_meaning};
-ghost use Rattle.archive_core.specs.Seen.{shown, ViewComparesTo, ViewEquals};
+ghost use Rattle.archive_core.specs.Seen.{shown, ViewComparesTo, ViewEquals, elements_shown, elements_in, element_shown, result_native};
 
 use super::CompareNative;
 use crate::option::ArchivedOption;
@@ -26,7 +26,7 @@ impl<'a, T: Portable> Ref<'a, ArchivedSlice<T>> {
     pub fn cmp_slice<U: Archive>(self, values: &[U]) -> Ordering
     where
         T: CompareNative<U>,
-        ensures order { result ≡ slice_cmp T.native_order (elements T.layout.size (shown self.entry)) values.now }
+        ensures order { result ≡ slice_cmp T.native_order (elements_shown T.layout.size self.entry) values.now }
         ensures by_value { ViewComparesTo self.entry (list (each_meaning U.meaning values.now)) result }
     {
         compare_slice(self, values)
@@ -37,7 +37,7 @@ impl<'a, T: Portable> Ref<'a, ArchivedSlice<T>> {
     pub fn eq_slice<U: Archive>(self, values: &[U]) -> bool
     where
         T: CompareNative<U>,
-        ensures order { result ≡ is_eq (slice_cmp T.native_order (elements T.layout.size (shown self.entry)) values.now) }
+        ensures order { result ≡ is_eq (slice_cmp T.native_order (elements_shown T.layout.size self.entry) values.now) }
         ensures by_value { ViewEquals self.entry (list (each_meaning U.meaning values.now)) result }
     {
         self.cmp_slice(values).is_eq()
@@ -49,7 +49,7 @@ impl<'a, T: Portable> Ref<'a, ArchivedVec<T>> {
     pub fn cmp_slice<U: Archive>(self, values: &[U]) -> Ordering
     where
         T: CompareNative<U>,
-        ensures order { result ≡ slice_cmp T.native_order (elements T.layout.size (slice_of (shown self.entry))) values.now }
+        ensures order { result ≡ slice_cmp T.native_order (elements_in T.layout.size self.entry) values.now }
         ensures by_value { ViewComparesTo self.entry (list (each_meaning U.meaning values.now)) result }
     {
         self.as_slice().cmp_slice(values)
@@ -60,7 +60,7 @@ impl<'a, T: Portable> Ref<'a, ArchivedVec<T>> {
     pub fn eq_slice<U: Archive>(self, values: &[U]) -> bool
     where
         T: CompareNative<U>,
-        ensures order { result ≡ is_eq (slice_cmp T.native_order (elements T.layout.size (slice_of (shown self.entry))) values.now) }
+        ensures order { result ≡ is_eq (slice_cmp T.native_order (elements_in T.layout.size self.entry) values.now) }
         ensures by_value { ViewEquals self.entry (list (each_meaning U.meaning values.now)) result }
     {
         self.cmp_slice(values).is_eq()
@@ -96,7 +96,7 @@ impl<'a, T: Portable, E: Portable> Ref<'a, ArchivedResult<T, E>> {
     where
         T: CompareNative<U>,
         E: CompareNative<W>,
-        ensures order { result ≡ is_eq (result_order T.native_order E.native_order (result_in T.layout.align E.layout.align (shown self.entry)) result_of.now) }
+        ensures order { result ≡ is_eq (result_native T.native_order E.native_order T.layout E.layout self.entry result_of.now) }
         ensures by_value { ViewEquals self.entry (result_meaning U.meaning W.meaning result_of.now) result }
     {
         is_result(self, result_of)
@@ -110,7 +110,7 @@ fn compare_native_at<U: Archive, T: Portable + CompareNative<U>>(
     value: &U,
 ) -> Ordering
     requires { index < view.len }
-    ensures { result ≡ T.native_order (standing view.entry.bytes.now (view.entry.pos + index * T.layout.size) 0) value.now }
+    ensures { result ≡ T.native_order (element_shown T.layout.size index view.entry) value.now }
 {
     T::compare_native(view.index(index).part(), value)
 }
@@ -120,7 +120,7 @@ fn compare_slice<U: Archive, T: Portable + CompareNative<U>>(
     view: Ref<'_, ArchivedSlice<T>>,
     values: &[U],
 ) -> Ordering
-    ensures { result ≡ slice_cmp T.native_order (elements T.layout.size (standing view.entry.bytes.now view.entry.pos view.entry.len)) values.now }
+    ensures { result ≡ slice_cmp T.native_order (elements_shown T.layout.size view.entry) values.now }
 {
     for index in 0..view.len() {
         if index >= values.len() {
@@ -139,7 +139,7 @@ fn compare_option<U: Archive, T: Portable + CompareNative<U>>(
     view: Ref<'_, ArchivedOption<T>>,
     option: &Option<U>,
 ) -> Ordering
-    ensures { result ≡ option_order T.native_order (value_of T.layout.align (standing view.entry.bytes.now view.entry.pos view.entry.len)) option.now }
+    ensures { result ≡ option_order T.native_order (value_of T.layout.align (shown view.entry)) option.now }
 {
     match (view.as_ref(), option) {
         (None, None) => Ordering::Equal,
@@ -156,7 +156,7 @@ fn is_result<
     T: Portable + CompareNative<U>,
     E: Portable + CompareNative<W>,
 >(view: Ref<'_, ArchivedResult<T, E>>, result_of: &Result<U, W>) -> bool
-    ensures { result ≡ is_eq (result_order T.native_order E.native_order (result_in T.layout.align E.layout.align (standing view.entry.bytes.now view.entry.pos view.entry.len)) result_of.now) }
+    ensures { result ≡ is_eq (result_native T.native_order E.native_order T.layout E.layout view.entry result_of.now) }
 {
     match (view.as_ref(), result_of) {
         (Ok(view), Ok(value)) => T::compare_native(view.part(), value).is_eq(),

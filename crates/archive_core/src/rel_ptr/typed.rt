@@ -9,12 +9,12 @@ ghost use Rattle.archive_check.specs.Definitions.{no_definition};
 ghost use Rattle.archive_check.specs.Expressions.{shape_of};
 ghost use Rattle.archive_check.specs.LeafLayout.{no_definition_reached};
 ghost use Rattle.archive_check.specs.LittleEndian.{little_bytes};
-ghost use Rattle.archive_check.specs.Reads.{u32_at};
 ghost use Rattle.archive_check.specs.declared.format.error.Error.TheVariants.{OutOfMemory, OffsetOverflow};
-ghost use Rattle.archive_core.specs.Offsets.{distance, Fits, IsBeyond, offset_at};
-ghost use Rattle.archive_core.specs.OffsetsWritten.{RelWritten, RelPut};
-ghost use Rattle.archive_core.specs.RelativePointers.{rel_parts, length_begin, rel_layout, written_at, rel_bytes};
+ghost use Rattle.archive_core.specs.Offsets.{distance, offset_at};
+ghost use Rattle.archive_core.specs.OffsetsWritten.{RelWritten, RelPut, InvalidPut};
+ghost use Rattle.archive_core.specs.RelativePointers.{rel_parts, length_begin, rel_layout, written_at};
 ghost use Rattle.archive_core.specs.RelativeLayout.{rel_align, rel_has_layout};
+ghost use Rattle.archive_core.specs.LengthsSeen.{length_of};
 
 use super::offset::{Offset, OffsetNumber};
 use super::raw::{raw_kind, read_offset, write_offset};
@@ -222,8 +222,7 @@ where
         place: Place<'_, RelPtr<T, O>>,
     ) -> Result<(), Error>
         requires { length place.bytes.now ≡ (rel_layout O.Number.width T.ArchivedMetadata.is_length).size }
-        ensures { RelPut O.Number.sign O.Number.width T.ArchivedMetadata.is_length
-            (T.ArchivedMetadata.count metadata) to place result }
+        ensures { RelPut O.Number.sign O.Number.width T.ArchivedMetadata.is_length (T.ArchivedMetadata.count metadata) to place result }
     {
         let Place { bytes, pos, .. } = place;
         let distance = signed_offset(pos, to)?;
@@ -234,7 +233,7 @@ where
     /// as the pointer has. It is never refused.
     pub fn try_emplace_invalid(place: Place<'_, RelPtr<T, O>>) -> Result<(), Error>
         requires { length place.bytes.now ≡ (rel_layout O.Number.width T.ArchivedMetadata.is_length).size }
-        ensures written { place.exit.0.now ≡ rel_bytes O.Number.width T.ArchivedMetadata.is_length (pos 1) 0 place.entry.bytes.now }
+        ensures written { InvalidPut O.Number.width T.ArchivedMetadata.is_length place }
         ensures succeeds { IsOk result }
     {
         let Place { bytes, .. } = place;
@@ -275,7 +274,7 @@ where
 
     /// What stands behind the offset: nothing, or a length.
     pub fn metadata(self) -> T::ArchivedMetadata
-        ensures { T.ArchivedMetadata.is_length ≡ true → T.ArchivedMetadata.count result ≡ u32_at self.entry.bytes.now (self.entry.pos + length_begin O.Number.width) }
+        ensures { T.ArchivedMetadata.is_length ≡ true → T.ArchivedMetadata.count result ≡ length_of O.Number.width self.entry }
     {
         if !T::ArchivedMetadata::is_length() {
             return T::ArchivedMetadata::from_length(0);

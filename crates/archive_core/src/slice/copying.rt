@@ -2,9 +2,11 @@
 
 ghost use Rattle.std.specs.Prelude.{◌≡◌, ◌+◌, ◌*◌, ◌++◌, ◌<◌, ◌≤◌, IfOk, OnOk, IfErr, IsOk, IsErrOf, IsTrue, length};
 ghost use Rattle.archive_check.specs.WriterState.{KeepsKeys};
-ghost use Rattle.archive_core.specs.Copies.{each_bytes, EachCopied, copies_from, copies_to, behind_zeros, IsUnwritten, IsCopyRefused, TakesCopy};
+ghost use Rattle.archive_core.specs.Copies.{each_bytes, copies_from};
 ghost use Rattle.archive_core.specs.Sources.{CopiesStored, CopiesUnstored};
-ghost use Rattle.archive_write.specs.Written.{GoesOn, ExplainsRefusal};
+ghost use Rattle.archive_write.specs.Written.{GoesOn};
+ghost use Rattle.archive_core.specs.CopiesWritten.{AllCopied, PiecesUnwritten, CopyRefused, CopiesRefused, Takes, AddedAligned};
+ghost use Rattle.archive_core.specs.Placed.{BytesAdded, WriteRefused};
 
 use crate::ser::run_fits;
 use crate::traits::{Copied, Keys};
@@ -22,11 +24,10 @@ fn write_piece<W: Writer, T: Copied>(
     writer: &mut W,
 ) -> Result<(), Error>
     requires sized { length bytes.old ≡ length values.now * T.CopiedAs.layout.size }
-    ensures copied { OnOk result ((W.state writer.new).bytes ≡ (W.state writer.old).bytes ++ each_bytes T.copied_bytes values.now) }
-    ensures read { EachCopied T.CopiedAs.definitions T.CopiedAs.shape T.CopiedAs.layout.size T.copied_meaning T.copied_bytes values.now }
+    ensures copied { OnOk result (BytesAdded (each_bytes T.copied_bytes values.now) W.Keys writer) }
+    ensures read { AllCopied T.CopiedAs.Portable T.CopiedAs.layout.size T.copied_meaning T.copied_bytes values.now }
     ensures goes_on { GoesOn (W.state writer.old) (W.state writer.new) }
-    ensures refused { IfErr result (ExplainsRefusal (length values.now * T.CopiedAs.layout.size) (W.place writer.old) (W.state writer.old).room
-        (W.state writer.old).failures (W.state writer.new).failures) }
+    ensures refused { IfErr result (WriteRefused (length values.now * T.CopiedAs.layout.size) W.place W.Keys writer) }
     ensures memory { IsErrOf result Error.OutOfMemory → IsTrue W.takes_memory }
     ensures keys { KeepsKeys (W.state writer.old).states (W.state writer.new).states }
 {
@@ -56,9 +57,9 @@ fn count_at_once(size: usize, count: usize) -> usize
 fn copy_pieces<W: Writer, T: Copied>(values: &[T], size: usize, writer: &mut W) -> Result<(), Error>
     requires same { size ≡ T.CopiedAs.layout.size }
     requires small { size ≤ 1024 }
-    ensures copied { OnOk result ((W.state writer.new).bytes ≡ (W.state writer.old).bytes ++ each_bytes T.copied_bytes values.now) }
-    ensures read { OnOk result (EachCopied T.CopiedAs.definitions T.CopiedAs.shape size T.copied_meaning T.copied_bytes values.now) }
-    ensures refused { IfErr result (IsUnwritten (W.place writer.old + length values.now * size) (W.state writer.old) (W.state writer.new)) }
+    ensures copied { OnOk result (BytesAdded (each_bytes T.copied_bytes values.now) W.Keys writer) }
+    ensures read { OnOk result (AllCopied T.CopiedAs.Portable size T.copied_meaning T.copied_bytes values.now) }
+    ensures refused { IfErr result (PiecesUnwritten W.place W.Keys writer (length values.now * size)) }
     ensures memory { IsErrOf result Error.OutOfMemory → IsTrue W.takes_memory }
     ensures goes_on { GoesOn (W.state writer.old) (W.state writer.new) }
     ensures keys { KeepsKeys (W.state writer.old).states (W.state writer.new).states }
@@ -82,10 +83,10 @@ fn copy_aligned<W: Writer, T: Copied>(
 ) -> Result<usize, Error>
     requires same { size ≡ T.CopiedAs.layout.size }
     requires small { size ≤ 1024 }
-    ensures copied { OnOk result ((W.state writer.new).bytes ≡ (W.state writer.old).bytes ++ each_bytes T.copied_bytes values.now) }
-    ensures read { OnOk result (EachCopied T.CopiedAs.definitions T.CopiedAs.shape size T.copied_meaning T.copied_bytes values.now) }
+    ensures copied { OnOk result (BytesAdded (each_bytes T.copied_bytes values.now) W.Keys writer) }
+    ensures read { OnOk result (AllCopied T.CopiedAs.Portable size T.copied_meaning T.copied_bytes values.now) }
     ensures position { IfOk result (λ p. p ≡ W.place writer.old) }
-    ensures refused { IfErr result (IsCopyRefused (W.place writer.old + length values.now * size) (W.state writer.old) (W.state writer.new)) }
+    ensures refused { IfErr result (CopyRefused W.place W.Keys writer (length values.now * size)) }
     ensures memory { IsErrOf result Error.OutOfMemory → IsTrue W.takes_memory }
     ensures goes_on { GoesOn (W.state writer.old) (W.state writer.new) }
     ensures keys { KeepsKeys (W.state writer.old).states (W.state writer.new).states }
@@ -108,13 +109,13 @@ pub fn copy_slice<S: Writer + Keys, T: Copied>(
     serializer: &mut S,
 ) -> Result<usize, Error>
     ensures serialized { IfOk result (CopiesStored T.Copied T.CopiedAs.Portable values.now S.Keys serializer) }
-    ensures copied { OnOk result ((S.state serializer.new).bytes ≡ behind_zeros T.CopiedAs.layout (S.state serializer.old).bytes (each_bytes T.copied_bytes values.now)) }
+    ensures copied { OnOk result (AddedAligned T.CopiedAs.layout (each_bytes T.copied_bytes values.now) S.Keys serializer) }
     ensures position { IfOk result (λ p. p ≡ copies_from T.CopiedAs.layout (S.place serializer.old)) }
     ensures goes_on { GoesOn (S.state serializer.old) (S.state serializer.new) }
     ensures refused { IfErr result (CopiesUnstored T.Copied T.CopiedAs.Portable values.now S.Keys serializer) }
-    ensures cause { IfErr result (IsCopyRefused (copies_to T.CopiedAs.layout (length values.now) (S.place serializer.old)) (S.state serializer.old) (S.state serializer.new)) }
+    ensures cause { IfErr result (CopiesRefused S.place S.Keys serializer T.CopiedAs.layout (length values.now)) }
     ensures memory { IsErrOf result Error.OutOfMemory → IsTrue S.takes_memory }
-    ensures succeeds { TakesCopy (IsTrue S.takes_memory) (copies_to T.CopiedAs.layout (length values.now) (S.place serializer.old)) (S.state serializer.old) (S.state serializer.new) → IsOk result }
+    ensures succeeds { Takes S.place S.Keys serializer S.takes_memory T.CopiedAs.layout (length values.now) → IsOk result }
 {
     let size = T::copied_size();
     serializer.align_for::<T::CopiedAs>()?;

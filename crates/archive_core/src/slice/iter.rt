@@ -5,6 +5,7 @@ ghost use Rattle.std.specs.Iterator.{YieldsFirstBy, YieldsLastBy, item_count};
 ghost use Rattle.archive_check.specs.Shape.{run};
 ghost use Rattle.archive_check.specs.Viewed.{Viewed};
 ghost use Rattle.archive_core.specs.Views.{spots};
+ghost use Rattle.archive_core.specs.Seen.{spots_between, spots_shown};
 
 use super::ArchivedSlice;
 use crate::traits::Portable;
@@ -27,7 +28,7 @@ pub struct Iter<'a, T: Portable> {
 impl<'a, T: Portable> Ref<'a, ArchivedSlice<T>> {
     /// Views of the elements, in order and from either end. As in rkyv 0.8.18.
     pub fn iter(self) -> Iter<'a, T>
-        ensures { spots result.slice.bytes.now result.slice.pos T.layout.size result.front (result.back - result.front) ≡ spots self.entry.bytes.now self.entry.pos T.layout.size 0 self.entry.len }
+        ensures { spots_between result.slice T.layout.size result.front result.back ≡ spots_shown T.layout.size self.entry }
     {
         Iter {
             slice: self.part(),

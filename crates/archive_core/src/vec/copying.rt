@@ -1,14 +1,12 @@
 // Vectors of values that are copied.
 
 ghost use Rattle.std.specs.Prelude.{◌≡◌, ◌<◌, ◌≤◌, IfOk, OnOk, IfErr, IsOk, IsErrOf, IsTrue, length};
-ghost use Rattle.archive_check.specs.Shape.{vec as vec_shape, run};
-ghost use Rattle.archive_check.specs.Value.{list, hole};
 ghost use Rattle.archive_check.specs.declared.format.error.Error.TheVariants.{LengthTooLarge};
-ghost use Rattle.archive_core.specs.Copies.{each_bytes, copies_from, copies_to, behind_zeros, AreCopiesRefused, TakesCopy};
-ghost use Rattle.archive_core.specs.Plans.{Serialized};
-ghost use Rattle.archive_core.specs.Runs.{each_keys, each_meaning};
-ghost use Rattle.archive_core.specs.Writing.{to_pointee};
+ghost use Rattle.archive_core.specs.Copies.{each_bytes, copies_from};
 ghost use Rattle.archive_write.specs.Written.{GoesOn};
+ghost use Rattle.archive_core.specs.CopiesWritten.{AddedAligned, ElementsRefused, CopiesSucceed};
+ghost use Rattle.archive_core.specs.KindsWritten.{VecSerialized};
+ghost use Rattle.archive_core.specs.Placed.{AtOnce};
 
 use super::{ArchivedVec, VecResolver};
 use crate::slice::copy_slice;
@@ -26,17 +24,15 @@ impl<T: Portable> ArchivedVec<T> {
         value: &[U],
         serializer: &mut S,
     ) -> Result<VecResolver, Error>
-        ensures serialized { IfOk result (λ r. Serialized T.definitions (vec_shape T.shape) (each_keys U.copied_keys value.now) (list (each_meaning U.copied_meaning value.now))
-            (hole (to_pointee r (run T.shape) (length value.now))) (S.state serializer.old) (S.state serializer.new)) }
-        ensures copied { OnOk result ((S.state serializer.new).bytes ≡ behind_zeros T.layout (S.state serializer.old).bytes (each_bytes U.copied_bytes value.now)) }
+        ensures serialized { IfOk result (VecSerialized U.copied_keys U.copied_meaning T.Portable value.now S.Keys serializer) }
+        ensures copied { OnOk result (AddedAligned T.layout (each_bytes U.copied_bytes value.now) S.Keys serializer) }
         ensures position { IfOk result (λ r. r ≡ copies_from T.layout (S.place serializer.old)) }
         ensures held { OnOk result (length value.now ≤ 4294967295) }
         ensures goes_on { GoesOn (S.state serializer.old) (S.state serializer.new) }
-        ensures refused { IfErr result (AreCopiesRefused T.layout (length value.now) (S.place serializer.old) (S.state serializer.old) (S.state serializer.new)) }
-        ensures too_long { 4294967295 < length value.now → IsErrOf result LengthTooLarge × (S.state serializer.new ≡ S.state serializer.old) }
+        ensures refused { IfErr result (ElementsRefused S.place S.Keys serializer T.layout (length value.now)) }
+        ensures too_long { 4294967295 < length value.now → AtOnce result LengthTooLarge S.Keys serializer }
         ensures memory { IsErrOf result Error.OutOfMemory → IsTrue S.takes_memory }
-        ensures succeeds { TakesCopy (IsTrue S.takes_memory) (copies_to T.layout (length value.now) (S.place serializer.old)) (S.state serializer.old) (S.state serializer.new)
-            → length value.now ≤ 4294967295 → copies_from T.layout (S.place serializer.old) ≤ 4294967295 → IsOk result }
+        ensures succeeds { CopiesSucceed S.place S.Keys serializer S.takes_memory T.layout (length value.now) result }
     {
         if value.len() > u32::MAX as usize {
             return Err(Error::LengthTooLarge);

@@ -4,7 +4,7 @@ ghost use Rattle.std.specs.Prelude.{◌≡◌, ◌+◌, ◌-◌, ◌≤◌, ◌+
 ghost use Rattle.std.proofs.Common.{sym};
 ghost use Rattle.std.proofs.lemmas.List.{length-take-le};
 ghost use Rattle.archive_check.specs.WriterState.{KeepsKeys, no_keys};
-ghost use Rattle.archive_write.specs.Written.{IsBeginning, RoomFalls, ExplainsRefusal};
+ghost use Rattle.archive_write.specs.Writes.{KeepsHeld, HoldsMore, SpendsRest, ExplainsFull, IsOverflow};
 
 use crate::ser::{Positional, Writer};
 use archive_check::format::error::Error;
@@ -65,15 +65,15 @@ impl<'a> Writer for Buffer<'a> {
     ghost place_law = { λ b. sym (length-take-le b.len b.bytes.now b.in_bounds) };
 
     fn write(&mut self, bytes: &[u8]) -> Result<(), Error>
-        ensures written { OnOk result (take self.new.len self.new.bytes.now ≡ take self.old.len self.old.bytes.now ++ bytes.now) }
-        ensures kept { OnErr result (IsBeginning (take self.old.len self.old.bytes.now) (take self.new.len self.new.bytes.now)) }
-        ensures room { RoomFalls (Some (length self.old.bytes.now - self.old.len)) (Some (length self.new.bytes.now - self.new.len)) (take self.old.len self.old.bytes.now) (take self.new.len self.new.bytes.now) }
-        ensures refusal { IfErr result (ExplainsRefusal (length bytes.now) self.old.len (Some (length self.old.bytes.now - self.old.len)) 0 0) }
+        ensures written { OnOk result (HoldsMore self.old.len self.old.bytes.now self.new.len self.new.bytes.now bytes.now) }
+        ensures kept { OnErr result (KeepsHeld self.old.len self.old.bytes.now self.new.len self.new.bytes.now) }
+        ensures room { SpendsRest self.old.len self.old.bytes.now self.new.len self.new.bytes.now }
+        ensures refusal { IfErr result (ExplainsFull bytes.now self.old.len self.old.bytes.now) }
         ensures device { 0 ≤ 0 }
         ensures keys { KeepsKeys no_keys no_keys }
         ensures memory { IsErrOf result Error.OutOfMemory → IsTrue false }
         ensures fits { IsOk result ↔ (self.old.len + length bytes.now ≤ length self.old.bytes.now) }
-        ensures overflow { IfErr result (λ e. e ≡ Error.BufferOverflow (length bytes.now) (length self.old.bytes.now) self.old.len) }
+        ensures overflow { IfErr result (IsOverflow bytes.now self.old.len self.old.bytes.now) }
         ensures unchanged { OnErr result ((self.new.bytes.now ≡ self.old.bytes.now) × (self.new.len ≡ self.old.len)) }
         ensures beyond { drop self.new.len self.new.bytes.now ≡ drop self.new.len self.old.bytes.now }
         ensures same_reference { self.new.bytes.ghost_name ≡ self.old.bytes.ghost_name }

@@ -2,7 +2,8 @@
 
 ghost use Rattle.std.specs.Prelude.{◌≡◌, ◌++◌, ◌<◌, ◌≤◌, OnOk, OnErr, IfOk, IfErr, IsErrOf, IsTrue, replicate};
 ghost use Rattle.archive_check.specs.WriterState.{KeepsKeys, Pads};
-ghost use Rattle.archive_write.specs.Written.{IsBeginning, RoomFalls, ExplainsRefusal, padding};
+ghost use Rattle.archive_write.specs.Written.{IsBeginning, padding};
+ghost use Rattle.archive_write.specs.Writes.{SpendsRoom, ExplainsWrite, ExplainsPadding, Padded};
 
 use crate::ser::Writer;
 use archive_check::format::error::Error;
@@ -28,8 +29,8 @@ pub trait WriterExt: Writer {
         requires { n < 32 }
         ensures written { OnOk result ((Self.state self.new).bytes ≡ (Self.state self.old).bytes ++ replicate n 0) }
         ensures kept { OnErr result (IsBeginning (Self.state self.old).bytes (Self.state self.new).bytes) }
-        ensures room { RoomFalls (Self.state self.old).room (Self.state self.new).room (Self.state self.old).bytes (Self.state self.new).bytes }
-        ensures refusal { IfErr result (ExplainsRefusal n (Self.place self.old) (Self.state self.old).room (Self.state self.old).failures (Self.state self.new).failures) }
+        ensures room { SpendsRoom Self.state self }
+        ensures refusal { IfErr result (ExplainsWrite Self.state self Self.place n) }
         ensures device { (Self.state self.old).failures ≤ (Self.state self.new).failures }
         ensures keys { KeepsKeys (Self.state self.old).states (Self.state self.new).states }
         ensures memory { IsErrOf result Error.OutOfMemory → IsTrue Self.takes_memory }
@@ -46,10 +47,10 @@ pub trait WriterExt: Writer {
         requires low { 0 < align }
         requires high { align ≤ 32 }
         ensures position { IfOk result (λ p. p ≡ Self.place self.new) }
-        ensures written { OnOk result ((Self.state self.new).bytes ≡ (Self.state self.old).bytes ++ replicate (padding align (Self.place self.old)) 0) }
+        ensures written { OnOk result (Padded Self.state self Self.place align) }
         ensures kept { OnErr result (IsBeginning (Self.state self.old).bytes (Self.state self.new).bytes) }
-        ensures room { RoomFalls (Self.state self.old).room (Self.state self.new).room (Self.state self.old).bytes (Self.state self.new).bytes }
-        ensures refusal { IfErr result (ExplainsRefusal (padding align (Self.place self.old)) (Self.place self.old) (Self.state self.old).room (Self.state self.old).failures (Self.state self.new).failures) }
+        ensures room { SpendsRoom Self.state self }
+        ensures refusal { IfErr result (ExplainsPadding Self.state self Self.place align) }
         ensures device { (Self.state self.old).failures ≤ (Self.state self.new).failures }
         ensures keys { KeepsKeys (Self.state self.old).states (Self.state self.new).states }
         ensures memory { IsErrOf result Error.OutOfMemory → IsTrue Self.takes_memory }
@@ -65,10 +66,10 @@ pub trait WriterExt: Writer {
         Self: Sized,
         ensures position { IfOk result (λ p. p ≡ Self.place self.new) }
         ensures padded { OnOk result (Pads T.layout.align (Self.state self.old) (Self.state self.new)) }
-        ensures written { OnOk result ((Self.state self.new).bytes ≡ (Self.state self.old).bytes ++ replicate (padding T.layout.align (Self.place self.old)) 0) }
+        ensures written { OnOk result (Padded Self.state self Self.place T.layout.align) }
         ensures kept { OnErr result (IsBeginning (Self.state self.old).bytes (Self.state self.new).bytes) }
-        ensures room { RoomFalls (Self.state self.old).room (Self.state self.new).room (Self.state self.old).bytes (Self.state self.new).bytes }
-        ensures refusal { IfErr result (ExplainsRefusal (padding T.layout.align (Self.place self.old)) (Self.place self.old) (Self.state self.old).room (Self.state self.old).failures (Self.state self.new).failures) }
+        ensures room { SpendsRoom Self.state self }
+        ensures refusal { IfErr result (ExplainsPadding Self.state self Self.place T.layout.align) }
         ensures device { (Self.state self.old).failures ≤ (Self.state self.new).failures }
         ensures keys { KeepsKeys (Self.state self.old).states (Self.state self.new).states }
         ensures memory { IsErrOf result Error.OutOfMemory → IsTrue Self.takes_memory }

@@ -3,6 +3,7 @@
 ghost use Rattle.std.specs.Prelude.{◌≡◌, ◌++◌, ◌≤◌, ℕ, Bool, true, IsTrue, None, length, OnOk, OnErr, IfErr, IsErrOf, refl};
 ghost use Rattle.archive_check.specs.WriterState.{KeepsKeys, no_keys};
 ghost use Rattle.archive_write.specs.Written.{IsBeginning, RoomFalls, ExplainsRefusal};
+ghost use Rattle.archive_write.specs.Writes.{SpendsRoom, ExplainsWrite};
 
 use archive_check::format::error::Error;
 use archive_check::format::traits::Keys;
@@ -29,8 +30,8 @@ pub trait Writer: Positional + Keys {
     fn write(&mut self, bytes: &[u8]) -> Result<(), Error>
         ensures written { OnOk result ((Self.state self.new).bytes ≡ (Self.state self.old).bytes ++ bytes.now) }
         ensures kept { OnErr result (IsBeginning (Self.state self.old).bytes (Self.state self.new).bytes) }
-        ensures room { RoomFalls (Self.state self.old).room (Self.state self.new).room (Self.state self.old).bytes (Self.state self.new).bytes }
-        ensures refusal { IfErr result (ExplainsRefusal (length bytes.now) (Self.place self.old) (Self.state self.old).room (Self.state self.old).failures (Self.state self.new).failures) }
+        ensures room { SpendsRoom Self.state self }
+        ensures refusal { IfErr result (ExplainsWrite Self.state self Self.place (length bytes.now)) }
         ensures device { (Self.state self.old).failures ≤ (Self.state self.new).failures }
         ensures keys { KeepsKeys (Self.state self.old).states (Self.state self.new).states }
         ensures memory { IsErrOf result Error.OutOfMemory → IsTrue takes_memory };

@@ -4,10 +4,11 @@ ghost use Rattle.std.specs.Prelude.{◌≡◌, ℕ, ◌+◌, ◌≤◌, max, min
 ghost use Rattle.archive_check.specs.Shape.{parts, no_part, part};
 ghost use Rattle.archive_check.specs.Layout.{up};
 ghost use Rattle.archive_check.specs.Expressions.{shape_of, shapes_in, table_of};
-ghost use Rattle.archive_check.specs.Definitions.{both, IsAlign, NoOthers, Extended, ExplainsConflict, named_record};
+ghost use Rattle.archive_check.specs.Definitions.{IsAlign, NoOthers, Extended, ExplainsConflict, named_record};
 ghost use Rattle.archive_check.specs.NoOthers.{no_parts_reached, part_reached};
 ghost use Rattle.archive_check.specs.PartsLayout.{PartsLaidOut, IsRecord, joined, first_or, no_part_laid_out, part_laid_out, greater_align, one_align, begins_at, begins_over, within_at, within_over};
 ghost use Rattle.archive_check.specs.declared.format.error.Error.TheVariants.{OutOfMemory};
+ghost use Rattle.archive_check.specs.AddedDefinitions.{AreAdded};
 
 use super::Portable;
 use crate::format::error::Error;
@@ -196,8 +197,7 @@ pub fn define_record<P: PortableParts>(
     name: &'static str,
     defs: &mut Defs,
 ) -> Result<(), Error>
-    ensures added { OnOk result (Extended (table_of defs.old) (named_record name.now P.parts P.definitions)
-        (table_of defs.new)) }
+    ensures added { OnOk result (AreAdded defs (named_record name.now P.parts P.definitions)) }
     ensures refused { IfErr result (ExplainsConflict (table_of defs.old) (named_record name.now P.parts P.definitions)) }
 {
     defs.add(name, expr_of_record::<P>(alloc)?)?;

@@ -4,10 +4,11 @@ ghost use Rattle.std.specs.Prelude.{◌≡◌, ℕ, max, min, OnOk, IfOk, IfErr}
 ghost use Rattle.archive_check.specs.Shape.{Name, choice, no_variant, variant};
 ghost use Rattle.archive_check.specs.Layout.{up};
 ghost use Rattle.archive_check.specs.Expressions.{shape_of, variants_in, table_of};
-ghost use Rattle.archive_check.specs.Definitions.{both, IsAlign, NoOthers, Extended, ExplainsConflict, named_choice};
+ghost use Rattle.archive_check.specs.Definitions.{IsAlign, NoOthers, Extended, ExplainsConflict, named_choice};
 ghost use Rattle.archive_check.specs.PartsLayout.{greater_align, one_align};
 ghost use Rattle.archive_check.specs.VariantsLayout.{VariantsLaidOut, IsChoice, joined_variants, first_variant_or, no_variant_laid_out, variant_laid_out, no_variants_reached, variant_reached};
 ghost use Rattle.archive_check.specs.declared.format.error.Error.TheVariants.{OutOfMemory};
+ghost use Rattle.archive_check.specs.AddedDefinitions.{AreAdded};
 
 use super::Portable;
 use super::parts::PortableParts;
@@ -186,8 +187,7 @@ pub fn define_choice<V: PortableVariants>(
     name: &'static str,
     defs: &mut Defs,
 ) -> Result<(), Error>
-    ensures added { OnOk result (Extended (table_of defs.old) (named_choice name.now V.variants V.definitions)
-        (table_of defs.new)) }
+    ensures added { OnOk result (AreAdded defs (named_choice name.now V.variants V.definitions)) }
     ensures refused { IfErr result (ExplainsConflict (table_of defs.old) (named_choice name.now V.variants V.definitions)) }
 {
     defs.add(name, expr_of_choice::<V>(alloc, name)?)?;

@@ -1,0 +1,50 @@
+-- What a write does to a writer, and to a buffer of fixed length, whose first bytes are those that it holds. `Both` is a parameter as a clause names it: what
+-- it was as the call began, and what it is at the return.
+use denote.Triple.Both.{Both}
+use denote.Ref.{MutBor}
+use Rattle.std.specs.Prelude.{◌≡◌, ℕ, ◌-◌, List, ◌++◌, length, take, Some, replicate}
+use Rattle.archive_check.specs.WriterState.{WriterState, KeyState}
+use Rattle.archive_check.specs.declared.format.error.Error.{Error}
+use Rattle.archive_check.specs.declared.format.error.Error.TheVariants.{BufferOverflow}
+use Rattle.archive_write.specs.Sharing.{started, IsSet}
+use Rattle.archive_write.specs.Written.{IsBeginning, RoomFalls, ExplainsRefusal, padding}
+
+module _ {W : Type 0} (state : W → WriterState) (w : Both (MutBor W) (MutBor W)) where
+  -- the room has fallen by as many bytes as came
+  abbrev pub SpendsRoom : Type 0
+  SpendsRoom = RoomFalls (state w.entry.now).room (state w.exit.now).room (state w.entry.now).bytes (state w.exit.now).bytes
+
+  -- why a write of n bytes was refused, where the writer stood at its place
+  abbrev pub ExplainsWrite : (W → ℕ) → ℕ → Error → Type 0
+  ExplainsWrite place n = ExplainsRefusal n (place w.entry.now) (state w.entry.now).room (state w.entry.now).failures (state w.exit.now).failures
+
+  -- zeros came up to the next multiple of a; why they didn't
+  abbrev pub Padded : (W → ℕ) → ℕ → Type 0
+  Padded place a = (state w.exit.now).bytes ≡ (state w.entry.now).bytes ++ replicate (padding a (place w.entry.now)) 0
+
+  abbrev pub ExplainsPadding : (W → ℕ) → ℕ → Error → Type 0
+  ExplainsPadding place a = ExplainsWrite place (padding a (place w.entry.now))
+
+-- the state of a key that is started, the others as they were
+abbrev pub IsStarted : (ℕ → KeyState) → ℕ → (ℕ → KeyState) → Type 0
+IsStarted before key after = IsSet before key (started (before key)) after
+
+-- the n first bytes of a buffer are held: they come first in those held later
+abbrev pub KeepsHeld : ℕ → List ℕ → ℕ → List ℕ → Type 0
+KeepsHeld n xs m ys = IsBeginning (take n xs) (take m ys)
+
+-- these came behind them
+abbrev pub HoldsMore : ℕ → List ℕ → ℕ → List ℕ → List ℕ → Type 0
+HoldsMore n xs m ys more = take m ys ≡ take n xs ++ more
+
+-- the room behind them has fallen by as many
+abbrev pub SpendsRest : ℕ → List ℕ → ℕ → List ℕ → Type 0
+SpendsRest n xs m ys = RoomFalls (Some (length xs - n)) (Some (length ys - m)) (take n xs) (take m ys)
+
+-- why bytes don't fit behind them
+abbrev pub ExplainsFull : List ℕ → ℕ → List ℕ → Error → Type 0
+ExplainsFull bytes n xs = ExplainsRefusal (length bytes) n (Some (length xs - n)) 0 0
+
+-- the refusal says how many were to come, how many the buffer has, and how many it holds
+abbrev pub IsOverflow : List ℕ → ℕ → List ℕ → Error → Type 0
+IsOverflow bytes n xs = λ e. e ≡ BufferOverflow (length bytes) (length xs) n
