@@ -131,7 +131,7 @@ impl Operation {
         match self {
             Operation::WriteNew => "Write a value into new memory",
             Operation::WriteReused => "Write a value into memory that is used again",
-            Operation::Check => "Check bytes for access where they lie (archive-core: with a schema that is kept)",
+            Operation::Check => "Check bytes for access where they lie (archive-core: by an `Access` that is kept)",
             Operation::Access => "Check bytes for access where they lie (archive-core: by access)",
             Operation::Read => "Check bytes and read the value back",
             Operation::Seal => "Write a number over where it lies",
@@ -144,7 +144,7 @@ impl Operation {
         match self {
             Operation::WriteNew => "write, new buffer",
             Operation::WriteReused => "write, buffer reused",
-            Operation::Check => "checked access, schema kept",
+            Operation::Check => "checked access, `Access` kept",
             Operation::Access => "checked access, `access`",
             Operation::Read => "check and read back",
             Operation::Seal => "sealed write",

@@ -53,6 +53,17 @@ impl Goal {
     }
 }
 
+/// What the goals speak of: each operation on a set once.
+pub fn wanted() -> Vec<(Set, Operation)> {
+    let mut rows: Vec<(Set, Operation)> = Vec::new();
+    for Goal(set, operation, _, _) in &GOALS {
+        if !rows.contains(&(*set, *operation)) {
+            rows.push((*set, *operation));
+        }
+    }
+    rows
+}
+
 /// The goals as a table, with what was measured and whether each holds; and how many hold.
 pub fn table(rows: &[Row]) -> String {
     let mut out = String::new();

@@ -1,5 +1,6 @@
 //! Times the project beside its peers, in one process and in turns, and writes RESULTS.md, results.svg and the table in the README.
-//! `driver` does all; `driver deep FORMAT OPERATION` and `driver heap` are what it starts as children.
+//! `driver` does all; `driver goals` times what the goals speak of and prints their table alone; `driver deep FORMAT OPERATION` and `driver heap` are
+//! what it starts as children.
 
 mod chart;
 mod copy;
@@ -72,6 +73,16 @@ fn all() {
     print!("{}", goals::table(&rows));
 }
 
+// The goals' table, of their rows alone; nothing is written.
+fn goals_alone() {
+    sets::verify();
+    let rows: Vec<measure::Row> = goals::wanted()
+        .into_iter()
+        .map(|(set, operation)| measure::row(set, operation, false, &Format::ALL, rounds()))
+        .collect();
+    print!("{}", goals::table(&rows));
+}
+
 fn on_a_large_stack(work: fn()) {
     let thread = std::thread::Builder::new()
         .stack_size(STACK)
@@ -88,6 +99,7 @@ fn main() {
             std::process::exit(measure::deep(number(format), number(operation)))
         }
         ["heap"] => on_a_large_stack(measure::heap),
+        ["goals"] => on_a_large_stack(goals_alone),
         _ => on_a_large_stack(all),
     }
 }

@@ -1,1 +1,4 @@
-pub mod Sets
+pub mod NodeShape
+pub mod Node
+pub mod TwoVariants
+pub mod Lists

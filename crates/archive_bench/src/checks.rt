@@ -1,18 +1,20 @@
-//! The check of bytes: with a schema that is kept, and with one made for each check.
+//! The check of bytes: with what it takes kept, and by `access`, which makes it for each check.
 
 ghost use Rattle.std.specs.Prelude.{◌≤◌, IfOk};
 
-use crate::rounds::{LEVELS, next_end};
-use crate::sets::{ArchivedNode, ArchivedNumbers, ArchivedRecord, ArchivedRows};
-use archive_core::api::{HighValidator, access, root_position};
+use crate::chain::ArchivedNode;
+use crate::rounds::next_end;
+use crate::sets::{ArchivedPlain, ArchivedRow, ArchivedSmall};
+use archive_core::api::{Access, access};
 use archive_core::error::Error;
 use archive_core::primitive::ArchivedU32;
-use archive_core::shape::Schema;
+use archive_core::rc::{ArchivedRc, RcFlavor};
 use archive_core::string::ArchivedString;
 use archive_core::traits::Portable;
+use archive_core::vec::ArchivedVec;
 use std::alloc::Global;
 
-// How many of `count` checks accept, all with one schema. Archives of `step` bytes stand one after another in `bytes`.
+// How many of `count` checks accept, all by one `Access`. Archives of `step` bytes stand one after another in `bytes`.
 fn checked<T: Portable>(
     alloc: Global,
     bytes: &[u8],
@@ -21,25 +23,19 @@ fn checked<T: Portable>(
 ) -> Result<usize, Error>
     ensures { IfOk result (λ n. n ≤ count) }
 {
-    let schema = Schema::of::<T>(alloc)?;
+    let kept = Access::<T>::new(alloc)?;
     let mut accepted = 0;
     let mut end = 0;
-    for round in 0..count {
+    for _ in 0..count {
         end = next_end(end, step, bytes.len());
-        let archive = &bytes[..end];
-        let depth = round.saturating_add(LEVELS);
-        let mut context = HighValidator::with_max_depth(alloc, archive, Some(depth));
-        if schema
-            .check(archive, root_position::<T>(end), &mut context)
-            .is_ok()
-        {
+        if kept.access(&bytes[..end]).is_ok() {
             accepted += 1;
         }
     }
     Ok(accepted)
 }
 
-// How many of `count` accesses accept, each with a schema of its own. Archives of `step` bytes stand one after another in `bytes`.
+// How many of `count` accesses accept. Archives of `step` bytes stand one after another in `bytes`.
 fn accessed<T: Portable>(alloc: Global, bytes: &[u8], step: usize, count: usize) -> usize
     ensures { result ≤ count }
 {
@@ -54,7 +50,7 @@ fn accessed<T: Portable>(alloc: Global, bytes: &[u8], step: usize, count: usize)
     accepted
 }
 
-/// How many of `count` archived numbers a kept schema accepts. They stand one after another in `bytes`.
+/// How many of `count` archived numbers a kept `Access` accepts. They stand one after another in `bytes`.
 #[unsafe(no_mangle)]
 pub extern "C" fn archive_bench_check_u32(
     alloc: Global,
@@ -67,7 +63,7 @@ pub extern "C" fn archive_bench_check_u32(
     checked::<ArchivedU32>(alloc, bytes, step, count).unwrap_or(0)
 }
 
-/// How many of `count` archived strings a kept schema accepts. They have `step` bytes each and stand one after another in `bytes`.
+/// How many of `count` archived strings a kept `Access` accepts. They have `step` bytes each and stand one after another in `bytes`.
 #[unsafe(no_mangle)]
 pub extern "C" fn archive_bench_check_string(
     alloc: Global,
@@ -80,7 +76,7 @@ pub extern "C" fn archive_bench_check_string(
     checked::<ArchivedString>(alloc, bytes, step, count).unwrap_or(0)
 }
 
-/// How many of `count` archived records a kept schema accepts. They have `step` bytes each and stand one after another in `bytes`.
+/// How many of `count` archived small records a kept `Access` accepts. They have `step` bytes each and stand one after another in `bytes`.
 #[unsafe(no_mangle)]
 pub extern "C" fn archive_bench_check_record(
     alloc: Global,
@@ -90,10 +86,23 @@ pub extern "C" fn archive_bench_check_record(
 ) -> usize
     ensures { result ≤ count }
 {
-    checked::<ArchivedRecord>(alloc, bytes, step, count).unwrap_or(0)
+    checked::<ArchivedSmall>(alloc, bytes, step, count).unwrap_or(0)
 }
 
-/// How many of `count` archived lists of numbers a kept schema accepts. They have `step` bytes each and stand one after another in `bytes`.
+/// How many of `count` archived small records without their option a kept `Access` accepts. They have `step` bytes each and stand one after another in `bytes`.
+#[unsafe(no_mangle)]
+pub extern "C" fn archive_bench_check_plain(
+    alloc: Global,
+    bytes: &[u8],
+    step: usize,
+    count: usize,
+) -> usize
+    ensures { result ≤ count }
+{
+    checked::<ArchivedPlain>(alloc, bytes, step, count).unwrap_or(0)
+}
+
+/// How many of `count` archived lists of numbers a kept `Access` accepts. They have `step` bytes each and stand one after another in `bytes`.
 #[unsafe(no_mangle)]
 pub extern "C" fn archive_bench_check_numbers(
     alloc: Global,
@@ -103,10 +112,10 @@ pub extern "C" fn archive_bench_check_numbers(
 ) -> usize
     ensures { result ≤ count }
 {
-    checked::<ArchivedNumbers>(alloc, bytes, step, count).unwrap_or(0)
+    checked::<ArchivedVec<ArchivedU32>>(alloc, bytes, step, count).unwrap_or(0)
 }
 
-/// How many of `count` archived lists of rows a kept schema accepts. They have `step` bytes each and stand one after another in `bytes`.
+/// How many of `count` archived lists of rows a kept `Access` accepts. They have `step` bytes each and stand one after another in `bytes`.
 #[unsafe(no_mangle)]
 pub extern "C" fn archive_bench_check_rows(
     alloc: Global,
@@ -116,10 +125,10 @@ pub extern "C" fn archive_bench_check_rows(
 ) -> usize
     ensures { result ≤ count }
 {
-    checked::<ArchivedRows>(alloc, bytes, step, count).unwrap_or(0)
+    checked::<ArchivedVec<ArchivedRow>>(alloc, bytes, step, count).unwrap_or(0)
 }
 
-/// How many of `count` archived chains of boxes a kept schema accepts. They have `step` bytes each and stand one after another in `bytes`.
+/// How many of `count` archived chains of boxes a kept `Access` accepts. They have `step` bytes each and stand one after another in `bytes`.
 #[unsafe(no_mangle)]
 pub extern "C" fn archive_bench_check_list(
     alloc: Global,
@@ -130,6 +139,21 @@ pub extern "C" fn archive_bench_check_list(
     ensures { result ≤ count }
 {
     checked::<ArchivedNode>(alloc, bytes, step, count).unwrap_or(0)
+}
+
+/// How many of `count` archived lists of shared pointers a kept `Access` accepts. They have `step` bytes each and stand one after another in `bytes`.
+#[unsafe(no_mangle)]
+pub extern "C" fn archive_bench_check_shared(
+    alloc: Global,
+    bytes: &[u8],
+    step: usize,
+    count: usize,
+) -> usize
+    ensures { result ≤ count }
+{
+    checked::<ArchivedVec<ArchivedRc<ArchivedString, RcFlavor>>>(
+        alloc, bytes, step, count,
+    ).unwrap_or(0)
 }
 
 /// How many of `count` archived numbers `access` accepts. They stand one after another in `bytes`.
@@ -158,7 +182,7 @@ pub extern "C" fn archive_bench_access_string(
     accessed::<ArchivedString>(alloc, bytes, step, count)
 }
 
-/// How many of `count` archived records `access` accepts. They have `step` bytes each and stand one after another in `bytes`.
+/// How many of `count` archived small records `access` accepts. They have `step` bytes each and stand one after another in `bytes`.
 #[unsafe(no_mangle)]
 pub extern "C" fn archive_bench_access_record(
     alloc: Global,
@@ -168,7 +192,20 @@ pub extern "C" fn archive_bench_access_record(
 ) -> usize
     ensures { result ≤ count }
 {
-    accessed::<ArchivedRecord>(alloc, bytes, step, count)
+    accessed::<ArchivedSmall>(alloc, bytes, step, count)
+}
+
+/// How many of `count` archived small records without their option `access` accepts. They have `step` bytes each and stand one after another in `bytes`.
+#[unsafe(no_mangle)]
+pub extern "C" fn archive_bench_access_plain(
+    alloc: Global,
+    bytes: &[u8],
+    step: usize,
+    count: usize,
+) -> usize
+    ensures { result ≤ count }
+{
+    accessed::<ArchivedPlain>(alloc, bytes, step, count)
 }
 
 /// How many of `count` archived lists of numbers `access` accepts. They have `step` bytes each and stand one after another in `bytes`.
@@ -181,7 +218,7 @@ pub extern "C" fn archive_bench_access_numbers(
 ) -> usize
     ensures { result ≤ count }
 {
-    accessed::<ArchivedNumbers>(alloc, bytes, step, count)
+    accessed::<ArchivedVec<ArchivedU32>>(alloc, bytes, step, count)
 }
 
 /// How many of `count` archived lists of rows `access` accepts. They have `step` bytes each and stand one after another in `bytes`.
@@ -194,7 +231,7 @@ pub extern "C" fn archive_bench_access_rows(
 ) -> usize
     ensures { result ≤ count }
 {
-    accessed::<ArchivedRows>(alloc, bytes, step, count)
+    accessed::<ArchivedVec<ArchivedRow>>(alloc, bytes, step, count)
 }
 
 /// How many of `count` archived chains of boxes `access` accepts. They have `step` bytes each and stand one after another in `bytes`.
@@ -208,4 +245,17 @@ pub extern "C" fn archive_bench_access_list(
     ensures { result ≤ count }
 {
     accessed::<ArchivedNode>(alloc, bytes, step, count)
+}
+
+/// How many of `count` archived lists of shared pointers `access` accepts. They have `step` bytes each and stand one after another in `bytes`.
+#[unsafe(no_mangle)]
+pub extern "C" fn archive_bench_access_shared(
+    alloc: Global,
+    bytes: &[u8],
+    step: usize,
+    count: usize,
+) -> usize
+    ensures { result ≤ count }
+{
+    accessed::<ArchivedVec<ArchivedRc<ArchivedString, RcFlavor>>>(alloc, bytes, step, count)
 }

@@ -2,9 +2,6 @@
 
 ghost use Rattle.std.specs.Prelude.{◌≡◌, ◌≤◌, ◌<◌, ◌+◌};
 
-/// How many levels a check has at the least: more than any value of the benchmark needs.
-pub const LEVELS: usize = 4_000_000_000;
-
 // Where the next archive ends, of those of `step` bytes that stand one after another in `len` bytes; after the last comes the first again.
 pub fn next_end(end: usize, step: usize, len: usize) -> usize
     ensures inside { result ≤ len }

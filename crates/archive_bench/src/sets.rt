@@ -1,266 +1,171 @@
-//! The archived types of the sets. Bytes are checked as them; nothing is written or read back as one yet. bench/src/sets.rs makes the bytes.
+//! The types of the sets, and their values. bench/src/sets.rs makes the same values and their archives.
 
-ghost use Rattle.std.specs.Prelude.{◌≡◌, refl, IfOk};
-ghost use Rattle.std.proofs.Common.{inl, inr};
-ghost use Rattle.archive_check.specs.Shape.{one, leaf, vec as vec_shape, named, number as number_shape};
-ghost use Rattle.archive_check.specs.Expressions.{shape_of, sign_of, width_of};
-ghost use Rattle.archive_check.specs.Definitions.{no_definition, defines};
-ghost use Rattle.archive_check.specs.LeafLayout.{no_definition_reached};
-ghost use Rattle.archive_check.specs.NamedLayout.{name_has_layout, name_reached};
-ghost use Rattle.archive_check.specs.SelfCheck.Laws.{by_schema, parts_check, plain_check};
-ghost use Rattle.archive_bench.specs.Sets.{optional, numbers, small_record, rows, node, chain};
+ghost use Rattle.std.specs.Prelude.{◌≡◌, codes, refl};
+ghost use Rattle.archive_core.specs.OwnRecords.{named_check};
 
+use crate::records::RecordOf;
 use archive_core::error::Error;
-use archive_core::primitive::ArchivedU32;
-use archive_core::self_check::{BySchema, RecordCheck, VecCheck};
-use archive_core::shape::{Defs, Expr, IntegerKind, Kind, Pointee};
+use archive_core::option::ArchivedOption;
+use archive_core::own::{ArchivedRecord, NamedRecord};
+use archive_core::primitive::{ArchivedI32, ArchivedU32, ArchivedU64};
+use archive_core::rc::Shared;
+use archive_core::self_check::RecordCheck;
 use archive_core::string::ArchivedString;
-use archive_core::traits::{ArchivePointee, Portable};
-use fields::{ArchivedOptionalIntegers, ArchivedRow};
-use std::alloc::{AllocError, Global};
+use archive_core::vec::ArchivedVec;
+use std::alloc::Global;
+use std::rc::Rc;
 
-mod fields;
+/// The numbers of the small record, archived.
+pub type ArchivedIntegers = ArchivedVec<ArchivedI32>;
 
-/// An archived `Vec<u32>`, for the set `numbers`: eight bytes, which say where the numbers stand and how many they are.
-pub struct ArchivedNumbers;
+/// The name and the parts of the small record.
+pub struct SmallFormat;
 
-/// An archived record of a `u8`, a `String` and an `Option<Vec<i32>>`, for the set `record`: 24 bytes.
-pub struct ArchivedRecord;
+impl NamedRecord for SmallFormat {
+    type Parts = (u8, (ArchivedString, (ArchivedOption<ArchivedIntegers>, ())));
 
-/// An archived `Vec` of rows, for the set `rows`. A row is a record of a `u64`, a `String` and a `Vec<u32>`, of 24 bytes.
-pub struct ArchivedRows;
+    type Check = RecordCheck<Self::Parts>;
 
-/// An archived record of an `Option<Box<..>>` of its own type, for the set `list`: eight bytes, and the others of the chain before it.
-pub struct ArchivedNode;
+    ghost name = { codes "ArchivedSmall" };
 
-fn number(integer: IntegerKind) -> Expr
-    ensures { shape_of result ≡ leaf (number_shape (sign_of integer) (width_of integer)) }
-{
-    Expr::Leaf(Kind::Number(integer))
-}
+    ghost checks = { λ direct. named_check refl refl refl refl refl refl };
 
-// Elements of its own, with their number.
-fn list_of(alloc: Global, element: Expr) -> Result<Expr, AllocError>
-    ensures { IfOk result (λ e. shape_of e ≡ vec_shape (shape_of element)) }
-{
-    Ok(Expr::Vec(Box::new(alloc, element)?))
-}
-
-// Nothing, or a value.
-#[tactic(auto, using(archive_check::proofs::format::Views::views))]
-fn option_of(alloc: Global, value: Expr) -> Result<Expr, AllocError>
-    ensures { IfOk result (λ e. shape_of e ≡ optional (shape_of value)) }
-{
-    let variants = vec![in alloc; vec![in alloc]?, vec![in alloc; value]?]?;
-    Ok(Expr::Choice("ArchivedOption", variants))
-}
-
-// What a node is: a record of nothing, or of a box with the next node.
-#[tactic(auto, using(archive_check::proofs::format::Views::views))]
-fn chain_of(alloc: Global) -> Result<Expr, AllocError>
-    ensures { IfOk result (λ e. shape_of e ≡ chain) }
-{
-    let next = Box::new(alloc, Pointee::One(Expr::Named("ArchivedNode")))?;
-    let parts = vec![in alloc; option_of(alloc, Expr::Box(next))?]?;
-    Ok(Expr::Record(parts))
-}
-
-impl ArchivePointee for ArchivedNumbers {
-    type ArchivedMetadata = ();
-
-    ghost pointee = { one numbers };
-
-    ghost definitions = { no_definition };
-
-    ghost metadata_length = { λ _. 0 };
-
-    fn pointer_metadata(_metadata: &()) -> usize {
-        0
+    fn name() -> &'static str {
+        "ArchivedSmall"
     }
 }
 
-impl Portable for ArchivedNumbers {
-    ghost shape = { numbers };
+/// A number, a text, and perhaps a list of numbers, for the set `record`.
+pub type Small = RecordOf<SmallFormat, u8, String, Option<Vec<i32>>>;
 
-    ghost layout = { record { size = 8; align = 4 } };
+/// The same, archived: 24 bytes.
+pub type ArchivedSmall = ArchivedRecord<SmallFormat>;
 
-    type Check = VecCheck<ArchivedU32>;
+/// The name and the parts of the small record without its option.
+pub struct PlainFormat;
 
-    ghost is_one = { refl };
+impl NamedRecord for PlainFormat {
+    type Parts = (u8, (ArchivedString, (ArchivedIntegers, ())));
 
-    ghost is_align = { inr (inr (inl refl)) };
+    type Check = RecordCheck<Self::Parts>;
 
-    ghost has_layout = { record { solved = λ s k. refl } };
+    ghost name = { codes "ArchivedPlain" };
 
-    ghost no_others = { no_definition_reached numbers };
+    ghost checks = { λ direct. named_check refl refl refl refl refl refl };
 
-    ghost checks = { λ direct. plain_check numbers 8 refl refl };
-
-    fn size() -> usize {
-        8
-    }
-
-    fn align() -> usize {
-        4
-    }
-
-    fn expr(alloc: Global) -> Result<Expr, Error> {
-        Ok(list_of(alloc, number(IntegerKind::U32))?)
-    }
-
-    fn define(_alloc: Global, _defs: &mut Defs) -> Result<(), Error> {
-        Ok(())
+    fn name() -> &'static str {
+        "ArchivedPlain"
     }
 }
 
-impl ArchivePointee for ArchivedRecord {
-    type ArchivedMetadata = ();
+/// A number, a text and a list of numbers, for the set `plain`.
+pub type Plain = RecordOf<PlainFormat, u8, String, Vec<i32>>;
 
-    ghost pointee = { one small_record };
+/// The same, archived: 20 bytes.
+pub type ArchivedPlain = ArchivedRecord<PlainFormat>;
 
-    ghost definitions = { no_definition };
+/// The name and the parts of a row.
+pub struct RowFormat;
 
-    ghost metadata_length = { λ _. 0 };
+impl NamedRecord for RowFormat {
+    type Parts = (
+        ArchivedU64,
+        (ArchivedString, (ArchivedVec<ArchivedU32>, ())),
+    );
 
-    fn pointer_metadata(_metadata: &()) -> usize {
-        0
+    type Check = RecordCheck<Self::Parts>;
+
+    ghost name = { codes "ArchivedRow" };
+
+    ghost checks = { λ direct. named_check refl refl refl refl refl refl };
+
+    fn name() -> &'static str {
+        "ArchivedRow"
     }
 }
 
-impl Portable for ArchivedRecord {
-    ghost shape = { small_record };
+/// A number, a text and a list of numbers, for the set `rows`.
+pub type Row = RecordOf<RowFormat, u64, String, Vec<u32>>;
 
-    ghost layout = { record { size = 24; align = 4 } };
+/// The same, archived: 24 bytes.
+pub type ArchivedRow = ArchivedRecord<RowFormat>;
 
-    type Check = RecordCheck<(u8, (ArchivedString, (ArchivedOptionalIntegers, ())))>;
-
-    ghost is_one = { refl };
-
-    ghost is_align = { inr (inr (inl refl)) };
-
-    ghost has_layout = { record { solved = λ s k. refl } };
-
-    ghost no_others = { no_definition_reached small_record };
-
-    ghost checks = { λ direct. parts_check small_record 24 _ 24 refl refl refl (λ t. (tt, (tt, (tt, tt)))) refl };
-
-    fn size() -> usize {
-        24
-    }
-
-    fn align() -> usize {
-        4
-    }
-
-    #[tactic(auto, using(archive_check::proofs::format::Views::views))]
-    fn expr(alloc: Global) -> Result<Expr, Error> {
-        let list = option_of(alloc, list_of(alloc, number(IntegerKind::I32))?)?;
-        let parts = vec![in alloc; number(IntegerKind::U8), Expr::Str, list]?;
-        Ok(Expr::Record(parts))
-    }
-
-    fn define(_alloc: Global, _defs: &mut Defs) -> Result<(), Error> {
-        Ok(())
-    }
+/// The four numbers of the small records.
+pub fn integers(alloc: Global) -> Result<Vec<i32>, Error> {
+    Ok(vec![in alloc; 1, 2, 3, 4]?)
 }
 
-impl ArchivePointee for ArchivedRows {
-    type ArchivedMetadata = ();
-
-    ghost pointee = { one rows };
-
-    ghost definitions = { no_definition };
-
-    ghost metadata_length = { λ _. 0 };
-
-    fn pointer_metadata(_metadata: &()) -> usize {
-        0
-    }
+/// The text of the small records.
+pub fn hello(alloc: Global) -> Result<String, Error> {
+    Ok(String::from_str(alloc, "hello world")?)
 }
 
-impl Portable for ArchivedRows {
-    ghost shape = { rows };
-
-    ghost layout = { record { size = 8; align = 4 } };
-
-    type Check = VecCheck<ArchivedRow>;
-
-    ghost is_one = { refl };
-
-    ghost is_align = { inr (inr (inl refl)) };
-
-    ghost has_layout = { record { solved = λ s k. refl } };
-
-    ghost no_others = { no_definition_reached rows };
-
-    ghost checks = { λ direct. plain_check rows 8 refl refl };
-
-    fn size() -> usize {
-        8
-    }
-
-    fn align() -> usize {
-        4
-    }
-
-    #[tactic(auto, using(archive_check::proofs::format::Views::views))]
-    fn expr(alloc: Global) -> Result<Expr, Error> {
-        let values = ArchivedNumbers::expr(alloc)?;
-        let row = vec![in alloc; number(IntegerKind::U64), Expr::Str, values]?;
-        Ok(list_of(alloc, Expr::Record(row))?)
-    }
-
-    fn define(_alloc: Global, _defs: &mut Defs) -> Result<(), Error> {
-        Ok(())
-    }
+/// A name of 20 bytes, where the number has at most eight digits.
+pub fn name(alloc: Global, number: usize) -> Result<String, Error> {
+    Ok(format!(in alloc; "record-name-{number:08}")?)
 }
 
-impl ArchivePointee for ArchivedNode {
-    type ArchivedMetadata = ();
-
-    ghost pointee = { one (named node) };
-
-    ghost definitions = { defines node chain };
-
-    ghost metadata_length = { λ _. 0 };
-
-    fn pointer_metadata(_metadata: &()) -> usize {
-        0
-    }
+/// The small record.
+pub fn small(alloc: Global) -> Result<Small, Error> {
+    Ok(RecordOf::new(42, hello(alloc)?, Some(integers(alloc)?)))
 }
 
-impl Portable for ArchivedNode {
-    ghost shape = { named node };
+/// The small record without its option.
+pub fn plain(alloc: Global) -> Result<Plain, Error> {
+    Ok(RecordOf::new(42, hello(alloc)?, integers(alloc)?))
+}
 
-    ghost layout = { record { size = 8; align = 4 } };
-
-    type Check = BySchema;
-
-    ghost is_one = { refl };
-
-    ghost is_align = { inr (inr (inl refl)) };
-
-    ghost has_layout = { name_has_layout node chain (record { size = 8; align = 4 }) (λ s k. refl) };
-
-    ghost no_others = { name_reached node chain };
-
-    ghost checks = { λ direct. by_schema direct };
-
-    fn size() -> usize {
-        8
+// The eight numbers of a row.
+fn row_numbers(alloc: Global, index: usize) -> Result<Vec<u32>, Error> {
+    let index = (index & 0xffff_ffff) as u32;
+    let mut numbers = Vec::new(alloc);
+    for k in 0..8u32 {
+        numbers.push(index ^ (k * 77))?;
     }
+    Ok(numbers)
+}
 
-    fn align() -> usize {
-        4
-    }
+// The row with this index.
+fn row(alloc: Global, index: usize) -> Result<Row, Error> {
+    let id = (index as u64).wrapping_mul(7919);
+    Ok(RecordOf::new(id, name(alloc, index)?, row_numbers(alloc, index)?))
+}
 
-    fn expr(_alloc: Global) -> Result<Expr, Error> {
-        Ok(Expr::Named("ArchivedNode"))
+/// So many rows.
+pub fn rows(alloc: Global, count: usize) -> Result<Vec<Row>, Error> {
+    let mut rows = Vec::new(alloc);
+    for index in 0..count {
+        rows.push(row(alloc, index)?)?;
     }
+    Ok(rows)
+}
 
-    #[tactic(auto, using(archive_check::proofs::format::AddedDefinitions::not_extended))]
-    fn define(alloc: Global, defs: &mut Defs) -> Result<(), Error> {
-        defs.add("ArchivedNode", chain_of(alloc)?)?;
-        Ok(())
+/// So many pointers, in turns, to a hundredth as many strings, at least one.
+pub fn pointers(alloc: Global, count: usize) -> Result<Vec<Shared<String>>, Error> {
+    let strings = (count / 100).max(1);
+    let mut pointers: Vec<Shared<String>> = Vec::new(alloc);
+    for _ in 0..count {
+        let pointer = next_pointer(alloc, pointers.as_slice(), strings)?;
+        pointers.push(pointer)?;
     }
+    Ok(pointers)
+}
+
+// The pointer behind these: to a string of its own, or to that of the pointer so many before it.
+fn next_pointer(
+    alloc: Global,
+    pointers: &[Shared<String>],
+    strings: usize,
+) -> Result<Shared<String>, Error> {
+    let index = pointers.len();
+    if let Some(earlier) = index.checked_sub(strings) {
+        if let Some(pointer) = pointers.get(earlier) {
+            return Ok(pointer.clone()?);
+        }
+    }
+    let value = Rc::new(alloc, name(alloc, index)?)?;
+    Ok(Shared {
+        key: index as u64,
+        value,
+    })
 }

@@ -1,0 +1,15 @@
+-- A list that a record may have, and where an element of it stands.
+use Rattle.archive_check.specs.Shape.{Shape, Pointee, vec}
+use Rattle.archive_check.specs.declared.format.traits.ArchivePointee as ArchivePointee
+use Rattle.archive_enum.specs.Choices.{option_shape}
+use Rattle.archive_core.specs.Standing.{StandsWith, view}
+use Rattle.archive_core.specs.declared.seal.Spot.{Spot}
+use Rattle.archive_core.specs.declared.view.Ref.{Ref}
+
+-- nothing, or elements
+abbrev pub optional_list : Shape → Shape
+optional_list X = option_shape (vec X)
+
+-- wherever what the view shows is a part of an archive, so is the P at the spot
+abbrev pub SpotBeside : {T M U : Type 0} {g : ArchivePointee.Ghosts T M} → Pointee → Spot U → Ref T M g → Type 0
+SpotBeside {g = g} P s v = StandsWith g.definitions v.bytes.now (view v.pos g.pointee v.len) (view s.pos P s.len)
