@@ -2,6 +2,7 @@
 
 mod comparisons;
 mod contexts;
+mod cycles;
 mod pools;
 mod rc;
 mod seals;
