@@ -1,0 +1,2 @@
+pub mod TwoPools
+pub mod CircleShape

@@ -2,6 +2,7 @@
 
 mod comparisons;
 mod contexts;
+mod cycles;
 mod pools;
 mod rc;
 mod seals;
@@ -9,6 +10,7 @@ mod shared;
 mod shared_memory;
 mod shared_pairs;
 mod shared_sources;
+mod two_pools;
 
 // The archive of the text "hello world": the text, a zero, and at 12 the string that points back at it.
 const HELLO_WORLD: &[u8] = b"hello world\0\x8b\0\0\0\xf4\xff\xff\xff";

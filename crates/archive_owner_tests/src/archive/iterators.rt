@@ -1,8 +1,12 @@
 // Vectors written from iterators.
 
+use archive_core::error::Error;
 use archive_core::primitive::{ArchivedU16, ArchivedU32};
 use archive_core::ser::Serializer;
+use archive_core::string::ArchivedString;
 use archive_core::vec::ArchivedVec;
+use std::alloc::Global;
+use std::ops::Range;
 use std::test::Fail;
 
 #[test]
@@ -26,5 +30,43 @@ fn two_items_are_written_as_two_elements(rt: HostRuntime) -> Result<(), Fail> {
     }
     let bytes = serializer.into_writer();
     assert_eq!(rt; bytes.as_slice(), b"\x01\0\0\0\x02\0\0\0".as_slice());
+    Ok(())
+}
+
+// What a vector holds behind one byte, when numbers were written there as they came.
+fn written_as_they_come(alloc: Global, numbers: Range<u16>) -> Result<Vec<u8>, Error> {
+    let mut serializer = Serializer::new(vec![in alloc; 0xaau8]?, alloc, ());
+    match ArchivedVec::<ArchivedU16>::serialize_from_unknown_length_iter(numbers, &mut serializer) {
+        Ok(_) => Ok(serializer.into_writer()),
+        Err(error) => Err(error),
+    }
+}
+
+#[test]
+fn items_are_written_as_they_come(rt: HostRuntime) -> Result<(), Fail> {
+    let bytes = written_as_they_come(rt.alloc(), 1..4)?;
+    assert_eq!(rt; bytes.as_slice(), b"\xaa\0\x01\0\x02\0\x03\0".as_slice());
+    Ok(())
+}
+
+#[test]
+fn an_item_that_writes_is_refused(rt: HostRuntime) -> Result<(), Fail> {
+    let near = String::from_str(rt.alloc(), "hi")?;
+    let far = String::from_str(rt.alloc(), "hello world")?;
+    let texts = vec![in rt.alloc(); near, far]?;
+    let mut serializer = Serializer::new(Vec::new(rt.alloc()), rt.alloc(), ());
+    let written = ArchivedVec::<ArchivedString>::serialize_from_unknown_length_iter(
+        texts.into_iter(),
+        &mut serializer,
+    );
+    let Err(error) = written else {
+        panic!(rt; "written")
+    };
+    assert_eq!(rt; error, Error::ItemWrote);
+    let bytes = serializer.into_writer();
+    assert_eq!(rt;
+        bytes.as_slice(),
+        b"hi\xff\xff\xff\xff\xff\xffhello world".as_slice()
+    );
     Ok(())
 }

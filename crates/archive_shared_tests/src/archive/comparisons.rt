@@ -26,6 +26,7 @@ fn numbers_are_compared_as_numbers(rt: HostRuntime) -> Result<(), Fail> {
     let more = access::<ArchivedI32>(rt.alloc(), b"\x01\0\0\0")?;
     assert!(rt; less < more);
     assert!(rt; less != more);
+    assert_eq!(rt; less.compare_said(more), Ordering::Less);
     assert!(rt; less.eq_native(&-1));
     assert_eq!(rt; more.cmp_native(&2), Ordering::Less);
     let byte = access::<u8>(rt.alloc(), b"\x07")?;

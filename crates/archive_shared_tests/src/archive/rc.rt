@@ -18,7 +18,7 @@ type SharedText = ArchivedRc<ArchivedStr, RcFlavor>;
 type WeakText = ArchivedRcWeak<ArchivedStr, RcFlavor>;
 
 // A flavor whose values may hold themselves.
-struct Looping;
+pub(super) struct Looping;
 
 impl Flavor for Looping {
     const ALLOW_CYCLES: bool = true;
