@@ -39,8 +39,11 @@ pub mod OwnersWritten
 pub mod PartBytes
 pub mod PartsShown
 pub mod ArraysShown
+pub mod Arrays
 pub mod ReadElements
 pub mod ReadRecords
+pub mod OwnChoices
+pub mod ReadChoices
 pub mod FieldsShown
 pub mod Spots
 pub mod WrittenVariants

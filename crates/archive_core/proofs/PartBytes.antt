@@ -16,10 +16,10 @@ module _ (o k n e : ℕ) (old a : List ℕ) (same : k ≡ n) (ends : e ≡ o + n
   joined : put o k old a ≡ (take o old ++ a) ++ drop k (drop o old)
   joined = sym (append_assoc (take o old) a (drop k (drop o old)))
 
-  behind_is : drop e (put o k old a) ≡ drop k (drop o old)
+  pub behind_is : drop e (put o k old a) ≡ drop k (drop o old)
   behind_is = ap (drop e) joined ∙ drop_at (take o old ++ a) (drop k (drop o old)) e front_length
 
-  before_is : take e (put o k old a) ≡ take o old ++ a
+  pub before_is : take e (put o k old a) ≡ take o old ++ a
   before_is = ap (take e) joined ∙ take_at (take o old ++ a) (drop k (drop o old)) e front_length
 
   behind_length : length (drop k (drop o old)) ≡ length old - e

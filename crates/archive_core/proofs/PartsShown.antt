@@ -139,3 +139,10 @@ module _ (D : Definitions) (bytes : List ℕ) (q n : ℕ) where
         where
           at_size : (s : Schema) (root : ℕ) (Y : Shape) (u : Value) {a b : ℕ} → a ≡ b → Reached s bytes root Y (q + k * a) (one X) 0 u → Reached s bytes root Y (q + k * b) (one X) 0 u
           at_size s root Y u e r = rw (← e) r
+
+-- one value lies in the buffer
+pub one_within : (D : Definitions) (bytes : List ℕ) (q : ℕ) (X : Shape) (L : Layout) → HasLayout D X L → (P : Pointee) → P ≡ one X → Viewed D bytes q P 0 → q + L.size ≤ length bytes
+one_within D bytes q X L laid P is v =
+    let w : Viewed D bytes q (one X) 0 = rw is at v in
+    let sized : (s : Schema) → Knows s D → size_of s.layouts X ≡ L.size = λ s k. ap (λ l. l.size) (laid.solved s k) in
+    ∥∥₁_elim w le_prop (λ (s, k, l). let h = lies_fits s bytes k.laid_out l in rw (sized s k) at h)

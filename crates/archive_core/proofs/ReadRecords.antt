@@ -25,7 +25,7 @@ use Rattle.archive_check.proofs.Viewed.{lies_fits, lies_reads, lies_reached, rea
 use Rattle.archive_core.specs.PartsReading.{PartsViewed, PartsReadBack, no_part_read_back, part_read_back, PartsCyclic, first_cyclic, later_cyclic, RefusesParts}
 use Rattle.archive_core.proofs.Appending.{size_is, align_is}
 
-keeps_itself : (told : Entries) → KeepsEntries told told
+pub keeps_itself : (told : Entries) → KeepsEntries told told
 keeps_itself told = record { finished = λ t k h. h; pending = λ t. (λ h. h, λ h. h); named = λ h. h }
 
 pub keeps_both : (old mid new : Entries) → KeepsEntries old mid → KeepsEntries mid new → KeepsEntries old new
@@ -44,7 +44,7 @@ goes_there s A E X L laid k at = rw (begins_there s A E X L laid k at, size_is l
 
 -- parts of what lies at q
 module _ (D : Definitions) (bytes : List ℕ) (q : ℕ) (P : Pointee) (n : ℕ) where
-  record Tail (E : Definitions) (ps : Parts) (at : ℕ) : Type 0 where
+  pub record Tail (E : Definitions) (ps : Parts) (at : ℕ) : Type 0 where
     pub knows : (s : Schema) → Knows s D → Knows s E
     pub reached : (s : Schema) → Knows s D → (l : Lies s bytes q P n) → (r : ℕ) (Y : Shape) → IsPart s q at ps r Y → (u : Value) × Reached s bytes l.root l.shape r (one Y) 0 u
 
@@ -59,7 +59,7 @@ module _ (D : Definitions) (bytes : List ℕ) (q : ℕ) (P : Pointee) (n : ℕ) 
     }
 
   -- these were read back, as these values
-  record TailRead (ps : Parts) (at : ℕ) (old new : Entries) (ws : Values) (keys : List Naming) : Type 0 where
+  pub record TailRead (ps : Parts) (at : ℕ) (old new : Entries) (ws : Values) (keys : List Naming) : Type 0 where
     pub kept : KeepsEntries old new
     pub fills : AreNamedByPosition old → (s : Schema) (vs : Values) → Knows s D → Lies s bytes q P n → ReadsParts s bytes q at ps vs → FillsAll s bytes vs ws
     pub shared : AreNamedByPosition old → (s : Schema) (m : Meaning) → Knows s D → (l : Lies s bytes q P n) → Denotes s bytes l.root l.shape m
@@ -131,7 +131,7 @@ module _ (D : Definitions) (bytes : List ℕ) (q : ℕ) (P : Pointee) (n : ℕ) 
     both_read : TailRead (part X ps) at old new (value v vs) (ks ++ ls)
     both_read = record { kept = keeps_both old mid new h.kept g.kept; fills = fills_both; shared = shared_both; unmet = unmet_both; closed = closed_both }
 
-  tail_read : {E : Definitions} {ps : Parts} {at : ℕ} {old new : Entries} {vs : Values} {keys : List Naming} → Tail E ps at → PartsReadBack bytes q E ps at old new vs keys → TailRead ps at old new vs keys
+  pub tail_read : {E : Definitions} {ps : Parts} {at : ℕ} {old new : Entries} {vs : Values} {keys : List Naming} → Tail E ps at → PartsReadBack bytes q E ps at old new vs keys → TailRead ps at old new vs keys
   tail_read {at = at} {old = old} t no_part_read_back = none_read at old
   tail_read t (part_read_back {old = old} {mid = mid} {new = new} {v = v} {vs = vs} {ks = ks} {ls = ls} laid h r) = both_read laid t old mid new v vs ks ls h (tail_read (rest laid t) r)
 
@@ -141,7 +141,7 @@ module _ (D : Definitions) (bytes : List ℕ) (q : ℕ) (P : Pointee) (n : ℕ) 
     pub has : Contains (all_pointers vs) pointer
     pub hits : Hits s bytes told [] pointer
 
-  tail_meets : {E : Definitions} {ps : Parts} {at : ℕ} {mid : Entries} (old : Entries) → KeepsEntries old mid → Tail E ps at → PartsCyclic bytes q E ps at mid
+  pub tail_meets : {E : Definitions} {ps : Parts} {at : ℕ} {mid : Entries} (old : Entries) → KeepsEntries old mid → Tail E ps at → PartsCyclic bytes q E ps at mid
       → (s : Schema) (vs : Values) → Knows s D → Lies s bytes q P n → ReadsParts s bytes q at ps vs → TailMeets s vs old
   tail_meets old kept t (first_cyclic {D = A} {E = E} {X = X} {L = L} {at = at} laid c) s us k l (reads_part {v = u} {vs = rs} r others) =
       let (w, i) = first_reached laid t s k l in

@@ -67,11 +67,11 @@ module _ (D E : Definitions) (X : Shape) (L : Layout) (laid : HasLayout D X L) (
 
 -- what stands for a record
 
-standing_reads : (s : Schema) (bytes : List ℕ) (p : ℕ) (Y X : Shape) (v : Value) → StandsFor s Y X → Reads s bytes p Y v → Reads s bytes p X v
+pub standing_reads : (s : Schema) (bytes : List ℕ) (p : ℕ) (Y X : Shape) (v : Value) → StandsFor s Y X → Reads s bytes p Y v → Reads s bytes p X v
 standing_reads s bytes p Y X v for_itself h = h
 standing_reads s bytes p Y X v (by_name d) h = reads_named d h
 
-standing_clean : (s : Schema) (bytes : List ℕ) (p : ℕ) (Y X : Shape) → StandsFor s Y X → CleanValue s bytes p Y → CleanValue s bytes p X
+pub standing_clean : (s : Schema) (bytes : List ℕ) (p : ℕ) (Y X : Shape) → StandsFor s Y X → CleanValue s bytes p Y → CleanValue s bytes p X
 standing_clean s bytes p Y X for_itself h = h
 standing_clean s bytes p Y X (by_name d) h = clean_named d h
 
@@ -79,7 +79,7 @@ pub standing_part : (s : Schema) (Z X : Shape) (v : Value) (o : ℕ) (Y : Shape)
 standing_part s Z X v o Y w for_itself h = h
 standing_part s Z X v o Y w (by_name d) h = part_of_named d h
 
-standing_size : (s : Schema) → LaidOut s → (Y X : Shape) → StandsFor s Y X → size_of s.layouts X ≡ size_of s.layouts Y
+pub standing_size : (s : Schema) → LaidOut s → (Y X : Shape) → StandsFor s Y X → size_of s.layouts X ≡ size_of s.layouts Y
 standing_size s laid Y X for_itself = refl
 standing_size s laid Y X (by_name {name = name} d) = ap (λ (l : Layout). l.size) (laid.solves name Y d)
 

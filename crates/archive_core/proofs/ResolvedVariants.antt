@@ -32,7 +32,7 @@ stands_zeros B p lo hi a few z h = record {
       rw (← here) (stands_index B p i a (omega arith) h ∙ z i (omega arith) (omega arith)));
 }
 
-first_stands : (B : List ℕ) (p tag : ℕ) (a : List ℕ) → 0 < length a → slice_index a 0 ≡ tag → Occurs B p a → slice_index B p ≡ tag
+pub first_stands : (B : List ℕ) (p tag : ℕ) (a : List ℕ) → 0 < length a → slice_index a 0 ≡ tag → Occurs B p a → slice_index B p ≡ tag
 first_stands B p tag a some is h = ap (slice_index B) (sym (add-zero p)) ∙ stands_index B p 0 a some h ∙ is
 
 module _ (D E : Definitions) (known : (s : Schema) → Knows s D → Knows s E) (name : Name) (vs : Variants) (tag : ℕ) (X : Shape) (is : variant_at vs tag ≡ Some (part X no_part)) (L C : Layout) (inner : HasLayout E X L)

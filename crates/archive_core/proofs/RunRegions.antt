@@ -170,7 +170,7 @@ module _ {A R : Type 0} (D : Definitions) (X : Shape) (L : Layout) (f : A → R 
 finished_list : (s : KeyStates) (vs : Values) → AllFinished s vs → AreFinished s (list vs)
 finished_list s vs h k (names_list n) = h k n
 
-writes_list : (D : Definitions) (old new : WriterState) (ks : List Naming) (vs xs : Values) → WritesAll D old new ks vs xs → Writes D old new ks (list vs) (list xs)
+pub writes_list : (D : Definitions) (old new : WriterState) (ks : List Naming) (vs xs : Values) → WritesAll D old new ks vs xs → Writes D old new ks (list vs) (list xs)
 writes_list D old new ks vs xs h = record { added = h.added; grown = h.grown; states = h.states; finished = finished_list new.states xs h.finished; appends = h.appends; fills = λ w n. fills_list (h.fills w n) }
 
 lays_run : (D : Definitions) (old mid low new : WriterState) (ks : List Naming) (ws vs : Values) (X : Shape) (L : Layout) (n t : ℕ)

@@ -4,7 +4,7 @@ use denote.Triple.Both.{Both}
 use denote.Ref.{MutBor}
 use Rattle.std.specs.Prelude.{ℕ, ℤ, ◌+◌, ◌*◌, ◌≤◌, List, [], length, Option, IfSome}
 use Rattle.archive_check.specs.Shape.{Kind, leaf, parts, str, boxed, vec, one, run, text, no_part}
-use Rattle.archive_check.specs.Value.{Value, number, product, list, text_value, box, hole, Values, no_value}
+use Rattle.archive_check.specs.Value.{Value, number, product, case, list, text_value, box, hole, Values, no_value}
 use Rattle.archive_check.specs.Definitions.{no_definition}
 use Rattle.archive_check.specs.declared.format.error.Error.{Error}
 use Rattle.archive_check.specs.declared.format.traits.ArchivePointee as ArchivePointee
@@ -137,6 +137,14 @@ RecordSerialized f keys meanings flats v k w r =
 
 abbrev pub RecordRefused : {T M S : Type 0} → FormatOf M → (T → List Naming) → (T → Values) → T → Keys.Ghosts S → Both (MutBor S) (MutBor S) → Error → Type 0
 RecordRefused f keys meanings v k w e = IsRefused f.definitions f.shape (keys v) (product (meanings v)) (k.state w.entry.now) (k.state w.exit.now) e
+
+-- a variant, by what its parts mean, and what is read in their places
+abbrev pub VariantSerialized : {T M S R : Type 0} → FormatOf M → ℕ → (T → List Naming) → (T → Values) → (T → R → Values) → T → Keys.Ghosts S → Both (MutBor S) (MutBor S) → R → Type 0
+VariantSerialized f tag keys meanings flats v k w r =
+    Serialized f.definitions f.shape (keys v) (case tag (meanings v)) (case tag (flats v r)) (k.state w.entry.now) (k.state w.exit.now)
+
+abbrev pub VariantRefused : {T M S : Type 0} → FormatOf M → ℕ → (T → List Naming) → (T → Values) → T → Keys.Ghosts S → Both (MutBor S) (MutBor S) → Error → Type 0
+VariantRefused f tag keys meanings v k w e = IsRefused f.definitions f.shape (keys v) (case tag (meanings v)) (k.state w.entry.now) (k.state w.exit.now) e
 
 -- the inner value's region stands at t, so that a tag and a box of it are held; the box alone; and why it isn't resolved at p
 abbrev pub BoxCase : {M : Type 0} → FormatOf M → ℕ → ℕ → ℕ → List ℕ → Type 0

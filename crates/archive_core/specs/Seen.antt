@@ -8,7 +8,7 @@ use Rattle.archive_check.specs.Layout.{Layout}
 use Rattle.archive_check.specs.Shape.{Pointee}
 use Rattle.archive_check.specs.Reads.{length_at}
 use Rattle.archive_check.specs.Readable.{target_from}
-use Rattle.archive_check.specs.Value.{Value, Values, product, shared_value}
+use Rattle.archive_check.specs.Value.{Value, Values, product, case, shared_value}
 use Rattle.archive_check.specs.Denotes.{Naming}
 use Rattle.archive_check.specs.Definitions.{Definitions}
 use Rattle.archive_check.specs.Entries.{ReadsBack, RefusesReading}
@@ -97,6 +97,10 @@ RefusesPart g p d b e = RefusesReading g.definitions p.entry.bytes.now p.entry.p
 -- the parts of a record were read back, with these meanings and keys
 abbrev pub ReadsRecord : {T M D E X : Type 0} → ArchivePointee.Ghosts T M → Both RawView E → Entries.Ghosts D → Both (MutBor D) (MutBor D) → (X → Values) → (X → List Naming) → X → Type 0
 ReadsRecord g p d b meanings keys t = ReadsPart g p d b (product (meanings t)) (keys t)
+
+-- the parts of a variant were, of the one that the tag names
+abbrev pub ReadsVariant : {T M D E X : Type 0} → ArchivePointee.Ghosts T M → Both RawView E → Entries.Ghosts D → Both (MutBor D) (MutBor D) → (X → Values) → (X → List Naming) → X → Type 0
+ReadsVariant g p d b meanings keys t = ReadsPart g p d b (case (slice_index p.entry.bytes.now p.entry.pos) (meanings t)) (keys t)
 
 -- a view of the same buffer; one that begins so many bytes behind another's beginning
 abbrev pub IsBufferOf : {T M U N : Type 0} {g : ArchivePointee.Ghosts T M} {h : ArchivePointee.Ghosts U N} → Ref T M g → Ref U N h → Type 0

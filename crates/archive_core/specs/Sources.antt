@@ -10,12 +10,13 @@ use Rattle.archive_check.specs.declared.format.error.Error.{Error}
 use Rattle.archive_check.specs.declared.format.traits.ArchivePointee as ArchivePointee
 use Rattle.archive_check.specs.declared.format.traits.Entries as Entries
 use Rattle.archive_check.specs.declared.format.traits.Keys as Keys
+use Rattle.archive_core.specs.Arrays.{ResolvesRun}
 use Rattle.archive_core.specs.Causes.{HindersAt, IsRefused, IsRegionRefused}
 use Rattle.archive_core.specs.Inner.{IsBoxed, IsNotBoxed}
 use Rattle.archive_core.specs.KindsWritten.{RunStored, RunUnstored}
 use Rattle.archive_check.specs.Formats.{FormatOf}
 use Rattle.archive_core.specs.Plans.{Serialized, SerializedRegion}
-use Rattle.archive_core.specs.Runs.{each_keys, each_meaning, each_flat, SerializedRun, IsRunRefused}
+use Rattle.archive_core.specs.Runs.{each_keys, each_meaning, each_flat, SerializedRun, IsRunRefused, HindersEachAt}
 use Rattle.archive_core.specs.Seen.{ReadsPart}
 use Rattle.archive_core.specs.Writing.{Resolves, to_pointee}
 use Rattle.archive_core.specs.declared.place.Place.{Place}
@@ -114,3 +115,10 @@ CopiesStored c f xs k w p = RunStored c.copied_keys c.copied_meaning f xs k w p
 
 abbrev pub CopiesUnstored : {T A M C S : Type 0} → Copied.Ghosts T A C M → FormatOf M → List T → Keys.Ghosts S → Both (MutBor S) (MutBor S) → Error → Type 0
 CopiesUnstored c f xs k w e = RunUnstored c.copied_keys c.copied_meaning f xs k w e
+
+-- these bytes, at p, are clean and read as the elements, by these resolvers; and what hinders that
+abbrev pub EachResolved : {T A R M C : Type 0} → Archive.Ghosts T A R C M → FormatOf M → ℕ → List T → List R → List ℕ → Type 0
+EachResolved a f p xs rs bytes = ResolvesRun f.definitions p bytes (length xs) f.shape (each_flat a.flat xs rs)
+
+abbrev pub EachHinderedAt : {T A R M C : Type 0} → Archive.Ghosts T A R C M → FormatOf M → ℕ → List T → List R → Error → Type 0
+EachHinderedAt a f p xs rs e = HindersEachAt f.definitions f.shape (length xs) (each_flat a.flat xs rs) p e

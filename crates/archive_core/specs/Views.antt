@@ -1,10 +1,11 @@
 -- What a view shows that was made of another one.
-use Rattle.std.specs.Prelude.{◌≡◌, ℕ, zero, suc, ◌+◌, ◌*◌, List, [], ◌∷◌, Option, Some, None}
+use Rattle.std.specs.Prelude.{◌≡◌, ℕ, zero, suc, ◌+◌, ◌*◌, ◌<◌, List, [], ◌∷◌, Option, Some, None}
 use Rattle.archive_check.specs.Shape.{Shape, Pointee}
 use Rattle.archive_check.specs.Value.{Value, box, list, Values, no_value, value}
 use Rattle.archive_check.specs.Reads.{Schema}
 use Rattle.archive_check.specs.Definitions.{Definitions, Knows}
 use Rattle.archive_check.specs.Reached.{Reached}
+use Rattle.archive_check.specs.Viewed.{Viewed}
 
 -- what stands in a box
 abbrev pub boxed_in : Value → Option Value
@@ -28,6 +29,10 @@ element_in k _ = None
 -- Whatever an archive says of P at q, Q at r is a part of the archive, and it says of it what stands there in that.
 pub record ShowsPart (D : Definitions) (bytes : List ℕ) (q : ℕ) (P : Pointee) (n : ℕ) (r : ℕ) (Q : Pointee) (m : ℕ) (taken : Value → Option Value) : Type 0 where
   pub shown : (s : Schema) (root : ℕ) (X : Shape) (w : Value) → Knows s D → Reached s bytes root X q P n w → (u : Value) × (taken w ≡ Some u) × Reached s bytes root X r Q m u
+
+-- each of n elements of z bytes, from p on, is viewed
+abbrev pub AreViewed : Definitions → List ℕ → ℕ → ℕ → Pointee → ℕ → Type 0
+AreViewed D bytes p z P n = (k : ℕ) → k < n → Viewed D bytes (p + k * z) P 0
 
 -- n elements of z bytes of a slice at p, from the element i on: the buffer and the position of each
 abbrev pub spots : List ℕ → ℕ → ℕ → ℕ → ℕ → List (List ℕ × ℕ)

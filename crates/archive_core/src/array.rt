@@ -1,10 +1,13 @@
-//! Arrays: elements one behind another, where they lie.
+//! Arrays: elements one behind another, where they lie. As sources they are written and read back element by element.
 
-ghost use Rattle.std.specs.Prelude.{◌≡◌, ◌+◌, ◌*◌, ◌<◌, ◌↔◌, IfSome, IsSome, IsTrue};
+ghost use Rattle.std.specs.Prelude.{◌≡◌, ◌+◌, ◌-◌, ◌*◌, ◌<◌, ◌↔◌, IfSome, IsSome, IsTrue};
 ghost use Rattle.archive_check.specs.Shape.{one, array as array_shape};
 ghost use Rattle.archive_core.specs.Seen.{ShowsPartOf};
-ghost use Rattle.archive_core.specs.Views.{ShowsPart, element_in};
+ghost use Rattle.archive_core.specs.Views.{ShowsPart, element_in, spots};
 
+mod sources;
+
+use crate::slice::Iter;
 use crate::traits::Portable;
 use crate::view::{RawView, Ref};
 
@@ -51,5 +54,12 @@ impl<'a, T: Portable, const N: usize> Ref<'a, [T; N]> {
             return None;
         }
         Some(self.index(index))
+    }
+
+    /// Views of the elements, in order and from either end.
+    pub fn iter(self) -> Iter<'a, T>
+        ensures { spots result.slice.bytes.now result.slice.pos T.layout.size result.front (result.back - result.front) ≡ spots self.entry.bytes.now self.entry.pos T.layout.size 0 N }
+    {
+        Iter::over(self.part(), N)
     }
 }

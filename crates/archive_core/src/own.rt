@@ -1,4 +1,5 @@
-//! Records of your own, under a name: their format, which is told once for all of them. Where rkyv 0.8.18 derives an archived type for each struct.
+//! Records and choices of your own, under a name: their formats, which are told once for all of them. Where rkyv 0.8.18 derives an archived type for each
+//! struct and enum.
 
 ghost use Rattle.std.specs.Prelude.{◌≡◌, IfOk, IfErr, IsTrue, refl};
 ghost use Rattle.archive_check.specs.Definitions.{both, defines};
@@ -11,6 +12,9 @@ ghost use Rattle.archive_check.specs.Shape.{Name, named, one, parts};
 ghost use Rattle.archive_check.specs.Value.{product};
 ghost use Rattle.archive_check.specs.Viewed.{Viewed};
 
+mod choices;
+mod variants;
+
 use crate::parts::{DeserializeParts, OwnedParts, PartOf};
 use crate::record::deserialize_record;
 use crate::traits::{
@@ -21,8 +25,10 @@ use crate::view::RawView;
 use archive_check::format::error::Error;
 use archive_check::self_check::SelfCheck;
 use archive_check::shape::{Defs, Expr};
+pub use choices::{ArchivedChoice, NamedChoice};
 use std::alloc::Global;
 use std::marker::PhantomData;
+pub use variants::{deserialize_variant, resolve_variant, serialize_variant};
 
 /// What tells one archived record from others: its name and its parts. A type of its own implements this for each record.
 pub trait NamedRecord {

@@ -1,11 +1,9 @@
-// The elements of a slice, from both ends.
+// The elements of a slice or of an array, from both ends.
 
-ghost use Rattle.std.specs.Prelude.{◌≡◌, ◌-◌, ◌≤◌};
+ghost use Rattle.std.specs.Prelude.{◌≡◌, ◌+◌, ◌*◌, ◌-◌, ◌≤◌, ◌<◌};
 ghost use Rattle.std.specs.Iterator.{YieldsFirstBy, YieldsLastBy, item_count};
-ghost use Rattle.archive_check.specs.Shape.{run};
-ghost use Rattle.archive_check.specs.Viewed.{Viewed};
-ghost use Rattle.archive_core.specs.Views.{spots};
 ghost use Rattle.archive_core.specs.Seen.{spots_between, spots_shown};
+ghost use Rattle.archive_core.specs.Views.{AreViewed, spots};
 
 use super::ArchivedSlice;
 use crate::traits::Portable;
@@ -13,16 +11,45 @@ use crate::view::{RawView, Ref};
 use std::iter::FusedIterator;
 use std::marker::PhantomData;
 
-/// Views of the elements of a slice that are left, from either end. As Rust's iterator over a slice.
+/// Views of the elements of a slice or of an array that are left, from either end. As Rust's iterator over a slice.
 #[derive(Drop)]
 pub struct Iter<'a, T: Portable> {
     slice: RawView<'a>,
     front: usize,
     back: usize,
     of: PhantomData<T>,
-    ghost valid: { Viewed T.definitions slice.bytes.now slice.pos (run T.shape) slice.len },
-    ghost within: { back ≤ slice.len },
+    ghost valid: { AreViewed T.definitions slice.bytes.now slice.pos T.layout.size T.pointee back },
     ghost order: { front ≤ back },
+}
+
+impl<'a, T: Portable> Iter<'a, T> {
+    // Views of elements, of which there are so many from the position of `part` on.
+    pub(crate) fn over(part: RawView<'a>, count: usize) -> Iter<'a, T>
+        requires { AreViewed T.definitions part.bytes.now part.pos T.layout.size T.pointee count }
+        ensures { spots result.slice.bytes.now result.slice.pos T.layout.size result.front (result.back - result.front) ≡ spots part.entry.bytes.now part.entry.pos T.layout.size 0 count }
+    {
+        Iter {
+            slice: part,
+            front: 0,
+            back: count,
+            of: PhantomData,
+        }
+    }
+
+    // The element `index`, counted from the first of all.
+    fn element(&self, index: usize) -> Ref<'a, T>
+        requires { index < self.now.back }
+        ensures buffer { result.bytes.now ≡ self.now.slice.bytes.now }
+        ensures position { result.pos ≡ self.now.slice.pos + index * T.layout.size }
+    {
+        let RawView { bytes, pos, .. } = self.slice;
+        prove!(bytes.len() <= usize::MAX);
+        Ref::at(RawView {
+            bytes,
+            pos: pos + index * T::size(),
+            len: 0,
+        })
+    }
 }
 
 impl<'a, T: Portable> Ref<'a, ArchivedSlice<T>> {
@@ -30,12 +57,7 @@ impl<'a, T: Portable> Ref<'a, ArchivedSlice<T>> {
     pub fn iter(self) -> Iter<'a, T>
         ensures { spots_between result.slice T.layout.size result.front result.back ≡ spots_shown T.layout.size self.entry }
     {
-        Iter {
-            slice: self.part(),
-            front: 0,
-            back: self.len(),
-            of: PhantomData,
-        }
+        Iter::over(self.part(), self.len())
     }
 }
 
@@ -50,8 +72,7 @@ impl<'a, T: Portable> Iterator for Iter<'a, T> {
         if self.front >= self.back {
             return None;
         }
-        let slice: Ref<'a, ArchivedSlice<T>> = Ref::at(self.slice);
-        let item = slice.index(self.front);
+        let item = self.element(self.front);
         self.front += 1;
         Some(item)
     }
@@ -70,9 +91,9 @@ impl<'a, T: Portable> DoubleEndedIterator for Iter<'a, T> {
         if self.front >= self.back {
             return None;
         }
-        let slice: Ref<'a, ArchivedSlice<T>> = Ref::at(self.slice);
+        let item = self.element(self.back - 1);
         self.back -= 1;
-        Some(slice.index(self.back))
+        Some(item)
     }
 }
 

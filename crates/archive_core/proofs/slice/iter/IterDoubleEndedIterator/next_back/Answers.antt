@@ -3,7 +3,7 @@ use Rattle.archive_core.proofs.Spots.{spots_last, spots_count}
 use Rattle.archive_core.proofs.slice.iter.IterDoubleEndedIterator.next_back.Goals as goal
 
 pub returns-clause-steps : goal.returns-clause-steps
-returns-clause-steps g c = rw (c.index.ensures.buffer, c.index.ensures.position, c.at-slice.ensures.buffer, c.at-slice.ensures.position) (spots_last _ _ _ _ _ (omega (arith, c.if-self.false)))
+returns-clause-steps g c = rw (c.element-item.ensures.buffer, c.element-item.ensures.position) (spots_last _ _ _ _ _ (omega (arith, c.if-self.false)))
 
 pub returns-clause-goes : goal.returns-clause-goes
 returns-clause-goes g c = record {
