@@ -14,7 +14,7 @@ use Rattle.archive_check.specs.declared.format.traits.Keys as Keys
 use Rattle.archive_write.specs.Written.{padding, ExplainsRefusal}
 use Rattle.archive_core.specs.Causes.{Explains, HindersRegionAt, IsRefused}
 use Rattle.archive_core.specs.KindsWritten.{VecSerialized}
-use Rattle.archive_core.specs.Placed.{FormatOf}
+use Rattle.archive_check.specs.Formats.{FormatOf}
 use Rattle.archive_core.specs.Plans.{Serialized}
 use Rattle.archive_core.specs.Writing.{Naming, Puts}
 use Rattle.archive_core.specs.declared.traits.Archive as Archive
