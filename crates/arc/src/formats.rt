@@ -3,6 +3,7 @@
 use crate::all_values::ArchivedAllValues;
 use crate::node::{ArchivedNode, Node, node_of};
 use crate::shared::{TwoShared, check_shared_and_weak, check_two_shared, two_shared};
+use crate::test_record::{ArchivedTest, Test, TestOf};
 use archive_core::api::{access, to_bytes};
 use archive_core::boxed::{ArchivedBox, BoxSlice};
 use archive_core::error::Error;
@@ -42,6 +43,8 @@ pub enum Format {
     Node,
     /// `all-values`, a shared value of its own type, which is checked alone.
     AllValues,
+    /// `test`, a record of a number, a text and perhaps a list, written with semicolons between them; the list as `none`, or as numbers between commas.
+    Test,
 }
 
 /// A value that a command gives.
@@ -59,6 +62,8 @@ pub enum Value<'a> {
     TwoRc(TwoShared),
     /// A list of boxes in boxes.
     Node(Node),
+    /// A record.
+    Test(Test),
 }
 
 impl Format {
@@ -77,6 +82,7 @@ impl Format {
             "rc-weak" => Some(Format::RcWeak),
             "node" => Some(Format::Node),
             "all-values" => Some(Format::AllValues),
+            "test" => Some(Format::Test),
             _ => None,
         }
     }
@@ -84,7 +90,7 @@ impl Format {
     /// The value that a word stands for: none where it stands for none, or the format is checked alone. Refused with 1 where memory is refused.
     pub fn value(self, alloc: Global, word: &String) -> Result<Option<Value<'_>>, Error> {
         match self {
-            Format::U32 => match number(word.as_str()) {
+            Format::U32 => match u32::read(word.as_str()) {
                 Some(number) => Ok(Some(Value::U32(number))),
                 None => Ok(None),
             },
@@ -107,9 +113,13 @@ impl Format {
                 Some((first, second)) => Ok(Some(Value::TwoRc(two_shared(alloc, first, second)?))),
                 None => Ok(None),
             },
-            Format::Node => match number(word.as_str()) {
+            Format::Node => match u32::read(word.as_str()) {
                 Some(count) if count <= 1000 => Ok(Some(Value::Node(node_of(alloc, count)?))),
                 _ => Ok(None),
+            },
+            Format::Test => match test_record(alloc, word.as_str())? {
+                Some(record) => Ok(Some(Value::Test(record))),
+                None => Ok(None),
             },
         }
     }
@@ -129,6 +139,7 @@ impl Format {
             Format::RcWeak => check_shared_and_weak::<ArchivedU32>(alloc, bytes),
             Format::Node => check_as::<ArchivedNode>(alloc, bytes),
             Format::AllValues => check_as::<ArchivedAllValues>(alloc, bytes),
+            Format::Test => check_as::<ArchivedTest>(alloc, bytes),
         }
     }
 }
@@ -149,6 +160,7 @@ impl Value<'_> {
             Value::VecU32(numbers) => to_bytes(alloc, &numbers),
             Value::TwoRc(pair) => to_bytes(alloc, &pair),
             Value::Node(node) => to_bytes(alloc, &node),
+            Value::Test(record) => to_bytes(alloc, &record),
         }
     }
 }
@@ -171,20 +183,51 @@ fn check_two_boxes<T: PortablePointee>(alloc: Global, bytes: &[u8]) -> Result<()
     Ok(())
 }
 
-// The number of one or more digits.
-fn number(word: &str) -> Option<u32> {
-    if word.bytes().all(|byte| byte.is_ascii_digit()) {
-        word.parse().ok()
-    } else {
-        None
+// A number that a word may stand for.
+trait Digits {
+    // The number of one or more digits, behind a `-` where it may be negative.
+    fn read(word: &str) -> Option<Self>;
+}
+
+impl Digits for u8 {
+    fn read(word: &str) -> Option<u8> {
+        if are_digits(word) {
+            word.parse().ok()
+        } else {
+            None
+        }
     }
+}
+
+impl Digits for u32 {
+    fn read(word: &str) -> Option<u32> {
+        if are_digits(word) {
+            word.parse().ok()
+        } else {
+            None
+        }
+    }
+}
+
+impl Digits for i32 {
+    fn read(word: &str) -> Option<i32> {
+        if are_digits(word.strip_prefix('-').unwrap_or(word)) {
+            word.parse().ok()
+        } else {
+            None
+        }
+    }
+}
+
+fn are_digits(word: &str) -> bool {
+    word.bytes().all(|byte| byte.is_ascii_digit())
 }
 
 // The number, or the two with a comma between them.
 fn one_or_two(word: &str) -> Option<(u32, Option<u32>)> {
     match word.split_once(',') {
-        None => Some((number(word)?, None)),
-        Some((first, second)) => Some((number(first)?, Some(number(second)?))),
+        None => Some((u32::read(word)?, None)),
+        Some((first, second)) => Some((u32::read(first)?, Some(u32::read(second)?))),
     }
 }
 
@@ -204,16 +247,39 @@ fn optional_bytes(alloc: Global, word: &str) -> Result<Option<Option<Vec<u8>>>, 
 }
 
 // The numbers that stand between commas.
-fn numbers(alloc: Global, word: &str) -> Result<Option<Vec<u32>>, Error> {
+fn numbers<N: Digits + Drop>(alloc: Global, word: &str) -> Result<Option<Vec<N>>, Error> {
     let mut all = Vec::new(alloc);
     if word.is_empty() {
         return Ok(Some(all));
     }
     for digits in word.split(',') {
-        let Some(number) = number(digits) else {
+        let Some(number) = N::read(digits) else {
             return Ok(None);
         };
         all.push(number)?;
     }
     Ok(Some(all))
+}
+
+// A number, a text and a list, with semicolons between them: the first and the last one of the word.
+fn test_record(alloc: Global, word: &str) -> Result<Option<Test>, Error> {
+    let Some((first, rest)) = word.split_once(';') else {
+        return Ok(None);
+    };
+    let Some((text, last)) = rest.rsplit_once(';') else {
+        return Ok(None);
+    };
+    let Some(number) = u8::read(first) else {
+        return Ok(None);
+    };
+    let list = if last == "none" {
+        None
+    } else {
+        match numbers(alloc, last)? {
+            Some(list) => Some(list),
+            None => return Ok(None),
+        }
+    };
+    let text = String::from_str(alloc, text)?;
+    Ok(Some(TestOf { number, text, list }))
 }

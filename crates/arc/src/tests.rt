@@ -5,6 +5,8 @@ use std::alloc::{AllocError, Global};
 use std::io;
 use std::test::Fail;
 
+mod records;
+
 fn words_of(alloc: Global, command: &str) -> Result<Vec<String>, AllocError> {
     let mut words = Vec::new(alloc);
     for word in command.split('|') {
@@ -44,6 +46,22 @@ fn values_are_written(rt: HostRuntime) -> Result<(), Fail> {
         (
             "write|string|123456789",
             "31323334353637383900000089000000f4ffffff\n",
+        ),
+        (
+            "write|test|42;hello world;1,2,3,4",
+            "68656c6c6f20776f726c6400010000000200000003000000040000002a0000008b000000e0ffffff01000000e0ffffff04000000\n",
+        ),
+        (
+            "write|test|1;a;b;none",
+            "01000000613b62ffffffffff000000000000000000000000\n",
+        ),
+        (
+            "write|test|0;;",
+            "00000000ffffffffffffffff01000000f0ffffff00000000\n",
+        ),
+        (
+            "write|test|255;;-1",
+            "ffffffffff000000ffffffffffffffff01000000ecffffff01000000\n",
         ),
     ];
     for (command, line) in rows {
@@ -108,6 +126,16 @@ fn archives_are_checked(rt: HostRuntime) -> Result<(), Fail> {
             1,
             "refused: 16 InvalidSubtreePointer\n",
         ),
+        (
+            "check|test|68656c6c6f20776f726c6400010000000200000003000000040000002a0000008b000000e0ffffff01000000e0ffffff04000000",
+            0,
+            "accepted\n",
+        ),
+        (
+            "check|test|01000000613b62ffffffffff02000000f0ffffff00000000",
+            1,
+            "refused: 24 InvalidDiscriminant\n",
+        ),
         ("check|opt-u32|00aabbcc01020304", 0, "accepted\n"),
         ("check|opt-u32|010000002a000000", 0, "accepted\n"),
         (
@@ -149,6 +177,15 @@ fn other_words_are_bad_arguments(rt: HostRuntime) -> Result<(), Fail> {
         "write|opt-u32|1",
         "write|opt-u32|none",
         "write|two-box-bytes|none",
+        "write|test|42",
+        "write|test|42;hello",
+        "write|test|256;;none",
+        "write|test|;;none",
+        "write|test|-1;;none",
+        "write|test|1;;1,",
+        "write|test|1;;-",
+        "write|test|1;;2147483648",
+        "write|test|1;;None",
         "write|opt-box-bytes|",
         "write|opt-box-bytes|some",
         "write|opt-box-bytes|some:6",
