@@ -2,12 +2,12 @@
 use Rattle.std.specs.Prelude.{◌≡◌, ◌⊎◌, ℕ, ◌+◌, ◌<◌, ◌≤◌, ◌^◌, List, length}
 use Rattle.archive_check.specs.Shape.{Shape, Parts}
 use Rattle.archive_check.specs.Definitions.{Definitions, Knows}
-use Rattle.archive_check.specs.Value.{Value, Values}
+use Rattle.archive_check.specs.Value.{Value, list, Values}
 use Rattle.archive_check.specs.Reads.{Schema, ReadsParts}
 use Rattle.archive_check.specs.CleanRegions.{Occurs, IsZeroed, CleanParts}
 use Rattle.archive_check.specs.WriterState.{WriterState}
 use Rattle.archive_check.specs.declared.format.error.Error.{Error}
-use Rattle.archive_core.specs.Writing.{NameMap, Naming, WritesAll}
+use Rattle.archive_core.specs.Writing.{NameMap, Naming, IsKeyed, WritesAll}
 use Rattle.archive_core.specs.Plans.{Cursor, cursor, IsAt, Step, PlansParts, Whatever, Foreseen}
 use Rattle.archive_core.specs.Causes.{Explains, PartOfParts, HindersPart, HindersPartAt, HindersSome, IsOwnCause}
 
@@ -22,6 +22,14 @@ pub record PartsPlan (s : Schema) (names : NameMap) (ps : Parts) (vs : Values) (
 -- there is one, from wherever a writer stands
 pub record HavePlan (D : Definitions) (ps : Parts) (keys : List Naming) (vs : Values) : Type 0 where
   pub plan : (a : Cursor) → Whatever D keys (λ s names. PartsPlan s names ps vs a (λ ws C b. Unit {0}))
+
+-- of each value of a type, the same
+pub record ArePlanned {T : Type 0} (D : Definitions) (ps : Parts) (keys : T → List Naming) (meanings : T → Values) : Type 0 where
+  pub each : (v : T) → HavePlan D ps (keys v) (meanings v)
+
+-- and its keys are those that its parts lead to
+pub record AreKeyed {T : Type 0} (keys : T → List Naming) (meanings : T → Values) : Type 0 where
+  pub each : (v : T) → IsKeyed (keys v) (list (meanings v))
 
 -- Values one after another were serialized, as planned.
 pub data SerializedParts (D : Definitions) (ps : Parts) (keys : List Naming) (vs flats : Values) (old new : WriterState) : Type 0 where

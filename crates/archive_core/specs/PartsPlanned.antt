@@ -5,10 +5,11 @@ use Rattle.archive_check.specs.Definitions.{Definitions, both}
 use Rattle.archive_check.specs.PartsLayout.{StandsFor, for_itself, by_name, IsRecord}
 use Rattle.archive_check.specs.Value.{Value, product, Values, no_value, value}
 use Rattle.archive_check.specs.Reads.{Schema}
-use Rattle.archive_core.specs.Writing.{NameMap, Naming}
+use Rattle.archive_core.specs.Writing.{NameMap, Naming, IsKeyed}
 use Rattle.archive_core.specs.Plans.{Cursor, Step, plans_no_part, plans_part, plans_parts, plans_named, PlanOf, HasPlan}
 use Rattle.archive_core.specs.Sides.{knows_left, knows_right, named_left, named_right}
-use Rattle.archive_core.specs.Parts.{PartsPlan, HavePlan}
+use Rattle.archive_core.specs.Keyed.{record_keyed}
+use Rattle.archive_core.specs.Parts.{PartsPlan, HavePlan, ArePlanned, AreKeyed}
 
 pub no_part_planned : {D : Definitions} → HavePlan D no_part [] no_value
 no_part_planned = record { plan = λ a s names k n. record { flats = no_value; steps = []; stop = a; plans = plans_no_part; such = tt } }
@@ -31,6 +32,12 @@ product_plan ps vs s names a holds such f h = record { flat = product h.flats; s
 
 pub product_planned : (D : Definitions) (ps : Parts) (ks : List Naming) (vs : Values) → HavePlan D ps ks vs → HasPlan D (parts ps) ks (product vs)
 product_planned D ps ks vs h a s names k n = product_plan ps vs s names a _ _ (λ ws C b x. tt) (h.plan a s names k n)
+
+pub whole_planned : {T : Type 0} {D : Definitions} {ps : Parts} (keys : T → List Naming) (meanings : T → Values) → ArePlanned D ps keys meanings → (v : T) → HasPlan D (parts ps) (keys v) (product (meanings v))
+whole_planned {D = D} {ps = ps} keys meanings h v = product_planned D ps (keys v) (meanings v) (h.each v)
+
+pub whole_keyed : {T : Type 0} (keys : T → List Naming) (meanings : T → Values) → AreKeyed keys meanings → (v : T) → IsKeyed (keys v) (product (meanings v))
+whole_keyed keys meanings h v = record_keyed (h.each v)
 
 -- a plan of a Y is one of what stands for it
 pub standing_plan : (s : Schema) (names : NameMap) (Y X : Shape) (v : Value) (a : Cursor) (holds : Value → List Step → Cursor → Type 0) → StandsFor s Y X → PlanOf s names Y v a holds → PlanOf s names X v a holds

@@ -5,12 +5,12 @@ ghost use Rattle.std.specs.Prelude.{◌≡◌, ◌<◌, ℕ, length, List, [], �
 ghost use Rattle.archive_check.specs.Definitions.{both, no_definition};
 ghost use Rattle.archive_check.specs.Layout.{up};
 ghost use Rattle.archive_check.specs.Shape.{part, no_part};
-ghost use Rattle.archive_check.specs.Value.{Values, list, no_value, value};
+ghost use Rattle.archive_check.specs.Value.{Values, no_value, value};
 ghost use Rattle.archive_core.specs.Keyed.{nothing_keyed, part_keyed};
-ghost use Rattle.archive_core.specs.Parts.{HavePlan, SerializedParts, ArePartsRefused, FreshParts, ResolvesParts, HindersPartsAt};
+ghost use Rattle.archive_core.specs.Parts.{ArePlanned, AreKeyed, SerializedParts, ArePartsRefused, FreshParts, ResolvesParts, HindersPartsAt};
 ghost use Rattle.archive_core.specs.PartsPlanned.{no_part_planned, part_planned};
 ghost use Rattle.archive_core.specs.PartsReading.{PartsViewed, PartsReadBack, RefusesParts};
-ghost use Rattle.archive_core.specs.Writing.{Naming, IsKeyed};
+ghost use Rattle.archive_core.specs.Writing.{Naming};
 ghost use Rattle.archive_write.specs.Written.{GoesOn};
 
 use crate::ser::resolve_into;
@@ -70,10 +70,10 @@ pub trait SourceParts<T> {
         ensures refused { IfErr result (HindersPartsAt Self.Archived.definitions Self.Archived.parts (flats whole.now resolvers) pos start) };
 
     // Their keys are those that their meanings lead to.
-    ghost keyed: { (v : T) → IsKeyed (keys v) (list (meanings v)) };
+    ghost keyed: { AreKeyed keys meanings };
 
     // There is a plan of what they own.
-    ghost planned: { (v : T) → HavePlan Self.Archived.definitions Self.Archived.parts (keys v) (meanings v) };
+    ghost planned: { ArePlanned Self.Archived.definitions Self.Archived.parts keys meanings };
 }
 
 impl<T> SourceParts<T> for () {
@@ -89,9 +89,9 @@ impl<T> SourceParts<T> for () {
 
     ghost belongs = { λ v r. Unit {0} };
 
-    ghost keyed = { λ v. nothing_keyed };
+    ghost keyed = { record { each = λ v. nothing_keyed } };
 
-    ghost planned = { λ v. no_part_planned };
+    ghost planned = { record { each = λ v. no_part_planned } };
 
     fn resolve_parts(
         _whole: &T,
@@ -117,9 +117,9 @@ impl<T, A: PartOf<T>, R: SourceParts<T>> SourceParts<T> for (A, R) {
 
     ghost belongs = { λ v r. A.Source.belongs (A.part v) r.0 × R.belongs v r.1 };
 
-    ghost keyed = { λ v. part_keyed (A.Source.keyed (A.part v)) (R.keyed v) };
+    ghost keyed = { record { each = λ v. part_keyed (A.Source.keyed (A.part v)) (R.keyed.each v) } };
 
-    ghost planned = { λ v. part_planned A.Source.Archived.definitions A.Source.Archived.shape (A.Source.keys (A.part v)) (A.Source.meaning (A.part v)) (A.Source.planned (A.part v)) (R.planned v) };
+    ghost planned = { record { each = λ v. part_planned A.Source.Archived.definitions A.Source.Archived.shape (A.Source.keys (A.part v)) (A.Source.meaning (A.part v)) (A.Source.planned (A.part v)) (R.planned.each v) } };
 
     fn resolve_parts(
         whole: &T,

@@ -15,6 +15,10 @@ pub struct Part1;
 #[derive(Debug)]
 pub struct Part2;
 
+/// The fourth part of a tuple.
+#[derive(Debug)]
+pub struct Part3;
+
 /// The parts of a tuple of 1.
 pub(super) type Parts1 = (Part0, ());
 
@@ -23,6 +27,9 @@ pub(super) type Parts2 = (Part0, (Part1, ()));
 
 /// The parts of a tuple of 3.
 pub(super) type Parts3 = (Part0, (Part1, (Part2, ())));
+
+/// The parts of a tuple of 4.
+pub(super) type Parts4 = (Part0, (Part1, (Part2, (Part3, ()))));
 
 impl<A: Archive> PartOf<(A,)> for Part0 {
     type Source = A;

@@ -1,78 +1,65 @@
-// Tuples are read back.
+// Tuples are read back: from their parts, one after another.
 
-ghost use Rattle.std.specs.Prelude.{◌≡◌, IfOk, IfErr};
-ghost use Rattle.archive_check.specs.Entries.{ReadsBack, RefusesReading};
-ghost use Rattle.archive_check.specs.Viewed.{Viewed};
+ghost use Rattle.std.specs.Prelude.{IfOk, IfErr};
 ghost use Rattle.archive_core.specs.Seen.{IsPartOf, RefusesPart};
 ghost use Rattle.archive_core.specs.Sources.{Read};
 
+use crate::own::FromParts;
+use crate::parts::DeserializeParts;
 use crate::record::deserialize_record;
-use crate::traits::{Archive, ArchivePointee, Deserialize, Entries, Portable};
+use crate::traits::{Archive, ArchivePointee, Deserialize, Entries, PortableParts};
 use crate::view::RawView;
 use archive_check::format::error::Error;
-use archive_tuple::{ArchivedTuple1, ArchivedTuple2, ArchivedTuple3};
+use archive_tuple::ArchivedTuple;
 use std::alloc::Global;
 
-impl<A: Archive + Drop, De: Entries, N: Portable + Deserialize<A, De>> Deserialize<(A,), De>
-    for ArchivedTuple1<N> {
-    fn deserialize_part(
-        alloc: Global,
-        part: RawView<'_>,
-        deserializer: &mut De,
-    ) -> Result<(A,), Error>
+impl<P: PortableParts, T: FromParts, D: Entries> Deserialize<T, D> for ArchivedTuple<P>
+where
+    P: DeserializeParts<T::Owned, D>,
+{
+    fn deserialize_part(alloc: Global, part: RawView<'_>, deserializer: &mut D) -> Result<T, Error>
         requires { IsPartOf ⟦<Self as ArchivePointee>⟧ part }
-        ensures read { IfOk result (Read ⟦<Self as ArchivePointee>⟧ part De.Entries deserializer ⟦<(A,) as Archive>⟧) }
-        ensures refused { IfErr result (RefusesPart ⟦<Self as ArchivePointee>⟧ part De.Entries deserializer) }
+        ensures read { IfOk result (Read ⟦<Self as ArchivePointee>⟧ part D.Entries deserializer T.Archive) }
+        ensures refused { IfErr result (RefusesPart ⟦<Self as ArchivePointee>⟧ part D.Entries deserializer) }
     {
-        let (a, ()) = deserialize_record::<Self, (A, ()), De>(alloc, part, deserializer)?;
-        Ok((a,))
+        let values = deserialize_record::<Self, T::Owned, D>(alloc, part, deserializer)?;
+        Ok(T::from_parts(values))
     }
 }
 
-impl<
-    A: Archive + Drop,
-    B: Archive + Drop,
-    De: Entries,
-    N: Portable + Deserialize<A, De>,
-    O: Portable + Deserialize<B, De>,
-> Deserialize<(A, B), De> for ArchivedTuple2<N, O> {
-    fn deserialize_part(
-        alloc: Global,
-        part: RawView<'_>,
-        deserializer: &mut De,
-    ) -> Result<(A, B), Error>
-        requires { IsPartOf ⟦<Self as ArchivePointee>⟧ part }
-        ensures read { IfOk result (Read ⟦<Self as ArchivePointee>⟧ part De.Entries deserializer ⟦<(A, B) as Archive>⟧) }
-        ensures refused { IfErr result (RefusesPart ⟦<Self as ArchivePointee>⟧ part De.Entries deserializer) }
-    {
-        let (a, (b, ())) = deserialize_record::<Self, (A, (B, ())), De>(alloc, part, deserializer)?;
-        Ok((a, b))
+impl<A: Archive + Drop> FromParts for (A,) {
+    type Owned = (A, ());
+
+    fn from_parts(values: (A, ())) -> (A,) {
+        let (a, ()) = values;
+        (a,)
     }
 }
 
-impl<
-    A: Archive + Drop,
-    B: Archive + Drop,
-    C: Archive + Drop,
-    De: Entries,
-    N: Portable + Deserialize<A, De>,
-    O: Portable + Deserialize<B, De>,
-    P: Portable + Deserialize<C, De>,
-> Deserialize<(A, B, C), De> for ArchivedTuple3<N, O, P> {
-    fn deserialize_part(
-        alloc: Global,
-        part: RawView<'_>,
-        deserializer: &mut De,
-    ) -> Result<(A, B, C), Error>
-        requires { IsPartOf ⟦<Self as ArchivePointee>⟧ part }
-        ensures read { IfOk result (Read ⟦<Self as ArchivePointee>⟧ part De.Entries deserializer ⟦<(A, B, C) as Archive>⟧) }
-        ensures refused { IfErr result (RefusesPart ⟦<Self as ArchivePointee>⟧ part De.Entries deserializer) }
-    {
-        let (a, (b, (c, ()))) = deserialize_record::<Self, (A, (B, (C, ()))), De>(
-            alloc,
-            part,
-            deserializer,
-        )?;
-        Ok((a, b, c))
+impl<A: Archive + Drop, B: Archive + Drop> FromParts for (A, B) {
+    type Owned = (A, (B, ()));
+
+    fn from_parts(values: (A, (B, ()))) -> (A, B) {
+        let (a, (b, ())) = values;
+        (a, b)
+    }
+}
+
+impl<A: Archive + Drop, B: Archive + Drop, C: Archive + Drop> FromParts for (A, B, C) {
+    type Owned = (A, (B, (C, ())));
+
+    fn from_parts(values: (A, (B, (C, ())))) -> (A, B, C) {
+        let (a, (b, (c, ()))) = values;
+        (a, b, c)
+    }
+}
+
+impl<A: Archive + Drop, B: Archive + Drop, C: Archive + Drop, D: Archive + Drop> FromParts
+    for (A, B, C, D) {
+    type Owned = (A, (B, (C, (D, ()))));
+
+    fn from_parts(values: (A, (B, (C, (D, ()))))) -> (A, B, C, D) {
+        let (a, (b, (c, (d, ())))) = values;
+        (a, b, c, d)
     }
 }

@@ -4,7 +4,7 @@ use Rattle.archive_core.proofs.parts.Tuple2SerializeParts.serialize_parts.Goals 
 
 pub returns-in_err-first-clause-refused : goal.returns-in_err-first-clause-refused
 returns-in_err-first-clause-refused g c = err_by c.from_residual.result c.in_err-first.field-0.0 _ c.from_residual.ensures.1
-    (first_refused _ _ _ _ _ _ _ _ _ _ _ (g.met.R.SourceParts.planned _) (rw c.part_of.ensures at c.in_err-first.ensures.refused))
+    (first_refused _ _ _ _ _ _ _ _ _ _ _ (g.met.R.SourceParts.planned.each _) (rw c.part_of.ensures at c.in_err-first.ensures.refused))
 
 pub returns-in_err-others-clause-goes_on : goal.returns-in_err-others-clause-goes_on
 returns-in_err-others-clause-goes_on g c = goes_both _ _ _ c.serialize.ensures.goes_on c.serialize_parts.ensures.goes_on
