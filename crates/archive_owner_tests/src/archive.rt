@@ -9,6 +9,7 @@ mod own_choices;
 mod owner_reading;
 mod owner_views;
 mod owners;
+mod places;
 mod results;
 mod tuples;
 

@@ -11,7 +11,6 @@ ghost use Rattle.archive_check.specs.VariantsLayout.{choice_has_layout, is_named
 
 use archive_core::api::{access, access_mut};
 use archive_core::error::Error;
-use archive_core::place::Place;
 use archive_core::primitive::ArchivedU32;
 use archive_core::self_check::BySchema;
 use archive_core::shape::{Defs, Expr};
@@ -25,12 +24,12 @@ use std::marker::PhantomData;
 use std::test::Fail;
 
 // The choice `ArchivedEvent` of these variants.
-struct ArchivedEvent<V> {
+pub(super) struct ArchivedEvent<V> {
     of: PhantomData<V>,
 }
 
 // Nothing; a number; or a byte and a text.
-type Event = ArchivedEvent<((), ((ArchivedU32, ()), ((u8, (ArchivedString, ())), ())))>;
+pub(super) type Event = ArchivedEvent<((), ((ArchivedU32, ()), ((u8, (ArchivedString, ())), ())))>;
 
 impl<V: PortableVariants> ArchivePointee for ArchivedEvent<V> {
     type ArchivedMetadata = ();
@@ -128,12 +127,4 @@ fn a_tag_without_a_variant_is_refused(rt: HostRuntime) {
         value: 3,
     };
     assert!(rt; access::<Event>(rt.alloc(), bytes).is_err_and(|error| error == refusal));
-}
-
-#[test]
-fn a_tag_is_written_alone(rt: HostRuntime) {
-    let mut bytes = [0u8; 12];
-    let mut place: Place<'_, Event> = Place::new(0, &mut bytes);
-    place.write_tag(2);
-    assert_eq!(rt; bytes, [2, 0, 0, 0, 0, 0, 0, 0, 0, 0, 0, 0]);
 }

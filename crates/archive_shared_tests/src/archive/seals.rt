@@ -130,6 +130,8 @@ fn a_weak_pointers_value_written_over(rt: HostRuntime) -> Result<(), Fail> {
         access_pos::<SharedNumber>(alloc, &bytes, 4)?.get().get(),
         17
     );
+    let number = access::<WeakNumber>(alloc, &bytes)?.upgrade();
+    assert_eq!(rt; number.map(|number| number.get()), Some(17));
     let mut null = [1, 0, 0, 0];
     assert!(rt;
         access_mut::<WeakNumber>(alloc, &mut null)?
