@@ -1,10 +1,13 @@
 // Arrays.
 
-use archive_core::api::{HighValidator, access};
+use archive_core::api::{HighValidator, access, to_bytes};
 use archive_core::primitive::ArchivedU16;
 use archive_core::shape::Schema;
 use archive_core::string::ArchivedString;
 use std::test::Fail;
+
+// The array of the texts "hi" and "".
+const TEXTS: &[u8] = b"hi\xff\xff\xff\xff\xff\xff\xff\xff\xff\xff\xff\xff\xff\xff";
 
 #[test]
 fn arrays_have_their_elements(rt: HostRuntime) -> Result<(), Fail> {
@@ -23,12 +26,26 @@ fn arrays_have_their_elements(rt: HostRuntime) -> Result<(), Fail> {
 
 #[test]
 fn an_array_is_checked_by_its_schema(rt: HostRuntime) -> Result<(), Fail> {
-    let bytes = b"hi\xff\xff\xff\xff\xff\xff\xff\xff\xff\xff\xff\xff\xff\xff";
     let schema = Schema::of::<[ArchivedString; 2]>(rt.alloc())?;
-    let mut context = HighValidator::new(rt.alloc(), bytes);
-    schema.check(bytes, 0, &mut context)?;
-    let view = access::<[ArchivedString; 2]>(rt.alloc(), bytes)?;
+    let mut context = HighValidator::new(rt.alloc(), TEXTS);
+    schema.check(TEXTS, 0, &mut context)?;
+    let view = access::<[ArchivedString; 2]>(rt.alloc(), TEXTS)?;
     assert_eq!(rt; view.index(0).as_str(), "hi");
     assert_eq!(rt; view.index(1).pos(), 8);
+    Ok(())
+}
+
+#[test]
+fn an_array_is_written_element_by_element(rt: HostRuntime) -> Result<(), Fail> {
+    let numbers: [u16; 3] = [1, 2, 3];
+    assert_eq!(rt;
+        to_bytes(rt.alloc(), &numbers)?.as_slice(),
+        b"\x01\0\x02\0\x03\0".as_slice()
+    );
+    let texts = [
+        String::from_str(rt.alloc(), "hi")?,
+        String::from_str(rt.alloc(), "")?,
+    ];
+    assert_eq!(rt; to_bytes(rt.alloc(), &texts)?.as_slice(), TEXTS);
     Ok(())
 }
