@@ -2,11 +2,12 @@
 -- it was as the call began, and what it is at the return.
 use denote.Triple.Both.{Both}
 use denote.Ref.{MutBor}
-use Rattle.std.specs.Prelude.{ℕ, ℤ, ◌+◌, ◌*◌, ◌≤◌, List, [], length, Option, IfSome}
+use Rattle.std.specs.Prelude.{◌≡◌, ◌⊎◌, ℕ, ℤ, ◌+◌, ◌*◌, ◌≤◌, List, [], length, Option, IfSome}
 use Rattle.archive_check.specs.Shape.{Kind, leaf, parts, str, boxed, vec, one, run, text, no_part}
 use Rattle.archive_check.specs.Value.{Value, number, product, case, list, text_value, box, hole, Values, no_value}
 use Rattle.archive_check.specs.Definitions.{no_definition}
 use Rattle.archive_check.specs.declared.format.error.Error.{Error}
+use Rattle.archive_check.specs.declared.format.error.Error.TheVariants.{OutOfMemory}
 use Rattle.archive_check.specs.declared.format.traits.ArchivePointee as ArchivePointee
 use Rattle.archive_check.specs.declared.format.traits.Keys as Keys
 use Rattle.archive_core.specs.Causes.{HindersAt, HindersRegionAt, Explains, IsRefused, IsRegionRefused}
@@ -89,6 +90,14 @@ VecSerialized keys meaning f xs k w t =
 abbrev pub VecRefused : {T M S : Type 0} → (T → List Naming) → (T → Value) → FormatOf M → List T → Keys.Ghosts S → Both (MutBor S) (MutBor S) → Error → Type 0
 VecRefused keys meaning f xs k w e =
     IsRefused f.definitions (vec f.shape) (each_keys keys xs) (list (each_meaning meaning xs)) (k.state w.entry.now) (k.state w.exit.now) e
+
+-- the same of the items that came; nothing happened where there was no memory to keep them
+abbrev pub ItemsSerialized : {T M S : Type 0} → (List T → Type 0) → (T → List Naming) → (T → Value) → FormatOf M → Keys.Ghosts S → Both (MutBor S) (MutBor S) → ℕ → Type 0
+ItemsSerialized {T = T} Came keys meaning f k w t = (xs : List T) × Came xs × (length xs ≤ 4294967295) × VecSerialized keys meaning f xs k w t
+
+abbrev pub ItemsRefused : {T M S : Type 0} → (List T → Type 0) → (T → List Naming) → (T → Value) → FormatOf M → Keys.Ghosts S → Both (MutBor S) (MutBor S) → Error → Type 0
+ItemsRefused {T = T} Came keys meaning f k w e =
+    ((e ≡ OutOfMemory) × (w.exit.now ≡ w.entry.now)) ⊎ ((xs : List T) × Came xs × VecRefused keys meaning f xs k w e)
 
 abbrev pub VecResolved : {F M R : Type 0} → FormatOf M → Both (Place F) (MutBor (List ℕ) × R) → ℕ → ℕ → Type 0
 VecResolved f p t n = Resolves f.definitions p.entry.pos p.exit.0.now (vec f.shape) (hole (to_pointee t (run f.shape) n))

@@ -50,6 +50,10 @@ spots_between s size a b = spots s.bytes.now s.pos size a (b - a)
 abbrev pub spots_shown : {T M : Type 0} {g : ArchivePointee.Ghosts T M} → ℕ → Ref T M g → List (List ℕ × ℕ)
 spots_shown size v = spots v.bytes.now v.pos size 0 v.len
 
+-- the same of an array of n
+abbrev pub spots_of : {T M : Type 0} {g : ArchivePointee.Ghosts T M} → ℕ → ℕ → Ref T M g → List (List ℕ × ℕ)
+spots_of size n v = spots v.bytes.now v.pos size 0 n
+
 abbrev pub part_shown : RawView → Standing
 part_shown p = standing p.bytes.now p.pos p.len
 

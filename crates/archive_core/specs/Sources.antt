@@ -13,7 +13,7 @@ use Rattle.archive_check.specs.declared.format.traits.Keys as Keys
 use Rattle.archive_core.specs.Arrays.{ResolvesRun}
 use Rattle.archive_core.specs.Causes.{HindersAt, IsRefused, IsRegionRefused}
 use Rattle.archive_core.specs.Inner.{IsBoxed, IsNotBoxed}
-use Rattle.archive_core.specs.KindsWritten.{RunStored, RunUnstored}
+use Rattle.archive_core.specs.KindsWritten.{RunStored, RunStoredIf, RunUnstored}
 use Rattle.archive_check.specs.Formats.{FormatOf}
 use Rattle.archive_core.specs.Plans.{Serialized, SerializedRegion}
 use Rattle.archive_core.specs.Runs.{each_keys, each_meaning, each_flat, SerializedRun, IsRunRefused, HindersEachAt}
@@ -70,9 +70,12 @@ EachOwned a f xs rs k w =
 abbrev pub EachRefused : {T A R M C S : Type 0} → Archive.Ghosts T A R C M → FormatOf M → List T → Keys.Ghosts S → Both (MutBor S) (MutBor S) → Error → Type 0
 EachRefused a f xs k w e = IsRunRefused f.definitions f.shape (length xs) (each_keys a.keys xs) (each_meaning a.meaning xs) (k.state w.entry.now) (k.state w.exit.now) e
 
--- the elements were laid out in a region of their own, which stands at p; and why they weren't
+-- the elements were laid out in a region of their own, which stands at p, or at the position that there is; and why they weren't
 abbrev pub SliceStored : {T A R M C S : Type 0} → Archive.Ghosts T A R C M → FormatOf M → List T → Keys.Ghosts S → Both (MutBor S) (MutBor S) → ℕ → Type 0
 SliceStored a f xs k w p = RunStored a.keys a.meaning f xs k w p
+
+abbrev pub SliceStoredIf : {T A R M C S : Type 0} → Archive.Ghosts T A R C M → FormatOf M → List T → Keys.Ghosts S → Both (MutBor S) (MutBor S) → Option ℕ → Type 0
+SliceStoredIf a f xs k w o = RunStoredIf a.keys a.meaning f xs k w o
 
 abbrev pub SliceUnstored : {T A R M C S : Type 0} → Archive.Ghosts T A R C M → FormatOf M → List T → Keys.Ghosts S → Both (MutBor S) (MutBor S) → Error → Type 0
 SliceUnstored a f xs k w e = RunUnstored a.keys a.meaning f xs k w e

@@ -1,9 +1,9 @@
 //! Arrays: elements one behind another, where they lie. As sources they are written and read back element by element.
 
 ghost use Rattle.std.specs.Prelude.{◌≡◌, ◌+◌, ◌-◌, ◌*◌, ◌<◌, ◌↔◌, IfSome, IsSome, IsTrue};
-ghost use Rattle.archive_check.specs.Shape.{one, array as array_shape};
-ghost use Rattle.archive_core.specs.Seen.{ShowsPartOf};
-ghost use Rattle.archive_core.specs.Views.{ShowsPart, element_in, spots};
+ghost use Rattle.archive_check.specs.Shape.{one};
+ghost use Rattle.archive_core.specs.Seen.{ShowsPartOf, spots_between, spots_of};
+ghost use Rattle.archive_core.specs.Views.{element_in};
 
 mod sources;
 
@@ -58,7 +58,7 @@ impl<'a, T: Portable, const N: usize> Ref<'a, [T; N]> {
 
     /// Views of the elements, in order and from either end.
     pub fn iter(self) -> Iter<'a, T>
-        ensures { spots result.slice.bytes.now result.slice.pos T.layout.size result.front (result.back - result.front) ≡ spots self.entry.bytes.now self.entry.pos T.layout.size 0 N }
+        ensures { spots_between result.slice T.layout.size result.front result.back ≡ spots_of T.layout.size N self.entry }
     {
         Iter::over(self.part(), N)
     }

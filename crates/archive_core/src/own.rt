@@ -3,14 +3,14 @@
 
 ghost use Rattle.std.specs.Prelude.{◌≡◌, IfOk, IfErr, IsTrue, refl};
 ghost use Rattle.archive_check.specs.Definitions.{both, defines};
-ghost use Rattle.archive_check.specs.Entries.{ReadsBack, RefusesReading};
 ghost use Rattle.archive_check.specs.Layout.{up};
 ghost use Rattle.archive_check.specs.NoOthers.{defined_reached};
 ghost use Rattle.archive_check.specs.PartsLayout.{holds_parts, is_named_record, named_has_layout, record_has_layout};
 ghost use Rattle.archive_check.specs.SelfCheck.Laws.{IsCheckOf};
 ghost use Rattle.archive_check.specs.Shape.{Name, named, one, parts};
 ghost use Rattle.archive_check.specs.Value.{product};
-ghost use Rattle.archive_check.specs.Viewed.{Viewed};
+ghost use Rattle.archive_core.specs.Seen.{IsPartOf, RefusesPart};
+ghost use Rattle.archive_core.specs.Sources.{Read};
 
 mod choices;
 mod variants;
@@ -127,11 +127,9 @@ where
     N::Parts: DeserializeParts<T::Owned, D>,
 {
     fn deserialize_part(alloc: Global, part: RawView<'_>, deserializer: &mut D) -> Result<T, Error>
-        requires { Viewed ⟦<Self as ArchivePointee>⟧.definitions part.bytes.now part.pos ⟦<Self as ArchivePointee>⟧.pointee part.len }
-        ensures read { IfOk result (λ t. ReadsBack ⟦<Self as ArchivePointee>⟧.definitions part.entry.bytes.now part.entry.pos
-            ⟦<Self as ArchivePointee>⟧.pointee part.entry.len (D.entry_of deserializer.old) (D.entry_of deserializer.new) (T.meaning t) (T.keys t)) }
-        ensures refused { IfErr result (RefusesReading ⟦<Self as ArchivePointee>⟧.definitions part.entry.bytes.now part.entry.pos
-            ⟦<Self as ArchivePointee>⟧.pointee part.entry.len (D.entry_of deserializer.old)) }
+        requires { IsPartOf ⟦<Self as ArchivePointee>⟧ part }
+        ensures read { IfOk result (Read ⟦<Self as ArchivePointee>⟧ part D.Entries deserializer T.Archive) }
+        ensures refused { IfErr result (RefusesPart ⟦<Self as ArchivePointee>⟧ part D.Entries deserializer) }
     {
         let values = deserialize_record::<Self, T::Owned, D>(alloc, part, deserializer)?;
         Ok(T::from_parts(values))

@@ -2,16 +2,15 @@
 //! say once, for the parts of every record, tuple and variant.
 
 ghost use Rattle.std.specs.Prelude.{◌≡◌, ◌<◌, ℕ, length, List, [], ◌++◌, IfOk, OnOk, IfErr};
-ghost use Rattle.archive_check.specs.Definitions.{both, no_definition};
-ghost use Rattle.archive_check.specs.Layout.{up};
-ghost use Rattle.archive_check.specs.Shape.{part, no_part};
+ghost use Rattle.archive_check.specs.Shape.{part};
 ghost use Rattle.archive_check.specs.Value.{Values, no_value, value};
 ghost use Rattle.archive_core.specs.Keyed.{nothing_keyed, part_keyed};
-ghost use Rattle.archive_core.specs.Parts.{ArePlanned, AreKeyed, SerializedParts, ArePartsRefused, FreshParts, ResolvesParts, HindersPartsAt};
+ghost use Rattle.archive_core.specs.Parts.{ArePlanned, AreKeyed, FreshParts};
 ghost use Rattle.archive_core.specs.PartsPlanned.{no_part_planned, part_planned};
-ghost use Rattle.archive_core.specs.PartsReading.{PartsViewed, PartsReadBack, RefusesParts};
+ghost use Rattle.archive_core.specs.PartsReading.{PartsViewed};
 ghost use Rattle.archive_core.specs.Writing.{Naming};
 ghost use Rattle.archive_write.specs.Written.{GoesOn};
+ghost use Rattle.archive_core.specs.PartsWritten.{PartsResolved, PartsHindered, PartsOwned, PartsUnowned, ReadsParts, UnreadParts};
 
 use crate::ser::resolve_into;
 use crate::traits::{Archive, Deserialize, Entries, Keys, Portable, PortableParts, Serialize};
@@ -65,9 +64,9 @@ pub trait SourceParts<T> {
     ) -> Result<(), Error>
         requires fresh { FreshParts (Self.Archived.end start) start pos bytes.old }
         requires same_values { belongs whole.now resolvers }
-        ensures resolved { OnOk result (ResolvesParts Self.Archived.definitions pos start bytes.new Self.Archived.parts (flats whole.now resolvers)) }
+        ensures resolved { OnOk result (PartsResolved Self.Archived.PortableParts pos start bytes.new (flats whole.now resolvers)) }
         ensures same_length { length bytes.new ≡ length bytes.old }
-        ensures refused { IfErr result (HindersPartsAt Self.Archived.definitions Self.Archived.parts (flats whole.now resolvers) pos start) };
+        ensures refused { IfErr result (PartsHindered Self.Archived.PortableParts pos start (flats whole.now resolvers)) };
 
     // Their keys are those that their meanings lead to.
     ghost keyed: { AreKeyed keys meanings };
@@ -148,12 +147,10 @@ pub trait SerializeParts<T, S: Writer + Keys>: SourceParts<T> {
     /// Writes what each of the parts owns, in order, and answers their resolvers. It asks nothing. Refused as `Serialize::serialize` is, for a cause
     /// of one of them; after a refusal, too, the bytes from before are a beginning of those that `serializer` holds, and known keys keep their states.
     fn serialize_parts(whole: &T, serializer: &mut S) -> Result<Self::Resolvers, Error>
-        ensures serialized { IfOk result (λ r. SerializedParts Self.Archived.definitions Self.Archived.parts (Self.keys whole.now) (Self.meanings whole.now)
-            (Self.flats whole.now r) (S.state serializer.old) (S.state serializer.new)) }
+        ensures serialized { IfOk result (PartsOwned Self.Archived.PortableParts Self.keys Self.meanings Self.flats whole.now S.Keys serializer) }
         ensures same_values { IfOk result (λ r. Self.belongs whole.now r) }
         ensures goes_on { GoesOn (S.state serializer.old) (S.state serializer.new) }
-        ensures refused { IfErr result (ArePartsRefused Self.Archived.definitions Self.Archived.parts (Self.keys whole.now) (Self.meanings whole.now)
-            (S.state serializer.old) (S.state serializer.new)) };
+        ensures refused { IfErr result (PartsUnowned Self.Archived.PortableParts Self.keys Self.meanings whole.now S.Keys serializer) };
 }
 
 impl<T, S: Writer + Keys> SerializeParts<T, S> for () {
@@ -211,9 +208,8 @@ pub trait DeserializeParts<T: OwnedParts, D: Entries>: PortableParts {
         deserializer: &mut D,
     ) -> Result<T, Error>
         requires viewed { PartsViewed Self.definitions bytes.now pos start Self.parts }
-        ensures read { IfOk result (λ t. PartsReadBack bytes.now pos Self.definitions Self.parts start
-            (D.entry_of deserializer.old) (D.entry_of deserializer.new) (T.meanings t) (T.keys t)) }
-        ensures refused { IfErr result (RefusesParts Self.definitions bytes.now pos Self.parts start (D.entry_of deserializer.old)) };
+        ensures read { IfOk result (ReadsParts Self.PortableParts bytes.now pos start D.Entries deserializer T.meanings T.keys) }
+        ensures refused { IfErr result (UnreadParts Self.PortableParts bytes.now pos start D.Entries deserializer) };
 }
 
 impl<D: Entries> DeserializeParts<(), D> for () {

@@ -3,9 +3,8 @@
 ghost use Rattle.std.specs.Prelude.{◌≡◌, ◌*◌, length, None, OnOk, IfOk, IfErr};
 ghost use Rattle.archive_check.specs.Value.{list};
 ghost use Rattle.archive_core.specs.Arrays.{array_meaning, array_keys, array_keyed, array_planned};
-ghost use Rattle.archive_core.specs.KindsWritten.{RunStoredIf, RunUnstored};
 ghost use Rattle.archive_core.specs.Runs.{each_flat, EachBelongs};
-ghost use Rattle.archive_core.specs.Sources.{ResolvedAs, HinderedAs, EachResolved, EachHinderedAt};
+ghost use Rattle.archive_core.specs.Sources.{ResolvedAs, HinderedAs, EachResolved, EachHinderedAt, SliceStoredIf, SliceUnstored};
 ghost use Rattle.archive_core.specs.Writing.{Fresh};
 ghost use Rattle.archive_write.specs.Written.{GoesOn};
 
@@ -91,10 +90,10 @@ impl<T: Archive, const N: usize> Archive for [T; N] {
         _values: &[[T; N]],
         _serializer: &mut S,
     ) -> Result<Option<usize>, Error>
-        ensures serialized { IfOk result (RunStoredIf ⟦<Self as Archive>⟧.keys ⟦<Self as Archive>⟧.meaning ⟦<Self::Archived as Portable>⟧ _values.now S.Keys _serializer) }
+        ensures serialized { IfOk result (SliceStoredIf ⟦<Self as Archive>⟧ ⟦<Self::Archived as Portable>⟧ _values.now S.Keys _serializer) }
         ensures untouched { IfOk result (λ o. o ≡ None → S.state _serializer.new ≡ S.state _serializer.old) }
         ensures goes_on { GoesOn (S.state _serializer.old) (S.state _serializer.new) }
-        ensures refused { IfErr result (RunUnstored ⟦<Self as Archive>⟧.keys ⟦<Self as Archive>⟧.meaning ⟦<Self::Archived as Portable>⟧ _values.now S.Keys _serializer) }
+        ensures refused { IfErr result (SliceUnstored ⟦<Self as Archive>⟧ ⟦<Self::Archived as Portable>⟧ _values.now S.Keys _serializer) }
     {
         Ok(None)
     }

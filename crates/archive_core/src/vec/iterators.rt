@@ -2,15 +2,9 @@
 
 ghost use Rattle.std.specs.Prelude.{◌≡◌, ◌≤◌, ◌⊎◌, List, IfOk, OnOk, IfErr, length};
 ghost use Rattle.std.specs.Iterator.{IsFinite, Drains};
-ghost use Rattle.archive_check.specs.Shape.{vec as vec_shape, run};
-ghost use Rattle.archive_check.specs.Value.{list, hole};
 ghost use Rattle.archive_check.specs.declared.format.error.Error.TheVariants.{OutOfMemory};
-ghost use Rattle.archive_core.specs.Causes.{IsRefused};
 ghost use Rattle.archive_core.specs.ItemsWritten.{ItemPut, ItemUnput, ItemsStored, ItemsUnstored};
-ghost use Rattle.archive_core.specs.KindsWritten.{VecSerialized, VecRefused};
-ghost use Rattle.archive_core.specs.Plans.{Serialized};
-ghost use Rattle.archive_core.specs.Runs.{each_keys, each_meaning};
-ghost use Rattle.archive_core.specs.Writing.{to_pointee};
+ghost use Rattle.archive_core.specs.KindsWritten.{ItemsSerialized, ItemsRefused};
 ghost use Rattle.archive_write.specs.Written.{GoesOn};
 
 use super::{ArchivedVec, VecResolver};
@@ -50,11 +44,9 @@ impl<T: Portable> ArchivedVec<T> {
     >(iter: I, serializer: &mut S) -> Result<VecResolver, Error>
         requires can { I.can_next iter }
         requires ends { IsFinite (I.remaining iter) }
-        ensures serialized { IfOk result (λ r. (xs : List U) × Drains I.next_gives iter xs × (length xs ≤ 4294967295)
-            × VecSerialized U.keys U.meaning T.Portable xs S.Keys serializer r) }
+        ensures serialized { IfOk result (ItemsSerialized (Drains I.next_gives iter) U.keys U.meaning T.Portable S.Keys serializer) }
         ensures goes_on { GoesOn (S.state serializer.old) (S.state serializer.new) }
-        ensures refused { IfErr result (λ e. ((e ≡ OutOfMemory) × (serializer.new ≡ serializer.old)) ⊎ ((xs : List U) × Drains I.next_gives iter xs
-            × VecRefused U.keys U.meaning T.Portable xs S.Keys serializer e)) }
+        ensures refused { IfErr result (ItemsRefused (Drains I.next_gives iter) U.keys U.meaning T.Portable S.Keys serializer) }
     {
         let alloc = serializer.resolver_alloc();
         let Ok(items) = iter.collect::<Vec<U, S::Alloc>>(alloc) else {
