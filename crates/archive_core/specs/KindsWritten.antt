@@ -92,8 +92,8 @@ VecRefused keys meaning f xs k w e =
     IsRefused f.definitions (vec f.shape) (each_keys keys xs) (list (each_meaning meaning xs)) (k.state w.entry.now) (k.state w.exit.now) e
 
 -- the same of the items that came; nothing happened where there was no memory to keep them
-abbrev pub ItemsSerialized : {T M S : Type 0} → (List T → Type 0) → (T → List Naming) → (T → Value) → FormatOf M → Keys.Ghosts S → Both (MutBor S) (MutBor S) → ℕ → Type 0
-ItemsSerialized {T = T} Came keys meaning f k w t = (xs : List T) × Came xs × (length xs ≤ 4294967295) × VecSerialized keys meaning f xs k w t
+abbrev pub ItemsLaid : {T M S : Type 0} → (List T → Type 0) → (T → List Naming) → (T → Value) → FormatOf M → Keys.Ghosts S → Both (MutBor S) (MutBor S) → ℕ → Type 0
+ItemsLaid {T = T} Came keys meaning f k w t = (xs : List T) × Came xs × (length xs ≤ 4294967295) × VecSerialized keys meaning f xs k w t
 
 abbrev pub ItemsRefused : {T M S : Type 0} → (List T → Type 0) → (T → List Naming) → (T → Value) → FormatOf M → Keys.Ghosts S → Both (MutBor S) (MutBor S) → Error → Type 0
 ItemsRefused {T = T} Came keys meaning f k w e =
@@ -148,8 +148,8 @@ abbrev pub RecordRefused : {T M S : Type 0} → FormatOf M → (T → List Namin
 RecordRefused f keys meanings v k w e = IsRefused f.definitions f.shape (keys v) (product (meanings v)) (k.state w.entry.now) (k.state w.exit.now) e
 
 -- a variant, by what its parts mean, and what is read in their places
-abbrev pub VariantSerialized : {T M S R : Type 0} → FormatOf M → ℕ → (T → List Naming) → (T → Values) → (T → R → Values) → T → Keys.Ghosts S → Both (MutBor S) (MutBor S) → R → Type 0
-VariantSerialized f tag keys meanings flats v k w r =
+abbrev pub VariantOwned : {T M S R : Type 0} → FormatOf M → ℕ → (T → List Naming) → (T → Values) → (T → R → Values) → T → Keys.Ghosts S → Both (MutBor S) (MutBor S) → R → Type 0
+VariantOwned f tag keys meanings flats v k w r =
     Serialized f.definitions f.shape (keys v) (case tag (meanings v)) (case tag (flats v r)) (k.state w.entry.now) (k.state w.exit.now)
 
 abbrev pub VariantRefused : {T M S : Type 0} → FormatOf M → ℕ → (T → List Naming) → (T → Values) → T → Keys.Ghosts S → Both (MutBor S) (MutBor S) → Error → Type 0

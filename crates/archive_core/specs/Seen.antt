@@ -40,8 +40,8 @@ elements_in size v = elements size (slice_of (shown v))
 abbrev pub element_shown : {T M : Type 0} {g : ArchivePointee.Ghosts T M} → ℕ → ℕ → Ref T M g → Standing
 element_shown size i v = standing v.bytes.now (v.pos + i * size) 0
 
-abbrev pub result_native : {T M U W : Type 0} {g : ArchivePointee.Ghosts T M} → (Standing → U → Ordering) → (Standing → W → Ordering) → Layout → Layout → Ref T M g → Result U W → Ordering
-result_native R S L E v r = result_order R S (result_in L.align E.align (shown v)) r
+abbrev pub result_to : {T M U W : Type 0} {g : ArchivePointee.Ghosts T M} → (Standing → U → Ordering) → (Standing → W → Ordering) → Layout → Layout → Ref T M g → Result U W → Ordering
+result_to R S L E v r = result_order R S (result_in L.align E.align (shown v)) r
 
 -- where the elements of a slice stand, from the one of index a up to b; all of those that a view shows
 abbrev pub spots_between : RawView → ℕ → ℕ → ℕ → List (List ℕ × ℕ)
@@ -53,6 +53,9 @@ spots_shown size v = spots v.bytes.now v.pos size 0 v.len
 -- the same of an array of n
 abbrev pub spots_of : {T M : Type 0} {g : ArchivePointee.Ghosts T M} → ℕ → ℕ → Ref T M g → List (List ℕ × ℕ)
 spots_of size n v = spots v.bytes.now v.pos size 0 n
+
+abbrev pub part_tag : RawView → ℕ
+part_tag p = slice_index p.bytes.now p.pos
 
 abbrev pub part_shown : RawView → Standing
 part_shown p = standing p.bytes.now p.pos p.len

@@ -1,7 +1,7 @@
 -- What is said of the writing of a source, and of what is read back as one.
 use denote.Triple.Both.{Both}
 use denote.Ref.{MutBor}
-use Rattle.std.specs.Prelude.{ℕ, List, length}
+use Rattle.std.specs.Prelude.{Option, ℕ, List, length}
 use Rattle.archive_check.specs.Entries.{ReadsBack, RefusesReading}
 use Rattle.archive_check.specs.Shape.{boxed, one, run}
 use Rattle.archive_check.specs.Value.{list, box, hole}

@@ -10,7 +10,7 @@ ghost use Rattle.archive_core.specs.PartsPlanned.{no_part_planned, part_planned}
 ghost use Rattle.archive_core.specs.PartsReading.{PartsViewed};
 ghost use Rattle.archive_core.specs.Writing.{Naming};
 ghost use Rattle.archive_write.specs.Written.{GoesOn};
-ghost use Rattle.archive_core.specs.PartsWritten.{PartsResolved, PartsHindered, PartsOwned, PartsUnowned, ReadsParts, UnreadParts};
+ghost use Rattle.archive_core.specs.PartsWritten.{PartsPut, PartsUnput, PartsOwned, PartsUnowned, ReadsParts, UnreadParts};
 
 use crate::ser::resolve_into;
 use crate::traits::{Archive, Deserialize, Entries, Keys, Portable, PortableParts, Serialize};
@@ -64,9 +64,9 @@ pub trait SourceParts<T> {
     ) -> Result<(), Error>
         requires fresh { FreshParts (Self.Archived.end start) start pos bytes.old }
         requires same_values { belongs whole.now resolvers }
-        ensures resolved { OnOk result (PartsResolved Self.Archived.PortableParts pos start bytes.new (flats whole.now resolvers)) }
+        ensures resolved { OnOk result (PartsPut Self.Archived.CheckedParts pos start bytes.new (flats whole.now resolvers)) }
         ensures same_length { length bytes.new ≡ length bytes.old }
-        ensures refused { IfErr result (PartsHindered Self.Archived.PortableParts pos start (flats whole.now resolvers)) };
+        ensures refused { IfErr result (PartsUnput Self.Archived.CheckedParts pos start (flats whole.now resolvers)) };
 
     // Their keys are those that their meanings lead to.
     ghost keyed: { AreKeyed keys meanings };
@@ -147,10 +147,10 @@ pub trait SerializeParts<T, S: Writer + Keys>: SourceParts<T> {
     /// Writes what each of the parts owns, in order, and answers their resolvers. It asks nothing. Refused as `Serialize::serialize` is, for a cause
     /// of one of them; after a refusal, too, the bytes from before are a beginning of those that `serializer` holds, and known keys keep their states.
     fn serialize_parts(whole: &T, serializer: &mut S) -> Result<Self::Resolvers, Error>
-        ensures serialized { IfOk result (PartsOwned Self.Archived.PortableParts Self.keys Self.meanings Self.flats whole.now S.Keys serializer) }
+        ensures serialized { IfOk result (PartsOwned Self.Archived.CheckedParts Self.keys Self.meanings Self.flats whole.now S.Keys serializer) }
         ensures same_values { IfOk result (λ r. Self.belongs whole.now r) }
         ensures goes_on { GoesOn (S.state serializer.old) (S.state serializer.new) }
-        ensures refused { IfErr result (PartsUnowned Self.Archived.PortableParts Self.keys Self.meanings whole.now S.Keys serializer) };
+        ensures refused { IfErr result (PartsUnowned Self.Archived.CheckedParts Self.keys Self.meanings whole.now S.Keys serializer) };
 }
 
 impl<T, S: Writer + Keys> SerializeParts<T, S> for () {
@@ -208,8 +208,8 @@ pub trait DeserializeParts<T: OwnedParts, D: Entries>: PortableParts {
         deserializer: &mut D,
     ) -> Result<T, Error>
         requires viewed { PartsViewed Self.definitions bytes.now pos start Self.parts }
-        ensures read { IfOk result (ReadsParts Self.PortableParts bytes.now pos start D.Entries deserializer T.meanings T.keys) }
-        ensures refused { IfErr result (UnreadParts Self.PortableParts bytes.now pos start D.Entries deserializer) };
+        ensures read { IfOk result (ReadsParts Self.CheckedParts bytes.now pos start D.Entries deserializer T.meanings T.keys) }
+        ensures refused { IfErr result (UnreadParts Self.CheckedParts bytes.now pos start D.Entries deserializer) };
 }
 
 impl<D: Entries> DeserializeParts<(), D> for () {

@@ -10,7 +10,7 @@ ghost use Rattle.archive_core.specs.Compared.{elements, value_of, option_order, 
 ghost use Rattle.archive_core.specs.Options.{option_meaning};
 ghost use Rattle.archive_core.specs.Results.{result_meaning};
 ghost use Rattle.archive_core.specs.Runs.{each_meaning};
-ghost use Rattle.archive_core.specs.Seen.{shown, ViewComparesTo, ViewEquals, elements_shown, elements_in, element_shown, result_native};
+ghost use Rattle.archive_core.specs.Seen.{shown, ViewComparesTo, ViewEquals, elements_shown, elements_in, element_shown, result_to};
 
 use super::CompareNative;
 use crate::option::ArchivedOption;
@@ -96,7 +96,7 @@ impl<'a, T: Portable, E: Portable> Ref<'a, ArchivedResult<T, E>> {
     where
         T: CompareNative<U>,
         E: CompareNative<W>,
-        ensures order { result ≡ is_eq (result_native T.native_order E.native_order T.layout E.layout self.entry result_of.now) }
+        ensures order { result ≡ is_eq (result_to T.native_order E.native_order T.layout E.layout self.entry result_of.now) }
         ensures by_value { ViewEquals self.entry (result_meaning U.meaning W.meaning result_of.now) result }
     {
         is_result(self, result_of)
@@ -156,7 +156,7 @@ fn is_result<
     T: Portable + CompareNative<U>,
     E: Portable + CompareNative<W>,
 >(view: Ref<'_, ArchivedResult<T, E>>, result_of: &Result<U, W>) -> bool
-    ensures { result ≡ is_eq (result_native T.native_order E.native_order T.layout E.layout view.entry result_of.now) }
+    ensures { result ≡ is_eq (result_to T.native_order E.native_order T.layout E.layout view.entry result_of.now) }
 {
     match (view.as_ref(), result_of) {
         (Ok(view), Ok(value)) => T::compare_native(view.part(), value).is_eq(),

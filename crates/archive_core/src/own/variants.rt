@@ -1,12 +1,12 @@
 // Variants of a choice by their parts: what an own choice's impls call.
 
-ghost use Rattle.std.specs.Prelude.{◌≡◌, ◌+◌, ◌<◌, ◌≤◌, Some, IfOk, OnOk, IfErr, length, slice_index};
+ghost use Rattle.std.specs.Prelude.{◌≡◌, ◌+◌, ◌<◌, ◌≤◌, Some, IfOk, OnOk, IfErr, length};
 ghost use Rattle.archive_check.specs.Shape.{variant_at};
 ghost use Rattle.archive_check.specs.Value.{case};
 ghost use Rattle.archive_core.specs.OwnChoices.{variant_definitions};
-ghost use Rattle.archive_core.specs.KindsWritten.{VariantSerialized, VariantRefused};
+ghost use Rattle.archive_core.specs.KindsWritten.{VariantOwned, VariantRefused};
 ghost use Rattle.archive_core.specs.Placed.{Resolved, Hindered};
-ghost use Rattle.archive_core.specs.Seen.{IsPartOf, RefusesPart, ReadsVariant};
+ghost use Rattle.archive_core.specs.Seen.{part_tag, IsPartOf, RefusesPart, ReadsVariant};
 ghost use Rattle.archive_core.specs.Writing.{Fresh};
 ghost use Rattle.archive_write.specs.Written.{GoesOn};
 
@@ -27,7 +27,7 @@ pub fn serialize_variant<T, P: SerializeParts<T, S>, X: Choice, S: Writer + Keys
 ) -> Result<P::Resolvers, Error>
     requires variant { variant_at X.Variants.variants tag ≡ Some P.Archived.parts }
     requires definitions { variant_definitions X.Variants.definitions tag ≡ P.Archived.definitions }
-    ensures serialized { IfOk result (VariantSerialized X.Portable tag P.keys P.meanings P.flats whole.now S.Keys serializer) }
+    ensures serialized { IfOk result (VariantOwned X.Portable tag P.keys P.meanings P.flats whole.now S.Keys serializer) }
     ensures same_values { IfOk result (λ r. P.belongs whole.now r) }
     ensures goes_on { GoesOn (S.state serializer.old) (S.state serializer.new) }
     ensures refused { IfErr result (VariantRefused X.Portable tag P.keys P.meanings whole.now S.Keys serializer) }
@@ -67,8 +67,8 @@ pub fn deserialize_variant<X: Choice, P: DeserializeParts<T, D>, T: OwnedParts, 
     deserializer: &mut D,
 ) -> Result<T, Error>
     requires viewed { IsPartOf X.ArchivePointee part }
-    requires variant { variant_at X.Variants.variants (slice_index part.bytes.now part.pos) ≡ Some P.parts }
-    requires definitions { variant_definitions X.Variants.definitions (slice_index part.bytes.now part.pos) ≡ P.definitions }
+    requires variant { variant_at X.Variants.variants (part_tag part) ≡ Some P.parts }
+    requires definitions { variant_definitions X.Variants.definitions (part_tag part) ≡ P.definitions }
     ensures read { IfOk result (ReadsVariant X.ArchivePointee part D.Entries deserializer T.meanings T.keys) }
     ensures refused { IfErr result (RefusesPart X.ArchivePointee part D.Entries deserializer) }
 {

@@ -4,7 +4,7 @@ ghost use Rattle.std.specs.Prelude.{◌≡◌, ◌≤◌, ◌⊎◌, List, IfOk,
 ghost use Rattle.std.specs.Iterator.{IsFinite, Drains};
 ghost use Rattle.archive_check.specs.declared.format.error.Error.TheVariants.{OutOfMemory};
 ghost use Rattle.archive_core.specs.ItemsWritten.{ItemPut, ItemUnput, ItemsStored, ItemsUnstored};
-ghost use Rattle.archive_core.specs.KindsWritten.{ItemsSerialized, ItemsRefused};
+ghost use Rattle.archive_core.specs.KindsWritten.{ItemsLaid, ItemsRefused};
 ghost use Rattle.archive_write.specs.Written.{GoesOn};
 
 use super::{ArchivedVec, VecResolver};
@@ -44,7 +44,7 @@ impl<T: Portable> ArchivedVec<T> {
     >(iter: I, serializer: &mut S) -> Result<VecResolver, Error>
         requires can { I.can_next iter }
         requires ends { IsFinite (I.remaining iter) }
-        ensures serialized { IfOk result (ItemsSerialized (Drains I.next_gives iter) U.keys U.meaning T.Portable S.Keys serializer) }
+        ensures serialized { IfOk result (ItemsLaid (Drains I.next_gives iter) U.keys U.meaning T.Portable S.Keys serializer) }
         ensures goes_on { GoesOn (S.state serializer.old) (S.state serializer.new) }
         ensures refused { IfErr result (ItemsRefused (Drains I.next_gives iter) U.keys U.meaning T.Portable S.Keys serializer) }
     {
