@@ -92,11 +92,11 @@ VecRefused keys meaning f xs k w e =
     IsRefused f.definitions (vec f.shape) (each_keys keys xs) (list (each_meaning meaning xs)) (k.state w.entry.now) (k.state w.exit.now) e
 
 -- the same of the items that came; nothing happened where there was no memory to keep them
-abbrev pub ItemsLaid : {T M S : Type 0} → (List T → Type 0) → (T → List Naming) → (T → Value) → FormatOf M → Keys.Ghosts S → Both (MutBor S) (MutBor S) → ℕ → Type 0
-ItemsLaid {T = T} Came keys meaning f k w t = (xs : List T) × Came xs × (length xs ≤ 4294967295) × VecSerialized keys meaning f xs k w t
+abbrev pub VecOfItems : {T M S : Type 0} → (List T → Type 0) → (T → List Naming) → (T → Value) → FormatOf M → Keys.Ghosts S → Both (MutBor S) (MutBor S) → ℕ → Type 0
+VecOfItems {T = T} Came keys meaning f k w t = (xs : List T) × Came xs × (length xs ≤ 4294967295) × VecSerialized keys meaning f xs k w t
 
-abbrev pub ItemsRefused : {T M S : Type 0} → (List T → Type 0) → (T → List Naming) → (T → Value) → FormatOf M → Keys.Ghosts S → Both (MutBor S) (MutBor S) → Error → Type 0
-ItemsRefused {T = T} Came keys meaning f k w e =
+abbrev pub NoVecOfItems : {T M S : Type 0} → (List T → Type 0) → (T → List Naming) → (T → Value) → FormatOf M → Keys.Ghosts S → Both (MutBor S) (MutBor S) → Error → Type 0
+NoVecOfItems {T = T} Came keys meaning f k w e =
     ((e ≡ OutOfMemory) × (w.exit.now ≡ w.entry.now)) ⊎ ((xs : List T) × Came xs × VecRefused keys meaning f xs k w e)
 
 abbrev pub VecResolved : {F M R : Type 0} → FormatOf M → Both (Place F) (MutBor (List ℕ) × R) → ℕ → ℕ → Type 0

@@ -4,7 +4,7 @@ ghost use Rattle.std.specs.Prelude.{◌≡◌, ◌≤◌, ◌⊎◌, List, IfOk,
 ghost use Rattle.std.specs.Iterator.{IsFinite, Drains};
 ghost use Rattle.archive_check.specs.declared.format.error.Error.TheVariants.{OutOfMemory};
 ghost use Rattle.archive_core.specs.ItemsWritten.{ItemPut, ItemUnput, ItemsStored, ItemsUnstored};
-ghost use Rattle.archive_core.specs.KindsWritten.{ItemsLaid, ItemsRefused};
+ghost use Rattle.archive_core.specs.KindsWritten.{VecOfItems, NoVecOfItems};
 ghost use Rattle.archive_write.specs.Written.{GoesOn};
 
 use super::{ArchivedVec, VecResolver};
@@ -44,9 +44,9 @@ impl<T: Portable> ArchivedVec<T> {
     >(iter: I, serializer: &mut S) -> Result<VecResolver, Error>
         requires can { I.can_next iter }
         requires ends { IsFinite (I.remaining iter) }
-        ensures serialized { IfOk result (ItemsLaid (Drains I.next_gives iter) U.keys U.meaning T.Portable S.Keys serializer) }
+        ensures serialized { IfOk result (VecOfItems (Drains I.next_gives iter) U.keys U.meaning T.Portable S.Keys serializer) }
         ensures goes_on { GoesOn (S.state serializer.old) (S.state serializer.new) }
-        ensures refused { IfErr result (ItemsRefused (Drains I.next_gives iter) U.keys U.meaning T.Portable S.Keys serializer) }
+        ensures refused { IfErr result (NoVecOfItems (Drains I.next_gives iter) U.keys U.meaning T.Portable S.Keys serializer) }
     {
         let alloc = serializer.resolver_alloc();
         let Ok(items) = iter.collect::<Vec<U, S::Alloc>>(alloc) else {
