@@ -125,11 +125,11 @@ module _ {A : Type 0} (b : A → List ℕ) (all : List A) (i : ℕ) (x : A) (les
   read_step D X size m h each = subst (λ z. EachCopied D X size m b z) (sym one_more) (copied_both D X size m b (take i all) (x ∷ []) each (h, tt))
 
 -- as many as fit a piece do, and one does
-pub fits_piece : (n count size : ℕ) → 0 < size → n ≡ min count (1024 / size) → n * size ≤ 1024
-fits_piece n count size some e = (let le : n * size ≤ 1024 / size * size = mul-le-mul_right size (omega (arith, e)) in omega (arith, le, div-mul-le_self 1024 size))
+pub fits_piece : (room n count size : ℕ) → 0 < size → n ≡ min count (room / size) → n * size ≤ room
+fits_piece room n count size some e = (let le : n * size ≤ room / size * size = mul-le-mul_right size (omega (arith, e)) in omega (arith, le, div-mul-le_self room size))
 
-pub some_fit : (n count size : ℕ) → 0 < size → size ≤ 1024 → 0 < count → n ≡ min count (1024 / size) → 0 < n
-some_fit n count size some small more e = (let one : 1 ≤ 1024 / size = (le-div_iff_mul-le {k = size} {x = 1} {y = 1024} some).1 (omega (arith, small)) in omega (arith, e, one, more))
+pub some_fit : (room n count size : ℕ) → 0 < size → size ≤ room → 0 < count → n ≡ min count (room / size) → 0 < n
+some_fit room n count size some small more e = (let one : 1 ≤ room / size = (le-div_iff_mul-le {k = size} {x = 1} {y = room} some).1 (omega (arith, small)) in omega (arith, e, one, more))
 
 pub cut_at : {A : Type 0} (n : ℕ) (xs front back : List A) → front ≡ take n xs → back ≡ drop n xs → xs ≡ front ++ back
 cut_at n xs front back e f = sym (take-append-drop n xs) ∙ (λ j. sym e j ++ sym f j)

@@ -19,7 +19,7 @@ use crate::format::traits::Portable;
 /// one of those that a check can answer (1, 12, 16 to 18, 21 to 29), and after a success levels are left. A type that doesn't check itself is never
 /// accepted. Accepted or refused, in any context, it
 /// enters at most one region, and one for each four bytes of the context's range.
-#[inline]
+#[inline(always)]
 pub fn check_root<T: Portable, C: ArchiveContext>(
     bytes: &[u8],
     pos: usize,

@@ -1,6 +1,6 @@
 // Slices of values that are copied: their bytes are written a piece at a time.
 
-ghost use Rattle.std.specs.Prelude.{◌≡◌, ◌+◌, ◌*◌, ◌++◌, ◌<◌, ◌≤◌, IfOk, OnOk, IfErr, IsOk, IsErrOf, IsTrue, length};
+ghost use Rattle.std.specs.Prelude.{◌≡◌, ◌+◌, ◌*◌, ◌^◌, ◌++◌, ◌<◌, ◌≤◌, IfOk, OnOk, IfErr, IsOk, IsErrOf, IsTrue, length};
 ghost use Rattle.archive_check.specs.WriterState.{KeepsKeys};
 ghost use Rattle.archive_core.specs.Copies.{each_bytes, copies_from};
 ghost use Rattle.archive_core.specs.Sources.{CopiesStored, CopiesUnstored};
@@ -15,6 +15,9 @@ use archive_write::ser::{Writer, WriterExt};
 
 /// As many bytes as are written at once, at most.
 const PIECE: usize = 1024;
+
+/// As many bytes as values have whose buffer is cleared for them alone: one of `PIECE` bytes would take most of their time.
+const SHORT: usize = 64;
 
 // Writes the bytes of values, which take no more than `bytes`. Nothing is written where they have none.
 #[tactic(auto, using(crate::proofs::Causes::goes_written, crate::proofs::Causes::goes_refused, crate::proofs::Causes::goes_nowhere))]
@@ -38,25 +41,30 @@ fn write_piece<W: Writer, T: Copied>(
     writer.write(bytes)
 }
 
-// How many values of so many bytes are written at once, of `count` that are left: as many as fit 1,024 bytes.
+// How many values of so many bytes are written at once, of `count` that are left: as many as fit `room` bytes.
 #[tactic(auto, using(crate::proofs::Copies::fits_piece, crate::proofs::Copies::some_fit))]
-fn count_at_once(size: usize, count: usize) -> usize
-    requires small { size ≤ 1024 }
+fn count_at_once(size: usize, count: usize, room: usize) -> usize
+    requires small { size ≤ room }
     requires some { 0 < count }
     ensures some { 0 < result }
-    ensures few { result * size ≤ 1024 }
+    ensures few { result * size ≤ room }
     ensures within { result ≤ count }
 {
     if size == 0 {
         return count;
     }
-    count.min(PIECE / size)
+    count.min(room / size)
 }
 
-// Writes the bytes of values, which have so many each, as many whole values at once as fit 1,024 bytes.
-fn copy_pieces<W: Writer, T: Copied>(values: &[T], size: usize, writer: &mut W) -> Result<(), Error>
+// Writes the bytes of values, which have so many each, as many whole values at once as fit `N` bytes.
+fn copy_by<W: Writer, T: Copied, const N: usize>(
+    values: &[T],
+    size: usize,
+    writer: &mut W,
+) -> Result<(), Error>
     requires same { size ≡ T.CopiedAs.layout.size }
-    requires small { size ≤ 1024 }
+    requires small { size ≤ N }
+    requires few { N ≤ 1024 }
     ensures copied { OnOk result (BytesAdded (each_bytes T.copied_bytes values.now) W.Keys writer) }
     ensures read { OnOk result (AllCopied T.CopiedAs.Portable size T.copied_meaning T.copied_bytes values.now) }
     ensures refused { IfErr result (PiecesUnwritten W.place W.Keys writer (length values.now * size)) }
@@ -64,15 +72,33 @@ fn copy_pieces<W: Writer, T: Copied>(values: &[T], size: usize, writer: &mut W) 
     ensures goes_on { GoesOn (W.state writer.old) (W.state writer.new) }
     ensures keys { KeepsKeys (W.state writer.old).states (W.state writer.new).states }
 {
-    let mut piece = [0; PIECE];
+    let mut piece = [0; N];
     let mut rest = values;
     while !rest.is_empty() {
-        let count = count_at_once(size, rest.len());
+        let count = count_at_once(size, rest.len(), N);
         let (now, later) = rest.split_at(count);
         write_piece(now, &mut piece[..count * size], writer)?;
         rest = later;
     }
     Ok(())
+}
+
+// Writes the bytes of values, which have so many each, as many whole values at once as fit 1,024 bytes.
+fn copy_pieces<W: Writer, T: Copied>(values: &[T], size: usize, writer: &mut W) -> Result<(), Error>
+    requires same { size ≡ T.CopiedAs.layout.size }
+    requires small { size ≤ 1024 }
+    requires counted { length values.now * size < 2 ^ 64 }
+    ensures copied { OnOk result (BytesAdded (each_bytes T.copied_bytes values.now) W.Keys writer) }
+    ensures read { OnOk result (AllCopied T.CopiedAs.Portable size T.copied_meaning T.copied_bytes values.now) }
+    ensures refused { IfErr result (PiecesUnwritten W.place W.Keys writer (length values.now * size)) }
+    ensures memory { IsErrOf result Error.OutOfMemory → IsTrue W.takes_memory }
+    ensures goes_on { GoesOn (W.state writer.old) (W.state writer.new) }
+    ensures keys { KeepsKeys (W.state writer.old).states (W.state writer.new).states }
+{
+    if size <= SHORT && values.len() * size <= SHORT {
+        return copy_by::<W, T, SHORT>(values, size, writer);
+    }
+    copy_by::<W, T, PIECE>(values, size, writer)
 }
 
 // Writes the bytes of values as the next region, where the writer stands at a multiple of their alignment.

@@ -1,6 +1,6 @@
 use Rattle.std.proofs.Common.{length}
 use Rattle.archive_core.proofs.Copies.{Copies}
-use Rattle.archive_core.proofs.slice.copying.copy_pieces.Given as goal
+use Rattle.archive_core.proofs.slice.copying.copy_by.Given as goal
 
 abbrev pub invariant-loop-rest : goal.invariant-loop-rest
 invariant-loop-rest g l = record {

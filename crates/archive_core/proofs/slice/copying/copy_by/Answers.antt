@@ -2,7 +2,7 @@ use Rattle.std.proofs.Common.{◌≡◌, length, arith}
 use Rattle.std.proofs.lemmas.Grind.{common_steps}
 use Rattle.archive_core.proofs.Causes.{err_by}
 use Rattle.archive_core.proofs.Copies.{copies_step, copies_broken, cut_at, copies_written, copies_read}
-use Rattle.archive_core.proofs.slice.copying.copy_pieces.Goals as goal
+use Rattle.archive_core.proofs.slice.copying.copy_by.Goals as goal
 
 pub returns-in_err-write_piece-clause-refused : goal.returns-in_err-write_piece-clause-refused
 returns-in_err-write_piece-clause-refused g c = err_by c.from_residual.result c.in_err-write_piece.field-0.0 _ c.from_residual.ensures.1
