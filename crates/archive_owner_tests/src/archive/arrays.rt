@@ -49,3 +49,15 @@ fn an_array_is_written_element_by_element(rt: HostRuntime) -> Result<(), Fail> {
     assert_eq!(rt; to_bytes(rt.alloc(), &texts)?.as_slice(), TEXTS);
     Ok(())
 }
+
+#[test]
+fn the_elements_of_an_array_come_from_both_ends(rt: HostRuntime) -> Result<(), Fail> {
+    let view = access::<[ArchivedU16; 3]>(rt.alloc(), b"\x01\0\x02\0\x03\0")?;
+    let mut items = view.iter();
+    assert_eq!(rt; items.len(), 3);
+    assert_eq!(rt; items.next_back().map(|number| number.get()), Some(3));
+    assert_eq!(rt; items.next().map(|number| number.get()), Some(1));
+    assert_eq!(rt; items.next().map(|number| number.get()), Some(2));
+    assert!(rt; items.next().is_none());
+    Ok(())
+}

@@ -1,92 +1,42 @@
-// A choice of our own that doesn't hold itself: its layout, its expression and its definition are those of its variants.
+// A choice of our own that doesn't hold itself: its layout, its expression and its definition are those of its variants, which are written and read back by
+// their parts.
 
-ghost use Rattle.std.specs.Prelude.{codes, refl};
-ghost use Rattle.archive_check.specs.Definitions.{both, defines};
-ghost use Rattle.archive_check.specs.Layout.{up};
-ghost use Rattle.archive_check.specs.NoOthers.{defined_reached};
-ghost use Rattle.archive_check.specs.PartsLayout.{named_has_layout};
+ghost use Rattle.std.specs.Prelude.{codes};
 ghost use Rattle.archive_check.specs.SelfCheck.Laws.{by_schema};
-ghost use Rattle.archive_check.specs.Shape.{choice, named, one};
-ghost use Rattle.archive_check.specs.VariantsLayout.{choice_has_layout, is_named_choice};
 
 use archive_core::api::{access, access_mut};
 use archive_core::error::Error;
+use archive_core::own::{ArchivedChoice, NamedChoice, deserialize_variant, serialize_variant};
 use archive_core::primitive::ArchivedU32;
 use archive_core::self_check::BySchema;
-use archive_core::shape::{Defs, Expr};
 use archive_core::string::ArchivedString;
-use archive_core::traits::{
-    ArchivePointee, Choice, Portable, PortableVariants, align_of_choice, define_choice,
-    size_of_choice,
-};
-use std::alloc::Global;
-use std::marker::PhantomData;
+use archive_core::traits::{Choice, Portable};
+use archive_core::tuples::{Part0, Part1};
 use std::test::Fail;
 
-// The choice `ArchivedEvent` of these variants.
-pub(super) struct ArchivedEvent<V> {
-    of: PhantomData<V>,
-}
+// The choice `ArchivedEvent`: nothing; a number; or a byte and a text.
+pub(super) struct EventNamed;
 
-// Nothing; a number; or a byte and a text.
-pub(super) type Event = ArchivedEvent<((), ((ArchivedU32, ()), ((u8, (ArchivedString, ())), ())))>;
-
-impl<V: PortableVariants> ArchivePointee for ArchivedEvent<V> {
-    type ArchivedMetadata = ();
-
-    ghost pointee = { one (named (codes "ArchivedEvent")) };
-
-    ghost definitions = { both (defines (codes "ArchivedEvent") (choice (codes "ArchivedEvent") V.variants)) V.definitions };
-
-    ghost metadata_length = { λ _. 0 };
-
-    fn pointer_metadata(_metadata: &()) -> usize {
-        0
-    }
-}
-
-impl<V: PortableVariants> Portable for ArchivedEvent<V> {
-    ghost shape = { named (codes "ArchivedEvent") };
-
-    ghost layout = { record { size = up V.end V.greatest; align = V.greatest } };
+impl NamedChoice for EventNamed {
+    type Variants = ((), ((ArchivedU32, ()), ((u8, (ArchivedString, ())), ())));
 
     type Check = BySchema;
 
-    ghost is_one = { refl };
-
-    ghost is_align = { V.is_align };
-
-    ghost has_layout = { named_has_layout (codes "ArchivedEvent") (choice (codes "ArchivedEvent") V.variants) V.definitions (record { size = up V.end V.greatest; align = V.greatest })
-        (choice_has_layout V.definitions (codes "ArchivedEvent") V.variants V.greatest V.end V.begin V.laid_out) };
-
-    ghost no_others = { defined_reached (codes "ArchivedEvent") (choice (codes "ArchivedEvent") V.variants) V.definitions (V.no_others (codes "ArchivedEvent")) };
-
-    ghost checks = { λ direct. by_schema direct };
-
-    fn size() -> usize {
-        size_of_choice::<V>()
-    }
-
-    fn align() -> usize {
-        align_of_choice::<V>()
-    }
-
-    fn expr(_alloc: Global) -> Result<Expr, Error> {
-        Ok(Expr::Named("ArchivedEvent"))
-    }
-
-    fn define(alloc: Global, defs: &mut Defs) -> Result<(), Error> {
-        define_choice::<V>(alloc, "ArchivedEvent", defs)
-    }
-}
-
-impl<V: PortableVariants> Choice for ArchivedEvent<V> {
-    type Variants = V;
-
     ghost name = { codes "ArchivedEvent" };
 
-    ghost has_variants = { is_named_choice (codes "ArchivedEvent") V.definitions V.variants };
+    fn name() -> &'static str {
+        "ArchivedEvent"
+    }
+
+    ghost checks = { λ direct. by_schema direct };
 }
+
+pub(super) type Event = ArchivedChoice<EventNamed>;
+
+// A byte and a text, as the variant with the tag 2 has them.
+type Named = (u8, String);
+
+type NamedParts = (Part0, (Part1, ()));
 
 #[test]
 fn a_choice_is_laid_out_by_its_variants(rt: HostRuntime) {
@@ -127,4 +77,23 @@ fn a_tag_without_a_variant_is_refused(rt: HostRuntime) {
         value: 3,
     };
     assert!(rt; access::<Event>(rt.alloc(), bytes).is_err_and(|error| error == refusal));
+}
+
+#[test]
+fn a_variant_is_serialized_and_read_back_by_its_parts(rt: HostRuntime) -> Result<(), Fail> {
+    let named: Named = (7, String::from_str(rt.alloc(), "hi")?);
+    let mut owned = Vec::new(rt.alloc());
+    serialize_variant::<Named, NamedParts, Event, Vec<u8>>(2, &named, &mut owned)?;
+    assert!(rt; owned.is_empty());
+    let view = access::<Event>(rt.alloc(), b"\x02\x07\0\0hi\xff\xff\xff\xff\xff\xff")?;
+    if view.tag() == 2 {
+        let back: Result<(u8, (String, ())), Error> = deserialize_variant::<
+            Event,
+            (u8, (ArchivedString, ())),
+            (u8, (String, ())),
+            (),
+        >(rt.alloc(), view.part(), &mut ());
+        assert_eq!(rt; back, Ok((named.0, (named.1, ()))));
+    }
+    Ok(())
 }
