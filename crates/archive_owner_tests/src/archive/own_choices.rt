@@ -6,12 +6,11 @@ ghost use Rattle.archive_check.specs.SelfCheck.Laws.{by_schema};
 
 use archive_core::api::{access, access_mut};
 use archive_core::error::Error;
-use archive_core::own::{ArchivedChoice, NamedChoice, deserialize_variant, serialize_variant};
+use archive_core::own::{ArchivedChoice, NamedChoice};
 use archive_core::primitive::ArchivedU32;
 use archive_core::self_check::BySchema;
 use archive_core::string::ArchivedString;
 use archive_core::traits::{Choice, Portable};
-use archive_core::tuples::{Part0, Part1};
 use std::test::Fail;
 
 // The choice `ArchivedEvent`: nothing; a number; or a byte and a text.
@@ -32,11 +31,6 @@ impl NamedChoice for EventNamed {
 }
 
 pub(super) type Event = ArchivedChoice<EventNamed>;
-
-// A byte and a text, as the variant with the tag 2 has them.
-type Named = (u8, String);
-
-type NamedParts = (Part0, (Part1, ()));
 
 #[test]
 fn a_choice_is_laid_out_by_its_variants(rt: HostRuntime) {
@@ -77,23 +71,4 @@ fn a_tag_without_a_variant_is_refused(rt: HostRuntime) {
         value: 3,
     };
     assert!(rt; access::<Event>(rt.alloc(), bytes).is_err_and(|error| error == refusal));
-}
-
-#[test]
-fn a_variant_is_serialized_and_read_back_by_its_parts(rt: HostRuntime) -> Result<(), Fail> {
-    let named: Named = (7, String::from_str(rt.alloc(), "hi")?);
-    let mut owned = Vec::new(rt.alloc());
-    serialize_variant::<Named, NamedParts, Event, Vec<u8>>(2, &named, &mut owned)?;
-    assert!(rt; owned.is_empty());
-    let view = access::<Event>(rt.alloc(), b"\x02\x07\0\0hi\xff\xff\xff\xff\xff\xff")?;
-    if view.tag() == 2 {
-        let back: Result<(u8, (String, ())), Error> = deserialize_variant::<
-            Event,
-            (u8, (ArchivedString, ())),
-            (u8, (String, ())),
-            (),
-        >(rt.alloc(), view.part(), &mut ());
-        assert_eq!(rt; back, Ok((named.0, (named.1, ()))));
-    }
-    Ok(())
 }
