@@ -1,17 +1,11 @@
 //! A shared value of its own type: an own type that holds itself behind a shared pointer, and is checked alone.
 
-ghost use Rattle.std.specs.Prelude.{◌≡◌, refl, IfOk};
+ghost use Rattle.std.specs.Prelude.{refl};
 ghost use Rattle.std.proofs.Common.{inl, inr};
-ghost use Rattle.archive_check.specs.Shape.{choice, no_variant, one, variant};
-ghost use Rattle.archive_check.specs.Expressions.{shape_of, shapes_in};
-ghost use Rattle.archive_check.specs.NamedLayout.{name_reached};
-ghost use Rattle.archive_check.specs.SelfCheck.Laws.{by_schema};
-ghost use Rattle.arc.specs.AllValuesShape.{all_name, all_shape, all_choice, all_definitions, all_layout, all_has_layout};
+ghost use Rattle.arc.specs.AllValues.{all_name, all_choice};
 
-use archive_core::error::Error;
-use archive_core::self_check::BySchema;
-use archive_core::shape::{Defs, Expr, FlavorInfo, Pointee};
-use archive_core::traits::{ArchivePointee, Portable};
+use archive_core::own::{ArchivedRecursive, NamedRecursive, choice_of};
+use archive_core::shape::{Expr, FlavorInfo, Pointee};
 use std::alloc::{AllocError, Global};
 
 #[cfg(test)]
@@ -19,59 +13,25 @@ mod tests;
 
 /// The choice `ArchivedAllValues`, whose one variant is a shared one of it. Eight bytes, at a multiple of four. No buffer is an archive of it: each
 /// pointer leads to a further one, and none may lead into its own value.
-pub struct ArchivedAllValues;
+pub type ArchivedAllValues = ArchivedRecursive<AllValues>;
 
-impl ArchivePointee for ArchivedAllValues {
-    type ArchivedMetadata = ();
+/// The name `ArchivedAllValues`, and what it stands for.
+pub struct AllValues;
 
-    ghost pointee = { one all_shape };
+impl NamedRecursive for AllValues {
+    ghost name = { all_name };
 
-    ghost definitions = { all_definitions };
+    ghost stands_for = { all_choice };
 
-    ghost metadata_length = { λ _. 0 };
-
-    fn pointer_metadata(_metadata: &()) -> usize {
-        0
-    }
-}
-
-// A choice of one variant with these parts.
-fn choice_of(alloc: Global, name: &'static str, only: Vec<Expr>) -> Result<Expr, AllocError>
-    ensures { IfOk result (λ e. shape_of e ≡ choice name.now (variant (shapes_in only.items) no_variant)) }
-{
-    let variants = vec![in alloc; only]?;
-    Ok(Expr::Choice(name, variants))
-}
-
-// The definition of its name.
-fn definition(alloc: Global) -> Result<Expr, AllocError>
-    ensures { IfOk result (λ e. shape_of e ≡ all_choice) }
-{
-    let pointee = Box::new(alloc, Pointee::One(Expr::Named("ArchivedAllValues")))?;
-    let flavor = FlavorInfo {
-        name: "RcFlavor",
-        cycles: false,
-    };
-    let inner = Expr::Shared(flavor, pointee);
-    choice_of(alloc, "ArchivedAllValues", vec![in alloc; inner]?)
-}
-
-impl Portable for ArchivedAllValues {
-    ghost shape = { all_shape };
-
-    ghost layout = { all_layout };
-
-    type Check = BySchema;
-
-    ghost is_one = { refl };
+    ghost layout = { record { size = 8; align = 4 } };
 
     ghost is_align = { inr (inr (inl refl)) };
 
-    ghost has_layout = { all_has_layout };
+    ghost laid_out = { record { solved = λ s k. refl } };
 
-    ghost no_others = { name_reached all_name all_choice };
-
-    ghost checks = { λ direct. by_schema direct };
+    fn name() -> &'static str {
+        "ArchivedAllValues"
+    }
 
     fn size() -> usize {
         8
@@ -81,13 +41,14 @@ impl Portable for ArchivedAllValues {
         4
     }
 
-    fn expr(_alloc: Global) -> Result<Expr, Error> {
-        Ok(Expr::Named("ArchivedAllValues"))
-    }
-
-    #[tactic(auto, using(archive_check::proofs::format::AddedDefinitions::not_extended))]
-    fn define(alloc: Global, defs: &mut Defs) -> Result<(), Error> {
-        defs.add("ArchivedAllValues", definition(alloc)?)?;
-        Ok(())
+    fn definition(alloc: Global) -> Result<Expr, AllocError> {
+        let pointee = Box::new(alloc, Pointee::One(Expr::Named("ArchivedAllValues")))?;
+        let flavor = FlavorInfo {
+            name: "RcFlavor",
+            cycles: false,
+        };
+        let inner = Expr::Shared(flavor, pointee);
+        let variants = vec![in alloc; vec![in alloc; inner]?]?;
+        Ok(choice_of("ArchivedAllValues", variants))
     }
 }

@@ -1,9 +1,7 @@
 //! The formats that the program knows.
 
 use crate::all_values::ArchivedAllValues;
-use crate::node::{ArchivedNode, Node, node_of};
 use crate::shared::{TwoShared, check_shared_and_weak, check_two_shared, two_shared};
-use crate::test_record::{ArchivedTest, Test, TestOf};
 use archive_core::api::{access, to_bytes};
 use archive_core::boxed::{ArchivedBox, BoxSlice};
 use archive_core::error::Error;
@@ -14,6 +12,8 @@ use archive_core::string::ArchivedString;
 use archive_core::traits::{Portable, PortablePointee};
 use archive_core::vec::ArchivedVec;
 use hex::FromHexError;
+use own_types::node::{ArchivedNode, Node, node_of};
+use own_types::test_record::{ArchivedTest, Test, TestOf};
 use std::alloc::Global;
 
 /// A format, as the second word of a command names it.
@@ -114,7 +114,9 @@ impl Format {
                 None => Ok(None),
             },
             Format::Node => match u32::read(word.as_str()) {
-                Some(count) if count <= 1000 => Ok(Some(Value::Node(node_of(alloc, count)?))),
+                Some(count) if count <= 1000 => {
+                    Ok(Some(Value::Node(node_of(alloc, count as usize)?)))
+                }
                 _ => Ok(None),
             },
             Format::Test => match test_record(alloc, word.as_str())? {

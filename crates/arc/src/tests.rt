@@ -5,6 +5,8 @@ use std::alloc::{AllocError, Global};
 use std::io;
 use std::test::Fail;
 
+mod nodes;
+mod readme;
 mod records;
 
 fn words_of(alloc: Global, command: &str) -> Result<Vec<String>, AllocError> {

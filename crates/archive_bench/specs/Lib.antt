@@ -1,4 +1,1 @@
-pub mod NodeShape
-pub mod Node
-pub mod TwoVariants
 pub mod Lists

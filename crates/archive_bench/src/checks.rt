@@ -2,7 +2,6 @@
 
 ghost use Rattle.std.specs.Prelude.{◌≤◌, IfOk};
 
-use crate::chain::ArchivedNode;
 use crate::rounds::next_end;
 use crate::sets::{ArchivedPlain, ArchivedRow, ArchivedSmall};
 use archive_core::api::{Access, access};
@@ -12,6 +11,7 @@ use archive_core::rc::{ArchivedRc, RcFlavor};
 use archive_core::string::ArchivedString;
 use archive_core::traits::Portable;
 use archive_core::vec::ArchivedVec;
+use own_types::node::ArchivedNode;
 use std::alloc::Global;
 
 // How many of `count` checks accept, all by one `Access`. Archives of `step` bytes stand one after another in `bytes`.

@@ -1,6 +1,6 @@
 //! Archived strings that are compared where they lie.
 
-ghost use Rattle.std.specs.Prelude.{◌≡◌};
+ghost use Rattle.std.specs.Prelude.{◌≡◌, ◌<◌, ◌≤◌};
 
 use archive_core::api::access;
 use archive_core::slice::ArchivedSlice;
@@ -9,26 +9,19 @@ use archive_core::vec::ArchivedVec;
 use archive_core::view::Ref;
 use std::alloc::Global;
 
-// Whether the string with this index is less than the next one. There is none behind the last one.
-fn is_lesser(names: Ref<'_, ArchivedSlice<ArchivedString>>, index: usize) -> bool {
-    match (names.get(index), names.get(index.wrapping_add(1))) {
-        (Some(name), Some(next)) => name < next,
-        _ => false,
-    }
-}
-
-// How many strings are less than the next one. They are gone through from one of them on, and then from the first one.
-fn lesser(names: Ref<'_, ArchivedSlice<ArchivedString>>, first: usize) -> usize {
+// How many strings are less than the next one, of those with an index from `from` on and below `to`. Asks that there is a string with the index `to`.
+fn lesser(names: Ref<'_, ArchivedSlice<ArchivedString>>, from: usize, to: usize) -> usize
+    requires order { from ≤ to }
+    requires there { to < names.len }
+{
     let mut lesser = 0usize;
-    let mut index = first;
-    for _ in 0..names.len() {
-        if is_lesser(names, index) {
+    let mut name = names.index(from);
+    for index in from..to {
+        let next = names.index(index + 1);
+        if name < next {
             lesser = lesser.wrapping_add(1);
         }
-        index = index.wrapping_add(1);
-        if index >= names.len() {
-            index = 0;
-        }
+        name = next;
     }
     lesser
 }
@@ -48,14 +41,16 @@ pub extern "C" fn archive_bench_compare_names(
         Ok(names) => names.as_slice(),
         Err(_) => return 0,
     };
+    if names.is_empty() {
+        return 0;
+    }
+    let last = names.len() - 1;
     let mut sum = 0usize;
     let mut first = 0;
     for _ in 0..count {
-        sum = sum.wrapping_add(lesser(names, first));
-        first = first.wrapping_add(1);
-        if first >= names.len() {
-            first = 0;
-        }
+        sum = sum.wrapping_add(lesser(names, first, last));
+        sum = sum.wrapping_add(lesser(names, 0, first));
+        first = if first < last { first + 1 } else { 0 };
     }
     sum
 }

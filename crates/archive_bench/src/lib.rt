@@ -6,7 +6,6 @@
 //! for the others. A write answers the sum of `probe` over its rounds, which the driver compares with archives made by hand.
 #![tactic(auto)]
 
-mod chain;
 pub mod checks;
 pub mod comparisons;
 pub mod reads;

@@ -2,7 +2,6 @@
 
 ghost use Rattle.std.specs.Prelude.{◌≡◌};
 
-use crate::chain::{Node, boxes};
 use crate::records::RecordOf;
 use crate::rounds::next_end;
 use crate::sets::{Plain, Row, Small};
@@ -11,6 +10,7 @@ use archive_core::error::Error;
 use archive_core::pooling::Pool;
 use archive_core::rc::Shared;
 use archive_core::traits::{Archive, Deserialize, Entries};
+use own_types::node::{Node, boxes};
 use std::alloc::Global;
 
 // What a value that was read back is told by.

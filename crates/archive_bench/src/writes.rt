@@ -2,12 +2,12 @@
 
 ghost use Rattle.std.specs.Prelude.{◌≡◌, IfOk};
 
-use crate::chain::node_of;
 use crate::rounds::probe;
 use crate::sets::{plain, pointers, rows, small};
 use archive_core::api::{HighSerializer, to_bytes, to_bytes_in};
 use archive_core::error::Error;
 use archive_core::traits::Serialize;
+use own_types::node::node_of;
 use std::alloc::Global;
 
 // Writes one of the values a round, in turns, into a new buffer or always into the same one. Answers the sum of the lengths and of a byte of each.

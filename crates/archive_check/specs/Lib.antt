@@ -52,3 +52,4 @@ pub mod Contexts
 pub mod SelfCheck
 pub mod plan
 pub mod check
+pub mod TwoVariants

@@ -5,7 +5,7 @@ ghost use Rattle.archive_check.specs.declared.plan.Part.{Part};
 ghost use Rattle.archive_check.specs.check.Runs.{pointee_count, pointee_length, pointer_bytes, IsAt, IsVariant, IsNoVariant, Takes};
 ghost use Rattle.archive_check.specs.check.Lists.{list_of};
 ghost use Rattle.archive_check.specs.plan.SoundPlans.{IsSound};
-ghost use Rattle.archive_check.specs.check.LoopInvariant.{PartFits, PartsFit, ElementsFit, IsLegalHere, PartIsLegalHere, LiesLegal};
+ghost use Rattle.archive_check.specs.check.LoopInvariant.{PartFits, PartsFit, ElementsFit, IsLegalHere, PartIsLegalHere, LiesLegal, IsToOpen};
 
 pub mod regions;
 mod shallow;
@@ -119,7 +119,7 @@ impl Checker<'_> {
         ensures below { result ≤ last }
         ensures above { result < last → first ≤ result }
         ensures opened { (x : Part) → result < last → IsAt self.now.parts.now result x
-            → ¬ LiesLegal self.now x.node (base + x.offset) }
+            → IsToOpen self.now base x }
         ensures skipped { (k : ℕ) → first ≤ k → k < result → PartIsLegalHere self.now base k }
     {
         for index in first..last {

@@ -1,5 +1,6 @@
 pub mod Compared
 pub mod ComparedValues
+mod FirstBytes
 pub mod StandingLeaves
 pub mod StandingParts
 pub mod ViewsTogether

@@ -5,9 +5,10 @@ use denote.Ref.{MutBor}
 use Rattle.std.specs.declared.cmp.Ordering.{Ordering}
 use Rattle.std.specs.Prelude.{Bool, ◌≡◌, ◌+◌, ◌*◌, ◌-◌, ℕ, List, Option, Result, slice_index}
 use Rattle.archive_check.specs.Layout.{Layout}
-use Rattle.archive_check.specs.Shape.{Pointee}
-use Rattle.archive_check.specs.Reads.{length_at}
-use Rattle.archive_check.specs.Readable.{target_from}
+use Rattle.archive_check.specs.Shape.{Pointee, text}
+use Rattle.archive_check.specs.LittleEndian.{little_number}
+use Rattle.archive_check.specs.Reads.{bytes_at, length_at}
+use Rattle.archive_check.specs.Readable.{target_from, string_text}
 use Rattle.archive_check.specs.Value.{Value, Values, product, case, shared_value}
 use Rattle.archive_check.specs.Denotes.{Naming}
 use Rattle.archive_check.specs.Definitions.{Definitions}
@@ -47,6 +48,10 @@ result_to R S L E v r = result_order R S (result_in L.align E.align (shown v)) r
 abbrev pub spots_between : RawView → ℕ → ℕ → ℕ → List (List ℕ × ℕ)
 spots_between s size a b = spots s.bytes.now s.pos size a (b - a)
 
+-- of the first n
+abbrev pub spots_in : RawView → ℕ → ℕ → List (List ℕ × ℕ)
+spots_in s size n = spots s.bytes.now s.pos size 0 n
+
 abbrev pub spots_shown : {T M : Type 0} {g : ArchivePointee.Ghosts T M} → ℕ → Ref T M g → List (List ℕ × ℕ)
 spots_shown size v = spots v.bytes.now v.pos size 0 v.len
 
@@ -56,6 +61,10 @@ spots_of size n v = spots v.bytes.now v.pos size 0 n
 
 abbrev pub part_tag : RawView → ℕ
 part_tag p = slice_index p.bytes.now p.pos
+
+-- the number of so many bytes that a part shows
+abbrev pub part_number : RawView → ℕ → ℕ
+part_number p size = little_number (bytes_at p.bytes.now p.pos size)
 
 abbrev pub part_shown : RawView → Standing
 part_shown p = standing p.bytes.now p.pos p.len
@@ -138,3 +147,10 @@ ViewComparesTo {g = g} v = ComparesTo g.definitions g.pointee v.bytes.now v.pos 
 
 abbrev pub ViewEquals : {T M : Type 0} {g : ArchivePointee.Ghosts T M} → Ref T M g → Value → Bool → Type 0
 ViewEquals {g = g} v = EqualsTo g.definitions g.pointee v.bytes.now v.pos v.len
+
+-- the n bytes at p are the text of the string that a view shows; wherever that is a part of an archive, so is the text there
+abbrev pub IsTextAt : {T M : Type 0} {g : ArchivePointee.Ghosts T M} → Ref T M g → ℕ → ℕ → Type 0
+IsTextAt v p n = bytes_at v.bytes.now p n ≡ string_text v.bytes.now v.pos
+
+abbrev pub TextStandsBeside : {T M : Type 0} {g : ArchivePointee.Ghosts T M} → Ref T M g → ℕ → ℕ → Type 0
+TextStandsBeside {g = g} v p n = StandsWith g.definitions v.bytes.now (view v.pos g.pointee v.len) (view p text n)

@@ -13,6 +13,7 @@ ghost use Rattle.archive_core.specs.Seen.{IsPartOf, RefusesPart};
 ghost use Rattle.archive_core.specs.Sources.{Read};
 
 mod choices;
+mod recursive;
 mod variants;
 
 use crate::parts::{DeserializeParts, OwnedParts, PartOf};
@@ -26,6 +27,7 @@ use archive_check::format::error::Error;
 use archive_check::self_check::SelfCheck;
 use archive_check::shape::{Defs, Expr};
 pub use choices::{ArchivedChoice, NamedChoice};
+pub use recursive::{ArchivedRecursive, NamedRecursive, RecursiveChoice, choice_of};
 use std::alloc::Global;
 use std::marker::PhantomData;
 pub use variants::{deserialize_variant, resolve_variant, serialize_variant};

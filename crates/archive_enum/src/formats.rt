@@ -17,20 +17,6 @@ use archive_check::format::traits::{ArchivePointee, Portable};
 use archive_check::self_check::{SelfCheck, check_choice};
 use std::alloc::{AllocError, Global};
 
-// A choice of two variants with these parts.
-#[tactic(auto, using(archive_check::proofs::format::Views::views))]
-fn choice_of(
-    alloc: Global,
-    name: &'static str,
-    first: Vec<Expr>,
-    second: Vec<Expr>,
-) -> Result<Expr, AllocError>
-    ensures { IfOk result (λ e. shape_of e ≡ choice name.now (variant (shapes_in first.items) (variant (shapes_in second.items) no_variant))) }
-{
-    let variants = vec![in alloc; first, second]?;
-    Ok(Expr::Choice(name, variants))
-}
-
 // How many bytes a choice takes whose longest variant ends there, or `usize::MAX` where that is less.
 fn choice_size(end: u128, align: usize) -> usize
     requires positive { 0 < align }
@@ -93,7 +79,7 @@ impl<T: Portable> Portable for ArchivedOption<T> {
         let value = T::expr(alloc)?;
         let none = vec![in alloc]?;
         let some = vec![in alloc; value]?;
-        Ok(choice_of(alloc, "ArchivedOption", none, some)?)
+        Ok(Expr::choice_of_two(alloc, "ArchivedOption", none, some)?)
     }
 
     fn define(alloc: Global, defs: &mut Defs) -> Result<(), Error> {

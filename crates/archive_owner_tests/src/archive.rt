@@ -6,6 +6,7 @@ mod copies;
 mod iterators;
 mod options;
 mod own_choices;
+mod own_variants;
 mod owner_reading;
 mod owner_views;
 mod owners;

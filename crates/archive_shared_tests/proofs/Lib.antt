@@ -1,1 +1,2 @@
 pub mod TwoPools
+pub mod Loops

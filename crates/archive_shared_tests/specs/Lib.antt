@@ -1,2 +1,3 @@
 pub mod TwoPools
 pub mod CircleShape
+pub mod LoopShape

@@ -3,6 +3,7 @@
 mod comparisons;
 mod contexts;
 mod cycles;
+mod endless;
 mod pools;
 mod rc;
 mod seals;

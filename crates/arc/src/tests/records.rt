@@ -1,11 +1,11 @@
 // A record of an own type: written, viewed, read back, and edited in place.
 
 use crate::formats::Format;
-use crate::test_record::{ArchivedTest, Numbers, Test, TestOf};
 use archive_core::api::{HighSerializer, access, access_mut, from_bytes, to_bytes};
 use archive_core::error::Error;
 use archive_core::string::ArchivedString;
 use archive_core::traits::{Archive, Deserialize, Serialize};
+use own_types::test_record::{ArchivedTest, Numbers, Test, TestOf};
 use std::alloc::{AllocError, Global};
 use std::test::Fail;
 

@@ -7,6 +7,7 @@ use archive_check::context::{ArchiveContext, ArchiveValidator, SharedContext, Va
 use archive_check::format::error::Error;
 use archive_check::format::expr::{Expr, FlavorInfo, Kind, Pointee};
 use archive_check::format::layout::Layout;
+use std::process::Abort;
 use std::test::Fail;
 
 const RC: FlavorInfo = FlavorInfo {
@@ -19,66 +20,79 @@ const OTHER: FlavorInfo = FlavorInfo {
     cycles: true,
 };
 
-#[test]
-fn a_position_has_one_type_and_length(rt: HostRuntime) -> Result<(), Fail> {
-    let mut shared = SharedValidator::new(rt.alloc());
+// A call on a shared position: whether its flavor is `OTHER`, whether it leads to a text or to a unit, the position, the length with which it is started or
+// none where it is finished, and the answer.
+type Call = (
+    bool,
+    bool,
+    i128,
+    Option<usize>,
+    Result<Option<ValidationState>, Error>,
+);
+
+// Makes the calls in turn.
+fn assert_calls<S: SharedContext>(rt: &impl Abort, shared: &mut S, calls: &[Call]) {
     let text = Pointee::Text;
     let unit = Pointee::One(Expr::Leaf(Kind::Unit));
-    assert_eq!(rt;
-        shared.start_shared(&RC, &text, 8, 3),
-        Ok(ValidationState::Started)
-    );
-    assert_eq!(rt;
-        shared.start_shared(&OTHER, &text, 8, 3),
-        Err(Error::TypeMismatch)
-    );
-    assert_eq!(rt;
-        shared.start_shared(&RC, &unit, 8, 0),
-        Err(Error::TypeMismatch)
-    );
-    assert_eq!(rt;
-        shared.start_shared(&RC, &text, 8, 4),
-        Err(Error::MetadataMismatch)
-    );
-    assert_eq!(rt;
-        shared.start_shared(&RC, &text, 8, 3),
-        Ok(ValidationState::Pending)
-    );
-    Ok(())
+    for (is_other, is_text, position, length, answer) in calls {
+        let flavor = if *is_other { &OTHER } else { &RC };
+        let pointee = if *is_text { &text } else { &unit };
+        let found = match length {
+            Some(length) => match shared.start_shared(flavor, pointee, *position, *length) {
+                Ok(state) => Ok(Some(state)),
+                Err(error) => Err(error),
+            },
+            None => match shared.finish_shared(flavor, pointee, *position) {
+                Ok(()) => Ok(None),
+                Err(error) => Err(error),
+            },
+        };
+        assert_eq!(rt; &found, answer, "at {position} with {length:?}");
+    }
 }
 
 #[test]
-fn a_position_is_finished_once(rt: HostRuntime) -> Result<(), Fail> {
-    let mut shared = SharedValidator::new(rt.alloc());
-    let text = Pointee::Text;
-    let unit = Pointee::One(Expr::Leaf(Kind::Unit));
-    assert_eq!(rt; shared.finish_shared(&RC, &text, 8), Err(Error::NotStarted));
-    assert_eq!(rt;
-        shared.start_shared(&RC, &text, 8, 3),
-        Ok(ValidationState::Started)
+fn a_position_has_one_type_and_length(rt: HostRuntime) {
+    let started = Ok(Some(ValidationState::Started));
+    let pending = Ok(Some(ValidationState::Pending));
+    assert_calls(
+        &rt,
+        &mut SharedValidator::new(rt.alloc()),
+        &[
+            (false, true, 8, Some(3), started),
+            (true, true, 8, Some(3), Err(Error::TypeMismatch)),
+            (false, false, 8, Some(0), Err(Error::TypeMismatch)),
+            (false, true, 8, Some(4), Err(Error::MetadataMismatch)),
+            (false, true, 8, Some(3), pending),
+        ],
     );
-    assert_eq!(rt;
-        shared.start_shared(&RC, &unit, -8, 0),
-        Ok(ValidationState::Started)
+}
+
+#[test]
+fn a_position_is_finished_once(rt: HostRuntime) {
+    let started = Ok(Some(ValidationState::Started));
+    let pending = Ok(Some(ValidationState::Pending));
+    let finished = Ok(Some(ValidationState::Finished));
+    assert_calls(
+        &rt,
+        &mut SharedValidator::new(rt.alloc()),
+        &[
+            (false, true, 8, None, Err(Error::NotStarted)),
+            (false, true, 8, Some(3), started),
+            (
+                false,
+                false,
+                -8,
+                Some(0),
+                Ok(Some(ValidationState::Started)),
+            ),
+            (true, false, 8, None, Ok(None)),
+            (false, true, 8, None, Err(Error::AlreadyFinished)),
+            (false, true, 8, Some(3), finished),
+            (false, true, 8, Some(2), Err(Error::MetadataMismatch)),
+            (false, false, -8, Some(0), pending),
+        ],
     );
-    assert_eq!(rt; shared.finish_shared(&OTHER, &unit, 8), Ok(()));
-    assert_eq!(rt;
-        shared.finish_shared(&RC, &text, 8),
-        Err(Error::AlreadyFinished)
-    );
-    assert_eq!(rt;
-        shared.start_shared(&RC, &text, 8, 3),
-        Ok(ValidationState::Finished)
-    );
-    assert_eq!(rt;
-        shared.start_shared(&RC, &text, 8, 2),
-        Err(Error::MetadataMismatch)
-    );
-    assert_eq!(rt;
-        shared.start_shared(&RC, &unit, -8, 0),
-        Ok(ValidationState::Pending)
-    );
-    Ok(())
 }
 
 #[test]

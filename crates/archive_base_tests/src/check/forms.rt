@@ -16,27 +16,13 @@ use archive_check::format::traits::Portable;
 use archive_num::{ArchivedI32, ArchivedU16, ArchivedU32, ArchivedU64, ArchivedU128};
 use std::alloc::{AllocError, Global};
 
-// A choice of two variants with these parts.
-#[tactic(auto, using(archive_check::proofs::format::Views::views))]
-fn choice_of(
-    alloc: Global,
-    name: &'static str,
-    first: Vec<Expr>,
-    second: Vec<Expr>,
-) -> Result<Expr, AllocError>
-    ensures { IfOk result (λ e. shape_of e ≡ choice name.now (variant (shapes_in first.items) (variant (shapes_in second.items) no_variant))) }
-{
-    let variants = vec![in alloc; first, second]?;
-    Ok(Expr::Choice(name, variants))
-}
-
 // Nothing, or a value.
 fn option_of(alloc: Global, value: Expr) -> Result<Expr, AllocError>
     ensures { IfOk result (λ e. shape_of e ≡ optional (shape_of value)) }
 {
     let none = vec![in alloc]?;
     let some = vec![in alloc; value]?;
-    choice_of(alloc, "ArchivedOption", none, some)
+    Expr::choice_of_two(alloc, "ArchivedOption", none, some)
 }
 
 // Two values, one behind the other.
@@ -232,7 +218,7 @@ impl Form for Either {
     fn expr(alloc: Global) -> Result<Expr, Error> {
         let small = vec![in alloc; u8::expr(alloc)?]?;
         let large = vec![in alloc; ArchivedU32::expr(alloc)?]?;
-        Ok(choice_of(alloc, "ArchivedResult", small, large)?)
+        Ok(Expr::choice_of_two(alloc, "ArchivedResult", small, large)?)
     }
 
     ghost is_align = { inr (inr (inl refl)) };
@@ -522,7 +508,7 @@ impl Form for Node {
         let next = Pointee::One(Expr::Named("ArchivedNode"));
         let end = vec![in alloc]?;
         let more = vec![in alloc; Expr::Box(Box::new(alloc, next)?)]?;
-        Ok(choice_of(alloc, "ArchivedNode", end, more)?)
+        Ok(Expr::choice_of_two(alloc, "ArchivedNode", end, more)?)
     }
 
     ghost is_align = { inr (inr (inl refl)) };
@@ -555,7 +541,7 @@ impl Form for Flags {
         let rest = Pointee::One(Expr::Named("Flags"));
         let end = vec![in alloc]?;
         let item = vec![in alloc; bool::expr(alloc)?, Expr::Box(Box::new(alloc, rest)?)]?;
-        Ok(choice_of(alloc, "Flags", end, item)?)
+        Ok(Expr::choice_of_two(alloc, "Flags", end, item)?)
     }
 
     ghost is_align = { inr (inr (inl refl)) };

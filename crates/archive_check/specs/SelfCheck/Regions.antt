@@ -48,6 +48,10 @@ pub record Begun (s s' : RangeState) (z : ℤ) (align : ℕ) (r : Region) : Type
   pub outer_start : r.outer_start ≡ r.begin + r.size
   pub outer_end : r.outer_end ≡ s.end
 
+-- the same of one of this size
+abbrev pub Enters : RangeState → RangeState → ℤ → ℕ → Option ℕ → Region → Type 0
+Enters s s' z align size r = (size ≡ Some r.size) × Begun s s' z align r
+
 -- an alignment is no 0
 pub align_some : (a : ℕ) → IsAlign a → 1 ≤ a
 align_some a (inl e) = omega arith

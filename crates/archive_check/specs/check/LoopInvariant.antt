@@ -177,6 +177,10 @@ pub data LiesLegal (m : Checker) (i p : ℕ) : Type 0 where
   lies_free : IsNode m i Free → LiesLegal m i p
   lies_leaf : {kind : KindExpr} → IsNode m i (Leaf kind) → IsLegal (kind_of kind) (bytes_at m.bytes.now p (kind_size (kind_of kind))) → LiesLegal m i p
 
+-- the part of what begins at p is to be opened: it doesn't lie legal
+abbrev pub IsToOpen : Checker → ℕ → Part → Type 0
+IsToOpen m p x = ¬ LiesLegal m x.node (p + x.offset)
+
 -- the part k of what begins at p is legal as it lies, and leads nowhere
 pub record PartIsLegalHere (m : Checker) (p k : ℕ) : Type 0 where
   pub part : Part

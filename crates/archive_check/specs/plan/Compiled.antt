@@ -199,6 +199,9 @@ IsCompiled scope X q p j = Compiled scope.names.now scope.done X (waits_of q.ent
 abbrev pub IsCompiledAnywhere : List NamedNode → Shape → Both (MutBor Queue) (MutBor Queue) → Both (MutBor Plan) (MutBor Plan) → ℕ → Type 0
 IsCompiledAnywhere names X q p j = (done : ℕ) → Compiled names done X (waits_of q.entry.now) (waits_of q.exit.now) (lists_of p.entry.now) (lists_of p.exit.now) j
 
+abbrev pub IsCountedAnywhere : List NamedNode → Bool → Flavor → Pointee → Both (MutBor Queue) (MutBor Queue) → Both (MutBor Plan) (MutBor Plan) → ℕ → Type 0
+IsCountedAnywhere names is_weak flavor P q p = IsCompiledAnywhere names (counted is_weak flavor P) q p
+
 -- a string, whatever the names and what waits
 abbrev pub IsStringCompiled : PlanLists → PlanLists → ℕ → Type 0
 IsStringCompiled a b j = (names : List NamedNode) (done : ℕ) (w : Waits) → Compiled names done str w w a b j

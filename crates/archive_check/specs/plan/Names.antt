@@ -123,3 +123,7 @@ ExplainsNoneReady placed rest e = (e ≡ OutOfMemory) ⊎ ((e ≡ RecursiveLayou
 
 abbrev pub ExplainsHeld : Table → Error → Type 0
 ExplainsHeld table e = (e ≡ OutOfMemory) ⊎ ((e ≡ RecursiveLayout) × (name : Name) × (Y : Shape) × (definition table name ≡ Some Y) × HeldIn table name Y)
+
+-- of the root, at 0, and the definitions, the first name in that at i that has no definition
+abbrev pub IsMissingAt : Shape → List Def → ℕ → Option Name → Type 0
+IsMissingAt root defs i name = (X : Shape) → X ≡ get_or (shapes_from root defs) i X → name ≡ missing true (entries_of defs) X

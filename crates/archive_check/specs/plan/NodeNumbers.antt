@@ -37,8 +37,16 @@ IsDefinitionNode names i start X j =
 abbrev pub IsExpressionNode : List NamedNode → ℕ → Shape → ℕ → Type 0
 IsExpressionNode names start X j = ((name : Name) × (X ≡ named name) × (node_of names name ≡ Some j)) ⊎ ((j + 1 ≡ start + count_of X) × (start ≤ j))
 
+-- the same, and where its nodes end
+abbrev pub IsNumberedFrom : List NamedNode → ℕ → Shape → ℕ → ℕ → Type 0
+IsNumberedFrom names start X j end = IsExpressionNode names start X j × (end ≡ start + count_of X)
+
 -- the first n definitions have their entries
 pub record IsNumbered (defs : List Def) (names : List NamedNode) (n : ℕ) : Type 0 where
   pub count : length names ≡ n
   pub name_is : (i : ℕ) (d : Def) (k : NamedNode) → IsAt defs i d → IsAt names i k → k.name.now ≡ d.name.now
   pub root_is : (i : ℕ) (d : Def) (k : NamedNode) → IsAt defs i d → IsAt names i k → IsDefinitionNode names i (start_of (def_shapes defs) i) (shape_of d.expr) k.node
+
+-- all have, and their nodes are so many
+abbrev pub AreNumbered : List Def → List NamedNode → ℕ → Type 0
+AreNumbered defs names count = IsNumbered defs names (length defs) × (count ≡ start_of (def_shapes defs) (length defs))

@@ -1,7 +1,7 @@
 -- How a plan grows: its lists go on, by a node, a shared type, parts or variants.
 use Rattle.std.specs.Prelude.{◌≡◌, ℕ, ◌<◌, max, List, [], ◌∷◌, ◌++◌, length, Bool, true, false, ◌&&◌, nat_eq, Option, Some, None, cond, bytes_eq}
 use Rattle.archive_check.specs.declared.plan.NodeKind.{NodeKind}
-use Rattle.archive_check.specs.declared.plan.NodeKind.TheVariants.{Free}
+use Rattle.archive_check.specs.declared.plan.NodeKind.TheVariants.{Free, Leaf}
 use Rattle.archive_check.specs.declared.plan.Node.{Node}
 use Rattle.archive_check.specs.declared.plan.Part.{Part}
 use Rattle.archive_check.specs.declared.plan.Span.{Span}
@@ -13,7 +13,10 @@ use Rattle.archive_check.specs.declared.plan.growing.LaidParts.{LaidParts}
 use Rattle.archive_check.specs.declared.plan.growing.LaidVariants.{LaidVariants}
 use Rattle.archive_check.specs.declared.plan.growing.LaidRange.{LaidRange}
 use Rattle.archive_check.specs.Shape.{Name, Pointee}
-use Rattle.archive_check.specs.Expressions.{pointee_of}
+use Rattle.archive_check.specs.Expressions.{kind_of, pointee_of}
+use Rattle.archive_check.specs.Layout.{kind_size, kind_align}
+use Rattle.archive_check.specs.declared.format.expr.Kind.{Kind as KindExpr}
+use Rattle.archive_check.specs.PlainData.{is_plain_kind}
 use Rattle.archive_check.specs.declared.format.expr.FlavorInfo.{FlavorInfo}
 use Rattle.archive_check.specs.plan.BoundedSizes.{rounded, sum_of, greater_of}
 use Rattle.archive_check.specs.plan.Shallow.{is_free}
@@ -95,6 +98,10 @@ pub record IsMade (a b : PlanLists) (size : Option ℕ) (align : ℕ) (free : Bo
   pub made : NodeKind
   pub made_is : made ≡ cond (nothing_to_check free size) Free kind
   pub pushed : IsPushed a b size align made j
+
+-- the node of a leaf
+abbrev pub IsLeafMade : PlanLists → PlanLists → KindExpr → ℕ → Type 0
+IsLeafMade a b kind j = IsMade a b (Some (kind_size (kind_of kind))) (kind_align (kind_of kind)) (is_plain_kind (kind_of kind)) (Leaf kind) j
 
 -- a part more, behind the laid ones
 pub record IsPartAdded (node : ℕ) (here : Node) (row next : LaidParts) : Type 0 where

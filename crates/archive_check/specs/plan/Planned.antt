@@ -1,9 +1,12 @@
 -- Plans of an expression and the definitions of its names.
+use denote.Triple.Both.{Both}
+use denote.Ref.{MutBor}
 use Rattle.std.specs.Prelude.{◌≡◌, ℕ, ◌<◌, List, ◌++◌, length, take, Some, IsSome, is_some}
 use Rattle.archive_check.specs.declared.format.defs.Def.{Def}
 use Rattle.archive_check.specs.declared.plan.Plan.{Plan}
 use Rattle.archive_check.specs.declared.check.Checker.{Checker}
 use Rattle.archive_check.specs.declared.plan.growing.NamedNode.{NamedNode}
+use Rattle.archive_check.specs.declared.plan.queue.Queue.{Queue}
 use Rattle.archive_check.specs.declared.plan.Node.{Node}
 use Rattle.archive_check.specs.Shape.{Name, Shape, definition}
 use Rattle.archive_check.specs.Expressions.{shape_of, entries_of}
@@ -13,8 +16,8 @@ use Rattle.archive_check.specs.check.Runs.{IsAt}
 use Rattle.archive_check.specs.plan.SoundPlans.{IsSound}
 use Rattle.archive_check.specs.check.PlanChecks.{PlanOf}
 use Rattle.archive_check.specs.plan.BoundedSizes.{fits}
-use Rattle.archive_check.specs.plan.PlanGrowth.{node_of, PlanLists, no_lists, Grows}
-use Rattle.archive_check.specs.plan.CompileQueue.{Waits, no_waits, wait_shapes}
+use Rattle.archive_check.specs.plan.PlanGrowth.{node_of, PlanLists, lists_of, no_lists, Grows}
+use Rattle.archive_check.specs.plan.CompileQueue.{Waits, waits_of, no_waits, wait_shapes}
 use Rattle.archive_check.specs.plan.Compilable.{Can, AllKnown}
 use Rattle.archive_check.specs.plan.Compiled.{Given, Adds, Compiled}
 use Rattle.archive_check.specs.plan.NodeNumbers.{start_of}
@@ -88,3 +91,10 @@ pub record FinishesTo (names : List NamedNode) (i : ℕ) (v w : Waits) (a b : Pl
   pub can_to : CanFinish names v a → CanFinish names w b
   pub grows_to : Grows a b
   pub chained_to : (Xs : List Shape) (base : ℕ) → Chained names Xs base v a → Chained names (Xs ++ wait_shapes (take i w.items)) base w b
+
+-- Likewise, of calls with this queue and this plan. `Both` is a parameter as a clause names it: what it was as the call began, and what it is at the return.
+abbrev pub IsChained : List NamedNode → List Shape → Both (MutBor Queue) (MutBor Queue) → Both (MutBor Plan) (MutBor Plan) → Type 0
+IsChained names Xs q p = Chained names Xs q.entry.now.next (waits_of q.exit.now) (lists_of p.exit.now)
+
+abbrev pub IsFinished : List NamedNode → Both (MutBor Queue) (MutBor Queue) → Both (MutBor Plan) (MutBor Plan) → Type 0
+IsFinished names q p = Finishes names (waits_of q.entry.now) (waits_of q.exit.now) (lists_of p.entry.now) (lists_of p.exit.now)

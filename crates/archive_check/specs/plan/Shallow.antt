@@ -40,6 +40,13 @@ abbrev pub variants_shallow : List Bool → List Part → List Span → Bool
 variants_shallow marks parts [] = true
 variants_shallow marks parts (x ∷ xs) = parts_shallow marks (span parts x.first x.last) && variants_shallow marks parts xs
 
+-- the parts from a up to b are marked; those of these variants
+abbrev pub IsShallowSpan : List Bool → List Part → ℕ → ℕ → Type 0
+IsShallowSpan marks parts a b = IsTrue (parts_shallow marks (span parts a b))
+
+abbrev pub AreShallowVariants : List Bool → List Part → List Span → Type 0
+AreShallowVariants marks parts xs = IsTrue (variants_shallow marks parts xs)
+
 -- whether so much is known to be shallow: what the kind leads to is a text or may be any bytes, and what it holds is marked
 abbrev pub kind_shallow : List Node → List Part → List Span → List Bool → NodeKind → Bool
 kind_shallow nodes parts variants marks Free = true

@@ -1,12 +1,12 @@
 //! The shared positions of a check, kept in a map.
 
-ghost use Rattle.std.specs.Prelude.{◌≡◌, ◌⊎◌, ◌↔◌, ◌≤◌, IsTrue, Some, None, IfOk, IfErr};
+ghost use Rattle.std.specs.Prelude.{◌≡◌, ◌⊎◌, ◌↔◌, ◌≤◌, IsTrue, Some, None, IfOk, IfErr, OnOk, OnErr};
 ghost use Rattle.std.specs.HashMap.{get};
 ghost use Rattle.std.specs.Ordering.{int_eq};
 ghost use Rattle.archive_check.specs.SharedPositions.{met_as, AreKnown, HasType, IsGrown, IsType, IsAddedOnce};
 ghost use Rattle.archive_check.specs.Expressions.{flavor_of, pointee_of};
 ghost use Rattle.archive_check.specs.Ranges.{whole};
-ghost use Rattle.archive_check.specs.PositionStates.{nothing_met, IsStartAnswer, entry_as};
+ghost use Rattle.archive_check.specs.PositionStates.{nothing_met, IsStartAnswer, Starts, entry_as};
 ghost use Rattle.archive_check.specs.declared.format.error.Error.TheVariants.{OutOfMemory};
 
 use crate::context::{Context, SharedContext, ValidationState};
@@ -26,6 +26,7 @@ struct SharedPosition {
 }
 
 // Whether a type is this one, as written.
+#[inline(always)]
 #[tactic(auto, using(crate::proofs::context::SharedPositions::same_type))]
 fn is_of(shared_type: &SharedType, flavor: &FlavorInfo, pointee: &Pointee) -> bool
     ensures { IsTrue result ↔ IsType shared_type.now (flavor_of flavor.now) (pointee_of pointee.now) }
@@ -93,6 +94,32 @@ impl<A: Allocator + Copy> SharedValidator<A> {
             positions: HashMap::with_capacity(alloc, capacity)?,
         })
     }
+
+    // Starts a position that wasn't met. It stands apart, since most pointers lead to one that was.
+    #[cold]
+    #[inline(never)]
+    #[tactic(auto, using(crate::proofs::context::SharedPositions::kept))]
+    fn start_new(
+        &mut self,
+        flavor: &FlavorInfo,
+        pointee: &Pointee,
+        position: i128,
+        length: usize,
+    ) -> Result<ValidationState, Error>
+        requires new { get int_eq self.old.positions position ≡ None }
+        ensures answer { IsStartAnswer (positions_of self.old position) (entry_as flavor.now pointee.now length) result }
+        ensures started { OnOk result (Starts positions_of self position flavor pointee length) }
+        ensures unchanged { OnErr result (positions_of self.new ≡ positions_of self.old) }
+    {
+        let shared_type = type_index(&mut self.shared_types, flavor, pointee)?;
+        let kept = SharedPosition {
+            shared_type,
+            length,
+            finished: false,
+        };
+        let _ = self.positions.insert(position, kept)?;
+        Ok(ValidationState::Started)
+    }
 }
 
 impl<A: Allocator + Copy> Context for SharedValidator<A> {
@@ -120,14 +147,7 @@ impl<A: Allocator + Copy> SharedContext for SharedValidator<A> {
                 length,
             );
         }
-        let shared_type = type_index(&mut self.shared_types, flavor, pointee)?;
-        let kept = SharedPosition {
-            shared_type,
-            length,
-            finished: false,
-        };
-        let _ = self.positions.insert(position, kept)?;
-        Ok(ValidationState::Started)
+        self.start_new(flavor, pointee, position, length)
     }
 
     #[tactic(auto, using(crate::proofs::context::SharedPositions::kept))]

@@ -1,8 +1,9 @@
 //! Contexts of a check that are made of one for the range and one for the shared positions.
 
-ghost use Rattle.std.specs.Prelude.{◌≡◌, ◌≢◌, Some, None};
+ghost use Rattle.std.specs.Prelude.{◌≡◌, ◌≢◌, Some, None, OnOk, OnErr};
 ghost use Rattle.archive_check.specs.FreshContexts.{IsWhole};
 ghost use Rattle.archive_check.specs.FreshContexts.{IsWholeIn};
+ghost use Rattle.archive_check.specs.PositionStates.{IsStartAnswer, Starts, entry_as};
 
 use crate::context::positions::SharedValidator;
 use crate::context::{ArchiveContext, ArchiveValidator, Context, SharedContext, ValidationState};
@@ -91,6 +92,8 @@ pub struct HighValidator<'a> {
 }
 
 impl<'a> HighValidator<'a> {
+    ghost use Rattle.archive_check.specs.Validators.{positions_met};
+
     /// The whole of `bytes`, of which nothing was met yet, with no limit of depth. Memory comes from `alloc`, and none is taken yet. Our own.
     pub fn new(alloc: Global, bytes: &'a [u8]) -> HighValidator<'a>
         ensures whole { IsWholeIn ⟦<HighValidator<'a> as Context>⟧ result bytes.now }
@@ -121,6 +124,28 @@ impl<'a> HighValidator<'a> {
         ensures { result ≡ (⟦<HighValidator<'a> as Context>⟧.state self.now).pushes }
     {
         self.range.subtrees()
+    }
+
+    // Starts the first shared position. It stands apart, since it is called once.
+    #[cold]
+    #[inline(never)]
+    fn start_first(
+        &mut self,
+        flavor: &FlavorInfo,
+        pointee: &Pointee,
+        position: i128,
+        length: usize,
+    ) -> Result<ValidationState, Error>
+        requires none { self.old.positions ≡ None }
+        ensures answer { IsStartAnswer (positions_met self.old.positions position) (entry_as flavor.now pointee.now length) result }
+        ensures started { OnOk result (Starts (λ v. positions_met v.positions) self position flavor pointee length) }
+        ensures unchanged { OnErr result (positions_met self.new.positions ≡ positions_met self.old.positions) }
+        ensures range { self.new.range ≡ self.old.range }
+    {
+        let mut positions = Box::new(self.alloc, SharedValidator::new(self.alloc))?;
+        let answer = positions.start_shared(flavor, pointee, position, length);
+        self.positions = Some(positions);
+        answer
     }
 }
 
@@ -154,15 +179,10 @@ impl SharedContext for HighValidator<'_> {
         position: i128,
         length: usize,
     ) -> Result<ValidationState, Error> {
-        match &mut self.positions {
-            Some(positions) => positions.start_shared(flavor, pointee, position, length),
-            None => {
-                let mut positions = Box::new(self.alloc, SharedValidator::new(self.alloc))?;
-                let answer = positions.start_shared(flavor, pointee, position, length);
-                self.positions = Some(positions);
-                answer
-            }
+        if let Some(positions) = &mut self.positions {
+            return positions.start_shared(flavor, pointee, position, length);
         }
+        self.start_first(flavor, pointee, position, length)
     }
 
     fn finish_shared(

@@ -1,7 +1,7 @@
 //! Numbers and texts in bytes, as rkyv 0.8.18 has them. Positions are in bytes from the buffer's first one.
 #![tactic(auto, unfolding(crate::specs::Reads::bytes_at, crate::specs::Reads::u32_at, crate::specs::Reads::i32_at, crate::specs::Reads::decoded_length))]
 
-ghost use Rattle.std.specs.Prelude.{◌≡◌, ◌↔◌, ◌+◌, ◌<◌, ◌≤◌, length, pos, ◌+ℤ◌, IsTrue, IsUtf8, IsAscii};
+ghost use Rattle.std.specs.Prelude.{◌≡◌, ◌↔◌, ◌+◌, ◌<◌, ◌≤◌, length, take, pos, ◌+ℤ◌, IsTrue, IsUtf8, IsAscii};
 ghost use Rattle.archive_check.specs.Reads.{bytes_at, u32_at, i32_at, before_end, decoded_length, IsOutOfLine};
 ghost use Rattle.archive_check.specs.Readable.{target_from};
 
@@ -105,12 +105,56 @@ fn is_short_ascii(bytes: &[u8], p: usize, n: usize) -> bool
     are_ascii(bytes, p + n - 8)
 }
 
+// The bits that any of the bytes has: below 128 where each byte is ASCII.
+#[inline(always)]
+fn any_bits(bytes: &[u8]) -> u8
+    ensures { result < 128 → IsAscii bytes.now }
+{
+    let mut bits = 0;
+    for k in 0..bytes.len() {
+        bits |= bytes[k];
+    }
+    bits
+}
+
+// How many bytes at the front stand in pieces of 512 that are ASCII.
+#[inline(always)]
+fn ascii_pieces(bytes: &[u8]) -> usize
+    ensures within { result ≤ length bytes.now }
+    ensures ascii { IsAscii (take result bytes.now) }
+{
+    let mut at = 0;
+    while bytes.len() - at >= 512 {
+        if any_bits(&bytes[at..at + 512]) >= 0x80 {
+            break;
+        }
+        at += 512;
+    }
+    at
+}
+
+// Whether the bytes are UTF-8.
+#[inline(always)]
+fn is_utf8(bytes: &[u8]) -> bool
+    ensures { IsTrue result ↔ IsUtf8 bytes.now }
+{
+    simdutf8::basic::from_utf8(bytes).is_ok()
+}
+
+// The same, where pieces of ASCII at the front are gone over faster.
+#[inline(always)]
+fn is_long_utf8(bytes: &[u8]) -> bool
+    ensures { IsTrue result ↔ IsUtf8 bytes.now }
+{
+    is_utf8(&bytes[ascii_pieces(bytes)..])
+}
+
 // Whether the `n` bytes at `p` are UTF-8, as a call.
 fn is_any_text(bytes: &[u8], p: usize, n: usize) -> bool
     requires { p + n ≤ length bytes.now }
     ensures { IsTrue result ↔ IsUtf8 (bytes_at bytes.now p n) }
 {
-    simdutf8::basic::from_utf8(&bytes[p..p + n]).is_ok()
+    is_long_utf8(&bytes[p..p + n])
 }
 
 /// Whether the `n` bytes at `p` are UTF-8. Asks that they lie in the buffer.

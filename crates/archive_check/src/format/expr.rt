@@ -7,6 +7,7 @@ ghost use Rattle.std.specs.Cmp.{on_equiv, partial_equiv_from_equiv};
 ghost use Rattle.std.specs.Ordering.{on};
 ghost use Rattle.archive_check.specs.Expressions.{width_of, kind_of, shape_of, pointee_of, shapes_in, variants_in};
 ghost use Rattle.archive_check.specs.Layout.{kind_size, kind_align};
+ghost use Rattle.archive_check.specs.TwoVariants.{IsChoiceOfTwo};
 ghost use Rattle.archive_check.specs.Equality.{same_shape, same_pointee, same_parts, same_variants, same_shape-equiv, same_pointee-equiv};
 
 pub use crate::format::defs::{Def, Defs};
@@ -136,6 +137,21 @@ pub enum Pointee {
     Run(Expr),
     /// A text, of as many bytes as the pointer's length says.
     Text,
+}
+
+impl Expr {
+    /// A choice of two variants with these parts. Its memory comes from `alloc`; it is refused where that refuses. Our own.
+    pub fn choice_of_two(
+        alloc: Global,
+        name: &'static str,
+        first: Vec<Expr>,
+        second: Vec<Expr>,
+    ) -> Result<Expr, AllocError>
+        ensures { IfOk result (IsChoiceOfTwo name.now first.items second.items) }
+    {
+        let variants = vec![in alloc; first, second]?;
+        Ok(Expr::Choice(name, variants))
+    }
 }
 
 /// Two expressions are equal where they are written alike; names are compared as names.

@@ -6,7 +6,7 @@ ghost use Rattle.archive_check.specs.Expressions.{shape_of};
 ghost use Rattle.archive_check.specs.plan.PlanGrowth.{lists_of, no_lists};
 ghost use Rattle.archive_check.specs.plan.CompileQueue.{waits_of, no_waits};
 ghost use Rattle.archive_check.specs.plan.NodeNumbers.{def_shapes};
-ghost use Rattle.archive_check.specs.plan.Planned.{IsPlan, HasNames, InOrder, Chained, CanChain, CanFinish, Finishes};
+ghost use Rattle.archive_check.specs.plan.Planned.{IsPlan, HasNames, InOrder, IsChained, CanChain, CanFinish, IsFinished};
 
 use crate::format::defs::Def;
 use crate::format::expr::Expr;
@@ -28,8 +28,7 @@ fn compile_defs<'e>(
     requires new_plan { lists_of plan.old ≡ no_lists }
     requires new_queue { waits_of queue.old ≡ no_waits queue.old.next }
     requires can { CanChain names.now (def_shapes defs.now) }
-    ensures { OnOk result (Chained names.now (def_shapes defs.now) queue.old.next (waits_of queue.new)
-        (lists_of plan.new)) }
+    ensures { OnOk result (IsChained names.now (def_shapes defs.now) queue plan) }
 {
     for i in 0..defs.len() {
         let done = plan.nodes.len();
@@ -47,8 +46,7 @@ fn compile_waiting<'e>(
     queue: &mut Queue<'e>,
 ) -> Result<(), AllocError>
     requires { CanFinish names.now (waits_of queue.old) (lists_of plan.old) }
-    ensures { OnOk result (Finishes names.now (waits_of queue.old) (waits_of queue.new) (lists_of plan.old)
-        (lists_of plan.new)) }
+    ensures { OnOk result (IsFinished names.now queue plan) }
 {
     let mut i = 0;
     while i < queue.items.len() {

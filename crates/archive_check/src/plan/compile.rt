@@ -8,7 +8,7 @@ ghost use Rattle.archive_check.specs.Expressions.{shape_of, flavor_of, pointee_o
 ghost use Rattle.archive_check.specs.Shape.{parts as record_of, choice, array, boxed, vec};
 ghost use Rattle.archive_check.specs.plan.PlanGrowth.{lists_of, IsCopied};
 ghost use Rattle.archive_check.specs.plan.Compilable.{Can, CanParts, CanVariants, CanPoint, CanWait};
-ghost use Rattle.archive_check.specs.plan.Compiled.{counted, IsCompiled, IsCompiledAnywhere, IsStringCompiled, IsPointeeCompiled, ArePartsCompiled, AreVariantsCompiled};
+ghost use Rattle.archive_check.specs.plan.Compiled.{counted, IsCompiled, IsCompiledAnywhere, IsCountedAnywhere, IsStringCompiled, IsPointeeCompiled, ArePartsCompiled, AreVariantsCompiled};
 
 use crate::format::expr::{Expr, FlavorInfo, Pointee};
 use crate::plan::extents::{offset_of, pointer_size, times};
@@ -155,8 +155,7 @@ fn compile_counted<'e>(
     queue: &mut Queue<'e>,
 ) -> Result<usize, AllocError>
     requires { CanPoint names.now (pointee_of pointee.now) }
-    ensures { IfOk result (IsCompiledAnywhere names.now (counted weak (flavor_of flavor) (pointee_of pointee.now))
-        queue plan) }
+    ensures { IfOk result (IsCountedAnywhere names.now weak (flavor_of flavor) (pointee_of pointee.now) queue plan) }
 {
     let (target, node) = compile_pointee(names, pointee, plan, queue)?;
     let shared_type = copy_shared_type(plan, flavor, pointee)?;

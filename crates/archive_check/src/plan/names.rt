@@ -3,7 +3,7 @@
 ghost use Rattle.std.specs.Prelude.{◌≡◌, ◌≤◌, Some, None, OnOk, IfOk, IfErr, true, get_or, option_map, is_some, length};
 ghost use Rattle.archive_check.specs.Shape.{definition};
 ghost use Rattle.archive_check.specs.Expressions.{shape_of, pointee_of, shapes_in, variants_in, entries_of};
-ghost use Rattle.archive_check.specs.plan.Names.{missing as missing_in, pointee_missing, parts_missing, variants_missing, Taken, IsGathered, Collected, Arranged, NextReady, IsOrderedNext, Complete, Prepared, shapes_from, ExplainsUndefined, ExplainsMissing, ExplainsNoneReady, ExplainsHeld};
+ghost use Rattle.archive_check.specs.plan.Names.{missing as missing_in, pointee_missing, parts_missing, variants_missing, Taken, IsGathered, Collected, Arranged, NextReady, IsOrderedNext, Complete, Prepared, IsMissingAt, shapes_from, ExplainsUndefined, ExplainsMissing, ExplainsNoneReady, ExplainsHeld};
 ghost use Rattle.archive_check.specs.Schemas.{ExplainsNoSchema};
 ghost use Rattle.archive_check.specs.Shape.{Name, Shape};
 
@@ -109,8 +109,7 @@ fn missing_variant(variants: &[Vec<Expr>], defs: &[Def], far: bool) -> Option<&'
 // The first name without a definition in the root, at 0, or in the definition before `at`.
 fn missing_at(root: &Expr, defs: &[Def], at: usize) -> Option<&'static str>
     requires { at ≤ length defs.now }
-    ensures { (X : Shape) → X ≡ get_or (shapes_from (shape_of root.now) defs.now) at X
-        → option_map (λ name. name.now) result ≡ missing_in true (entries_of defs.now) X }
+    ensures { IsMissingAt (shape_of root.now) defs.now at (option_map (λ name. name.now) result) }
 {
     if at == 0 {
         return missing(root, defs, true);

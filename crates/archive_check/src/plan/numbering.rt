@@ -6,7 +6,7 @@ ghost use Rattle.archive_check.specs.plan.NodeCounts.{count_of, count_pointee as
 ghost use Rattle.archive_check.specs.Shape.{Name, named};
 ghost use Rattle.archive_check.specs.plan.PlanGrowth.{node_of};
 ghost use Rattle.archive_check.specs.plan.Planned.{DefsInOrder};
-ghost use Rattle.archive_check.specs.plan.NodeNumbers.{IsExpressionNode, IsNumbered, def_shapes, start_of};
+ghost use Rattle.archive_check.specs.plan.NodeNumbers.{IsExpressionNode, IsNumbered, IsNumberedFrom, AreNumbered, def_shapes, start_of};
 
 use crate::format::defs::Def;
 use crate::format::expr::{Expr, Pointee};
@@ -88,8 +88,7 @@ fn count_variants(variants: &[Vec<Expr>]) -> Result<usize, AllocError>
 /// 1 where the end is above `usize::MAX`.
 pub fn root(names: &[NamedNode], expr: &Expr, start: usize) -> Result<(usize, usize), AllocError>
     requires { (name : Name) → shape_of expr.now ≡ named name → IsSome (node_of names.now name) }
-    ensures { IfOk result (λ r. IsExpressionNode names.now start (shape_of expr.now) r.0
-        × (r.1 ≡ start + count_of (shape_of expr.now))) }
+    ensures { IfOk result (λ r. IsNumberedFrom names.now start (shape_of expr.now) r.0 r.1) }
 {
     let more = count(expr)?;
     let end = add(start, more)?;
@@ -103,8 +102,7 @@ pub fn root(names: &[NamedNode], expr: &Expr, start: usize) -> Result<(usize, us
 /// Memory comes from `alloc`.
 pub fn number(alloc: Global, defs: &[Def]) -> Result<(Vec<NamedNode>, usize), AllocError>
     requires { DefsInOrder defs.now }
-    ensures { IfOk result (λ r. IsNumbered defs.now r.0.items (length defs.now)
-        × (r.1 ≡ start_of (def_shapes defs.now) (length defs.now))) }
+    ensures { IfOk result (λ r. AreNumbered defs.now r.0.items r.1) }
 {
     let mut names: Vec<NamedNode> = Vec::new(alloc);
     let mut start = 0;

@@ -2,7 +2,7 @@
 
 ghost use Rattle.std.specs.Prelude.{◌≡◌, length, IfOk, IsTrue};
 ghost use Rattle.archive_check.specs.plan.SoundPlans.{span};
-ghost use Rattle.archive_check.specs.plan.Shallow.{marked, free_at, parts_shallow, variants_shallow, HasRange, HasSpans, shallow_in, HasItsIndexes, AreShallowIn, AreAllMarkedIn};
+ghost use Rattle.archive_check.specs.plan.Shallow.{marked, free_at, parts_shallow, variants_shallow, IsShallowSpan, AreShallowVariants, HasRange, HasSpans, shallow_in, HasItsIndexes, AreShallowIn, AreAllMarkedIn};
 
 use crate::plan::growing::is_free;
 use crate::plan::{Node, NodeKind, Part, Plan, PointeeKind, Span};
@@ -36,9 +36,8 @@ fn are_marked(marks: &[bool], parts: &[Part]) -> bool
 
 // Whether the parts from `first` up to `last` are there, and all marked.
 fn is_span_shallow(marks: &[bool], parts: &[Part], first: usize, last: usize) -> bool
-    ensures sound { IsTrue result → IsTrue (parts_shallow marks.now (span parts.now first last)) }
-    ensures found { HasRange parts.now first last → IsTrue (parts_shallow marks.now (span parts.now first last))
-        → IsTrue result }
+    ensures sound { IsTrue result → IsShallowSpan marks.now parts.now first last }
+    ensures found { HasRange parts.now first last → IsShallowSpan marks.now parts.now first last → IsTrue result }
 {
     match parts.get(first..last) {
         Some(parts) => are_marked(marks, parts),
@@ -48,9 +47,8 @@ fn is_span_shallow(marks: &[bool], parts: &[Part], first: usize, last: usize) ->
 
 // Whether the parts of all these variants are there, and marked.
 fn are_shallow(marks: &[bool], parts: &[Part], variants: &[Span]) -> bool
-    ensures sound { IsTrue result → IsTrue (variants_shallow marks.now parts.now variants.now) }
-    ensures found { HasSpans parts.now variants.now → IsTrue (variants_shallow marks.now parts.now variants.now)
-        → IsTrue result }
+    ensures sound { IsTrue result → AreShallowVariants marks.now parts.now variants.now }
+    ensures found { HasSpans parts.now variants.now → AreShallowVariants marks.now parts.now variants.now → IsTrue result }
 {
     for variant in variants {
         if !is_span_shallow(marks, parts, variant.first, variant.last) {

@@ -2,7 +2,7 @@
 
 ghost use Rattle.std.specs.Prelude.{◌≡◌, ◌+◌, ◌<◌, ◌≤◌, ℕ, pos, OnSome, IfSome, IfNone, Some, Err, is_err, true};
 ghost use Rattle.archive_check.specs.Ranges.{subtree_answer, pop_answer, popped};
-ghost use Rattle.archive_check.specs.SelfCheck.Regions.{Begun, EntersNot};
+ghost use Rattle.archive_check.specs.SelfCheck.Regions.{Begun, Enters, EntersNot};
 
 use super::refusals::{keep, refuse};
 use crate::check::regions::Region;
@@ -82,8 +82,7 @@ pub fn enter<C: ArchiveContext>(
     context: &mut C,
 ) -> Option<Region>
     requires { 0 < align }
-    ensures entered { IfSome result (λ r. (whole ≡ Some r.size)
-        × Begun (C.state context.old) (C.state context.new) position align r) }
+    ensures entered { IfSome result (Enters (C.state context.old) (C.state context.new) position align whole) }
     ensures stops { IfNone result (EntersNot (C.state context.old) position align whole refusal.new) }
     ensures pushes { OnSome result ((C.state context.new).pushes ≤ (C.state context.old).pushes + 1) }
     ensures unchanged { IfNone result (C.state context.new ≡ C.state context.old) }

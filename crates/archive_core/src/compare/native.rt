@@ -17,6 +17,7 @@ ghost use Rattle.archive_core.specs.Seen.{shown, ViewComparesTo, ViewEquals};
 ghost use Rattle.archive_core.specs.ValueOrder.{OrdersNative};
 
 use super::Ordered;
+use super::texts::text_order;
 use crate::primitive::{Plain, Source};
 use crate::string::{ArchivedStr, ArchivedString};
 use crate::traits::Archive;
@@ -111,7 +112,7 @@ impl<'a> Ref<'a, ArchivedStr> {
         ensures bytes { result ≡ slice_cmp nat_cmp (bytes_at self.entry.bytes.now self.entry.pos self.entry.len) text.now }
         ensures by_value { ViewComparesTo self.entry (text_value text.now) result }
     {
-        self.as_str().cmp(text)
+        text_order(self.as_str(), text)
     }
 
     /// Whether it is the same text as another one. Our own.
@@ -129,7 +130,7 @@ impl<'a> Ref<'a, ArchivedString> {
         ensures bytes { result ≡ slice_cmp nat_cmp (string_text self.entry.bytes.now self.entry.pos) text.now }
         ensures by_value { ViewComparesTo self.entry (text_value text.now) result }
     {
-        self.as_str().cmp(text)
+        text_order(self.as_str(), text)
     }
 
     /// Whether the text, wherever it stands, is the same as another one. Our own.

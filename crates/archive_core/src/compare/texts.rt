@@ -1,9 +1,11 @@
 // Texts are compared by their bytes, wherever they stand, as `str` is.
 
-ghost use Rattle.std.specs.Prelude.{◌≡◌};
+ghost use Rattle.std.specs.Prelude.{◌≡◌, ◌+◌, ◌≤◌, length};
 ghost use Rattle.std.specs.Hash as fed;
 ghost use Rattle.std.specs.Cmp.Lexicographic.{slice_cmp, on_texts};
 ghost use Rattle.std.specs.Ordering.{on, nat_cmp};
+ghost use Rattle.std.specs.Simd.Lanes.{chunk};
+ghost use Rattle.std.specs.Slice.Scan.{big_endian};
 ghost use Rattle.archive_check.specs.Reads.{bytes_at};
 ghost use Rattle.archive_check.specs.Readable.{string_text};
 ghost use Rattle.archive_check.specs.Definitions.{no_definition};
@@ -15,6 +17,43 @@ use crate::string::{ArchivedStr, ArchivedString};
 use crate::view::{RawView, Ref};
 use std::cmp::Ordering;
 use std::hash::{Hash, Hasher};
+
+// Eight bytes of a text, from `at` on, as a number: the first byte counts most, so that numbers are ordered as such bytes are.
+#[inline(always)]
+fn eight_bytes(text: &[u8], at: usize) -> u64
+    requires { at + 8 ≤ length text.now }
+    ensures { result ≡ big_endian 0 (chunk at 8 text.now) }
+{
+    u64::from_be_bytes([
+        text[at],
+        text[at + 1],
+        text[at + 2],
+        text[at + 3],
+        text[at + 4],
+        text[at + 5],
+        text[at + 6],
+        text[at + 7],
+    ])
+}
+
+// The order of two texts by their bytes, as `cmp` of `str` answers it. Where both have sixteen, and these differ, as of most texts, no call is made.
+#[inline(always)]
+pub(super) fn text_order(a: &str, b: &str) -> Ordering
+    ensures { result ≡ slice_cmp nat_cmp a.now b.now }
+{
+    let (x, y) = (a.as_bytes(), b.as_bytes());
+    if x.len() >= 16 && y.len() >= 16 {
+        let (first, other) = (eight_bytes(x, 0), eight_bytes(y, 0));
+        if first != other {
+            return first.cmp(&other);
+        }
+        let (second, other) = (eight_bytes(x, 8), eight_bytes(y, 8));
+        if second != other {
+            return second.cmp(&other);
+        }
+    }
+    a.cmp(b)
+}
 
 impl Ordered for ArchivedStr {
     ghost order = { on (λ v. bytes_at v.bytes v.pos v.len) (slice_cmp nat_cmp) };
@@ -30,7 +69,7 @@ impl Ordered for ArchivedStr {
     fn compare(a: RawView<'_>, b: RawView<'_>) -> Ordering {
         let a: Ref<'_, ArchivedStr> = Ref::at(a);
         let b: Ref<'_, ArchivedStr> = Ref::at(b);
-        a.as_str().cmp(b.as_str())
+        text_order(a.as_str(), b.as_str())
     }
 
     fn hash_part<H: Hasher>(part: RawView<'_>, state: &mut H) {
@@ -53,7 +92,7 @@ impl Ordered for ArchivedString {
     fn compare(a: RawView<'_>, b: RawView<'_>) -> Ordering {
         let a: Ref<'_, ArchivedString> = Ref::at(a);
         let b: Ref<'_, ArchivedString> = Ref::at(b);
-        a.as_str().cmp(b.as_str())
+        text_order(a.as_str(), b.as_str())
     }
 
     fn hash_part<H: Hasher>(part: RawView<'_>, state: &mut H) {

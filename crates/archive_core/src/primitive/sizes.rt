@@ -17,7 +17,7 @@ ghost use Rattle.archive_core.specs.KindsWritten.{LeafSerialized, LeafRefused, L
 ghost use Rattle.archive_core.specs.Planned.{leaf_planned};
 ghost use Rattle.archive_core.specs.PlannedOwners.{one_planned};
 ghost use Rattle.archive_core.specs.Plans.{Serialized};
-ghost use Rattle.archive_core.specs.Seen.{IsPartOf};
+ghost use Rattle.archive_core.specs.Seen.{IsPartOf, part_number};
 ghost use Rattle.archive_core.specs.Sources.{Read};
 ghost use Rattle.archive_core.specs.Writing.{Fresh, Resolves};
 ghost use Rattle.archive_write.specs.Written.{GoesOn};
@@ -120,7 +120,7 @@ impl<D: Entries> Deserialize<usize, D> for ArchivedUsize {
     ) -> Result<usize, Error>
         requires { IsPartOf ⟦<Self as ArchivePointee>⟧ part }
         ensures read { IfOk result (Read ⟦<Self as ArchivePointee>⟧ part D.Entries _deserializer ⟦<usize as Archive>⟧) }
-        ensures number { IfOk result (λ n. n ≡ little_number (bytes_at part.entry.bytes.now part.entry.pos 4)) }
+        ensures number { IfOk result (λ n. n ≡ part_number part.entry 4) }
         ensures unchanged { D.entry_of _deserializer.new ≡ D.entry_of _deserializer.old }
         ensures succeeds { IsOk result }
     {
@@ -215,7 +215,7 @@ impl<D: Entries> Deserialize<isize, D> for ArchivedIsize {
     ) -> Result<isize, Error>
         requires { IsPartOf ⟦<Self as ArchivePointee>⟧ part }
         ensures read { IfOk result (Read ⟦<Self as ArchivePointee>⟧ part D.Entries _deserializer ⟦<isize as Archive>⟧) }
-        ensures number { IfOk result (λ n. n ≡ cast_signed w32 (little_number (bytes_at part.entry.bytes.now part.entry.pos 4))) }
+        ensures number { IfOk result (λ n. n ≡ cast_signed w32 (part_number part.entry 4)) }
         ensures unchanged { D.entry_of _deserializer.new ≡ D.entry_of _deserializer.old }
         ensures succeeds { IsOk result }
     {

@@ -10,7 +10,8 @@ ghost use Rattle.archive_check.specs.Shape.{str as str_shape, one, text};
 ghost use Rattle.archive_check.specs.Viewed.{Viewed};
 ghost use Rattle.archive_core.specs.Sealed.{StandsIn, text_begin, string_leaf};
 ghost use Rattle.archive_core.specs.SealsWritten.{SealsBeside, TextStands, TextWritten, TextKeepsParts, StringStands, StringWritten, string_edit};
-ghost use Rattle.archive_core.specs.Standing.{KeepsParts, KeepsViews, StandsWith, view};
+ghost use Rattle.archive_core.specs.Seen.{IsTextAt, TextStandsBeside};
+ghost use Rattle.archive_core.specs.Standing.{KeepsParts, KeepsViews, view};
 
 use super::{Seal, Spot};
 use crate::string::{ArchivedStr, ArchivedString};
@@ -41,10 +42,9 @@ fn write_text_over(value: &str, bytes: &mut [u8], pos: usize)
 // Where the text of a string stands.
 fn text_spot(string: Ref<'_, ArchivedString>) -> Spot<ArchivedStr>
     ensures position { result.pos ≡ text_begin string.entry.bytes.now string.entry.pos }
-    ensures text { bytes_at string.entry.bytes.now result.pos result.len ≡ string_text string.entry.bytes.now string.entry.pos }
+    ensures text { IsTextAt string.entry result.pos result.len }
     ensures viewed { Viewed no_definition string.entry.bytes.now result.pos text result.len }
-    ensures beside { StandsWith no_definition string.entry.bytes.now
-        (view string.entry.pos (one str_shape) string.entry.len) (view result.pos text result.len) }
+    ensures beside { TextStandsBeside string.entry result.pos result.len }
 {
     let RawView { bytes, pos, .. } = string.part();
     if is_out_of_line(bytes, pos) {

@@ -2,7 +2,7 @@
 
 ghost use Rattle.std.specs.Prelude.{◌≡◌, ◌+◌, ◌*◌, ◌-◌, ◌≤◌, ◌<◌};
 ghost use Rattle.std.specs.Iterator.{YieldsFirstBy, YieldsLastBy, item_count};
-ghost use Rattle.archive_core.specs.Seen.{spots_between, spots_shown};
+ghost use Rattle.archive_core.specs.Seen.{spots_between, spots_in, spots_shown};
 ghost use Rattle.archive_core.specs.Views.{AreViewed, spots};
 
 use super::ArchivedSlice;
@@ -26,7 +26,7 @@ impl<'a, T: Portable> Iter<'a, T> {
     // Views of elements, of which there are so many from the position of `part` on.
     pub(crate) fn over(part: RawView<'a>, count: usize) -> Iter<'a, T>
         requires { AreViewed T.definitions part.bytes.now part.pos T.layout.size T.pointee count }
-        ensures { spots result.slice.bytes.now result.slice.pos T.layout.size result.front (result.back - result.front) ≡ spots part.entry.bytes.now part.entry.pos T.layout.size 0 count }
+        ensures { spots_between result.slice T.layout.size result.front result.back ≡ spots_in part.entry T.layout.size count }
     {
         Iter {
             slice: part,

@@ -29,7 +29,7 @@ pub fn read_elements<T: Portable + Deserialize<U, D>, U: Archive + Drop, D: Entr
     let mut items = Vec::with_capacity(alloc, slice.len())?;
     for index in 0..slice.len() {
         let item = T::deserialize_part(alloc, slice.index(index).part(), deserializer)?;
-        items.push(item)?;
+        items.push_reserved(item);
     }
     Ok(items)
 }

@@ -7,7 +7,7 @@ ghost use Rattle.archive_check.specs.PartsLayout.{greater_align};
 ghost use Rattle.archive_check.specs.SelfCheck.Laws.{by_schema};
 ghost use Rattle.archive_enum.specs.Results.{result_shape, result_layout, result_has_layout, result_reached};
 
-use super::{choice_of, choice_size};
+use super::choice_size;
 use crate::result::ArchivedResult;
 use archive_check::format::defs::Defs;
 use archive_check::format::error::Error;
@@ -63,7 +63,7 @@ impl<T: Portable, E: Portable> Portable for ArchivedResult<T, E> {
     fn expr(alloc: Global) -> Result<Expr, Error> {
         let value = vec![in alloc; T::expr(alloc)?]?;
         let error = vec![in alloc; E::expr(alloc)?]?;
-        Ok(choice_of(alloc, "ArchivedResult", value, error)?)
+        Ok(Expr::choice_of_two(alloc, "ArchivedResult", value, error)?)
     }
 
     #[tactic(auto, using(archive_check::proofs::format::AddedDefinitions::extended_both))]

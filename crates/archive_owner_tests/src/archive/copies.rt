@@ -6,10 +6,10 @@ ghost use Rattle.archive_check.specs.Definitions.{no_definition};
 ghost use Rattle.archive_check.specs.LittleEndian.{little_bytes};
 ghost use Rattle.archive_check.specs.Shape.{leaf, number as number_kind, unsigned};
 ghost use Rattle.archive_check.specs.Value.{number};
-ghost use Rattle.archive_core.specs.Causes.{HindersAt};
 ghost use Rattle.archive_core.specs.Keyed.{number_keyed};
 ghost use Rattle.archive_core.specs.Planned.{leaf_planned};
-ghost use Rattle.archive_core.specs.Writing.{Fresh, Resolves};
+ghost use Rattle.archive_core.specs.KindsWritten.{LeafResolved, LeafHindered};
+ghost use Rattle.archive_core.specs.Writing.{Fresh};
 
 use archive_core::api::{from_bytes, to_bytes};
 use archive_core::error::Error;
@@ -49,9 +49,9 @@ impl Archive for Metres {
     fn resolve(&self, _resolver: (), place: Place<'_, ArchivedU32>) -> Result<(), Error>
         requires fresh { Fresh 4 place.pos place.bytes.now }
         requires same_value { ⊤ }
-        ensures resolved { OnOk result (Resolves no_definition place.entry.pos place.exit.0.now (leaf (number_kind unsigned w32)) (number (pos self.now.number))) }
+        ensures resolved { OnOk result (LeafResolved (number_kind unsigned w32) place (pos self.now.number)) }
         ensures same_length { length place.exit.0.now ≡ length place.entry.bytes.now }
-        ensures refused { IfErr result (HindersAt no_definition (leaf (number_kind unsigned w32)) (number (pos self.now.number)) place.entry.pos) }
+        ensures refused { IfErr result (LeafHindered (number_kind unsigned w32) place (pos self.now.number)) }
     {
         let Place { bytes, pos, .. } = place;
         self.number.resolve((), Place::new(pos, bytes))

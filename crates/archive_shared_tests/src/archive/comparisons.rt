@@ -1,7 +1,7 @@
 // Views are compared by what they show, wherever it lies.
 
 use crate::archive::HELLO_WORLD;
-use archive_core::api::access;
+use archive_core::api::{access, to_bytes};
 use archive_core::boxed::ArchivedBox;
 use archive_core::option::ArchivedOption;
 use archive_core::primitive::{ArchivedI32, ArchivedU32};
@@ -47,6 +47,28 @@ fn texts_are_compared_wherever_they_stand(rt: HostRuntime) -> Result<(), Fail> {
     let text = access::<ArchivedBox<ArchivedStr>>(rt.alloc(), boxed)?.get();
     assert!(rt; text.eq_str("hello"));
     assert_eq!(rt; text.cmp_str("hello world"), Ordering::Less);
+    Ok(())
+}
+
+#[test]
+fn the_first_byte_that_differs_decides(rt: HostRuntime) -> Result<(), Fail> {
+    let rows = [
+        ("record-name-0001", "record-name-0001", Ordering::Equal),
+        ("aecord-name-0001", "record-name-0000", Ordering::Less),
+        ("record-name-0001", "record-name-0000", Ordering::Greater),
+        ("record-name-0001/a", "record-name-0001/b", Ordering::Less),
+        ("record-name-0001", "record-name-0001/", Ordering::Less),
+        ("record-name-0001", "record-name", Ordering::Greater),
+        ("record-name-é00", "record-name-e00", Ordering::Greater),
+    ];
+    for (text, other, order) in rows {
+        let bytes = to_bytes(rt.alloc(), &String::from_str(rt.alloc(), text)?)?;
+        let view = access::<ArchivedString>(rt.alloc(), &bytes)?;
+        let other_bytes = to_bytes(rt.alloc(), &String::from_str(rt.alloc(), other)?)?;
+        let other_view = access::<ArchivedString>(rt.alloc(), &other_bytes)?;
+        assert_eq!(rt; view.cmp_str(other), order, "{text} and {other}");
+        assert_eq!(rt; view.compare_said(other_view), order, "{text} and {other}");
+    }
     Ok(())
 }
 

@@ -1,7 +1,10 @@
 // What checks enter, and calls within regions.
 
+ghost use Rattle.std.specs.Prelude.{◌≢◌, Some};
+
 use crate::archive::HELLO_WORLD;
 use archive_core::api::{HighValidator, access_with_context};
+use archive_core::boxed::ArchivedBox;
 use archive_core::error::Error;
 use archive_core::option::ArchivedOption;
 use archive_core::primitive::{ArchivedI32, ArchivedU32};
@@ -15,11 +18,22 @@ use archive_tuple::{ArchivedTuple2, ArchivedTuple3};
 use std::alloc::Global;
 use std::test::Fail;
 
-// How many regions a check of a `T` at the end enters.
-fn entered<T: Portable>(alloc: Global, bytes: &[u8]) -> Result<usize, Error> {
-    let mut context = HighValidator::new(alloc, bytes);
+// How many regions a check of a `T` at the end enters, with a limit of depth.
+fn entered_within<T: Portable>(
+    alloc: Global,
+    bytes: &[u8],
+    levels: Option<usize>,
+) -> Result<usize, Error>
+    requires { levels ≢ Some 0 }
+{
+    let mut context = HighValidator::with_max_depth(alloc, bytes, levels);
     let _ = access_with_context::<T, HighValidator<'_>>(alloc, bytes, &mut context)?;
     Ok(context.subtrees())
+}
+
+// The same with no limit.
+fn entered<T: Portable>(alloc: Global, bytes: &[u8]) -> Result<usize, Error> {
+    entered_within::<T>(alloc, bytes, None)
 }
 
 // A byte, a text and perhaps a list, one behind another.
@@ -41,6 +55,31 @@ fn a_check_enters_each_region_once(rt: HostRuntime) -> Result<(), Fail> {
         ArchivedTuple2<ArchivedRc<ArchivedU32, RcFlavor>, ArchivedRc<ArchivedU32, RcFlavor>>,
     >(rt.alloc(), shared);
     assert_eq!(rt; regions, Ok(2));
+    Ok(())
+}
+
+#[test]
+fn a_box_in_an_option_takes_three_levels(rt: HostRuntime) -> Result<(), Fail> {
+    let bytes = b"Hello world\0\x01\0\0\0\xf0\xff\xff\xff\x0b\0\0\0";
+    for levels in [1, 2] {
+        assert_eq!(rt;
+            entered_within::<ArchivedOption<ArchivedBox<ArchivedSlice<u8>>>>(
+                rt.alloc(),
+                bytes,
+                Some(levels),
+            ),
+            Err(Error::ExceededMaximumSubtreeDepth),
+            "at depth {levels}"
+        );
+    }
+    assert_eq!(rt;
+        entered_within::<ArchivedOption<ArchivedBox<ArchivedSlice<u8>>>>(
+            rt.alloc(),
+            bytes,
+            Some(3),
+        ),
+        Ok(2)
+    );
     Ok(())
 }
 

@@ -1,76 +1,35 @@
 // Pointers that lead to themselves, under a flavor that allows it.
 
-ghost use Rattle.std.specs.Prelude.{◌≡◌, refl, IfOk, OnOk, IfErr, length};
+ghost use Rattle.std.specs.Prelude.{refl};
 ghost use Rattle.std.proofs.Common.{inl, inr};
-ghost use Rattle.archive_check.specs.Shape.{one};
-ghost use Rattle.archive_check.specs.Expressions.{shape_of};
-ghost use Rattle.archive_check.specs.NamedLayout.{name_reached};
-ghost use Rattle.archive_check.specs.SelfCheck.Laws.{by_schema};
-ghost use Rattle.archive_check.specs.Viewed.{Viewed};
-ghost use Rattle.archive_core.specs.Placed.{Resolved, Hindered};
-ghost use Rattle.archive_core.specs.Seen.{RefusesPart};
-ghost use Rattle.archive_core.specs.Sources.{Read};
-ghost use Rattle.archive_core.specs.Writing.{Fresh};
-ghost use Rattle.archive_shared_tests.specs.CircleShape.{circle_name, circle_shape, circle_pointer, circle_definitions, circle_layout, circle_has_layout};
+ghost use Rattle.archive_shared_tests.specs.CircleShape.{circle_name, circle_pointer};
 
-use super::rc::Looping;
-use archive_core::api::{HighValidator, access_with_context, from_bytes};
+use archive_core::api::{HighValidator, access_with_context};
 use archive_core::error::Error;
-use archive_core::place::Place;
-use archive_core::pooling::{Pool, Pooling, PoolingState};
-use archive_core::rc::{ArchivedRc, Shared};
-use archive_core::self_check::BySchema;
-use archive_core::shape::{Defs, Expr, FlavorInfo, Pointee};
-use archive_core::traits::{Archive, ArchivePointee, Deserialize, Entries, Portable};
-use archive_core::view::{RawView, Ref};
+use archive_core::own::{ArchivedRecursive, NamedRecursive};
+use archive_core::shape::{Expr, FlavorInfo, Pointee};
 use std::alloc::{AllocError, Global};
 use std::test::Fail;
 
 // The name of a shared pointer to one of it.
-struct ArchivedCircle;
+struct Circle;
 
-impl ArchivePointee for ArchivedCircle {
-    type ArchivedMetadata = ();
+type ArchivedCircle = ArchivedRecursive<Circle>;
 
-    ghost pointee = { one circle_shape };
+impl NamedRecursive for Circle {
+    ghost name = { circle_name };
 
-    ghost definitions = { circle_definitions };
+    ghost stands_for = { circle_pointer };
 
-    ghost metadata_length = { λ _. 0 };
-
-    fn pointer_metadata(_metadata: &()) -> usize {
-        0
-    }
-}
-
-// The definition of its name.
-fn definition(alloc: Global) -> Result<Expr, AllocError>
-    ensures { IfOk result (λ e. shape_of e ≡ circle_pointer) }
-{
-    let pointee = Box::new(alloc, Pointee::One(Expr::Named("ArchivedCircle")))?;
-    let flavor = FlavorInfo {
-        name: "Looping",
-        cycles: true,
-    };
-    Ok(Expr::Shared(flavor, pointee))
-}
-
-impl Portable for ArchivedCircle {
-    ghost shape = { circle_shape };
-
-    ghost layout = { circle_layout };
-
-    type Check = BySchema;
-
-    ghost is_one = { refl };
+    ghost layout = { record { size = 4; align = 4 } };
 
     ghost is_align = { inr (inr (inl refl)) };
 
-    ghost has_layout = { circle_has_layout };
+    ghost laid_out = { record { solved = λ s k. refl } };
 
-    ghost no_others = { name_reached circle_name circle_pointer };
-
-    ghost checks = { λ direct. by_schema direct };
+    fn name() -> &'static str {
+        "ArchivedCircle"
+    }
 
     fn size() -> usize {
         4
@@ -80,14 +39,13 @@ impl Portable for ArchivedCircle {
         4
     }
 
-    fn expr(_alloc: Global) -> Result<Expr, Error> {
-        Ok(Expr::Named("ArchivedCircle"))
-    }
-
-    #[tactic(auto, using(archive_check::proofs::format::AddedDefinitions::not_extended))]
-    fn define(alloc: Global, defs: &mut Defs) -> Result<(), Error> {
-        defs.add("ArchivedCircle", definition(alloc)?)?;
-        Ok(())
+    fn definition(alloc: Global) -> Result<Expr, AllocError> {
+        let pointee = Box::new(alloc, Pointee::One(Expr::Named("ArchivedCircle")))?;
+        let flavor = FlavorInfo {
+            name: "Looping",
+            cycles: true,
+        };
+        Ok(Expr::Shared(flavor, pointee))
     }
 }
 

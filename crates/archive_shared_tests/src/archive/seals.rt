@@ -1,8 +1,9 @@
 // Archives that are edited in place.
 
-ghost use Rattle.std.specs.Prelude.{◌≡◌, IsErr, OnOk, length};
+ghost use Rattle.std.specs.Prelude.{◌≡◌, ◌+◌, IsErr, OnOk, Some, length};
 ghost use Rattle.archive_check.specs.Archives.{root_in};
 ghost use Rattle.archive_check.specs.Leaves.{edit};
+ghost use Rattle.archive_check.specs.PartsLayout.{part_at, definitions_at};
 
 use archive_core::api::{access, access_mut, access_pos, access_pos_mut};
 use archive_core::boxed::ArchivedBox;
@@ -13,9 +14,10 @@ use archive_core::rc::{ArchivedRc, ArchivedRcWeak, RcFlavor};
 use archive_core::result::ArchivedResult;
 use archive_core::seal::SealedLeaf;
 use archive_core::string::{ArchivedStr, ArchivedString};
-use archive_core::traits::Portable;
+use archive_core::traits::{ArchivePointee, Portable, Record};
 use archive_core::vec::ArchivedVec;
-use archive_tuple::ArchivedTuple2;
+use archive_num::Native;
+use archive_tuple::{ArchivedTuple2, ArchivedTuple3};
 use std::alloc::Global;
 use std::test::Fail;
 
@@ -24,6 +26,10 @@ type SharedNumber = ArchivedRc<ArchivedU32, RcFlavor>;
 type Outcome = ArchivedResult<ArchivedU32, ArchivedU32>;
 
 type WeakNumber = ArchivedRcWeak<ArchivedU32, RcFlavor>;
+
+type Pair = ArchivedTuple2<SharedNumber, WeakNumber>;
+
+type Numbers = ArchivedTuple3<ArchivedI32, bool, ArchivedU32>;
 
 // Writes over the root of an archive that is one leaf. A refusal changes nothing.
 fn write_root<T: Portable + SealedLeaf>(
@@ -41,6 +47,31 @@ fn write_root<T: Portable + SealedLeaf>(
     };
     spot.seal(bytes).write(value);
     Ok(())
+}
+
+// Writes a number over a part of a record by the part's spot, and reads it by the record's seal, which shows the record as before. A refusal changes
+// nothing.
+fn write_part<R: Record>(
+    alloc: Global,
+    bytes: &mut [u8],
+    i: usize,
+    value: u32,
+) -> Result<u32, Error>
+    requires part { part_at R.Parts.parts i ≡ Some ⟦<ArchivedU32 as Portable>⟧.shape }
+    requires definitions { definitions_at R.Parts.definitions i ≡ ⟦<ArchivedU32 as ArchivePointee>⟧.definitions }
+    ensures edited { OnOk result (bytes.new ≡ edit bytes.old
+        (root_in bytes.old R.layout + R.Parts.begin 0 i) (⟦<u32 as Native>⟧.bytes_of value)) }
+    ensures refused { IsErr result → bytes.new ≡ bytes.old }
+{
+    let root = match access::<R>(alloc, bytes) {
+        Ok(root) => root.spot(),
+        Err(error) => return Err(error),
+    };
+    let part = root.view(bytes).field::<ArchivedU32>(i).spot();
+    let mut seal = root.seal(bytes);
+    seal.write_at(part, value);
+    let written = seal.as_ref().field::<ArchivedU32>(i).get();
+    Ok(written)
 }
 
 #[test]
@@ -141,6 +172,26 @@ fn a_weak_pointers_value_written_over(rt: HostRuntime) -> Result<(), Fail> {
     Ok(())
 }
 
+// A record of a shared pointer and a weak one to one number: written through each of them, and read through both.
+#[test]
+fn a_records_shared_value_written_over(rt: HostRuntime) -> Result<(), Fail> {
+    let alloc = rt.alloc();
+    let mut bytes = *b"\x0a\0\0\0\xfc\xff\xff\xff\xf8\xff\xff\xff";
+    let pair = access_mut::<Pair>(alloc, &mut bytes)?;
+    pair.field::<SharedNumber>(0).get_seal().write(42);
+    assert_eq!(rt; bytes, *b"\x2a\0\0\0\xfc\xff\xff\xff\xf8\xff\xff\xff");
+    let pair = access_mut::<Pair>(alloc, &mut bytes)?;
+    if let Some(number) = pair.field::<WeakNumber>(1).upgrade_seal() {
+        number.write(17);
+    }
+    assert_eq!(rt; bytes, *b"\x11\0\0\0\xfc\xff\xff\xff\xf8\xff\xff\xff");
+    let pair = access::<Pair>(alloc, &bytes)?;
+    assert_eq!(rt; pair.field::<SharedNumber>(0).get().get(), 17);
+    let number = pair.field::<WeakNumber>(1).upgrade();
+    assert_eq!(rt; number.map(|number| number.get()), Some(17));
+    Ok(())
+}
+
 #[test]
 fn elements_written_over(rt: HostRuntime) -> Result<(), Fail> {
     let alloc = rt.alloc();
@@ -211,5 +262,35 @@ fn what_a_result_holds_is_written_over(rt: HostRuntime) -> Result<(), Fail> {
         value.write(6);
     }
     assert_eq!(rt; bytes, [1, 0, 0, 0, 6, 0, 0, 0]);
+    Ok(())
+}
+
+// The tuple (24, true, 16) of an `i32`, a `bool` and a `u32`.
+#[test]
+fn a_part_is_written_over_by_its_spot(rt: HostRuntime) -> Result<(), Fail> {
+    let alloc = rt.alloc();
+    let mut bytes = *b"\x18\0\0\0\x01\0\0\0\x10\0\0\0";
+    assert_eq!(rt; write_part::<Numbers>(alloc, &mut bytes, 2, 258)?, 258);
+    assert_eq!(rt; bytes, *b"\x18\0\0\0\x01\0\0\0\x02\x01\0\0");
+    let mut wrong = *b"\x18\0\0\0\x02\0\0\0\x10\0\0\0";
+    assert_eq!(rt;
+        write_part::<Numbers>(alloc, &mut wrong, 2, 258),
+        Err(Error::InvalidBool)
+    );
+    assert_eq!(rt; wrong, *b"\x18\0\0\0\x02\0\0\0\x10\0\0\0");
+    Ok(())
+}
+
+#[test]
+fn a_lent_seal_writes(rt: HostRuntime) -> Result<(), Fail> {
+    let alloc = rt.alloc();
+    let mut bytes = [0xaa, 0, 0, 0, 42, 0, 0, 0];
+    let mut number = access_mut::<ArchivedU32>(alloc, &mut bytes)?;
+    number.reborrow().write(258);
+    assert_eq!(rt; number.pos(), 4);
+    assert_eq!(rt; bytes, [0xaa, 0, 0, 0, 2, 1, 0, 0]);
+    let view = access::<ArchivedU32>(alloc, &bytes)?;
+    assert_eq!(rt; view.get(), 258);
+    assert_eq!(rt; view.spot().pos(), 4);
     Ok(())
 }

@@ -40,3 +40,17 @@ fn a_shared_value_is_written_once(rt: HostRuntime) -> Result<(), Fail> {
     );
     Ok(())
 }
+
+#[test]
+fn a_tuple_of_four_is_shared(rt: HostRuntime) -> Result<(), Fail> {
+    let sharing = Share::new(rt.alloc());
+    let mut serializer = Serializer::new(Vec::new(rt.alloc()), rt.alloc(), sharing);
+    let value = (1u32, 2u32, 3u32, 4u32);
+    assert_eq!(rt; serializer.serialize_shared(5, &value), Ok(0));
+    assert_eq!(rt; serializer.serialize_shared(5, &value), Ok(0));
+    assert_eq!(rt;
+        serializer.into_writer().as_slice(),
+        b"\x01\0\0\0\x02\0\0\0\x03\0\0\0\x04\0\0\0".as_slice()
+    );
+    Ok(())
+}

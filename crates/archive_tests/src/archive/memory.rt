@@ -7,8 +7,8 @@ ghost use Rattle.archive_check.specs.Shape.{array, leaf, number, one, unsigned};
 ghost use Rattle.archive_check.specs.Definitions.{no_definition};
 ghost use Rattle.archive_check.specs.LeafLayout.{no_definition_reached};
 ghost use Rattle.archive_check.specs.Value.{list, number as number_value};
-ghost use Rattle.archive_core.specs.Causes.{HindersAt};
-ghost use Rattle.archive_core.specs.Writing.{Fresh, Resolves};
+ghost use Rattle.archive_core.specs.Sources.{ResolvedAs, HinderedAs};
+ghost use Rattle.archive_core.specs.Writing.{Fresh};
 ghost use Rattle.archive_tests.specs.Repeated.{leaves_planned, numbers_keyed, repeated};
 ghost use Rattle.archive_check.specs.SelfCheck.Laws.{by_schema};
 
@@ -98,9 +98,9 @@ impl Archive for Sevens {
     fn resolve(&self, _resolver: (), place: Place<'_, ArchivedSevens>) -> Result<(), Error>
         requires fresh { Fresh 100 place.pos place.bytes.now }
         requires same_value { ⊤ }
-        ensures resolved { OnOk result (Resolves no_definition place.entry.pos place.exit.0.now (array 25 (leaf (number unsigned w32))) (list (repeated 25 (number_value (pos 117901063))))) }
+        ensures resolved { OnOk result (ResolvedAs ⟦<Self as Archive>⟧ ⟦<Self::Archived as Portable>⟧ place self.now _resolver) }
         ensures same_length { length place.exit.0.now ≡ length place.entry.bytes.now }
-        ensures refused { IfErr result (HindersAt no_definition (array 25 (leaf (number unsigned w32))) (list (repeated 25 (number_value (pos 117901063)))) place.entry.pos) }
+        ensures refused { IfErr result (HinderedAs ⟦<Self as Archive>⟧ ⟦<Self::Archived as Portable>⟧ place self.now _resolver) }
     {
         let Place { bytes, .. } = place;
         bytes.fill(7);

@@ -1,11 +1,7 @@
 // Checks, views and what is read back.
 
-ghost use Rattle.std.specs.Prelude.{length, IfOk, pos, ◌-◌, []};
-ghost use Rattle.std.specs.Int.{w32};
-ghost use Rattle.archive_check.specs.Archives.{IsValueOf};
-ghost use Rattle.archive_check.specs.Definitions.{no_definition};
-ghost use Rattle.archive_check.specs.Shape.{leaf, number, unsigned};
-ghost use Rattle.archive_check.specs.Value.{number as number_value};
+ghost use Rattle.std.specs.Prelude.{IfOk};
+ghost use Rattle.archive_tests.specs.Wholes.{DenotesNumber};
 
 use crate::archive::HELLO_WORLD;
 use archive_core::api::{
@@ -89,7 +85,7 @@ fn a_view_is_read_back(rt: HostRuntime) -> Result<(), Fail> {
 
 // The number that an archive denotes, by the contracts of `access` and `get` alone.
 fn read_root(alloc: Global, bytes: &[u8]) -> Result<u32, Error>
-    ensures { IfOk result (λ n. IsValueOf no_definition bytes.now (length bytes.now - 4) (leaf (number unsigned w32)) (number_value (pos n)) []) }
+    ensures { IfOk result (DenotesNumber bytes.now) }
 {
     let view = access::<ArchivedU32>(alloc, bytes)?;
     Ok(view.get())

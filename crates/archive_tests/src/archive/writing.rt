@@ -1,11 +1,8 @@
 // Archives and regions, and what takes them.
 
 ghost use Rattle.std.specs.Prelude.{◌≡◌, [], IfOk, IfErr, ℕ, string_bytes};
-ghost use Rattle.archive_check.specs.Definitions.{no_definition};
-ghost use Rattle.archive_check.specs.Shape.{str};
-ghost use Rattle.archive_check.specs.Value.{text_value};
 ghost use Rattle.archive_check.specs.declared.format.error.Error.TheVariants.{OutOfMemory};
-ghost use Rattle.archive_core.specs.Writing.{Archives};
+ghost use Rattle.archive_tests.specs.Wholes.{ArchivesText};
 
 use crate::archive::HELLO_WORLD;
 use archive_core::api::{access, to_bytes, to_bytes_in, to_bytes_into};
@@ -21,7 +18,7 @@ use std::test::Fail;
 
 // What the law says of a string: its archive, from the contract of `to_bytes` alone.
 fn archive_of(alloc: Global, text: &String) -> Result<Vec<u8>, Error>
-    ensures { IfOk result (λ bytes. (root : ℕ) × Archives no_definition [] bytes.items root str 8 [] (text_value (string_bytes text.now))) }
+    ensures { IfOk result (λ bytes. ArchivesText (string_bytes text.now) bytes.items) }
 {
     to_bytes(alloc, text)
 }

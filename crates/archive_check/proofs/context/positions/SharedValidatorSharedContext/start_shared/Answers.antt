@@ -1,8 +1,6 @@
-use Rattle.std.proofs.Common.{sym, ◌∙◌, ap, refl, BuildHasherDefault, FoldHasher}
 use Rattle.std.specs.Int.{w128}
-use Rattle.std.specs.Option.{option_copied}
 use Rattle.std.proofs.Math.Facts.{to_z-of_z}
-use Rattle.archive_check.proofs.context.SharedPositions.{answer_kept, started_kept, started_new, AreKnown-grown, AreKnown-inserted, unchanged_kept, positions_in-grown, on_ok, on_err}
+use Rattle.archive_check.proofs.context.SharedPositions.{answer_kept, started_kept, on_ok}
 use Rattle.archive_check.proofs.context.positions.SharedValidatorSharedContext.start_shared.Goals as goal
 
 pub returns-in-Some-clause-answer : goal.returns-in-Some-clause-answer
@@ -12,21 +10,3 @@ returns-in-Some-clause-answer g c =
 pub returns-in-Some-clause-started : goal.returns-in-Some-clause-started
 returns-in-Some-clause-started g c =
     on_ok _ (started_kept _ _ c.args.position _ _ _ _ c.args.self.now.known (to_z-of_z {w = w128} {z = c.args.position} c.ranges.position) c.in-Some.ensures.value c.index.ensures)
-
-pub invariant_of-self-in-Break-1 : goal.invariant_of-self-in-Break-1
-invariant_of-self-in-Break-1 g c = record { known = AreKnown-grown _ _ _ c.args.self.now.known c.type_index.ensures.kept }
-
-pub returns-in_err-shared_type-clause-unchanged : goal.returns-in_err-shared_type-clause-unchanged
-returns-in_err-shared_type-clause-unchanged g c = on_err _ (positions_in-grown _ _ _ c.type_index.ensures.kept c.args.self.now.known)
-
-pub invariant_of-self-2 : goal.invariant_of-self-2
-invariant_of-self-2 g c =
-    record { known = AreKnown-inserted {S = BuildHasherDefault FoldHasher} _ c.args.self.now.positions c.insert.new.self _ _ _ _ _ (AreKnown-grown _ _ _ c.args.self.now.known c.in_ok-shared_type.ensures.kept) c.in_ok-shared_type.ensures.found c.insert.ensures.updates c.insert.ensures.err }
-
-pub returns-in_err-insert-clause-unchanged : goal.returns-in_err-insert-clause-unchanged
-returns-in_err-insert-clause-unchanged g c = on_err _ (unchanged_kept {S = BuildHasherDefault FoldHasher} _ _ c.args.self.now.positions c.insert.new.self c.args.self.now.known c.in_ok-shared_type.ensures.kept c.in_err-insert.ensures.err)
-
-pub returns-clause-started : goal.returns-clause-started
-returns-clause-started g c =
-    started_new _ _ _ _ c.args.position _ _ _ _ _ c.args.self.now.known c.in_ok-shared_type.ensures.kept c.in_ok-shared_type.ensures.found
-    (to_z-of_z {w = w128} {z = c.args.position} c.ranges.position) (to_z-of_z {w = w128} {z = c.args.position} c.ranges.position) (sym (ap option_copied c.in_default.is) ∙ c.get.ensures.value) refl c.in_ok-insert.ensures.updates.0

@@ -1,4 +1,4 @@
-use Rattle.std.proofs.Common.{ap, ◌∙◌}
+use Rattle.std.proofs.Common.{ap}
 use Rattle.std.proofs.lemmas.Int.{to_z-of_z}
 use mir.Syntax.{w128}
 use Rattle.archive_check.specs.Validators.{positions_of}
@@ -14,15 +14,3 @@ pub returns-in-Some-clause-started : goal.returns-in-Some-clause-started
 returns-in-Some-clause-started c =
     let said = rw (to_z-of_z w128 c.args.position (record { sfits = c.ranges.position.sfits })) at c.start_shared.ensures.started in
     rw c.in-Some.is (started_same _ _ _ c.args.position _ _ (ap positions_of c.deref_mut.ensures.value) said)
-
-pub returns-in_ok-positions-in-None-clause-answer : goal.returns-in_ok-positions-in-None-clause-answer
-returns-in_ok-positions-in-None-clause-answer c =
-    let said = rw (to_z-of_z w128 c.args.position (record { sfits = c.ranges.position.sfits })) at c.start_shared-answer.ensures.answer in
-    let none = ap positions_of (c.deref_mut-in-None.ensures.value ∙ c.in_ok-positions-in-None.ensures.ok) ∙ c.new.ensures in
-    rw c.in-None.is (answer_same _ _ c.args.position _ _ none said)
-
-pub returns-in_ok-positions-in-None-clause-started : goal.returns-in_ok-positions-in-None-clause-started
-returns-in_ok-positions-in-None-clause-started c =
-    let said = rw (to_z-of_z w128 c.args.position (record { sfits = c.ranges.position.sfits })) at c.start_shared-answer.ensures.started in
-    let none = ap positions_of (c.deref_mut-in-None.ensures.value ∙ c.in_ok-positions-in-None.ensures.ok) ∙ c.new.ensures in
-    rw c.in-None.is (started_same _ _ _ c.args.position _ _ none said)

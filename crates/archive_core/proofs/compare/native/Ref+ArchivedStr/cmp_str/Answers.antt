@@ -3,4 +3,4 @@ use Rattle.archive_core.proofs.ComparedValues.{text_compares}
 use Rattle.archive_core.proofs.compare.native.Ref+ArchivedStr.cmp_str.Goals as goal
 
 pub returns-clause-by_value : goal.returns-clause-by_value
-returns-clause-by_value c = text_compares no_definition c.args.self.bytes.now c.args.self.pos c.args.self.len c.args.text.now c.cmp.result (rw c.as_str.ensures.text at c.cmp.ensures)
+returns-clause-by_value c = text_compares no_definition c.args.self.bytes.now c.args.self.pos c.args.self.len c.args.text.now c.text_order.result (rw c.as_str.ensures.text at c.text_order.ensures)

@@ -1,0 +1,115 @@
+// Lists of boxes in boxes: written, checked, viewed and read back.
+
+ghost use Rattle.std.specs.Prelude.{◌≢◌, Some};
+
+use super::said;
+use crate::formats::Format;
+use archive_core::api::{HighValidator, access, access_with_context, from_bytes};
+use archive_core::error::Error;
+use own_types::node::{ArchivedNode, Node, boxes};
+use std::alloc::Global;
+use std::test::Fail;
+
+// One box: nothing at 0, and at 8 the box that points back at it.
+const ONE: &[u8] = b"\0\0\0\0\0\0\0\0\x01\0\0\0\xf4\xff\xff\xff";
+
+#[test]
+fn nodes_are_written_and_checked(rt: HostRuntime) -> Result<(), Fail> {
+    let rows = [
+        ("write|node|0", 0, "0000000000000000\n"),
+        ("write|node|1", 0, "000000000000000001000000f4ffffff\n"),
+        (
+            "write|node|2",
+            0,
+            "000000000000000001000000f4ffffff01000000f4ffffff\n",
+        ),
+        ("write|node|1001", 2, "bad arguments\n"),
+        ("write|node|nil", 2, "bad arguments\n"),
+        (
+            "check|node|000000000000000001000000f4ffffff",
+            0,
+            "accepted\n",
+        ),
+        (
+            "check|node|010000000400000001000000f4ffffff",
+            1,
+            "refused: 16 InvalidSubtreePointer\n",
+        ),
+        (
+            "check|node|0200000000000000",
+            1,
+            "refused: 24 InvalidDiscriminant\n",
+        ),
+    ];
+    for (command, status, line) in rows {
+        let (ended, out) = said(rt.alloc(), command)?;
+        assert_eq!(rt; ended, status, "{command}");
+        assert_eq!(rt; out.as_slice(), line.as_bytes(), "{command}");
+    }
+    Ok(())
+}
+
+#[test]
+fn a_box_behind_its_own_node_is_refused(rt: HostRuntime) -> Result<(), Fail> {
+    let refusal = Error::InvalidSubtreePointer {
+        position: 8,
+        size: 8,
+        start: 0,
+        end: 0,
+    };
+    let bytes = b"\x01\0\0\0\x04\0\0\0\x01\0\0\0\xf4\xff\xff\xff";
+    assert_eq!(rt; Format::Node.check(rt.alloc(), bytes), Err(refusal));
+    Ok(())
+}
+
+#[test]
+fn nodes_are_viewed_and_come_back(rt: HostRuntime) -> Result<(), Fail> {
+    let view = access::<ArchivedNode>(rt.alloc(), ONE)?;
+    assert_eq!(rt; view.tag(), 1);
+    let node: Node = from_bytes(rt.alloc(), ONE, &mut ())?;
+    assert_eq!(rt; boxes(&node, 2), 1);
+    let none: Node = from_bytes(rt.alloc(), b"\0\0\0\0\0\0\0\0", &mut ())?;
+    assert_eq!(rt; boxes(&none, 2), 0);
+    Ok(())
+}
+
+// The archive of so many boxes, one in another, with its root at the end.
+fn chain(alloc: Global, count: usize) -> Result<Vec<u8>, Fail> {
+    let mut bytes = vec![in alloc; 0u8; 8]?;
+    for _ in 0..count {
+        bytes.extend_from_slice(b"\x01\0\0\0\xf4\xff\xff\xff")?;
+    }
+    Ok(bytes)
+}
+
+// How many regions a check of a node enters, with a limit of depth.
+fn entered(alloc: Global, bytes: &[u8], levels: Option<usize>) -> Result<usize, Error>
+    requires { levels ≢ Some 0 }
+{
+    let mut context = HighValidator::with_max_depth(alloc, bytes, levels);
+    let _ = access_with_context::<ArchivedNode, HighValidator<'_>>(alloc, bytes, &mut context)?;
+    Ok(context.subtrees())
+}
+
+#[test]
+fn a_node_is_as_deep_as_its_boxes(rt: HostRuntime) -> Result<(), Fail> {
+    let bytes = chain(rt.alloc(), 3)?;
+    for levels in [1, 2, 3, 4] {
+        assert_eq!(rt;
+            entered(rt.alloc(), &bytes, Some(levels)),
+            Err(Error::ExceededMaximumSubtreeDepth),
+            "at depth {levels}"
+        );
+    }
+    assert_eq!(rt; entered(rt.alloc(), &bytes, Some(5)), Ok(4));
+    Ok(())
+}
+
+#[test]
+fn a_long_chain_is_checked(rt: HostRuntime) -> Result<(), Fail> {
+    let bytes = chain(rt.alloc(), 200_000)?;
+    let view = access::<ArchivedNode>(rt.alloc(), &bytes)?;
+    assert_eq!(rt; view.tag(), 1);
+    assert_eq!(rt; entered(rt.alloc(), &bytes, None), Ok(200_001));
+    Ok(())
+}

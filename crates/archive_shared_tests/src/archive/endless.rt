@@ -1,0 +1,211 @@
+// A value that leads to itself, under a flavor that allows it: it is accepted, and isn't read back.
+
+ghost use Rattle.std.specs.Prelude.{◌≡◌, [], length, refl, ⊤, OnOk, IfOk, IfErr};
+ghost use Rattle.std.proofs.Common.{inl, inr};
+ghost use Rattle.archive_check.specs.Shape.{choice, no_variant, one, variant};
+ghost use Rattle.archive_check.specs.Expressions.{shape_of, shapes_in};
+ghost use Rattle.archive_check.specs.NamedLayout.{name_reached};
+ghost use Rattle.archive_check.specs.SelfCheck.Laws.{by_schema};
+ghost use Rattle.archive_check.specs.VariantsLayout.{is_recursive_choice};
+ghost use Rattle.archive_check.specs.Viewed.{Viewed};
+ghost use Rattle.archive_core.specs.Placed.{Resolved, Hindered};
+ghost use Rattle.archive_core.specs.Seen.{RefusesPart};
+ghost use Rattle.archive_core.specs.Sources.{Read};
+ghost use Rattle.archive_core.specs.Writing.{Fresh};
+ghost use Rattle.archive_shared_tests.specs.LoopShape.{loop_name, loop_shape, loop_choice, loop_definitions, loop_layout, loop_has_layout, loop_variants, knows_variants};
+
+use super::rc::Looping;
+use archive_core::api::{access, from_bytes};
+use archive_core::error::Error;
+use archive_core::place::Place;
+use archive_core::pooling::{Pool, Pooling, PoolingState};
+use archive_core::rc::{ArchivedRc, Shared};
+use archive_core::self_check::BySchema;
+use archive_core::shape::{Defs, Expr, FlavorInfo, Pointee};
+use archive_core::traits::{Archive, ArchivePointee, Choice, Deserialize, Portable};
+use archive_core::view::{RawView, Ref};
+use std::alloc::{AllocError, Global};
+use std::test::Fail;
+
+// The choice whose one variant is a shared one of it.
+struct ArchivedLoop;
+
+impl ArchivePointee for ArchivedLoop {
+    type ArchivedMetadata = ();
+
+    ghost pointee = { one loop_shape };
+
+    ghost definitions = { loop_definitions };
+
+    ghost metadata_length = { λ _. 0 };
+
+    fn pointer_metadata(_metadata: &()) -> usize {
+        0
+    }
+}
+
+// A choice of one variant with these parts.
+fn choice_of(alloc: Global, name: &'static str, only: Vec<Expr>) -> Result<Expr, AllocError>
+    ensures { IfOk result (λ e. shape_of e ≡ choice name.now (variant (shapes_in only.items) no_variant)) }
+{
+    let variants = vec![in alloc; only]?;
+    Ok(Expr::Choice(name, variants))
+}
+
+// The definition of its name.
+fn definition(alloc: Global) -> Result<Expr, AllocError>
+    ensures { IfOk result (λ e. shape_of e ≡ loop_choice) }
+{
+    let pointee = Box::new(alloc, Pointee::One(Expr::Named("ArchivedAllValues")))?;
+    let flavor = FlavorInfo {
+        name: "Looping",
+        cycles: true,
+    };
+    let inner = Expr::Shared(flavor, pointee);
+    choice_of(alloc, "ArchivedAllValues", vec![in alloc; inner]?)
+}
+
+impl Portable for ArchivedLoop {
+    ghost shape = { loop_shape };
+
+    ghost layout = { loop_layout };
+
+    type Check = BySchema;
+
+    ghost is_one = { refl };
+
+    ghost is_align = { inr (inr (inl refl)) };
+
+    ghost has_layout = { loop_has_layout };
+
+    ghost no_others = { name_reached loop_name loop_choice };
+
+    ghost checks = { λ direct. by_schema direct };
+
+    fn size() -> usize {
+        8
+    }
+
+    fn align() -> usize {
+        4
+    }
+
+    fn expr(_alloc: Global) -> Result<Expr, Error> {
+        Ok(Expr::Named("ArchivedAllValues"))
+    }
+
+    #[tactic(auto, using(archive_check::proofs::format::AddedDefinitions::not_extended))]
+    fn define(alloc: Global, defs: &mut Defs) -> Result<(), Error> {
+        defs.add("ArchivedAllValues", definition(alloc)?)?;
+        Ok(())
+    }
+}
+
+impl Choice for ArchivedLoop {
+    type Variants = ((ArchivedRc<ArchivedLoop, Looping>, ()), ());
+
+    ghost name = { loop_name };
+
+    ghost has_variants = { is_recursive_choice loop_name _ loop_variants knows_variants };
+}
+
+// A value that would hold itself: there is none.
+#[derive(Drop)]
+struct Endless {
+    ghost none: { ⊥ },
+}
+
+impl Archive for Endless {
+    type Archived = ArchivedLoop;
+
+    type Resolver = ();
+
+    ghost meaning = { λ v. absurd v.none };
+
+    ghost flat = { λ v _. absurd v.none };
+
+    ghost keys = { λ _. [] };
+
+    ghost belongs = { λ _ _. ⊤ };
+
+    ghost keyed = { λ v. absurd v.none };
+
+    ghost planned = { λ v. absurd v.none };
+
+    fn resolve(&self, _resolver: (), place: Place<'_, ArchivedLoop>) -> Result<(), Error>
+        requires fresh { Fresh 8 place.pos place.bytes.now }
+        requires same_value { ⊤ }
+        ensures resolved { OnOk result (Resolved ⟦<Self::Archived as Portable>⟧ place (absurd self.now.none)) }
+        ensures same_length { length place.exit.0.now ≡ length place.entry.bytes.now }
+        ensures refused { IfErr result (Hindered ⟦<Self::Archived as Portable>⟧ place (absurd self.now.none)) }
+    {
+        let Place { bytes: _, .. } = place;
+        Ok(())
+    }
+}
+
+// What is answered of a value that there is none of.
+fn never(_kept: Shared<Endless>) -> Error {
+    Error::OutOfMemory
+}
+
+// Follows the pointer of the value that lies there, and those that it leads to, `left` of them. No value comes of it.
+fn follow<D: Pooling<Shared<Endless>>>(
+    part: RawView<'_>,
+    pool: &mut D,
+    left: usize,
+) -> Result<Endless, Error>
+    requires { Viewed loop_definitions part.bytes.now part.pos (one loop_shape) part.len }
+    ensures refused { IfErr result (RefusesPart ⟦<ArchivedLoop as ArchivePointee>⟧ part D.Entries pool) }
+{
+    let Some(left) = left.checked_sub(1) else {
+        return Err(Error::OutOfMemory);
+    };
+    let view: Ref<'_, ArchivedLoop> = Ref::at(part);
+    let _tag = view.tag();
+    let pointer: Ref<'_, ArchivedRc<ArchivedLoop, Looping>> = view.payload(0);
+    let inner = pointer.get().part();
+    match pool.start_pooling(inner.pos)? {
+        PoolingState::Pending => Err(Error::CyclicDeserialize),
+        PoolingState::Finished(kept) => Err(never(kept)),
+        PoolingState::Started => follow(inner, pool, left),
+    }
+}
+
+impl<D: Pooling<Shared<Endless>>> Deserialize<Endless, D> for ArchivedLoop {
+    fn deserialize_part(
+        _alloc: Global,
+        part: RawView<'_>,
+        deserializer: &mut D,
+    ) -> Result<Endless, Error>
+        requires { Viewed loop_definitions part.bytes.now part.pos (one loop_shape) part.len }
+        ensures read { IfOk result (Read ⟦<Self as ArchivePointee>⟧ part D.Entries deserializer ⟦<Endless as Archive>⟧) }
+        ensures refused { IfErr result (RefusesPart ⟦<Self as ArchivePointee>⟧ part D.Entries deserializer) }
+    {
+        follow(part, deserializer, part.bytes.len())
+    }
+}
+
+// A value whose pointer leads to itself, and a root that leads there.
+const ONE: &[u8] = b"\0\0\0\xff\xfc\xff\xff\xff\0\0\xf6\xff\xf4\xff\xff\xff";
+
+// Two values that lead to each other, and a root that leads to the last of them.
+const TWO: &[u8] = b"\0\0\0\0\x04\0\0\0\0\0\0\0\xf4\xff\xff\xff\0\0\0\0\xf4\xff\xff\xff";
+
+// The number of the refusal of a reading back, or 0 where there is none.
+fn refusal<D: Pooling<Shared<Endless>>>(alloc: Global, bytes: &[u8], deserializer: &mut D) -> u32 {
+    match from_bytes::<Endless, D>(alloc, bytes, deserializer) {
+        Ok(_) => 0,
+        Err(error) => error.number(),
+    }
+}
+
+#[test]
+fn a_circle_is_accepted_and_refused_by_a_pool(rt: HostRuntime) -> Result<(), Fail> {
+    for bytes in [ONE, TWO] {
+        assert!(rt; access::<ArchivedLoop>(rt.alloc(), bytes).is_ok());
+        let mut pool: Pool<Shared<Endless>> = Pool::new(rt.alloc());
+        assert_eq!(rt; refusal(rt.alloc(), bytes, &mut pool), 13);
+    }
+    Ok(())
+}

@@ -1,0 +1,2 @@
+pub mod NodeShape
+pub mod Node
