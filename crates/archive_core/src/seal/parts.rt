@@ -4,7 +4,7 @@ ghost use Rattle.std.specs.Prelude.{◌≡◌, ◌+◌, ◌*◌, ◌<◌, slice_
 ghost use Rattle.archive_check.specs.Definitions.{no_definition};
 ghost use Rattle.archive_check.specs.Readable.{target_from};
 ghost use Rattle.archive_check.specs.Reads.{i32_at, length_at, u32_at};
-ghost use Rattle.archive_check.specs.Shape.{one, run, text, boxed, shared, weak, vec as vec_shape};
+ghost use Rattle.archive_check.specs.Shape.{array, one, run, text, boxed, shared, weak, vec as vec_shape};
 ghost use Rattle.archive_check.specs.Viewed.{Viewed};
 ghost use Rattle.archive_core.specs.SealsWritten.{SealsBeside, seal_tag};
 ghost use Rattle.archive_core.specs.SharedLaws.{flavor_as};
@@ -155,6 +155,25 @@ impl<'a, T: Portable> Seal<'a, ArchivedSlice<T>> {
         ensures length { result.len ≡ 0 }
         ensures viewed { Viewed T.definitions result.bytes.now result.pos T.pointee result.len }
         ensures beside { SealsBeside T.definitions (run T.shape) T.pointee result self.entry }
+    {
+        let spot = self.as_ref().index(index).spot();
+        let Seal { bytes, .. } = self;
+        spot.seal(bytes)
+    }
+}
+
+impl<'a, T: Portable, const N: usize> Seal<'a, [T; N]> {
+    /// A seal of the element `index`, of which 0 is the first. Asks that there is one, and that the seal shows a part of a buffer that was checked, as
+    /// it does when it is made. No byte changes. As in rkyv 0.8.18, which panics where there is none.
+    pub fn index(self, index: usize) -> Seal<'a, T>
+        requires viewed { Viewed T.definitions self.bytes.now self.pos (one (array N T.shape)) self.len }
+        requires below { index < N }
+        ensures same_reference { result.bytes.ghost_name ≡ self.entry.bytes.ghost_name }
+        ensures buffer { result.bytes.now ≡ self.entry.bytes.now }
+        ensures position { result.pos ≡ self.entry.pos + index * T.layout.size }
+        ensures length { result.len ≡ 0 }
+        ensures viewed { Viewed T.definitions result.bytes.now result.pos T.pointee result.len }
+        ensures beside { SealsBeside T.definitions (one (array N T.shape)) T.pointee result self.entry }
     {
         let spot = self.as_ref().index(index).spot();
         let Seal { bytes, .. } = self;
