@@ -5,4 +5,5 @@ pub mod Orders
 pub mod Regions
 pub mod Owners
 pub mod Arrays
+pub mod Lone
 pub mod Steps

@@ -20,6 +20,7 @@ mod refusals;
 mod regions;
 mod roots;
 mod texts;
+mod tuples;
 mod values;
 mod variants;
 
@@ -29,6 +30,7 @@ pub use leaves::check_leaf;
 pub use parts::{CheckedParts, RecordCheck};
 pub use roots::check_root;
 pub use texts::{BoxStrCheck, StringCheck};
+pub use tuples::TupleCheck;
 pub use values::BoxCheck;
 pub use variants::{CheckedVariants, check_choice};
 
@@ -46,9 +48,16 @@ pub trait SelfCheck {
     // Whether it is checked, and no schema is needed: nothing is shared, and nothing holds itself.
     ghost direct: { Bool };
 
+    // Whether the types that name it bring no definition.
+    ghost nameless: { Bool };
+
     /// Whether no schema is needed.
     fn is_direct() -> bool
         ensures { result ≡ direct };
+
+    /// Whether the types that name it bring no definition: of a tuple and of a result all parts but one have to. One that says no loses nothing but speed.
+    fn is_nameless() -> bool
+        ensures { result ≡ nameless };
 
     /// Checks the value at `at`, in bytes from the first one. `None` where the check stops, and `refusal` is why: the first fault, in the order that
     /// docs/FORMAT.md gives. Our own choice in place of rkyv's `CheckBytes`.
@@ -78,7 +87,13 @@ impl SelfCheck for BySchema {
 
     ghost direct = { false };
 
+    ghost nameless = { false };
+
     fn is_direct() -> bool {
+        false
+    }
+
+    fn is_nameless() -> bool {
         false
     }
 

@@ -6,7 +6,7 @@ use Rattle.archive_check.specs.PartsLayout.{knows_right}
 use Rattle.archive_check.specs.plan.BoundedSizes.{fits}
 use Rattle.archive_check.specs.plan.Names.{missing}
 use Rattle.archive_check.specs.SelfCheck.Orders.{AllIn, IsOrder}
-use Rattle.archive_check.specs.SelfCheck.Laws.{IsCheckOf, named_leads}
+use Rattle.archive_check.specs.SelfCheck.Laws.{IsCheckOf, by_schema, named_leads}
 
 -- its parts hold no name, also behind pointers, and bring no definition; a table finds the name
 module _ (name : Name) (ps : Parts) (D : Definitions) (found : definition ((name, parts ps) ∷ []) name ≡ Some (parts ps)) (alone : missing true ((name, parts ps) ∷ []) (parts ps) ≡ None)
@@ -22,7 +22,7 @@ module _ (name : Name) (ps : Parts) (D : Definitions) (found : definition ((name
   }
 
 pub named_check : {name : Name} {ps : Parts} {D : Definitions} {size n : ℕ} → nat_le n size ≡ true → fits size ≡ Some size → definition ((name, parts ps) ∷ []) name ≡ Some (parts ps)
-    → missing true ((name, parts ps) ∷ []) (parts ps) ≡ None → missing false [] (parts ps) ≡ None → listed D ≡ [] → IsCheckOf (both (defines name (parts ps)) D) (named name) size D (parts ps) n
+    → missing true ((name, parts ps) ∷ []) (parts ps) ≡ None → missing false [] (parts ps) ≡ None → listed D ≡ [] → IsCheckOf (both (defines name (parts ps)) D) (named name) size D (parts ps) n false
 named_check {name = name} {ps = ps} {D = D} within small found alone first empty = record {
   within = within;
   small = small;
@@ -30,4 +30,5 @@ named_check {name = name} {ps = ps} {D = D} within small found alone first empty
   ordered = name_order name ps D found alone first empty;
   known = λ t k. knows_right t (defines name (parts ps)) D k;
   leads = λ t k. named_leads t name (parts ps) k.has.0;
+  plain = λ says. by_schema says;
 }

@@ -48,7 +48,8 @@ pub trait NamedRecord {
         ensures { result.now ≡ name };
 
     ghost checks: { IsTrue Self.Check.direct → IsCheckOf (both (defines name (parts Self.Parts.parts)) Self.Parts.definitions) (named name)
-        (up (Self.Parts.end 0) Self.Parts.greatest) Self.Check.definitions Self.Check.shape Self.Check.span };
+        (up (Self.Parts.end 0) Self.Parts.greatest) Self.Check.definitions Self.Check.shape Self.Check.span
+        Self.Check.nameless };
 }
 
 /// An archived record under the name and with the parts of `N`: each part at the next multiple of its alignment, in the order in which they are named.

@@ -60,7 +60,7 @@ impl<T: Portable> Portable for ArchivedVec<T> {
 
     ghost no_others = { vec_reaches T.definitions T.shape T.no_others };
 
-    ghost checks = { λ direct. vec_check T.definitions T.shape T.layout.size T.Check.definitions T.Check.shape T.Check.span (T.checks direct) };
+    ghost checks = { λ direct. vec_check T.definitions T.shape T.layout.size T.Check.definitions T.Check.shape T.Check.span T.Check.nameless (T.checks direct) };
 
     fn size() -> usize {
         8

@@ -99,9 +99,9 @@ known_below D s k = record {
 }
 
 -- the check of an option, where its value checks itself
-pub option_check : (D : Definitions) (X : Shape) (L : Layout) (direct : Bool) (E : Definitions) (Y : Shape) (n : ℕ) → (IsTrue direct → IsCheckOf D X L.size E Y n)
-    → IsTrue (option_direct direct L) → IsCheckOf D (option_shape X) (option_layout L).size (option_definitions D) (option_shape X) (option_layout L).size
-option_check D X L direct E Y n h says =
+pub option_check : (D : Definitions) (X : Shape) (L : Layout) (direct : Bool) (E : Definitions) (Y : Shape) (n : ℕ) (nameless : Bool) → (IsTrue direct → IsCheckOf D X L.size E Y n nameless)
+    → IsTrue (option_direct direct L) → IsCheckOf D (option_shape X) (option_layout L).size (option_definitions D) (option_shape X) (option_layout L).size nameless
+option_check D X L direct E Y n nameless h says =
     let (own, small) = and_parts direct (nat_lt (option_layout L).size 18446744073709551615) says in
     let i = h own in
     record {
@@ -111,4 +111,5 @@ option_check D X L direct E Y n h says =
       ordered = record { has = i.ordered.has; only = i.ordered.only; once = i.ordered.once; root = rw i.ordered.root refl; closed = i.ordered.closed; placed = i.ordered.placed };
       known = known_below D;
       leads = λ t k bytes p pending depth stop start seen o w. w;
+      plain = i.plain;
     }

@@ -1,12 +1,20 @@
 -- Results as archives hold them: what they look like, and the laws of that.
-use Rattle.std.specs.Prelude.{◌≡◌, ℕ, zero, suc, ◌+◌, ◌≤◌, max, codes, is_some, true}
-use Rattle.std.proofs.Common.{refl, ap, arith}
-use Rattle.archive_check.specs.Shape.{Name, Shape, choice, no_part, part, Variants, no_variant, variant, variant_at}
+use Rattle.std.specs.Prelude.{◌≡◌, ℕ, zero, suc, ◌+◌, ◌≤◌, max, codes, is_some, true, Bool, ◌&&◌, ◌||◌, [], None, IsTrue, nat_lt, nat_le}
+use Rattle.std.proofs.Common.{refl, ap, arith, ⊎_elim}
+use Rattle.std.proofs.lemmas.Bool.{and_parts}
+use Rattle.std.proofs.lemmas.Bool.Decides.{nat_tests}
+use Rattle.std.proofs.lemmas.List.{append-nil}
+use Rattle.archive_check.specs.Shape.{Name, Shape, choice, no_part, part, Variants, no_variant, variant, variant_at, Table}
 use Rattle.archive_check.specs.Layout.{Layout, up, size_of, align_of}
 use Rattle.archive_check.specs.Defined.{Mentions, mentions_choice, mentions_other, mentions_variant, mentions_first}
-use Rattle.archive_check.specs.Definitions.{Definitions, both, NoOthers, HasLayout, IsAlign}
+use Rattle.archive_check.specs.Reads.{Schema}
+use Rattle.archive_check.specs.Definitions.{Definitions, no_definition, both, listed, Knows, NoOthers, HasLayout, IsAlign}
 use Rattle.archive_check.specs.NoOthers.{around_reached, both_reached}
 use Rattle.archive_check.specs.PartsLayout.{knows_left, knows_right}
+use Rattle.archive_check.specs.plan.Names.{missing}
+use Rattle.archive_check.specs.SelfCheck.Orders.{IsOrder}
+use Rattle.archive_check.specs.SelfCheck.Laws.{IsCheckOf, no_more}
+use Rattle.archive_check.specs.SelfCheck.Lone.{HasOrder, none_missing, none_listed, first_order, later_order, plain_order, or_parts, small_fits}
 use Rattle.archive_enum.specs.Choices.{up_first, align_low}
 
 -- the variants of a result: each with one part
@@ -20,6 +28,14 @@ result_shape X Y = choice (codes "ArchivedResult") (result_variants X Y)
 -- the longer of both behind the tag, rounded up to the greater alignment
 abbrev pub result_layout : Layout → Layout → Layout
 result_layout L M = record { size = up (max (L.align + L.size) (M.align + M.size)) (max L.align M.align); align = max L.align M.align }
+
+-- the definitions of the result's variants
+abbrev pub result_definitions : Definitions → Definitions → Definitions
+result_definitions D E = both (both D no_definition) (both (both E no_definition) no_definition)
+
+-- whether a result checks itself: its value and its error do, at most one of them brings definitions, and its size is below usize::MAX
+abbrev pub result_direct : Bool → Bool → Bool → Bool → ℕ → Bool
+result_direct value error value_nameless error_nameless size = ((value && error) && (value_nameless || error_nameless)) && nat_lt size 18446744073709551615
 
 -- a tag that isn't 0 is 1
 pub result_tag : (X Y : Shape) (t : ℕ) → is_some (variant_at (result_variants X Y) t) ≡ true → (t ≡ 0 → ⊥) → t ≡ 1
@@ -70,3 +86,45 @@ error_mentions X Y n m = mentions_choice (mentions_other (mentions_variant (ment
 
 pub result_reached : (D E : Definitions) (X Y : Shape) → NoOthers D X → NoOthers E Y → NoOthers (both D E) (result_shape X Y)
 result_reached D E X Y h k = both_reached D E (result_shape X Y) (around_reached D X (result_shape X Y) (value_mentions X Y) h) (around_reached E Y (result_shape X Y) (error_mentions X Y) k)
+
+known_in_variants : (D E : Definitions) (s : Schema) → Knows s (both D E) → Knows s (result_definitions D E)
+known_in_variants D E s k = record {
+  has = ((k.has.0, tt), ((k.has.1, tt), tt));
+  finite = λ name Y c. k.finite name Y (simp append-nil at c);
+  laid_out = k.laid_out;
+}
+
+-- it misses no name that neither its value nor its error does
+result_root : (X Y : Shape) (order : Table) → missing true order X ≡ None → missing true order Y ≡ None → missing true order (result_shape X Y) ≡ None
+result_root X Y order e f = rw (e, f) refl
+
+-- the check of a result, where its value and its error check themselves
+module _ (D : Definitions) (X : Shape) (L : Layout) (D' : Definitions) (X' : Shape) (m : ℕ) (none : Bool) (E : Definitions) (Y : Shape) (M : Layout) (E' : Definitions) (Y' : Shape) (n : ℕ) (none' : Bool) where
+  one_nameless : IsCheckOf D X L.size D' X' m none → IsCheckOf E Y M.size E' Y' n none' → IsTrue (none || none') → HasOrder (both D E) (result_shape X Y)
+  one_nameless c k says = ⊎_elim
+      (λ value. let o = plain_order c value in
+      (k.order, later_order D E X Y (result_shape X Y) k.order (result_root X Y k.order (none_missing k.order X o.root) k.ordered.root) o k.ordered))
+      (λ error. let o = plain_order k error in
+      (c.order, first_order D E X Y (result_shape X Y) c.order (result_root X Y c.order c.ordered.root (none_missing c.order Y o.root)) c.ordered o))
+      (or_parts none none' says)
+
+  none_in_both : IsCheckOf D X L.size D' X' m none → IsCheckOf E Y M.size E' Y' n none' → IsTrue (none && none') → listed (both D E) ≡ []
+  none_in_both c k says = let (value, error) = and_parts none none' says in rw (c.plain value, k.plain error) refl
+
+  pub result_check : (value error : Bool) → (IsTrue value → IsCheckOf D X L.size D' X' m none) → (IsTrue error → IsCheckOf E Y M.size E' Y' n none')
+      → IsTrue (result_direct value error none none' (result_layout L M).size)
+      → IsCheckOf (both D E) (result_shape X Y) (result_layout L M).size (result_definitions D E) (result_shape X Y) (result_layout L M).size (none && none')
+  result_check value error c k says =
+      let (each, small) = and_parts ((value && error) && (none || none')) (nat_lt (result_layout L M).size 18446744073709551615) says in
+      let (own, alone) = and_parts (value && error) (none || none') each in
+      let (first, later) = and_parts value error own in
+      let o = one_nameless (c first) (k later) alone in
+      record {
+        within = no_more (result_layout L M).size;
+        small = small_fits (result_layout L M).size small;
+        order = o.0;
+        ordered = o.1;
+        known = known_in_variants D E;
+        leads = λ t kn bytes p pending depth stop start seen o w. w;
+        plain = none_in_both (c first) (k later);
+      }

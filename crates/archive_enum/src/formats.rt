@@ -64,7 +64,7 @@ impl<T: Portable> Portable for ArchivedOption<T> {
 
     ghost no_others = { option_reached T.definitions T.shape T.no_others };
 
-    ghost checks = { option_check T.definitions T.shape T.layout T.Check.direct T.Check.definitions T.Check.shape T.Check.span T.checks };
+    ghost checks = { option_check T.definitions T.shape T.layout T.Check.direct T.Check.definitions T.Check.shape T.Check.span T.Check.nameless T.checks };
 
     fn size() -> usize {
         let align = T::align();
@@ -100,8 +100,14 @@ impl<T: Portable> SelfCheck for ArchivedOption<T> {
 
     ghost direct = { option_direct T.Check.direct T.layout };
 
+    ghost nameless = { T.Check.nameless };
+
     fn is_direct() -> bool {
         T::Check::is_direct() && ArchivedOption::<T>::size() < usize::MAX
+    }
+
+    fn is_nameless() -> bool {
+        T::Check::is_nameless()
     }
 
     #[inline(always)]

@@ -138,7 +138,13 @@ impl<N: Integer> SelfCheck for NonZero<N> {
 
     ghost direct = { true };
 
+    ghost nameless = { true };
+
     fn is_direct() -> bool {
+        true
+    }
+
+    fn is_nameless() -> bool {
         true
     }
 

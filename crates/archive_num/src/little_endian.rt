@@ -115,7 +115,13 @@ impl<N: Native> SelfCheck for LittleEndian<N> {
 
     ghost direct = { true };
 
+    ghost nameless = { true };
+
     fn is_direct() -> bool {
+        true
+    }
+
+    fn is_nameless() -> bool {
         true
     }
 

@@ -5,14 +5,14 @@ ghost use Rattle.std.specs.Prelude.{refl};
 ghost use Rattle.archive_check.specs.Shape.{one, parts};
 ghost use Rattle.archive_check.specs.Layout.{up};
 ghost use Rattle.archive_check.specs.PartsLayout.{is_record, record_has_layout, holds_parts};
-ghost use Rattle.archive_check.specs.SelfCheck.Laws.{by_schema};
+ghost use Rattle.archive_check.specs.SelfCheck.Lone.{tuple_check};
 
 use archive_check::format::error::Error;
 use archive_check::format::expr::{Defs, Expr};
 use archive_check::format::traits::{
     ArchivePointee, Portable, PortableParts, Record, expr_of_record, size_of_record,
 };
-use archive_check::self_check::BySchema;
+use archive_check::self_check::TupleCheck;
 use std::alloc::Global;
 use std::marker::PhantomData;
 
@@ -41,7 +41,7 @@ impl<P: PortableParts> Portable for ArchivedTuple<P> {
 
     ghost layout = { record { size = up (P.end 0) P.greatest; align = P.greatest } };
 
-    type Check = BySchema;
+    type Check = TupleCheck<P>;
 
     ghost is_one = { refl };
 
@@ -51,7 +51,8 @@ impl<P: PortableParts> Portable for ArchivedTuple<P> {
 
     ghost no_others = { P.no_others };
 
-    ghost checks = { λ direct. by_schema direct };
+    ghost checks = { tuple_check P.definitions P.parts (up (P.end 0) P.greatest) (P.end 0) P.direct P.nameless P.lone
+        (holds_parts (P.end 0) P.greatest P.is_align) P.ordered };
 
     fn size() -> usize {
         size_of_record::<P>()

@@ -1,5 +1,5 @@
 -- The check that a type names is one of the type.
-use Rattle.std.proofs.Common.{◌≡◌, ℕ, ◌+◌, ◌≤◌, ◌∙◌, min, sym, ap, arith, List, Option, Some, OnSome, IfNone}
+use Rattle.std.proofs.Common.{Bool, ◌≡◌, ℕ, ◌+◌, ◌≤◌, ◌∙◌, min, sym, ap, arith, List, Option, Some, OnSome, IfNone}
 use Rattle.std.proofs.lemmas.Bool.Decides.{nat_tests}
 use Rattle.archive_check.specs.declared.format.error.Error.{Error}
 use Rattle.archive_check.specs.Shape.{Shape}
@@ -11,7 +11,7 @@ use Rattle.archive_check.specs.SelfCheck.Laws.{IsCheckOf}
 use Rattle.archive_check.proofs.plan.BoundedSizes.{some_below}
 use Rattle.archive_check.proofs.SelfCheck.Ways.{goes_by, halts_by}
 
-module _ (D E : Definitions) (X Y : Shape) (z n : ℕ) (law : IsCheckOf D X z E Y n) where
+module _ (D E : Definitions) (X Y : Shape) (z n : ℕ) {nameless : Bool} (law : IsCheckOf D X z E Y n nameless) where
   pub span_fits : (at len : ℕ) → at + z ≤ len → at + n ≤ len
   span_fits at len h = let within = law.within in grind (arith, nat_tests)
 

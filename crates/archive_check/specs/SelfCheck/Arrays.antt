@@ -31,9 +31,9 @@ module _ (n : ℕ) (D : Definitions) (X : Shape) (L : Layout) where
   array_reaches h = around_reached D X (array n X) (λ name m. mentions_array m) h
 
   -- where its elements check themselves
-  pub array_check : (direct : Bool) (E : Definitions) (Y : Shape) (m : ℕ) → (IsTrue direct → IsCheckOf D X L.size E Y m) → IsTrue (array_direct direct n L)
-      → IsCheckOf D (array n X) (n * L.size) D (array n X) (n * L.size)
-  array_check direct E Y m h says =
+  pub array_check : (direct : Bool) (E : Definitions) (Y : Shape) (m : ℕ) (nameless : Bool) → (IsTrue direct → IsCheckOf D X L.size E Y m nameless) → IsTrue (array_direct direct n L)
+      → IsCheckOf D (array n X) (n * L.size) D (array n X) (n * L.size) nameless
+  array_check direct E Y m nameless h says =
       let (own, small) = and_parts direct (nat_lt (n * L.size) 18446744073709551615) says in
       let i = h own in
-      own_check D (array n X) (n * L.size) i.order (small_fits (n * L.size) small) (owned_order D X (array n X) i.order refl i.ordered)
+      own_check D (array n X) (n * L.size) i.order nameless (small_fits (n * L.size) small) (owned_order D X (array n X) i.order refl i.ordered) i.plain

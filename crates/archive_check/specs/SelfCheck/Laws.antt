@@ -1,5 +1,5 @@
 -- When a check of one shape is a check of a type, and the laws of those that stand here.
-use Rattle.std.specs.Prelude.{◌≡◌, ℕ, List, [], Option, Some, None, Contains, true, false, IsTrue, nat_le}
+use Rattle.std.specs.Prelude.{◌≡◌, ℕ, List, [], Option, Some, None, Contains, Bool, true, false, IsTrue, nat_le}
 use mathlib.Core.Bool.{true≢false}
 use Rattle.std.proofs.Common.{refl, sym, arith}
 use Rattle.std.proofs.lemmas.Bool.Decides.{nat_tests}
@@ -21,14 +21,16 @@ use Rattle.archive_check.specs.SelfCheck.Orders.{IsOrder}
 abbrev pub Leads : Schema → Shape → Shape → Type 0
 Leads t Y X = (bytes : List ℕ) (p : ℕ) (pending : List ℕ) (depth : Option ℕ) (stop start : ℕ) (seen : Seen) (o : Outcome) → shape_way bytes p Y t pending depth stop start seen o → shape_way bytes p X t pending depth stop start seen o
 
--- A check of a Y, in n bytes and with the definitions E, is one of an X of `size` bytes, whose definitions D give it a meaning.
-pub record IsCheckOf (D : Definitions) (X : Shape) (size : ℕ) (E : Definitions) (Y : Shape) (n : ℕ) : Type 0 where
+-- A check of a Y, in n bytes and with the definitions E, is one of an X of `size` bytes, whose definitions D give it a meaning; they are none where the
+-- check says that it is nameless.
+pub record IsCheckOf (D : Definitions) (X : Shape) (size : ℕ) (E : Definitions) (Y : Shape) (n : ℕ) (nameless : Bool) : Type 0 where
   pub within : nat_le n size ≡ true
   pub small : fits size ≡ Some size
   pub order : Table
   pub ordered : IsOrder D X order
   pub known : (t : Schema) → Knows t D → Knows t E
   pub leads : (t : Schema) → Knows t D → Leads t Y X
+  pub plain : IsTrue nameless → listed D ≡ []
 
 -- a type that says no has no law to show
 pub by_schema : {A : Type 0} → IsTrue false → A
@@ -38,18 +40,26 @@ pub no_more : (n : ℕ) → nat_le n n ≡ true
 no_more n = grind (arith, nat_tests)
 
 -- the check of a type's own shape
-pub own_check : (D : Definitions) (X : Shape) (size : ℕ) (order : Table) → fits size ≡ Some size → IsOrder D X order → IsCheckOf D X size D X size
-own_check D X size order small ordered = record { within = no_more size; small = small; order = order; ordered = ordered; known = λ t k. k; leads = λ t k bytes p pending depth stop start seen o w. w }
+pub own_check : (D : Definitions) (X : Shape) (size : ℕ) (order : Table) (nameless : Bool) → fits size ≡ Some size → IsOrder D X order → (IsTrue nameless → listed D ≡ []) → IsCheckOf D X size D X size nameless
+own_check D X size order nameless small ordered plain = record {
+  within = no_more size;
+  small = small;
+  order = order;
+  ordered = ordered;
+  known = λ t k. k;
+  leads = λ t k bytes p pending depth stop start seen o w. w;
+  plain = plain;
+}
 
 -- so is that of a type which holds no name
-pub plain_check : (X : Shape) (size : ℕ) → fits size ≡ Some size → missing true [] X ≡ None → IsCheckOf no_definition X size no_definition X size
-plain_check X size small none = own_check no_definition X size [] small (record { has = tt; only = tt; once = tt; root = none; closed = tt; placed = tt })
+pub plain_check : {nameless : Bool} (X : Shape) (size : ℕ) → fits size ≡ Some size → missing true [] X ≡ None → IsCheckOf no_definition X size no_definition X size nameless
+plain_check {nameless = nameless} X size small none = own_check no_definition X size [] nameless small (record { has = tt; only = tt; once = tt; root = none; closed = tt; placed = tt }) (λ says. refl)
 
 no_item : {A : Type 0} (x : A) → Contains [] x → {B : Type 0} → B
 no_item x c = absurd (omega (arith, c.1))
 
 -- the check of a type that holds no name, by its parts: their definitions E are none
-pub parts_check : (X : Shape) (size : ℕ) (E : Definitions) (n : ℕ) → nat_le n size ≡ true → fits size ≡ Some size → missing true [] X ≡ None → ((t : Schema) → Has t E) → listed E ≡ [] → IsCheckOf no_definition X size E X n
+pub parts_check : {nameless : Bool} (X : Shape) (size : ℕ) (E : Definitions) (n : ℕ) → nat_le n size ≡ true → fits size ≡ Some size → missing true [] X ≡ None → ((t : Schema) → Has t E) → listed E ≡ [] → IsCheckOf no_definition X size E X n nameless
 parts_check X size E n within small none has empty = record {
   within = within;
   small = small;
@@ -57,6 +67,7 @@ parts_check X size E n within small none has empty = record {
   ordered = record { has = tt; only = tt; once = tt; root = none; closed = tt; placed = tt };
   known = λ t k. record { has = has t; finite = λ name Y c. no_item (name, Y) (rw empty at c); laid_out = k.laid_out };
   leads = λ t k bytes p pending depth stop start seen o w. w;
+  plain = λ says. refl;
 }
 
 leaf_fits : (kind : Kind) → fits (kind_size kind) ≡ Some (kind_size kind)
@@ -80,7 +91,7 @@ leaf_fits (raw_rel sign w64) = refl
 leaf_fits (raw_rel sign w128) = refl
 
 -- the check of a leaf
-pub leaf_check : (kind : Kind) → IsCheckOf no_definition (leaf kind) (kind_size kind) no_definition (leaf kind) (kind_size kind)
+pub leaf_check : {nameless : Bool} (kind : Kind) → IsCheckOf no_definition (leaf kind) (kind_size kind) no_definition (leaf kind) (kind_size kind) nameless
 leaf_check kind = plain_check (leaf kind) (kind_size kind) (leaf_fits kind) refl
 
 -- what comes of a name's definition comes of the name

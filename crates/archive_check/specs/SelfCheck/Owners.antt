@@ -1,5 +1,5 @@
 -- The checks of what owns a region, as boxes and vectors do: the laws of their types, from those of what lies there.
-use Rattle.std.specs.Prelude.{◌≡◌, ℕ, true}
+use Rattle.std.specs.Prelude.{◌≡◌, ℕ, Bool, true}
 use Rattle.std.proofs.Common.{refl, ◌∙◌}
 use Rattle.archive_check.specs.Shape.{Shape, boxed, vec, Pointee, one, run, text, Table}
 use Rattle.archive_check.specs.Layout.{pointer_size}
@@ -18,15 +18,15 @@ use Rattle.archive_check.specs.plan.Names.{missing}
 pub owned_order : (D : Definitions) (X Y : Shape) (order : Table) → missing true order Y ≡ missing true order X → IsOrder D X order → IsOrder D Y order
 owned_order D X Y order same o = record { has = o.has; only = o.only; once = o.once; root = same ∙ o.root; closed = o.closed; placed = o.placed }
 
--- from the law of an X, with definitions E, shape Y and n bytes for its check
-module _ (D : Definitions) (X : Shape) (size : ℕ) (E : Definitions) (Y : Shape) (n : ℕ) where
+-- from the law of an X, with definitions E, shape Y and n bytes for its check, and whether that is nameless
+module _ (D : Definitions) (X : Shape) (size : ℕ) (E : Definitions) (Y : Shape) (n : ℕ) (nameless : Bool) where
   -- a vector of them
-  pub vec_check : IsCheckOf D X size E Y n → IsCheckOf D (vec X) 8 D (vec X) 8
-  vec_check c = own_check D (vec X) 8 c.order refl (owned_order D X (vec X) c.order refl c.ordered)
+  pub vec_check : IsCheckOf D X size E Y n nameless → IsCheckOf D (vec X) 8 D (vec X) 8 nameless
+  vec_check c = own_check D (vec X) 8 c.order nameless refl (owned_order D X (vec X) c.order refl c.ordered) c.plain
 
   -- a box of one
-  pub one_check : (P : Pointee) → P ≡ one X → IsCheckOf D X size E Y n → IsCheckOf D (boxed P) (pointer_size P) D (boxed (one X)) 4
-  one_check P is c = rw is (own_check D (boxed (one X)) 4 c.order refl (owned_order D X (boxed (one X)) c.order refl c.ordered))
+  pub one_check : (P : Pointee) → P ≡ one X → IsCheckOf D X size E Y n nameless → IsCheckOf D (boxed P) (pointer_size P) D (boxed (one X)) 4 nameless
+  one_check P is c = rw is (own_check D (boxed (one X)) 4 c.order nameless refl (owned_order D X (boxed (one X)) c.order refl c.ordered) c.plain)
 
   -- what comes of a vector comes of a box of a slice
   vec_leads : (t : Schema) → Leads t (vec X) (boxed (run X))
@@ -34,7 +34,7 @@ module _ (D : Definitions) (X : Shape) (size : ℕ) (E : Definitions) (Y : Shape
   vec_leads t bytes p pending depth stop start seen (refused f) (trips_vec w) = trips_boxed w
 
   -- so it is checked as a vector
-  pub run_check : IsCheckOf D X size E Y n → IsCheckOf D (boxed (run X)) 8 D (vec X) 8
+  pub run_check : IsCheckOf D X size E Y n nameless → IsCheckOf D (boxed (run X)) 8 D (vec X) 8 nameless
   run_check c = record {
     within = no_more 8;
     small = refl;
@@ -42,10 +42,11 @@ module _ (D : Definitions) (X : Shape) (size : ℕ) (E : Definitions) (Y : Shape
     ordered = owned_order D X (boxed (run X)) c.order refl c.ordered;
     known = λ t k. k;
     leads = λ t k. vec_leads t;
+    plain = c.plain;
   }
 
 -- a box of a text
-pub text_check : IsCheckOf no_definition (boxed text) 8 no_definition (boxed text) 8
+pub text_check : {nameless : Bool} → IsCheckOf no_definition (boxed text) 8 no_definition (boxed text) 8 nameless
 text_check = plain_check (boxed text) 8 refl refl
 
 -- each name of an X, which it reaches, is reached by its owner

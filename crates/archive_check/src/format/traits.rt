@@ -90,7 +90,8 @@ pub trait Portable: ArchivePointee {
     ghost no_others: { NoOthers Self.definitions shape };
 
     ghost checks: { IsTrue Self.Check.direct
-        → IsCheckOf Self.definitions shape layout.size Self.Check.definitions Self.Check.shape Self.Check.span };
+        → IsCheckOf Self.definitions shape layout.size Self.Check.definitions Self.Check.shape Self.Check.span
+        Self.Check.nameless };
 }
 
 /// What tells contracts the state of a writer: its bytes, its room, its device's failures and the states of the shared keys. It has no calls. Our own.

@@ -25,8 +25,14 @@ impl<T: Portable, const N: usize> SelfCheck for ArrayCheck<T, N> {
 
     ghost direct = { array_direct T.Check.direct N T.layout };
 
+    ghost nameless = { T.Check.nameless };
+
     fn is_direct() -> bool {
         T::Check::is_direct() && <[T; N] as Portable>::size() < usize::MAX
+    }
+
+    fn is_nameless() -> bool {
+        T::Check::is_nameless()
     }
 
     #[inline(always)]

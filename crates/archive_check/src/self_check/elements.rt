@@ -103,8 +103,14 @@ impl<T: Portable> SelfCheck for VecCheck<T> {
 
     ghost direct = { T.Check.direct };
 
+    ghost nameless = { T.Check.nameless };
+
     fn is_direct() -> bool {
         T::Check::is_direct()
+    }
+
+    fn is_nameless() -> bool {
+        T::Check::is_nameless()
     }
 
     #[inline(always)]

@@ -47,7 +47,13 @@ impl SelfCheck for () {
 
     ghost direct = { true };
 
+    ghost nameless = { true };
+
     fn is_direct() -> bool {
+        true
+    }
+
+    fn is_nameless() -> bool {
         true
     }
 
@@ -71,7 +77,13 @@ impl SelfCheck for bool {
 
     ghost direct = { true };
 
+    ghost nameless = { true };
+
     fn is_direct() -> bool {
+        true
+    }
+
+    fn is_nameless() -> bool {
         true
     }
 
@@ -95,7 +107,13 @@ impl SelfCheck for u8 {
 
     ghost direct = { true };
 
+    ghost nameless = { true };
+
     fn is_direct() -> bool {
+        true
+    }
+
+    fn is_nameless() -> bool {
         true
     }
 
@@ -119,7 +137,13 @@ impl SelfCheck for i8 {
 
     ghost direct = { true };
 
+    ghost nameless = { true };
+
     fn is_direct() -> bool {
+        true
+    }
+
+    fn is_nameless() -> bool {
         true
     }
 

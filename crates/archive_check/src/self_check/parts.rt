@@ -1,10 +1,11 @@
 // Parts laid out one behind another.
 
-ghost use Rattle.std.specs.Prelude.{Bool, ◌&&◌, ◌≡◌, ◌+◌, ◌-◌, ◌≤◌, ℕ, length, OnSome, IfNone, true, IsTrue};
+ghost use Rattle.std.specs.Prelude.{Bool, ◌&&◌, ◌||◌, ◌≡◌, ◌+◌, ◌-◌, ◌≤◌, ℕ, length, OnSome, IfNone, true, false, IsTrue};
 ghost use Rattle.archive_check.specs.Shape.{Parts, part, no_part, parts};
 ghost use Rattle.archive_check.specs.Layout.{up};
 ghost use Rattle.archive_check.specs.Definitions.{Definitions, both, no_definition};
 ghost use Rattle.archive_check.specs.SelfCheck.Ways.{parts_way};
+ghost use Rattle.archive_check.specs.SelfCheck.Lone.{AreOrdered, none_ordered, part_ordered};
 ghost use Rattle.archive_check.specs.SelfCheck.Regions.{no_lower, rises_over};
 ghost use Rattle.archive_check.specs.Pushes.{Spends};
 ghost use Rattle.archive_check.specs.SelfCheck.Steps.{Went, StoppedIf as Stops};
@@ -31,9 +32,23 @@ pub trait CheckedParts {
     // Whether each checks itself.
     ghost direct: { Bool };
 
+    // Whether none brings a definition.
+    ghost nameless: { Bool };
+
+    // Whether at most one brings definitions.
+    ghost lone: { Bool };
+
     /// Whether each checks itself.
     fn are_direct() -> bool
         ensures { result ≡ direct };
+
+    /// Whether none brings a definition, as its check says.
+    fn are_nameless() -> bool
+        ensures { result ≡ nameless };
+
+    /// Whether at most one brings definitions, as their checks say.
+    fn are_lone() -> bool
+        ensures { result ≡ lone };
 
     /// Checks the parts from the offset `start` on, of what begins at `base`. `None` where the check stops, and `refusal` is why.
     fn check_parts<C: ArchiveContext>(
@@ -51,6 +66,8 @@ pub trait CheckedParts {
         ensures positions { OnSome result (C.positions context.new ≡ C.positions context.old) };
 
     ghost rises: { (n : ℕ) → n ≤ end n };
+
+    ghost ordered: { IsTrue direct → AreOrdered definitions parts nameless lone };
 }
 
 impl CheckedParts for () {
@@ -62,9 +79,23 @@ impl CheckedParts for () {
 
     ghost direct = { true };
 
+    ghost nameless = { true };
+
+    ghost lone = { true };
+
     ghost rises = { no_lower };
 
+    ghost ordered = { λ direct. none_ordered };
+
     fn are_direct() -> bool {
+        true
+    }
+
+    fn are_nameless() -> bool {
+        true
+    }
+
+    fn are_lone() -> bool {
         true
     }
 
@@ -89,10 +120,25 @@ impl<A: Portable, R: CheckedParts> CheckedParts for (A, R) {
 
     ghost direct = { A.Check.direct && R.direct };
 
+    ghost nameless = { A.Check.nameless && R.nameless };
+
+    ghost lone = { R.nameless || (A.Check.nameless && R.lone) };
+
     ghost rises = { λ n. rises_over n A.layout.align A.layout.size A.is_align R.end R.rises };
+
+    ghost ordered = { part_ordered A.definitions A.shape A.layout.size A.Check.definitions A.Check.shape A.Check.span A.Check.nameless
+        R.definitions R.parts R.nameless R.lone A.Check.direct R.direct A.checks R.ordered };
 
     fn are_direct() -> bool {
         A::Check::is_direct() && R::are_direct()
+    }
+
+    fn are_nameless() -> bool {
+        A::Check::is_nameless() && R::are_nameless()
+    }
+
+    fn are_lone() -> bool {
+        R::are_nameless() || (A::Check::is_nameless() && R::are_lone())
     }
 
     #[inline(always)]
@@ -112,7 +158,7 @@ impl<A: Portable, R: CheckedParts> CheckedParts for (A, R) {
     }
 }
 
-/// The check of a record: its parts, as `CheckedParts` lists them.
+/// The check of a record that has a name: its parts, as `CheckedParts` lists them. The name has a definition, so it isn't nameless.
 pub struct RecordCheck<P> {
     of: PhantomData<P>,
 }
@@ -126,8 +172,14 @@ impl<P: CheckedParts> SelfCheck for RecordCheck<P> {
 
     ghost direct = { P.direct };
 
+    ghost nameless = { false };
+
     fn is_direct() -> bool {
         P::are_direct()
+    }
+
+    fn is_nameless() -> bool {
+        false
     }
 
     #[inline(always)]

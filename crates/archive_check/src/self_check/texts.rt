@@ -49,7 +49,13 @@ impl SelfCheck for StringCheck {
 
     ghost direct = { true };
 
+    ghost nameless = { true };
+
     fn is_direct() -> bool {
+        true
+    }
+
+    fn is_nameless() -> bool {
         true
     }
 
@@ -88,7 +94,13 @@ impl SelfCheck for BoxStrCheck {
 
     ghost direct = { true };
 
+    ghost nameless = { true };
+
     fn is_direct() -> bool {
+        true
+    }
+
+    fn is_nameless() -> bool {
         true
     }
 

@@ -81,8 +81,14 @@ impl<T: Portable> SelfCheck for BoxCheck<T> {
 
     ghost direct = { T.Check.direct };
 
+    ghost nameless = { T.Check.nameless };
+
     fn is_direct() -> bool {
         T::Check::is_direct()
+    }
+
+    fn is_nameless() -> bool {
+        T::Check::is_nameless()
     }
 
     #[inline(always)]

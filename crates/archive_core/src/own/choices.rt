@@ -36,7 +36,8 @@ pub trait NamedChoice {
         ensures { result.now ≡ name };
 
     ghost checks: { IsTrue Self.Check.direct → IsCheckOf (both (defines name (choice name Self.Variants.variants)) Self.Variants.definitions) (named name)
-        (up Self.Variants.end Self.Variants.greatest) Self.Check.definitions Self.Check.shape Self.Check.span };
+        (up Self.Variants.end Self.Variants.greatest) Self.Check.definitions Self.Check.shape Self.Check.span
+        Self.Check.nameless };
 }
 
 /// An archived choice under the name and with the variants of `N`: a tag of one byte, and behind it the parts of the variant that it names.

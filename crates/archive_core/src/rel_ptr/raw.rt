@@ -146,7 +146,13 @@ impl<O: Offset> SelfCheck for RawRelPtr<O> {
 
     ghost direct = { true };
 
+    ghost nameless = { true };
+
     fn is_direct() -> bool {
+        true
+    }
+
+    fn is_nameless() -> bool {
         true
     }
 

@@ -1,19 +1,19 @@
 // What a result is in an archive.
 
-ghost use Rattle.std.specs.Prelude.{refl};
+ghost use Rattle.std.specs.Prelude.{◌&&◌, refl};
 ghost use Rattle.archive_check.specs.Shape.{one};
 ghost use Rattle.archive_check.specs.Definitions.{both};
 ghost use Rattle.archive_check.specs.PartsLayout.{greater_align};
-ghost use Rattle.archive_check.specs.SelfCheck.Laws.{by_schema};
-ghost use Rattle.archive_enum.specs.Results.{result_shape, result_layout, result_has_layout, result_reached};
+ghost use Rattle.archive_enum.specs.Results.{result_shape, result_layout, result_definitions, result_direct, result_has_layout, result_reached, result_check};
 
 use super::choice_size;
 use crate::result::ArchivedResult;
+use archive_check::context::ArchiveContext;
 use archive_check::format::defs::Defs;
 use archive_check::format::error::Error;
 use archive_check::format::expr::Expr;
 use archive_check::format::traits::{ArchivePointee, Portable};
-use archive_check::self_check::BySchema;
+use archive_check::self_check::{SelfCheck, check_choice};
 use std::alloc::Global;
 
 /// As a pointee it is one value.
@@ -38,7 +38,7 @@ impl<T: Portable, E: Portable> Portable for ArchivedResult<T, E> {
 
     ghost layout = { result_layout T.layout E.layout };
 
-    type Check = BySchema;
+    type Check = ArchivedResult<T, E>;
 
     ghost is_one = { refl };
 
@@ -48,7 +48,8 @@ impl<T: Portable, E: Portable> Portable for ArchivedResult<T, E> {
 
     ghost no_others = { result_reached T.definitions E.definitions T.shape E.shape T.no_others E.no_others };
 
-    ghost checks = { λ direct. by_schema direct };
+    ghost checks = { result_check T.definitions T.shape T.layout T.Check.definitions T.Check.shape T.Check.span T.Check.nameless E.definitions E.shape E.layout
+        E.Check.definitions E.Check.shape E.Check.span E.Check.nameless T.Check.direct E.Check.direct T.checks E.checks };
 
     fn size() -> usize {
         let value = T::align() as u128 + T::size() as u128;
@@ -70,5 +71,42 @@ impl<T: Portable, E: Portable> Portable for ArchivedResult<T, E> {
     fn define(alloc: Global, defs: &mut Defs) -> Result<(), Error> {
         T::define(alloc, defs)?;
         E::define(alloc, defs)
+    }
+}
+
+// The variants of a result: a value, and an error.
+type ResultVariants<T, E> = ((T, ()), ((E, ()), ()));
+
+/// The tag, and then the value behind a 0, and the error behind a 1. It needs a schema where both bring definitions, which may be different ones of one name.
+impl<T: Portable, E: Portable> SelfCheck for ArchivedResult<T, E> {
+    ghost shape = { result_shape T.shape E.shape };
+
+    ghost definitions = { result_definitions T.definitions E.definitions };
+
+    ghost span = { (result_layout T.layout E.layout).size };
+
+    ghost direct = { result_direct T.Check.direct E.Check.direct T.Check.nameless E.Check.nameless (result_layout T.layout E.layout).size };
+
+    ghost nameless = { T.Check.nameless && E.Check.nameless };
+
+    fn is_direct() -> bool {
+        T::Check::is_direct()
+            && E::Check::is_direct()
+            && (T::Check::is_nameless() || E::Check::is_nameless())
+            && ArchivedResult::<T, E>::size() < usize::MAX
+    }
+
+    fn is_nameless() -> bool {
+        T::Check::is_nameless() && E::Check::is_nameless()
+    }
+
+    #[inline(always)]
+    fn check_at<C: ArchiveContext>(
+        bytes: &[u8],
+        at: usize,
+        refusal: &mut Error,
+        context: &mut C,
+    ) -> Option<()> {
+        check_choice::<ResultVariants<T, E>, C>("ArchivedResult", bytes, at, refusal, context)
     }
 }

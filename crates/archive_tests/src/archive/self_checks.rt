@@ -1,26 +1,30 @@
 // Types that check themselves answer as their schemas do; and a kept check answers views.
 
-ghost use Rattle.std.specs.Prelude.{◌≢◌, refl, Some};
+ghost use Rattle.std.specs.Prelude.{◌≢◌, codes, refl, Some};
 ghost use Rattle.std.specs.Int.{w32};
 ghost use Rattle.std.proofs.Common.{inl, inr};
 ghost use Rattle.archive_check.specs.Shape.{array, leaf, number, one, unsigned};
 ghost use Rattle.archive_check.specs.Definitions.{no_definition};
 ghost use Rattle.archive_check.specs.LeafLayout.{no_definition_reached};
 ghost use Rattle.archive_check.specs.SelfCheck.Laws.{by_schema};
+ghost use Rattle.archive_core.specs.OwnRecords.{named_check};
 
 use crate::archive::HELLO_WORLD;
 use archive_core::api::{Access, HighValidator, check_pos_with_context};
 use archive_core::boxed::ArchivedBox;
 use archive_core::error::Error;
+use archive_core::own::{ArchivedRecord, NamedRecord};
 use archive_core::primitive::{
     ArchivedChar, ArchivedNonZeroU16, ArchivedU16, ArchivedU32, ArchivedU128,
 };
-use archive_core::self_check::BySchema;
+use archive_core::result::ArchivedResult;
+use archive_core::self_check::{BySchema, RecordCheck, SelfCheck};
 use archive_core::shape::{Defs, Expr, Schema};
 use archive_core::slice::ArchivedSlice;
 use archive_core::string::{ArchivedStr, ArchivedString};
 use archive_core::traits::{ArchivePointee, Portable};
 use archive_core::vec::ArchivedVec;
+use archive_tuple::{ArchivedTuple1, ArchivedTuple2, ArchivedTuple3};
 use std::alloc::{AllocError, Global};
 use std::test::Fail;
 
@@ -73,6 +77,30 @@ impl Portable for ArchivedTwo {
     fn define(_alloc: Global, _defs: &mut Defs) -> Result<(), Error> {
         Ok(())
     }
+}
+
+// A bool and a byte under a name, which check themselves.
+struct LabelFormat;
+
+impl NamedRecord for LabelFormat {
+    type Parts = (bool, (u8, ()));
+
+    type Check = RecordCheck<Self::Parts>;
+
+    ghost name = { codes "ArchivedLabel" };
+
+    ghost checks = { λ direct. named_check refl refl refl refl refl refl };
+
+    fn name() -> &'static str {
+        "ArchivedLabel"
+    }
+}
+
+type ArchivedLabel = ArchivedRecord<LabelFormat>;
+
+// Whether a type checks itself.
+fn checks_itself<T: Portable>() -> bool {
+    T::Check::is_direct()
 }
 
 // Whether a check and one by the schema accept with as many regions entered, or refuse alike; with so many levels.
@@ -182,6 +210,55 @@ fn vectors_check_themselves_as_their_schemas_do(rt: HostRuntime) -> Result<(), F
     assert!(rt; agrees_when_edited::<ArchivedVec<()>>(alloc, b"\0\0\0\0\xff\xff\xff\xff")?);
     let inner = b"\x01\0\0\0\xfc\xff\xff\xff\x02\0\0\0\xf8\xff\xff\xff\x01\0\0\0";
     assert!(rt; agrees_when_edited::<ArchivedVec<ArchivedVec<bool>>>(alloc, inner)?);
+    Ok(())
+}
+
+#[test]
+fn tuples_check_themselves_as_their_schemas_do(rt: HostRuntime) -> Result<(), Fail> {
+    let alloc = rt.alloc();
+    let short = b"\x01\0\0\0hi\xff\xff\xff\xff\xff\xff";
+    assert!(rt; checks_itself::<ArchivedTuple2<bool, ArchivedString>>());
+    assert!(rt; agrees_when_edited::<ArchivedTuple2<bool, ArchivedString>>(alloc, short)?);
+    let items = b"\x01\0\0\0\x01\x02\x03\0\xf8\xff\xff\xff\x02\0\0\0";
+    type Labelled = ArchivedTuple3<ArchivedLabel, ArchivedNonZeroU16, ArchivedVec<bool>>;
+    assert!(rt; checks_itself::<Labelled>());
+    assert!(rt; agrees_when_edited::<Labelled>(alloc, items)?);
+    assert!(rt; checks_itself::<ArchivedTuple1<ArchivedLabel>>());
+    assert!(rt; checks_itself::<ArchivedTuple2<ArchivedTuple1<bool>, ArchivedLabel>>());
+    assert!(rt; !checks_itself::<ArchivedTuple2<ArchivedTwo, bool>>());
+    assert!(rt; agrees_when_edited::<ArchivedTuple2<ArchivedTwo, bool>>(alloc, items)?);
+    Ok(())
+}
+
+#[test]
+fn results_check_themselves_as_their_schemas_do(rt: HostRuntime) -> Result<(), Fail> {
+    let alloc = rt.alloc();
+    let ok = b"hello world\0\0\0\0\0\x8b\0\0\0\xf0\xff\xff\xff";
+    type Outcome = ArchivedResult<ArchivedString, ArchivedNonZeroU16>;
+    assert!(rt; checks_itself::<Outcome>());
+    assert!(rt; agrees_when_edited::<Outcome>(alloc, ok)?);
+    assert!(rt; agrees_when_edited::<Outcome>(alloc, b"\x01\0\x01\x02\0\0\0\0\0\0\0\0")?);
+    type Labelled = ArchivedResult<ArchivedLabel, ArchivedTuple2<bool, ArchivedVec<bool>>>;
+    assert!(rt; checks_itself::<Labelled>());
+    assert!(rt;
+        agrees_when_edited::<Labelled>(
+            alloc,
+            b"\x01\0\x01\0\x01\0\0\0\x01\0\0\0\xf4\xff\xff\xff\x02\0\0\0"
+        )?
+    );
+    assert!(rt; !checks_itself::<ArchivedResult<bool, ArchivedTwo>>());
+    Ok(())
+}
+
+#[test]
+fn two_parts_with_definitions_go_by_their_schema(rt: HostRuntime) -> Result<(), Fail> {
+    let alloc = rt.alloc();
+    type Pair = ArchivedTuple2<ArchivedLabel, ArchivedLabel>;
+    assert!(rt; !checks_itself::<Pair>());
+    assert!(rt; agrees_when_edited::<Pair>(alloc, b"\x01\x02\0\x03")?);
+    type Either = ArchivedResult<ArchivedLabel, ArchivedVec<ArchivedLabel>>;
+    assert!(rt; !checks_itself::<Either>());
+    assert!(rt; agrees_when_edited::<Either>(alloc, b"\0\x01\x02\0\0\0\0\0\0\0\0\0")?);
     Ok(())
 }
 

@@ -10,7 +10,7 @@ ghost use Rattle.archive_check.specs.SelfCheck.Laws.{plain_check};
 use super::{ArchivePointee, Portable};
 use crate::format::error::Error;
 use crate::format::expr::{Defs, Expr};
-use crate::self_check::RecordCheck;
+use crate::self_check::TupleCheck;
 use std::alloc::Global;
 use std::marker::PhantomData;
 
@@ -35,7 +35,7 @@ impl<T> Portable for PhantomData<T> {
 
     ghost layout = { record { size = 0; align = 1 } };
 
-    type Check = RecordCheck<()>;
+    type Check = TupleCheck<()>;
 
     ghost is_one = { refl };
 

@@ -40,7 +40,7 @@ pub trait PortablePointee: ArchivePointee {
 
     ghost box_checks: { IsTrue Self.BoxCheck.direct
         → IsCheckOf Self.definitions (boxed Self.pointee) (pointer_size Self.pointee) Self.BoxCheck.definitions
-        Self.BoxCheck.shape Self.BoxCheck.span };
+        Self.BoxCheck.shape Self.BoxCheck.span Self.BoxCheck.nameless };
 }
 
 /// One value.
@@ -50,7 +50,7 @@ impl<T: Portable> PortablePointee for T {
     ghost box_reaches = { one_reaches T.definitions T.shape T.no_others T.pointee T.is_one };
 
     ghost box_checks = { λ direct. one_check T.definitions T.shape T.layout.size T.Check.definitions T.Check.shape
-        T.Check.span T.pointee T.is_one (T.checks direct) };
+        T.Check.span T.Check.nameless T.pointee T.is_one (T.checks direct) };
 
     fn has_length() -> bool {
         false
