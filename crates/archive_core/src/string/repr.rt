@@ -23,9 +23,9 @@ pub fn emplace_inline(value: &str, out: &mut [u8])
     requires sized { length out.old ≡ 8 }
     ensures { out.new ≡ inline_bytes value.now }
 {
-    let (text, unused) = out.split_at_mut(value.len());
-    text.copy_from_slice(value.as_bytes());
-    unused.fill(0xff);
+    let mut text = [0xff; 8];
+    text[..value.len()].copy_from_slice(value.as_bytes());
+    out.copy_from_slice(&text);
 }
 
 // The first four bytes of a string whose text stands elsewhere, as a number.
