@@ -96,6 +96,7 @@ impl<
     ghost planned = { λ v. record_planned _ _ _ _ _ _ (is_named_record _ _ _) (part_planned _ _ _ _ (A.planned v.first)
         (part_planned _ _ _ _ (B.planned v.second) (part_planned _ _ _ _ (C.planned v.third) no_part_planned))) };
 
+    #[inline(always)]
     fn resolve(
         &self,
         resolver: (A::Resolver, (B::Resolver, (C::Resolver, ()))),
@@ -123,6 +124,7 @@ impl<
     C: Serialize<S>,
     F: NamedRecord<Parts = (A::Archived, (B::Archived, (C::Archived, ())))>,
 > Serialize<S> for RecordOf<F, A, B, C> {
+    #[inline(always)]
     fn serialize(
         &self,
         serializer: &mut S,

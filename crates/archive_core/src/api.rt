@@ -48,6 +48,7 @@ pub fn root_position<T: Portable>(len: usize) -> usize
 }
 
 // The writer behind an archive of `value`, or behind what was written of one, and the root's position. Resolvers take their memory from `resolvers`.
+#[inline(always)]
 fn serialize_whole<
     W: Writer + Drop,
     A: Allocator + Copy + Drop,
@@ -66,6 +67,7 @@ fn serialize_whole<
 /// the value's parts or the writer refuse with (`BufferOverflow`, 8; `WriterFailed`, 9), with `LayoutTooLarge`, 23, where the root would end above
 /// `usize::MAX`, or with `OutOfMemory`, 1, where memory is refused. It asks nothing. After a refusal the writer is gone, and nothing is said of the
 /// bytes that were written: `serialize_one` over `&mut` keeps those from before.
+#[inline(always)]
 pub fn to_bytes_in<W: Writer + Drop, T: Serialize<HighSerializer<W, Global>>>(
     alloc: Global,
     value: &T,
@@ -82,6 +84,7 @@ pub fn to_bytes_in<W: Writer + Drop, T: Serialize<HighSerializer<W, Global>>>(
 /// writer knows no shared key yet; a value that shares, or takes memory for resolvers, has a `Serializer` as its writer. Memory for a large root
 /// comes from `alloc`. Refused with what the value's parts or the writer refuse with, with 23 where the root would end above `usize::MAX`, or with 1
 /// where memory is refused; `writer` then holds what was written of the archive.
+#[inline(always)]
 pub fn to_bytes_into<W: Writer, T: Serialize<W>>(
     alloc: Global,
     value: &T,
@@ -96,6 +99,7 @@ pub fn to_bytes_into<W: Writer, T: Serialize<W>>(
 
 /// An archive of `value`, its root at the end. Memory comes from `alloc`. It asks nothing. Refused with what the value's parts refuse with, with
 /// `LayoutTooLarge`, 23, where the root would end above `usize::MAX`, or with `OutOfMemory`, 1, where memory is refused.
+#[inline(always)]
 pub fn to_bytes<T: Serialize<HighSerializer<Vec<u8>, Global>>>(
     alloc: Global,
     value: &T,

@@ -45,6 +45,7 @@ impl<T: Archive> Archive for Option<T> {
 
     ghost planned = { option_planned T.Archived.definitions T.Archived.shape T.keys T.meaning T.planned };
 
+    #[inline(always)]
     fn resolve(
         &self,
         resolver: Option<T::Resolver>,
@@ -69,6 +70,7 @@ impl<T: Archive> Archive for Option<T> {
 }
 
 impl<T: Serialize<S>, S: Writer + Keys> Serialize<S> for Option<T> {
+    #[inline(always)]
     fn serialize(&self, serializer: &mut S) -> Result<Option<T::Resolver>, Error> {
         match self {
             None => Ok(None),
@@ -139,6 +141,7 @@ impl<'a, T: Portable> Ref<'a, ArchivedOption<T>> {
 
 impl<T: Archive, A: Portable + Deserialize<T, D>, D: Entries> Deserialize<Option<T>, D>
     for ArchivedOption<A> {
+    #[inline(always)]
     fn deserialize_part(
         alloc: Global,
         part: RawView<'_>,

@@ -129,6 +129,7 @@ impl<N: NamedRecord, T: FromParts, D: Entries> Deserialize<T, D> for ArchivedRec
 where
     N::Parts: DeserializeParts<T::Owned, D>,
 {
+    #[inline(always)]
     fn deserialize_part(alloc: Global, part: RawView<'_>, deserializer: &mut D) -> Result<T, Error>
         requires { IsPartOf ⟦<Self as ArchivePointee>⟧ part }
         ensures read { IfOk result (Read ⟦<Self as ArchivePointee>⟧ part D.Entries deserializer T.Archive) }

@@ -92,6 +92,7 @@ impl<T> SourceParts<T> for () {
 
     ghost planned = { record { each = λ v. no_part_planned } };
 
+    #[inline(always)]
     fn resolve_parts(
         _whole: &T,
         _resolvers: (),
@@ -120,6 +121,7 @@ impl<T, A: PartOf<T>, R: SourceParts<T>> SourceParts<T> for (A, R) {
 
     ghost planned = { record { each = λ v. part_planned A.Source.Archived.definitions A.Source.Archived.shape (A.Source.keys (A.part v)) (A.Source.meaning (A.part v)) (A.Source.planned (A.part v)) (R.planned.each v) } };
 
+    #[inline(always)]
     fn resolve_parts(
         whole: &T,
         resolvers: (<A::Source as Archive>::Resolver, R::Resolvers),
@@ -155,6 +157,7 @@ pub trait SerializeParts<T, S: Writer + Keys>: SourceParts<T> {
 
 impl<T, S: Writer + Keys> SerializeParts<T, S> for () {
     #[tactic(auto, using(crate::proofs::PlannedParts::serialized_no_part))]
+    #[inline(always)]
     fn serialize_parts(_whole: &T, _serializer: &mut S) -> Result<(), Error> {
         Ok(())
     }
@@ -164,6 +167,7 @@ impl<T, S: Writer + Keys, A: PartOf<T>, R: SerializeParts<T, S>> SerializeParts<
 where
     A::Source: Serialize<S>,
 {
+    #[inline(always)]
     fn serialize_parts(
         whole: &T,
         serializer: &mut S,
@@ -213,6 +217,7 @@ pub trait DeserializeParts<T: OwnedParts, D: Entries>: PortableParts {
 }
 
 impl<D: Entries> DeserializeParts<(), D> for () {
+    #[inline(always)]
     fn deserialize_parts(
         _alloc: Global,
         _bytes: &[u8],
@@ -231,6 +236,7 @@ impl<
     A: Portable + Deserialize<U, D>,
     R: DeserializeParts<V, D>,
 > DeserializeParts<(U, V), D> for (A, R) {
+    #[inline(always)]
     fn deserialize_parts(
         alloc: Global,
         bytes: &[u8],

@@ -23,6 +23,7 @@ pub struct Place<'a, T> {
 impl<'a, T> Place<'a, T> {
     /// The place of these bytes, which stand at `pos`, in bytes from the buffer's first one. It asks nothing; what takes the place asks for the size
     /// that a `T` has. Our own.
+    #[inline(always)]
     pub fn new(pos: usize, bytes: &'a mut [u8]) -> Place<'a, T>
         ensures same_reference { result.bytes.ghost_name ≡ bytes.entry.ghost_name }
         ensures buffer { result.bytes.now ≡ bytes.old }

@@ -54,6 +54,7 @@ pub trait Plain: Source + Portable {
 }
 
 // Writes the bytes of a leaf: wherever they stand, they are read as the value.
+#[inline(always)]
 pub(crate) fn write_leaf<N: Native>(value: N, bytes: &mut [u8])
     requires { length bytes.old ≡ N.byte_count }
     ensures bytes { bytes.new ≡ N.bytes_of value }
@@ -66,6 +67,7 @@ pub(crate) fn write_leaf<N: Native>(value: N, bytes: &mut [u8])
 }
 
 impl<N: Source, D: Entries> Deserialize<N, D> for LittleEndian<N> {
+    #[inline(always)]
     fn deserialize_part(
         _alloc: Global,
         part: RawView<'_>,
@@ -83,6 +85,7 @@ impl<N: Source, D: Entries> Deserialize<N, D> for LittleEndian<N> {
 }
 
 impl<N: Native, D: Entries> Deserialize<LittleEndian<N>, D> for LittleEndian<N> {
+    #[inline(always)]
     fn deserialize_part(
         _alloc: Global,
         part: RawView<'_>,
@@ -100,6 +103,7 @@ impl<N: Native, D: Entries> Deserialize<LittleEndian<N>, D> for LittleEndian<N> 
 }
 
 impl<N: Integer, D: Entries> Deserialize<NonZero<N>, D> for NonZero<N> {
+    #[inline(always)]
     fn deserialize_part(
         _alloc: Global,
         part: RawView<'_>,
@@ -117,6 +121,7 @@ impl<N: Integer, D: Entries> Deserialize<NonZero<N>, D> for NonZero<N> {
 }
 
 impl<N: Plain, D: Entries> Deserialize<N, D> for N {
+    #[inline(always)]
     fn deserialize_part(
         _alloc: Global,
         part: RawView<'_>,

@@ -23,6 +23,7 @@ use std::alloc::Global;
 /// Writes what the parts of a record own, one after another, and answers their resolvers. It asks nothing. Refused as `Serialize::serialize` is, for
 /// a cause of one of the parts.
 #[tactic(auto, using(crate::proofs::PlannedParts::serialized_record, crate::proofs::PlannedParts::record_refused))]
+#[inline(always)]
 pub fn serialize_record<
     T,
     P: SerializeParts<T, S>,
@@ -40,6 +41,7 @@ pub fn serialize_record<
 /// Writes the archived record over the bytes of `place`, part by part, each at its offset; between them and behind the last one zeros stay. Asks that
 /// the bytes are zeros, as many as the record has, and that the resolvers are those of these parts. Refused as the parts are: with `IsizeOverflow`,
 /// 2, or `OffsetOverflow`, 3, where an offset doesn't fit.
+#[inline(always)]
 pub fn resolve_record<T, P: SourceParts<T>, X: Record<Parts = P::Archived>>(
     whole: &T,
     resolvers: P::Resolvers,
@@ -57,6 +59,7 @@ pub fn resolve_record<T, P: SourceParts<T>, X: Record<Parts = P::Archived>>(
 
 /// The values of a record's parts, which `part` shows, one after another. Asks for what a view promises of it. Memory comes from `alloc`: refused with
 /// `OutOfMemory`, 1, where it is refused, and with `CyclicDeserialize`, 13, only where a shared position is met that is still being read.
+#[inline(always)]
 pub fn deserialize_record<X: Record, T: OwnedParts, D: Entries>(
     alloc: Global,
     part: RawView<'_>,

@@ -23,6 +23,7 @@ pub use typed::{Metadata, RelPtr};
 
 /// How far it is from one position to another, in bytes. Refused with `IsizeOverflow`, 2, exactly where the difference doesn't fit `isize`. As in rkyv
 /// 0.8.18.
+#[inline(always)]
 pub fn signed_offset(from: usize, to: usize) -> Result<isize, Error>
     ensures { GivesDistance from to result }
 {

@@ -27,6 +27,7 @@ const LOCAL_SIZE: usize = 64;
 
 // Resolves a value into zeros that are to stand at the writer's end, and writes them.
 #[tactic(auto, using(crate::proofs::Regions::puts_by, crate::proofs::Regions::region_hindered, crate::proofs::Regions::region_refused, crate::proofs::Causes::goes_nowhere, crate::proofs::Causes::goes_written, crate::proofs::Causes::goes_refused))]
+#[inline(always)]
 fn resolve_region<W: Writer, T: Archive>(
     writer: &mut W,
     value: &T,
@@ -50,6 +51,7 @@ fn resolve_region<W: Writer, T: Archive>(
 
 // Resolves a value into zeros at the writer's end, wherever that is, and writes them. Memory for a region above 64 bytes comes from `alloc`.
 #[tactic(auto, using(crate::proofs::Regions::fresh_zeros, crate::proofs::Regions::fresh_front, crate::proofs::Regions::region_too_large, crate::proofs::Causes::goes_nowhere))]
+#[inline(always)]
 pub(crate) fn resolve_next<W: Writer, A: Allocator + Drop, T: Archive>(
     writer: &mut W,
     alloc: A,
@@ -77,6 +79,7 @@ pub(crate) fn resolve_next<W: Writer, A: Allocator + Drop, T: Archive>(
 }
 
 // Resolves a value into zeros that stand at a position.
+#[inline(always)]
 pub(crate) fn resolve_into<T: Archive>(
     value: &T,
     resolver: T::Resolver,
@@ -94,6 +97,7 @@ pub(crate) fn resolve_into<T: Archive>(
 
 // Resolves values one after another at the writer's end, each into zeros over the same bytes. There is a resolver for each.
 #[tactic(auto, using(crate::proofs::Regions::fresh_zeros, crate::proofs::RunRegions::completes_start, crate::proofs::RunRegions::completes_step, crate::proofs::RunRegions::completes_more, crate::proofs::RunRegions::completes_end, crate::proofs::RunRegions::belongs_here, crate::proofs::RunRegions::place_here))]
+#[inline(always)]
 fn resolve_each<W: Writer, T: Archive, A: Allocator + Drop>(
     writer: &mut W,
     values: &[T],
@@ -121,6 +125,7 @@ fn resolve_each<W: Writer, T: Archive, A: Allocator + Drop>(
 }
 
 // Whether so many values of this size end at `usize::MAX` or below, where the first one stands at `pos`.
+#[inline(always)]
 pub(crate) fn run_fits(pos: usize, count: usize, size: usize) -> bool
     ensures { result ≡ true ↔ (pos + count * size < 2 ^ 64) }
 {
@@ -137,6 +142,7 @@ pub trait ResolveExt: Writer {
     /// above 64 bytes comes from `alloc`: refused with `OutOfMemory`, 1, where it is refused, with `LayoutTooLarge`, 23, where the region would end
     /// above `usize::MAX`, with what `resolve` refuses with, or as the writer refuses (`BufferOverflow`, 8; `WriterFailed`, 9). After a refusal,
     /// too, the bytes from before are a beginning of those that the writer holds.
+    #[inline(always)]
     final fn resolve_aligned<A: Allocator + Drop, T: Archive>(
         &mut self,
         alloc: A,
@@ -164,6 +170,7 @@ pub trait ResolveExt: Writer {
     /// (`BufferOverflow`, 8; `WriterFailed`, 9). After a refusal, too, the bytes from before are a beginning of those that the writer holds. Our own:
     /// rkyv 0.8.18 has it within `serialize_unsized` of a slice.
     #[tactic(auto, using(crate::proofs::RunRegions::run_too_large, crate::proofs::Causes::goes_nowhere))]
+    #[inline(always)]
     final fn resolve_slice_aligned<A: Allocator + Drop, T: Archive, B: Allocator + Drop>(
         &mut self,
         alloc: A,
@@ -201,6 +208,7 @@ pub trait ResolveExt: Writer {
     /// `usize::MAX`, with `IsizeOverflow`, 2, or `OffsetOverflow`, 3, where the offset doesn't fit, nothing being written then, or as the writer refuses
     /// (`BufferOverflow`, 8; `WriterFailed`, 9). rkyv 0.8.18 has the call in `WriterExt`, and panics where the offset doesn't fit.
     #[tactic(auto, using(crate::proofs::Owned::size_by_length, crate::proofs::Causes::goes_nowhere, crate::proofs::Causes::goes_written, crate::proofs::Causes::goes_refused))]
+    #[inline(always)]
     final fn resolve_unsized_aligned<T: ArchiveUnsized>(
         &mut self,
         value: &T,
@@ -235,6 +243,7 @@ pub trait ResolveExt: Writer {
 impl<W: Writer> ResolveExt for W {}
 
 // Writes what a value owns and then the value as a region of its own. Memory for a large region comes from `alloc`.
+#[inline(always)]
 pub(crate) fn serialize_with<A: Allocator + Drop, S: Writer, T: Serialize<S>>(
     alloc: A,
     value: &T,
@@ -255,6 +264,7 @@ pub(crate) fn serialize_with<A: Allocator + Drop, S: Writer, T: Serialize<S>>(
 /// region would end above `usize::MAX`, with `OutOfMemory`, 1, where memory is refused, or as the writer refuses (`BufferOverflow`, 8;
 /// `WriterFailed`, 9). After a refusal, too, the bytes from before are a beginning of those that `serializer` holds, and known keys keep their
 /// states. Our own: rkyv 0.8.18 has it as `SerializeUnsized` of a value.
+#[inline(always)]
 pub fn serialize_one<S: Writer + ResolverAlloc, T: Serialize<S>>(
     value: &T,
     serializer: &mut S,

@@ -201,6 +201,7 @@ impl<'a> ArchiveUnsized for Text<'a> {
 
 impl<'a, S: Writer + Keys> SerializeUnsized<S> for Text<'a> {
     #[tactic(auto, using(crate::proofs::Planned::serialized_text, crate::proofs::Planned::text_refused, crate::proofs::Planned::long_text_refused, crate::proofs::Causes::goes_nowhere, crate::proofs::Causes::goes_written, crate::proofs::Causes::goes_refused))]
+    #[inline(always)]
     fn serialize_unsized(&self, serializer: &mut S) -> Result<usize, Error>
         ensures serialized { IfOk result (TextStored self.now.text.now S.Keys serializer) }
         ensures goes_on { GoesOn (S.state serializer.old) (S.state serializer.new) }
@@ -243,6 +244,7 @@ impl ArchivedString {
     /// as the writer refuses (`OutOfMemory`, 1; `BufferOverflow`, 8; `WriterFailed`, 9). After a refusal, too, the bytes from before are a beginning
     /// of those that `serializer` holds. rkyv 0.8.18 cuts such a position off.
     #[tactic(auto, using(crate::proofs::Planned::serialized_inline, crate::proofs::Planned::serialized_out_of_line, crate::proofs::Planned::string_refused, crate::proofs::Planned::long_string_refused, crate::proofs::Planned::far_string_refused, crate::proofs::Causes::goes_nowhere))]
+    #[inline(always)]
     pub fn serialize_from_str<S: Writer + Keys>(
         value: &str,
         serializer: &mut S,
@@ -275,6 +277,7 @@ impl ArchivedString {
     /// be the answer of `serialize_from_str` for it. Refused with `IsizeOverflow`, 2, or `OffsetOverflow`, 3, exactly where the offset to a text of
     /// more than eight bytes doesn't fit; they are then unchanged. rkyv 0.8.18 panics there.
     #[tactic(auto, using(crate::proofs::StringsWritten::resolves_inline_flat, crate::proofs::StringsWritten::resolves_out_of_line_flat))]
+    #[inline(always)]
     pub fn resolve_from_str(
         value: &str,
         resolver: StringResolver,
@@ -315,6 +318,7 @@ impl Archive for String {
 
     ghost planned = { λ s. string_planned no_definition [] (string_bytes s) };
 
+    #[inline(always)]
     fn resolve(
         &self,
         resolver: StringResolver,
@@ -335,6 +339,7 @@ impl Archive for String {
 }
 
 impl<S: Writer + Keys> Serialize<S> for String {
+    #[inline(always)]
     fn serialize(&self, serializer: &mut S) -> Result<StringResolver, Error>
         ensures serialized { IfOk result (StringSerialized (string_bytes self.now) S.Keys serializer) }
         ensures same_value { OnOk result (length (string_bytes self.now) ≤ 1073741823) }
@@ -378,6 +383,7 @@ impl<S: Writer + ResolverAlloc> SerializeUnsized<S> for String {
 }
 
 impl<D: Entries> Deserialize<String, D> for ArchivedString {
+    #[inline(always)]
     fn deserialize_part(
         alloc: Global,
         part: RawView<'_>,

@@ -74,6 +74,7 @@ pub trait Archive {
         ensures refused { IfErr result (Hindered Self.Archived.Portable place (flat self.now resolver)) };
 
     /// Whether slices of such values are written in bulk, by `serialize_copied`. Off by default. As in rkyv 0.8.18, where it is a constant.
+    #[inline(always)]
     fn copy_optimization() -> CopyOptimization<Self> {
         CopyOptimization::disable()
     }
@@ -81,6 +82,7 @@ pub trait Archive {
     /// Writes `values` in bulk as a region of their own, and answers its position, in bytes from the first one. What is `Copied` writes this call with
     /// `slice::copy_slice`; by default nothing is written, and none is answered. Refused as `copy_slice` is.
     #[tactic(auto, using(crate::proofs::Causes::goes_nowhere))]
+    #[inline(always)]
     fn serialize_copied<S: Writer + Keys>(
         _values: &[Self],
         _serializer: &mut S,
@@ -129,6 +131,7 @@ pub trait Deserialize<T: Archive, D: Entries>: ArchivePointee {
     /// The value that the view shows, each shared value named by its position, as those are that `deserializer` keeps from before; it keeps what it
     /// kept. Memory comes from `alloc`: refused with `OutOfMemory`, 1, where it is refused, and with `CyclicDeserialize`, 13, only where a shared
     /// position is met that is still being read.
+    #[inline(always)]
     final fn deserialize(
         alloc: Global,
         view: Ref<'_, Self>,

@@ -11,6 +11,7 @@ use crate::traits::{Archive, Portable};
 use archive_check::format::error::Error;
 
 // Writes the tag of a variant with one part, and the part behind it, over zeros that stand at `pos`.
+#[inline(always)]
 pub(crate) fn resolve_case<T: Archive>(
     tag: u8,
     value: &T,

@@ -1,8 +1,8 @@
 //! The states of shared keys. A key names one value, which is written once: the key is unknown, then pending while the value is written, then
 //! finished at the value's position.
 
-ghost use Rattle.std.specs.Prelude.{◌≡◌, ◌+◌, ◌≤◌, ◌<◌, None, Some, OnOk, OnErr, IfOk, IfErr, IsOk, nat_eq};
-ghost use Rattle.std.specs.HashMap.{get, spare};
+ghost use Rattle.std.specs.Prelude.{◌≡◌, ◌+◌, ◌≤◌, ◌<◌, None, Some, OnOk, OnErr, IfOk, IfErr, IsOk, IsSome};
+ghost use Rattle.archive_write.specs.Known.{known_keys, spare_keys};
 ghost use Rattle.archive_check.specs.WriterState.{KeepsKeys, KeepsBytes, only_keys};
 ghost use Rattle.archive_write.specs.Sharing.{start_answer, finish_answer, IsSet, KnowsNone};
 ghost use Rattle.archive_write.specs.Writes.{IsStarted};
@@ -69,10 +69,12 @@ impl<W: Keys, A, S: Sharing> Sharing for Serializer<W, A, S> {
 
 type States<A> = HashMap<u64, Option<usize>, BuildHasherDefault<FoldHasher>, A>;
 
-/// The states of the keys that one archive has met, in memory from an `A`. As in rkyv 0.8.18, which takes its memory unasked.
+/// The states of the keys that one archive has met, in memory from an `A`. As in rkyv 0.8.18, which takes its memory unasked. The map is made with
+/// the first key, since most archives have none.
 #[derive(Drop)]
 pub struct Share<A: Allocator = Global> {
-    states: States<A>,
+    alloc: A,
+    states: Option<States<A>>,
 }
 
 impl<A: Allocator + Clone> Share<A> {
@@ -81,7 +83,8 @@ impl<A: Allocator + Clone> Share<A> {
         ensures { KnowsNone (⟦<Share<A> as Keys>⟧.state result).states }
     {
         Share {
-            states: HashMap::new(alloc),
+            alloc,
+            states: None,
         }
     }
 
@@ -89,58 +92,81 @@ impl<A: Allocator + Clone> Share<A> {
     /// 1, where it is refused.
     pub fn with_capacity(alloc: A, capacity: usize) -> Result<Share<A>, Error>
         ensures fresh { IfOk result (λ s. KnowsNone (⟦<Share<A> as Keys>⟧.state s).states) }
-        ensures room { IfOk result (λ s. capacity ≤ spare s.states) }
+        ensures room { IfOk result (λ s. capacity ≤ spare_keys s.states) }
         ensures refusal { IfErr result (λ e. e ≡ Error.OutOfMemory) }
     {
+        let states = HashMap::with_capacity(alloc.clone()?, capacity)?;
         Ok(Share {
-            states: HashMap::with_capacity(alloc, capacity)?,
+            alloc,
+            states: Some(states),
         })
     }
 
     /// Forgets every key, so that it serves for another archive. Takes no memory, and keeps what it has.
     pub fn clear(&mut self)
         ensures fresh { KnowsNone (⟦<Share<A> as Keys>⟧.state self.new).states }
-        ensures room { spare self.old.states ≤ spare self.new.states }
+        ensures room { spare_keys self.old.states ≤ spare_keys self.new.states }
     {
-        self.states.clear();
+        if let Some(states) = &mut self.states {
+            states.clear();
+        }
+    }
+
+    // Makes the map, where there is none.
+    fn open(&mut self) -> Result<(), Error>
+        ensures open { OnOk result (IsSome self.new.states) }
+        ensures same_keys { KeepsKeys (known_keys self.old.states) (known_keys self.new.states) }
+        ensures room { spare_keys self.old.states ≤ spare_keys self.new.states }
+        ensures refusal { IfErr result (λ e. (e ≡ Error.OutOfMemory) × (self.old.states ≡ None)) }
+    {
+        if self.states.is_none() {
+            let alloc = self.alloc.clone()?;
+            self.states = Some(HashMap::new(alloc));
+        }
+        Ok(())
     }
 }
 
 /// It holds no bytes.
 impl<A: Allocator + Clone> Keys for Share<A> {
-    ghost state = { λ s. only_keys (get nat_eq s.states) };
+    ghost state = { λ s. only_keys (known_keys s.states) };
 }
 
 /// A start takes memory only where no room is left; it uses up room for one key at most. A finish uses up none.
 impl<A: Allocator + Clone> Sharing for Share<A> {
     fn start_sharing(&mut self, key: u64) -> Result<SharingState, Error>
-        ensures answer { IfOk result (λ s. s ≡ start_answer (get nat_eq self.old.states key)) }
-        ensures after { OnOk result (IsStarted (get nat_eq self.old.states) key (get nat_eq self.new.states)) }
-        ensures unchanged { OnErr result (KeepsKeys (get nat_eq self.old.states) (get nat_eq self.new.states)) }
-        ensures refusal { IfErr result (λ e. (e ≡ Error.OutOfMemory) × (get nat_eq self.old.states key ≡ None)) }
-        ensures bytes { KeepsBytes (only_keys (get nat_eq self.old.states)) (only_keys (get nat_eq self.new.states)) }
-        ensures served { 0 < spare self.old.states → IsOk result }
-        ensures room { spare self.old.states ≤ spare self.new.states + 1 }
+        ensures answer { IfOk result (λ s. s ≡ start_answer (known_keys self.old.states key)) }
+        ensures after { OnOk result (IsStarted (known_keys self.old.states) key (known_keys self.new.states)) }
+        ensures unchanged { OnErr result (KeepsKeys (known_keys self.old.states) (known_keys self.new.states)) }
+        ensures refusal { IfErr result (λ e. (e ≡ Error.OutOfMemory) × (known_keys self.old.states key ≡ None)) }
+        ensures bytes { KeepsBytes (only_keys (known_keys self.old.states)) (only_keys (known_keys self.new.states)) }
+        ensures served { 0 < spare_keys self.old.states → IsOk result }
+        ensures room { spare_keys self.old.states ≤ spare_keys self.new.states + 1 }
     {
-        match self.states.get(&key) {
+        self.open()?;
+        let Some(states) = &mut self.states else {
+            unreachable!();
+        };
+        match states.get(&key) {
             Some(None) => return Ok(SharingState::Pending),
             Some(Some(pos)) => return Ok(SharingState::Finished(*pos)),
             None => {}
         }
-        self.states
-            .insert(key, None)
-            .map_err(|_| Error::OutOfMemory)?;
+        states.insert(key, None).map_err(|_| Error::OutOfMemory)?;
         Ok(SharingState::Started)
     }
 
     fn finish_sharing(&mut self, key: u64, pos: usize) -> Result<(), Error>
-        ensures answer { result ≡ finish_answer (get nat_eq self.old.states key) }
-        ensures after { OnOk result (IsSet (get nat_eq self.old.states) key (Some (Some pos)) (get nat_eq self.new.states)) }
-        ensures unchanged { OnErr result (KeepsKeys (get nat_eq self.old.states) (get nat_eq self.new.states)) }
-        ensures bytes { KeepsBytes (only_keys (get nat_eq self.old.states)) (only_keys (get nat_eq self.new.states)) }
-        ensures room { spare self.new.states ≡ spare self.old.states }
+        ensures answer { result ≡ finish_answer (known_keys self.old.states key) }
+        ensures after { OnOk result (IsSet (known_keys self.old.states) key (Some (Some pos)) (known_keys self.new.states)) }
+        ensures unchanged { OnErr result (KeepsKeys (known_keys self.old.states) (known_keys self.new.states)) }
+        ensures bytes { KeepsBytes (only_keys (known_keys self.old.states)) (only_keys (known_keys self.new.states)) }
+        ensures room { spare_keys self.new.states ≡ spare_keys self.old.states }
     {
-        match self.states.get_mut(&key) {
+        let Some(states) = &mut self.states else {
+            return Err(Error::NotStarted);
+        };
+        match states.get_mut(&key) {
             None => Err(Error::NotStarted),
             Some(Some(_)) => Err(Error::AlreadyFinished),
             Some(state) => {

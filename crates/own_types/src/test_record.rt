@@ -104,6 +104,7 @@ impl<A: Archive, B: Archive, C: Archive> Archive for TestOf<A, B, C> {
     ghost planned = { λ v. record_planned _ _ _ _ _ _ (is_named_record _ _ _) (part_planned _ _ _ _ (A.planned v.number)
         (part_planned _ _ _ _ (B.planned v.text) (part_planned _ _ _ _ (C.planned v.list) no_part_planned))) };
 
+    #[inline(always)]
     fn resolve(
         &self,
         resolver: Self::Resolver,
@@ -126,6 +127,7 @@ impl<A: Archive, B: Archive, C: Archive> Archive for TestOf<A, B, C> {
 
 impl<S: Writer + Keys, A: Serialize<S>, B: Serialize<S>, C: Serialize<S>> Serialize<S>
     for TestOf<A, B, C> {
+    #[inline(always)]
     fn serialize(&self, serializer: &mut S) -> Result<Self::Resolver, Error> {
         serialize_record::<Self, Parts<A, B, C>, Self::Archived, S>(self, serializer)
     }

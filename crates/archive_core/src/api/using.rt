@@ -15,7 +15,11 @@ use crate::traits::{Keys, Serialize, SerializeUnsized};
 use archive_check::format::error::Error;
 use std::alloc::{Allocator, Global};
 
+/// As many bytes as a new vector has room for, so that a small archive is written without more of them.
+const FIRST_ROOM: usize = 64;
+
 /// As `to_bytes_in`, with memory for resolvers from `resolvers`; all else comes from `alloc`. As in rkyv 0.8.18.
+#[inline(always)]
 pub fn to_bytes_in_with_alloc<
     W: Writer + Drop,
     A: Allocator + Copy + Drop,
@@ -31,6 +35,7 @@ pub fn to_bytes_in_with_alloc<
 }
 
 /// As `to_bytes`, with memory for resolvers from `resolvers`; all else comes from `alloc`. As in rkyv 0.8.18.
+#[inline(always)]
 pub fn to_bytes_with_alloc<A: Allocator + Copy + Drop, T: Serialize<HighSerializer<Vec<u8>, A>>>(
     alloc: Global,
     value: &T,
@@ -39,7 +44,8 @@ pub fn to_bytes_with_alloc<A: Allocator + Copy + Drop, T: Serialize<HighSerializ
     ensures archived { IfOk result (λ bytes. IsArchiveOf T.Archive T.Archived.Portable value.now bytes.items) }
     ensures refused { IfErr result (NoArchiveOf T.Archive T.Archived.Portable value.now) }
 {
-    let (bytes, root) = serialize_whole(alloc, resolvers, value, Vec::new(alloc));
+    let empty = Vec::with_capacity(alloc, FIRST_ROOM)?;
+    let (bytes, root) = serialize_whole(alloc, resolvers, value, empty);
     root?;
     Ok(bytes)
 }

@@ -74,6 +74,7 @@ impl<N: Source> Leaf for N {
         N::metadata()
     }
 
+    #[inline(always)]
     fn write_bytes(&self, out: &mut [u8]) {
         write_leaf(*self, out);
     }
@@ -94,6 +95,7 @@ impl<N: Native> Leaf for LittleEndian<N> {
 
     fn leaf_metadata() {}
 
+    #[inline(always)]
     fn write_bytes(&self, out: &mut [u8]) {
         write_leaf(self.to_native(), out);
     }
@@ -114,6 +116,7 @@ impl<N: Integer> Leaf for NonZero<N> {
 
     fn leaf_metadata() {}
 
+    #[inline(always)]
     fn write_bytes(&self, out: &mut [u8]) {
         let number = self.to_native();
         write_leaf(number, out);
@@ -141,6 +144,7 @@ impl<L: Leaf> Archive for L {
 
     ghost planned = { λ n. leaf_planned L.LeafFormat.definitions L.LeafFormat.shape L.leaf_kind [] (L.leaf_number n) L.leaf_shape };
 
+    #[inline(always)]
     fn resolve(&self, _resolver: (), place: Place<'_, L::LeafFormat>) -> Result<(), Error>
         requires fresh { Fresh (L.LeafFormat.layout.size) place.pos place.bytes.now }
         requires same_value { ⊤ }
@@ -155,10 +159,12 @@ impl<L: Leaf> Archive for L {
         Ok(())
     }
 
+    #[inline(always)]
     fn copy_optimization() -> CopyOptimization<L> {
         CopyOptimization::enable()
     }
 
+    #[inline(always)]
     fn serialize_copied<S: Writer + Keys>(
         values: &[L],
         serializer: &mut S,
@@ -170,6 +176,7 @@ impl<L: Leaf> Archive for L {
 
 impl<L: Leaf, S: Writer + Keys> Serialize<S> for L {
     #[tactic(auto, using(crate::proofs::Causes::goes_nowhere))]
+    #[inline(always)]
     fn serialize(&self, _serializer: &mut S) -> Result<(), Error>
         ensures serialized { IfOk result (NumberSerialized L.LeafFormat.Portable (L.leaf_number self.now) S.Keys _serializer) }
         ensures same_value { ⊤ }
@@ -221,10 +228,12 @@ impl<L: Leaf> Copied for L {
 
     ghost copied_bytes = { L.leaf_bytes };
 
+    #[inline(always)]
     fn copied_size() -> usize {
         L::LeafFormat::size()
     }
 
+    #[inline(always)]
     fn copy_one(&self, bytes: &mut [u8]) {
         self.write_bytes(bytes);
     }

@@ -11,6 +11,7 @@ use archive_num::FixedUsize;
 
 // Writes over the four bytes of an owner at `pos` that it leads to `target`. Refused with `IsizeOverflow`, 2, exactly where the distance doesn't fit
 // `isize`, and else with `OffsetOverflow`, 3, exactly where it doesn't fit 32 bits; the bytes are then unchanged.
+#[inline(always)]
 fn emplace_owner(target: usize, pos: usize, bytes: &mut [u8]) -> Result<(), Error>
     requires { length bytes.old ≡ 4 }
     ensures written { OnOk result (bytes.new ≡ owner_bytes false (distance pos target) 0) }
@@ -26,6 +27,7 @@ fn emplace_owner(target: usize, pos: usize, bytes: &mut [u8]) -> Result<(), Erro
 }
 
 /// The same over eight bytes, with a length behind the offset.
+#[inline(always)]
 pub(crate) fn emplace_long_owner(
     target: usize,
     count: FixedUsize,
@@ -48,6 +50,7 @@ pub(crate) fn emplace_long_owner(
 }
 
 /// The same over as many bytes as the pointer has, with the length behind the offset or none.
+#[inline(always)]
 pub(crate) fn emplace_pointer(
     is_long: bool,
     target: usize,

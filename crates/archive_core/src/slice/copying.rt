@@ -21,6 +21,7 @@ const SHORT: usize = 64;
 
 // Writes the bytes of values, which take no more than `bytes`. Nothing is written where they have none.
 #[tactic(auto, using(crate::proofs::Causes::goes_written, crate::proofs::Causes::goes_refused, crate::proofs::Causes::goes_nowhere))]
+#[inline(always)]
 fn write_piece<W: Writer, T: Copied>(
     values: &[T],
     bytes: &mut [u8],
@@ -43,6 +44,7 @@ fn write_piece<W: Writer, T: Copied>(
 
 // How many values of so many bytes are written at once, of `count` that are left: as many as fit `room` bytes.
 #[tactic(auto, using(crate::proofs::Copies::fits_piece, crate::proofs::Copies::some_fit))]
+#[inline(always)]
 fn count_at_once(size: usize, count: usize, room: usize) -> usize
     requires small { size ≤ room }
     requires some { 0 < count }
@@ -57,6 +59,7 @@ fn count_at_once(size: usize, count: usize, room: usize) -> usize
 }
 
 // Writes the bytes of values, which have so many each, as many whole values at once as fit `N` bytes.
+#[inline(always)]
 fn copy_by<W: Writer, T: Copied, const N: usize>(
     values: &[T],
     size: usize,
@@ -84,6 +87,7 @@ fn copy_by<W: Writer, T: Copied, const N: usize>(
 }
 
 // Writes the bytes of values, which have so many each, as many whole values at once as fit 1,024 bytes.
+#[inline(always)]
 fn copy_pieces<W: Writer, T: Copied>(values: &[T], size: usize, writer: &mut W) -> Result<(), Error>
     requires same { size ≡ T.CopiedAs.layout.size }
     requires small { size ≤ 1024 }
@@ -102,6 +106,7 @@ fn copy_pieces<W: Writer, T: Copied>(values: &[T], size: usize, writer: &mut W) 
 }
 
 // Writes the bytes of values as the next region, where the writer stands at a multiple of their alignment.
+#[inline(always)]
 fn copy_aligned<W: Writer, T: Copied>(
     values: &[T],
     size: usize,
@@ -130,6 +135,7 @@ fn copy_aligned<W: Writer, T: Copied>(
 /// above `usize::MAX`, or as the writer refuses (`OutOfMemory`, 1; `BufferOverflow`, 8; `WriterFailed`, 9), of a whole piece each time; so over a
 /// `Buffer` exactly where the bytes don't fit. After a refusal, too, the bytes from before are a beginning of those that `serializer` holds. rkyv
 /// 0.8.18 has it within `serialize_unsized` of a slice, and copies memory.
+#[inline(always)]
 pub fn copy_slice<S: Writer + Keys, T: Copied>(
     values: &[T],
     serializer: &mut S,

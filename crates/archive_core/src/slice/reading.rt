@@ -16,6 +16,7 @@ use archive_check::format::error::Error;
 use std::alloc::Global;
 
 /// The elements, each read back; the list takes its memory at once.
+#[inline(always)]
 pub fn read_elements<T: Portable + Deserialize<U, D>, U: Archive + Drop, D: Entries>(
     alloc: Global,
     part: RawView<'_>,

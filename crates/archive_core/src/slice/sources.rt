@@ -30,6 +30,7 @@ pub struct Slice<'a, T> {
 
 // Writes what each of the values owns, in order, and answers their resolvers, in memory from `alloc`.
 #[tactic(auto, using(crate::proofs::Runs::continues_start, crate::proofs::Runs::continues_step, crate::proofs::Runs::continues_end, crate::proofs::Runs::belongs_end))]
+#[inline(always)]
 pub(crate) fn serialize_each<A: Allocator + Drop, S: Writer, T: Serialize<S>>(
     alloc: A,
     values: &[T],
@@ -49,6 +50,7 @@ pub(crate) fn serialize_each<A: Allocator + Drop, S: Writer, T: Serialize<S>>(
 }
 
 // Writes what each of the values owns and then all of them as a region of its own, and answers the region's position.
+#[inline(always)]
 fn serialize_in_turn<S: Writer + ResolverAlloc, T: Serialize<S>>(
     values: &[T],
     serializer: &mut S,
@@ -65,6 +67,7 @@ fn serialize_in_turn<S: Writer + ResolverAlloc, T: Serialize<S>>(
 
 // The same in bulk, where the type is copied so. Refused with `LengthTooLarge`, 5, before anything is written, exactly where there are more than
 // 4,294,967,295 values.
+#[inline(always)]
 pub(crate) fn serialize_slice<S: Writer + ResolverAlloc, T: Serialize<S>>(
     values: &[T],
     serializer: &mut S,
@@ -102,6 +105,7 @@ impl<'a, T: Archive> ArchiveUnsized for Slice<'a, T> {
 
     ghost planned = { λ s. slice_planned T.Archived.definitions T.Archived.shape T.keys T.meaning T.planned s.slice.now };
 
+    #[inline(always)]
     fn archived_metadata(&self) -> Result<ArchivedUsize, Error> {
         let Ok(len) = u32::try_from(self.slice.len()) else {
             return Err(Error::LengthTooLarge);
@@ -115,6 +119,7 @@ impl<'a, S: Writer + ResolverAlloc, T: Serialize<S>> SerializeUnsized<S> for Sli
     /// memory from the serializer's allocator. Refused with `LengthTooLarge`, 5, before anything is written, exactly where there are more than
     /// 4,294,967,295 elements, with `LayoutTooLarge`, 23, where the region would end above `usize::MAX`, as the elements refuse, and as the trait
     /// says it.
+    #[inline(always)]
     fn serialize_unsized(&self, serializer: &mut S) -> Result<usize, Error>
         ensures serialized { IfOk result (SliceStored T.Archive T.Archived.Portable self.now.slice.now S.Keys serializer) }
         ensures goes_on { GoesOn (S.state serializer.old) (S.state serializer.new) }

@@ -17,18 +17,20 @@ pub const OUT_OF_LINE_CAPACITY: usize = 1_073_741_823;
 
 /// Writes a short text over the string's bytes, and 0xff over those that it leaves. Asks for a text of at most `INLINE_CAPACITY` bytes and for the
 /// eight bytes of the string; it is never refused.
+#[inline(always)]
 pub fn emplace_inline(value: &str, out: &mut [u8])
     requires short { length value.now ≤ 8 }
     requires sized { length out.old ≡ 8 }
     ensures { out.new ≡ inline_bytes value.now }
 {
-    let (text, unused) = out.split_at_mut(value.len());
-    text.copy_from_slice(value.as_bytes());
-    unused.fill(0xff);
+    let mut text = [0xff; 8];
+    text[..value.len()].copy_from_slice(value.as_bytes());
+    out.copy_from_slice(&text);
 }
 
 // The first four bytes of a string whose text stands elsewhere, as a number.
 #[tactic(auto, using(crate::proofs::Coded::coded_bits))]
+#[inline(always)]
 fn coded(len: usize) -> u32
     requires { len ≤ 1073741823 }
     ensures { result ≡ coded_length len }
@@ -40,6 +42,7 @@ fn coded(len: usize) -> u32
 /// than `INLINE_CAPACITY` and at most `OUT_OF_LINE_CAPACITY` bytes, and for the eight bytes of the string. Refused with `IsizeOverflow`, 2, exactly
 /// where the offset doesn't fit `isize`, and else with `OffsetOverflow`, 3, exactly where it doesn't fit 32 bits; the bytes are then unchanged,
 /// where rkyv 0.8.18 has written the length.
+#[inline(always)]
 pub fn try_emplace_out_of_line(
     value: &str,
     pos: usize,

@@ -76,6 +76,7 @@ pub trait Copied {
         ensures read { IsCopiedAs Self.CopiedAs.Portable (copied_meaning self.now) (copied_bytes self.now) };
 
     /// Writes the bytes of the values, one behind another, over `bytes`. Asks that these are as many as the values have together.
+    #[inline(always)]
     final fn copy_into(values: &[Self], bytes: &mut [u8])
         requires sized { length bytes.old ≡ length values.now * Self.CopiedAs.layout.size }
         ensures copied { bytes.new ≡ each_bytes Self.copied_bytes values.now }

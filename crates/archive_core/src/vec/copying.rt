@@ -20,6 +20,7 @@ impl<T: Portable> ArchivedVec<T> {
     /// but the writer's. It asks nothing. Refused with `LengthTooLarge`, 5, before anything is written, exactly where there are more than 4,294,967,295
     /// elements; with `PositionTooLarge`, 4, only where they would stand above 4,294,967,295; else as `copy_slice`. Our own.
     #[tactic(auto, using(crate::proofs::Owners::serialized_vec, crate::proofs::Causes::goes_nowhere, crate::proofs::Copies::copies_refused, crate::proofs::Copies::long_copies_refused, crate::proofs::Copies::far_copies_refused))]
+    #[inline(always)]
     pub fn serialize_from_copied<U: Copied<CopiedAs = T>, S: Writer + Keys>(
         value: &[U],
         serializer: &mut S,

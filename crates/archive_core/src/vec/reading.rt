@@ -18,6 +18,7 @@ use std::alloc::Global;
 
 impl<T: Portable + Deserialize<U, D>, U: Archive + Drop, D: Entries> Deserialize<Vec<U>, D>
     for ArchivedVec<T> {
+    #[inline(always)]
     fn deserialize_part(
         alloc: Global,
         part: RawView<'_>,

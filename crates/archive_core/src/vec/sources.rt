@@ -45,6 +45,7 @@ impl Model for VecResolver {
 impl VecResolver {
     /// The resolver of a vector whose elements stand at `pos`, in bytes from the first one. Asks that it fits 32 bits. As in rkyv 0.8.18, where it
     /// may be any.
+    #[inline(always)]
     pub fn from_pos(pos: usize) -> VecResolver
         requires { pos ≤ 4294967295 }
         ensures { result ≡ pos }
@@ -60,6 +61,7 @@ impl<T: Portable> ArchivedVec<T> {
     /// memory for the elements' resolvers is refused; as the elements refuse, and as the writer does (`BufferOverflow`, 8; `WriterFailed`, 9). rkyv
     /// 0.8.18 cuts the length off.
     #[tactic(auto, using(crate::proofs::Owners::serialized_vec, crate::proofs::Owners::vec_refused, crate::proofs::Owners::far_vec_refused))]
+    #[inline(always)]
     pub fn serialize_from_slice<U: Serialize<S, Archived = T>, S: Writer + ResolverAlloc>(
         value: &[U],
         serializer: &mut S,
@@ -81,6 +83,7 @@ impl<T: Portable> ArchivedVec<T> {
     /// `resolver` should be that of so many elements. Refused with `IsizeOverflow`, 2, or `OffsetOverflow`, 3, exactly where the offset to the elements
     /// doesn't fit; they are then unchanged. rkyv 0.8.18 panics there.
     #[tactic(auto, using(crate::proofs::OwnersWritten::resolves_vec, crate::proofs::OwnersWritten::vec_hindered_at))]
+    #[inline(always)]
     pub fn resolve_from_len(
         len: usize,
         resolver: VecResolver,
@@ -100,6 +103,7 @@ impl<T: Portable> ArchivedVec<T> {
     }
 
     /// The same for the elements of `value`, of which there may be 4,294,967,295 at most.
+    #[inline(always)]
     pub fn resolve_from_slice<U: Archive<Archived = T>>(
         value: &[U],
         resolver: VecResolver,
@@ -137,6 +141,7 @@ impl<T: Archive> Archive for Vec<T> {
     ghost planned = { λ v. vec_planned T.Archived.definitions T.Archived.shape (length v.items) (each_keys T.keys v.items) (list (each_meaning T.meaning v.items))
         (slice_planned T.Archived.definitions T.Archived.shape T.keys T.meaning T.planned v.items) };
 
+    #[inline(always)]
     fn resolve(
         &self,
         resolver: VecResolver,
@@ -157,6 +162,7 @@ impl<T: Archive> Archive for Vec<T> {
 
 impl<S: Writer + ResolverAlloc, T: Serialize<S>> Serialize<S> for Vec<T> {
     /// Writes the elements, as `ArchivedVec::serialize_from_slice` does, with its refusals.
+    #[inline(always)]
     fn serialize(&self, serializer: &mut S) -> Result<VecResolver, Error>
         ensures serialized { IfOk result (VecSerialized T.keys T.meaning T.Archived.Portable self.now.items S.Keys serializer) }
         ensures same_value { OnOk result (length self.now.items ≤ 4294967295) }

@@ -10,6 +10,7 @@ use archive_check::format::error::Error;
 use archive_check::format::traits::Portable;
 
 // How many zeros stand between a position and the next multiple of an alignment.
+#[inline(always)]
 fn zeros_due(pos: usize, align: usize) -> usize
     requires { 0 < align }
     ensures due { result ≡ padding align pos }
@@ -23,6 +24,7 @@ fn zeros_due(pos: usize, align: usize) -> usize
 /// has them; the bytes from before are then a beginning of those that it holds. As in rkyv 0.8.18.
 pub trait WriterExt: Writer {
     /// Writes `n` zeros. Asks for fewer than 32, where rkyv 0.8.18 takes 32, too.
+    #[inline(always)]
     final fn pad(&mut self, n: usize) -> Result<(), Error>
     where
         Self: Sized,
@@ -35,12 +37,16 @@ pub trait WriterExt: Writer {
         ensures keys { KeepsKeys (Self.state self.old).states (Self.state self.new).states }
         ensures memory { IsErrOf result Error.OutOfMemory → IsTrue Self.takes_memory }
     {
+        if n == 0 {
+            return Ok(());
+        }
         let zeros = [0; 32];
         self.write(&zeros[..n])
     }
 
     /// Writes zeros up to the next multiple of `align` bytes, none where the writer stands at one, and answers the position there, in bytes from
     /// the first one. Asks that `align` is from 1 to 32; it need not be a power of two.
+    #[inline(always)]
     final fn align(&mut self, align: usize) -> Result<usize, Error>
     where
         Self: Sized,
@@ -61,6 +67,7 @@ pub trait WriterExt: Writer {
 
     /// Writes zeros up to the next multiple of the alignment of `T`, and answers the position there, in bytes from the first one. It asks nothing.
     #[tactic(auto, using(crate::proofs::Padding::pads_by))]
+    #[inline(always)]
     final fn align_for<T: Portable>(&mut self) -> Result<usize, Error>
     where
         Self: Sized,

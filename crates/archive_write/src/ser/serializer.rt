@@ -20,6 +20,7 @@ pub struct Serializer<W, A, S> {
 
 impl<W, A, S> Serializer<W, A, S> {
     /// A serializer of these parts.
+    #[inline(always)]
     pub fn new(writer: W, allocator: A, sharing: S) -> Serializer<W, A, S>
         ensures writer { result.writer ≡ writer }
         ensures allocator { result.allocator ≡ allocator }
@@ -45,6 +46,7 @@ impl<W, A, S> Serializer<W, A, S> {
     }
 
     /// The writer alone.
+    #[inline(always)]
     pub fn into_writer(self) -> W
     where
         A: Drop,
@@ -74,6 +76,7 @@ impl<W, A: Allocator + Copy, S> ResolverAlloc for Serializer<W, A, S> {
 
     ghost resolver_alloc = { λ s. s.allocator };
 
+    #[inline(always)]
     fn resolver_alloc(&self) -> A {
         self.allocator
     }
@@ -82,6 +85,7 @@ impl<W, A: Allocator + Copy, S> ResolverAlloc for Serializer<W, A, S> {
 impl<W: Positional, A, S> Positional for Serializer<W, A, S> {
     ghost place = { λ s. W.place s.writer };
 
+    #[inline(always)]
     fn pos(&self) -> usize {
         self.writer.pos()
     }
@@ -96,6 +100,7 @@ impl<W: Writer, A, S: Keys> Writer for Serializer<W, A, S> {
 
     ghost place_law = { λ s. W.place_law s.writer };
 
+    #[inline(always)]
     fn write(&mut self, bytes: &[u8]) -> Result<(), Error> {
         self.writer.write(bytes)
     }

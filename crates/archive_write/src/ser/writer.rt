@@ -44,6 +44,7 @@ pub trait Writer: Positional + Keys {
 impl<P: Positional> Positional for &P {
     ghost place = { λ r. P.place r.now };
 
+    #[inline(always)]
     fn pos(&self) -> usize {
         P::pos(*self)
     }
@@ -53,6 +54,7 @@ impl<P: Positional> Positional for &P {
 impl<P: Positional> Positional for &mut P {
     ghost place = { λ r. P.place r.now };
 
+    #[inline(always)]
     fn pos(&self) -> usize {
         P::pos(&**self)
     }
@@ -64,6 +66,7 @@ impl<W: Writer> Writer for &mut W {
 
     ghost place_law = { λ r. W.place_law r.now };
 
+    #[inline(always)]
     fn write(&mut self, bytes: &[u8]) -> Result<(), Error> {
         W::write(&mut **self, bytes)
     }
@@ -72,6 +75,7 @@ impl<W: Writer> Writer for &mut W {
 impl<A: Allocator> Positional for Vec<u8, A> {
     ghost place = { λ v. length v.items };
 
+    #[inline(always)]
     fn pos(&self) -> usize {
         self.len()
     }
@@ -83,6 +87,7 @@ impl<A: Allocator> Writer for Vec<u8, A> {
 
     ghost place_law = { λ v. refl };
 
+    #[inline(always)]
     fn write(&mut self, bytes: &[u8]) -> Result<(), Error>
         ensures written { OnOk result (self.new.items ≡ self.old.items ++ bytes.now) }
         ensures kept { OnErr result (IsBeginning self.old.items self.new.items) }
