@@ -1,6 +1,7 @@
 pub mod Compared
 pub mod ComparedValues
 mod FirstBytes
+mod LevelRuns
 pub mod StandingLeaves
 pub mod StandingParts
 pub mod ViewsTogether

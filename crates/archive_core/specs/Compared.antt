@@ -1,14 +1,14 @@
 -- By what views of one type are compared: where they stand.
 use Rattle.std.proofs.Common.{ap, refl, sym, ◌∙◌}
 use mathlib.Core.Bool.{true≢false}
-use Rattle.std.specs.Prelude.{◌≡◌, ℕ, zero, suc, ◌+◌, ◌*◌, ◌==◌, if◌then◌else◌, pos as whole, Bool, true, IsTrue, List, [], ◌∷◌, ◌++◌, slice_index, Option, Some, None, Result, Ok, Err}
+use Rattle.std.specs.Prelude.{◌≡◌, ℕ, zero, suc, ◌+◌, ◌-◌, ◌*◌, ◌==◌, if◌then◌else◌, pos as whole, Bool, true, IsTrue, ⊤, List, [], ◌∷◌, ◌++◌, slice_index, Option, Some, None, Result, Ok, Err}
 use Rattle.std.specs.Option.{option_cmp}
 use Rattle.std.specs.Result.{result_cmp}
 use Rattle.archive_check.specs.Shape.{Pointee}
-use Rattle.archive_check.specs.Reads.{u32_at, length_at}
+use Rattle.archive_check.specs.Reads.{bytes_at, u32_at, length_at}
 use Rattle.archive_check.specs.Readable.{target_from}
 use Rattle.std.specs.Ordering.{eq_by_cmp, is_eq, nat_cmp, on}
-use Rattle.std.specs.Cmp.{IsTotalOrder, on_total, alike_right, Equal-is}
+use Rattle.std.specs.Cmp.{IsTotalOrder, on_total, alike_right, tied_itself, Equal-is}
 use Rattle.std.specs.Cmp.Lexicographic.{slice_cmp, bytes_decides, texts_ties, lists_total, lists_ties}
 use Rattle.std.specs.Hash.{items_Alike}
 use Rattle.std.specs.Hash as fed
@@ -45,6 +45,24 @@ text_fed xs ys h = ap fed.str ((bytes_decides xs ys).0 (texts_ties xs ys ∙ h))
 -- the slices' order: the first elements that differ decide, and else the lengths
 abbrev pub slices : ℕ → (Standing → Standing → Ordering) → Standing → Standing → Ordering
 slices z R = on (elements z) (slice_cmp R)
+
+-- the order of what is left of two slices from the element i on
+abbrev pub slices_from : ℕ → (Standing → Standing → Ordering) → ℕ → Standing → Standing → Ordering
+slices_from z R i x y = slice_cmp R (elements_from x.bytes x.pos z i (x.len - i)) (elements_from y.bytes y.pos z i (y.len - i))
+
+-- parts whose first n bytes are the same are level; of no bytes it says nothing
+abbrev pub AreLevelBy : ℕ → (Standing → Standing → Ordering) → Type 0
+AreLevelBy zero R = ⊤
+AreLevelBy (suc n) R = (x y : Standing) → bytes_at x.bytes x.pos (suc n) ≡ bytes_at y.bytes y.pos (suc n) → R x y ≡ Equal
+
+-- so are values that stand in so many bytes
+pub level_values : {X : Type 0} (number_of : List ℕ → X) (R : X → X → Ordering) (n : ℕ) → IsTotalOrder R → AreLevelBy n (on (λ v. number_of (bytes_at v.bytes v.pos n)) R)
+level_values number_of R zero o = tt
+level_values number_of R (suc n) o = λ x y e. ap (λ bs. R (number_of bs) (number_of (bytes_at y.bytes y.pos (suc n)))) e ∙ tied_itself o _
+
+-- n bytes are the same from x on in the one buffer and from y on in the other
+abbrev pub AreSameBytes : ℕ → List ℕ → ℕ → List ℕ → ℕ → Type 0
+AreSameBytes n a x b y = bytes_at a x n ≡ bytes_at b y n
 
 pub slices_total : (z : ℕ) {R : Standing → Standing → Ordering} → IsTotalOrder R → IsTotalOrder (slices z R)
 slices_total z o = on_total (elements z) (lists_total o)

@@ -6,7 +6,7 @@ ghost use Rattle.std.specs.Cmp.{IsTotalOrder, on_total, on_per, on_equiv, on_po,
 ghost use Rattle.std.specs.Ordering.{on, eq_by_cmp, as_partial_cmp};
 ghost use Rattle.std.specs.declared.cmp.Ordering.{Ordering as Order};
 ghost use Rattle.archive_check.specs.Viewed.{Viewed};
-ghost use Rattle.archive_core.specs.Compared.{Standing, standing};
+ghost use Rattle.archive_core.specs.Compared.{Standing, standing, AreLevelBy};
 ghost use Rattle.archive_core.specs.ValueOrder.{OrdersValues};
 ghost use Rattle.archive_core.specs.Seen.{part_shown};
 
@@ -17,6 +17,7 @@ mod native_lists;
 mod options;
 mod owners;
 mod results;
+mod runs;
 mod said;
 mod texts;
 
@@ -45,11 +46,21 @@ pub trait Ordered: ArchivePointee {
         requires { Viewed Self.definitions part.bytes.now part.pos Self.pointee part.len }
         ensures { state.new ≡ fold H.write state.old (hash_input (part_shown part.entry)) };
 
+    // How many bytes settle that two parts are level: 0 where none do.
+    ghost settling: { ℕ };
+
+    /// How many bytes of a part, the same in another one, settle that the two are equal; 0 where none do. So runs of them are passed by their bytes.
+    fn settling_bytes() -> usize
+        ensures { result ≡ settling };
+
     // It is a total order.
     ghost total: { IsTotalOrder order };
 
     // What is equal feeds a hasher alike.
     ghost respects: { (x y : Standing) → IsTrue (eq_by_cmp order x y) → hash_input x ≡ hash_input y };
+
+    // Parts with the same settling bytes are level.
+    ghost level: { AreLevelBy settling order };
 
     // It is the order of the values that the parts mean.
     ghost by_value: { OrdersValues Self.definitions Self.pointee order };

@@ -41,7 +41,7 @@ use crate::traits::{
 };
 use crate::view::{RawView, Ref};
 use archive_check::format::bytes::{
-    inline_length, is_out_of_line, read_coded_length, read_i32, read_target, read_text,
+    inline_length, is_out_of_line, read_coded_length, read_i32, read_position, read_text,
 };
 use archive_check::format::error::Error;
 use archive_check::format::layout::Layout;
@@ -440,11 +440,8 @@ impl<'a> Ref<'a, ArchivedString> {
     {
         let RawView { bytes, pos, .. } = self.part();
         if is_out_of_line(bytes, pos) {
-            return read_text(
-                bytes,
-                read_target(bytes, pos, pos + 4),
-                read_coded_length(bytes, pos),
-            );
+            let target = read_position(bytes, pos, pos + 4) as usize;
+            return read_text(bytes, target, read_coded_length(bytes, pos));
         }
         read_text(bytes, pos, inline_length(bytes, pos))
     }

@@ -8,6 +8,7 @@ ghost use Rattle.archive_core.specs.OrderedParts.{as_pointee, slices_ordered};
 ghost use Rattle.archive_core.specs.Seen.{shown, element_shown};
 
 use super::Ordered;
+use super::runs::pass_level;
 use crate::slice::ArchivedSlice;
 use crate::traits::Portable;
 use crate::view::{RawView, Ref};
@@ -19,9 +20,13 @@ impl<T: Portable + Ordered> Ordered for ArchivedSlice<T> {
 
     ghost hash_input = { λ v. fed.slice T.hash_input (elements T.layout.size v) };
 
+    ghost settling = { 0 };
+
     ghost total = { slices_total T.layout.size T.total };
 
     ghost respects = { slices_fed T.layout.size T.order T.hash_input T.respects };
+
+    ghost level = { tt };
 
     ghost by_value = { slices_ordered T.definitions T.shape T.layout T.has_layout T.order (as_pointee T.definitions T.pointee (one T.shape) T.order T.is_one T.by_value) };
 
@@ -36,16 +41,20 @@ impl<T: Portable + Ordered> Ordered for ArchivedSlice<T> {
             T::hash_part(slice.index(index).part(), state);
         }
     }
+
+    fn settling_bytes() -> usize {
+        0
+    }
 }
 
-// The first elements that differ decide, and else the lengths.
+// The first elements that differ decide, and else the lengths. Those in front that stand in the same bytes are passed, where that settles it.
 fn compare_elements<T: Portable + Ordered>(
     a: Ref<'_, ArchivedSlice<T>>,
     b: Ref<'_, ArchivedSlice<T>>,
 ) -> Ordering
     ensures { result ≡ slices T.layout.size T.order (shown a.entry) (shown b.entry) }
 {
-    for index in 0..a.len() {
+    for index in pass_level(a, b)..a.len() {
         if index >= b.len() {
             return Ordering::Greater;
         }

@@ -22,9 +22,13 @@ impl<T: Portable + Ordered> Ordered for ArchivedOption<T> {
 
     ghost hash_input = { λ v. fed.option T.hash_input (value_of T.layout.align v) };
 
+    ghost settling = { 0 };
+
     ghost total = { on_total (value_of T.layout.align) (options_total T.total) };
 
     ghost respects = { λ v w. option_fed T.order T.hash_input T.respects (value_of T.layout.align v) (value_of T.layout.align w) };
+
+    ghost level = { tt };
 
     ghost by_value = { options_ordered T.definitions T.shape T.layout T.is_align T.has_layout T.order (as_pointee T.definitions T.pointee (one T.shape) T.order T.is_one T.by_value) };
 
@@ -48,5 +52,9 @@ impl<T: Portable + Ordered> Ordered for ArchivedOption<T> {
                 T::hash_part(value.part(), state);
             }
         }
+    }
+
+    fn settling_bytes() -> usize {
+        0
     }
 }

@@ -24,9 +24,13 @@ impl<T: PortablePointee + Ordered> Ordered for ArchivedBox<T> {
 
     ghost hash_input = { λ v. T.hash_input (pointee_at T.pointee v) };
 
+    ghost settling = { 0 };
+
     ghost total = { on_total (pointee_at T.pointee) T.total };
 
     ghost respects = { λ v w. T.respects (pointee_at T.pointee v) (pointee_at T.pointee w) };
+
+    ghost level = { tt };
 
     ghost by_value = { boxes_ordered T.definitions T.pointee T.order T.by_value };
 
@@ -40,6 +44,10 @@ impl<T: PortablePointee + Ordered> Ordered for ArchivedBox<T> {
         let view: Ref<'_, ArchivedBox<T>> = Ref::at(part);
         T::hash_part(view.get().part(), state);
     }
+
+    fn settling_bytes() -> usize {
+        0
+    }
 }
 
 impl<T: PortablePointee + Ordered, F: Acyclic> Ordered for ArchivedRc<T, F> {
@@ -47,9 +55,13 @@ impl<T: PortablePointee + Ordered, F: Acyclic> Ordered for ArchivedRc<T, F> {
 
     ghost hash_input = { λ v. T.hash_input (pointee_at T.pointee v) };
 
+    ghost settling = { 0 };
+
     ghost total = { on_total (pointee_at T.pointee) T.total };
 
     ghost respects = { λ v w. T.respects (pointee_at T.pointee v) (pointee_at T.pointee w) };
+
+    ghost level = { tt };
 
     ghost by_value = { shared_ordered T.definitions T.pointee (flavor_as F.name F.ALLOW_CYCLES) T.order T.by_value };
 
@@ -63,6 +75,10 @@ impl<T: PortablePointee + Ordered, F: Acyclic> Ordered for ArchivedRc<T, F> {
         let view: Ref<'_, ArchivedRc<T, F>> = Ref::at(part);
         T::hash_part(view.get().part(), state);
     }
+
+    fn settling_bytes() -> usize {
+        0
+    }
 }
 
 impl<T: Portable + Ordered> Ordered for ArchivedVec<T> {
@@ -70,9 +86,13 @@ impl<T: Portable + Ordered> Ordered for ArchivedVec<T> {
 
     ghost hash_input = { λ v. fed.slice T.hash_input (elements T.layout.size (slice_of v)) };
 
+    ghost settling = { 0 };
+
     ghost total = { on_total slice_of (slices_total T.layout.size T.total) };
 
     ghost respects = { λ v w. slices_fed T.layout.size T.order T.hash_input T.respects (slice_of v) (slice_of w) };
+
+    ghost level = { tt };
 
     ghost by_value = { vecs_ordered T.definitions T.shape (slices T.layout.size T.order) (slices_ordered T.definitions T.shape T.layout T.has_layout T.order (as_pointee T.definitions T.pointee (one T.shape) T.order T.is_one T.by_value)) };
 
@@ -85,5 +105,9 @@ impl<T: Portable + Ordered> Ordered for ArchivedVec<T> {
     fn hash_part<H: Hasher>(part: RawView<'_>, state: &mut H) {
         let view: Ref<'_, ArchivedVec<T>> = Ref::at(part);
         ArchivedSlice::<T>::hash_part(view.as_slice().part(), state);
+    }
+
+    fn settling_bytes() -> usize {
+        0
     }
 }

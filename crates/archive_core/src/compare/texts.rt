@@ -60,9 +60,13 @@ impl Ordered for ArchivedStr {
 
     ghost hash_input = { λ v. fed.str (bytes_at v.bytes v.pos v.len) };
 
+    ghost settling = { 0 };
+
     ghost total = { on_texts (λ v. bytes_at v.bytes v.pos v.len) };
 
     ghost respects = { λ v w. text_fed (bytes_at v.bytes v.pos v.len) (bytes_at w.bytes w.pos w.len) };
+
+    ghost level = { tt };
 
     ghost by_value = { texts_ordered no_definition };
 
@@ -76,6 +80,10 @@ impl Ordered for ArchivedStr {
         let view: Ref<'_, ArchivedStr> = Ref::at(part);
         view.as_str().hash(state);
     }
+
+    fn settling_bytes() -> usize {
+        0
+    }
 }
 
 impl Ordered for ArchivedString {
@@ -83,9 +91,13 @@ impl Ordered for ArchivedString {
 
     ghost hash_input = { λ v. fed.str (string_text v.bytes v.pos) };
 
+    ghost settling = { 0 };
+
     ghost total = { on_texts (λ v. string_text v.bytes v.pos) };
 
     ghost respects = { λ v w. text_fed (string_text v.bytes v.pos) (string_text w.bytes w.pos) };
+
+    ghost level = { tt };
 
     ghost by_value = { strings_ordered no_definition };
 
@@ -98,5 +110,9 @@ impl Ordered for ArchivedString {
     fn hash_part<H: Hasher>(part: RawView<'_>, state: &mut H) {
         let view: Ref<'_, ArchivedString> = Ref::at(part);
         view.as_str().hash(state);
+    }
+
+    fn settling_bytes() -> usize {
+        0
     }
 }

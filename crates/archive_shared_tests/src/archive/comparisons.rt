@@ -4,11 +4,12 @@ use crate::archive::HELLO_WORLD;
 use archive_core::api::{access, to_bytes};
 use archive_core::boxed::ArchivedBox;
 use archive_core::option::ArchivedOption;
-use archive_core::primitive::{ArchivedI32, ArchivedU32};
+use archive_core::primitive::{ArchivedI16, ArchivedI32, ArchivedU32};
 use archive_core::rc::{ArchivedRc, RcFlavor};
 use archive_core::result::ArchivedResult;
 use archive_core::string::{ArchivedStr, ArchivedString};
 use archive_core::vec::ArchivedVec;
+use std::alloc::Global;
 use std::cmp::Ordering;
 use std::hash::{DefaultHasher, Hash, Hasher};
 use std::test::Fail;
@@ -144,5 +145,77 @@ fn an_ok_is_less_than_an_err(rt: HostRuntime) -> Result<(), Fail> {
     let (value, error): (Result<u32, u32>, Result<u32, u32>) = (Ok(9), Err(7));
     assert_eq!(rt; hash_of(&nine), hash_of(&value));
     assert_eq!(rt; hash_of(&seven), hash_of(&error));
+    Ok(())
+}
+
+// A list of ones, long enough that many bytes are compared at a time, and the same list with another number at `at`: their order, the other one's, and
+// whether they are equal.
+fn compare_long(
+    alloc: Global,
+    count: usize,
+    at: usize,
+    value: i16,
+) -> Result<(Ordering, Ordering, bool), Fail> {
+    let mut numbers: Vec<i16> = Vec::new(alloc);
+    let mut changed: Vec<i16> = Vec::new(alloc);
+    for index in 0..count {
+        numbers.push(1)?;
+        changed.push(if index == at { value } else { 1 })?;
+    }
+    let bytes = to_bytes(alloc, &numbers)?;
+    let other = to_bytes(alloc, &changed)?;
+    let list = access::<ArchivedVec<ArchivedI16>>(alloc, &bytes)?;
+    let changed = access::<ArchivedVec<ArchivedI16>>(alloc, &other)?;
+    Ok((changed.cmp(&list), list.cmp(&changed), changed == list))
+}
+
+#[test]
+fn long_lists_are_compared_as_their_numbers(rt: HostRuntime) -> Result<(), Fail> {
+    let rows = [
+        (1, (Ordering::Equal, Ordering::Equal, true)),
+        (-1, (Ordering::Less, Ordering::Greater, false)),
+        (256, (Ordering::Greater, Ordering::Less, false)),
+    ];
+    for (value, orders) in rows {
+        for (count, at) in [(1, 0), (8, 7), (9, 8), (300, 0), (300, 150), (300, 299)] {
+            let found = compare_long(rt.alloc(), count, at, value)?;
+            assert_eq!(rt; found, orders, "{value} at {at} of {count}");
+        }
+    }
+    Ok(())
+}
+
+#[test]
+fn bytes_are_compared_in_bulk(rt: HostRuntime) -> Result<(), Fail> {
+    let rows = [
+        (b"".as_slice(), b"".as_slice(), Ordering::Equal),
+        (b"", b"\x00", Ordering::Less),
+        (b"\x80", b"\x7f", Ordering::Greater),
+        (b"0123456789abcdef", b"0123456789abcdef", Ordering::Equal),
+        (
+            b"0123456789abcdef\x01",
+            b"0123456789abcdef",
+            Ordering::Greater,
+        ),
+        (
+            b"0123456789abcdef0",
+            b"0123456789abcdef0123",
+            Ordering::Less,
+        ),
+        (
+            b"0123456789abcde\xff",
+            b"0123456789abcdef0123",
+            Ordering::Greater,
+        ),
+    ];
+    for (one, two, order) in rows {
+        let bytes = to_bytes(rt.alloc(), &one.to_vec(rt.alloc())?)?;
+        let other = to_bytes(rt.alloc(), &two.to_vec(rt.alloc())?)?;
+        let view = access::<ArchivedVec<u8>>(rt.alloc(), &bytes)?;
+        let other = access::<ArchivedVec<u8>>(rt.alloc(), &other)?;
+        assert_eq!(rt; view.cmp(&other), order, "{one:?} and {two:?}");
+        assert_eq!(rt; view == other, order.is_eq(), "{one:?} and {two:?}");
+        assert_eq!(rt; hash_of(&view) == hash_of(&other), order.is_eq());
+    }
     Ok(())
 }

@@ -1,10 +1,11 @@
-use Rattle.std.proofs.Common.{◌≡◌, ◌+◌, ◌*◌, ◌<◌, ◌≤◌, true, false, arith, sym, ◌∙◌}
+use Rattle.std.proofs.Common.{◌≡◌, ◌<◌, ◌≤◌, true, false, arith, sym, ◌∙◌}
 use Rattle.std.specs.Ordering.{is_ne, nat_cmp}
 use Rattle.archive_core.proofs.Compared.{rest_start, rest_over, rest_done, rest_here, rest_later}
 use Rattle.archive_core.proofs.compare.lists.compare_elements.Goals as goal
 
 pub loop-index-init : goal.loop-index-init
-loop-index-init g c = (omega arith, rest_start g.T.Ordered.order c.args.a.bytes.now c.args.a.pos g.T.Portable.layout.size c.args.b.bytes.now c.args.b.pos c.args.a.len c.args.b.len)
+loop-index-init g c =
+    (c.pass_level-index.ensures.second, rest_start g.T.Ordered.order c.args.a.bytes.now c.args.a.pos g.T.Portable.layout.size c.args.b.bytes.now c.args.b.pos c.args.a.len c.args.b.len ∙ c.pass_level-index.ensures.level)
 
 pub returns-then-index-len : goal.returns-then-index-len
 returns-then-index-len g c =
