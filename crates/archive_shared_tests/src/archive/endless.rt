@@ -1,6 +1,6 @@
 // A value that leads to itself, under a flavor that allows it: it is accepted, and isn't read back.
 
-ghost use Rattle.std.specs.Prelude.{◌≡◌, [], length, refl, ⊤, OnOk, IfOk, IfErr};
+ghost use Rattle.std.specs.Prelude.{◌≡◌, refl, IfOk, IfErr};
 ghost use Rattle.std.proofs.Common.{inl, inr};
 ghost use Rattle.archive_check.specs.Shape.{choice, no_variant, one, variant};
 ghost use Rattle.archive_check.specs.Expressions.{shape_of, shapes_in};
@@ -8,16 +8,13 @@ ghost use Rattle.archive_check.specs.NamedLayout.{name_reached};
 ghost use Rattle.archive_check.specs.SelfCheck.Laws.{by_schema};
 ghost use Rattle.archive_check.specs.VariantsLayout.{is_recursive_choice};
 ghost use Rattle.archive_check.specs.Viewed.{Viewed};
-ghost use Rattle.archive_core.specs.Placed.{Resolved, Hindered};
 ghost use Rattle.archive_core.specs.Seen.{RefusesPart};
 ghost use Rattle.archive_core.specs.Sources.{Read};
-ghost use Rattle.archive_core.specs.Writing.{Fresh};
 ghost use Rattle.archive_shared_tests.specs.LoopShape.{loop_name, loop_shape, loop_choice, loop_definitions, loop_layout, loop_has_layout, loop_variants, knows_variants};
 
 use super::rc::Looping;
-use archive_core::api::{access, from_bytes};
+use archive_core::api::{access, deserialize};
 use archive_core::error::Error;
-use archive_core::place::Place;
 use archive_core::pooling::{Pool, Pooling, PoolingState};
 use archive_core::rc::{ArchivedRc, Shared};
 use archive_core::self_check::BySchema;
@@ -109,52 +106,18 @@ impl Choice for ArchivedLoop {
     ghost has_variants = { is_recursive_choice loop_name _ loop_variants knows_variants };
 }
 
-// A value that would hold itself: there is none.
-#[derive(Drop)]
-struct Endless {
-    ghost none: { ⊥ },
-}
-
-impl Archive for Endless {
-    type Archived = ArchivedLoop;
-
-    type Resolver = ();
-
-    ghost meaning = { λ v. absurd v.none };
-
-    ghost flat = { λ v _. absurd v.none };
-
-    ghost keys = { λ _. [] };
-
-    ghost belongs = { λ _ _. ⊤ };
-
-    ghost keyed = { λ v. absurd v.none };
-
-    ghost planned = { λ v. absurd v.none };
-
-    fn resolve(&self, _resolver: (), place: Place<'_, ArchivedLoop>) -> Result<(), Error>
-        requires fresh { Fresh 8 place.pos place.bytes.now }
-        requires same_value { ⊤ }
-        ensures resolved { OnOk result (Resolved ⟦<Self::Archived as Portable>⟧ place (absurd self.now.none)) }
-        ensures same_length { length place.exit.0.now ≡ length place.entry.bytes.now }
-        ensures refused { IfErr result (Hindered ⟦<Self::Archived as Portable>⟧ place (absurd self.now.none)) }
-    {
-        let Place { bytes: _, .. } = place;
-        Ok(())
-    }
-}
-
-// What is answered of a value that there is none of.
-fn never(_kept: Shared<Endless>) -> Error {
+// What is answered where a pool has a number for a position: this type finishes none.
+fn unread(_kept: Shared<u32>) -> Error {
     Error::OutOfMemory
 }
 
-// Follows the pointer of the value that lies there, and those that it leads to, `left` of them. No value comes of it.
-fn follow<D: Pooling<Shared<Endless>>>(
+// Follows the pointer of the value that lies there, and those that it leads to, `left` of them. No value of Rust holds itself, so a number stands for what
+// would be read, and none is.
+fn follow<D: Pooling<Shared<u32>>>(
     part: RawView<'_>,
     pool: &mut D,
     left: usize,
-) -> Result<Endless, Error>
+) -> Result<u32, Error>
     requires { Viewed loop_definitions part.bytes.now part.pos (one loop_shape) part.len }
     ensures refused { IfErr result (RefusesPart ⟦<ArchivedLoop as ArchivePointee>⟧ part D.Entries pool) }
 {
@@ -167,19 +130,19 @@ fn follow<D: Pooling<Shared<Endless>>>(
     let inner = pointer.get().part();
     match pool.start_pooling(inner.pos)? {
         PoolingState::Pending => Err(Error::CyclicDeserialize),
-        PoolingState::Finished(kept) => Err(never(kept)),
+        PoolingState::Finished(kept) => Err(unread(kept)),
         PoolingState::Started => follow(inner, pool, left),
     }
 }
 
-impl<D: Pooling<Shared<Endless>>> Deserialize<Endless, D> for ArchivedLoop {
+impl<D: Pooling<Shared<u32>>> Deserialize<u32, D> for ArchivedLoop {
     fn deserialize_part(
         _alloc: Global,
         part: RawView<'_>,
         deserializer: &mut D,
-    ) -> Result<Endless, Error>
+    ) -> Result<u32, Error>
         requires { Viewed loop_definitions part.bytes.now part.pos (one loop_shape) part.len }
-        ensures read { IfOk result (Read ⟦<Self as ArchivePointee>⟧ part D.Entries deserializer ⟦<Endless as Archive>⟧) }
+        ensures read { IfOk result (Read ⟦<Self as ArchivePointee>⟧ part D.Entries deserializer ⟦<u32 as Archive>⟧) }
         ensures refused { IfErr result (RefusesPart ⟦<Self as ArchivePointee>⟧ part D.Entries deserializer) }
     {
         follow(part, deserializer, part.bytes.len())
@@ -192,9 +155,19 @@ const ONE: &[u8] = b"\0\0\0\xff\xfc\xff\xff\xff\0\0\xf6\xff\xf4\xff\xff\xff";
 // Two values that lead to each other, and a root that leads to the last of them.
 const TWO: &[u8] = b"\0\0\0\0\x04\0\0\0\0\0\0\0\xf4\xff\xff\xff\0\0\0\0\xf4\xff\xff\xff";
 
+// Checks the bytes and reads back what lies at their end.
+fn read<D: Pooling<Shared<u32>>>(
+    alloc: Global,
+    bytes: &[u8],
+    deserializer: &mut D,
+) -> Result<u32, Error> {
+    let root = access::<ArchivedLoop>(alloc, bytes)?;
+    deserialize(alloc, root, deserializer)
+}
+
 // The number of the refusal of a reading back, or 0 where there is none.
-fn refusal<D: Pooling<Shared<Endless>>>(alloc: Global, bytes: &[u8], deserializer: &mut D) -> u32 {
-    match from_bytes::<Endless, D>(alloc, bytes, deserializer) {
+fn refusal<D: Pooling<Shared<u32>>>(alloc: Global, bytes: &[u8], deserializer: &mut D) -> u32 {
+    match read(alloc, bytes, deserializer) {
         Ok(_) => 0,
         Err(error) => error.number(),
     }
@@ -204,7 +177,7 @@ fn refusal<D: Pooling<Shared<Endless>>>(alloc: Global, bytes: &[u8], deserialize
 fn a_circle_is_accepted_and_refused_by_a_pool(rt: HostRuntime) -> Result<(), Fail> {
     for bytes in [ONE, TWO] {
         assert!(rt; access::<ArchivedLoop>(rt.alloc(), bytes).is_ok());
-        let mut pool: Pool<Shared<Endless>> = Pool::new(rt.alloc());
+        let mut pool: Pool<Shared<u32>> = Pool::new(rt.alloc());
         assert_eq!(rt; refusal(rt.alloc(), bytes, &mut pool), 13);
     }
     Ok(())
