@@ -1,4 +1,4 @@
-//! Arrays: elements one behind another, where they lie. As sources they are written and read back element by element.
+//! Arrays: elements one behind another, where they lie. As sources they are written element by element.
 
 ghost use Rattle.std.specs.Prelude.{◌≡◌, ◌+◌, ◌-◌, ◌*◌, ◌<◌, ◌↔◌, IfSome, IsSome, IsTrue};
 ghost use Rattle.archive_check.specs.Shape.{one};

@@ -175,9 +175,9 @@ impl<'a, T: Portable, const N: usize> Seal<'a, [T; N]> {
         ensures viewed { Viewed T.definitions result.bytes.now result.pos T.pointee result.len }
         ensures beside { SealsBeside T.definitions (one (array N T.shape)) T.pointee result self.entry }
     {
-        let spot = self.as_ref().index(index).spot();
+        let element = self.as_ref().index(index).spot();
         let Seal { bytes, .. } = self;
-        spot.seal(bytes)
+        element.seal(bytes)
     }
 }
 

@@ -1,6 +1,6 @@
 // Arrays.
 
-use archive_core::api::{HighValidator, access, to_bytes};
+use archive_core::api::{HighValidator, access, access_mut, to_bytes};
 use archive_core::primitive::ArchivedU16;
 use archive_core::shape::Schema;
 use archive_core::string::ArchivedString;
@@ -59,5 +59,14 @@ fn the_elements_of_an_array_come_from_both_ends(rt: HostRuntime) -> Result<(), F
     assert_eq!(rt; items.next().map(|number| number.get()), Some(1));
     assert_eq!(rt; items.next().map(|number| number.get()), Some(2));
     assert!(rt; items.next().is_none());
+    Ok(())
+}
+
+#[test]
+fn an_element_is_written_over(rt: HostRuntime) -> Result<(), Fail> {
+    let mut bytes = [1, 0, 2, 0, 3, 0];
+    let numbers = access_mut::<[ArchivedU16; 3]>(rt.alloc(), &mut bytes)?;
+    numbers.index(1).write(258);
+    assert_eq!(rt; bytes, [1, 0, 2, 1, 3, 0]);
     Ok(())
 }
