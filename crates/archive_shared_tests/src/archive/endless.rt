@@ -107,7 +107,9 @@ impl Choice for ArchivedLoop {
 }
 
 // What is answered where a pool has a number for a position: this type finishes none.
-fn unread(_kept: Shared<u32>) -> Error {
+fn unread(_kept: Shared<u32>) -> Error
+    ensures { result ≡ Error.OutOfMemory }
+{
     Error::OutOfMemory
 }
 
