@@ -1,6 +1,6 @@
 // A value that leads to itself, under a flavor that allows it: it is accepted, and isn't read back.
 
-ghost use Rattle.std.specs.Prelude.{◌≡◌, refl, IfOk, IfErr};
+ghost use Rattle.std.specs.Prelude.{◌≡◌, refl, IfOk, IfErr, IsErr};
 ghost use Rattle.std.proofs.Common.{inl, inr};
 ghost use Rattle.archive_check.specs.Shape.{choice, no_variant, one, variant};
 ghost use Rattle.archive_check.specs.Expressions.{shape_of, shapes_in};
@@ -121,6 +121,7 @@ fn follow<D: Pooling<Shared<u32>>>(
     left: usize,
 ) -> Result<u32, Error>
     requires { Viewed loop_definitions part.bytes.now part.pos (one loop_shape) part.len }
+    ensures none { IsErr result }
     ensures refused { IfErr result (RefusesPart ⟦<ArchivedLoop as ArchivePointee>⟧ part D.Entries pool) }
 {
     let Some(left) = left.checked_sub(1) else {

@@ -1,4 +1,4 @@
-use Rattle.std.proofs.Common.{◌≡◌, ◌∙◌, ◌+◌, sym, slice_index}
+use Rattle.std.proofs.Common.{◌≡◌, ◌∙◌, ◌+◌, refl, sym, slice_index}
 use Rattle.archive_core.proofs.Causes.{err_from}
 use Rattle.archive_shared_tests.specs.LoopShape.{loop_tag}
 use Rattle.archive_shared_tests.proofs.Loops.{pending_there, refused_there}
@@ -15,7 +15,7 @@ returns-in-Pending g t c =
     let there : c.payload-pointer.result.pos ≡ c.at-view.result.pos + 4 = rw tag at p.position in
     let viewed = rw (p.buffer, p.length, there, a.buffer, a.position) at c.payload-pointer.result.valid in
     let pending = rw (r.position, i.position, p.buffer, there, a.buffer, a.position, c.in-Pending.is) at c.in_ok-start_pooling.ensures.answer in
-    record { refused = pending_there c.args.part.bytes.now c.args.part.pos c.args.part.len first viewed g.D.Entries.keeps _ pending }
+    record { none = refl; refused = pending_there c.args.part.bytes.now c.args.part.pos c.args.part.len first viewed g.D.Entries.keeps _ pending }
 
 pub returns-in-Started : goal.returns-in-Started
 returns-in-Started g t c =
@@ -31,6 +31,7 @@ returns-in-Started g t c =
     let unknown = rw (r.position, i.position, p.buffer, there, a.buffer, a.position, c.in-Started.is) at c.in_ok-start_pooling.ensures.answer in
     let h = rw (r.buffer, r.position, r.length, i.buffer, i.position, i.length, p.buffer, there, a.buffer, a.position) at c.follow.ensures.refused in
     record {
+      none = c.follow.ensures.none;
       refused = err_from c.follow.result h (λ e refused. refused_there c.args.part.bytes.now c.args.part.pos c.args.part.len first viewed g.D.Entries.keeps _ _ e
           (g.D.Entries.keeps_nothing _) (g.D.Entries.keeps_nothing _) after unknown refused);
     }
