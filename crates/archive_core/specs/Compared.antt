@@ -64,6 +64,10 @@ level_values number_of R (suc n) o = λ x y e. ap (λ bs. R (number_of bs) (numb
 abbrev pub AreSameBytes : ℕ → List ℕ → ℕ → List ℕ → ℕ → Type 0
 AreSameBytes n a x b y = bytes_at a x n ≡ bytes_at b y n
 
+-- two slices are in the order of what is left of them from the element i on, and of what is left from j on
+abbrev pub AreLevelBetween : ℕ → (Standing → Standing → Ordering) → ℕ → ℕ → Standing → Standing → Type 0
+AreLevelBetween z R i j x y = slices_from z R i x y ≡ slices_from z R j x y
+
 pub slices_total : (z : ℕ) {R : Standing → Standing → Ordering} → IsTotalOrder R → IsTotalOrder (slices z R)
 slices_total z o = on_total (elements z) (lists_total o)
 

@@ -2,7 +2,7 @@
 
 ghost use Rattle.std.specs.Prelude.{◌≡◌, ◌+◌, ◌*◌, ◌<◌, ◌≤◌, IsTrue};
 ghost use Rattle.archive_check.specs.Reads.{bytes_at};
-ghost use Rattle.archive_core.specs.Compared.{slices_from, AreSameBytes};
+ghost use Rattle.archive_core.specs.Compared.{AreLevelBetween, AreSameBytes};
 ghost use Rattle.archive_core.specs.Seen.{shown};
 
 use super::Ordered;
@@ -43,7 +43,8 @@ fn are_same<T: Portable + Ordered>(
     requires first { from + count ≤ a.len }
     requires second { from + count ≤ b.len }
     requires sized { T.settling ≡ T.layout.size }
-    ensures { IsTrue result → AreSameBytes (count * T.layout.size) a.entry.bytes.now (a.entry.pos + from * T.layout.size) b.entry.bytes.now (b.entry.pos + from * T.layout.size) }
+    ensures { IsTrue result → AreSameBytes (count * T.layout.size)
+        a.entry.bytes.now (a.entry.pos + from * T.layout.size) b.entry.bytes.now (b.entry.pos + from * T.layout.size) }
 {
     bytes_of(a, from, count) == bytes_of(b, from, count)
 }
@@ -61,7 +62,7 @@ fn pass<T: Portable + Ordered>(
     requires some { (0 < T.layout.size) × (0 < piece) }
     ensures first { result ≤ a.entry.len }
     ensures second { result ≤ b.entry.len }
-    ensures level { slices_from T.layout.size T.order from (shown a.entry) (shown b.entry) ≡ slices_from T.layout.size T.order result (shown a.entry) (shown b.entry) }
+    ensures level { AreLevelBetween T.layout.size T.order from result (shown a.entry) (shown b.entry) }
 {
     let both = a.len().min(b.len());
     let mut at = from;
@@ -83,7 +84,7 @@ pub(super) fn pass_level<T: Portable + Ordered>(
 ) -> usize
     ensures first { result ≤ a.entry.len }
     ensures second { result ≤ b.entry.len }
-    ensures level { slices_from T.layout.size T.order 0 (shown a.entry) (shown b.entry) ≡ slices_from T.layout.size T.order result (shown a.entry) (shown b.entry) }
+    ensures level { AreLevelBetween T.layout.size T.order 0 result (shown a.entry) (shown b.entry) }
 {
     let size = T::settling_bytes();
     if size == 0 || size != T::size() || a.is_empty() {
