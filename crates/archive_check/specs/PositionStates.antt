@@ -44,6 +44,10 @@ IsStartAnswer (Some old) new (Err TypeMismatch) = SameType old.entry new → ⊥
 IsStartAnswer (Some old) new (Err MetadataMismatch) = SameType old.entry new × (old.entry.length ≢ new.length)
 IsStartAnswer (Some old) new (Err e) = ⊥
 
+-- a position was met so, and is finished
+abbrev pub IsFinishedAs : Option PositionState → Entry → Type 0
+IsFinishedAs met new = met ≡ Some (record { entry = new; finished = true })
+
 -- a position that wasn't met is pending now, one that was stays as it was
 abbrev pub started_at : Option PositionState → Entry → PositionState
 started_at None new = record { entry = new; finished = false }

@@ -7,6 +7,7 @@ ghost use Rattle.archive_check.specs.check.Lists.{list_of};
 ghost use Rattle.archive_check.specs.plan.SoundPlans.{IsSound};
 ghost use Rattle.archive_check.specs.check.LoopInvariant.{PartFits, PartsFit, ElementsFit, IsLegalHere, PartIsLegalHere, LiesLegal, IsToOpen};
 
+mod finished;
 pub mod regions;
 mod shallow;
 mod turns;

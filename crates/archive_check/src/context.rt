@@ -1,7 +1,7 @@
 //! What a check keeps: the range that regions may lie in, and the shared positions that it came to.
 
-ghost use Rattle.std.specs.Prelude.{◌≡◌, ◌<◌, ◌≤◌, ◌↔◌, OnOk, OnErr, IfOk, IfErr, IsErrOf, Some};
-ghost use Rattle.archive_check.specs.PositionStates.{Positions, IsStartAnswer, Starts, finish_answer, finished, entry_as};
+ghost use Rattle.std.specs.Prelude.{◌≡◌, ◌<◌, ◌≤◌, ◌↔◌, IsTrue, OnOk, OnErr, IfOk, IfErr, IsErrOf, Some};
+ghost use Rattle.archive_check.specs.PositionStates.{Positions, IsStartAnswer, IsFinishedAs, Starts, finish_answer, finished, entry_as};
 ghost use Rattle.archive_check.specs.Ranges.{RangeState, subtree_answer, pushed, pop_answer, popped};
 
 pub mod positions;
@@ -87,6 +87,17 @@ pub trait SharedContext: Context {
         ensures started { OnOk result (Starts Self.positions self position flavor pointee length) }
         ensures unchanged { OnErr result (Self.positions self.new ≡ Self.positions self.old) }
         ensures range { Self.state self.new ≡ Self.state self.old };
+
+    /// Whether the position was started with this flavor, pointee and length, and is finished: exactly where `start_shared` answers `Finished`, which
+    /// changes nothing. Our own, so that the many pointers to what was checked before are passed over with no wide answer.
+    fn is_finished(
+        &self,
+        flavor: &FlavorInfo,
+        pointee: &Pointee,
+        position: i128,
+        length: usize,
+    ) -> bool
+        ensures { IsTrue result ↔ IsFinishedAs (Self.positions self.now position) (entry_as flavor.now pointee.now length) };
 
     /// Leaves the pointee at `position`, whatever its flavor and pointee. Refused with `NotStarted`, 14, exactly where it wasn't started, and with
     /// `AlreadyFinished`, 15, exactly where it is finished.

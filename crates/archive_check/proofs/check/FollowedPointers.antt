@@ -1,5 +1,5 @@
 -- A shared pointer is followed: what the context answers, and what is left to do.
-use Rattle.std.proofs.Common.{◌≡◌, ◌⊎◌, inl, inr, ℕ, ℤ, pos, negsuc, ◌+ℤ◌, refl, sym, ap, ◌∙◌, ◌<◌, Bool, true, false, IsTrue, List, ◌∷◌, Option, Some, None, Result, Err}
+use Rattle.std.proofs.Common.{◌≡◌, ◌≢◌, ◌⊎◌, inl, inr, ℕ, ℤ, pos, negsuc, ◌+ℤ◌, refl, sym, ap, ◌∙◌, ◌<◌, Bool, true, false, IsTrue, List, ◌∷◌, Option, Some, None, Result, Err}
 use Rattle.std.proofs.Common.{◌≤ℤ◌, nat_abs, arith, length, slice_index_or}
 use Rattle.std.proofs.lemmas.Int.{ints}
 use Rattle.std.specs.Int.{FitsUnsigned}
@@ -9,17 +9,18 @@ use Rattle.std.specs.FinMap.{insert}
 use Rattle.archive_check.specs.declared.format.error.Error.{Error}
 use Rattle.archive_check.specs.declared.format.error.Error.TheVariants.{CyclicValidate, TypeMismatch, MetadataMismatch}
 use Rattle.archive_check.specs.declared.plan.PointeeKind.{PointeeKind}
+use Rattle.archive_check.specs.declared.plan.NodeKind.TheVariants.{Shared, Weak}
 use Rattle.archive_check.specs.declared.plan.SharedType.{SharedType}
 use Rattle.archive_check.specs.declared.check.Checker.{Checker}
 use Rattle.archive_check.specs.declared.check.worklist.Work.{Work}
 use Rattle.archive_check.specs.declared.check.worklist.Work.TheVariants.{Finish}
 use Rattle.archive_check.specs.Ranges.{RangeState}
-use Rattle.archive_check.specs.PositionStates.{PositionState, Positions, IsStartAnswer, started}
+use Rattle.archive_check.specs.PositionStates.{PositionState, Positions, IsStartAnswer, IsFinishedAs, started}
 use Rattle.archive_check.specs.Reads.{i32_at}
 use Rattle.archive_check.specs.Tour.{Seen, Entry}
 use Rattle.archive_check.specs.Trail.{Fault, cyclic, other_type, other_length}
-use Rattle.archive_check.specs.check.Runs.{Outcome, refused, IsAt, pointee_count, pointee_length, entry_for, EnterRuns, FollowRuns, follow_before, follow_new, follow_again, follow_type, follow_length, follow_cycle}
-use Rattle.archive_check.specs.check.LoopInvariant.{Stage, stage, pending_in, Ready, Agreeing, IsOrderly, Then, and_then, stops, Entering, Following, TurnLeads, TurnRefuses, IsStopped}
+use Rattle.archive_check.specs.check.Runs.{Outcome, done, refused, IsAt, IsNode, run_shared, run_weak, run_null, pointee_count, pointee_length, entry_for, EnterRuns, FollowRuns, follow_before, follow_new, follow_again, follow_type, follow_length, follow_cycle}
+use Rattle.archive_check.specs.check.LoopInvariant.{Stage, stage, pending_in, Ready, Agrees, Agreeing, LeadsBack, LeadsNowhere, IsOrderly, Then, and_then, stops, Entering, Following, TurnLeads, TurnRefuses, IsStopped}
 use Rattle.archive_check.specs.check.Turns.{ComesInto}
 use Rattle.archive_check.proofs.check.ContextAgrees.{agrees_same, SeenAs, seen_as, met_none, agrees_new, started_again}
 use Rattle.archive_check.proofs.check.OrderlyContexts.{orderly_levels, orderly_same, orderly_new}
@@ -119,6 +120,26 @@ module _ (m : Checker) (s : RangeState) (met : Positions) (old : List Work) (k j
               (go.0, go.1, λ o r. following (turn_new m at target_is none (rw (same, list) at (go.2 o r))));
         }
 
+-- what was met before and is finished leads nowhere, whatever is pending
+follow_back : {m : Checker} {met : Positions} {k p : ℕ} {target : PointeeKind} (j : ℕ) → LeadsBack m met k target p → {depth : Option ℕ} {pending : List ℕ} {regions : ℕ} (stop start : ℕ) {seen : Seen} → Agrees depth met pending regions seen
+    → FollowRuns m pending depth stop k target j (pointee_count m.bytes.now p target) (pointee_length m.bytes.now p target) (pos p +ℤ i32_at m.bytes.now p) start seen (done start seen)
+follow_back {m = m} {met = met} {k = k} {p = p} {target = target} j back {depth = depth} {pending = pending} stop start {seen = seen} a = by_place (pos p +ℤ i32_at m.bytes.now p) back.finished
+  where
+    by_place : (z : ℤ) → met z ≡ Some (record { entry = entry_for back.shared_type (pointee_length m.bytes.now p target); finished = true }) → FollowRuns m pending depth stop k target j (pointee_count m.bytes.now p target) (pointee_length m.bytes.now p target) z start seen (done start seen)
+    by_place (pos t) is =
+        let known = seen_as a t (entry_for back.shared_type (pointee_length m.bytes.now p target)) true is in
+        follow_again back.at refl known.is (inl (known.gone refl))
+    by_place (negsuc t) is = absurd (let none = a.before t in cc)
+
+pub shared_nowhere : {m : Checker} {met : Positions} {i k j p : ℕ} {target : PointeeKind} → IsNode m i (Shared k target j) → LeadsBack m met k target p → LeadsNowhere m met i p
+shared_nowhere {j = j} is back depth pending regions stop start seen a = run_shared is (follow_back j back stop start a)
+
+pub weak_nowhere : {m : Checker} {met : Positions} {i k j p : ℕ} {target : PointeeKind} → IsNode m i (Weak k target j) → i32_at m.bytes.now p ≢ pos 1 → LeadsBack m met k target p → LeadsNowhere m met i p
+weak_nowhere {j = j} is other back depth pending regions stop start seen a = run_weak is other (follow_back j back stop start a)
+
+pub null_nowhere : {m : Checker} {met : Positions} {i k j p : ℕ} {target : PointeeKind} → IsNode m i (Weak k target j) → i32_at m.bytes.now p ≡ pos 1 → LeadsNowhere m met i p
+null_nowhere is null depth pending regions stop start seen a = run_null is null
+
 -- positions as indices
 
 pub index_of : (z : ℤ) (b : ℕ) → pos 0 ≤ℤ z → b ≡ nat_abs z → z ≡ pos b
@@ -177,6 +198,10 @@ follows_started {m = m} {s = s} {met = met} {old = old} {k = k} {j = j} {p = p} 
 })
 follows_started {m = m} {s = s} {met = met} {old = old} {k = k} {j = j} {p = p} {n = n} {l = l} {target = target} {z = z} {x = x} {s1 = s1} {met1 = met1} {result = None} {fault = fault} r same starts new at list h =
     record { some = tt; none = refuses_new m s met old k j p n l target z x r.type_is r.count_is r.length_is r.position_is s1 met1 same starts new fault h.none }
+
+-- what a context says to be finished
+pub leads_back : {m : Checker} {met : Positions} {k p n l : ℕ} {target : PointeeKind} {z : ℤ} {x : SharedType} {y : Bool} → SharedAt m k p target n l z x → (IsTrue y → IsFinishedAs (met z) (entry_for x l)) → IsTrue y → LeadsBack m met k target p
+leads_back r answer so = record { shared_type = _; at = r.type_is; finished = rw (← r.length_is, ← r.position_is) (answer so) }
 
 pub answer_of : (o : Option PositionState) (e : Entry) {r r' : Result ValidationState Error} → r ≡ r' → IsStartAnswer o e r → IsStartAnswer o e r'
 answer_of o e is h = rw is at h

@@ -15,8 +15,8 @@ use Rattle.archive_check.specs.declared.check.worklist.Work.TheVariants.{Element
 use Rattle.archive_check.specs.Ranges.{RangeState}
 use Rattle.archive_check.specs.PositionStates.{Positions}
 use Rattle.archive_check.specs.Tour.{Seen}
-use Rattle.archive_check.specs.check.Runs.{IsNode, Outcome, IsAt, Takes, ListRuns, elements_end, elements_next, list_elements, list_elements_stop}
-use Rattle.archive_check.specs.check.LoopInvariant.{LiesLegal, lies_free, lies_leaf, PartFits, ElementsFit, IsLegalHere, Ready, stage, Listing, TurnLeads, level, cost}
+use Rattle.archive_check.specs.check.Runs.{IsNode, Outcome, IsAt, Takes, NodeRuns, done, ListRuns, elements_end, elements_next, list_elements, list_elements_stop}
+use Rattle.archive_check.specs.check.LoopInvariant.{LiesLegal, lies_free, lies_leaf, PartFits, ElementsFit, IsLegalHere, LeadsNowhere, Agreeing, pending_in, regions_in, Ready, stage, Listing, TurnLeads, level, cost}
 use Rattle.archive_check.proofs.check.TurnsEnd.{power_falls, level_same}
 use Rattle.archive_check.proofs.Elements.{same_at}
 use Rattle.archive_check.proofs.plan.PlanSizes.{take_same}
@@ -26,6 +26,18 @@ takes_size : (m : Checker) (j z : ℕ) (x : Node) {y : ℕ} → IsAt m.nodes.now
 takes_size m j z x {y = y} at t size =
     let is : x.size ≡ Some y = ap (λ q. q.size) (same_at at t.at) ∙ t.size_is in
     record { node = x; at = at; size_is = is ∙ ap Some (sym (size y is)) }
+
+-- what holds of each number before i and of i holds of each before the next one
+pub holds_more : (Q : ℕ → Type 0) (i : ℕ) → ((k : ℕ) → k < i → Q k) → Q i → (k : ℕ) → k < i + 1 → Q k
+holds_more Q i before here k to = at (nat_eq k i) refl
+  where
+    at : (t : Bool) → nat_eq k i ≡ t → Q k
+    at true e = let same : k ≡ i = grind (arith, nat_tests) in rw same here
+    at false e = let other : k ≢ i = grind (arith, nat_tests) in before k (omega arith)
+
+-- what lies legal leads nowhere
+pub legal_nowhere : {m : Checker} {met : Positions} {i p : ℕ} → IsLegalHere m i p → LeadsNowhere m met i p
+legal_nowhere h depth pending regions stop start seen agreed = h pending depth stop start seen
 
 -- the size that was read of the node
 pub node_takes : {m : Checker} {j n p z : ℕ} {x : Node} → ElementsFit m j n p → x ≡ slice_index_or m.nodes.now j x → z ≡ unwrap_or (slice_index_or m.nodes.now j x).size 0 → Takes m j z
@@ -45,34 +57,31 @@ module _ (m : Checker) (j z : ℕ) (takes : Takes m j z) where
   pub element_fits : (n p k : ℕ) → ElementsFit m j n p → k < n → PartFits m j (p + k * z)
   element_fits n p k f lt = record { size = z; takes = takes; fits = room n p k f lt }
 
-  pub passes_more : (p i : ℕ) → ((k : ℕ) → k < i → IsLegalHere m j (p + k * z)) → IsLegalHere m j (p + i * z) → (k : ℕ) → k < i + 1 → IsLegalHere m j (p + k * z)
-  passes_more p i before here k to = at (nat_eq k i) refl
-    where
-      at : (t : Bool) → nat_eq k i ≡ t → IsLegalHere m j (p + k * z)
-      at true e = let same : k ≡ i = grind (arith, nat_tests) in rw same here
-      at false e = let other : k ≢ i = grind (arith, nat_tests) in before k (omega arith)
-
   module _ (old : List Work) where
-    pass_one : {pd : List ℕ} {d : Option ℕ} {e n p s : ℕ} {seen : Seen} {o : Outcome} → IsLegalHere m j p → 0 < n → ListRuns m pd d e (Elements j (n - 1) (p + z) ∷ old) s seen o → ListRuns m pd d e (Elements j n p ∷ old) s seen o
-    pass_one {pd = pd} {d = d} {e = e} {s = s} {seen = seen} h lt (list_elements vs r) = list_elements (elements_next lt takes (h pd d e s seen) vs) r
-    pass_one {pd = pd} {d = d} {e = e} {s = s} {seen = seen} h lt (list_elements_stop vs) = list_elements_stop (elements_next lt takes (h pd d e s seen) vs)
+    pass_one : {pd : List ℕ} {d : Option ℕ} {e n p s : ℕ} {seen : Seen} {o : Outcome} → NodeRuns m pd d e j p s seen (done s seen) → 0 < n → ListRuns m pd d e (Elements j (n - 1) (p + z) ∷ old) s seen o → ListRuns m pd d e (Elements j n p ∷ old) s seen o
+    pass_one h lt (list_elements vs r) = list_elements (elements_next lt takes h vs) r
+    pass_one h lt (list_elements_stop vs) = list_elements_stop (elements_next lt takes h vs)
 
-    pass_runs : (c n p n' q : ℕ) {pd : List ℕ} {d : Option ℕ} {e s : ℕ} {seen : Seen} {o : Outcome} → c ≤ n → n' ≡ n - c → q ≡ p + c * z → ((k : ℕ) → k < c → IsLegalHere m j (p + k * z)) → ListRuns m pd d e (Elements j n' q ∷ old) s seen o → ListRuns m pd d e (Elements j n p ∷ old) s seen o
+    pass_runs : (c n p n' q : ℕ) {pd : List ℕ} {d : Option ℕ} {e s : ℕ} {seen : Seen} {o : Outcome} → c ≤ n → n' ≡ n - c → q ≡ p + c * z → ((k : ℕ) → k < c → NodeRuns m pd d e j (p + k * z) s seen (done s seen)) → ListRuns m pd d e (Elements j n' q ∷ old) s seen o → ListRuns m pd d e (Elements j n p ∷ old) s seen o
     pass_runs zero n p n' q le few at h r = let same : n' ≡ n = omega arith in let there : q ≡ p = omega arith in rw (same, there) at r
-    pass_runs (suc c) n p n' q le few at h r =
+    pass_runs (suc c) n p n' q {pd = pd} {d = d} {e = e} {s = s} {seen = seen} le few at h r =
         let here : p + 0 * z ≡ p = omega arith in
-        let first : IsLegalHere m j p = rw here at (h 0 (omega arith)) in
+        let first : NodeRuns m pd d e j p s seen (done s seen) = rw here at (h 0 (omega arith)) in
         pass_one first (omega arith) (pass_runs c (n - 1) (p + z) n' q (omega arith) (omega arith) (omega arith)
         (λ k lt. let there : p + (k + 1) * z ≡ p + z + k * z = omega arith in rw there at (h (k + 1) (omega arith))) r)
 
-    module _ (s : RangeState) (met : Positions) (n p c : ℕ) (le : c ≤ n) (stays : (k : ℕ) → k < c → IsLegalHere m j (p + k * z)) where
-      -- all elements are passed over
-      pub pass_all : c ≡ n → TurnLeads m (Listing m) (stage s met (Elements j n p ∷ old)) (stage s met old)
-      pass_all all = record { keeps = λ h. h; leads = λ seen agreed. (seen, agreed, λ o r. pass_runs c n p 0 (p + c * z) le (omega arith) refl stays (list_elements (elements_end refl) r)) }
+    module _ (s : RangeState) (n p c : ℕ) (le : c ≤ n) where
+      module _ (met : Positions) (stays : (k : ℕ) → k < c → LeadsNowhere m met j (p + k * z)) where
+        stay : {seen : Seen} → Agreeing (stage s met old) seen → (k : ℕ) → k < c → NodeRuns m (pending_in old) s.depth s.end j (p + k * z) s.start seen (done s.start seen)
+        stay {seen = seen} agreed k lt = stays k lt s.depth (pending_in old) (regions_in old) s.end s.start seen agreed
 
-      -- those before the next one are passed over
-      pub pass_leads : TurnLeads m (Listing m) (stage s met (Elements j n p ∷ old)) (stage s met (Elements j (n - c) (p + c * z) ∷ old))
-      pass_leads = record { keeps = λ h. h; leads = λ seen agreed. (seen, agreed, λ o r. pass_runs c n p (n - c) (p + c * z) le refl refl stays r) }
+        -- all elements are passed over
+        pub pass_all : c ≡ n → TurnLeads m (Listing m) (stage s met (Elements j n p ∷ old)) (stage s met old)
+        pass_all all = record { keeps = λ h. h; leads = λ seen agreed. (seen, agreed, λ o r. pass_runs c n p 0 (p + c * z) le (omega arith) refl (stay agreed) (list_elements (elements_end refl) r)) }
+
+        -- those before the next one are passed over
+        pub pass_leads : TurnLeads m (Listing m) (stage s met (Elements j n p ∷ old)) (stage s met (Elements j (n - c) (p + c * z) ∷ old))
+        pass_leads = record { keeps = λ h. h; leads = λ seen agreed. (seen, agreed, λ o r. pass_runs c n p (n - c) (p + c * z) le refl refl (stay agreed) r) }
 
       pub pass_ready : Ready m s (Elements j n p ∷ old) → Ready m s (Elements j (n - c) (p + c * z) ∷ old)
       pass_ready r =

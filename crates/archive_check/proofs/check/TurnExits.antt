@@ -19,7 +19,7 @@ use Rattle.archive_check.specs.Reads.{i32_at}
 use Rattle.archive_check.specs.plan.SoundPlans.{IsSound}
 use Rattle.archive_check.specs.check.Lists.{IsMore}
 use Rattle.archive_check.specs.check.Runs.{Outcome, refused, IsAt, IsNode, IsVariant, IsNoVariant, Takes, pointee_count, run_tag, run_null}
-use Rattle.archive_check.specs.check.LoopInvariant.{Stage, stage, Ready, PartIsLegalHere, IsLegalHere, Listing, Entering, Following, TurnLeads, TurnRefuses, IsStopped, stops, pending_in, power, level, cost}
+use Rattle.archive_check.specs.check.LoopInvariant.{Stage, stage, Ready, PartIsLegalHere, LeadsNowhere, Listing, Entering, Following, TurnLeads, TurnRefuses, IsStopped, stops, pending_in, power, level, cost}
 use Rattle.archive_check.specs.check.Entered.{LeavesFrom}
 use Rattle.archive_check.specs.check.Turns.{Turned, TurnsFrom, ComesInto}
 use Rattle.archive_check.proofs.check.OrderlyContexts.{orderly_levels}
@@ -175,9 +175,9 @@ part_opened {m = m} {s = s} {old = old} {rest = rest} {a = a} {b = b} {c = c} {p
 
 -- likewise the element c
 pub element_opened : {m : Checker} {s : RangeState} {old rest : List Work} {j n p c z : ℕ}
-    → Ready m s (Elements j n p ∷ old) → (takes : Takes m j z) → ((k : ℕ) → k < c → IsLegalHere m j (p + k * z)) → c < n → IsMore (Elements j (n - c - 1) (p + c * z + z)) (n - c - 1 ≡ 0) rest old → Ready m s (PartWork j (p + c * z) ∷ rest)
-element_opened {m = m} {s = s} {old = old} {rest = rest} {j = j} {n = n} {p = p} {c = c} {z = z} ready takes passed lt more =
-    element_ready m s none_met old rest j (n - c) (p + c * z) z takes.node (pass_ready m j z takes old s none_met n p c (omega arith) passed ready) (omega arith) takes.at (λ v q. let same : Some z ≡ Some v = sym takes.size_is ∙ q in cc) more
+    → Ready m s (Elements j n p ∷ old) → (takes : Takes m j z) → c < n → IsMore (Elements j (n - c - 1) (p + c * z + z)) (n - c - 1 ≡ 0) rest old → Ready m s (PartWork j (p + c * z) ∷ rest)
+element_opened {m = m} {s = s} {old = old} {rest = rest} {j = j} {n = n} {p = p} {c = c} {z = z} ready takes lt more =
+    element_ready m s none_met old rest j (n - c) (p + c * z) z takes.node (pass_ready m j z takes old s n p c (omega arith) ready) (omega arith) takes.at (λ v q. let same : Some z ≡ Some v = sym takes.size_is ∙ q in cc) more
   where
     none_met : Positions
     none_met position = None
@@ -208,19 +208,19 @@ opens_free {m = m} {s = s} {met = met} {old = old} {j = j} {n = n} {p = p} ready
     turn_taken (record { ready = record { below = ready.below; fits = ready.fits.1 }; leads = elements_free_leads m s met old j n p is ready; ends = falls_none _ _ })
 
 pub opens_no_element : {m : Checker} {s : RangeState} {met : Positions} {old : List Work} {j n p c z : ℕ} {u : Unit {0}} {fault : Error}
-    → Ready m s (Elements j n p ∷ old) → Takes m j z → ((k : ℕ) → k < c → IsLegalHere m j (p + k * z)) → c ≤ n → c ≡ n → OpensElements m s met old j n p (stage s met old) (Some u) fault
+    → Ready m s (Elements j n p ∷ old) → Takes m j z → ((k : ℕ) → k < c → LeadsNowhere m met j (p + k * z)) → c ≤ n → c ≡ n → OpensElements m s met old j n p (stage s met old) (Some u) fault
 opens_no_element {m = m} {s = s} {met = met} {old = old} {j = j} {n = n} {p = p} {c = c} {z = z} ready takes passed le all =
-    turn_taken (record { ready = record { below = ready.below; fits = ready.fits.1 }; leads = pass_all m j z takes old s met n p c le passed all; ends = falls_none _ _ })
+    turn_taken (record { ready = record { below = ready.below; fits = ready.fits.1 }; leads = pass_all m j z takes old s n p c le met passed all; ends = falls_none _ _ })
 
 pub opens_element : {m : Checker} {s : RangeState} {met : Positions} {old rest : List Work} {j n p c z : ℕ} {y : Stage} {r : Option (Unit {0})} {fault : Error}
-    → Ready m s (Elements j n p ∷ old) → (takes : Takes m j z) → ((k : ℕ) → k < c → IsLegalHere m j (p + k * z)) → c < n → IsMore (Elements j (n - c - 1) (p + c * z + z)) (n - c - 1 ≡ 0) rest old
+    → Ready m s (Elements j n p ∷ old) → (takes : Takes m j z) → ((k : ℕ) → k < c → LeadsNowhere m met j (p + k * z)) → c < n → IsMore (Elements j (n - c - 1) (p + c * z + z)) (n - c - 1 ≡ 0) rest old
     → Opens m s met rest j (p + c * z) y r fault → OpensElements m s met old j n p y r fault
 opens_element {m = m} {s = s} {met = met} {old = old} {rest = rest} {j = j} {n = n} {p = p} {c = c} {z = z} ready takes passed lt more h =
-    let from_c = pass_ready m j z takes old s met n p c (omega arith) passed ready in
-    let less = pass_costs m j z takes old s met n p c (omega arith) passed s.end in
+    let from_c = pass_ready m j z takes old s n p c (omega arith) ready in
+    let less = pass_costs m j z takes old s n p c (omega arith) s.end in
     let falls = element_ends m s met old rest j (n - c) (p + c * z) (p + c * z + z) from_c.fits.0.few (omega arith) more in
     turn_then h (omega (arith, less, falls))
-    (leads_then m (Listing m) (stage s met (Elements j n p ∷ old)) (stage s met (Elements j (n - c) (p + c * z) ∷ old)) (stage s met (PartWork j (p + c * z) ∷ rest)) (pass_leads m j z takes old s met n p c (omega arith) passed)
+    (leads_then m (Listing m) (stage s met (Elements j n p ∷ old)) (stage s met (Elements j (n - c) (p + c * z) ∷ old)) (stage s met (PartWork j (p + c * z) ∷ rest)) (pass_leads m j z takes old s n p c (omega arith) met passed)
     (element_leads m s met old rest j (n - c) (p + c * z) z takes.node from_c (omega arith) takes.at (λ v q. let same : Some z ≡ Some v = sym takes.size_is ∙ q in cc) more))
 
 pub leaves : {m : Checker} {s : RangeState} {met : Positions} {old : List Work} {a b : ℕ} {y : Stage} {r : Option (Unit {0})} {fault : Error}

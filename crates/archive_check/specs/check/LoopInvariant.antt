@@ -6,11 +6,12 @@ use Rattle.archive_check.specs.declared.format.error.Error.TheVariants.{OutOfMem
 use Rattle.archive_check.specs.declared.plan.PointeeKind.{PointeeKind}
 use Rattle.archive_check.specs.declared.plan.PointeeKind.TheVariants.{One}
 use Rattle.archive_check.specs.declared.plan.Part.{Part}
+use Rattle.archive_check.specs.declared.plan.SharedType.{SharedType}
 use Rattle.archive_check.specs.declared.check.Checker.{Checker}
 use Rattle.archive_check.specs.declared.check.worklist.Work.{Work}
 use Rattle.archive_check.specs.declared.check.worklist.Work.TheVariants.{Part as PartWork, Parts, Elements, Leave, Finish}
 use Rattle.archive_check.specs.Ranges.{RangeState}
-use Rattle.archive_check.specs.PositionStates.{Positions}
+use Rattle.archive_check.specs.PositionStates.{Positions, IsFinishedAs}
 use Rattle.archive_check.specs.Tour.{Seen, Entry}
 use Rattle.archive_check.specs.Trail.{Fault}
 use Rattle.archive_check.specs.declared.format.expr.Kind.{Kind as KindExpr}
@@ -18,7 +19,7 @@ use Rattle.archive_check.specs.declared.plan.NodeKind.TheVariants.{Free, Leaf}
 use Rattle.archive_check.specs.Expressions.{kind_of}
 use Rattle.archive_check.specs.Layout.{kind_size}
 use Rattle.archive_check.specs.Reads.{bytes_at, i32_at, IsLegal}
-use Rattle.archive_check.specs.check.Runs.{Outcome, done, refused, Takes, pointee_count, pointee_length, IsAt, IsNode, NodeRuns, ContentsRun, EnterRuns, FollowRuns, ListRuns}
+use Rattle.archive_check.specs.check.Runs.{Outcome, done, refused, Takes, pointee_count, pointee_length, entry_for, IsAt, IsNode, NodeRuns, ContentsRun, EnterRuns, FollowRuns, ListRuns}
 use Rattle.archive_check.specs.plan.SoundPlans.{span}
 use Rattle.archive_check.specs.Faults.{IsFor}
 use Rattle.archive_check.specs.FreshContexts.{HasLevels}
@@ -171,6 +172,17 @@ RegionIsLegalHere m target j n z t = (pending : List ℕ) (depth : Option ℕ) (
 -- The node at p is legal as it lies, and leads nowhere.
 abbrev pub IsLegalHere : Checker → ℕ → ℕ → Type 0
 IsLegalHere m i p = (pending : List ℕ) (depth : Option ℕ) (stop start : ℕ) (seen : Seen) → NodeRuns m pending depth stop i p start seen (done start seen)
+
+-- The node at p leads to nothing that is still to be checked, in a context that met these positions.
+abbrev pub LeadsNowhere : Checker → Positions → ℕ → ℕ → Type 0
+LeadsNowhere m met i p =
+    (depth : Option ℕ) (pending : List ℕ) (regions stop start : ℕ) (seen : Seen) → Agrees depth met pending regions seen → NodeRuns m pending depth stop i p start seen (done start seen)
+
+-- the shared pointer at p leads to a position that is finished, met as one of its type k and of its length
+pub record LeadsBack (m : Checker) (met : Positions) (k : ℕ) (target : PointeeKind) (p : ℕ) : Type 0 where
+  pub shared_type : SharedType
+  pub at : IsAt m.shared_types.now k shared_type
+  pub finished : IsFinishedAs (met (pos p +ℤ i32_at m.bytes.now p)) (entry_for shared_type (pointee_length m.bytes.now p target))
 
 -- the node at p is a leaf that is legal, or may be any bytes
 pub data LiesLegal (m : Checker) (i p : ℕ) : Type 0 where

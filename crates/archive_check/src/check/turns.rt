@@ -159,7 +159,7 @@ impl Checker<'_> {
                     return Some(());
                 }
                 let size = element.size.unwrap_or(0);
-                let passed = self.count_legal(node, left, at, size);
+                let passed = self.count_passed(node, left, at, size, context);
                 if passed == left {
                     return Some(());
                 }

@@ -6,7 +6,7 @@ ghost use Rattle.std.specs.Ordering.{int_eq};
 ghost use Rattle.archive_check.specs.SharedPositions.{met_as, AreKnown, HasType, IsGrown, IsType, IsAddedOnce};
 ghost use Rattle.archive_check.specs.Expressions.{flavor_of, pointee_of};
 ghost use Rattle.archive_check.specs.Ranges.{whole};
-ghost use Rattle.archive_check.specs.PositionStates.{nothing_met, IsStartAnswer, Starts, entry_as};
+ghost use Rattle.archive_check.specs.PositionStates.{nothing_met, IsStartAnswer, IsFinishedAs, Starts, entry_as};
 ghost use Rattle.archive_check.specs.declared.format.error.Error.TheVariants.{OutOfMemory};
 
 use crate::context::{Context, SharedContext, ValidationState};
@@ -56,6 +56,20 @@ impl SharedPosition {
         } else {
             ValidationState::Pending
         })
+    }
+
+    // Whether this position, whose type is `shared_type`, is finished as one of these.
+    #[inline(always)]
+    fn is_finished_as(
+        &self,
+        shared_type: &SharedType,
+        flavor: &FlavorInfo,
+        pointee: &Pointee,
+        length: usize,
+    ) -> bool
+        ensures { IsTrue result ↔ IsFinishedAs (Some (met_as self.now shared_type.now)) (entry_as flavor.now pointee.now length) }
+    {
+        self.finished && self.length == length && is_of(shared_type, flavor, pointee)
     }
 }
 
@@ -148,6 +162,24 @@ impl<A: Allocator + Copy> SharedContext for SharedValidator<A> {
             );
         }
         self.start_new(flavor, pointee, position, length)
+    }
+
+    fn is_finished(
+        &self,
+        flavor: &FlavorInfo,
+        pointee: &Pointee,
+        position: i128,
+        length: usize,
+    ) -> bool {
+        match self.positions.get(&position) {
+            Some(kept) => kept.is_finished_as(
+                &self.shared_types[kept.shared_type],
+                flavor,
+                pointee,
+                length,
+            ),
+            None => false,
+        }
     }
 
     #[tactic(auto, using(crate::proofs::context::SharedPositions::kept))]

@@ -72,6 +72,16 @@ impl<A: Context, S: SharedContext> SharedContext for Validator<A, S> {
         self.shared.start_shared(flavor, pointee, position, length)
     }
 
+    fn is_finished(
+        &self,
+        flavor: &FlavorInfo,
+        pointee: &Pointee,
+        position: i128,
+        length: usize,
+    ) -> bool {
+        self.shared.is_finished(flavor, pointee, position, length)
+    }
+
     fn finish_shared(
         &mut self,
         flavor: &FlavorInfo,
@@ -183,6 +193,19 @@ impl SharedContext for HighValidator<'_> {
             return positions.start_shared(flavor, pointee, position, length);
         }
         self.start_first(flavor, pointee, position, length)
+    }
+
+    fn is_finished(
+        &self,
+        flavor: &FlavorInfo,
+        pointee: &Pointee,
+        position: i128,
+        length: usize,
+    ) -> bool {
+        match &self.positions {
+            Some(positions) => positions.is_finished(flavor, pointee, position, length),
+            None => false,
+        }
     }
 
     fn finish_shared(

@@ -1,5 +1,7 @@
+use Rattle.std.proofs.Common.{◌+◌, ◌*◌}
+use Rattle.archive_check.specs.check.LoopInvariant.{IsLegalHere}
 use Rattle.archive_check.proofs.check.EnteredRegions.{is_true}
-use Rattle.archive_check.proofs.check.LegalElements.{element_fits, passes_more}
+use Rattle.archive_check.proofs.check.LegalElements.{element_fits, holds_more}
 use Rattle.archive_check.proofs.check.Checker.count_legal.Goals as goal
 
 pub is_legal_here-requires-clause-fits : goal.is_legal_here-requires-clause-fits
@@ -8,4 +10,4 @@ is_legal_here-requires-clause-fits c =
 
 pub loop-index-preserved : goal.loop-index-preserved
 loop-index-preserved c =
-    passes_more c.args.self.now c.args.node c.args.size c.requires.size c.args.at c.loop-index.index c.loop-index.invariant (c.is_legal_here.ensures.legal (is_true c.is_legal_here.result c.if-not-is_legal_here.false))
+    holds_more (λ k. IsLegalHere c.args.self.now c.args.node (c.args.at + k * c.args.size)) c.loop-index.index c.loop-index.invariant (c.is_legal_here.ensures.legal (is_true c.is_legal_here.result c.if-not-is_legal_here.false))

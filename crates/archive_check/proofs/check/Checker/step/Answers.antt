@@ -16,13 +16,13 @@ returns-in-Free-clause-turn g c =
     let ready = rw c.in-Elements.is at c.requires.ready in
     rw c.in-Elements.is (opens_free ready (element_node ready c.index-self-node.is c.in-Free.is))
 
-pub count_legal-passed-requires-clause-size : goal.count_legal-passed-requires-clause-size
-count_legal-passed-requires-clause-size g c =
+pub count_passed-passed-requires-clause-size : goal.count_passed-passed-requires-clause-size
+count_passed-passed-requires-clause-size g c =
     let ready = rw c.in-Elements.is at c.requires.ready in
     node_takes ready.fits.0 c.index-self-node.is c.unwrap_or-size.ensures
 
-pub count_legal-passed-requires-clause-fits : goal.count_legal-passed-requires-clause-fits
-count_legal-passed-requires-clause-fits g c =
+pub count_passed-passed-requires-clause-fits : goal.count_passed-passed-requires-clause-fits
+count_passed-passed-requires-clause-fits g c =
     let ready = rw c.in-Elements.is at c.requires.ready in
     ready.fits.0
 
@@ -30,7 +30,7 @@ pub returns-then-passed-left-clause-turn : goal.returns-then-passed-left-clause-
 returns-then-passed-left-clause-turn g c =
     let ready = rw c.in-Elements.is at c.requires.ready in
     let takes = node_takes ready.fits.0 c.index-self-node.is c.unwrap_or-size.ensures in
-    rw c.in-Elements.is (opens_no_element ready takes c.count_legal-passed.ensures.passed c.count_legal-passed.ensures.below c.if-passed-left.true)
+    rw c.in-Elements.is (opens_no_element ready takes c.count_passed-passed.ensures.passed c.count_passed-passed.ensures.below c.if-passed-left.true)
 
 pub returns-in_err-more_elements-in-Elements-clause-turn : goal.returns-in_err-more_elements-in-Elements-clause-turn
 returns-in_err-more_elements-in-Elements-clause-turn g c = rw c.from_residual.ensures (no_room c.in_err-more_elements-in-Elements.ensures.none)
@@ -39,15 +39,15 @@ pub open-requires-in-Elements-clause-ready : goal.open-requires-in-Elements-clau
 open-requires-in-Elements-clause-ready g c =
     let ready = rw c.in-Elements.is at c.requires.ready in
     let takes = node_takes ready.fits.0 c.index-self-node.is c.unwrap_or-size.ensures in
-    let lt : c.count_legal-passed.result < c.in-Elements.left = omega (arith, c.if-passed-left.false, c.count_legal-passed.ensures.below) in
-    element_opened ready takes c.count_legal-passed.ensures.passed lt c.in_ok-more_elements-in-Elements.ensures.some
+    let lt : c.count_passed-passed.result < c.in-Elements.left = omega (arith, c.if-passed-left.false, c.count_passed-passed.ensures.below) in
+    element_opened ready takes lt c.in_ok-more_elements-in-Elements.ensures.some
 
 pub returns-in_ok-more_elements-in-Elements-clause-turn : goal.returns-in_ok-more_elements-in-Elements-clause-turn
 returns-in_ok-more_elements-in-Elements-clause-turn g c =
     let ready = rw c.in-Elements.is at c.requires.ready in
     let takes = node_takes ready.fits.0 c.index-self-node.is c.unwrap_or-size.ensures in
-    let lt : c.count_legal-passed.result < c.in-Elements.left = omega (arith, c.if-passed-left.false, c.count_legal-passed.ensures.below) in
-    rw c.in-Elements.is (opens_element ready takes c.count_legal-passed.ensures.passed lt c.in_ok-more_elements-in-Elements.ensures.some c.open-in-Elements.ensures.turn)
+    let lt : c.count_passed-passed.result < c.in-Elements.left = omega (arith, c.if-passed-left.false, c.count_passed-passed.ensures.below) in
+    rw c.in-Elements.is (opens_element ready takes c.count_passed-passed.ensures.passed lt c.in_ok-more_elements-in-Elements.ensures.some c.open-in-Elements.ensures.turn)
 
 pub returns-in-Leave-clause-turn : goal.returns-in-Leave-clause-turn
 returns-in-Leave-clause-turn g c =
