@@ -39,9 +39,6 @@ abbrev pub pooled : EntryState → EntryState
 pooled None = Some None
 pooled (Some known) = Some known
 
-abbrev pub after_start : Entries → ℕ → Entries
-after_start entries t = update nat_eq entries t (pooled (entries t))
-
 -- what a finish answers
 abbrev pub finish_answer : EntryState → Result (Unit {0}) Error
 finish_answer None = Err NotStarted

@@ -64,6 +64,10 @@ level_values number_of R (suc n) o = λ x y e. ap (λ bs. R (number_of bs) (numb
 abbrev pub AreSameBytes : ℕ → List ℕ → ℕ → List ℕ → ℕ → Type 0
 AreSameBytes n a x b y = bytes_at a x n ≡ bytes_at b y n
 
+-- so are n bytes of two parts, from the byte i of each on
+abbrev pub AreSameFrom : ℕ → ℕ → Standing → Standing → Type 0
+AreSameFrom i n x y = AreSameBytes n x.bytes (x.pos + i) y.bytes (y.pos + i)
+
 -- two slices are in the order of what is left of them from the element i on, and of what is left from j on
 abbrev pub AreLevelBetween : ℕ → (Standing → Standing → Ordering) → ℕ → ℕ → Standing → Standing → Type 0
 AreLevelBetween z R i j x y = slices_from z R i x y ≡ slices_from z R j x y

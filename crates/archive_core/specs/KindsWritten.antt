@@ -194,14 +194,6 @@ EachHindered f flat xs rs k w e =
     Explains (HindersRunAt f.definitions f.shape f.layout (length xs) (each_flat flat xs rs) (length (k.state w.entry.now).bytes))
     (λ n. n ≤ length (k.state w.entry.now).bytes + length xs * f.layout.size) (k.state w.entry.now) (k.state w.exit.now) e
 
-abbrev pub CopiesPut : {M T W : Type 0} → FormatOf M → (T → Value) → List T → Keys.Ghosts W → Both (MutBor W) (MutBor W) → Type 0
-CopiesPut f meaning xs k w = PutsRun f.definitions (k.state w.entry.now) (k.state w.exit.now) f.shape f.layout (length xs) (each_meaning meaning xs)
-
-abbrev pub CopiesHindered : {M T W : Type 0} → FormatOf M → (T → Value) → List T → Keys.Ghosts W → Both (MutBor W) (MutBor W) → Error → Type 0
-CopiesHindered f meaning xs k w e =
-    Explains (HindersRunAt f.definitions f.shape f.layout (length xs) (each_meaning meaning xs) (length (k.state w.entry.now).bytes))
-    (λ n. n ≤ length (k.state w.entry.now).bytes + length xs * f.layout.size) (k.state w.entry.now) (k.state w.exit.now) e
-
 -- values that are copied own nothing, and have these bytes wherever they are archived
 abbrev pub OwnsNothingAs : {M : Type 0} → FormatOf M → List Naming → Value → Type 0
 OwnsNothingAs f keys v = OwnsNothing f.definitions f.shape keys v

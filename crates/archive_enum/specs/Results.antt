@@ -43,16 +43,6 @@ result_tag X Y zero h n = absurd (n refl)
 result_tag X Y (suc zero) h n = refl
 result_tag X Y (suc (suc t)) h n = cc
 
-up_above : (n a : ℕ) → 1 ≤ a → n ≤ up n a
-up_above n a h = omega (arith, h)
-
--- a value ends within the result, and so does an error
-pub result_holds_value : (L M : Layout) → IsAlign L.align → IsAlign M.align → L.align + L.size ≤ (result_layout L M).size
-result_holds_value L M h k = omega (arith, align_low L.align h, up_above (max (L.align + L.size) (M.align + M.size)) (max L.align M.align) (omega (arith, align_low L.align h)))
-
-pub result_holds_error : (L M : Layout) → IsAlign L.align → IsAlign M.align → M.align + M.size ≤ (result_layout L M).size
-result_holds_error L M h k = omega (arith, align_low L.align h, up_above (max (L.align + L.size) (M.align + M.size)) (max L.align M.align) (omega (arith, align_low L.align h)))
-
 two_aligns : (a b : ℕ) → 1 ≤ a → max (max a 1) (max (max b 1) 1) ≡ max a b
 two_aligns a b h = omega (arith, h)
 

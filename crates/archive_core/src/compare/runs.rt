@@ -2,7 +2,7 @@
 
 ghost use Rattle.std.specs.Prelude.{◌≡◌, ◌+◌, ◌*◌, ◌<◌, ◌≤◌, IsTrue};
 ghost use Rattle.archive_check.specs.Reads.{bytes_at};
-ghost use Rattle.archive_core.specs.Compared.{AreLevelBetween, AreSameBytes};
+ghost use Rattle.archive_core.specs.Compared.{AreLevelBetween, AreSameFrom};
 ghost use Rattle.archive_core.specs.Seen.{shown};
 
 use super::Ordered;
@@ -43,8 +43,8 @@ fn are_same<T: Portable + Ordered>(
     requires first { from + count ≤ a.len }
     requires second { from + count ≤ b.len }
     requires sized { T.settling ≡ T.layout.size }
-    ensures { IsTrue result → AreSameBytes (count * T.layout.size)
-        a.entry.bytes.now (a.entry.pos + from * T.layout.size) b.entry.bytes.now (b.entry.pos + from * T.layout.size) }
+    ensures { IsTrue result
+        → AreSameFrom (from * T.layout.size) (count * T.layout.size) (shown a.entry) (shown b.entry) }
 {
     bytes_of(a, from, count) == bytes_of(b, from, count)
 }
