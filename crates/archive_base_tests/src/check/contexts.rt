@@ -38,10 +38,16 @@ fn assert_calls<S: SharedContext>(rt: &impl Abort, shared: &mut S, calls: &[Call
         let flavor = if *is_other { &OTHER } else { &RC };
         let pointee = if *is_text { &text } else { &unit };
         let found = match length {
-            Some(length) => match shared.start_shared(flavor, pointee, *position, *length) {
-                Ok(state) => Ok(Some(state)),
-                Err(error) => Err(error),
-            },
+            Some(length) => {
+                let found = match shared.start_shared(flavor, pointee, *position, *length) {
+                    Ok(state) => Ok(Some(state)),
+                    Err(error) => Err(error),
+                };
+                let is_finished = shared.is_finished(flavor, pointee, *position, *length);
+                let answers_so = matches!(&found, Ok(Some(ValidationState::Finished)));
+                assert_eq!(rt; is_finished, answers_so);
+                found
+            }
             None => match shared.finish_shared(flavor, pointee, *position) {
                 Ok(()) => Ok(None),
                 Err(error) => Err(error),
