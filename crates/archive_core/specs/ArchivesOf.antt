@@ -9,7 +9,6 @@ use Rattle.archive_check.specs.Definitions.{listed}
 use Rattle.archive_check.specs.Schemas.{ExplainsNoSchema}
 use Rattle.archive_check.specs.Shape.{one}
 use Rattle.archive_check.specs.Unshared.{IsNeverOpen}
-use Rattle.archive_check.specs.WriterState.{WriterState}
 use Rattle.archive_check.specs.declared.format.error.Error.{Error}
 use Rattle.archive_check.specs.declared.format.error.Error.TheVariants.{OutOfMemory}
 use Rattle.archive_check.specs.declared.format.traits.ArchivePointee as ArchivePointee
