@@ -9,6 +9,7 @@ use Rattle.archive_check.specs.Definitions.{listed}
 use Rattle.archive_check.specs.Schemas.{ExplainsNoSchema}
 use Rattle.archive_check.specs.Shape.{one}
 use Rattle.archive_check.specs.Unshared.{IsNeverOpen}
+use Rattle.archive_check.specs.WriterState.{WriterState}
 use Rattle.archive_check.specs.declared.format.error.Error.{Error}
 use Rattle.archive_check.specs.declared.format.error.Error.TheVariants.{OutOfMemory}
 use Rattle.archive_check.specs.declared.format.traits.ArchivePointee as ArchivePointee
@@ -43,6 +44,10 @@ NoArchiveOf a f v e = (e ≡ OutOfMemory) ⊎ HindersRegion f.definitions (one f
 
 abbrev pub LeavesNone : {T A R M C W : Type 0} → Archive.Ghosts T A R C M → FormatOf M → T → Keys.Ghosts W → W → W → Error → Type 0
 LeavesNone a f v k old new e = IsRegionRefused f.definitions (one f.shape) 0 (a.keys v) (a.meaning v) (unshared (k.state old)) (unshared (k.state new)) e
+
+-- the same between two states of a writer
+abbrev pub WholeRefused : {T A R M C : Type 0} → Archive.Ghosts T A R C M → FormatOf M → T → WriterState → WriterState → Error → Type 0
+WholeRefused a f v old new e = IsRegionRefused f.definitions (one f.shape) 0 (a.keys v) (a.meaning v) (unshared old) (unshared new) e
 
 abbrev pub EndsWithNone : {T A R M C W : Type 0} → Archive.Ghosts T A R C M → FormatOf M → T → Keys.Ghosts W → W → Error → Type 0
 EndsWithNone {W = W} a f v k old e =

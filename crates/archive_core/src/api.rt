@@ -8,7 +8,7 @@ ghost use Rattle.archive_check.specs.Archives.{IsAnswerable, Answers, root_in};
 ghost use Rattle.archive_check.specs.declared.format.error.Error.TheVariants.{OutOfMemory};
 ghost use Rattle.archive_check.specs.Shape.{one};
 ghost use Rattle.archive_check.specs.Viewed.{Viewed};
-ghost use Rattle.archive_core.specs.ArchivesOf.{Leaves, LeavesOne, LeavesIn, IsArchiveOf, NoArchiveOf, EndsWithNone, IsArchiveIn, ReadsArchive, RefusesArchive, AsCheckIfNeverOpen, IsNew, LacksSchema, AnswersRoot, LeavesNone};
+ghost use Rattle.archive_core.specs.ArchivesOf.{Leaves, LeavesOne, LeavesIn, IsArchiveOf, NoArchiveOf, EndsWithNone, IsArchiveIn, ReadsArchive, RefusesArchive, AsCheckIfNeverOpen, IsNew, LacksSchema, AnswersRoot, WholeRefused};
 ghost use Rattle.archive_core.specs.Causes.{IsRegionRefused};
 ghost use Rattle.archive_core.specs.Plans.{unshared};
 ghost use Rattle.archive_core.specs.Seen.{ReadsView, RefusesView};
@@ -56,7 +56,7 @@ fn serialize_whole<
 >(alloc: Global, resolvers: A, value: &T, writer: W) -> (W, Result<usize, Error>)
     ensures archived { IfOk result.1 (Leaves T.Archive T.Archived.Portable value.now W.Keys writer result.0) }
     ensures goes_on { GoesOn (unshared (W.state writer)) (unshared (W.state result.0)) }
-    ensures refused { IfErr result.1 (LeavesNone T.Archive T.Archived.Portable value.now W.Keys writer result.0) }
+    ensures refused { IfErr result.1 (WholeRefused T.Archive T.Archived.Portable value.now (W.state writer) (W.state result.0)) }
 {
     let mut serializer = Serializer::new(writer, resolvers, Share::new(alloc));
     let root = serialize_one(value, &mut serializer);
