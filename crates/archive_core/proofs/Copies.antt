@@ -6,31 +6,45 @@ use Rattle.std.proofs.lemmas.Bool.{cases_lt}
 use Rattle.std.proofs.lemmas.Slice.{take-put_mid}
 use Rattle.std.proofs.Math.Seq.{take-suc}
 use borrow.Rule.Slice.PartMut.{put_mid}
-use Rattle.std.proofs.Math.Nat.{suc-mul, mul-le-mul_right, add-mul, div-mul-le_self, le-div_iff_mul-le}
-use Rattle.archive_check.specs.Shape.{Shape}
-use Rattle.archive_check.specs.Layout.{Layout}
-use Rattle.archive_check.specs.Definitions.{Definitions, HasLayout}
-use Rattle.archive_check.specs.Value.{Value, Values}
+use Rattle.std.proofs.Math.Nat.{suc-mul, mul_assoc, mul-le-mul_right, add-mul, div-mul-le_self, le-div_iff_mul-le}
+use Rattle.archive_check.specs.Shape.{Shape, run}
+use Rattle.archive_check.specs.Layout.{Layout, up, size_of, align_of}
+use Rattle.archive_check.specs.Definitions.{Definitions, HasLayout, IsAlign}
+use Rattle.archive_check.specs.Tour.{region_at}
+use Rattle.archive_check.specs.Value.{Value, Values, list}
 use Rattle.archive_check.specs.Reads.{reads_none}
 use Rattle.archive_check.specs.CleanRegions.{clean_none}
 use Rattle.archive_check.specs.WriterState.{WriterState, KeepsKeys}
 use Rattle.archive_core.specs.Writing.{Naming, Puts}
-use Rattle.archive_core.specs.Runs.{each_keys, each_meaning, SerializedRun, PutsRun, HindersRunAt}
-use Rattle.archive_core.specs.Copies.{each_bytes, IsCopied, EachCopied, OwnsNothing, copies_from, copies_to, behind_zeros, IsUnwritten, IsCopyRefused, AreCopiesRefused, TakesCopy}
+use Rattle.archive_core.specs.Arrays.{ResolvesRun}
+use Rattle.archive_core.specs.Plans.{cursor, SerializedRegion}
+use Rattle.archive_core.specs.PlannedOwners.{run_plan}
+use Rattle.archive_core.specs.Runs.{each_keys, each_meaning, SerializedRun, serialized_run, PutsRun, HindersRunAt}
+use Rattle.archive_core.specs.Copies.{each_bytes, IsCopied, EachCopied, OwnsNothing, EachOwnsNothing, AreCopied, copies_from, copies_to, behind_zeros, IsUnwritten, IsCopyRefused, AreCopiesRefused, TakesCopy}
 use Rattle.archive_check.specs.declared.format.error.Error.{Error}
 use Rattle.archive_check.specs.declared.format.error.Error.TheVariants.{OutOfMemory, PositionTooLarge, LengthTooLarge, LayoutTooLarge}
 use Rattle.archive_write.specs.Written.{GoesOn, ExplainsRefusal, padding}
-use Rattle.archive_core.specs.Causes.{Explains, no_memory, no_room, device_failed, own_cause}
+use Rattle.archive_core.specs.Causes.{Explains, no_memory, no_room, device_failed, own_cause, of_layout, end_hinders, IsRegionRefused}
+use Rattle.archive_core.proofs.Appending.{size_is, align_is}
+use Rattle.archive_core.proofs.Arrays.{resolves_none, resolves_element}
+use Rattle.archive_write.proofs.Padding.{padded, pads_by}
 use Rattle.archive_core.proofs.Causes.{goes_nowhere, goes_both, explains_later, explains_sooner, explains_write}
 use Rattle.archive_core.proofs.Runs.{serialized_none, serialized_element}
-use Rattle.archive_core.proofs.RunRegions.{puts_element}
+use Rattle.archive_core.proofs.RunRegions.{in_last, puts_element, serialized_elements}
 
 -- what owns nothing is serialized one after another as it is
-pub serialized_as_they_are : {A : Type 0} (D : Definitions) (X : Shape) (k : A → List Naming) (m : A → Value) → ((x : A) → OwnsNothing D X (k x) (m x)) → (xs : List A) (w : WriterState)
-    → SerializedRun D X (length xs) (each_keys k xs) (each_meaning m xs) (each_meaning m xs) w w
-serialized_as_they_are D X k m h [] w = serialized_none D X w
-serialized_as_they_are D X k m h (x ∷ xs) w =
-    serialized_element D X (length xs) (k x) (each_keys k xs) (m x) (each_meaning m xs) (m x) (each_meaning m xs) w w w (h x w) (serialized_as_they_are D X k m h xs w)
+module _ {A : Type 0} (D : Definitions) (X : Shape) (k : A → List Naming) (m : A → Value) where
+  pub each_owns_nothing : ((x : A) → OwnsNothing D X (k x) (m x)) → (xs : List A) → EachOwnsNothing D X k m xs
+  each_owns_nothing h [] = tt
+  each_owns_nothing h (x ∷ xs) = (h x, each_owns_nothing h xs)
+
+  pub serialized_as_each_is : (xs : List A) → EachOwnsNothing D X k m xs → (w : WriterState) → SerializedRun D X (length xs) (each_keys k xs) (each_meaning m xs) (each_meaning m xs) w w
+  serialized_as_each_is [] h w = serialized_none D X w
+  serialized_as_each_is (x ∷ xs) h w =
+      serialized_element D X (length xs) (k x) (each_keys k xs) (m x) (each_meaning m xs) (m x) (each_meaning m xs) w w w (h.0 w) (serialized_as_each_is xs h.1 w)
+
+  pub serialized_as_they_are : ((x : A) → OwnsNothing D X (k x) (m x)) → (xs : List A) (w : WriterState) → SerializedRun D X (length xs) (each_keys k xs) (each_meaning m xs) (each_meaning m xs) w w
+  serialized_as_they_are h xs w = serialized_as_each_is xs (each_owns_nothing h xs) w
 
 -- the bytes of all, behind those from before, are the elements' region
 pub copies_put : {A : Type 0} (D : Definitions) (X : Shape) (L : Layout) (m : A → Value) (b : A → List ℕ) → HasLayout D X L → (xs : List A) (old new : WriterState) → EachCopied D X L.size m b xs
@@ -41,6 +55,14 @@ copies_put D X L m b layout (x ∷ xs) old new each grown states =
     let first : Puts D old mid X L (m x) = record { layout = layout; added = b x; grown = refl; sized = each.0.sized; resolved = each.0.resolved (length old.bytes); states = refl } in
     puts_element D old mid new X L (length xs) (m x) (each_meaning m xs) first
     (copies_put D X L m b layout xs mid new each.1 (grown ∙ sym (append_assoc old.bytes (b x) (each_bytes b xs))) states)
+
+-- and they are read as all, wherever they stand
+pub copies_resolved : {A : Type 0} (D : Definitions) (X : Shape) (L : Layout) (m : A → Value) (b : A → List ℕ) → HasLayout D X L → (xs : List A) → EachCopied D X L.size m b xs → (p : ℕ)
+    → ResolvesRun D p (each_bytes b xs) (length xs) X (each_meaning m xs)
+copies_resolved D X L m b layout [] each p = resolves_none D p X
+copies_resolved D X L m b layout (x ∷ xs) each p =
+    resolves_element D X L layout p (p + L.size) (b x) (each_bytes b xs) (length xs) (m x) (each_meaning m xs) (each.0.resolved p) each.0.sized refl
+    (copies_resolved D X L m b layout xs each.1 (p + L.size))
 
 -- A loop that writes pieces: the bytes told and those of the values that are left are all.
 pub record Copies {A : Type 0} (D : Definitions) (X : Shape) (size : ℕ) (m : A → Value) (b : A → List ℕ) (first now : WriterState) (all rest : List A) : Type 0 where
@@ -124,12 +146,22 @@ module _ {A : Type 0} (b : A → List ℕ) (all : List A) (i : ℕ) (x : A) (les
   pub read_step : (D : Definitions) (X : Shape) (size : ℕ) (m : A → Value) → IsCopied D X size (m x) (b x) → EachCopied D X size m b (take i all) → EachCopied D X size m b (take (i + 1) all)
   read_step D X size m h each = subst (λ z. EachCopied D X size m b z) (sym one_more) (copied_both D X size m b (take i all) (x ∷ []) each (h, tt))
 
--- as many as fit a piece do, and one does
-pub fits_piece : (room n count size : ℕ) → 0 < size → n ≡ min count (room / size) → n * size ≤ room
-fits_piece room n count size some e = (let le : n * size ≤ room / size * size = mul-le-mul_right size (omega (arith, e)) in omega (arith, le, div-mul-le_self room size))
+-- as many as fit a piece do, and some do
+module _ (room n count size together : ℕ) (some : 0 < size) (joined : 0 < together) where
+  whole_pos : 0 < together * size
+  whole_pos = (let one : 1 * size ≤ together * size = mul-le-mul_right size (omega (arith, joined)) in omega (arith, one, some))
 
-pub some_fit : (room n count size : ℕ) → 0 < size → size ≤ room → 0 < count → n ≡ min count (room / size) → 0 < n
-some_fit room n count size some small more e = (let one : 1 ≤ room / size = (le-div_iff_mul-le {k = size} {x = 1} {y = room} some).1 (omega (arith, small)) in omega (arith, e, one, more))
+  pub fits_piece : n ≡ min count (room / (together * size) * together) → n * size ≤ room
+  fits_piece e =
+      let le : n * size ≤ room / (together * size) * together * size = mul-le-mul_right size (omega (arith, e)) in
+      let same : room / (together * size) * together * size ≡ room / (together * size) * (together * size) = mul_assoc (room / (together * size)) together size in
+      omega (arith, le, same, div-mul-le_self room (together * size))
+
+  pub some_fit : together * size ≤ room → 0 < count → n ≡ min count (room / (together * size) * together) → 0 < n
+  some_fit small more e =
+      let one : 1 ≤ room / (together * size) = (le-div_iff_mul-le {k = together * size} {x = 1} {y = room} whole_pos).1 (omega (arith, small)) in
+      let many : 1 * together ≤ room / (together * size) * together = mul-le-mul_right together one in
+      omega (arith, e, many, joined, more)
 
 pub cut_at : {A : Type 0} (n : ℕ) (xs front back : List A) → front ≡ take n xs → back ≡ drop n xs → xs ≡ front ++ back
 cut_at n xs front back e f = sym (take-append-drop n xs) ∙ (λ j. sym e j ++ sym f j)
@@ -181,6 +213,64 @@ pub copies_put_if : {A : Type 0} (r : Result ℕ Error) (D : Definitions) (X : S
     → OnOk r (EachCopied D X size m b xs) → OnOk r (new.bytes ≡ old.bytes ++ each_bytes b xs) → KeepsKeys old.states new.states → OnOk r (PutsRun D old new X L (length xs) (each_meaning m xs))
 copies_put_if (Ok t) D X L size m b xs old new layout same each grown keys = copies_put D X L m b layout xs old new (rw same at each) grown (λ i k. keys k i)
 copies_put_if (Err e) D X L size m b xs old new layout same each grown keys = tt
+
+-- What was copied is a region.
+module _ {A : Type 0} (D : Definitions) (X : Shape) (L : Layout) (k : A → List Naming) (m : A → Value) (xs : List A) (old new : WriterState) where
+  pub are_copied : (b : A → List ℕ) (size : ℕ) → HasLayout D X L → ((x : A) → OwnsNothing D X (k x) (m x)) → size ≡ L.size → EachCopied D X size m b xs → new.bytes ≡ behind_zeros L old.bytes (each_bytes b xs)
+      → KeepsKeys old.states new.states → AreCopied D X L k m xs old new
+  are_copied b size layout own same each grown states =
+      let all : EachCopied D X L.size m b xs = rw same at each in
+      record {
+        own_nothing = each_owns_nothing D X k m own xs;
+        bytes = each_bytes b xs;
+        sized = copied_length D X L.size m b xs all;
+        resolved = copies_resolved D X L m b layout xs all;
+        grown = grown;
+        states = states;
+      }
+
+  abbrev zeros_behind : WriterState
+  zeros_behind = record old { bytes = old.bytes ++ replicate (padding L.align (length old.bytes)) 0 }
+
+  pub copied_stored : (t : ℕ) → HasLayout D X L → IsAlign L.align → t ≡ copies_from L (length old.bytes) → AreCopied D X L k m xs old new
+      → SerializedRegion D (run X) (length xs) (each_keys k xs) (list (each_meaning m xs)) t old new
+  copied_stored t layout is at h = serialized_elements D X (length xs) (each_keys k xs) (each_meaning m xs) (each_meaning m xs) L t old old zeros_behind new
+      (serialized_as_each_is D X k m xs h.own_nothing old) (pads_by L.align (length old.bytes) old zeros_behind is refl refl (λ key. refl))
+      (record {
+        layout = layout;
+        added = h.bytes;
+        grown = h.grown;
+        sized = h.sized;
+        reads = (h.resolved (length zeros_behind.bytes)).reads;
+        clean = (h.resolved (length zeros_behind.bytes)).clean;
+        states = λ i key. h.states key i;
+      })
+      (at ∙ sym (length-append old.bytes (replicate {A = ℕ} (padding L.align (length old.bytes)) 0) ∙ ap (λ z. length old.bytes + z) (length-replicate {A = ℕ} (padding L.align (length old.bytes)) 0)))
+
+  -- and of what wasn't
+  pub copied_unstored : (e : Error) → HasLayout D X L → IsAlign L.align → EachOwnsNothing D X k m xs → IsCopyRefused (copies_to L (length xs) (length old.bytes)) old new e
+      → IsRegionRefused D (run X) (length xs) (each_keys k xs) (list (each_meaning m xs)) old new e
+  copied_unstored e layout is own h = by_plan (serialized_as_each_is D X k m xs own old)
+    where
+      by_plan : SerializedRun D X (length xs) (each_keys k xs) (each_meaning m xs) (each_meaning m xs) old old → IsRegionRefused D (run X) (length xs) (each_keys k xs) (list (each_meaning m xs)) old new e
+      by_plan (serialized_run writes planned) = explains_sooner _ _ _ _ old new e
+          (λ x. record {
+            named = rw (x.0) of_layout;
+            cause = λ below s names l n. (
+                let q = planned below s names l n in
+                let t : ℕ = up q.stop.place (align_of s.layouts X) in
+                let here : copies_from L (length old.bytes) ≡ t = padded (length old.bytes) L.align is ∙ ap (λ p. up p L.align) q.such.1.place ∙ ap (up q.stop.place) (sym (align_is layout s l)) in
+                let size : length xs * size_of s.layouts X ≡ length xs * L.size = ap (λ z. length xs * z) (size_is layout s l) in
+                let ends : 2 ^ 64 ≤ t + length xs * size_of s.layouts X = omega (arith, here, x.1, size) in
+                run_plan D X (length xs) (each_keys k xs) (each_meaning m xs) s names (cursor old) _ _ q t refl
+                (_, in_last q.steps _, rw (x.0) (end_hinders {r = region_at s t (run X) (length xs) false} ends)));
+          })
+          (λ p x below s names l n. (
+          let q = planned below s names l n in
+          let t : ℕ = up q.stop.place (align_of s.layouts X) in
+          let here : copies_from L (length old.bytes) ≡ t = padded (length old.bytes) L.align is ∙ ap (λ p. up p L.align) q.such.1.place ∙ ap (up q.stop.place) (sym (align_is layout s l)) in
+          let size : length xs * size_of s.layouts X ≡ length xs * L.size = ap (λ z. length xs * z) (size_is layout s l) in
+          run_plan D X (length xs) (each_keys k xs) (each_meaning m xs) s names (cursor old) _ _ q t refl (omega (arith, here, x, size)))) h
 
 -- nothing refuses it
 

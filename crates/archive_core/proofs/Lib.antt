@@ -58,6 +58,7 @@ pub mod ResolvedVariants
 pub mod OwnKeys
 pub mod OwnersRead
 pub mod Copies
+pub mod ArrayCopies
 pub mod CopiedLeaves
 pub mod SilentPlans
 pub mod ItemsLaid

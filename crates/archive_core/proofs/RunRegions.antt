@@ -192,7 +192,7 @@ lays_run D old mid low new ks ws vs X L n t h pads puts here = record {
   states = puts.states ∙ pads.states;
 }
 
-in_last : (C : List Step) (x : Step) → Contains (C ++ x ∷ []) x
+pub in_last : (C : List Step) (x : Step) → Contains (C ++ x ∷ []) x
 in_last C x = Contains-append_right C (x ∷ []) x (contains_first [] x)
 
 module _ (D : Definitions) (X : Shape) (n : ℕ) (ks : List Naming) (vs : Values) where

@@ -4,13 +4,15 @@ use Rattle.archive_check.specs.Shape.{Shape}
 use Rattle.archive_check.specs.Layout.{Layout}
 use Rattle.archive_check.specs.Definitions.{Definitions}
 use Rattle.archive_check.specs.Value.{Value}
-use Rattle.archive_check.specs.WriterState.{WriterState}
+use Rattle.archive_check.specs.WriterState.{WriterState, KeepsKeys}
 use Rattle.archive_check.specs.declared.format.error.Error.{Error}
 use Rattle.archive_check.specs.declared.format.error.Error.TheVariants.{PositionTooLarge, LengthTooLarge, LayoutTooLarge}
 use Rattle.archive_write.specs.Written.{padding}
+use Rattle.archive_core.specs.Arrays.{ResolvesRun}
 use Rattle.archive_core.specs.Causes.{Explains}
 use Rattle.archive_core.specs.Writing.{Naming, Resolves}
 use Rattle.archive_core.specs.Plans.{Serialized}
+use Rattle.archive_core.specs.Runs.{each_meaning}
 
 -- the bytes of values, one behind another
 abbrev pub each_bytes : {A : Type 0} → (A → List ℕ) → List A → List ℕ
@@ -31,6 +33,11 @@ EachCopied D X size m b (x ∷ xs) = IsCopied D X size (m x) (b x) × EachCopied
 abbrev pub OwnsNothing : Definitions → Shape → List Naming → Value → Type 0
 OwnsNothing D X keys v = (w : WriterState) → Serialized D X keys v v w w
 
+-- each of the values does
+abbrev pub EachOwnsNothing : {A : Type 0} → Definitions → Shape → (A → List Naming) → (A → Value) → List A → Type 0
+EachOwnsNothing D X k m [] = Unit {0}
+EachOwnsNothing D X k m (x ∷ xs) = OwnsNothing D X (k x) (m x) × EachOwnsNothing D X k m xs
+
 -- where values stand that are copied behind n bytes: at the next multiple of their alignment
 abbrev pub copies_from : Layout → ℕ → ℕ
 copies_from L n = n + padding L.align n
@@ -42,6 +49,15 @@ copies_to L count n = copies_from L n + count * L.size
 -- behind the old bytes come zeros up to the values' alignment, and then these
 abbrev pub behind_zeros : Layout → List ℕ → List ℕ → List ℕ
 behind_zeros L old bytes = (old ++ replicate (padding L.align (length old)) 0) ++ bytes
+
+-- Values were copied: they own nothing, and behind zeros up to their alignment come bytes that are read as all of them, wherever they stand.
+pub record AreCopied {A : Type 0} (D : Definitions) (X : Shape) (L : Layout) (k : A → List Naming) (m : A → Value) (xs : List A) (old new : WriterState) : Type 0 where
+  pub own_nothing : EachOwnsNothing D X k m xs
+  pub bytes : List ℕ
+  pub sized : length bytes ≡ length xs * L.size
+  pub resolved : (p : ℕ) → ResolvesRun D p bytes (length xs) X (each_meaning m xs)
+  pub grown : new.bytes ≡ behind_zeros L old.bytes bytes
+  pub states : KeepsKeys old.states new.states
 
 -- Why bytes up to an end weren't written, where the values have no cause of their own: for want of memory or of room, or by the device.
 abbrev pub IsUnwritten : ℕ → WriterState → WriterState → Error → Type 0

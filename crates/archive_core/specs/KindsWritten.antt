@@ -11,7 +11,7 @@ use Rattle.archive_check.specs.declared.format.error.Error.TheVariants.{OutOfMem
 use Rattle.archive_check.specs.declared.format.traits.ArchivePointee as ArchivePointee
 use Rattle.archive_check.specs.declared.format.traits.Keys as Keys
 use Rattle.archive_core.specs.Causes.{HindersAt, HindersRegionAt, Explains, IsRefused, IsRegionRefused}
-use Rattle.archive_core.specs.Copies.{OwnsNothing, IsCopied, EachCopied}
+use Rattle.archive_core.specs.Copies.{OwnsNothing, EachOwnsNothing, IsCopied, EachCopied, AreCopied, IsCopyRefused, copies_from, copies_to}
 use Rattle.archive_check.specs.Formats.{FormatOf}
 use Rattle.archive_core.specs.Plans.{Serialized, SerializedRegion}
 use Rattle.archive_core.specs.Runs.{each_keys, each_meaning, each_flat, HindersRunAt, PutsRun}
@@ -80,6 +80,16 @@ RunStoredIf keys meaning f xs k w o = IfSome o (λ p. RunStored keys meaning f x
 abbrev pub RunUnstored : {T M S : Type 0} → (T → List Naming) → (T → Value) → FormatOf M → List T → Keys.Ghosts S → Both (MutBor S) (MutBor S) → Error → Type 0
 RunUnstored keys meaning f xs k w e =
     IsRegionRefused f.definitions (run f.shape) (length xs) (each_keys keys xs) (list (each_meaning meaning xs)) (k.state w.entry.now) (k.state w.exit.now) e
+
+-- the same of elements that are copied; and why they weren't, though they own nothing
+abbrev pub RunCopiedIf : {T M S : Type 0} → (T → List Naming) → (T → Value) → FormatOf M → List T → Keys.Ghosts S → Both (MutBor S) (MutBor S) → Option ℕ → Type 0
+RunCopiedIf keys meaning f xs k w o =
+    IfSome o (λ p. (p ≡ copies_from f.layout (length (k.state w.entry.now).bytes)) × AreCopied f.definitions f.shape f.layout keys meaning xs (k.state w.entry.now) (k.state w.exit.now))
+
+abbrev pub RunUncopied : {T M S : Type 0} → (T → List Naming) → (T → Value) → FormatOf M → List T → Keys.Ghosts S → Both (MutBor S) (MutBor S) → Error → Type 0
+RunUncopied keys meaning f xs k w e =
+    EachOwnsNothing f.definitions f.shape keys meaning xs
+    × IsCopyRefused (copies_to f.layout (length xs) (length (k.state w.entry.now).bytes)) (k.state w.entry.now) (k.state w.exit.now) e
 
 -- a vector of elements, which stand at t
 abbrev pub VecSerialized : {T M S : Type 0} → (T → List Naming) → (T → Value) → FormatOf M → List T → Keys.Ghosts S → Both (MutBor S) (MutBor S) → ℕ → Type 0

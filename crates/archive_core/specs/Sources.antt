@@ -13,7 +13,7 @@ use Rattle.archive_check.specs.declared.format.traits.Keys as Keys
 use Rattle.archive_core.specs.Arrays.{ResolvesRun}
 use Rattle.archive_core.specs.Causes.{HindersAt, IsRefused, IsRegionRefused}
 use Rattle.archive_core.specs.Inner.{IsBoxed, IsNotBoxed}
-use Rattle.archive_core.specs.KindsWritten.{RunStored, RunStoredIf, RunUnstored}
+use Rattle.archive_core.specs.KindsWritten.{RunStored, RunStoredIf, RunUnstored, RunCopiedIf, RunUncopied}
 use Rattle.archive_check.specs.Formats.{FormatOf}
 use Rattle.archive_core.specs.Plans.{Serialized, SerializedRegion}
 use Rattle.archive_core.specs.Runs.{each_keys, each_meaning, each_flat, SerializedRun, IsRunRefused, HindersEachAt}
@@ -80,6 +80,13 @@ SliceStoredIf a f xs k w o = RunStoredIf a.keys a.meaning f xs k w o
 abbrev pub SliceUnstored : {T A R M C S : Type 0} → Archive.Ghosts T A R C M → FormatOf M → List T → Keys.Ghosts S → Both (MutBor S) (MutBor S) → Error → Type 0
 SliceUnstored a f xs k w e = RunUnstored a.keys a.meaning f xs k w e
 
+-- the same of elements that are copied
+abbrev pub SliceCopiedIf : {T A R M C S : Type 0} → Archive.Ghosts T A R C M → FormatOf M → List T → Keys.Ghosts S → Both (MutBor S) (MutBor S) → Option ℕ → Type 0
+SliceCopiedIf a f xs k w o = RunCopiedIf a.keys a.meaning f xs k w o
+
+abbrev pub SliceUncopied : {T A R M C S : Type 0} → Archive.Ghosts T A R C M → FormatOf M → List T → Keys.Ghosts S → Both (MutBor S) (MutBor S) → Error → Type 0
+SliceUncopied a f xs k w e = RunUncopied a.keys a.meaning f xs k w e
+
 -- a box of what is laid out at t; and why it isn't
 abbrev pub BoxSerialized : {P M U A N S : Type 0} → ArchivePointee.Ghosts P M → ArchiveUnsized.Ghosts U A N → U → Keys.Ghosts S → Both (MutBor S) (MutBor S) → ℕ → Type 0
 BoxSerialized g u v k w t =
@@ -115,6 +122,9 @@ InnerUnboxed a f v r k w e = IsNotBoxed f.definitions f.shape (a.keys v) (a.mean
 -- the same of values that are copied
 abbrev pub CopiesStored : {T A M C S : Type 0} → Copied.Ghosts T A C M → FormatOf M → List T → Keys.Ghosts S → Both (MutBor S) (MutBor S) → ℕ → Type 0
 CopiesStored c f xs k w p = RunStored c.copied_keys c.copied_meaning f xs k w p
+
+abbrev pub CopiesStoredIf : {T A M C S : Type 0} → Copied.Ghosts T A C M → FormatOf M → List T → Keys.Ghosts S → Both (MutBor S) (MutBor S) → Option ℕ → Type 0
+CopiesStoredIf c f xs k w o = RunStoredIf c.copied_keys c.copied_meaning f xs k w o
 
 abbrev pub CopiesUnstored : {T A M C S : Type 0} → Copied.Ghosts T A C M → FormatOf M → List T → Keys.Ghosts S → Both (MutBor S) (MutBor S) → Error → Type 0
 CopiesUnstored c f xs k w e = RunUnstored c.copied_keys c.copied_meaning f xs k w e

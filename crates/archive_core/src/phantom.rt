@@ -17,7 +17,7 @@ ghost use Rattle.archive_core.specs.Writing.{Fresh, Resolves};
 ghost use Rattle.archive_write.specs.Written.{GoesOn};
 
 use crate::place::Place;
-use crate::slice::copy_slice;
+use crate::slice::copy_groups;
 use crate::traits::{
     Archive, ArchivePointee, Copied, CopyOptimization, Deserialize, Entries, Keys, Portable,
     Serialize,
@@ -65,10 +65,10 @@ impl<T> Archive for PhantomData<T> {
 
     fn serialize_copied<S: Writer + Keys>(
         values: &[PhantomData<T>],
+        together: usize,
         serializer: &mut S,
     ) -> Result<Option<usize>, Error> {
-        let pos = copy_slice(values, serializer)?;
-        Ok(Some(pos))
+        copy_groups(values, together, serializer)
     }
 }
 

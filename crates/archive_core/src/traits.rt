@@ -7,7 +7,7 @@ ghost use Rattle.archive_check.specs.Shape.{run};
 ghost use Rattle.archive_check.specs.Value.{Value, list};
 ghost use Rattle.archive_check.specs.Viewed.{Viewed};
 ghost use Rattle.archive_check.specs.declared.format.error.Error.TheVariants.{LengthTooLarge};
-ghost use Rattle.archive_core.specs.KindsWritten.{RunStoredIf, RunUnstored};
+ghost use Rattle.archive_core.specs.KindsWritten.{RunStoredIf, RunUnstored, RunCopiedIf, RunUncopied};
 ghost use Rattle.archive_core.specs.Placed.{Resolved, Hindered, IsPlanned};
 ghost use Rattle.archive_core.specs.Seen.{IsPartOf, RefusesPart, ReadsView, RefusesView};
 ghost use Rattle.archive_core.specs.Causes.{HindersAt, IsRefused, IsRegionRefused};
@@ -79,18 +79,21 @@ pub trait Archive {
         CopyOptimization::disable()
     }
 
-    /// Writes `values` in bulk as a region of their own, and answers its position, in bytes from the first one. What is `Copied` writes this call with
-    /// `slice::copy_slice`; by default nothing is written, and none is answered. Refused as `copy_slice` is.
+    /// Writes `values` in bulk as a region of their own, so many `together` always in one piece, and answers its position, in bytes from the first one.
+    /// What is `Copied` writes this call with `slice::copy_groups`; by default nothing is written, and none is answered. Refused as `copy_slice` is.
     #[tactic(auto, using(crate::proofs::Causes::goes_nowhere))]
     #[inline(always)]
     fn serialize_copied<S: Writer + Keys>(
         _values: &[Self],
+        _together: usize,
         _serializer: &mut S,
     ) -> Result<Option<usize>, Error>
         ensures serialized { IfOk result (RunStoredIf keys meaning Self.Archived.Portable _values.now S.Keys _serializer) }
+        ensures in_bulk { IfOk result (RunCopiedIf keys meaning Self.Archived.Portable _values.now S.Keys _serializer) }
         ensures untouched { IfOk result (λ o. o ≡ None → S.state _serializer.new ≡ S.state _serializer.old) }
         ensures goes_on { GoesOn (S.state _serializer.old) (S.state _serializer.new) }
         ensures refused { IfErr result (RunUnstored keys meaning Self.Archived.Portable _values.now S.Keys _serializer) }
+        ensures not_in_bulk { IfErr result (RunUncopied keys meaning Self.Archived.Portable _values.now S.Keys _serializer) }
     {
         Ok(None)
     }

@@ -1,16 +1,16 @@
 // Arrays as sources: what each element owns, and then all elements where the array lies.
 
-ghost use Rattle.std.specs.Prelude.{◌≡◌, ◌*◌, length, None, OnOk, IfOk, IfErr};
+ghost use Rattle.std.specs.Prelude.{◌≡◌, ◌*◌, length, None, OnOk, IfOk, IfErr, All};
 ghost use Rattle.archive_check.specs.Value.{list};
 ghost use Rattle.archive_core.specs.Arrays.{array_meaning, array_keys, array_keyed, array_planned};
 ghost use Rattle.archive_core.specs.Runs.{each_flat, EachBelongs};
-ghost use Rattle.archive_core.specs.Sources.{ResolvedAs, HinderedAs, EachResolved, EachHinderedAt, SliceStoredIf, SliceUnstored};
+ghost use Rattle.archive_core.specs.Sources.{ResolvedAs, HinderedAs, EachResolved, EachHinderedAt, SliceStoredIf, SliceUnstored, SliceCopiedIf, SliceUncopied};
 ghost use Rattle.archive_core.specs.Writing.{Fresh};
 ghost use Rattle.archive_write.specs.Written.{GoesOn};
 
 use crate::place::Place;
 use crate::ser::resolve_into;
-use crate::slice::serialize_each;
+use crate::slice::{PIECE, serialize_each};
 use crate::traits::{Archive, CopyOptimization, Keys, Portable, Serialize};
 use archive_check::format::error::Error;
 use archive_write::ser::{ResolverAlloc, Writer};
@@ -48,6 +48,22 @@ fn resolve_elements<T: Archive>(
     Ok(())
 }
 
+// An array has as many elements as its type says.
+#[inline(always)]
+fn is_whole<T, const N: usize>(_array: &[T; N])
+    ensures { length _array.now ≡ N }
+{}
+
+// So has each of a slice of arrays. In proofs alone an array can be a list of any length, so this does nothing.
+#[inline(always)]
+fn each_is_whole<T, const N: usize>(arrays: &[[T; N]])
+    ensures { All (λ array. length array ≡ N) arrays.now }
+{
+    for array in arrays {
+        is_whole(array);
+    }
+}
+
 /// As in rkyv 0.8.18, where the resolvers are an array. They are kept in a vector here, in memory of the global allocator.
 impl<T: Archive, const N: usize> Archive for [T; N] {
     type Archived = [T::Archived; N];
@@ -81,21 +97,35 @@ impl<T: Archive, const N: usize> Archive for [T; N] {
         resolve_elements(self, resolver, pos, bytes)
     }
 
+    #[inline(always)]
     fn copy_optimization() -> CopyOptimization<[T; N]> {
-        CopyOptimization::disable()
+        let is_small = T::Archived::size().saturating_mul(N) <= PIECE;
+        CopyOptimization::enable_if(is_small && T::copy_optimization().is_enabled())
     }
 
     #[tactic(auto, using(crate::proofs::Causes::goes_nowhere))]
+    #[inline(always)]
     fn serialize_copied<S: Writer + Keys>(
-        _values: &[[T; N]],
-        _serializer: &mut S,
+        values: &[[T; N]],
+        together: usize,
+        serializer: &mut S,
     ) -> Result<Option<usize>, Error>
-        ensures serialized { IfOk result (SliceStoredIf ⟦<Self as Archive>⟧ ⟦<Self::Archived as Portable>⟧ _values.now S.Keys _serializer) }
-        ensures untouched { IfOk result (λ o. o ≡ None → S.state _serializer.new ≡ S.state _serializer.old) }
-        ensures goes_on { GoesOn (S.state _serializer.old) (S.state _serializer.new) }
-        ensures refused { IfErr result (SliceUnstored ⟦<Self as Archive>⟧ ⟦<Self::Archived as Portable>⟧ _values.now S.Keys _serializer) }
+        ensures serialized { IfOk result (SliceStoredIf ⟦<Self as Archive>⟧ ⟦<Self::Archived as Portable>⟧ values.now S.Keys serializer) }
+        ensures in_bulk { IfOk result (SliceCopiedIf ⟦<Self as Archive>⟧ ⟦<Self::Archived as Portable>⟧ values.now S.Keys serializer) }
+        ensures untouched { IfOk result (λ o. o ≡ None → S.state serializer.new ≡ S.state serializer.old) }
+        ensures goes_on { GoesOn (S.state serializer.old) (S.state serializer.new) }
+        ensures refused { IfErr result (SliceUnstored ⟦<Self as Archive>⟧ ⟦<Self::Archived as Portable>⟧ values.now S.Keys serializer) }
+        ensures not_in_bulk { IfErr result (SliceUncopied ⟦<Self as Archive>⟧ ⟦<Self::Archived as Portable>⟧ values.now S.Keys serializer) }
     {
-        Ok(None)
+        each_is_whole(values);
+        if values.len().checked_mul(N).is_none() {
+            return Ok(None);
+        }
+        T::serialize_copied(
+            values.as_flattened(),
+            together.saturating_mul(N),
+            serializer,
+        )
     }
 }
 

@@ -17,7 +17,7 @@ ghost use Rattle.archive_write.specs.Written.{GoesOn};
 use super::{Source, write_leaf};
 use crate::place::Place;
 use crate::ser::serialize_one;
-use crate::slice::copy_slice;
+use crate::slice::copy_groups;
 use crate::traits::{
     Archive, ArchivePointee, ArchiveUnsized, ArchivedMetadata, Copied, CopyOptimization, Keys,
     Portable, Serialize, SerializeUnsized,
@@ -167,10 +167,10 @@ impl<L: Leaf> Archive for L {
     #[inline(always)]
     fn serialize_copied<S: Writer + Keys>(
         values: &[L],
+        together: usize,
         serializer: &mut S,
     ) -> Result<Option<usize>, Error> {
-        let pos = copy_slice(values, serializer)?;
-        Ok(Some(pos))
+        copy_groups(values, together, serializer)
     }
 }
 

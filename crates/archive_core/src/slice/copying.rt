@@ -1,9 +1,10 @@
 // Slices of values that are copied: their bytes are written a piece at a time.
 
-ghost use Rattle.std.specs.Prelude.{◌≡◌, ◌+◌, ◌*◌, ◌^◌, ◌++◌, ◌<◌, ◌≤◌, IfOk, OnOk, IfErr, IsOk, IsErrOf, IsTrue, length};
+ghost use Rattle.std.specs.Prelude.{◌≡◌, ◌+◌, ◌*◌, ◌^◌, ◌++◌, ◌<◌, ◌≤◌, IfOk, OnOk, IfErr, IsOk, IsErrOf, IsTrue, length, None};
 ghost use Rattle.archive_check.specs.WriterState.{KeepsKeys};
 ghost use Rattle.archive_core.specs.Copies.{each_bytes, copies_from};
-ghost use Rattle.archive_core.specs.Sources.{CopiesStored, CopiesUnstored};
+ghost use Rattle.archive_core.specs.KindsWritten.{OwnsNothingAs, RunCopiedIf, RunUncopied};
+ghost use Rattle.archive_core.specs.Sources.{CopiesStored, CopiesStoredIf, CopiesUnstored};
 ghost use Rattle.archive_write.specs.Written.{GoesOn};
 ghost use Rattle.archive_core.specs.CopiesWritten.{AllCopied, PiecesUnwritten, CopyRefused, CopiesRefused, Takes, AddedAligned};
 ghost use Rattle.archive_core.specs.Placed.{BytesAdded, WriteRefused};
@@ -13,8 +14,8 @@ use crate::traits::{Copied, Keys};
 use archive_check::format::error::Error;
 use archive_write::ser::{Writer, WriterExt};
 
-/// As many bytes as are written at once, at most.
-const PIECE: usize = 1024;
+/// As many bytes as are written at once, at most, and as a value has that is copied.
+pub(crate) const PIECE: usize = 1024;
 
 /// As many bytes as values have whose buffer is cleared for them alone: one of `PIECE` bytes would take most of their time.
 const SHORT: usize = 64;
@@ -42,11 +43,12 @@ fn write_piece<W: Writer, T: Copied>(
     writer.write(bytes)
 }
 
-// How many values of so many bytes are written at once, of `count` that are left: as many as fit `room` bytes.
+// How many values of so many bytes are written at once, of `count` that are left: as many times `together` as fit `room` bytes.
 #[tactic(auto, using(crate::proofs::Copies::fits_piece, crate::proofs::Copies::some_fit))]
 #[inline(always)]
-fn count_at_once(size: usize, count: usize, room: usize) -> usize
-    requires small { size ≤ room }
+fn count_at_once(size: usize, together: usize, count: usize, room: usize) -> usize
+    requires joined { 0 < together }
+    requires small { together * size ≤ room }
     requires some { 0 < count }
     ensures some { 0 < result }
     ensures few { result * size ≤ room }
@@ -55,18 +57,20 @@ fn count_at_once(size: usize, count: usize, room: usize) -> usize
     if size == 0 {
         return count;
     }
-    count.min(room / size)
+    count.min(room / (together * size) * together)
 }
 
-// Writes the bytes of values, which have so many each, as many whole values at once as fit `N` bytes.
+// Writes the bytes of values, which have so many each, as many times `together` of them at once as fit `N` bytes.
 #[inline(always)]
 fn copy_by<W: Writer, T: Copied, const N: usize>(
     values: &[T],
     size: usize,
+    together: usize,
     writer: &mut W,
 ) -> Result<(), Error>
     requires same { size ≡ T.CopiedAs.layout.size }
-    requires small { size ≤ N }
+    requires joined { 0 < together }
+    requires small { together * size ≤ N }
     requires few { N ≤ 1024 }
     ensures copied { OnOk result (BytesAdded (each_bytes T.copied_bytes values.now) W.Keys writer) }
     ensures read { OnOk result (AllCopied T.CopiedAs.Portable size T.copied_meaning T.copied_bytes values.now) }
@@ -78,7 +82,7 @@ fn copy_by<W: Writer, T: Copied, const N: usize>(
     let mut piece = [0; N];
     let mut rest = values;
     while !rest.is_empty() {
-        let count = count_at_once(size, rest.len(), N);
+        let count = count_at_once(size, together, rest.len(), N);
         let (now, later) = rest.split_at(count);
         write_piece(now, &mut piece[..count * size], writer)?;
         rest = later;
@@ -86,11 +90,17 @@ fn copy_by<W: Writer, T: Copied, const N: usize>(
     Ok(())
 }
 
-// Writes the bytes of values, which have so many each, as many whole values at once as fit 1,024 bytes.
+// Writes the bytes of values, which have so many each, as many times `together` of them at once as fit 1,024 bytes.
 #[inline(always)]
-fn copy_pieces<W: Writer, T: Copied>(values: &[T], size: usize, writer: &mut W) -> Result<(), Error>
+fn copy_pieces<W: Writer, T: Copied>(
+    values: &[T],
+    size: usize,
+    together: usize,
+    writer: &mut W,
+) -> Result<(), Error>
     requires same { size ≡ T.CopiedAs.layout.size }
-    requires small { size ≤ 1024 }
+    requires joined { 0 < together }
+    requires small { together * size ≤ 1024 }
     requires counted { length values.now * size < 2 ^ 64 }
     ensures copied { OnOk result (BytesAdded (each_bytes T.copied_bytes values.now) W.Keys writer) }
     ensures read { OnOk result (AllCopied T.CopiedAs.Portable size T.copied_meaning T.copied_bytes values.now) }
@@ -99,10 +109,10 @@ fn copy_pieces<W: Writer, T: Copied>(values: &[T], size: usize, writer: &mut W) 
     ensures goes_on { GoesOn (W.state writer.old) (W.state writer.new) }
     ensures keys { KeepsKeys (W.state writer.old).states (W.state writer.new).states }
 {
-    if size <= SHORT && values.len() * size <= SHORT {
-        return copy_by::<W, T, SHORT>(values, size, writer);
+    if together * size <= SHORT && values.len() * size <= SHORT {
+        return copy_by::<W, T, SHORT>(values, size, together, writer);
     }
-    copy_by::<W, T, PIECE>(values, size, writer)
+    copy_by::<W, T, PIECE>(values, size, together, writer)
 }
 
 // Writes the bytes of values as the next region, where the writer stands at a multiple of their alignment.
@@ -110,10 +120,12 @@ fn copy_pieces<W: Writer, T: Copied>(values: &[T], size: usize, writer: &mut W) 
 fn copy_aligned<W: Writer, T: Copied>(
     values: &[T],
     size: usize,
+    together: usize,
     writer: &mut W,
 ) -> Result<usize, Error>
     requires same { size ≡ T.CopiedAs.layout.size }
-    requires small { size ≤ 1024 }
+    requires joined { 0 < together }
+    requires small { together * size ≤ 1024 }
     ensures copied { OnOk result (BytesAdded (each_bytes T.copied_bytes values.now) W.Keys writer) }
     ensures read { OnOk result (AllCopied T.CopiedAs.Portable size T.copied_meaning T.copied_bytes values.now) }
     ensures position { IfOk result (λ p. p ≡ W.place writer.old) }
@@ -126,8 +138,35 @@ fn copy_aligned<W: Writer, T: Copied>(
     if !run_fits(pos, values.len(), size) {
         return Err(Error::LayoutTooLarge);
     }
-    copy_pieces(values, size, writer)?;
+    copy_pieces(values, size, together, writer)?;
     Ok(pos)
+}
+
+// Writes zeros up to the values' alignment, and then the bytes of all, `together` of them always in one piece.
+#[inline(always)]
+fn copy_together<S: Writer + Keys, T: Copied>(
+    values: &[T],
+    size: usize,
+    together: usize,
+    serializer: &mut S,
+) -> Result<usize, Error>
+    requires same { size ≡ T.CopiedAs.layout.size }
+    requires owns_nothing { (v : T) → OwnsNothingAs T.CopiedAs.Portable (T.copied_keys v) (T.copied_meaning v) }
+    requires joined { 0 < together }
+    requires small { together * size ≤ 1024 }
+    ensures serialized { IfOk result (CopiesStored T.Copied T.CopiedAs.Portable values.now S.Keys serializer) }
+    ensures copied { OnOk result (AddedAligned T.CopiedAs.layout (each_bytes T.copied_bytes values.now) S.Keys serializer) }
+    ensures read { OnOk result (AllCopied T.CopiedAs.Portable size T.copied_meaning T.copied_bytes values.now) }
+    ensures position { IfOk result (λ p. p ≡ copies_from T.CopiedAs.layout (S.place serializer.old)) }
+    ensures goes_on { GoesOn (S.state serializer.old) (S.state serializer.new) }
+    ensures refused { IfErr result (CopiesUnstored T.Copied T.CopiedAs.Portable values.now S.Keys serializer) }
+    ensures cause { IfErr result (CopiesRefused S.place S.Keys serializer T.CopiedAs.layout (length values.now)) }
+    ensures memory { IsErrOf result Error.OutOfMemory → IsTrue S.takes_memory }
+    ensures succeeds { Takes S.place S.Keys serializer S.takes_memory T.CopiedAs.layout (length values.now) → IsOk result }
+    ensures keys { OnOk result (KeepsKeys (S.state serializer.old).states (S.state serializer.new).states) }
+{
+    serializer.align_for::<T::CopiedAs>()?;
+    copy_aligned(values, size, together, serializer)
 }
 
 /// Writes zeros up to the values' alignment, and then the bytes of all, one behind another, a piece of at most 1,024 bytes at a time; answers the region's
@@ -150,6 +189,30 @@ pub fn copy_slice<S: Writer + Keys, T: Copied>(
     ensures succeeds { Takes S.place S.Keys serializer S.takes_memory T.CopiedAs.layout (length values.now) → IsOk result }
 {
     let size = T::copied_size();
-    serializer.align_for::<T::CopiedAs>()?;
-    copy_aligned(values, size, serializer)
+    copy_together(values, size, 1, serializer)
+}
+
+/// The same, so many values `together` always in one piece: those of an array. Where these have more than 1,024 bytes, nothing is written, and no position
+/// is answered. An own type's `serialize_copied` is this call. Our own.
+#[tactic(auto, using(crate::proofs::Causes::goes_nowhere))]
+#[inline(always)]
+pub fn copy_groups<S: Writer + Keys, T: Copied>(
+    values: &[T],
+    together: usize,
+    serializer: &mut S,
+) -> Result<Option<usize>, Error>
+    ensures serialized { IfOk result (CopiesStoredIf T.Copied T.CopiedAs.Portable values.now S.Keys serializer) }
+    ensures in_bulk { IfOk result (RunCopiedIf T.copied_keys T.copied_meaning T.CopiedAs.Portable values.now S.Keys serializer) }
+    ensures untouched { IfOk result (λ o. o ≡ None → S.state serializer.new ≡ S.state serializer.old) }
+    ensures goes_on { GoesOn (S.state serializer.old) (S.state serializer.new) }
+    ensures refused { IfErr result (CopiesUnstored T.Copied T.CopiedAs.Portable values.now S.Keys serializer) }
+    ensures not_in_bulk { IfErr result (RunUncopied T.copied_keys T.copied_meaning T.CopiedAs.Portable values.now S.Keys serializer) }
+{
+    let size = T::copied_size();
+    let together = together.max(1);
+    if together.saturating_mul(size) > PIECE {
+        return Ok(None);
+    }
+    let pos = copy_together(values, size, together, serializer)?;
+    Ok(Some(pos))
 }

@@ -84,7 +84,7 @@ pub(crate) fn serialize_slice<S: Writer + ResolverAlloc, T: Serialize<S>>(
     if !T::copy_optimization().is_enabled() {
         return serialize_in_turn(values, serializer);
     }
-    match T::serialize_copied(values, serializer)? {
+    match T::serialize_copied(values, 1, serializer)? {
         Some(pos) => Ok(pos),
         None => serialize_in_turn(values, serializer),
     }

@@ -50,7 +50,7 @@ impl<T> CopyOptimization<T> {
 }
 
 /// A source whose values own nothing, and have each the same bytes wherever they are archived: slices of such values can be written in bulk. Our own: rkyv
-/// 0.8.18 copies the memory of the values. It stands beside `Archive`, so that what implements that can call `slice::copy_slice`.
+/// 0.8.18 copies the memory of the values. It stands beside `Archive`, so that what implements that can call `slice::copy_groups`.
 pub trait Copied {
     /// The archived type.
     type CopiedAs: Portable;

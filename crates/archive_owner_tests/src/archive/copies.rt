@@ -16,7 +16,7 @@ use archive_core::error::Error;
 use archive_core::place::Place;
 use archive_core::primitive::{ArchivedNonZeroU16, ArchivedU32};
 use archive_core::ser::{Buffer, Serializer, Writer};
-use archive_core::slice::{Slice, copy_slice};
+use archive_core::slice::{Slice, copy_groups, copy_slice};
 use archive_core::traits::{Archive, Copied, CopyOptimization, Keys, Serialize, SerializeUnsized};
 use archive_core::vec::ArchivedVec;
 use std::alloc::{AllocError, Global};
@@ -63,10 +63,10 @@ impl Archive for Metres {
 
     fn serialize_copied<S: Writer + Keys>(
         values: &[Metres],
+        together: usize,
         serializer: &mut S,
     ) -> Result<Option<usize>, Error> {
-        let pos = copy_slice(values, serializer)?;
-        Ok(Some(pos))
+        copy_groups(values, together, serializer)
     }
 }
 
