@@ -209,6 +209,45 @@ fn a_piece_is_written_whole_or_not_at_all(rt: HostRuntime) -> Result<(), Fail> {
     Ok(())
 }
 
+// Why arrays aren't written as one region; none where they are.
+fn refusal_of_arrays<W: Writer>(
+    alloc: Global,
+    arrays: &[[u16; 3]],
+    writer: &mut W,
+) -> Option<Error> {
+    let mut serializer = Serializer::new(writer, alloc, ());
+    match (Slice { slice: arrays }).serialize_unsized(&mut serializer) {
+        Ok(_) => None,
+        Err(error) => Some(error),
+    }
+}
+
+#[test]
+fn an_array_is_copied_whole(rt: HostRuntime) -> Result<(), Fail> {
+    assert!(rt; <[u16; 3] as Archive>::copy_optimization().is_enabled());
+    assert!(rt; !<[u8; 1025] as Archive>::copy_optimization().is_enabled());
+    let mut bytes = [0xcc; 12];
+    let mut buffer = Buffer::from(&mut bytes);
+    let two = [[1, 2, 3], [4, 5, 6]];
+    assert_eq!(rt; refusal_of_arrays(rt.alloc(), &two, &mut buffer), None);
+    assert_eq!(rt;
+        buffer.as_slice(),
+        [1, 0, 2, 0, 3, 0, 4, 0, 5, 0, 6, 0].as_slice()
+    );
+    let mut bytes = [0xcc; 1100];
+    let mut buffer = Buffer::from(&mut bytes);
+    let refusal = Error::BufferOverflow {
+        write_len: 780,
+        cap: 1100,
+        len: 1020,
+    };
+    assert_eq!(rt;
+        refusal_of_arrays(rt.alloc(), &[[7; 3]; 300], &mut buffer),
+        Some(refusal)
+    );
+    Ok(())
+}
+
 #[test]
 fn an_own_type_is_copied(rt: HostRuntime) -> Result<(), Fail> {
     let lengths = vec![in rt.alloc(); Metres { number: 7 }, Metres { number: 256 }]?;
