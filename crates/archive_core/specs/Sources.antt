@@ -70,22 +70,12 @@ EachOwned a f xs rs k w =
 abbrev pub EachRefused : {T A R M C S : Type 0} → Archive.Ghosts T A R C M → FormatOf M → List T → Keys.Ghosts S → Both (MutBor S) (MutBor S) → Error → Type 0
 EachRefused a f xs k w e = IsRunRefused f.definitions f.shape (length xs) (each_keys a.keys xs) (each_meaning a.meaning xs) (k.state w.entry.now) (k.state w.exit.now) e
 
--- the elements were laid out in a region of their own, which stands at p, or at the position that there is; and why they weren't
+-- the elements were laid out in a region of their own, which stands at p; and why they weren't
 abbrev pub SliceStored : {T A R M C S : Type 0} → Archive.Ghosts T A R C M → FormatOf M → List T → Keys.Ghosts S → Both (MutBor S) (MutBor S) → ℕ → Type 0
 SliceStored a f xs k w p = RunStored a.keys a.meaning f xs k w p
 
-abbrev pub SliceStoredIf : {T A R M C S : Type 0} → Archive.Ghosts T A R C M → FormatOf M → List T → Keys.Ghosts S → Both (MutBor S) (MutBor S) → Option ℕ → Type 0
-SliceStoredIf a f xs k w o = RunStoredIf a.keys a.meaning f xs k w o
-
 abbrev pub SliceUnstored : {T A R M C S : Type 0} → Archive.Ghosts T A R C M → FormatOf M → List T → Keys.Ghosts S → Both (MutBor S) (MutBor S) → Error → Type 0
 SliceUnstored a f xs k w e = RunUnstored a.keys a.meaning f xs k w e
-
--- the same of elements that are copied
-abbrev pub SliceCopiedIf : {T A R M C S : Type 0} → Archive.Ghosts T A R C M → FormatOf M → List T → Keys.Ghosts S → Both (MutBor S) (MutBor S) → Option ℕ → Type 0
-SliceCopiedIf a f xs k w o = RunCopiedIf a.keys a.meaning f xs k w o
-
-abbrev pub SliceUncopied : {T A R M C S : Type 0} → Archive.Ghosts T A R C M → FormatOf M → List T → Keys.Ghosts S → Both (MutBor S) (MutBor S) → Error → Type 0
-SliceUncopied a f xs k w e = RunUncopied a.keys a.meaning f xs k w e
 
 -- a box of what is laid out at t; and why it isn't
 abbrev pub BoxSerialized : {P M U A N S : Type 0} → ArchivePointee.Ghosts P M → ArchiveUnsized.Ghosts U A N → U → Keys.Ghosts S → Both (MutBor S) (MutBor S) → ℕ → Type 0
@@ -128,6 +118,13 @@ CopiesStoredIf c f xs k w o = RunStoredIf c.copied_keys c.copied_meaning f xs k 
 
 abbrev pub CopiesUnstored : {T A M C S : Type 0} → Copied.Ghosts T A C M → FormatOf M → List T → Keys.Ghosts S → Both (MutBor S) (MutBor S) → Error → Type 0
 CopiesUnstored c f xs k w e = RunUnstored c.copied_keys c.copied_meaning f xs k w e
+
+-- in bulk, where there is a position; and why not
+abbrev pub CopiesInBulkIf : {T A M C S : Type 0} → Copied.Ghosts T A C M → FormatOf M → List T → Keys.Ghosts S → Both (MutBor S) (MutBor S) → Option ℕ → Type 0
+CopiesInBulkIf c f xs k w o = RunCopiedIf c.copied_keys c.copied_meaning f xs k w o
+
+abbrev pub CopiesNotInBulk : {T A M C S : Type 0} → Copied.Ghosts T A C M → FormatOf M → List T → Keys.Ghosts S → Both (MutBor S) (MutBor S) → Error → Type 0
+CopiesNotInBulk c f xs k w e = RunUncopied c.copied_keys c.copied_meaning f xs k w e
 
 -- these bytes, at p, are clean and read as the elements, by these resolvers; and what hinders that
 abbrev pub EachResolved : {T A R M C : Type 0} → Archive.Ghosts T A R C M → FormatOf M → ℕ → List T → List R → List ℕ → Type 0

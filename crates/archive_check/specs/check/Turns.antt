@@ -84,3 +84,10 @@ RootPasses m root at s met = IsFresh s met → (last : ℕ) × (known : Seen) ×
 -- the whole comes to this refusal; in any other context it says a fault, too
 abbrev pub RootStops : Checker → ℕ → ℕ → RangeState → Positions → Error → Type 0
 RootStops m root at s met e = (e ≡ OutOfMemory) ⊎ (HasLevels s.depth → (f : Fault) × IsFor f e × (IsFresh s met → RootRuns m root at s (refused f)))
+
+-- so it is of the context that a call begins with
+abbrev pub PassesRoot : {A : Type 0} → Context.Ghosts A → Checker → ℕ → ℕ → Both (MutBor A) (MutBor A) → Type 0
+PassesRoot k m root at c = RootPasses m root at (k.state c.entry.now) (k.positions c.entry.now)
+
+abbrev pub StopsInRoot : {A : Type 0} → Context.Ghosts A → Checker → ℕ → ℕ → Both (MutBor A) (MutBor A) → Error → Type 0
+StopsInRoot k m root at c e = RootStops m root at (k.state c.entry.now) (k.positions c.entry.now) e

@@ -18,6 +18,7 @@ use Rattle.archive_check.specs.Layout.{kind_size, kind_align}
 use Rattle.archive_check.specs.declared.format.expr.Kind.{Kind as KindExpr}
 use Rattle.archive_check.specs.PlainData.{is_plain_kind}
 use Rattle.archive_check.specs.declared.format.expr.FlavorInfo.{FlavorInfo}
+use Rattle.archive_check.specs.declared.format.expr.Pointee.{Pointee as PointeeExpr}
 use Rattle.archive_check.specs.plan.BoundedSizes.{rounded, sum_of, greater_of}
 use Rattle.archive_check.specs.plan.Shallow.{is_free}
 
@@ -65,6 +66,10 @@ pub record IsPushed (a b : PlanLists) (size : Option ℕ) (align : ℕ) (kind : 
   pub size_is : node.size ≡ size
   pub align_is : node.align ≡ align
   pub kind_is : node.kind ≡ kind
+
+-- the shared type of these
+abbrev pub type_of : FlavorInfo → PointeeExpr → SharedType
+type_of flavor pointee = record { flavor = flavor; pointee = pointee }
 
 -- one shared type more
 pub record IsTypeAdded (a b : PlanLists) (shared_type : SharedType) (k : ℕ) : Type 0 where

@@ -9,7 +9,7 @@ ghost use Rattle.archive_check.specs.FreshContexts.{KeepsLevels};
 ghost use Rattle.archive_check.specs.Pushes.{FewPushed};
 ghost use Rattle.archive_check.specs.plan.PackedPlans.{size_at};
 ghost use Rattle.archive_check.specs.check.Paid.{Pays, bytes_of, bytes_of_parts};
-ghost use Rattle.archive_check.specs.check.Turns.{IsCheckable, Turn, Follows, RootPasses, RootStops};
+ghost use Rattle.archive_check.specs.check.Turns.{IsCheckable, Turn, Follows, PassesRoot, StopsInRoot};
 
 use crate::check::Checker;
 use crate::check::regions::leave_region;
@@ -190,9 +190,8 @@ impl Checker<'_> {
         requires below { (C.state context.old).end ≤ length self.now.bytes.now }
         requires known { root < length self.now.nodes.now }
         requires none_left { list_of work.old ≡ [] }
-        ensures ok { OnSome result (RootPasses self.now root at (C.state context.old) (C.positions context.old)) }
-        ensures err { IfNone result (RootStops self.now root at (C.state context.old) (C.positions context.old)
-            work.new.fault) }
+        ensures ok { OnSome result (PassesRoot C.Context self.now root at context) }
+        ensures err { IfNone result (StopsInRoot C.Context self.now root at context work.new.fault) }
         ensures levels { OnSome result (KeepsLevels (C.state context.old) (C.state context.new)) }
         ensures few_subtrees { FewPushed (C.state context.old) (C.state context.new) }
     {

@@ -1,7 +1,7 @@
 //! What is left to check.
 
 ghost use Rattle.std.specs.Prelude.{◌≡◌, ◌≤◌, ◌∷◌, [], None, OnSome, IfSome, IfNone};
-ghost use Rattle.archive_check.specs.check.Lists.{list_of, IsMore};
+ghost use Rattle.archive_check.specs.check.Lists.{list_of, PutsMore};
 
 use crate::format::error::Error;
 use std::alloc::Global;
@@ -138,8 +138,7 @@ impl Worklist {
 
     /// What `parts` leaves, where there are any.
     pub fn more_parts(&mut self, first: usize, last: usize, base: usize) -> Option<()>
-        ensures some { OnSome result (IsMore (Work.Parts first last base) (last ≤ first) (list_of self.new)
-            (list_of self.old)) }
+        ensures some { OnSome result (PutsMore (Work.Parts first last base) (last ≤ first) self) }
         ensures none { IfNone result (self.new.fault ≡ Error.OutOfMemory) }
         ensures kept { IfNone result (list_of self.new ≡ list_of self.old) }
     {
@@ -151,7 +150,7 @@ impl Worklist {
 
     /// What `elements` leaves, where there are any.
     pub fn more_elements(&mut self, node: usize, left: usize, at: usize) -> Option<()>
-        ensures some { OnSome result (IsMore (Work.Elements node left at) (left ≡ 0) (list_of self.new) (list_of self.old)) }
+        ensures some { OnSome result (PutsMore (Work.Elements node left at) (left ≡ 0) self) }
         ensures none { IfNone result (self.new.fault ≡ Error.OutOfMemory) }
         ensures kept { IfNone result (list_of self.new ≡ list_of self.old) }
     {

