@@ -1,6 +1,6 @@
 //! Writers, and the regions that are resolved into them.
 
-ghost use Rattle.std.specs.Prelude.{◌≡◌, ◌⊎◌, ◌+◌, ◌++◌, ◌*◌, ◌^◌, ◌<◌, ◌≤◌, ◌%◌, ◌↔◌, true, length, IfOk, OnOk, IfErr};
+ghost use Rattle.std.specs.Prelude.{◌≡◌, ◌⊎◌, ◌+◌, ◌++◌, ◌*◌, ◌^◌, ◌<◌, ◌≤◌, ◌%◌, ◌↔◌, min, true, length, IfOk, OnOk, IfErr};
 ghost use Rattle.archive_check.specs.WriterState.{KeepsKeys};
 ghost use Rattle.archive_check.specs.Layout.{has_length};
 ghost use Rattle.archive_check.specs.Shape.{one};
@@ -49,6 +49,31 @@ fn resolve_region<W: Writer, T: Archive>(
     Ok(pos)
 }
 
+// Resolves a value into zeros in memory from `alloc`, and writes them at the writer's end, wherever that is. It stands apart, so that a caller holds the
+// code that resolves once.
+#[tactic(auto, using(crate::proofs::Regions::fresh_zeros, crate::proofs::Causes::goes_nowhere))]
+#[inline(never)]
+fn resolve_large<W: Writer, A: Allocator + Drop, T: Archive>(
+    writer: &mut W,
+    alloc: A,
+    value: &T,
+    resolver: T::Resolver,
+    size: usize,
+) -> Result<usize, Error>
+    requires sized { size ≡ min T.Archived.layout.size 18446744073709551615 }
+    requires ends { length (W.state writer.old).bytes + size < 2 ^ 64 }
+    requires same_value { T.belongs value.now resolver }
+    ensures region { OnOk result (RegionPut T.Archived.Portable (T.flat value.now resolver) W.Keys writer) }
+    ensures position { IfOk result (λ p. p ≡ W.place writer.old) }
+    ensures refused { IfErr result (RegionRefused T.Archived.Portable (T.flat value.now resolver) W.Keys writer) }
+    ensures goes_on { GoesOn (W.state writer.old) (W.state writer.new) }
+    ensures sized { OnOk result (GrowsBy T.Archived.layout.size W.Keys writer) }
+    ensures keys { KeepsKeys (W.state writer.old).states (W.state writer.new).states }
+{
+    let mut region = vec![in alloc; 0u8; size]?;
+    resolve_region(writer, value, resolver, &mut region)
+}
+
 // Resolves a value into zeros at the writer's end, wherever that is, and writes them. Memory for a region above 64 bytes comes from `alloc`.
 #[tactic(auto, using(crate::proofs::Regions::fresh_zeros, crate::proofs::Regions::fresh_front, crate::proofs::Regions::region_too_large, crate::proofs::Causes::goes_nowhere))]
 #[inline(always)]
@@ -70,12 +95,11 @@ pub(crate) fn resolve_next<W: Writer, A: Allocator + Drop, T: Archive>(
     if writer.pos().checked_add(size).is_none() {
         return Err(Error::LayoutTooLarge);
     }
-    if size <= LOCAL_SIZE {
-        let mut region = [0; LOCAL_SIZE];
-        return resolve_region(writer, value, resolver, &mut region[..size]);
+    if size > LOCAL_SIZE {
+        return resolve_large(writer, alloc, value, resolver, size);
     }
-    let mut region = vec![in alloc; 0u8; size]?;
-    resolve_region(writer, value, resolver, &mut region)
+    let mut region = [0; LOCAL_SIZE];
+    resolve_region(writer, value, resolver, &mut region[..size])
 }
 
 // Resolves a value into zeros that stand at a position.
@@ -122,6 +146,28 @@ fn resolve_each<W: Writer, T: Archive, A: Allocator + Drop>(
         rest = others;
     }
     Ok(())
+}
+
+// The same over zeros in memory from `alloc`. It stands apart, as `resolve_large` does.
+#[tactic(auto, using(crate::proofs::Causes::goes_nowhere))]
+#[inline(never)]
+fn resolve_each_large<W: Writer, A: Allocator + Drop, T: Archive, B: Allocator + Drop>(
+    writer: &mut W,
+    alloc: A,
+    values: &[T],
+    resolvers: Vec<T::Resolver, B>,
+    size: usize,
+) -> Result<(), Error>
+    requires sized { size ≡ min T.Archived.layout.size 18446744073709551615 }
+    requires ends { length (W.state writer.old).bytes + length values.now * size < 2 ^ 64 }
+    requires same_values { EachBelongs T.belongs values.now resolvers.items }
+    ensures put { OnOk result (EachPut T.Archived.Portable T.flat values.now resolvers.items W.Keys writer) }
+    ensures refused { IfErr result (EachHindered T.Archived.Portable T.flat values.now resolvers.items W.Keys writer) }
+    ensures goes_on { GoesOn (W.state writer.old) (W.state writer.new) }
+    ensures keys { KeepsKeys (W.state writer.old).states (W.state writer.new).states }
+{
+    let mut region = vec![in alloc; 0u8; size]?;
+    resolve_each(writer, values, resolvers, &mut region)
 }
 
 // Whether so many values of this size end at `usize::MAX` or below, where the first one stands at `pos`.
@@ -192,13 +238,12 @@ pub trait ResolveExt: Writer {
         if !run_fits(pos, values.len(), size) {
             return Err(Error::LayoutTooLarge);
         }
-        if size <= LOCAL_SIZE {
-            let mut local = [0u8; LOCAL_SIZE];
-            resolve_each(self, values, resolvers, &mut local[..size])?;
+        if size > LOCAL_SIZE {
+            resolve_each_large(self, alloc, values, resolvers, size)?;
             return Ok(pos);
         }
-        let mut region = vec![in alloc; 0u8; size]?;
-        resolve_each(self, values, resolvers, &mut region)?;
+        let mut local = [0u8; LOCAL_SIZE];
+        resolve_each(self, values, resolvers, &mut local[..size])?;
         Ok(pos)
     }
 

@@ -81,13 +81,12 @@ pub(crate) fn serialize_slice<S: Writer + ResolverAlloc, T: Serialize<S>>(
     if values.len() > u32::MAX as usize {
         return Err(Error::LengthTooLarge);
     }
-    if !T::copy_optimization().is_enabled() {
-        return serialize_in_turn(values, serializer);
+    if T::copy_optimization().is_enabled() {
+        if let Some(pos) = T::serialize_copied(values, 1, serializer)? {
+            return Ok(pos);
+        }
     }
-    match T::serialize_copied(values, 1, serializer)? {
-        Some(pos) => Ok(pos),
-        None => serialize_in_turn(values, serializer),
-    }
+    serialize_in_turn(values, serializer)
 }
 
 impl<'a, T: Archive> ArchiveUnsized for Slice<'a, T> {

@@ -1,12 +1,6 @@
-use Rattle.std.proofs.Common.{◌∙◌}
-use Rattle.archive_check.specs.declared.format.error.Error.TheVariants.{OutOfMemory}
-use Rattle.archive_core.specs.Causes.{no_memory}
-use Rattle.archive_core.proofs.Causes.{err_by}
+use Rattle.std.proofs.Common.{◌∙◌, sym, arith}
 use Rattle.archive_core.proofs.RunRegions.{run_too_large, ends_above}
 use Rattle.archive_core.proofs.ser.ResolveExt.resolve_slice_aligned.Goals as goal
-
-pub returns-in_err-region-clause-refused : goal.returns-in_err-region-clause-refused
-returns-in_err-region-clause-refused g c = err_by c.from_residual-in_err-region.result OutOfMemory _ c.from_residual-in_err-region.ensures.1 no_memory
 
 pub returns-then-not-run_fits-clause-refused : goal.returns-then-not-run_fits-clause-refused
 returns-then-not-run_fits-clause-refused g c = run_too_large g.T.Archived.ArchivePointee.definitions g.T.Archived.Portable.shape g.T.Archived.Portable.layout _ _ _ _
