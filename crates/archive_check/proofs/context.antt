@@ -1,4 +1,5 @@
 -- Lemmas on what a check keeps.
 pub mod PowersOfTwo
 pub mod SharedPositions
+pub mod RecalledPositions
 pub mod SubtreeSteps

@@ -34,6 +34,7 @@ pub mod Pushes
 pub mod PositionStates
 pub mod FreshContexts
 pub mod SharedPositions
+pub mod RecalledPositions
 pub mod InSubtree
 pub mod Validators
 pub mod VariantsLayout

@@ -6,6 +6,7 @@ ghost use Rattle.archive_check.specs.Ranges.{RangeState, subtree_answer, pushed,
 
 pub mod positions;
 pub mod range;
+mod recalled;
 pub mod subtree;
 pub mod validator;
 

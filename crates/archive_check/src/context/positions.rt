@@ -4,11 +4,13 @@ ghost use Rattle.std.specs.Prelude.{◌≡◌, ◌⊎◌, ◌↔◌, ◌≤◌, 
 ghost use Rattle.std.specs.HashMap.{get};
 ghost use Rattle.std.specs.Ordering.{int_eq};
 ghost use Rattle.archive_check.specs.SharedPositions.{met_as, AreKnown, HasType, IsGrown, IsType, IsAddedOnce};
+ghost use Rattle.archive_check.specs.RecalledPositions.{AreRecalled};
 ghost use Rattle.archive_check.specs.Expressions.{flavor_of, pointee_of};
 ghost use Rattle.archive_check.specs.Ranges.{whole};
 ghost use Rattle.archive_check.specs.PositionStates.{nothing_met, IsStartAnswer, IsFinishedAs, Starts, entry_as};
 ghost use Rattle.archive_check.specs.declared.format.error.Error.TheVariants.{OutOfMemory};
 
+use crate::context::recalled::FinishedPositions;
 use crate::context::{Context, SharedContext, ValidationState};
 use crate::format::error::Error;
 use crate::format::expr::{FlavorInfo, Pointee};
@@ -19,7 +21,7 @@ use std::hash::{BuildHasherDefault, FoldHasher};
 
 /// What is kept of a shared position: its type, by its place in the list of types, its length, and whether it is finished.
 #[derive(Debug, Clone, Copy)]
-struct SharedPosition {
+pub(crate) struct SharedPosition {
     shared_type: usize,
     length: usize,
     finished: bool,
@@ -81,7 +83,10 @@ type Positions<A> = HashMap<i128, SharedPosition, BuildHasherDefault<FoldHasher>
 pub struct SharedValidator<A: Allocator = Global> {
     shared_types: Vec<SharedType, A>,
     positions: Positions<A>,
+    // Most pointers lead to a finished position, which is looked for here first.
+    recalled: FinishedPositions<A>,
     ghost known: { AreKnown shared_types.items (get int_eq positions) },
+    ghost recalls: { AreRecalled recalled.list.items (get int_eq positions) },
 }
 
 impl<A: Allocator + Copy> SharedValidator<A> {
@@ -94,6 +99,7 @@ impl<A: Allocator + Copy> SharedValidator<A> {
         SharedValidator {
             shared_types: Vec::new(alloc),
             positions: HashMap::new(alloc),
+            recalled: FinishedPositions::new(alloc),
         }
     }
 
@@ -106,7 +112,19 @@ impl<A: Allocator + Copy> SharedValidator<A> {
         Ok(SharedValidator {
             shared_types: Vec::new(alloc),
             positions: HashMap::with_capacity(alloc, capacity)?,
+            recalled: FinishedPositions::new(alloc),
         })
+    }
+
+    // What is kept of a position.
+    #[inline(always)]
+    fn find(&self, position: i128) -> Option<SharedPosition>
+        ensures value { result ≡ get int_eq self.now.positions position }
+    {
+        if let Some(kept) = self.recalled.get(position) {
+            return Some(*kept);
+        }
+        self.positions.get(&position).copied()
     }
 
     // Starts a position that wasn't met. It stands apart, since most pointers lead to one that was.
@@ -153,7 +171,7 @@ impl<A: Allocator + Copy> SharedContext for SharedValidator<A> {
         position: i128,
         length: usize,
     ) -> Result<ValidationState, Error> {
-        if let Some(kept) = self.positions.get(&position) {
+        if let Some(kept) = self.find(position) {
             return kept.answer(
                 &self.shared_types[kept.shared_type],
                 flavor,
@@ -171,7 +189,7 @@ impl<A: Allocator + Copy> SharedContext for SharedValidator<A> {
         position: i128,
         length: usize,
     ) -> bool {
-        match self.positions.get(&position) {
+        match self.find(position) {
             Some(kept) => kept.is_finished_as(
                 &self.shared_types[kept.shared_type],
                 flavor,
@@ -196,6 +214,8 @@ impl<A: Allocator + Copy> SharedContext for SharedValidator<A> {
                     return Err(Error::AlreadyFinished);
                 }
                 kept.finished = true;
+                let now = *kept;
+                self.recalled.add(position, now);
                 Ok(())
             }
         }

@@ -1,18 +1,22 @@
 use Rattle.std.proofs.Common.{sym, refl, BuildHasherDefault, FoldHasher}
 use Rattle.std.specs.Int.{w128}
 use Rattle.std.proofs.Math.Facts.{to_z-of_z}
-use Rattle.archive_check.proofs.context.SharedPositions.{started_new, AreKnown-grown, AreKnown-inserted, unchanged_kept, positions_in-grown, on_ok, on_err}
+use Rattle.archive_check.proofs.context.SharedPositions.{started_new, AreKnown-grown, AreKnown-inserted, unchanged_kept, positions_in-grown, on_err}
+use Rattle.archive_check.proofs.context.RecalledPositions.{recalled_inserted}
 use Rattle.archive_check.proofs.context.positions.SharedValidator.start_new.Goals as goal
 
 pub invariant_of-self : goal.invariant_of-self
-invariant_of-self g c = record { known = AreKnown-grown _ _ _ c.args.self.now.known c.type_index.ensures.kept }
+invariant_of-self g c = record { known = AreKnown-grown _ _ _ c.args.self.now.known c.type_index.ensures.kept; recalls = c.args.self.now.recalls }
 
 pub returns-in_err-shared_type-clause-unchanged : goal.returns-in_err-shared_type-clause-unchanged
 returns-in_err-shared_type-clause-unchanged g c = on_err _ (positions_in-grown _ _ _ c.type_index.ensures.kept c.args.self.now.known)
 
 pub invariant_of-self-2 : goal.invariant_of-self-2
 invariant_of-self-2 g c =
-    record { known = AreKnown-inserted {S = BuildHasherDefault FoldHasher} _ c.args.self.now.positions c.insert.new.self _ _ _ _ _ (AreKnown-grown _ _ _ c.args.self.now.known c.in_ok-shared_type.ensures.kept) c.in_ok-shared_type.ensures.found c.insert.ensures.updates c.insert.ensures.err }
+    record {
+      known = AreKnown-inserted {S = BuildHasherDefault FoldHasher} _ c.args.self.now.positions c.insert.new.self _ _ _ _ _ (AreKnown-grown _ _ _ c.args.self.now.known c.in_ok-shared_type.ensures.kept) c.in_ok-shared_type.ensures.found c.insert.ensures.updates c.insert.ensures.err;
+      recalls = recalled_inserted {S = BuildHasherDefault FoldHasher} _ c.args.self.now.positions c.insert.new.self _ _ _ _ (to_z-of_z {w = w128} {z = c.args.position} c.ranges.position) c.requires.new c.insert.ensures.updates c.insert.ensures.err c.args.self.now.recalls;
+    }
 
 pub returns-in_err-insert-clause-unchanged : goal.returns-in_err-insert-clause-unchanged
 returns-in_err-insert-clause-unchanged g c = on_err _ (unchanged_kept {S = BuildHasherDefault FoldHasher} _ _ c.args.self.now.positions c.insert.new.self c.args.self.now.known c.in_ok-shared_type.ensures.kept c.in_err-insert.ensures.err)

@@ -1,6 +1,10 @@
-use Rattle.std.proofs.Common.{true, false}
+use Rattle.std.proofs.Common.{true, false, refl, sym, ap, is_some}
+use Rattle.std.specs.HashMap.{get}
+use Rattle.std.specs.Ordering.{int_eq}
 use Rattle.std.specs.Int.{w128}
 use Rattle.std.proofs.Math.Facts.{to_z-of_z}
+use Rattle.archive_check.specs.declared.context.positions.SharedPosition.{SharedPosition}
+use Rattle.archive_check.proofs.context.RecalledPositions.{recalled_finished}
 use Rattle.archive_check.proofs.context.SharedPositions.{finish_kept}
 use Rattle.archive_check.proofs.context.positions.SharedValidatorSharedContext.finish_shared.Goals as goal
 
@@ -11,3 +15,12 @@ returns-then-kept-clause-answer g c =
 pub returns-else-kept-clause-answer : goal.returns-else-kept-clause-answer
 returns-else-kept-clause-answer g c =
     finish_kept _ _ c.args.position _ _ false c.args.self.now.known (to_z-of_z {w = w128} {z = c.args.position} c.ranges.position) c.in-Some.ensures.value c.if-kept.false
+
+pub invariant_of-self-in-Some-clause-recalls : goal.invariant_of-self-in-Some-clause-recalls
+invariant_of-self-in-Some-clause-recalls g c =
+    let kept = c.in-Some.kept.now in
+    let now : SharedPosition = record { shared_type = kept.shared_type; length = kept.length; finished = true } in
+    let written = c.get_mut.follows.holds now in
+    let updates = written.3 (ap is_some (sym c.in-Some.ensures.value)) in
+    recalled_finished c.args.self.now.recalled.list.items c.add.new.self.list.items (get int_eq c.args.self.now.positions) (get int_eq (c.get_mut.follows.lender now)) _ kept now
+    c.in-Some.ensures.value c.if-kept.false refl updates.0 c.add.ensures c.args.self.now.recalls

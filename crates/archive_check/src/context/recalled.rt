@@ -1,0 +1,100 @@
+//! Finished positions that are found with no search in a map, where a hint leads to them.
+
+ghost use Rattle.std.specs.Prelude.{◌≡◌, ℤ, Option, Some, true, IfSome};
+ghost use Rattle.archive_check.specs.declared.context.positions.SharedPosition.{SharedPosition};
+ghost use Rattle.archive_check.specs.RecalledPositions.{AreRecalled};
+
+use crate::context::positions::SharedPosition;
+use std::alloc::Allocator;
+
+/// A finished position, and what is kept of it.
+#[derive(Debug, Clone, Copy)]
+pub(crate) struct FinishedPosition {
+    pub(crate) position: usize,
+    pub(crate) kept: SharedPosition,
+}
+
+/// Finished positions as they come, and hints: at a place that follows from a position, which of them it may be. A hint may be wrong, so what it leads
+/// to is compared with the position.
+#[derive(Drop)]
+pub(crate) struct FinishedPositions<A: Allocator> {
+    pub(crate) list: Vec<FinishedPosition, A>,
+    hints: Vec<u32, A>,
+}
+
+// Where the hint to a position stands among so many, a power of two.
+#[inline(always)]
+fn hint_place(position: usize, count: usize) -> usize {
+    let product = position.wrapping_mul(0x9e37_79b9_7f4a_7c15);
+    (product ^ (product >> 32)) & count.wrapping_sub(1)
+}
+
+impl<A: Allocator + Copy> FinishedPositions<A> {
+    /// No position. Memory comes from `alloc`, and none is taken yet.
+    pub(crate) fn new(alloc: A) -> FinishedPositions<A>
+        ensures { (kept : ℤ → Option SharedPosition) → AreRecalled result.list.items kept }
+    {
+        FinishedPositions {
+            list: Vec::new(alloc),
+            hints: Vec::new(alloc),
+        }
+    }
+
+    /// What is kept of a position, where a hint leads to it.
+    #[inline(always)]
+    pub(crate) fn get(&self, position: i128) -> Option<&SharedPosition>
+        ensures { (kept : ℤ → Option SharedPosition) → AreRecalled self.now.list.items kept
+            → IfSome result (λ k. kept position ≡ Some k.now) }
+    {
+        let Ok(position) = usize::try_from(position) else {
+            return None;
+        };
+        let place = match self.hints.get(hint_place(position, self.hints.len())) {
+            Some(hint) => *hint as usize,
+            None => 0,
+        };
+        match self.list.get(place) {
+            Some(known) if known.position == position => Some(&known.kept),
+            _ => None,
+        }
+    }
+
+    /// Adds a finished position with what is kept of it. It is left out where it is no `usize`, and where memory is refused.
+    pub(crate) fn add(&mut self, position: i128, now: SharedPosition)
+        ensures { (kept : ℤ → Option SharedPosition) → AreRecalled self.old.list.items kept → kept position ≡ Some now
+            → now.finished ≡ true → AreRecalled self.new.list.items kept }
+    {
+        let Ok(position) = usize::try_from(position) else {
+            return;
+        };
+        let place = self.list.len();
+        let Ok(hint) = u32::try_from(place) else {
+            return;
+        };
+        let added = FinishedPosition {
+            position,
+            kept: now,
+        };
+        if self.list.push(added).is_err() {
+            return;
+        }
+        if self.hints.len() / 4 < place {
+            self.more_hints();
+        }
+        let at = hint_place(position, self.hints.len());
+        if at < self.hints.len() {
+            self.hints[at] = hint;
+        }
+    }
+
+    // Twice as many hints, so that each position has the one that it had.
+    fn more_hints(&mut self)
+        ensures { self.new.list ≡ self.old.list }
+    {
+        if self.hints.is_empty() {
+            let _ = self.hints.resize(8, 0);
+        } else {
+            let _ = self.hints.extend_from_within(..);
+        }
+    }
+}
