@@ -1,6 +1,6 @@
 //! Strings and texts.
 
-ghost use Rattle.std.specs.Prelude.{◌≡◌, ◌++◌, ◌+◌, ◌<◌, ◌≤◌, ◌↔◌, ℕ, [], OnOk, IfOk, IfErr, IsOk, IsErrOf, IsTrue, false, FitsSigned, length, refl, string_bytes};
+ghost use Rattle.std.specs.Prelude.{◌≡◌, ◌++◌, ◌+◌, ◌<◌, ◌≤◌, ◌↔◌, ℕ, [], OnOk, IfOk, IfErr, IfSome, IsOk, IsErrOf, IsTrue, false, FitsSigned, length, refl, string_bytes};
 ghost use Rattle.std.specs.Int.{w32};
 ghost use Rattle.std.proofs.Common.{inl, inr};
 ghost use Rattle.archive_check.specs.Shape.{str as str_shape, boxed, one, text};
@@ -8,7 +8,7 @@ ghost use Rattle.archive_check.specs.Definitions.{no_definition};
 ghost use Rattle.archive_check.specs.LeafLayout.{no_definition_reached};
 ghost use Rattle.archive_check.specs.SelfCheck.Laws.{plain_check};
 ghost use Rattle.archive_check.specs.SelfCheck.Owners.{text_check};
-ghost use Rattle.archive_check.specs.Reads.{bytes_at, i32_at, IsOutOfLine};
+ghost use Rattle.archive_check.specs.Reads.{bytes_at, u32_at, i32_at, IsOutOfLine, decoded_length};
 ghost use Rattle.archive_check.specs.Readable.{string_text};
 ghost use Rattle.archive_check.specs.Value.{text_value};
 ghost use Rattle.archive_check.specs.Viewed.{Viewed, Says};
@@ -41,7 +41,7 @@ use crate::traits::{
 };
 use crate::view::{RawView, Ref};
 use archive_check::format::bytes::{
-    inline_length, is_out_of_line, read_coded_length, read_i32, read_position, read_text,
+    inline_length, is_out_of_line, read_coded_length, read_i32, read_position, read_text, read_u32,
 };
 use archive_check::format::error::Error;
 use archive_check::format::layout::Layout;
@@ -432,6 +432,15 @@ impl<'a> Ref<'a, ArchivedStr> {
     }
 }
 
+// Whether the length that this number codes is sixteen or more.
+#[tactic(auto, unfolding(archive_check::specs::Reads::decoded_length))]
+#[inline(always)]
+fn codes_sixteen(code: u32) -> bool
+    ensures { IsTrue result ↔ (16 ≤ decoded_length code) }
+{
+    code % 64 >= 16 || code >= 256
+}
+
 impl<'a> Ref<'a, ArchivedString> {
     /// The text, wherever it stands.
     pub fn as_str(self) -> &'a str
@@ -440,10 +449,35 @@ impl<'a> Ref<'a, ArchivedString> {
     {
         let RawView { bytes, pos, .. } = self.part();
         if is_out_of_line(bytes, pos) {
-            let target = read_position(bytes, pos, pos + 4) as usize;
-            return read_text(bytes, target, read_coded_length(bytes, pos));
+            return self.text_elsewhere();
         }
         read_text(bytes, pos, inline_length(bytes, pos))
+    }
+
+    // The text of a string that says that it stands elsewhere.
+    #[inline(always)]
+    fn text_elsewhere(self) -> &'a str
+        requires { IsOutOfLine self.bytes.now self.pos }
+        ensures text { result.now ≡ string_text self.entry.bytes.now self.entry.pos }
+        ensures length { length result.now ≡ decoded_length (u32_at self.entry.bytes.now self.entry.pos) }
+        ensures says { ShowsValue self.entry (text_value result.now) }
+    {
+        let RawView { bytes, pos, .. } = self.part();
+        let target = read_position(bytes, pos, pos + 4) as usize;
+        read_text(bytes, target, read_coded_length(bytes, pos))
+    }
+
+    // The text, where it stands elsewhere and has sixteen bytes or more: no length is decoded to tell this.
+    #[inline(always)]
+    pub(crate) fn long_text(self) -> Option<&'a str>
+        ensures long { IfSome result (λ t. 16 ≤ length t.now) }
+        ensures text { IfSome result (λ t. t.now ≡ string_text self.entry.bytes.now self.entry.pos) }
+    {
+        let RawView { bytes, pos, .. } = self.part();
+        if is_out_of_line(bytes, pos) && codes_sixteen(read_u32(bytes, pos)) {
+            return Some(self.text_elsewhere());
+        }
+        None
     }
 
     /// How many bytes the text has.

@@ -1,6 +1,6 @@
 // Texts are compared by their bytes, wherever they stand, as `str` is.
 
-ghost use Rattle.std.specs.Prelude.{◌≡◌, ◌+◌, ◌≤◌, length};
+ghost use Rattle.std.specs.Prelude.{◌≡◌, ◌+◌, ◌≤◌, IfSome, length};
 ghost use Rattle.std.specs.Hash as fed;
 ghost use Rattle.std.specs.Cmp.Lexicographic.{slice_cmp, on_texts};
 ghost use Rattle.std.specs.Ordering.{on, nat_cmp};
@@ -24,16 +24,28 @@ fn eight_bytes(text: &[u8], at: usize) -> u64
     requires { at + 8 ≤ length text.now }
     ensures { result ≡ big_endian 0 (chunk at 8 text.now) }
 {
-    u64::from_be_bytes([
-        text[at],
-        text[at + 1],
-        text[at + 2],
-        text[at + 3],
-        text[at + 4],
-        text[at + 5],
-        text[at + 6],
-        text[at + 7],
-    ])
+    let mut word = [0; 8];
+    word.copy_from_slice(&text[at..at + 8]);
+    u64::from_be_bytes(word)
+}
+
+// The order of two texts of sixteen bytes or more by the first sixteen, where these differ. No call is made.
+#[inline(always)]
+fn front_order(x: &str, y: &str) -> Option<Ordering>
+    requires first { 16 ≤ length x.now }
+    requires second { 16 ≤ length y.now }
+    ensures { IfSome result (λ r. r ≡ slice_cmp nat_cmp x.now y.now) }
+{
+    let (x, y) = (x.as_bytes(), y.as_bytes());
+    let (first, other) = (eight_bytes(x, 0), eight_bytes(y, 0));
+    if first != other {
+        return Some(first.cmp(&other));
+    }
+    let (second, other) = (eight_bytes(x, 8), eight_bytes(y, 8));
+    if second != other {
+        return Some(second.cmp(&other));
+    }
+    None
 }
 
 // The order of two texts by their bytes, as `cmp` of `str` answers it. Where both have sixteen, and these differ, as of most texts, no call is made.
@@ -41,15 +53,9 @@ fn eight_bytes(text: &[u8], at: usize) -> u64
 pub(super) fn text_order(a: &str, b: &str) -> Ordering
     ensures { result ≡ slice_cmp nat_cmp a.now b.now }
 {
-    let (x, y) = (a.as_bytes(), b.as_bytes());
-    if x.len() >= 16 && y.len() >= 16 {
-        let (first, other) = (eight_bytes(x, 0), eight_bytes(y, 0));
-        if first != other {
-            return first.cmp(&other);
-        }
-        let (second, other) = (eight_bytes(x, 8), eight_bytes(y, 8));
-        if second != other {
-            return second.cmp(&other);
+    if a.len() >= 16 && b.len() >= 16 {
+        if let Some(order) = front_order(a, b) {
+            return order;
         }
     }
     a.cmp(b)
@@ -104,7 +110,14 @@ impl Ordered for ArchivedString {
     fn compare(a: RawView<'_>, b: RawView<'_>) -> Ordering {
         let a: Ref<'_, ArchivedString> = Ref::at(a);
         let b: Ref<'_, ArchivedString> = Ref::at(b);
-        text_order(a.as_str(), b.as_str())
+        if let Some(x) = a.long_text() {
+            if let Some(y) = b.long_text() {
+                if let Some(order) = front_order(x, y) {
+                    return order;
+                }
+            }
+        }
+        a.as_str().cmp(b.as_str())
     }
 
     fn hash_part<H: Hasher>(part: RawView<'_>, state: &mut H) {
