@@ -13,7 +13,7 @@ ghost use Rattle.archive_check.specs.declared.format.error.Error.TheVariants.{Ou
 use crate::context::recalled::FinishedPositions;
 use crate::context::{Context, SharedContext, ValidationState};
 use crate::format::error::Error;
-use crate::format::expr::{FlavorInfo, Pointee};
+use crate::format::expr::{Expr, FlavorInfo, Pointee};
 use crate::plan::SharedType;
 use std::alloc::{AllocError, Allocator, Global};
 use std::collections::HashMap;
@@ -27,13 +27,26 @@ pub(crate) struct SharedPosition {
     finished: bool,
 }
 
+// Whether two pointees are written alike. Of strings and texts, to which most shared pointers lead, no call is needed to tell.
+#[inline(always)]
+#[tactic(auto, using(crate::proofs::format::Views::views))]
+fn is_same_pointee(kept: &Pointee, pointee: &Pointee) -> bool
+    ensures { IsTrue result ↔ pointee_of kept.now ≡ pointee_of pointee.now }
+{
+    match (kept, pointee) {
+        (Pointee::One(Expr::Str), Pointee::One(Expr::Str)) => true,
+        (Pointee::Text, Pointee::Text) => true,
+        _ => *kept == *pointee,
+    }
+}
+
 // Whether a type is this one, as written.
 #[inline(always)]
 #[tactic(auto, using(crate::proofs::context::SharedPositions::same_type))]
 fn is_of(shared_type: &SharedType, flavor: &FlavorInfo, pointee: &Pointee) -> bool
     ensures { IsTrue result ↔ IsType shared_type.now (flavor_of flavor.now) (pointee_of pointee.now) }
 {
-    shared_type.flavor == *flavor && shared_type.pointee == *pointee
+    is_same_pointee(&shared_type.pointee, pointee) && shared_type.flavor == *flavor
 }
 
 impl SharedPosition {
@@ -124,6 +137,14 @@ impl<A: Allocator + Copy> SharedValidator<A> {
         if let Some(kept) = self.recalled.get(position) {
             return Some(*kept);
         }
+        self.search(position)
+    }
+
+    // The same, by the map. It stands apart, since most positions are recalled.
+    #[inline(never)]
+    fn search(&self, position: i128) -> Option<SharedPosition>
+        ensures value { result ≡ get int_eq self.now.positions position }
+    {
         self.positions.get(&position).copied()
     }
 
