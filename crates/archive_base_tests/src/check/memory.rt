@@ -34,7 +34,7 @@ fn start_eight<S: SharedContext>(shared: &mut S) -> (i128, Option<Error>) {
 #[test]
 fn every_budget_serves_or_refuses(rt: HostRuntime) -> Result<(), Fail> {
     let mut most = 0i128;
-    for units in 1..40usize {
+    for units in 1..64usize {
         let heap = LocalHeap::new(rt.alloc(), units * 32)?;
         let mut shared = SharedValidator::new(&heap);
         let (started, refusal) = start_eight(&mut shared);

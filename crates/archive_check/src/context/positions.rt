@@ -122,10 +122,12 @@ impl<A: Allocator + Copy> SharedValidator<A> {
         ensures room { IfOk result (λ v. capacity ≤ room_of v) }
         ensures refused { IfErr result (λ e. e ≡ OutOfMemory) }
     {
+        let mut recalled = FinishedPositions::new(alloc);
+        recalled.make_room(capacity)?;
         Ok(SharedValidator {
             shared_types: Vec::new(alloc),
             positions: HashMap::with_capacity(alloc, capacity)?,
-            recalled: FinishedPositions::new(alloc),
+            recalled,
         })
     }
 
@@ -165,6 +167,9 @@ impl<A: Allocator + Copy> SharedValidator<A> {
         ensures unchanged { OnErr result (positions_of self.new ≡ positions_of self.old) }
     {
         let shared_type = type_index(&mut self.shared_types, flavor, pointee)?;
+        // Here, since to finish a position takes no memory.
+        let count = self.positions.len().saturating_add(1);
+        self.recalled.make_room(count)?;
         let kept = SharedPosition {
             shared_type,
             length,

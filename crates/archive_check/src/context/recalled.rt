@@ -5,7 +5,7 @@ ghost use Rattle.archive_check.specs.declared.context.positions.SharedPosition.{
 ghost use Rattle.archive_check.specs.RecalledPositions.{AreRecalled};
 
 use crate::context::positions::SharedPosition;
-use std::alloc::Allocator;
+use std::alloc::{AllocError, Allocator};
 
 /// A finished position, and what is kept of it.
 #[derive(Debug, Clone, Copy)]
@@ -27,6 +27,21 @@ pub(crate) struct FinishedPositions<A: Allocator> {
 fn hint_place(position: usize, count: usize) -> usize {
     let product = position.wrapping_mul(0x9e37_79b9_7f4a_7c15);
     (product ^ (product >> 32)) & count.wrapping_sub(1)
+}
+
+// Makes four hints for each of so many positions but the first, at least. They double, so that each position has the hint that it had.
+fn make_hints<A: Allocator>(hints: &mut Vec<u32, A>, count: usize) -> Result<(), AllocError> {
+    for _ in 0..usize::BITS {
+        if hints.len() / 4 >= count.saturating_sub(1) {
+            break;
+        }
+        if hints.is_empty() {
+            hints.resize(8, 0)?;
+        } else {
+            hints.extend_from_within(..)?;
+        }
+    }
+    Ok(())
 }
 
 impl<A: Allocator + Copy> FinishedPositions<A> {
@@ -59,7 +74,15 @@ impl<A: Allocator + Copy> FinishedPositions<A> {
         }
     }
 
-    /// Adds a finished position with what is kept of it. It is left out where it is no `usize`, and where memory is refused.
+    /// Makes room for so many positions in all, so that to add one takes no memory. Refused where memory is; what is recalled stays in any case.
+    pub(crate) fn make_room(&mut self, count: usize) -> Result<(), AllocError>
+        ensures { self.new.list.items ≡ self.old.list.items }
+    {
+        self.list.reserve(count.saturating_sub(self.list.len()))?;
+        make_hints(&mut self.hints, count)
+    }
+
+    /// Adds a finished position with what is kept of it. It is left out where it is no `usize`, and where there is no room.
     pub(crate) fn add(&mut self, position: i128, now: SharedPosition)
         ensures { (kept : ℤ → Option SharedPosition) → AreRecalled self.old.list.items kept → kept position ≡ Some now
             → now.finished ≡ true → AreRecalled self.new.list.items kept }
@@ -71,30 +94,15 @@ impl<A: Allocator + Copy> FinishedPositions<A> {
         let Ok(hint) = u32::try_from(place) else {
             return;
         };
-        let added = FinishedPosition {
-            position,
-            kept: now,
-        };
-        if self.list.push(added).is_err() {
-            return;
-        }
-        if self.hints.len() / 4 < place {
-            self.more_hints();
-        }
-        let at = hint_place(position, self.hints.len());
-        if at < self.hints.len() {
-            self.hints[at] = hint;
-        }
-    }
-
-    // Twice as many hints, so that each position has the one that it had.
-    fn more_hints(&mut self)
-        ensures { self.new.list ≡ self.old.list }
-    {
-        if self.hints.is_empty() {
-            let _ = self.hints.resize(8, 0);
-        } else {
-            let _ = self.hints.extend_from_within(..);
+        if place < self.list.capacity() {
+            self.list.push_reserved(FinishedPosition {
+                position,
+                kept: now,
+            });
+            let at = hint_place(position, self.hints.len());
+            if at < self.hints.len() {
+                self.hints[at] = hint;
+            }
         }
     }
 }

@@ -1,6 +1,9 @@
-use Rattle.std.proofs.Common.{sym, refl, BuildHasherDefault, FoldHasher}
+use Rattle.std.proofs.Common.{sym, subst, refl, BuildHasherDefault, FoldHasher}
 use Rattle.std.specs.Int.{w128}
+use Rattle.std.specs.HashMap.{get}
+use Rattle.std.specs.Ordering.{int_eq}
 use Rattle.std.proofs.Math.Facts.{to_z-of_z}
+use Rattle.archive_check.specs.RecalledPositions.{AreRecalled}
 use Rattle.archive_check.proofs.context.SharedPositions.{started_new, AreKnown-grown, AreKnown-inserted, unchanged_kept, positions_in-grown, on_err}
 use Rattle.archive_check.proofs.context.RecalledPositions.{recalled_inserted}
 use Rattle.archive_check.proofs.context.positions.SharedValidator.start_new.Goals as goal
@@ -11,11 +14,15 @@ invariant_of-self g c = record { known = AreKnown-grown _ _ _ c.args.self.now.kn
 pub returns-in_err-shared_type-clause-unchanged : goal.returns-in_err-shared_type-clause-unchanged
 returns-in_err-shared_type-clause-unchanged g c = on_err _ (positions_in-grown _ _ _ c.type_index.ensures.kept c.args.self.now.known)
 
+pub returns-in_err-make_room-clause-unchanged : goal.returns-in_err-make_room-clause-unchanged
+returns-in_err-make_room-clause-unchanged g c = on_err _ (positions_in-grown _ _ _ c.in_ok-shared_type.ensures.kept c.args.self.now.known)
+
 pub invariant_of-self-2 : goal.invariant_of-self-2
 invariant_of-self-2 g c =
     record {
       known = AreKnown-inserted {S = BuildHasherDefault FoldHasher} _ c.args.self.now.positions c.insert.new.self _ _ _ _ _ (AreKnown-grown _ _ _ c.args.self.now.known c.in_ok-shared_type.ensures.kept) c.in_ok-shared_type.ensures.found c.insert.ensures.updates c.insert.ensures.err;
-      recalls = recalled_inserted {S = BuildHasherDefault FoldHasher} _ c.args.self.now.positions c.insert.new.self _ _ _ _ (to_z-of_z {w = w128} {z = c.args.position} c.ranges.position) c.requires.new c.insert.ensures.updates c.insert.ensures.err c.args.self.now.recalls;
+      recalls = recalled_inserted {S = BuildHasherDefault FoldHasher} _ c.args.self.now.positions c.insert.new.self _ _ _ _ (to_z-of_z {w = w128} {z = c.args.position} c.ranges.position) c.requires.new c.insert.ensures.updates c.insert.ensures.err
+          (subst (λ recalled. AreRecalled recalled (get int_eq c.args.self.now.positions)) (sym c.make_room.ensures) c.args.self.now.recalls);
     }
 
 pub returns-in_err-insert-clause-unchanged : goal.returns-in_err-insert-clause-unchanged
