@@ -40,13 +40,22 @@ fn is_same_pointee(kept: &Pointee, pointee: &Pointee) -> bool
     }
 }
 
+// Whether two flavors are one.
+#[inline(always)]
+#[tactic(auto, using(crate::proofs::context::SharedPositions::same_type))]
+fn is_same_flavor(kept: &FlavorInfo, flavor: &FlavorInfo) -> bool
+    ensures { IsTrue result ↔ flavor_of kept.now ≡ flavor_of flavor.now }
+{
+    kept.name == flavor.name && kept.cycles == flavor.cycles
+}
+
 // Whether a type is this one, as written.
 #[inline(always)]
 #[tactic(auto, using(crate::proofs::context::SharedPositions::same_type))]
 fn is_of(shared_type: &SharedType, flavor: &FlavorInfo, pointee: &Pointee) -> bool
     ensures { IsTrue result ↔ IsType shared_type.now (flavor_of flavor.now) (pointee_of pointee.now) }
 {
-    is_same_pointee(&shared_type.pointee, pointee) && shared_type.flavor == *flavor
+    is_same_pointee(&shared_type.pointee, pointee) && is_same_flavor(&shared_type.flavor, flavor)
 }
 
 impl SharedPosition {
@@ -208,6 +217,7 @@ impl<A: Allocator + Copy> SharedContext for SharedValidator<A> {
         self.start_new(flavor, pointee, position, length)
     }
 
+    #[inline(always)]
     fn is_finished(
         &self,
         flavor: &FlavorInfo,

@@ -72,6 +72,7 @@ impl<A: Context, S: SharedContext> SharedContext for Validator<A, S> {
         self.shared.start_shared(flavor, pointee, position, length)
     }
 
+    #[inline(always)]
     fn is_finished(
         &self,
         flavor: &FlavorInfo,
@@ -195,6 +196,7 @@ impl SharedContext for HighValidator<'_> {
         self.start_first(flavor, pointee, position, length)
     }
 
+    #[inline(always)]
     fn is_finished(
         &self,
         flavor: &FlavorInfo,
