@@ -19,6 +19,14 @@ pub struct Part2;
 #[derive(Debug)]
 pub struct Part3;
 
+/// The fifth part of a tuple.
+#[derive(Debug)]
+pub struct Part4;
+
+/// The sixth part of a tuple.
+#[derive(Debug)]
+pub struct Part5;
+
 /// The parts of a tuple of 1.
 pub(super) type Parts1 = (Part0, ());
 
@@ -30,6 +38,12 @@ pub(super) type Parts3 = (Part0, (Part1, (Part2, ())));
 
 /// The parts of a tuple of 4.
 pub(super) type Parts4 = (Part0, (Part1, (Part2, (Part3, ()))));
+
+/// The parts of a tuple of 5.
+pub(super) type Parts5 = (Part0, (Part1, (Part2, (Part3, (Part4, ())))));
+
+/// The parts of a tuple of 6.
+pub(super) type Parts6 = (Part0, (Part1, (Part2, (Part3, (Part4, (Part5, ()))))));
 
 impl<A: Archive> PartOf<(A,)> for Part0 {
     type Source = A;

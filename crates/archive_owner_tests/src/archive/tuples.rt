@@ -1,16 +1,39 @@
 // Tuples: their layouts, and what a check says of their bytes.
 
-use archive_core::api::{access, access_mut, from_bytes, to_bytes};
+use archive_core::api::{HighSerializer, access, access_mut, from_bytes, to_bytes};
 use archive_core::error::Error;
-use archive_core::primitive::{ArchivedI32, ArchivedU32};
-use archive_core::traits::{Portable, Record};
-use archive_tuple::{ArchivedTuple1, ArchivedTuple3};
+use archive_core::primitive::{ArchivedI32, ArchivedU16, ArchivedU32};
+use archive_core::traits::{Archive, Deserialize, Portable, Record, Serialize};
+use archive_tuple::{ArchivedTuple1, ArchivedTuple3, ArchivedTuple6};
+use std::alloc::Global;
 use std::test::Fail;
 
 // The tuple (24, true, 16) of an `i32`, a `bool` and a `u32`.
 const NUMBERS: &[u8] = b"\x18\0\0\0\x01\0\0\0\x10\0\0\0";
 
 type Numbers = ArchivedTuple3<ArchivedI32, bool, ArchivedU32>;
+
+// The tuple (1, 2, true, 3, 4) of a `u8`, a `u32` at 4, a `bool` at 8, a `u16` at 10 and a `u8` at 12, and zeros up to a multiple of 4.
+const FIVE: &[u8] = b"\x01\0\0\0\x02\0\0\0\x01\0\x03\0\x04\0\0\0";
+
+// The same with the `i32` -1 at 16.
+const SIX: &[u8] = b"\x01\0\0\0\x02\0\0\0\x01\0\x03\0\x04\0\0\0\xff\xff\xff\xff";
+
+type Six = ArchivedTuple6<u8, ArchivedU32, bool, ArchivedU16, u8, ArchivedI32>;
+
+// Whether a value is written as these bytes, and read back from them.
+fn goes_there_and_back<T: Serialize<HighSerializer<Vec<u8>, Global>> + PartialEq + Drop>(
+    alloc: Global,
+    value: &T,
+    bytes: &[u8],
+) -> Result<bool, Error>
+where
+    T::Archived: Deserialize<T, ()>,
+{
+    let written = to_bytes(alloc, value)?;
+    let back: T = from_bytes(alloc, bytes, &mut ())?;
+    Ok(written.as_slice() == bytes && back == *value)
+}
 
 #[test]
 fn a_tuple_has_the_layout_of_its_parts(rt: HostRuntime) -> Result<(), Fail> {
@@ -43,6 +66,18 @@ fn a_tuple_is_written_viewed_and_read_back(rt: HostRuntime) -> Result<(), Fail> 
     assert_eq!(rt; view.field::<ArchivedU32>(2).get(), 16);
     let back: Result<(i32, bool, u32), Error> = from_bytes(rt.alloc(), NUMBERS, &mut ());
     assert_eq!(rt; back, Ok(value));
+    Ok(())
+}
+
+#[test]
+fn longer_tuples_are_written_viewed_and_read_back(rt: HostRuntime) -> Result<(), Fail> {
+    let five: (u8, u32, bool, u16, u8) = (1, 2, true, 3, 4);
+    assert!(rt; goes_there_and_back(rt.alloc(), &five, FIVE)?);
+    let six: (u8, u32, bool, u16, u8, i32) = (1, 2, true, 3, 4, -1);
+    assert!(rt; goes_there_and_back(rt.alloc(), &six, SIX)?);
+    let view = access::<Six>(rt.alloc(), SIX)?;
+    assert_eq!(rt; view.field::<ArchivedU16>(3).get(), 3);
+    assert_eq!(rt; view.field::<ArchivedI32>(5).get(), -1);
     Ok(())
 }
 
