@@ -1,5 +1,5 @@
 -- Where no flavor of what it shows allows cycles, a view means one value: so views are ordered by these.
-use Rattle.std.proofs.Common.{◌≡◌, ℕ, List, Bool, not, [], Contains, All, refl, ap, ap₂}
+use Rattle.std.proofs.Common.{◌≡◌, ℕ, List, Bool, not, IsTrue, Some, [], Contains, All, refl, ap, ap₂}
 use Rattle.std.proofs.Math.Logic.{∥∥₁_elim, ∥∥₁_map, ∥∥₁_prop}
 use Rattle.std.specs.declared.cmp.Ordering.{Ordering}
 use Rattle.std.proofs.lemmas.List.Elements.{All-contains, Contains-append_left, Contains-append_right}
@@ -53,6 +53,9 @@ module _ (D : Definitions) (P : Pointee) (h : IsAcyclicPointee D P) (bytes : Lis
   abbrev AllAllowed : (s : Schema) → Knows s D → Value → Type 0
   AllAllowed s k v = (p : Pointer) → Contains (pointers v) p → Allowed s k p
 
+  never : (s : Schema) (k : Knows s D) (p : Pointer) (flavor : Flavor) → Allowed s k p → p.sharing ≡ Some flavor → IsTrue flavor.cycles → ⊥
+  never s k p flavor ok e cycles = no_cycles flavor (ok.0 flavor e) cycles
+
   further : (s : Schema) (k : Knows s D) (p : Pointer) (t : ℕ) (v : Value) → Allowed s k p → Contents s bytes t p.pointee p.length v → All (Allowed s k) (pointers v)
   further s k p t v ok c = contents_right calm D h.definitions s k.has bytes c (ok.1)
 
@@ -63,8 +66,8 @@ module _ (D : Definitions) (P : Pointee) (h : IsAcyclicPointee D P) (bytes : Lis
   lies_followed : (s : Schema) (k : Knows s D) {q n : ℕ} → Lies s bytes q P n → (v : Value) × Contents s bytes q P n v × Followed s bytes v
   lies_followed s k l =
       let (r, c, i) = l.part in
-      let owned = accepted_followed s bytes (Allowed s k) (λ p flavor ok e cycles. no_cycles flavor (ok.0 flavor e) cycles) (further s k) l.accepted in
-      let (u, d, own) = All-contains (Owns s bytes (Allowed s k) (λ p flavor ok e cycles. no_cycles flavor (ok.0 flavor e) cycles) (further s k)) (regions_of l.accepted) r owned c in
+      let owned = accepted_followed s bytes (Allowed s k) (never s k) (further s k) l.accepted in
+      let (u, d, own) = All-contains (Owns s bytes (Allowed s k) (never s k) (further s k)) (regions_of l.accepted) r owned c in
       let (v, m, f) = part_of_reads s bytes i d in
       (v, m, follow s bytes v (λ t n. contents_no_names s bytes m n) (λ p j. own p (f p j) (all_allowed s k m p j)))
 

@@ -16,11 +16,12 @@ use Rattle.archive_check.proofs.SameLayouts.{align_same, size_same, layout_same}
 use Rattle.archive_check.proofs.Unshared.{found, chosen}
 use Rattle.archive_check.proofs.WellFormed.{found_stands}
 
+-- Of definitions with such flavors: a shape that has them, too, holds defined names alone.
 module _ (right : Flavor → Bool) (D : Definitions) where
-  abbrev pub Right : Shape → Type 0
+  abbrev Right : Shape → Type 0
   Right X = IsTrue (has_flavors right (listed D) X)
 
-  abbrev pub AreRight : Parts → Type 0
+  abbrev AreRight : Parts → Type 0
   AreRight ps = IsTrue (parts_have_flavors right (listed D) ps)
 
   abbrev IsDefined : Name → Type 0
@@ -55,7 +56,7 @@ module _ (right : Flavor → Bool) (D : Definitions) where
     variants_defined (holds_variant {ps = ps} {vs = vs} k) h = parts_defined k (variant_right ps vs h)
     variants_defined (holds_other {ps = ps} {vs = vs} k) h = variants_defined k (other_right ps vs h)
 
-  -- two schemas that know the definitions, each of which is right
+  -- two schemas that know the definitions
   module _ (each : (name : Name) (Y : Shape) → Contains (listed D) (name, Y) → Right Y) (s s' : Schema) (k : Knows s D) (l : Knows s' D) where
     -- what a defined name stands for, in the one and in the other
     there : (n : Name) (Y : Shape) → definition (listed D) n ≡ Some Y → definition s.table n ≡ Some Y
@@ -67,6 +68,7 @@ module _ (right : Flavor → Bool) (D : Definitions) where
     right_there : (n : Name) (Y : Shape) → definition (listed D) n ≡ Some Y → Right Y
     right_there n Y e = each n Y (found_stands (listed D) n Y e)
 
+    -- a defined name can be laid out, and in both alike
     all_placed : (n : Name) → IsDefined n → Placed s.table (length (names_of (listed D))) n
     all_placed =
         by_descent s.table IsDefined (λ j n. Placed s.table j n)
@@ -79,10 +81,10 @@ module _ (right : Flavor → Bool) (D : Definitions) where
     one_layout : {j : ℕ} {n : Name} → Placed s.table j n → IsDefined n → s.layouts n ≡ s'.layouts n
     one_layout {n = n} (placed {X = Y} e p) o =
         let same : o.0 ≡ Y = cc (there n o.0 o.1, e) in
-        let found : definition (listed D) n ≡ Some Y = rw same at o.1 in
+        let known : definition (listed D) n ≡ Some Y = rw same at o.1 in
         k.laid_out.solves n Y e
-        ∙ layout_same s.layouts s'.layouts Y (λ m h. one_layout (p m h) (holds_defined h (right_there n Y found)))
-        ∙ sym (l.laid_out.solves n Y (there_too n Y found))
+        ∙ layout_same s.layouts s'.layouts Y (λ m h. one_layout (p m h) (holds_defined h (right_there n Y known)))
+        ∙ sym (l.laid_out.solves n Y (there_too n Y known))
 
     held_same : (X : Shape) → Right X → (n : Name) → Holds n X → s.layouts n ≡ s'.layouts n
     held_same X h n i = let o = holds_defined i h in one_layout (all_placed n o) o
@@ -93,7 +95,7 @@ module _ (right : Flavor → Bool) (D : Definitions) where
     same_size : (X : Shape) → Right X → size_of s.layouts X ≡ size_of s'.layouts X
     same_size X h = size_same s.layouts s'.layouts X (held_same X h)
 
-    pub same_pointee_size : (P : Pointee) (n : ℕ) → IsTrue (pointee_has_flavors right (listed D) P) → pointee_size s P n ≡ pointee_size s' P n
+    same_pointee_size : (P : Pointee) (n : ℕ) → IsTrue (pointee_has_flavors right (listed D) P) → pointee_size s P n ≡ pointee_size s' P n
     same_pointee_size (one X) n h = same_size X h
     same_pointee_size (run X) n h = ap (λ z. n * z) (same_size X h)
     same_pointee_size text n h = refl
@@ -113,6 +115,7 @@ module _ (right : Flavor → Bool) (D : Definitions) where
           let same : o.0 ≡ Y = cc (there name o.0 o.1, d) in
           (rw same at (there_too name o.0 o.1), rw same at (right_there name o.0 o.1))
 
+      -- what the one reads, the other does
       mutual
         reads_again : {p : ℕ} {X : Shape} {v : Value} → Reads s bytes p X v → Right X → Reads s' bytes p X v
         reads_again (reads_leaf i) h = reads_leaf i
