@@ -18,7 +18,7 @@ use Rattle.archive_check.proofs.Viewed.{root_lies}
 use Rattle.archive_check.proofs.Seen.{same_some}
 use Rattle.archive_check.proofs.CalmArchives.{never_open}
 
-found : {A : Type 0} (o : Option A) → IsTrue (is_some o) → (x : A) × (o ≡ Some x)
+pub found : {A : Type 0} (o : Option A) → IsTrue (is_some o) → (x : A) × (o ≡ Some x)
 found None h = cc
 found (Some x) h = (x, refl)
 
@@ -44,7 +44,7 @@ module _ (right : Flavor → Bool) (D : Definitions) (each : (name : Name) (Y : 
       let same : Z ≡ Y = cc (has_each s D has name Z (found_stands (listed D) name Z f), e) in
       rw same at (each name Z (found_stands (listed D) name Z f))
 
-  chosen : (vs : Variants) (tag : ℕ) (ps : Parts) → variant_at vs tag ≡ Some ps → IsTrue (variants_have_flavors right (listed D) vs) → IsTrue (parts_have_flavors right (listed D) ps)
+  pub chosen : (vs : Variants) (tag : ℕ) (ps : Parts) → variant_at vs tag ≡ Some ps → IsTrue (variants_have_flavors right (listed D) vs) → IsTrue (parts_have_flavors right (listed D) ps)
   chosen no_variant tag ps e h = cc
   chosen (variant qs vs) zero ps e h = let same : qs ≡ ps = cc in rw same at ((and_parts (parts_have_flavors right (listed D) qs) (variants_have_flavors right (listed D) vs) h).0)
   chosen (variant qs vs) (suc tag) ps e h = chosen vs tag ps e ((and_parts (parts_have_flavors right (listed D) qs) (variants_have_flavors right (listed D) vs) h).1)
@@ -92,7 +92,7 @@ module _ (D : Definitions) (each : (name : Name) (Y : Shape) → Contains (liste
   meets_none (meets_in_shared {p = p} {flavor = flavor} c i e t unknown m) h = let never = (found_right p c h i).0 flavor e in cc
 
 -- no flavor that is right allows cycles
-no_cycles : (flavor : Flavor) → IsTrue (not flavor.cycles) → IsTrue flavor.cycles → ⊥
+pub no_cycles : (flavor : Flavor) → IsTrue (not flavor.cycles) → IsTrue flavor.cycles → ⊥
 no_cycles flavor h k = let e : flavor.cycles ≡ true = k in let never : not true ≡ true = rw e at h in cc
 
 -- where no flavor allows cycles, no position that is being read is met

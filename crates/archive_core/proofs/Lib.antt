@@ -63,3 +63,6 @@ pub mod CopiedLeaves
 pub mod SilentPlans
 pub mod ItemsLaid
 pub mod SaidOrder
+mod FollowedPointers
+mod OneReading
+pub mod MeantOrder

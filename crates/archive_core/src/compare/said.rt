@@ -1,6 +1,7 @@
-// Views compared by what their archives say.
+// Views compared by what they mean, and by what their archives say.
 
 ghost use Rattle.std.specs.Prelude.{◌≡◌};
+ghost use Rattle.archive_core.specs.MeantOrder.{OrdersMeant};
 ghost use Rattle.archive_core.specs.SaidOrder.{OrdersSaid};
 ghost use Rattle.archive_core.specs.Seen.{shown};
 
@@ -9,9 +10,11 @@ use crate::view::Ref;
 use std::cmp::Ordering;
 
 impl<'a, T: Ordered> Ref<'a, T> {
-    /// The order of what two views show, as `cmp` answers it; where they share nothing, that of the values that their archives say. Our own.
+    /// The order of what two views show, as `cmp` answers it. Where no flavor of what they show allows cycles, each means one value, and it is the
+    /// order of these; where they share nothing, that of the values that their archives say. Our own.
     pub fn compare_said(self, other: Ref<'_, T>) -> Ordering
         ensures order { result ≡ T.order (shown self.entry) (shown other.entry) }
+        ensures meant { OrdersMeant self.entry other.entry result }
         ensures said { OrdersSaid self.entry other.entry result }
     {
         T::compare(self.part(), other.part())
