@@ -25,6 +25,26 @@ use std::alloc::Allocator;
 /// Regions of this size or less are resolved in a local array.
 const LOCAL_SIZE: usize = 64;
 
+// The same refusal. A loop hands its values' refusals on by this call: where no word of them is named, the compiled code keeps 16 bytes of each refusal that
+// may come on the way, and clears them for each value.
+#[inline(always)]
+pub(crate) fn by_words(error: Error) -> Error
+    ensures { result ≡ error }
+{
+    match error {
+        Error::BufferOverflow {
+            write_len,
+            cap,
+            len,
+        } => Error::BufferOverflow {
+            write_len,
+            cap,
+            len,
+        },
+        error => error,
+    }
+}
+
 // Resolves a value into zeros that are to stand at the writer's end, and writes them.
 #[tactic(auto, using(crate::proofs::Regions::puts_by, crate::proofs::Regions::region_hindered, crate::proofs::Regions::region_refused, crate::proofs::Causes::goes_nowhere, crate::proofs::Causes::goes_written, crate::proofs::Causes::goes_refused))]
 #[inline(always)]
@@ -142,7 +162,9 @@ fn resolve_each<W: Writer, T: Archive, A: Allocator + Drop>(
             unreachable!();
         };
         region.fill(0);
-        resolve_region(writer, value, resolver, region)?;
+        if let Err(error) = resolve_region(writer, value, resolver, region) {
+            return Err(by_words(error));
+        }
         rest = others;
     }
     Ok(())

@@ -15,7 +15,7 @@ ghost use Rattle.archive_write.specs.Written.{GoesOn};
 
 use super::ArchivedSlice;
 use crate::primitive::ArchivedUsize;
-use crate::ser::ResolveExt;
+use crate::ser::{ResolveExt, by_words};
 use crate::traits::{Archive, ArchiveUnsized, Serialize, SerializeUnsized};
 use archive_check::format::error::Error;
 use archive_write::ser::{ResolverAlloc, Writer, WriterExt};
@@ -43,7 +43,10 @@ pub(crate) fn serialize_each<A: Allocator + Drop, S: Writer, T: Serialize<S>>(
 {
     let mut resolvers = Vec::with_capacity(alloc, values.len())?;
     for value in values {
-        let resolver = value.serialize(serializer)?;
+        let resolver = match value.serialize(serializer) {
+            Ok(resolver) => resolver,
+            Err(error) => return Err(by_words(error)),
+        };
         resolvers.push(resolver).map_err(AllocError::from)?;
     }
     Ok(resolvers)

@@ -10,13 +10,13 @@ use Rattle.archive_core.proofs.slice.sources.serialize_each.Goals as goal
 pub returns-in_err-resolvers-clause-refused : goal.returns-in_err-resolvers-clause-refused
 returns-in_err-resolvers-clause-refused g c = err_by c.from_residual.result OutOfMemory _ c.from_residual.ensures.1 no_memory
 
-pub returns-in_err-resolver-clause-goes_on : goal.returns-in_err-resolver-clause-goes_on
-returns-in_err-resolver-clause-goes_on g c = goes_both _ _ _ c.loop-value.invariant.continues.goes c.serialize.ensures.goes_on
+pub returns-in-Err-clause-goes_on : goal.returns-in-Err-clause-goes_on
+returns-in-Err-clause-goes_on g c = goes_both _ _ _ c.loop-value.invariant.continues.goes c.serialize.ensures.goes_on
 
-pub returns-in_err-resolver-clause-refused : goal.returns-in_err-resolver-clause-refused
-returns-in_err-resolver-clause-refused g c = err_by c.from_residual-in_err-resolver.result c.in_err-resolver.field-0.0 _ c.from_residual-in_err-resolver.ensures.1
+pub returns-in-Err-clause-refused : goal.returns-in-Err-clause-refused
+returns-in-Err-clause-refused g c = rw (c.by_words.ensures)
     (continues_broken _ _ _ _ _ _ _ _ _ _ c.loop-value.value-index _ _ _ c.loop-value-test.true c.value-item.is g.met.T.Archive.planned c.loop-value.invariant.continues
-    c.serialize.ensures.goes_on c.in_err-resolver.ensures.refused)
+    c.serialize.ensures.goes_on c.in-Err.ensures.refused)
 
 pub returns-in_err-map_err-clause-goes_on : goal.returns-in_err-map_err-clause-goes_on
 returns-in_err-map_err-clause-goes_on g c = goes_both _ _ _ c.loop-value.invariant.continues.goes c.serialize.ensures.goes_on
@@ -27,7 +27,7 @@ returns-in_err-map_err-clause-refused g c = err_by c.from_residual-in_err-map_er
 pub loop-value-preserved : goal.loop-value-preserved
 loop-value-preserved g c = record {
   continues = continues_step _ _ _ _ _ _ _ _ _ _ c.loop-value.value-index _ _ _ _ c.loop-value-test.true c.value-item.is (grind (arith, common_steps)) c.loop-value.invariant.continues
-      c.in_ok-resolver.ensures.serialized c.in_ok-resolver.ensures.same_value c.serialize.ensures.goes_on;
+      c.in-Ok.ensures.serialized c.in-Ok.ensures.same_value c.serialize.ensures.goes_on;
 }
 
 pub returns-clause-serialized : goal.returns-clause-serialized
