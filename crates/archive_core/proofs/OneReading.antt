@@ -1,5 +1,5 @@
 -- Schemas that know some definitions read alike what names these alone: it has one layout, and the bytes say one thing.
-use Rattle.std.proofs.Common.{◌≡◌, ℕ, zero, suc, ◌+◌, ◌*◌, List, length, Bool, IsTrue, Some, is_some, Contains, refl, sym, ap, ◌∙◌}
+use Rattle.std.proofs.Common.{◌≡◌, ℕ, suc, ◌+◌, ◌*◌, List, length, Bool, IsTrue, Some, is_some, Contains, refl, sym, ap, ◌∙◌}
 use Rattle.std.proofs.lemmas.Bool.{and_parts}
 use Rattle.archive_check.specs.Shape.{Name, Flavor, Shape, Pointee, one, run, text, Parts, part, Variants, variant, definition}
 use Rattle.archive_check.specs.Layout.{up, size_of, align_of}
