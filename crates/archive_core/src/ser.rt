@@ -321,7 +321,10 @@ pub(crate) fn serialize_with<A: Allocator + Drop, S: Writer, T: Serialize<S>>(
     ensures goes_on { GoesOn (S.state serializer.old) (S.state serializer.new) }
     ensures refused { IfErr result (OneUnstored T.Archive T.Archived.Portable value.now S.Keys serializer) }
 {
-    let resolver = value.serialize(serializer)?;
+    let resolver = match value.serialize(serializer) {
+        Ok(resolver) => resolver,
+        Err(error) => return Err(by_words(error)),
+    };
     serializer.align_for::<T::Archived>()?;
     serializer.resolve_aligned(alloc, value, resolver)
 }
