@@ -4,7 +4,7 @@ use archive_core::api::{HighSerializer, access, access_mut, from_bytes, to_bytes
 use archive_core::error::Error;
 use archive_core::primitive::{ArchivedI32, ArchivedU16, ArchivedU32};
 use archive_core::traits::{Archive, Deserialize, Portable, Record, Serialize};
-use archive_tuple::{ArchivedTuple1, ArchivedTuple3, ArchivedTuple6};
+use archive_tuple::{ArchivedTuple1, ArchivedTuple3, ArchivedTuple5};
 use std::alloc::Global;
 use std::test::Fail;
 
@@ -16,10 +16,7 @@ type Numbers = ArchivedTuple3<ArchivedI32, bool, ArchivedU32>;
 // The tuple (1, 2, true, 3, 4) of a `u8`, a `u32` at 4, a `bool` at 8, a `u16` at 10 and a `u8` at 12, and zeros up to a multiple of 4.
 const FIVE: &[u8] = b"\x01\0\0\0\x02\0\0\0\x01\0\x03\0\x04\0\0\0";
 
-// The same with the `i32` -1 at 16.
-const SIX: &[u8] = b"\x01\0\0\0\x02\0\0\0\x01\0\x03\0\x04\0\0\0\xff\xff\xff\xff";
-
-type Six = ArchivedTuple6<u8, ArchivedU32, bool, ArchivedU16, u8, ArchivedI32>;
+type Five = ArchivedTuple5<u8, ArchivedU32, bool, ArchivedU16, u8>;
 
 // Whether a value is written as these bytes, and read back from them.
 fn goes_there_and_back<T: Serialize<HighSerializer<Vec<u8>, Global>> + PartialEq + Drop>(
@@ -70,14 +67,11 @@ fn a_tuple_is_written_viewed_and_read_back(rt: HostRuntime) -> Result<(), Fail> 
 }
 
 #[test]
-fn longer_tuples_are_written_viewed_and_read_back(rt: HostRuntime) -> Result<(), Fail> {
+fn a_tuple_of_five_is_written_viewed_and_read_back(rt: HostRuntime) -> Result<(), Fail> {
     let five: (u8, u32, bool, u16, u8) = (1, 2, true, 3, 4);
     assert!(rt; goes_there_and_back(rt.alloc(), &five, FIVE)?);
-    let six: (u8, u32, bool, u16, u8, i32) = (1, 2, true, 3, 4, -1);
-    assert!(rt; goes_there_and_back(rt.alloc(), &six, SIX)?);
-    let view = access::<Six>(rt.alloc(), SIX)?;
+    let view = access::<Five>(rt.alloc(), FIVE)?;
     assert_eq!(rt; view.field::<ArchivedU16>(3).get(), 3);
-    assert_eq!(rt; view.field::<ArchivedI32>(5).get(), -1);
     Ok(())
 }
 
