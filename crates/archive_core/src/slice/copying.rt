@@ -90,28 +90,7 @@ fn copy_by<W: Writer, T: Copied, const N: usize>(
     Ok(())
 }
 
-// The same, as many times `together` of them at once as fit 1,024 bytes. It stands apart, so that the code of few values is small where it is written.
-#[inline(never)]
-fn copy_many<W: Writer, T: Copied>(
-    values: &[T],
-    size: usize,
-    together: usize,
-    writer: &mut W,
-) -> Result<(), Error>
-    requires same { size ≡ T.CopiedAs.layout.size }
-    requires joined { 0 < together }
-    requires small { together * size ≤ 1024 }
-    ensures copied { OnOk result (BytesAdded (each_bytes T.copied_bytes values.now) W.Keys writer) }
-    ensures read { OnOk result (AllCopied T.CopiedAs.Portable size T.copied_meaning T.copied_bytes values.now) }
-    ensures refused { IfErr result (PiecesUnwritten W.place W.Keys writer (length values.now * size)) }
-    ensures memory { IsErrOf result Error.OutOfMemory → IsTrue W.takes_memory }
-    ensures goes_on { GoesOn (W.state writer.old) (W.state writer.new) }
-    ensures keys { KeepsKeys (W.state writer.old).states (W.state writer.new).states }
-{
-    copy_by::<W, T, PIECE>(values, size, together, writer)
-}
-
-// Writes the bytes of values, which have so many each, as many times `together` of them at once as fit 1,024 bytes, or 64 where they all do.
+// Writes the bytes of values, which have so many each, as many times `together` of them at once as fit 1,024 bytes.
 #[inline(always)]
 fn copy_pieces<W: Writer, T: Copied>(
     values: &[T],
@@ -133,7 +112,7 @@ fn copy_pieces<W: Writer, T: Copied>(
     if together * size <= SHORT && values.len() * size <= SHORT {
         return copy_by::<W, T, SHORT>(values, size, together, writer);
     }
-    copy_many(values, size, together, writer)
+    copy_by::<W, T, PIECE>(values, size, together, writer)
 }
 
 // Writes the bytes of values as the next region, where the writer stands at a multiple of their alignment.

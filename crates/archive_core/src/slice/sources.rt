@@ -52,9 +52,8 @@ pub(crate) fn serialize_each<A: Allocator + Drop, S: Writer, T: Serialize<S>>(
     Ok(resolvers)
 }
 
-// Writes what each of the values owns and then all of them as a region of its own, and answers the region's position. It stands apart, so that a caller
-// whose values are copied doesn't hold its code.
-#[inline(never)]
+// Writes what each of the values owns and then all of them as a region of its own, and answers the region's position.
+#[inline(always)]
 fn serialize_in_turn<S: Writer + ResolverAlloc, T: Serialize<S>>(
     values: &[T],
     serializer: &mut S,
