@@ -32,6 +32,14 @@ where
     Ok(written.as_slice() == bytes && back == *value)
 }
 
+// The archive of a value.
+fn archived<T: Serialize<HighSerializer<Vec<u8>, Global>>>(
+    alloc: Global,
+    value: &T,
+) -> Result<Vec<u8>, Error> {
+    to_bytes(alloc, value)
+}
+
 #[test]
 fn a_tuple_has_the_layout_of_its_parts(rt: HostRuntime) -> Result<(), Fail> {
     assert_eq!(rt; <Numbers as Portable>::size(), 12);
@@ -72,6 +80,14 @@ fn a_tuple_of_five_is_written_viewed_and_read_back(rt: HostRuntime) -> Result<()
     assert!(rt; goes_there_and_back(rt.alloc(), &five, FIVE)?);
     let view = access::<Five>(rt.alloc(), FIVE)?;
     assert_eq!(rt; view.field::<ArchivedU16>(3).get(), 3);
+    Ok(())
+}
+
+#[test]
+fn a_tuple_of_six_is_written(rt: HostRuntime) -> Result<(), Fail> {
+    let six: (u8, u8, bool, u8, u8, u8) = (1, 2, true, 3, 4, 5);
+    let bytes = archived(rt.alloc(), &six)?;
+    assert_eq!(rt; bytes.as_slice(), b"\x01\x02\x01\x03\x04\x05".as_slice());
     Ok(())
 }
 
