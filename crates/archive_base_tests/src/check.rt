@@ -2,6 +2,7 @@
 
 mod buffers;
 mod contexts;
+mod definitions;
 mod expressions;
 mod forms;
 mod layouts;

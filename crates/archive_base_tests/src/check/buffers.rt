@@ -2,16 +2,18 @@
 
 ghost use Rattle.std.specs.Prelude.{◌≢◌, Some};
 
-use super::forms::{Inner, Node, OptionalBytes, OptionalNumber, TwoTypes};
+use super::definitions::{Inner, Node};
+use super::forms::{OptionalBytes, OptionalNumber, TwoTypes};
 use super::marks::{
     ArchivedBox, ArchivedBoxedSlice, ArchivedRc, ArchivedRcSlice, ArchivedVec, Array, Named, Plain,
 };
+use crate::assertions::assert_same;
 use archive_check::context::validator::HighValidator;
 use archive_check::format::error::Error;
 use archive_check::format::traits::Portable;
 use archive_check::shape::Schema;
 use archive_num::{ArchivedU32, ArchivedU64};
-use std::alloc::Global;
+use std::alloc::{AllocError, Global};
 use std::process::Abort;
 use std::test::Fail;
 
@@ -94,13 +96,13 @@ fn regions_rise(rt: HostRuntime) {
 fn a_limit_of_depth_counts_the_root(rt: HostRuntime) {
     let bytes = b"Hello world\0\x01\0\0\0\xf0\xff\xff\xff\x0b\0\0\0";
     let one = entered::<Plain<OptionalBytes>>(rt.alloc(), bytes, 12, Some(1));
-    assert_eq!(rt; one, Err(Error::ExceededMaximumSubtreeDepth));
+    assert_same(&rt, "one", one, Err(Error::ExceededMaximumSubtreeDepth));
     let two = entered::<Plain<OptionalBytes>>(rt.alloc(), bytes, 12, Some(2));
-    assert_eq!(rt; two, Err(Error::ExceededMaximumSubtreeDepth));
+    assert_same(&rt, "two", two, Err(Error::ExceededMaximumSubtreeDepth));
     let three = entered::<Plain<OptionalBytes>>(rt.alloc(), bytes, 12, Some(3));
-    assert_eq!(rt; three, Ok(2));
+    assert_same(&rt, "three", three, Ok(2));
     let unlimited = entered::<Plain<OptionalBytes>>(rt.alloc(), bytes, 12, None);
-    assert_eq!(rt; unlimited, Ok(2));
+    assert_same(&rt, "unlimited", unlimited, Ok(2));
 }
 
 #[test]
@@ -179,15 +181,21 @@ fn a_cycle_is_refused_and_a_null_is_not_followed(rt: HostRuntime) {
     );
 }
 
+// A list of 200,000 nodes, the end first.
+fn deep_list(alloc: Global) -> Result<Vec<u8>, AllocError> {
+    let mut bytes = vec![in alloc; 0u8; 8]?;
+    for _ in 0..200_000 {
+        bytes.extend_from_slice(b"\x01\0\0\0\xf4\xff\xff\xff")?;
+    }
+    Ok(bytes)
+}
+
 #[test]
 fn deep_lists_take_no_stack(rt: HostRuntime) -> Result<(), Fail> {
     let itself = b"\x01\0\0\0\x04\0\0\0\x01\0\0\0\xf4\xff\xff\xff";
     assert_rows::<Named<Node>>(&rt, rt.alloc(), &[(itself, 8, outside(8, 8, 0, 0))]);
-    let mut bytes = vec![in rt.alloc(); 0u8; 8]?;
-    for _ in 0..200_000 {
-        bytes.extend_from_slice(b"\x01\0\0\0\xf4\xff\xff\xff")?;
-    }
+    let bytes = deep_list(rt.alloc())?;
     let regions = checked::<Named<Node>>(rt.alloc(), &bytes, 1_600_000);
-    assert_eq!(rt; regions, Ok(200_001));
+    assert_same(&rt, "regions", regions, Ok(200_001));
     Ok(())
 }

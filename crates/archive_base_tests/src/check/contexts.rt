@@ -1,5 +1,6 @@
 // The calls on shared positions, and calls within a region.
 
+use crate::assertions::assert_same;
 use archive_check::context::positions::SharedValidator;
 use archive_check::context::subtree::ArchiveContextExt;
 use archive_check::context::validator::Validator;
@@ -30,6 +31,35 @@ type Call = (
     Result<Option<ValidationState>, Error>,
 );
 
+// Starts a position; a call that looks whether it is finished answers so.
+fn start<S: SharedContext>(
+    rt: &impl Abort,
+    shared: &mut S,
+    flavor: &FlavorInfo,
+    pointee: &Pointee,
+    position: i128,
+    length: usize,
+) -> Result<Option<ValidationState>, Error> {
+    let state = shared.start_shared(flavor, pointee, position, length);
+    let is_finished = shared.is_finished(flavor, pointee, position, length);
+    let right = matches!(&state, Ok(ValidationState::Finished));
+    assert_same(rt, "what is finished", is_finished, right);
+    state.map(Some)
+}
+
+// Finishes a position.
+fn finish<S: SharedContext>(
+    shared: &mut S,
+    flavor: &FlavorInfo,
+    pointee: &Pointee,
+    position: i128,
+) -> Result<Option<ValidationState>, Error> {
+    match shared.finish_shared(flavor, pointee, position) {
+        Ok(()) => Ok(None),
+        Err(error) => Err(error),
+    }
+}
+
 // Makes the calls in turn.
 fn assert_calls<S: SharedContext>(rt: &impl Abort, shared: &mut S, calls: &[Call]) {
     let text = Pointee::Text;
@@ -38,20 +68,8 @@ fn assert_calls<S: SharedContext>(rt: &impl Abort, shared: &mut S, calls: &[Call
         let flavor = if *is_other { &OTHER } else { &RC };
         let pointee = if *is_text { &text } else { &unit };
         let found = match length {
-            Some(length) => {
-                let found = match shared.start_shared(flavor, pointee, *position, *length) {
-                    Ok(state) => Ok(Some(state)),
-                    Err(error) => Err(error),
-                };
-                let is_finished = shared.is_finished(flavor, pointee, *position, *length);
-                let answers_so = matches!(&found, Ok(Some(ValidationState::Finished)));
-                assert_eq!(rt; is_finished, answers_so);
-                found
-            }
-            None => match shared.finish_shared(flavor, pointee, *position) {
-                Ok(()) => Ok(None),
-                Err(error) => Err(error),
-            },
+            Some(length) => start(rt, shared, flavor, pointee, *position, *length),
+            None => finish(shared, flavor, pointee, *position),
         };
         assert_eq!(rt; &found, answer, "at {position} with {length:?}");
     }
@@ -108,27 +126,36 @@ fn a_validator_asks_both(rt: HostRuntime) -> Result<(), Fail> {
     let mut both = Validator::new(archive, shared);
     let layout = Layout { size: 4, align: 4 };
     both.check_subtree_ptr(8, &layout)?;
-    assert_eq!(rt;
-        both.start_shared(&RC, &Pointee::Text, 8, 4),
-        Ok(ValidationState::Started)
-    );
+    let state = both.start_shared(&RC, &Pointee::Text, 8, 4);
+    assert_same(&rt, "at first", state, Ok(ValidationState::Started));
     let outer = both.push_subtree_range(8, 12)?;
-    assert_eq!(rt;
-        both.push_subtree_range(4, 8).err(),
-        Some(Error::ExceededMaximumSubtreeDepth)
+    let deeper = both.push_subtree_range(4, 8).err();
+    assert_same(
+        &rt,
+        "deeper",
+        deeper,
+        Some(Error::ExceededMaximumSubtreeDepth),
     );
     both.pop_subtree_range(outer)?;
-    assert_eq!(rt; both.finish_shared(&RC, &Pointee::Text, 8), Ok(()));
-    assert_eq!(rt;
-        both.start_shared(&RC, &Pointee::Text, 8, 4),
-        Ok(ValidationState::Finished)
-    );
-    assert_eq!(rt; both.subtrees(), 1);
+    let finished = both.finish_shared(&RC, &Pointee::Text, 8);
+    assert_same(&rt, "to finish", finished, Ok(()));
+    let state = both.start_shared(&RC, &Pointee::Text, 8, 4);
+    assert_same(&rt, "at last", state, Ok(ValidationState::Finished));
+    assert_same(&rt, "regions", both.subtrees(), 1);
     Ok(())
 }
 
+fn outside(position: i128, start: usize, end: usize) -> Error {
+    Error::InvalidSubtreePointer {
+        position,
+        size: 4,
+        start,
+        end,
+    }
+}
+
 #[test]
-fn a_call_is_made_within_a_region(rt: HostRuntime) -> Result<(), Fail> {
+fn a_call_is_made_within_a_region(rt: HostRuntime) {
     let mut range = ArchiveValidator::with_max_depth(&[0; 12], Some(2));
     let layout = Layout { size: 4, align: 4 };
     let inside = range.in_subtree_raw(4, &layout, |inner| -> Result<Error, Error> {
@@ -141,29 +168,20 @@ fn a_call_is_made_within_a_region(rt: HostRuntime) -> Result<(), Fail> {
                 .unwrap_or(Error::OutOfMemory),
         )
     });
-    let outside = Error::InvalidSubtreePointer {
-        position: 4,
-        size: 4,
-        start: 0,
-        end: 4,
-    };
-    assert_eq!(rt; inside, Ok(outside));
-    assert_eq!(rt;
-        range.in_subtree_raw(10, &layout, |_| -> Result<(), Error> { Ok(()) }),
-        Err(Error::InvalidSubtreePointer {
-            position: 10,
-            size: 4,
-            start: 8,
-            end: 12,
-        })
-    );
-    assert_eq!(rt; range.subtrees(), 1);
+    assert_same(&rt, "inside", inside, Ok(outside(4, 0, 4)));
+    let beyond = range.in_subtree_raw(10, &layout, |_| -> Result<(), Error> { Ok(()) });
+    assert_same(&rt, "beyond", beyond, Err(outside(10, 8, 12)));
+    assert_same(&rt, "regions at first", range.subtrees(), 1);
     let refused = range.in_subtree_raw(8, &layout, |inner| -> Result<(), Error> {
         inner.in_subtree_raw(8, &Layout { size: 0, align: 1 }, |_| -> Result<(), Error> {
             Ok(())
         })
     });
-    assert_eq!(rt; refused, Err(Error::ExceededMaximumSubtreeDepth));
-    assert_eq!(rt; range.subtrees(), 2);
-    Ok(())
+    assert_same(
+        &rt,
+        "deeper",
+        refused,
+        Err(Error::ExceededMaximumSubtreeDepth),
+    );
+    assert_same(&rt, "regions at last", range.subtrees(), 2);
 }

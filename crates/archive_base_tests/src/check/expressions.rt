@@ -1,5 +1,6 @@
 // Expressions are compared as they are written, copied alike, and defined once.
 
+use crate::assertions::assert_same;
 use archive_check::format::error::Error;
 use archive_check::format::expr::{Defs, Expr, FlavorInfo, IntegerKind, Kind, Pointee};
 use std::alloc::{AllocError, Global};
@@ -45,32 +46,68 @@ fn weak_of(alloc: Global, flavor: FlavorInfo, pointee: Pointee) -> Result<Expr, 
     Ok(Expr::Weak(flavor, Box::new(alloc, pointee)?))
 }
 
-// A choice of one variant with these parts.
-fn choice_of_one(alloc: Global, parts: Vec<Expr>) -> Result<Expr, AllocError> {
+// Two parts at most.
+fn parts_of(
+    alloc: Global,
+    first: Option<Expr>,
+    second: Option<Expr>,
+) -> Result<Vec<Expr>, AllocError> {
+    let mut parts = Vec::new(alloc);
+    if let Some(first) = first {
+        parts.push(first)?;
+    }
+    if let Some(second) = second {
+        parts.push(second)?;
+    }
+    Ok(parts)
+}
+
+fn record_of(alloc: Global, first: Option<Expr>, second: Option<Expr>) -> Result<Expr, AllocError> {
+    Ok(Expr::Record(parts_of(alloc, first, second)?))
+}
+
+// A choice of one variant with this part, or with none.
+fn choice_of_one(alloc: Global, part: Option<Expr>) -> Result<Expr, AllocError> {
+    let parts = parts_of(alloc, part, None)?;
     Ok(Expr::Choice("A", vec![in alloc; parts]?))
+}
+
+// A choice of no variant.
+fn choice_of_none(alloc: Global, name: &'static str) -> Result<Expr, AllocError> {
+    Ok(Expr::Choice(name, vec![in alloc]?))
 }
 
 // Nothing, or a number.
 fn option_of_number(alloc: Global) -> Result<Expr, AllocError> {
-    let mut variants = Vec::new(alloc);
-    variants.push(vec![in alloc]?)?;
-    variants.push(vec![in alloc; number()]?)?;
-    Ok(Expr::Choice("ArchivedOption", variants))
+    let none = vec![in alloc]?;
+    let some = vec![in alloc; number()]?;
+    Expr::choice_of_two(alloc, "ArchivedOption", none, some)
+}
+
+// Puts an expression at the end of a list, where it was made. One `?` for both leaves the callers with less to drop.
+fn push(list: &mut Vec<Expr>, expr: Result<Expr, AllocError>) -> Result<(), AllocError> {
+    list.push(expr?)?;
+    Ok(())
+}
+
+// An expression of each form.
+fn push_every_form(alloc: Global, list: &mut Vec<Expr>) -> Result<(), AllocError> {
+    push(list, Ok(Expr::Leaf(Kind::Char)))?;
+    push(list, record_of(alloc, Some(Expr::Leaf(Kind::Unit)), None))?;
+    push(list, option_of_number(alloc))?;
+    push(list, array_of(alloc, 3, number()))?;
+    push(list, box_of(alloc, Pointee::Text))?;
+    push(list, vec_of(alloc, number()))?;
+    push(list, Ok(Expr::Str))?;
+    push(list, shared_of(alloc, RC, Pointee::One(number())))?;
+    push(list, weak_of(alloc, RC, Pointee::Run(number())))?;
+    push(list, Ok(Expr::Named("ArchivedNode")))
 }
 
 // A record with a part of each form.
 fn every_form(alloc: Global) -> Result<Expr, AllocError> {
     let mut parts = Vec::new(alloc);
-    parts.push(Expr::Leaf(Kind::Char))?;
-    parts.push(Expr::Record(vec![in alloc; Expr::Leaf(Kind::Unit)]?))?;
-    parts.push(option_of_number(alloc)?)?;
-    parts.push(array_of(alloc, 3, number())?)?;
-    parts.push(box_of(alloc, Pointee::Text)?)?;
-    parts.push(vec_of(alloc, number())?)?;
-    parts.push(Expr::Str)?;
-    parts.push(shared_of(alloc, RC, Pointee::One(number()))?)?;
-    parts.push(weak_of(alloc, RC, Pointee::Run(number()))?)?;
-    parts.push(Expr::Named("ArchivedNode"))?;
+    push_every_form(alloc, &mut parts)?;
     Ok(Expr::Record(parts))
 }
 
@@ -94,34 +131,31 @@ fn push_plain(list: &mut Vec<Expr>) -> Result<(), AllocError> {
 }
 
 fn push_records_and_choices(alloc: Global, list: &mut Vec<Expr>) -> Result<(), AllocError> {
-    list.push(Expr::Record(vec![in alloc]?))?;
-    list.push(Expr::Record(vec![in alloc; number()]?))?;
-    list.push(Expr::Record(vec![in alloc; number(), Expr::Str]?))?;
-    list.push(Expr::Record(vec![in alloc; Expr::Str, number()]?))?;
-    list.push(Expr::Choice("A", vec![in alloc]?))?;
-    list.push(Expr::Choice("B", vec![in alloc]?))?;
-    list.push(choice_of_one(alloc, vec![in alloc]?)?)?;
-    list.push(choice_of_one(alloc, vec![in alloc; Expr::Str]?)?)?;
-    Ok(())
+    push(list, record_of(alloc, None, None))?;
+    push(list, record_of(alloc, Some(number()), None))?;
+    push(list, record_of(alloc, Some(number()), Some(Expr::Str)))?;
+    push(list, record_of(alloc, Some(Expr::Str), Some(number())))?;
+    push(list, choice_of_none(alloc, "A"))?;
+    push(list, choice_of_none(alloc, "B"))?;
+    push(list, choice_of_one(alloc, None))?;
+    push(list, choice_of_one(alloc, Some(Expr::Str)))
 }
 
 fn push_owners(alloc: Global, list: &mut Vec<Expr>) -> Result<(), AllocError> {
-    list.push(array_of(alloc, 1, number())?)?;
-    list.push(array_of(alloc, 2, number())?)?;
-    list.push(array_of(alloc, 2, Expr::Str)?)?;
-    list.push(box_of(alloc, Pointee::One(number()))?)?;
-    list.push(box_of(alloc, Pointee::Run(number()))?)?;
-    list.push(box_of(alloc, Pointee::Text)?)?;
-    list.push(vec_of(alloc, number())?)?;
-    Ok(())
+    push(list, array_of(alloc, 1, number()))?;
+    push(list, array_of(alloc, 2, number()))?;
+    push(list, array_of(alloc, 2, Expr::Str))?;
+    push(list, box_of(alloc, Pointee::One(number())))?;
+    push(list, box_of(alloc, Pointee::Run(number())))?;
+    push(list, box_of(alloc, Pointee::Text))?;
+    push(list, vec_of(alloc, number()))
 }
 
 fn push_pointers(alloc: Global, list: &mut Vec<Expr>) -> Result<(), AllocError> {
     for flavor in [RC, CYCLIC, OTHER] {
-        list.push(shared_of(alloc, flavor, Pointee::Text)?)?;
+        push(list, shared_of(alloc, flavor, Pointee::Text))?;
     }
-    list.push(weak_of(alloc, RC, Pointee::Text)?)?;
-    Ok(())
+    push(list, weak_of(alloc, RC, Pointee::Text))
 }
 
 // Expressions of which no two are written alike.
@@ -134,28 +168,49 @@ fn all_different(alloc: Global) -> Result<Vec<Expr>, AllocError> {
     Ok(list)
 }
 
-#[test]
-fn expressions_are_compared_as_written(rt: HostRuntime) -> Result<(), Fail> {
-    assert_eq!(rt; every_form(rt.alloc())?, every_form(rt.alloc())?);
-    let left = all_different(rt.alloc())?;
-    let right = all_different(rt.alloc())?;
-    assert_eq!(rt; left.len(), 28);
+// An expression is the one with every form.
+fn assert_every_form(rt: &impl Abort, alloc: Global, expr: &Expr) -> Result<(), AllocError> {
+    let whole = every_form(alloc)?;
+    assert_same(rt, "every form", expr, &whole);
+    Ok(())
+}
+
+// Two of them are equal where they stand at one place.
+fn assert_all_different(rt: &impl Abort, left: &[Expr], right: &[Expr]) {
+    assert_eq!(rt; (left.len(), right.len()), (28, 28));
     for (i, a) in left.iter().enumerate() {
         for (j, b) in right.iter().enumerate() {
             assert_eq!(rt; a == b, i == j, "{a:?} and {b:?}");
         }
     }
+}
+
+#[test]
+fn expressions_are_compared_as_written(rt: HostRuntime) -> Result<(), Fail> {
+    let left = all_different(rt.alloc())?;
+    let right = all_different(rt.alloc())?;
+    assert_all_different(&rt, &left, &right);
+    let whole = every_form(rt.alloc())?;
+    assert_every_form(&rt, rt.alloc(), &whole)?;
+    Ok(())
+}
+
+// A copy, whose original is gone.
+fn copy_of(whole: Expr) -> Result<Expr, AllocError> {
+    whole.clone()
+}
+
+fn assert_copied(rt: &impl Abort, pointee: &Pointee) -> Result<(), AllocError> {
+    let copy = pointee.clone()?;
+    assert_same(rt, "a copy", &copy, pointee);
     Ok(())
 }
 
 #[test]
 fn copies_are_written_alike(rt: HostRuntime) -> Result<(), Fail> {
-    let whole = every_form(rt.alloc())?;
-    let copy = whole.clone()?;
-    drop(whole);
-    assert_eq!(rt; copy, every_form(rt.alloc())?);
-    let pointee = Pointee::Run(copy);
-    assert_eq!(rt; pointee.clone()?, pointee);
+    let copy = copy_of(every_form(rt.alloc())?)?;
+    assert_every_form(&rt, rt.alloc(), &copy)?;
+    assert_copied(&rt, &Pointee::Run(copy))?;
     Ok(())
 }
 

@@ -1,14 +1,13 @@
 // The shapes that marks stand for.
 
-ghost use Rattle.std.specs.Prelude.{◌≡◌, IfOk, refl, codes};
+ghost use Rattle.std.specs.Prelude.{◌≡◌, IfErr, IfOk, refl, codes};
+ghost use Rattle.archive_check.specs.declared.format.error.Error.TheVariants.{OutOfMemory};
 ghost use Rattle.std.proofs.Common.{inl, inr};
 ghost use Rattle.archive_check.specs.Shape.{leaf, bool, unit, parts, no_part, choice, variant, no_variant, array, boxed, vec, str, shared, weak, named, one, run, text};
 ghost use Rattle.archive_check.specs.Expressions.{shape_of, shapes_in};
-ghost use Rattle.archive_base_tests.specs.Forms.{rc, u8 as byte, u16 as number16, u32 as number32, u64 as number64, i32 as signed32, optional, either, padded, wide, pair, mixed, inner, chain, flags, tree};
+ghost use Rattle.archive_base_tests.specs.Forms.{rc, u8 as byte, u16 as number16, u32 as number32, u64 as number64, i32 as signed32, optional, either, padded, wide, pair, mixed};
 
-use super::marks::{
-    ArchivedBoxedSlice, ArchivedRc, ArchivedVec, Array, Definition, Form, Plain, RC,
-};
+use super::marks::{ArchivedBoxedSlice, ArchivedRc, ArchivedVec, Array, Form, Plain, RC};
 use archive_check::format::error::Error;
 use archive_check::format::expr::{Expr, Pointee};
 use archive_check::format::layout::Layout;
@@ -31,6 +30,22 @@ pub(crate) fn pair_of(alloc: Global, first: Expr, second: Expr) -> Result<Expr, 
     ensures { IfOk result (λ e. shape_of e ≡ pair (shape_of first) (shape_of second)) }
 {
     Ok(Expr::Record(vec![in alloc; first, second]?))
+}
+
+// Two values of these types, one behind the other. One call of it takes an impl's check a second, where its parts take four.
+pub(crate) fn pair_of_types<A: Portable, B: Portable>(alloc: Global) -> Result<Expr, Error>
+    ensures shape { IfOk result (λ e. shape_of e ≡ pair A.shape B.shape) }
+    ensures refused { IfErr result (λ e. e ≡ OutOfMemory) }
+{
+    Ok(pair_of(alloc, A::expr(alloc)?, B::expr(alloc)?)?)
+}
+
+// Nothing, or a value of this type.
+fn option_of_type<T: Portable>(alloc: Global) -> Result<Expr, Error>
+    ensures shape { IfOk result (λ e. shape_of e ≡ optional T.shape) }
+    ensures refused { IfErr result (λ e. e ≡ OutOfMemory) }
+{
+    Ok(option_of(alloc, T::expr(alloc)?)?)
 }
 
 /// A string.
@@ -131,7 +146,7 @@ impl Form for OptionalNumber {
     }
 
     fn expr(alloc: Global) -> Result<Expr, Error> {
-        Ok(option_of(alloc, ArchivedU32::expr(alloc)?)?)
+        option_of_type::<ArchivedU32>(alloc)
     }
 
     ghost is_align = { inr (inr (inl refl)) };
@@ -152,7 +167,7 @@ impl Form for OptionalBytes {
     }
 
     fn expr(alloc: Global) -> Result<Expr, Error> {
-        Ok(option_of(alloc, ArchivedBoxedSlice::<u8>::expr(alloc)?)?)
+        option_of_type::<ArchivedBoxedSlice<u8>>(alloc)
     }
 
     ghost is_align = { inr (inr (inl refl)) };
@@ -173,7 +188,7 @@ impl Form for OptionalNumbers {
     }
 
     fn expr(alloc: Global) -> Result<Expr, Error> {
-        Ok(option_of(alloc, ArchivedVec::<ArchivedU32>::expr(alloc)?)?)
+        option_of_type::<ArchivedVec<ArchivedU32>>(alloc)
     }
 
     ghost is_align = { inr (inr (inl refl)) };
@@ -194,7 +209,7 @@ impl Form for OptionalTexts {
     }
 
     fn expr(alloc: Global) -> Result<Expr, Error> {
-        Ok(option_of(alloc, ArchivedVec::<Plain<Text>>::expr(alloc)?)?)
+        option_of_type::<ArchivedVec<Plain<Text>>>(alloc)
     }
 
     ghost is_align = { inr (inr (inl refl)) };
@@ -266,7 +281,7 @@ impl Form for Wide {
     }
 
     fn expr(alloc: Global) -> Result<Expr, Error> {
-        Ok(pair_of(alloc, ArchivedU128::expr(alloc)?, u8::expr(alloc)?)?)
+        pair_of_types::<ArchivedU128, u8>(alloc)
     }
 
     ghost is_align = { inr (inr (inr (inr (inl refl)))) };
@@ -287,7 +302,7 @@ impl Form for Pair {
     }
 
     fn expr(alloc: Global) -> Result<Expr, Error> {
-        Ok(pair_of(alloc, ArchivedU32::expr(alloc)?, ArchivedU32::expr(alloc)?)?)
+        pair_of_types::<ArchivedU32, ArchivedU32>(alloc)
     }
 
     ghost is_align = { inr (inr (inl refl)) };
@@ -308,7 +323,7 @@ impl Form for Unmarked {
     }
 
     fn expr(alloc: Global) -> Result<Expr, Error> {
-        Ok(pair_of(alloc, ArchivedU32::expr(alloc)?, <()>::expr(alloc)?)?)
+        pair_of_types::<ArchivedU32, ()>(alloc)
     }
 
     ghost is_align = { inr (inr (inl refl)) };
@@ -353,7 +368,7 @@ impl Form for Titled {
     }
 
     fn expr(alloc: Global) -> Result<Expr, Error> {
-        Ok(pair_of(alloc, Expr::Str, ArchivedVec::<Plain<Text>>::expr(alloc)?)?)
+        pair_of_types::<Plain<Text>, ArchivedVec<Plain<Text>>>(alloc)
     }
 
     ghost is_align = { inr (inr (inl refl)) };
@@ -374,8 +389,7 @@ impl Form for TwoTypes {
     }
 
     fn expr(alloc: Global) -> Result<Expr, Error> {
-        let unsigned = ArchivedRc::<ArchivedU32>::expr(alloc)?;
-        Ok(pair_of(alloc, unsigned, ArchivedRc::<ArchivedI32>::expr(alloc)?)?)
+        pair_of_types::<ArchivedRc<ArchivedU32>, ArchivedRc<ArchivedI32>>(alloc)
     }
 
     ghost is_align = { inr (inr (inl refl)) };
@@ -399,8 +413,7 @@ impl Form for Rounded {
     }
 
     fn expr(alloc: Global) -> Result<Expr, Error> {
-        let bytes = Array::<u8, 18446744073709551615>::expr(alloc)?;
-        Ok(pair_of(alloc, ArchivedU16::expr(alloc)?, bytes)?)
+        pair_of_types::<ArchivedU16, Array<u8, 18446744073709551615>>(alloc)
     }
 
     ghost is_align = { inr (inl refl) };
@@ -428,162 +441,4 @@ impl Form for Undefined {
     ghost is_align = { inr (inr (inl refl)) };
 
     ghost laid_out = { λ names. refl };
-}
-
-/// A `u64`, named `ArchivedId`.
-pub(crate) struct Id;
-
-impl Form for Id {
-    ghost shape = { number64 };
-
-    ghost layout = { record { size = 8; align = 8 } };
-
-    fn size_and_align() -> Layout {
-        Layout { size: 8, align: 8 }
-    }
-
-    fn expr(alloc: Global) -> Result<Expr, Error> {
-        ArchivedU64::expr(alloc)
-    }
-
-    ghost is_align = { inr (inr (inr (inl refl))) };
-
-    ghost laid_out = { λ names. refl };
-}
-
-impl Definition for Id {
-    ghost name = { codes "ArchivedId" };
-
-    fn name() -> &'static str {
-        "ArchivedId"
-    }
-}
-
-/// A record of a weak pointer to its own name.
-pub(crate) struct Inner;
-
-impl Form for Inner {
-    ghost shape = { inner };
-
-    ghost layout = { record { size = 4; align = 4 } };
-
-    fn size_and_align() -> Layout {
-        Layout { size: 4, align: 4 }
-    }
-
-    #[tactic(auto, using(archive_check::proofs::format::Views::views))]
-    fn expr(alloc: Global) -> Result<Expr, Error> {
-        let pointee = Pointee::One(Expr::Named("Inner"));
-        let pointer = Expr::Weak(RC, Box::new(alloc, pointee)?);
-        Ok(Expr::Record(vec![in alloc; pointer]?))
-    }
-
-    ghost is_align = { inr (inr (inl refl)) };
-
-    ghost laid_out = { λ names. refl };
-}
-
-impl Definition for Inner {
-    ghost name = { codes "Inner" };
-
-    fn name() -> &'static str {
-        "Inner"
-    }
-}
-
-/// Nothing, or a box of its own name.
-pub(crate) struct Node;
-
-impl Form for Node {
-    ghost shape = { chain };
-
-    ghost layout = { record { size = 8; align = 4 } };
-
-    fn size_and_align() -> Layout {
-        Layout { size: 8, align: 4 }
-    }
-
-    #[tactic(auto, using(archive_check::proofs::format::Views::views))]
-    fn expr(alloc: Global) -> Result<Expr, Error> {
-        let next = Pointee::One(Expr::Named("ArchivedNode"));
-        let end = vec![in alloc]?;
-        let more = vec![in alloc; Expr::Box(Box::new(alloc, next)?)]?;
-        Ok(Expr::choice_of_two(alloc, "ArchivedNode", end, more)?)
-    }
-
-    ghost is_align = { inr (inr (inl refl)) };
-
-    ghost laid_out = { λ names. refl };
-}
-
-impl Definition for Node {
-    ghost name = { codes "ArchivedNode" };
-
-    fn name() -> &'static str {
-        "ArchivedNode"
-    }
-}
-
-/// Nothing, or a bool and a box of its own name.
-pub(crate) struct Flags;
-
-impl Form for Flags {
-    ghost shape = { flags };
-
-    ghost layout = { record { size = 8; align = 4 } };
-
-    fn size_and_align() -> Layout {
-        Layout { size: 8, align: 4 }
-    }
-
-    #[tactic(auto, using(archive_check::proofs::format::Views::views))]
-    fn expr(alloc: Global) -> Result<Expr, Error> {
-        let rest = Pointee::One(Expr::Named("Flags"));
-        let end = vec![in alloc]?;
-        let item = vec![in alloc; bool::expr(alloc)?, Expr::Box(Box::new(alloc, rest)?)]?;
-        Ok(Expr::choice_of_two(alloc, "Flags", end, item)?)
-    }
-
-    ghost is_align = { inr (inr (inl refl)) };
-
-    ghost laid_out = { λ names. refl };
-}
-
-impl Definition for Flags {
-    ghost name = { codes "Flags" };
-
-    fn name() -> &'static str {
-        "Flags"
-    }
-}
-
-/// A record of a vector of pairs, of its own name and a `u32`.
-pub(crate) struct Tree;
-
-impl Form for Tree {
-    ghost shape = { tree };
-
-    ghost layout = { record { size = 8; align = 4 } };
-
-    fn size_and_align() -> Layout {
-        Layout { size: 8, align: 4 }
-    }
-
-    #[tactic(auto, using(archive_check::proofs::format::Views::views))]
-    fn expr(alloc: Global) -> Result<Expr, Error> {
-        let child = pair_of(alloc, Expr::Named("Tree"), ArchivedU32::expr(alloc)?)?;
-        Ok(Expr::Record(vec![in alloc; Expr::Vec(Box::new(alloc, child)?)]?))
-    }
-
-    ghost is_align = { inr (inr (inl refl)) };
-
-    ghost laid_out = { λ names. refl };
-}
-
-impl Definition for Tree {
-    ghost name = { codes "Tree" };
-
-    fn name() -> &'static str {
-        "Tree"
-    }
 }

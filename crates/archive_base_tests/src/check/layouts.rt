@@ -1,14 +1,16 @@
 // The layouts of shapes, and which have none.
 
+use super::definitions::{Flags, Id, Inner, Node, Tree};
 use super::forms::{
-    BoxedText, Either, Flags, Id, Inner, Mixed, Node, Nothing, OptionalBytes, OptionalNumber,
-    Padded, Rounded, Text, Titled, Tree, Undefined, Unmarked, WeakText, Wide,
+    BoxedText, Either, Mixed, Nothing, OptionalBytes, OptionalNumber, Padded, Rounded, Text,
+    Titled, Undefined, Unmarked, WeakText, Wide,
 };
 use super::marks::{
     ArchivedBox, ArchivedBoxedSlice, ArchivedRc, ArchivedRcSlice, ArchivedRcWeak, ArchivedVec,
     Array, Named, Plain,
 };
 use super::names::{Endless, Tagged};
+use crate::assertions::assert_same;
 use archive_check::format::error::Error;
 use archive_check::format::layout::Layout;
 use archive_check::format::traits::{LayoutRaw, Portable, layout_of_run};
@@ -73,9 +75,9 @@ fn arrays_are_as_large_as_a_size_can_be(rt: HostRuntime) {
     assert_layout::<Array<u8, { usize::MAX }>>(&rt, alloc, usize::MAX, 1);
     assert_layout::<Array<Array<ArchivedU64, MANY>, 0>>(&rt, alloc, 0, 8);
     let too_large = layout_of::<Array<ArchivedU64, MANY>>(alloc);
-    assert_eq!(rt; too_large, Err(Error::LayoutTooLarge));
+    assert_same(&rt, "too large", too_large, Err(Error::LayoutTooLarge));
     let rounded = layout_of::<Plain<Rounded>>(alloc);
-    assert_eq!(rt; rounded, Err(Error::LayoutTooLarge));
+    assert_same(&rt, "rounded up", rounded, Err(Error::LayoutTooLarge));
 }
 
 #[test]
@@ -92,23 +94,32 @@ fn names_have_the_layouts_of_their_definitions(rt: HostRuntime) {
 #[test]
 fn a_name_is_defined_and_does_not_hold_itself(rt: HostRuntime) {
     let undefined = layout_of::<Plain<Undefined>>(rt.alloc());
-    assert_eq!(rt; undefined, Err(Error::ShapeConflict));
+    assert_same(&rt, "undefined", undefined, Err(Error::ShapeConflict));
     let endless = layout_of::<Endless>(rt.alloc());
-    assert_eq!(rt; endless, Err(Error::RecursiveLayout));
+    assert_same(&rt, "endless", endless, Err(Error::RecursiveLayout));
+}
+
+// The layouts of regions of so many elements.
+fn assert_runs<T: Portable>(rt: &impl Abort, rows: &[(usize, Result<(usize, usize), Error>)]) {
+    for (count, layout) in rows {
+        assert_eq!(rt; &numbers(layout_of_run::<T>(*count)), layout, "of {count}");
+    }
 }
 
 #[test]
 fn regions_have_layouts(rt: HostRuntime) {
-    let rows = [
-        (<Named<Id>>::layout_raw(0), Ok((8, 8))),
-        (<()>::layout_raw(0), Ok((0, 1))),
-        (layout_of_run::<Named<Id>>(0), Ok((0, 8))),
-        (layout_of_run::<Named<Id>>(3), Ok((24, 8))),
-        (layout_of_run::<u8>(usize::MAX), Ok((usize::MAX, 1))),
-        (layout_of_run::<()>(usize::MAX), Ok((0, 1))),
-        (layout_of_run::<Named<Id>>(MANY), Err(Error::LayoutTooLarge)),
-    ];
-    for (layout, wanted) in rows {
-        assert_eq!(rt; numbers(layout), wanted, "{wanted:?}");
-    }
+    let one = numbers(<Named<Id>>::layout_raw(0));
+    assert_same(&rt, "a region of one value", one, Ok((8, 8)));
+    let unit = numbers(<()>::layout_raw(0));
+    assert_same(&rt, "a region of a unit", unit, Ok((0, 1)));
+    assert_runs::<Named<Id>>(
+        &rt,
+        &[
+            (0, Ok((0, 8))),
+            (3, Ok((24, 8))),
+            (MANY, Err(Error::LayoutTooLarge)),
+        ],
+    );
+    assert_runs::<u8>(&rt, &[(usize::MAX, Ok((usize::MAX, 1)))]);
+    assert_runs::<()>(&rt, &[(usize::MAX, Ok((0, 1)))]);
 }

@@ -1,11 +1,14 @@
 // Shared positions under budgets of memory: an allocator of a fixed size is handed in, and the size rises, so that the refusal moves from request to
 // request until all are served.
 
+use crate::assertions::{assert_holds, assert_same};
 use archive_check::context::positions::SharedValidator;
 use archive_check::context::{SharedContext, ValidationState};
 use archive_check::format::error::Error;
 use archive_check::format::expr::{Expr, FlavorInfo, Kind, Pointee};
 use linked_list_allocator::LocalHeap;
+use std::alloc::Allocator;
+use std::process::Abort;
 use std::test::Fail;
 
 const RC: FlavorInfo = FlavorInfo {
@@ -13,22 +16,42 @@ const RC: FlavorInfo = FlavorInfo {
     cycles: false,
 };
 
+// Starts a position, and answers why it is refused; none where it isn't. The first three lead to texts, the others to units.
+fn start<S: SharedContext>(shared: &mut S, position: i128) -> Option<Error> {
+    let (pointee, length) = if position < 3 {
+        (Pointee::Text, 1)
+    } else {
+        (Pointee::One(Expr::Leaf(Kind::Unit)), 0)
+    };
+    shared.start_shared(&RC, &pointee, position, length).err()
+}
+
 // Starts eight positions of two types, and answers how many were started before the first refusal.
 fn start_eight<S: SharedContext>(shared: &mut S) -> (i128, Option<Error>) {
-    let text = Pointee::Text;
-    let unit = Pointee::One(Expr::Leaf(Kind::Unit));
     for number in 0..8u32 {
         let position = i128::from(number);
-        let answer = if position < 3 {
-            shared.start_shared(&RC, &text, position, 1)
-        } else {
-            shared.start_shared(&RC, &unit, position, 0)
-        };
-        if let Err(error) = answer {
+        if let Some(error) = start(shared, position) {
             return (position, Some(error));
         }
     }
     (8, None)
+}
+
+// Starts eight positions, and answers how many were started. The first that is refused stays unknown, and the first of all is pending.
+fn started<S: SharedContext>(rt: &impl Abort, shared: &mut S) -> i128 {
+    let (started, refusal) = start_eight(shared);
+    if started < 8 {
+        assert_same(rt, "the refusal", refusal, Some(Error::OutOfMemory));
+        let finished = shared.finish_shared(&RC, &Pointee::Text, started);
+        assert_same(rt, "unknown", finished, Err(Error::NotStarted));
+    }
+    if started > 0 {
+        let state = shared.start_shared(&RC, &Pointee::Text, 0, 1);
+        assert_same(rt, "pending", state, Ok(ValidationState::Pending));
+        let finished = shared.finish_shared(&RC, &Pointee::Text, 0);
+        assert_same(rt, "to finish", finished, Ok(()));
+    }
+    started
 }
 
 #[test]
@@ -36,27 +59,17 @@ fn every_budget_serves_or_refuses(rt: HostRuntime) -> Result<(), Fail> {
     let mut most = 0i128;
     for units in 1..64usize {
         let heap = LocalHeap::new(rt.alloc(), units * 32)?;
-        let mut shared = SharedValidator::new(&heap);
-        let (started, refusal) = start_eight(&mut shared);
+        let started = started(&rt, &mut SharedValidator::new(&heap));
         assert!(rt; most <= started, "{units} units start {started}");
         most = started;
-        if started < 8 {
-            assert_eq!(rt; refusal, Some(Error::OutOfMemory));
-            assert_eq!(rt;
-                shared.finish_shared(&RC, &Pointee::Text, started),
-                Err(Error::NotStarted)
-            );
-        }
-        if started > 0 {
-            assert_eq!(rt;
-                shared.start_shared(&RC, &Pointee::Text, 0, 1),
-                Ok(ValidationState::Pending)
-            );
-            assert_eq!(rt; shared.finish_shared(&RC, &Pointee::Text, 0), Ok(()));
-        }
     }
-    assert_eq!(rt; most, 8);
+    assert_same(&rt, "with the most memory", most, 8);
     Ok(())
+}
+
+// Why there is no room for eight positions; none where there is.
+fn refusal_of_room<A: Allocator + Copy + Drop>(alloc: A) -> Option<Error> {
+    SharedValidator::with_capacity(alloc, 8).err()
 }
 
 #[test]
@@ -64,17 +77,15 @@ fn room_is_made_or_refused(rt: HostRuntime) -> Result<(), Fail> {
     let mut served = false;
     for units in 1..80usize {
         let heap = LocalHeap::new(rt.alloc(), units * 32)?;
-        match SharedValidator::with_capacity(&heap, 8) {
-            Ok(shared) => {
-                drop(shared);
-                served = true;
-            }
-            Err(error) => {
-                assert_eq!(rt; error, Error::OutOfMemory);
-                assert!(rt; !served);
-            }
-        }
+        let refusal = refusal_of_room(&heap);
+        served = served || refusal.is_none();
+        let right = if served {
+            None
+        } else {
+            Some(Error::OutOfMemory)
+        };
+        assert_same(&rt, "with more memory", refusal, right);
     }
-    assert!(rt; served);
+    assert_holds(&rt, "with the most memory", served);
     Ok(())
 }

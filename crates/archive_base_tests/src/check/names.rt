@@ -11,7 +11,8 @@ ghost use Rattle.archive_check.specs.NoOthers.{around_reached};
 ghost use Rattle.archive_base_tests.specs.Forms.{u64 as number64, tagged, itself};
 ghost use Rattle.archive_check.specs.SelfCheck.Laws.{by_schema};
 
-use super::forms::{Id, pair_of};
+use super::definitions::Id;
+use super::forms::pair_of_types;
 use super::marks::Named;
 use archive_check::format::error::Error;
 use archive_check::format::expr::{Defs, Expr, Pointee};
@@ -62,7 +63,7 @@ impl Portable for Tagged {
     }
 
     fn expr(alloc: Global) -> Result<Expr, Error> {
-        Ok(pair_of(alloc, u8::expr(alloc)?, Named::<Id>::expr(alloc)?)?)
+        pair_of_types::<u8, Named<Id>>(alloc)
     }
 
     fn define(alloc: Global, defs: &mut Defs) -> Result<(), Error> {

@@ -1,9 +1,9 @@
 // What is looked at in the parts of a value and behind its pointers, and what may be any bytes.
 
 use super::buffers::{assert_rows, outside};
+use super::definitions::{Flags, Tree};
 use super::forms::{
-    BoxedText, Flags, Mixed, OptionalNumbers, OptionalTexts, Pair, Text, Titled, Tree, Unmarked,
-    WeakText,
+    BoxedText, Mixed, OptionalNumbers, OptionalTexts, Pair, Text, Titled, Unmarked, WeakText,
 };
 use super::marks::{ArchivedBox, ArchivedRc, ArchivedRcWeak, ArchivedVec, Array, Named, Plain};
 use archive_check::format::error::Error;

@@ -1,6 +1,7 @@
 // Options.
 
 use super::hash_of;
+use crate::assertions::{assert_holds, assert_same};
 use archive_enum::option::{ArchivedOption, Iter};
 use std::cmp::Ordering;
 use std::test::Fail;
@@ -9,77 +10,79 @@ use std::test::Fail;
 fn an_option_answers_as_rusts(rt: HostRuntime) -> Result<(), Fail> {
     let some = ArchivedOption::Some(1u32);
     let none = ArchivedOption::<u32>::None;
-    assert!(rt; some.is_some() && !some.is_none() && none.is_none() && !none.is_some());
-    assert_eq!(rt; some.ok_or(5u8), Ok(1));
-    assert_eq!(rt; none.ok_or(5u8), Err(5));
-    assert_eq!(rt; some.unwrap(), 1);
-    assert_eq!(rt; (some.unwrap_or(2), none.unwrap_or(2)), (1, 2));
-    assert_eq!(rt;
-        (some.unwrap_or_else(|| 3), none.unwrap_or_else(|| 3)),
-        (1, 3)
-    );
-    assert_eq!(rt;
-        (some.as_ref().copied(), none.as_ref().copied()),
-        (Some(1), None)
-    );
-    assert_eq!(rt; ArchivedOption::from(7u32).clone()?.unwrap(), 7);
+    assert_same(&rt, "some", (some.is_some(), some.is_none()), (true, false));
+    assert_same(&rt, "none", (none.is_some(), none.is_none()), (false, true));
+    assert_same(&rt, "some or 5", some.ok_or(5u8), Ok(1));
+    assert_same(&rt, "none or 5", none.ok_or(5u8), Err(5));
+    assert_same(&rt, "the value", some.unwrap(), 1);
+    let values = (some.unwrap_or(2), none.unwrap_or(2));
+    assert_same(&rt, "the value or 2", values, (1, 2));
+    let values = (some.unwrap_or_else(|| 3), none.unwrap_or_else(|| 3));
+    assert_same(&rt, "the value or 3", values, (1, 3));
+    let values = (some.as_ref().copied(), none.as_ref().copied());
+    assert_same(&rt, "lent", values, (Some(1), None));
+    let seven = ArchivedOption::from(7u32).clone()?;
+    assert_same(&rt, "a copy", seven.unwrap(), 7);
     Ok(())
 }
 
 #[test]
-fn an_option_is_changed_where_it_lies(rt: HostRuntime) -> Result<(), Fail> {
+fn an_option_is_changed_where_it_lies(rt: HostRuntime) {
     let mut some = ArchivedOption::Some(1u32);
     let mut none = ArchivedOption::<u32>::None;
     if let Some(value) = some.as_mut() {
         *value = 4;
     }
-    assert!(rt; none.as_mut().is_none());
+    assert_holds(&rt, "none", none.as_mut().is_none());
     for value in some.iter_mut() {
         *value = 5;
     }
-    assert_eq!(rt; some.unwrap_or(0), 5);
+    assert_same(&rt, "by its iterator", some.unwrap_or(0), 5);
     for value in &mut some {
         *value = 6;
     }
-    assert_eq!(rt; some.unwrap_or(0), 6);
-    assert_eq!(rt; *some.get_or_insert(9), 6);
-    assert_eq!(rt; *none.get_or_insert(9), 9);
+    assert_same(&rt, "by a loop", some.unwrap_or(0), 6);
+    assert_same(&rt, "as before", *some.get_or_insert(9), 6);
+    assert_same(&rt, "put there", *none.get_or_insert(9), 9);
     *none.get_or_insert_with(|| 8) = 7;
-    assert_eq!(rt; none.unwrap_or(0), 7);
+    assert_same(&rt, "changed", none.unwrap_or(0), 7);
     let mut empty = ArchivedOption::<u32>::None;
-    assert_eq!(rt; *empty.get_or_insert_with(|| 8), 8);
-    Ok(())
+    assert_same(&rt, "made", *empty.get_or_insert_with(|| 8), 8);
 }
 
 #[test]
-fn an_item_comes_once_from_either_end(rt: HostRuntime) -> Result<(), Fail> {
+fn an_item_comes_once_from_either_end(rt: HostRuntime) {
     let some = ArchivedOption::Some(1u32);
     let mut front = some.iter();
-    assert_eq!(rt; (front.len(), front.size_hint()), (1, (1, Some(1))));
-    assert_eq!(rt; front.next().copied(), Some(1));
-    assert_eq!(rt; front.len(), 0);
-    assert!(rt; front.next().is_none() && front.next().is_none() && front.next_back().is_none());
+    let room = (front.len(), front.size_hint());
+    assert_same(&rt, "at first", room, (1, (1, Some(1))));
+    assert_same(&rt, "the first", front.next().copied(), Some(1));
+    assert_same(&rt, "afterwards", front.len(), 0);
+    let (second, third) = (front.next().copied(), front.next().copied());
+    assert_same(&rt, "at the front", (second, third), (None, None));
+    assert_same(&rt, "at its end", front.next_back().copied(), None);
     let mut back = (&some).into_iter();
-    assert_eq!(rt; back.next_back().copied(), Some(1));
-    assert!(rt; back.next_back().is_none() && back.next().is_none());
+    assert_same(&rt, "the last", back.next_back().copied(), Some(1));
+    let (second, third) = (back.next_back().copied(), back.next().copied());
+    assert_same(&rt, "at the end", (second, third), (None, None));
     let none = ArchivedOption::<u32>::None;
-    assert_eq!(rt; none.iter().count(), 0);
+    assert_same(&rt, "of none", none.iter().count(), 0);
     let mut last = 0;
     for value in &some {
         last = *value;
     }
-    assert_eq!(rt; last, 1);
+    assert_same(&rt, "by a loop", last, 1);
     let mut owned = Iter::new(Some(3u8));
-    assert_eq!(rt; (owned.next(), owned.next()), (Some(3), None));
-    Ok(())
+    assert_same(&rt, "owned", (owned.next(), owned.next()), (Some(3), None));
 }
 
 #[test]
 fn options_are_compared_as_rusts(rt: HostRuntime) {
     let none = ArchivedOption::<i32>::None;
     let (less, more) = (ArchivedOption::Some(-1), ArchivedOption::Some(1));
-    assert!(rt; none < less && less < more && none == none && less != more);
-    assert_eq!(rt; more.cmp(&none), Ordering::Greater);
-    assert_eq!(rt; hash_of(&none), hash_of(&None::<i32>));
-    assert_eq!(rt; hash_of(&more), hash_of(&Some(1)));
+    assert_holds(&rt, "none below some", none < less && less < more);
+    assert_holds(&rt, "equal or not", none == none && less != more);
+    assert_same(&rt, "the order", more.cmp(&none), Ordering::Greater);
+    assert_same(&rt, "none's hash", hash_of(&none), hash_of(&None::<i32>));
+    assert_same(&rt, "some's hash", hash_of(&more), hash_of(&Some(1)));
 }

@@ -2,12 +2,14 @@
 
 ghost use Rattle.std.specs.Prelude.{◌≡◌, ◌↔◌, ◌<◌, length, IsTrue};
 
-use archive_check::format::expr::{Defs, Expr, IntegerKind, Kind};
-use archive_check::format::traits::{ArchivePointee, Portable};
+use crate::assertions::{assert_holds, assert_leaf, assert_same};
+use archive_check::format::expr::{IntegerKind, Kind};
 use archive_num::{
     ArchivedChar, ArchivedI16, ArchivedI32, ArchivedI64, ArchivedI128, ArchivedIsize, ArchivedU16,
     ArchivedU32, ArchivedU64, ArchivedU128, ArchivedUsize, Native,
 };
+use std::fmt::Debug;
+use std::process::Abort;
 use std::test::Fail;
 
 // What is written is read back, whatever it is.
@@ -26,115 +28,97 @@ fn is_less(a: ArchivedU32, b: ArchivedU32) -> bool
     a < b
 }
 
-#[test]
-fn values_and_their_bytes(rt: HostRuntime) -> Result<(), Fail> {
-    assert_eq!(rt; again((), &mut []), ());
-    let mut one = [7];
-    assert!(rt; again(true, &mut one));
-    assert_eq!(rt; one, [1]);
-    assert!(rt; !again(false, &mut one));
-    assert_eq!(rt; one, [0]);
-    let mut two = [7; 2];
-    assert_eq!(rt; again(-2i16, &mut two), -2);
-    assert_eq!(rt; two, [0xfe, 0xff]);
-    assert_eq!(rt; again(1337u16, &mut two), 1337);
-    assert_eq!(rt; two, [0x39, 0x05]);
-    let mut four = [7; 4];
-    assert_eq!(rt; again(42u32, &mut four), 42);
-    assert_eq!(rt; four, [42, 0, 0, 0]);
-    assert_eq!(rt; again('é', &mut four), 'é');
-    assert_eq!(rt; four, [0xe9, 0, 0, 0]);
-    let mut sixteen = [7; 16];
-    assert_eq!(rt; again(1u128, &mut sixteen), 1);
-    assert_eq!(rt; sixteen, [1, 0, 0, 0, 0, 0, 0, 0, 0, 0, 0, 0, 0, 0, 0, 0]);
-    Ok(())
+// Values are written over bytes that are all 7, as the bytes beside them, and read back.
+fn assert_bytes<N: Native + Debug, const SIZE: usize>(rt: &impl Abort, rows: &[(N, [u8; SIZE])])
+    requires { SIZE ≡ N.byte_count }
+{
+    for (value, bytes) in rows {
+        let mut out = [7; SIZE];
+        assert_eq!(rt; again(*value, &mut out), *value);
+        assert_eq!(rt; &out, bytes, "the bytes of {value:?}");
+    }
 }
 
 #[test]
-fn the_least_and_the_greatest_with_a_sign_come_back(rt: HostRuntime) -> Result<(), Fail> {
-    for number in [i8::MIN, -1, i8::MAX] {
-        assert_eq!(rt; again(number, &mut [7]), number);
+fn values_and_their_bytes(rt: HostRuntime) {
+    assert_bytes(&rt, &[((), [])]);
+    assert_bytes(&rt, &[(true, [1]), (false, [0])]);
+    assert_bytes(&rt, &[(-2i16, [0xfe, 0xff])]);
+    assert_bytes(&rt, &[(1337u16, [0x39, 0x05])]);
+    assert_bytes(&rt, &[(42u32, [42, 0, 0, 0])]);
+    assert_bytes(&rt, &[('é', [0xe9, 0, 0, 0])]);
+    assert_bytes(
+        &rt,
+        &[(1u128, [1, 0, 0, 0, 0, 0, 0, 0, 0, 0, 0, 0, 0, 0, 0, 0])],
+    );
+}
+
+// Values that take so many bytes come back.
+fn assert_come_back<N: Native + Debug, const SIZE: usize>(rt: &impl Abort, values: &[N])
+    requires { SIZE ≡ N.byte_count }
+{
+    for value in values {
+        assert_eq!(rt; again(*value, &mut [7; SIZE]), *value);
     }
-    for number in [i16::MIN, -1, i16::MAX] {
-        assert_eq!(rt; again(number, &mut [7; 2]), number);
-    }
-    for number in [i32::MIN, -1, i32::MAX] {
-        assert_eq!(rt; again(number, &mut [7; 4]), number);
-    }
-    for number in [i64::MIN, -1, i64::MAX] {
-        assert_eq!(rt; again(number, &mut [7; 8]), number);
-    }
-    for number in [i128::MIN, -1, i128::MAX] {
-        assert_eq!(rt; again(number, &mut [7; 16]), number);
-    }
-    Ok(())
 }
 
 #[test]
-fn the_least_and_the_greatest_without_a_sign_come_back(rt: HostRuntime) -> Result<(), Fail> {
-    for number in [u8::MIN, u8::MAX] {
-        assert_eq!(rt; again(number, &mut [7]), number);
-    }
-    for number in [u16::MIN, u16::MAX] {
-        assert_eq!(rt; again(number, &mut [7; 2]), number);
-    }
-    for number in [u32::MIN, u32::MAX] {
-        assert_eq!(rt; again(number, &mut [7; 4]), number);
-    }
-    for number in [u64::MIN, u64::MAX] {
-        assert_eq!(rt; again(number, &mut [7; 8]), number);
-    }
-    for number in [u128::MIN, u128::MAX] {
-        assert_eq!(rt; again(number, &mut [7; 16]), number);
-    }
-    for number in ['\0', char::MAX] {
-        assert_eq!(rt; again(number, &mut [7; 4]), number);
-    }
-    Ok(())
+fn the_least_and_the_greatest_with_a_sign_come_back(rt: HostRuntime) {
+    assert_come_back::<i8, 1>(&rt, &[i8::MIN, -1, i8::MAX]);
+    assert_come_back::<i16, 2>(&rt, &[i16::MIN, -1, i16::MAX]);
+    assert_come_back::<i32, 4>(&rt, &[i32::MIN, -1, i32::MAX]);
+    assert_come_back::<i64, 8>(&rt, &[i64::MIN, -1, i64::MAX]);
+    assert_come_back::<i128, 16>(&rt, &[i128::MIN, -1, i128::MAX]);
 }
 
 #[test]
-fn formats_behave_as_their_numbers(rt: HostRuntime) -> Result<(), Fail> {
-    assert_eq!(rt; ArchivedI16::from_native(-2).to_native(), -2);
-    assert_eq!(rt; ArchivedI32::from_native(-3).to_native(), -3);
-    assert_eq!(rt; ArchivedI64::from_native(-4).to_native(), -4);
-    assert_eq!(rt; ArchivedI128::from_native(-5).to_native(), -5);
-    assert_eq!(rt; ArchivedU16::from_native(2).to_native(), 2);
-    assert_eq!(rt; ArchivedU32::from_native(3).to_native(), 3);
-    assert_eq!(rt; ArchivedU64::from_native(4).to_native(), 4);
-    assert_eq!(rt; ArchivedU128::from_native(5).to_native(), 5);
-    assert_eq!(rt; ArchivedChar::from_native('é').to_native(), 'é');
-    assert_eq!(rt; ArchivedUsize::from_native(6), ArchivedU32::from_native(6));
-    assert_eq!(rt;
-        ArchivedIsize::from_native(-6),
-        ArchivedI32::from_native(-6)
-    );
-    assert!(rt; is_less(ArchivedU32::from_native(1), ArchivedU32::from_native(256)));
-    assert!(rt; ArchivedI32::from_native(-5) < ArchivedI32::from_native(5));
-    assert_eq!(rt;
-        ArchivedI32::from_native(-5).to_string(rt.alloc())?.as_str(),
-        "-5"
-    );
-    assert_eq!(rt;
-        ArchivedChar::from_native('x')
-            .to_string(rt.alloc())?
-            .as_str(),
-        "x"
-    );
+fn the_least_and_the_greatest_without_a_sign_come_back(rt: HostRuntime) {
+    assert_come_back::<u8, 1>(&rt, &[u8::MIN, u8::MAX]);
+    assert_come_back::<u16, 2>(&rt, &[u16::MIN, u16::MAX]);
+    assert_come_back::<u32, 4>(&rt, &[u32::MIN, u32::MAX]);
+    assert_come_back::<u64, 8>(&rt, &[u64::MIN, u64::MAX]);
+    assert_come_back::<u128, 16>(&rt, &[u128::MIN, u128::MAX]);
+    assert_come_back::<char, 4>(&rt, &['\0', char::MAX]);
+}
+
+#[test]
+fn formats_behave_as_their_numbers(rt: HostRuntime) {
+    assert_same(&rt, "i16", ArchivedI16::from_native(-2).to_native(), -2);
+    assert_same(&rt, "i32", ArchivedI32::from_native(-3).to_native(), -3);
+    assert_same(&rt, "i64", ArchivedI64::from_native(-4).to_native(), -4);
+    assert_same(&rt, "i128", ArchivedI128::from_native(-5).to_native(), -5);
+    assert_same(&rt, "u16", ArchivedU16::from_native(2).to_native(), 2);
+    assert_same(&rt, "u32", ArchivedU32::from_native(3).to_native(), 3);
+    assert_same(&rt, "u64", ArchivedU64::from_native(4).to_native(), 4);
+    assert_same(&rt, "u128", ArchivedU128::from_native(5).to_native(), 5);
+    assert_same(&rt, "char", ArchivedChar::from_native('é').to_native(), 'é');
+    let size = ArchivedUsize::from_native(6);
+    assert_same(&rt, "usize", size, ArchivedU32::from_native(6));
+    let offset = ArchivedIsize::from_native(-6);
+    assert_same(&rt, "isize", offset, ArchivedI32::from_native(-6));
+    let (one, more) = (ArchivedU32::from_native(1), ArchivedU32::from_native(256));
+    assert_holds(&rt, "1 below 256", is_less(one, more));
+    let (less, five) = (ArchivedI32::from_native(-5), ArchivedI32::from_native(5));
+    assert_holds(&rt, "-5 below 5", less < five);
+}
+
+#[test]
+fn formats_are_shown_as_their_numbers(rt: HostRuntime) -> Result<(), Fail> {
+    let number = ArchivedI32::from_native(-5).to_string(rt.alloc())?;
+    assert_same(&rt, "a number", number.as_str(), "-5");
+    let letter = ArchivedChar::from_native('x').to_string(rt.alloc())?;
+    assert_same(&rt, "a letter", letter.as_str(), "x");
     Ok(())
 }
 
 #[test]
 fn a_number_is_a_leaf_of_its_size(rt: HostRuntime) -> Result<(), Fail> {
-    assert_eq!(rt; (ArchivedU16::size(), ArchivedU16::align()), (2, 2));
-    assert_eq!(rt; (ArchivedU32::size(), ArchivedU32::align()), (4, 4));
-    assert_eq!(rt; (ArchivedI64::size(), ArchivedI64::align()), (8, 8));
-    assert_eq!(rt; (ArchivedI128::size(), ArchivedI128::align()), (16, 16));
-    assert_eq!(rt; (ArchivedChar::size(), ArchivedChar::align()), (4, 4));
-    assert_eq!(rt; ArchivedChar::expr(rt.alloc())?, Expr::Leaf(Kind::Char));
-    let expr = ArchivedI16::expr(rt.alloc())?;
-    assert_eq!(rt; expr, Expr::Leaf(Kind::Number(IntegerKind::I16)));
-    ArchivedU32::define(rt.alloc(), &mut Defs::new(rt.alloc()))?;
-    assert_eq!(rt; ArchivedU32::pointer_metadata(&()), 0);
+    let alloc = rt.alloc();
+    assert_leaf::<ArchivedU16>(&rt, alloc, Kind::Number(IntegerKind::U16), 2, 2)?;
+    assert_leaf::<ArchivedI16>(&rt, alloc, Kind::Number(IntegerKind::I16), 2, 2)?;
+    assert_leaf::<ArchivedU32>(&rt, alloc, Kind::Number(IntegerKind::U32), 4, 4)?;
+    assert_leaf::<ArchivedI64>(&rt, alloc, Kind::Number(IntegerKind::I64), 8, 8)?;
+    assert_leaf::<ArchivedI128>(&rt, alloc, Kind::Number(IntegerKind::I128), 16, 16)?;
+    assert_leaf::<ArchivedChar>(&rt, alloc, Kind::Char, 4, 4)?;
     Ok(())
 }

@@ -1,5 +1,6 @@
 // Memory that runs out: budgets that rise, until one serves.
 
+use crate::assertions::{assert_holds, assert_same};
 use crate::write::write_string;
 use archive_check::format::error::Error;
 use archive_write::ser::{Positional, Serializer, Writer};
@@ -35,25 +36,32 @@ fn each_budget_serves_or_is_refused(rt: HostRuntime) -> Result<(), Fail> {
         match length_of_strings(&heap) {
             Ok(length) => {
                 served = served.saturating_add(1);
-                assert_eq!(rt; length, 400);
+                assert_same(&rt, "the length", length, 400);
             }
             Err(error) => {
                 refused = refused.saturating_add(1);
                 assert_eq!(rt; error, Error::OutOfMemory, "with {units} times 32 bytes");
-                assert_eq!(rt; served, 0);
+                assert_same(&rt, "served before", served, 0);
             }
         }
     }
-    assert!(rt; refused > 0 && served > 0);
+    assert_holds(
+        &rt,
+        "some were refused, and some served",
+        refused > 0 && served > 0,
+    );
     Ok(())
 }
 
 #[test]
 fn a_refused_start_changes_nothing(rt: HostRuntime) -> Result<(), Fail> {
     let heap = LocalHeap::new(rt.alloc(), 16)?;
-    assert!(rt; Share::with_capacity(&heap, 100).is_err());
+    let no_room = Share::with_capacity(&heap, 100).is_err();
+    assert_holds(&rt, "no room", no_room);
     let mut share = Share::new(&heap);
-    assert_eq!(rt; share.start_sharing(7), Err(Error::OutOfMemory));
-    assert_eq!(rt; share.finish_sharing(7, 0), Err(Error::NotStarted));
+    let started = share.start_sharing(7);
+    assert_same(&rt, "to start", started, Err(Error::OutOfMemory));
+    let finished = share.finish_sharing(7, 0);
+    assert_same(&rt, "to finish", finished, Err(Error::NotStarted));
     Ok(())
 }

@@ -3,6 +3,7 @@
 ghost use Rattle.std.specs.Prelude.{◌<◌, ◌≤◌, ◌-◌, length, IsOk};
 ghost use Rattle.archive_write.specs.Written.{padding};
 
+use crate::assertions::assert_same;
 use crate::write::write_string;
 use archive_check::format::error::Error;
 use archive_write::ser::{Buffer, Positional, ResolverAlloc, Serializer, Writer, WriterExt};
@@ -12,12 +13,12 @@ use std::test::Fail;
 fn a_vector_takes_bytes_and_padding(rt: HostRuntime) -> Result<(), Fail> {
     let mut bytes = Vec::new(rt.alloc());
     bytes.write(b"hello")?;
-    assert_eq!(rt; bytes.pos(), 5);
-    assert_eq!(rt; bytes.align(4)?, 8);
-    assert_eq!(rt; bytes.align(8)?, 8);
+    assert_same(&rt, "the position", bytes.pos(), 5);
+    assert_same(&rt, "aligned to 4", bytes.align(4), Ok(8));
+    assert_same(&rt, "aligned to 8", bytes.align(8), Ok(8));
     bytes.write(b"")?;
     bytes.pad(3)?;
-    assert_eq!(rt; bytes.as_slice(), b"hello\0\0\0\0\0\0".as_slice());
+    assert_same(&rt, "the bytes", bytes.as_slice(), b"hello\0\0\0\0\0\0");
     Ok(())
 }
 
@@ -26,25 +27,25 @@ fn position_of<P: Positional>(of: &P) -> usize {
 }
 
 #[test]
-fn what_is_borrowed_is_as_its_owner(rt: HostRuntime) -> Result<(), Fail> {
+fn what_is_borrowed_is_as_its_owner(rt: HostRuntime) {
     let mut bytes = Vec::new(rt.alloc());
-    assert_eq!(rt; write_string(&mut &mut bytes)?, 12);
-    assert_eq!(rt; bytes.pos(), 20);
-    assert_eq!(rt; position_of(&&bytes), 20);
-    assert_eq!(rt; position_of(&&mut bytes), 20);
-    Ok(())
+    let written = write_string(&mut &mut bytes);
+    assert_same(&rt, "the string", written, Ok(12));
+    assert_same(&rt, "its own position", bytes.pos(), 20);
+    assert_same(&rt, "lent to be read", position_of(&&bytes), 20);
+    assert_same(&rt, "lent to be written", position_of(&&mut bytes), 20);
 }
 
 #[test]
 fn a_serializer_passes_on_to_its_writer(rt: HostRuntime) -> Result<(), Fail> {
     let mut serializer = Serializer::new(Vec::new(rt.alloc()), rt.alloc(), ());
     serializer.write(b"hi")?;
-    assert_eq!(rt; serializer.align(4)?, 4);
-    assert_eq!(rt; serializer.pos(), 4);
+    assert_same(&rt, "aligned", serializer.align(4), Ok(4));
+    assert_same(&rt, "the position", serializer.pos(), 4);
     let _ = serializer.resolver_alloc();
     let (writer, allocator, sharing) = serializer.into_raw_parts();
     let bytes = Serializer::new(writer, allocator, sharing).into_writer();
-    assert_eq!(rt; bytes.as_slice(), b"hi\0\0".as_slice());
+    assert_same(&rt, "the bytes", bytes.as_slice(), b"hi\0\0");
     Ok(())
 }
 
@@ -58,28 +59,25 @@ fn align_within(buffer: &mut Buffer<'_>, align: usize) -> Result<usize, Error>
     buffer.align(align)
 }
 
+fn overflow(write_len: usize, len: usize) -> Result<(), Error> {
+    Err(Error::BufferOverflow {
+        write_len,
+        cap: 4,
+        len,
+    })
+}
+
 #[test]
-fn a_buffer_takes_what_fits(rt: HostRuntime) -> Result<(), Fail> {
+fn a_buffer_takes_what_fits(rt: HostRuntime) {
     let mut bytes = [0xcc; 4];
     let mut buffer = Buffer::from(&mut bytes);
-    assert_eq!(rt; align_within(&mut buffer, 4), Ok(0));
-    assert_eq!(rt; buffer.write(b""), Ok(()));
-    assert_eq!(rt; buffer.as_slice(), b"".as_slice());
-    let refusal = Error::BufferOverflow {
-        write_len: 5,
-        cap: 4,
-        len: 0,
-    };
-    assert_eq!(rt; buffer.write(b"12345"), Err(refusal));
-    assert_eq!(rt; buffer.pos(), 0);
-    assert_eq!(rt; buffer.write(b"1234"), Ok(()));
-    assert_eq!(rt; buffer.write(b""), Ok(()));
-    let refusal = Error::BufferOverflow {
-        write_len: 1,
-        cap: 4,
-        len: 4,
-    };
-    assert_eq!(rt; buffer.write(b"5"), Err(refusal));
-    assert_eq!(rt; buffer.as_slice(), b"1234".as_slice());
-    Ok(())
+    assert_same(&rt, "aligned", align_within(&mut buffer, 4), Ok(0));
+    assert_same(&rt, "nothing", buffer.write(b""), Ok(()));
+    assert_same(&rt, "no bytes", buffer.as_slice(), b"");
+    assert_same(&rt, "five", buffer.write(b"12345"), overflow(5, 0));
+    assert_same(&rt, "the position", buffer.pos(), 0);
+    assert_same(&rt, "four", buffer.write(b"1234"), Ok(()));
+    assert_same(&rt, "nothing more", buffer.write(b""), Ok(()));
+    assert_same(&rt, "one more", buffer.write(b"5"), overflow(1, 4));
+    assert_same(&rt, "the bytes", buffer.as_slice(), b"1234");
 }
