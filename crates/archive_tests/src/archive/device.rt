@@ -3,6 +3,7 @@
 ghost use Rattle.std.specs.Prelude.{length, refl, true};
 ghost use Rattle.archive_check.specs.WriterState.{only_bytes};
 
+use crate::assertions::assert_same;
 use archive_check::format::error::Error;
 use archive_check::format::traits::Keys;
 use archive_core::api::to_bytes_in;
@@ -10,6 +11,7 @@ use archive_core::ser::{Positional, Serializer, Writer, serialize_one};
 use archive_core::sharing::{Share, SharingExt};
 use archive_core::string::Text;
 use std::alloc::Global;
+use std::process::Abort;
 use std::test::Fail;
 
 // A writer whose device takes `left` more writes, and then fails in the midst of each.
@@ -66,6 +68,14 @@ fn write_archives(alloc: Global, text: &String, device: &mut Failing) -> Result<
 const ARCHIVES: &[u8] =
     b"hello world\0\x8b\0\0\0\xf4\xff\xff\xff\0\0\0\0\x07\0\0\0\0\0\0\0sharedhello world\0\0\0\x8b\0\0\0\xf2\xff\xff\xff";
 
+// A device that failed after so many writes did so once, which was passed on, and holds a beginning of the archives.
+fn assert_failed_once(rt: &impl Abort, left: u32, device: &Failing, written: Result<(), Error>) {
+    assert_eq!(rt; device.failures, 1, "after {left}");
+    assert_eq!(rt; written, Err(Error::WriterFailed), "after {left}");
+    let bytes = device.bytes.as_slice();
+    assert!(rt; ARCHIVES.starts_with(bytes), "after {left}");
+}
+
 #[test]
 fn each_write_fails_in_turn(rt: HostRuntime) -> Result<(), Fail> {
     let text = String::from_str(rt.alloc(), "hello world")?;
@@ -78,16 +88,11 @@ fn each_write_fails_in_turn(rt: HostRuntime) -> Result<(), Fail> {
         };
         let written = write_archives(rt.alloc(), &text, &mut device);
         if device.failures == 0 {
-            assert_eq!(rt; written, Ok(()));
-            assert_eq!(rt; device.bytes.as_slice(), ARCHIVES);
+            assert_same(&rt, "the last", written, Ok(()));
+            assert_same(&rt, "all bytes", device.bytes.as_slice(), ARCHIVES);
             return Ok(());
         }
-        assert_eq!(rt; device.failures, 1, "after {left}");
-        assert_eq!(rt; written, Err(Error::WriterFailed), "after {left}");
-        assert!(rt;
-            ARCHIVES.starts_with(device.bytes.as_slice()),
-            "after {left}"
-        );
+        assert_failed_once(&rt, left, &device, written);
         assert!(rt; device.pos() >= held, "after {left}");
         held = device.pos();
     }

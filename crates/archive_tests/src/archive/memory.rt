@@ -12,6 +12,7 @@ ghost use Rattle.archive_core.specs.Writing.{Fresh};
 ghost use Rattle.archive_tests.specs.Repeated.{leaves_planned, numbers_keyed, repeated};
 ghost use Rattle.archive_check.specs.SelfCheck.Laws.{by_schema};
 
+use crate::assertions::{assert_holds, assert_same};
 use archive_check::self_check::BySchema;
 use archive_core::api::access;
 use archive_core::error::Error;
@@ -112,12 +113,12 @@ impl Archive for Sevens {
 fn a_large_region_is_resolved_on_the_heap(rt: HostRuntime) -> Result<(), Fail> {
     let mut writer = Vec::new(rt.alloc());
     writer.resolve_aligned(rt.alloc(), &42u32, ())?;
-    assert_eq!(rt; writer.resolve_aligned(rt.alloc(), &Sevens, ())?, 4);
-    assert_eq!(rt; writer.len(), 104);
-    assert!(rt; writer.iter().skip(4).all(|byte| *byte == 7));
-    assert_eq!(rt;
-        access::<ArchivedSevens>(rt.alloc(), writer.as_slice())?.pos(),
-        4
-    );
+    let region = writer.resolve_aligned(rt.alloc(), &Sevens, ());
+    assert_same(&rt, "the region", region, Ok(4));
+    assert_same(&rt, "the end", writer.len(), 104);
+    let sevens = writer.iter().skip(4).all(|byte| *byte == 7);
+    assert_holds(&rt, "sevens alone", sevens);
+    let view = access::<ArchivedSevens>(rt.alloc(), writer.as_slice())?;
+    assert_same(&rt, "the view", view.pos(), 4);
     Ok(())
 }

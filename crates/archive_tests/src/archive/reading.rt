@@ -1,9 +1,10 @@
 // Checks, views and what is read back.
 
-ghost use Rattle.std.specs.Prelude.{IfOk};
+ghost use Rattle.std.specs.Prelude.{◌<◌, IfOk};
 ghost use Rattle.archive_tests.specs.Wholes.{DenotesNumber};
 
 use crate::archive::HELLO_WORLD;
+use crate::assertions::assert_same;
 use archive_core::api::{
     HighValidator, access, access_pos_with_context, access_with_context, check_pos_with_context,
     deserialize, deserialize_using,
@@ -21,13 +22,13 @@ use std::test::Fail;
 fn a_view_gives_its_part_and_is_copied(rt: HostRuntime) -> Result<(), Fail> {
     let view = access::<ArchivedString>(rt.alloc(), b"12345678")?;
     let again: Ref<'_, ArchivedString> = Ref::at(view.clone()?.part());
-    assert_eq!(rt; again.pos(), 0);
+    assert_same(&rt, "the position", again.pos(), 0);
     let value = <ArchivedString as Deserialize<String, ()>>::deserialize(
         rt.alloc(),
         again,
         &mut (),
     )?;
-    assert_eq!(rt; value.as_str(), "12345678");
+    assert_same(&rt, "the text", value.as_str(), "12345678");
     Ok(())
 }
 
@@ -36,32 +37,36 @@ fn a_schema_is_kept_and_checks(rt: HostRuntime) -> Result<(), Fail> {
     let schema = Schema::of::<ArchivedString>(rt.alloc())?;
     let mut context = HighValidator::new(rt.alloc(), HELLO_WORLD);
     schema.check(HELLO_WORLD, 12, &mut context)?;
-    assert_eq!(rt; context.subtrees(), 2);
+    assert_same(&rt, "regions", context.subtrees(), 2);
     Ok(())
+}
+
+// What a check of the string says, with a limit of depth.
+fn checked_within(alloc: Global, depth: usize) -> Result<(), Error>
+    requires { 0 < depth }
+{
+    let mut context = HighValidator::with_max_depth(alloc, HELLO_WORLD, Some(depth));
+    check_pos_with_context::<ArchivedString, HighValidator<'_>>(
+        alloc,
+        HELLO_WORLD,
+        12,
+        &mut context,
+    )
 }
 
 #[test]
 fn a_context_limits_the_depth(rt: HostRuntime) -> Result<(), Fail> {
-    for depth in [1, 2] {
-        let mut context = HighValidator::with_max_depth(rt.alloc(), HELLO_WORLD, Some(depth));
-        assert_eq!(rt;
-            check_pos_with_context::<ArchivedString, HighValidator<'_>>(
-                rt.alloc(),
-                HELLO_WORLD,
-                12,
-                &mut context,
-            ),
-            Err(Error::ExceededMaximumSubtreeDepth),
-            "at depth {depth}"
-        );
-    }
+    let one = checked_within(rt.alloc(), 1);
+    assert_same(&rt, "one", one, Err(Error::ExceededMaximumSubtreeDepth));
+    let two = checked_within(rt.alloc(), 2);
+    assert_same(&rt, "two", two, Err(Error::ExceededMaximumSubtreeDepth));
     let mut context = HighValidator::with_max_depth(rt.alloc(), HELLO_WORLD, Some(3));
     let view = access_with_context::<ArchivedString, HighValidator<'_>>(
         rt.alloc(),
         HELLO_WORLD,
         &mut context,
     )?;
-    assert_eq!(rt; view.as_str(), "hello world");
+    assert_same(&rt, "three", view.as_str(), "hello world");
     let mut context = HighValidator::with_max_depth(rt.alloc(), HELLO_WORLD, None);
     let view = access_pos_with_context::<ArchivedString, HighValidator<'_>>(
         rt.alloc(),
@@ -69,7 +74,7 @@ fn a_context_limits_the_depth(rt: HostRuntime) -> Result<(), Fail> {
         12,
         &mut context,
     )?;
-    assert_eq!(rt; view.pos(), 12);
+    assert_same(&rt, "unlimited", view.pos(), 12);
     Ok(())
 }
 
@@ -77,9 +82,9 @@ fn a_context_limits_the_depth(rt: HostRuntime) -> Result<(), Fail> {
 fn a_view_is_read_back(rt: HostRuntime) -> Result<(), Fail> {
     let view = access::<ArchivedString>(rt.alloc(), b"12345678")?;
     let text: String = deserialize(rt.alloc(), view, &mut ())?;
-    assert_eq!(rt; text.as_str(), "12345678");
+    assert_same(&rt, "at first", text.as_str(), "12345678");
     let again: String = deserialize_using(rt.alloc(), view, &mut ())?;
-    assert_eq!(rt; again.as_str(), "12345678");
+    assert_same(&rt, "again", again.as_str(), "12345678");
     Ok(())
 }
 
@@ -93,5 +98,6 @@ fn read_root(alloc: Global, bytes: &[u8]) -> Result<u32, Error>
 
 #[test]
 fn a_view_shows_what_is_denoted(rt: HostRuntime) {
-    assert_eq!(rt; read_root(rt.alloc(), b"\x2a\0\0\0"), Ok(42));
+    let number = read_root(rt.alloc(), b"\x2a\0\0\0");
+    assert_same(&rt, "the number", number, Ok(42));
 }

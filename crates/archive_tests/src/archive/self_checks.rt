@@ -10,6 +10,7 @@ ghost use Rattle.archive_check.specs.SelfCheck.Laws.{by_schema};
 ghost use Rattle.archive_core.specs.OwnRecords.{named_check};
 
 use crate::archive::HELLO_WORLD;
+use crate::assertions::{assert_holds, assert_same};
 use archive_core::api::{Access, HighValidator, check_pos_with_context};
 use archive_core::boxed::ArchivedBox;
 use archive_core::error::Error;
@@ -26,6 +27,7 @@ use archive_core::traits::{ArchivePointee, Portable};
 use archive_core::vec::ArchivedVec;
 use archive_tuple::{ArchivedTuple1, ArchivedTuple2, ArchivedTuple3};
 use std::alloc::{AllocError, Global};
+use std::process::Abort;
 use std::test::Fail;
 
 // Two numbers, which their schema checks.
@@ -163,42 +165,45 @@ fn agrees_when_edited<T: Portable>(alloc: Global, archive: &[u8]) -> Result<bool
     Ok(agrees::<T>(alloc, &schema, archive))
 }
 
+// And that of a type that checks itself, or that goes by its schema.
+fn assert_agrees<T: Portable>(
+    rt: &impl Abort,
+    alloc: Global,
+    checks_itself: bool,
+    archive: &[u8],
+) -> Result<(), Error> {
+    assert_eq!(rt; T::Check::is_direct(), checks_itself, "for {archive:?}");
+    assert!(rt; agrees_when_edited::<T>(alloc, archive)?, "for {archive:?}");
+    Ok(())
+}
+
 #[test]
 fn leaves_check_themselves_as_their_schemas_do(rt: HostRuntime) -> Result<(), Fail> {
     let alloc = rt.alloc();
-    assert!(rt; agrees_when_edited::<()>(alloc, b"\x01")?);
-    assert!(rt; agrees_when_edited::<bool>(alloc, b"\x01\0\x02")?);
-    assert!(rt; agrees_when_edited::<u8>(alloc, b"\x01\xff")?);
-    assert!(rt; agrees_when_edited::<i8>(alloc, b"\x01\xff")?);
-    assert!(rt; agrees_when_edited::<ArchivedU16>(alloc, b"\x01\0\x02\0")?);
-    assert!(rt; agrees_when_edited::<ArchivedU32>(alloc, b"\x01\0\0\0\x02\0\0\0")?);
-    assert!(rt; agrees_when_edited::<ArchivedU128>(alloc, HELLO_WORLD)?);
-    assert!(rt; agrees_when_edited::<ArchivedChar>(alloc, b"\x41\0\0\0\xff\xd7\0\0")?);
-    assert!(rt; agrees_when_edited::<ArchivedNonZeroU16>(alloc, b"\x01\0\0\x01")?);
+    assert_agrees::<()>(&rt, alloc, true, b"\x01")?;
+    assert_agrees::<bool>(&rt, alloc, true, b"\x01\0\x02")?;
+    assert_agrees::<u8>(&rt, alloc, true, b"\x01\xff")?;
+    assert_agrees::<i8>(&rt, alloc, true, b"\x01\xff")?;
+    assert_agrees::<ArchivedU16>(&rt, alloc, true, b"\x01\0\x02\0")?;
+    assert_agrees::<ArchivedU32>(&rt, alloc, true, b"\x01\0\0\0\x02\0\0\0")?;
+    assert_agrees::<ArchivedU128>(&rt, alloc, true, HELLO_WORLD)?;
+    assert_agrees::<ArchivedChar>(&rt, alloc, true, b"\x41\0\0\0\xff\xd7\0\0")?;
+    assert_agrees::<ArchivedNonZeroU16>(&rt, alloc, true, b"\x01\0\0\x01")?;
     Ok(())
 }
 
 #[test]
 fn strings_and_boxes_check_themselves_as_their_schemas_do(rt: HostRuntime) -> Result<(), Fail> {
     let alloc = rt.alloc();
-    assert!(rt; agrees_when_edited::<ArchivedString>(alloc, HELLO_WORLD)?);
-    assert!(rt; agrees_when_edited::<ArchivedString>(alloc, b"hi\xff\xff\xff\xff\xff\xff")?);
-    assert!(rt; agrees_when_edited::<ArchivedString>(alloc, "héé\u{20ac}".as_bytes())?);
-    assert!(rt;
-        agrees_when_edited::<ArchivedBox<ArchivedNonZeroU16>>(alloc, b"\x07\0\0\0\xfc\xff\xff\xff")?
-    );
-    assert!(rt;
-        agrees_when_edited::<ArchivedBox<ArchivedSlice<bool>>>(
-            alloc,
-            b"\x01\0\0\0\xfc\xff\xff\xff\x02\0\0\0"
-        )?
-    );
-    assert!(rt;
-        agrees_when_edited::<ArchivedBox<ArchivedStr>>(
-            alloc,
-            b"h\xc3\xa9\0\xfc\xff\xff\xff\x03\0\0\0"
-        )?
-    );
+    assert_agrees::<ArchivedString>(&rt, alloc, true, HELLO_WORLD)?;
+    assert_agrees::<ArchivedString>(&rt, alloc, true, b"hi\xff\xff\xff\xff\xff\xff")?;
+    assert_agrees::<ArchivedString>(&rt, alloc, true, "héé\u{20ac}".as_bytes())?;
+    let boxed = b"\x07\0\0\0\xfc\xff\xff\xff";
+    assert_agrees::<ArchivedBox<ArchivedNonZeroU16>>(&rt, alloc, true, boxed)?;
+    let slice = b"\x01\0\0\0\xfc\xff\xff\xff\x02\0\0\0";
+    assert_agrees::<ArchivedBox<ArchivedSlice<bool>>>(&rt, alloc, true, slice)?;
+    let text = b"h\xc3\xa9\0\xfc\xff\xff\xff\x03\0\0\0";
+    assert_agrees::<ArchivedBox<ArchivedStr>>(&rt, alloc, true, text)?;
     Ok(())
 }
 
@@ -206,10 +211,11 @@ fn strings_and_boxes_check_themselves_as_their_schemas_do(rt: HostRuntime) -> Re
 fn vectors_check_themselves_as_their_schemas_do(rt: HostRuntime) -> Result<(), Fail> {
     let alloc = rt.alloc();
     let two = b"\x01\0\0\0\x02\0\0\0\xf8\xff\xff\xff\x02\0\0\0";
-    assert!(rt; agrees_when_edited::<ArchivedVec<ArchivedU32>>(alloc, two)?);
-    assert!(rt; agrees_when_edited::<ArchivedVec<()>>(alloc, b"\0\0\0\0\xff\xff\xff\xff")?);
+    assert_agrees::<ArchivedVec<ArchivedU32>>(&rt, alloc, true, two)?;
+    let units = b"\0\0\0\0\xff\xff\xff\xff";
+    assert_agrees::<ArchivedVec<()>>(&rt, alloc, true, units)?;
     let inner = b"\x01\0\0\0\xfc\xff\xff\xff\x02\0\0\0\xf8\xff\xff\xff\x01\0\0\0";
-    assert!(rt; agrees_when_edited::<ArchivedVec<ArchivedVec<bool>>>(alloc, inner)?);
+    assert_agrees::<ArchivedVec<ArchivedVec<bool>>>(&rt, alloc, true, inner)?;
     Ok(())
 }
 
@@ -217,16 +223,15 @@ fn vectors_check_themselves_as_their_schemas_do(rt: HostRuntime) -> Result<(), F
 fn tuples_check_themselves_as_their_schemas_do(rt: HostRuntime) -> Result<(), Fail> {
     let alloc = rt.alloc();
     let short = b"\x01\0\0\0hi\xff\xff\xff\xff\xff\xff";
-    assert!(rt; checks_itself::<ArchivedTuple2<bool, ArchivedString>>());
-    assert!(rt; agrees_when_edited::<ArchivedTuple2<bool, ArchivedString>>(alloc, short)?);
+    assert_agrees::<ArchivedTuple2<bool, ArchivedString>>(&rt, alloc, true, short)?;
     let items = b"\x01\0\0\0\x01\x02\x03\0\xf8\xff\xff\xff\x02\0\0\0";
     type Labelled = ArchivedTuple3<ArchivedLabel, ArchivedNonZeroU16, ArchivedVec<bool>>;
-    assert!(rt; checks_itself::<Labelled>());
-    assert!(rt; agrees_when_edited::<Labelled>(alloc, items)?);
-    assert!(rt; checks_itself::<ArchivedTuple1<ArchivedLabel>>());
-    assert!(rt; checks_itself::<ArchivedTuple2<ArchivedTuple1<bool>, ArchivedLabel>>());
-    assert!(rt; !checks_itself::<ArchivedTuple2<ArchivedTwo, bool>>());
-    assert!(rt; agrees_when_edited::<ArchivedTuple2<ArchivedTwo, bool>>(alloc, items)?);
+    assert_agrees::<Labelled>(&rt, alloc, true, items)?;
+    let single = checks_itself::<ArchivedTuple1<ArchivedLabel>>();
+    assert_holds(&rt, "a single label", single);
+    let nested = checks_itself::<ArchivedTuple2<ArchivedTuple1<bool>, ArchivedLabel>>();
+    assert_holds(&rt, "a tuple in a tuple", nested);
+    assert_agrees::<ArchivedTuple2<ArchivedTwo, bool>>(&rt, alloc, false, items)?;
     Ok(())
 }
 
@@ -235,18 +240,14 @@ fn results_check_themselves_as_their_schemas_do(rt: HostRuntime) -> Result<(), F
     let alloc = rt.alloc();
     let ok = b"hello world\0\0\0\0\0\x8b\0\0\0\xf0\xff\xff\xff";
     type Outcome = ArchivedResult<ArchivedString, ArchivedNonZeroU16>;
-    assert!(rt; checks_itself::<Outcome>());
-    assert!(rt; agrees_when_edited::<Outcome>(alloc, ok)?);
-    assert!(rt; agrees_when_edited::<Outcome>(alloc, b"\x01\0\x01\x02\0\0\0\0\0\0\0\0")?);
+    assert_agrees::<Outcome>(&rt, alloc, true, ok)?;
+    let error = b"\x01\0\x01\x02\0\0\0\0\0\0\0\0";
+    assert_agrees::<Outcome>(&rt, alloc, true, error)?;
     type Labelled = ArchivedResult<ArchivedLabel, ArchivedTuple2<bool, ArchivedVec<bool>>>;
-    assert!(rt; checks_itself::<Labelled>());
-    assert!(rt;
-        agrees_when_edited::<Labelled>(
-            alloc,
-            b"\x01\0\x01\0\x01\0\0\0\x01\0\0\0\xf4\xff\xff\xff\x02\0\0\0"
-        )?
-    );
-    assert!(rt; !checks_itself::<ArchivedResult<bool, ArchivedTwo>>());
+    let labelled = b"\x01\0\x01\0\x01\0\0\0\x01\0\0\0\xf4\xff\xff\xff\x02\0\0\0";
+    assert_agrees::<Labelled>(&rt, alloc, true, labelled)?;
+    let direct = checks_itself::<ArchivedResult<bool, ArchivedTwo>>();
+    assert_holds(&rt, "two by their schema", !direct);
     Ok(())
 }
 
@@ -254,11 +255,10 @@ fn results_check_themselves_as_their_schemas_do(rt: HostRuntime) -> Result<(), F
 fn two_parts_with_definitions_go_by_their_schema(rt: HostRuntime) -> Result<(), Fail> {
     let alloc = rt.alloc();
     type Pair = ArchivedTuple2<ArchivedLabel, ArchivedLabel>;
-    assert!(rt; !checks_itself::<Pair>());
-    assert!(rt; agrees_when_edited::<Pair>(alloc, b"\x01\x02\0\x03")?);
+    assert_agrees::<Pair>(&rt, alloc, false, b"\x01\x02\0\x03")?;
     type Either = ArchivedResult<ArchivedLabel, ArchivedVec<ArchivedLabel>>;
-    assert!(rt; !checks_itself::<Either>());
-    assert!(rt; agrees_when_edited::<Either>(alloc, b"\0\x01\x02\0\0\0\0\0\0\0\0\0")?);
+    let either = b"\0\x01\x02\0\0\0\0\0\0\0\0\0";
+    assert_agrees::<Either>(&rt, alloc, false, either)?;
     Ok(())
 }
 
@@ -266,14 +266,13 @@ fn two_parts_with_definitions_go_by_their_schema(rt: HostRuntime) -> Result<(), 
 fn a_kept_check_answers_views(rt: HostRuntime) -> Result<(), Fail> {
     let strings: Access<ArchivedString> = Access::new(rt.alloc())?;
     let view = strings.access(HELLO_WORLD)?;
-    assert_eq!(rt; view.as_str(), "hello world");
-    assert_eq!(rt; strings.access_pos(HELLO_WORLD, 12)?.pos(), 12);
+    assert_same(&rt, "the view", view.as_str(), "hello world");
+    let at = strings.access_pos(HELLO_WORLD, 12)?.pos();
+    assert_same(&rt, "the position", at, 12);
     let back: String = strings.from_bytes(HELLO_WORLD, &mut ())?;
-    assert_eq!(rt; back.as_str(), "hello world");
-    assert_eq!(rt;
-        strings.access(b"\xc0\x80\xff\xff\xff\xff\xff\xff").err(),
-        Some(Error::InvalidUtf8)
-    );
+    assert_same(&rt, "the text", back.as_str(), "hello world");
+    let refused = strings.access(b"\xc0\x80\xff\xff\xff\xff\xff\xff").err();
+    assert_same(&rt, "no text", refused, Some(Error::InvalidUtf8));
     Ok(())
 }
 
@@ -281,16 +280,15 @@ fn a_kept_check_answers_views(rt: HostRuntime) -> Result<(), Fail> {
 fn a_kept_schema_answers_views(rt: HostRuntime) -> Result<(), Fail> {
     let numbers: Access<ArchivedTwo> = Access::new(rt.alloc())?;
     let bytes = b"\0\0\0\0\x01\0\0\0\x02\0\0\0";
-    assert_eq!(rt; numbers.access(bytes)?.pos(), 4);
-    assert_eq!(rt; numbers.access_pos(bytes, 0)?.pos(), 0);
-    assert_eq!(rt;
-        numbers.access_pos(bytes, 8).err(),
-        Some(Error::InvalidSubtreePointer {
-            position: 8,
-            size: 8,
-            start: 0,
-            end: 12,
-        })
-    );
+    assert_same(&rt, "at the end", numbers.access(bytes)?.pos(), 4);
+    assert_same(&rt, "at 0", numbers.access_pos(bytes, 0)?.pos(), 0);
+    let outside = Error::InvalidSubtreePointer {
+        position: 8,
+        size: 8,
+        start: 0,
+        end: 12,
+    };
+    let refused = numbers.access_pos(bytes, 8).err();
+    assert_same(&rt, "outside", refused, Some(outside));
     Ok(())
 }

@@ -9,6 +9,7 @@ ghost use Rattle.archive_check.specs.Expressions.{shape_of};
 ghost use Rattle.archive_check.specs.SelfCheck.Laws.{by_schema};
 ghost use Rattle.archive_check.specs.NamedLayout.{held_has_layout, name_reached, twice_has_layout, twice_reached, leaves_differ};
 
+use crate::assertions::assert_same;
 use archive_check::format::expr::Kind;
 use archive_core::api::access;
 use archive_core::error::Error;
@@ -16,7 +17,6 @@ use archive_core::self_check::BySchema;
 use archive_core::shape::{Defs, Expr};
 use archive_core::traits::{ArchivePointee, Portable};
 use std::alloc::{AllocError, Global};
-use std::test::Fail;
 
 // A name with two definitions: nothing, and a bool.
 struct ArchivedTwice;
@@ -131,13 +131,17 @@ impl Portable for ArchivedItself {
     }
 }
 
+// Why a type is refused, whatever the bytes.
+fn refusal<T: Portable>(alloc: Global, bytes: &[u8]) -> Option<Error> {
+    access::<T>(alloc, bytes).err()
+}
+
 #[test]
-fn a_type_without_a_meaning_is_refused(rt: HostRuntime) -> Result<(), Fail> {
+fn a_type_without_a_meaning_is_refused(rt: HostRuntime) {
     for bytes in [b"".as_slice(), b"\x01".as_slice(), b"12345678".as_slice()] {
-        let twice = access::<ArchivedTwice>(rt.alloc(), bytes);
-        assert_eq!(rt; twice.err(), Some(Error::ShapeConflict));
-        let itself = access::<ArchivedItself>(rt.alloc(), bytes);
-        assert_eq!(rt; itself.err(), Some(Error::RecursiveLayout));
+        let twice = refusal::<ArchivedTwice>(rt.alloc(), bytes);
+        assert_same(&rt, "two definitions", twice, Some(Error::ShapeConflict));
+        let itself = refusal::<ArchivedItself>(rt.alloc(), bytes);
+        assert_same(&rt, "itself", itself, Some(Error::RecursiveLayout));
     }
-    Ok(())
 }
