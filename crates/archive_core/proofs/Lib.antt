@@ -47,7 +47,7 @@ pub mod ReadRecords
 pub mod OwnChoices
 pub mod ReadChoices
 pub mod FieldsShown
-pub mod Spots
+mod LastElements
 pub mod WrittenVariants
 pub mod NamedVariants
 pub mod Inner

@@ -18,11 +18,11 @@ use Rattle.archive_check.specs.Viewed.{Viewed, Says}
 use Rattle.archive_check.specs.declared.format.error.Error.{Error}
 use Rattle.archive_check.specs.declared.format.traits.ArchivePointee as ArchivePointee
 use Rattle.archive_check.specs.declared.format.traits.Entries as Entries
-use Rattle.archive_core.specs.Compared.{Standing, standing, elements, slice_of, result_in, result_order}
+use Rattle.archive_core.specs.Compared.{Standing, standing, elements, elements_from, slice_of, result_in, result_order}
 use Rattle.archive_core.specs.Pooling.{IsPut, ReadsShared, RefusesShared}
 use Rattle.archive_core.specs.Standing.{StandsWith, view}
 use Rattle.archive_core.specs.ValueOrder.{ComparesTo, EqualsTo}
-use Rattle.archive_core.specs.Views.{ShowsPart, spots}
+use Rattle.archive_core.specs.Views.{ShowsPart}
 use Rattle.archive_core.specs.declared.view.RawView.{RawView}
 use Rattle.archive_core.specs.declared.view.Ref.{Ref}
 
@@ -44,20 +44,16 @@ element_shown size i v = standing v.bytes.now (v.pos + i * size) 0
 abbrev pub result_to : {T M U W : Type 0} {g : ArchivePointee.Ghosts T M} → (Standing → U → Ordering) → (Standing → W → Ordering) → Layout → Layout → Ref T M g → Result U W → Ordering
 result_to R S L E v r = result_order R S (result_in L.align E.align (shown v)) r
 
--- where the elements of a slice stand, from the one of index a up to b; all of those that a view shows
-abbrev pub spots_between : RawView → ℕ → ℕ → ℕ → List (List ℕ × ℕ)
-spots_between s size a b = spots s.bytes.now s.pos size a (b - a)
+-- the elements of an array of n that a view shows
+abbrev pub elements_of : {T M : Type 0} {g : ArchivePointee.Ghosts T M} → ℕ → ℕ → Ref T M g → List Standing
+elements_of size n v = elements_from v.bytes.now v.pos size 0 n
 
--- of the first n
-abbrev pub spots_in : RawView → ℕ → ℕ → List (List ℕ × ℕ)
-spots_in s size n = spots s.bytes.now s.pos size 0 n
+-- elements from the beginning of a part on: the first n of them; and those from the one of index a up to b
+abbrev pub first_elements : RawView → ℕ → ℕ → List Standing
+first_elements s size n = elements_from s.bytes.now s.pos size 0 n
 
-abbrev pub spots_shown : {T M : Type 0} {g : ArchivePointee.Ghosts T M} → ℕ → Ref T M g → List (List ℕ × ℕ)
-spots_shown size v = spots v.bytes.now v.pos size 0 v.len
-
--- the same of an array of n
-abbrev pub spots_of : {T M : Type 0} {g : ArchivePointee.Ghosts T M} → ℕ → ℕ → Ref T M g → List (List ℕ × ℕ)
-spots_of size n v = spots v.bytes.now v.pos size 0 n
+abbrev pub elements_between : RawView → ℕ → ℕ → ℕ → List Standing
+elements_between s size a b = elements_from s.bytes.now s.pos size a (b - a)
 
 abbrev pub part_tag : RawView → ℕ
 part_tag p = slice_index p.bytes.now p.pos

@@ -1,5 +1,5 @@
 -- What a view shows that was made of another one.
-use Rattle.std.specs.Prelude.{◌≡◌, ℕ, zero, suc, ◌+◌, ◌*◌, ◌<◌, List, [], ◌∷◌, Option, Some, None}
+use Rattle.std.specs.Prelude.{◌≡◌, ℕ, zero, suc, ◌+◌, ◌*◌, ◌<◌, List, Option, Some, None}
 use Rattle.archive_check.specs.Shape.{Shape, Pointee}
 use Rattle.archive_check.specs.Value.{Value, box, list, Values, no_value, value}
 use Rattle.archive_check.specs.Reads.{Schema}
@@ -33,8 +33,3 @@ pub record ShowsPart (D : Definitions) (bytes : List ℕ) (q : ℕ) (P : Pointee
 -- each of n elements of z bytes, from p on, is viewed
 abbrev pub AreViewed : Definitions → List ℕ → ℕ → ℕ → Pointee → ℕ → Type 0
 AreViewed D bytes p z P n = (k : ℕ) → k < n → Viewed D bytes (p + k * z) P 0
-
--- n elements of z bytes of a slice at p, from the element i on: the buffer and the position of each
-abbrev pub spots : List ℕ → ℕ → ℕ → ℕ → ℕ → List (List ℕ × ℕ)
-spots bytes p z i zero = []
-spots bytes p z i (suc n) = (bytes, p + i * z) ∷ spots bytes p z (i + 1) n

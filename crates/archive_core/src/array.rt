@@ -2,7 +2,7 @@
 
 ghost use Rattle.std.specs.Prelude.{◌≡◌, ◌+◌, ◌-◌, ◌*◌, ◌<◌, ◌↔◌, IfSome, IsSome, IsTrue};
 ghost use Rattle.archive_check.specs.Shape.{one};
-ghost use Rattle.archive_core.specs.Seen.{ShowsPartOf, spots_between, spots_of};
+ghost use Rattle.archive_core.specs.Seen.{ShowsPartOf, elements_between, elements_of};
 ghost use Rattle.archive_core.specs.Views.{element_in};
 
 mod sources;
@@ -58,7 +58,7 @@ impl<'a, T: Portable, const N: usize> Ref<'a, [T; N]> {
 
     /// Views of the elements, in order and from either end.
     pub fn iter(self) -> Iter<'a, T>
-        ensures { spots_between result.slice T.layout.size result.front result.back ≡ spots_of T.layout.size N self.entry }
+        ensures { elements_between result.slice T.layout.size result.front result.back ≡ elements_of T.layout.size N self.entry }
     {
         Iter::over(self.part(), N)
     }

@@ -2,8 +2,8 @@
 
 ghost use Rattle.std.specs.Prelude.{◌≡◌, ◌+◌, ◌*◌, ◌-◌, ◌≤◌, ◌<◌};
 ghost use Rattle.std.specs.Iterator.{YieldsFirstBy, YieldsLastBy, item_count};
-ghost use Rattle.archive_core.specs.Seen.{spots_between, spots_in, spots_shown};
-ghost use Rattle.archive_core.specs.Views.{AreViewed, spots};
+ghost use Rattle.archive_core.specs.Seen.{elements_between, elements_shown, first_elements, shown};
+ghost use Rattle.archive_core.specs.Views.{AreViewed};
 
 use super::ArchivedSlice;
 use crate::traits::Portable;
@@ -26,7 +26,7 @@ impl<'a, T: Portable> Iter<'a, T> {
     // Views of elements, of which there are so many from the position of `part` on.
     pub(crate) fn over(part: RawView<'a>, count: usize) -> Iter<'a, T>
         requires { AreViewed T.definitions part.bytes.now part.pos T.layout.size T.pointee count }
-        ensures { spots_between result.slice T.layout.size result.front result.back ≡ spots_in part.entry T.layout.size count }
+        ensures { elements_between result.slice T.layout.size result.front result.back ≡ first_elements part.entry T.layout.size count }
     {
         Iter {
             slice: part,
@@ -41,6 +41,7 @@ impl<'a, T: Portable> Iter<'a, T> {
         requires { index < self.now.back }
         ensures buffer { result.bytes.now ≡ self.now.slice.bytes.now }
         ensures position { result.pos ≡ self.now.slice.pos + index * T.layout.size }
+        ensures length { result.len ≡ 0 }
     {
         let RawView { bytes, pos, .. } = self.slice;
         prove!(bytes.len() <= usize::MAX);
@@ -55,7 +56,7 @@ impl<'a, T: Portable> Iter<'a, T> {
 impl<'a, T: Portable> Ref<'a, ArchivedSlice<T>> {
     /// Views of the elements, in order and from either end. As in rkyv 0.8.18.
     pub fn iter(self) -> Iter<'a, T>
-        ensures { spots_between result.slice T.layout.size result.front result.back ≡ spots_shown T.layout.size self.entry }
+        ensures { elements_between result.slice T.layout.size result.front result.back ≡ elements_shown T.layout.size self.entry }
     {
         Iter::over(self.part(), self.len())
     }
@@ -64,9 +65,9 @@ impl<'a, T: Portable> Ref<'a, ArchivedSlice<T>> {
 impl<'a, T: Portable> Iterator for Iter<'a, T> {
     type Item = Ref<'a, T>;
 
-    ghost next_gives = { YieldsFirstBy (λ v. (v.bytes.now, v.pos)) (λ s. spots s.slice.bytes.now s.slice.pos T.layout.size s.front (s.back - s.front)) };
+    ghost next_gives = { YieldsFirstBy (λ v. shown v) (λ s. elements_between s.slice T.layout.size s.front s.back) };
 
-    ghost remaining = { item_count (λ s. spots s.slice.bytes.now s.slice.pos T.layout.size s.front (s.back - s.front)) };
+    ghost remaining = { item_count (λ s. elements_between s.slice T.layout.size s.front s.back) };
 
     fn next(&mut self) -> Option<Ref<'a, T>> {
         if self.front >= self.back {
@@ -77,7 +78,7 @@ impl<'a, T: Portable> Iterator for Iter<'a, T> {
         Some(item)
     }
 
-    #[tactic(auto, using(crate::proofs::Spots::spots_count))]
+    #[tactic(auto, using(crate::proofs::Compared::count))]
     fn size_hint(&self) -> (usize, Option<usize>) {
         let left = self.len();
         (left, Some(left))
@@ -85,7 +86,7 @@ impl<'a, T: Portable> Iterator for Iter<'a, T> {
 }
 
 impl<'a, T: Portable> DoubleEndedIterator for Iter<'a, T> {
-    ghost next_back_gives = { YieldsLastBy (λ v. (v.bytes.now, v.pos)) (λ s. spots s.slice.bytes.now s.slice.pos T.layout.size s.front (s.back - s.front)) };
+    ghost next_back_gives = { YieldsLastBy (λ v. shown v) (λ s. elements_between s.slice T.layout.size s.front s.back) };
 
     fn next_back(&mut self) -> Option<Ref<'a, T>> {
         if self.front >= self.back {
@@ -98,7 +99,7 @@ impl<'a, T: Portable> DoubleEndedIterator for Iter<'a, T> {
 }
 
 impl<'a, T: Portable> ExactSizeIterator for Iter<'a, T> {
-    #[tactic(auto, using(crate::proofs::Spots::spots_count))]
+    #[tactic(auto, using(crate::proofs::Compared::count))]
     fn len(&self) -> usize {
         self.back - self.front
     }
