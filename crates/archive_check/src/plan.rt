@@ -14,7 +14,7 @@ pub mod shallow;
 use crate::format::expr::{FlavorInfo, Kind, Pointee};
 
 /// How many elements a pointer leads to: one value, a run, or the bytes of a text.
-#[derive(Debug, Clone, Copy, PartialEq, Eq)]
+#[derive(Clone, Copy, PartialEq, Eq)]
 pub enum PointeeKind {
     /// One value.
     One,
@@ -25,7 +25,7 @@ pub enum PointeeKind {
 }
 
 /// What there is to check of a node's bytes. Nodes, parts, variants and shared types are named by their index. A text's pointee is a node of one byte.
-#[derive(Debug, Clone, Copy)]
+#[derive(Clone, Copy)]
 pub enum NodeKind {
     /// Any bytes are legal, and lead nowhere.
     Free,
@@ -83,7 +83,7 @@ pub struct Node {
 }
 
 /// A part of a record or a variant.
-#[derive(Debug, Clone, Copy)]
+#[derive(Clone, Copy)]
 pub struct Part {
     /// Where it begins, in bytes from the record's or the choice's begin.
     pub offset: usize,
@@ -92,7 +92,7 @@ pub struct Part {
 }
 
 /// The parts of a variant: those from `first` up to `last`.
-#[derive(Debug, Clone, Copy)]
+#[derive(Clone, Copy)]
 pub struct Span {
     /// The first.
     pub first: usize,
@@ -101,7 +101,7 @@ pub struct Span {
 }
 
 /// What makes two shared pointers of one type: their flavor, and their pointee as it is written.
-#[derive(Debug, Drop)]
+#[derive(Drop)]
 pub struct SharedType {
     /// The flavor.
     pub flavor: FlavorInfo,

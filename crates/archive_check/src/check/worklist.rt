@@ -7,7 +7,7 @@ use crate::format::error::Error;
 use std::alloc::Global;
 
 /// One thing that is left to check. Places are in bytes from the buffer's first one.
-#[derive(Debug, Clone, Copy)]
+#[derive(Clone, Copy)]
 pub enum Work {
     /// The node here.
     Part {

@@ -20,7 +20,7 @@ use std::collections::HashMap;
 use std::hash::{BuildHasherDefault, FoldHasher};
 
 /// What is kept of a shared position: its type, by its place in the list of types, its length, and whether it is finished.
-#[derive(Debug, Clone, Copy)]
+#[derive(Clone, Copy)]
 pub(crate) struct SharedPosition {
     shared_type: usize,
     length: usize,

@@ -8,7 +8,7 @@ use crate::context::positions::SharedPosition;
 use std::alloc::{AllocError, Allocator};
 
 /// A finished position, and what is kept of it.
-#[derive(Debug, Clone, Copy)]
+#[derive(Clone, Copy)]
 pub(crate) struct FinishedPosition {
     pub(crate) position: usize,
     pub(crate) kept: SharedPosition,

@@ -102,7 +102,7 @@ pub fn times(size: Option<usize>, count: usize) -> Option<usize>
 }
 
 /// Where what is laid out ends, and the greatest alignment in it: of parts one behind another, or of variants each for itself.
-#[derive(Debug, Clone, Copy)]
+#[derive(Clone, Copy)]
 pub struct Extent {
     /// Where it ends. None: above `usize::MAX`.
     pub end: Option<usize>,

@@ -13,7 +13,7 @@ use crate::plan::{Node, NodeKind, Part, Plan, SharedType, Span};
 use std::alloc::{AllocError, Global};
 
 /// A name, and the node that its definition is or will be.
-#[derive(Debug, Clone, Copy)]
+#[derive(Clone, Copy)]
 pub struct NamedNode {
     /// The name.
     pub name: &'static str,
@@ -22,7 +22,7 @@ pub struct NamedNode {
 }
 
 /// Parts that are laid out one behind another.
-#[derive(Debug, Drop)]
+#[derive(Drop)]
 pub struct LaidParts {
     /// The parts.
     pub parts: Vec<Part>,
@@ -33,7 +33,7 @@ pub struct LaidParts {
 }
 
 /// Variants, each laid out for itself.
-#[derive(Debug, Drop)]
+#[derive(Drop)]
 pub struct LaidVariants {
     /// Their parts.
     pub items: Vec<Span>,
@@ -42,7 +42,7 @@ pub struct LaidVariants {
 }
 
 /// Parts or variants that stand in a plan, from `first` up to `last`.
-#[derive(Debug, Clone, Copy)]
+#[derive(Clone, Copy)]
 pub struct LaidRange {
     /// The first.
     pub first: usize,
