@@ -10,13 +10,14 @@ ghost use Rattle.archive_check.specs.SelfCheck.Lone.{tuple_check};
 use archive_check::format::error::Error;
 use archive_check::format::expr::{Defs, Expr};
 use archive_check::format::traits::{
-    ArchivePointee, Portable, PortableParts, Record, expr_of_record, size_of_record,
+    ArchivePointee, FourParts, Portable, PortableParts, Record, expr_of_record, size_of_record,
 };
 use archive_check::self_check::TupleCheck;
 use std::alloc::Global;
 use std::marker::PhantomData;
 
-/// An archived tuple of the parts `P`, nested pair by pair: `(A, (B, ()))` for one of an `A` and a `B`. Each begins at the next multiple of its alignment.
+/// An archived tuple of the parts `P`, nested pair by pair: `(A, (B, ()))` for one of an `A` and a `B`, or four at once by `FourParts`. Each begins at the
+/// next multiple of its alignment.
 #[derive(Debug)]
 pub struct ArchivedTuple<P> {
     of: PhantomData<P>,
@@ -89,46 +90,31 @@ pub type ArchivedTuple2<A, B> = ArchivedTuple<(A, (B, ()))>;
 pub type ArchivedTuple3<A, B, C> = ArchivedTuple<(A, (B, (C, ())))>;
 
 /// An archived tuple of 4 parts.
-pub type ArchivedTuple4<A, B, C, D> = ArchivedTuple<(A, (B, (C, (D, ()))))>;
+pub type ArchivedTuple4<A, B, C, D> = ArchivedTuple<FourParts<A, B, C, D, ()>>;
 
 /// An archived tuple of 5 parts.
-pub type ArchivedTuple5<A, B, C, D, E> = ArchivedTuple<(A, (B, (C, (D, (E, ())))))>;
+pub type ArchivedTuple5<A, B, C, D, E> = ArchivedTuple<FourParts<A, B, C, D, (E, ())>>;
 
 /// An archived tuple of 6 parts.
-pub type ArchivedTuple6<A, B, C, D, E, F> = ArchivedTuple<(A, (B, (C, (D, (E, (F, ()))))))>;
+pub type ArchivedTuple6<A, B, C, D, E, F> = ArchivedTuple<FourParts<A, B, C, D, (E, (F, ()))>>;
 
 /// An archived tuple of 7 parts.
-pub type ArchivedTuple7<A, B, C, D, E, F, G> = ArchivedTuple<(A, (B, (C, (D, (E, (F, (G, ())))))))>;
+pub type ArchivedTuple7<A, B, C, D, E, F, G> = ArchivedTuple<FourParts<A, B, C, D, (E, (F, (G, ())))>>;
 
 /// An archived tuple of 8 parts.
-pub type ArchivedTuple8<A, B, C, D, E, F, G, H> = ArchivedTuple<
-    (A, (B, (C, (D, (E, (F, (G, (H, ())))))))),
->;
+pub type ArchivedTuple8<A, B, C, D, E, F, G, H> = ArchivedTuple<FourParts<A, B, C, D, FourParts<E, F, G, H, ()>>>;
 
 /// An archived tuple of 9 parts.
-pub type ArchivedTuple9<A, B, C, D, E, F, G, H, I> = ArchivedTuple<
-    (A, (B, (C, (D, (E, (F, (G, (H, (I, ()))))))))),
->;
+pub type ArchivedTuple9<A, B, C, D, E, F, G, H, I> = ArchivedTuple<FourParts<A, B, C, D, FourParts<E, F, G, H, (I, ())>>>;
 
 /// An archived tuple of 10 parts.
-pub type ArchivedTuple10<A, B, C, D, E, F, G, H, I, J> = ArchivedTuple<
-    (A, (B, (C, (D, (E, (F, (G, (H, (I, (J, ())))))))))),
->;
+pub type ArchivedTuple10<A, B, C, D, E, F, G, H, I, J> = ArchivedTuple<FourParts<A, B, C, D, FourParts<E, F, G, H, (I, (J, ()))>>>;
 
 /// An archived tuple of 11 parts.
-pub type ArchivedTuple11<A, B, C, D, E, F, G, H, I, J, K> = ArchivedTuple<
-    (A, (B, (C, (D, (E, (F, (G, (H, (I, (J, (K, ()))))))))))),
->;
+pub type ArchivedTuple11<A, B, C, D, E, F, G, H, I, J, K> = ArchivedTuple<FourParts<A, B, C, D, FourParts<E, F, G, H, (I, (J, (K, ())))>>>;
 
 /// An archived tuple of 12 parts.
-pub type ArchivedTuple12<A, B, C, D, E, F, G, H, I, J, K, L> = ArchivedTuple<
-    (A, (B, (C, (D, (E, (F, (G, (H, (I, (J, (K, (L, ())))))))))))),
->;
+pub type ArchivedTuple12<A, B, C, D, E, F, G, H, I, J, K, L> = ArchivedTuple<FourParts<A, B, C, D, FourParts<E, F, G, H, FourParts<I, J, K, L, ()>>>>;
 
 /// An archived tuple of 13 parts.
-pub type ArchivedTuple13<A, B, C, D, E, F, G, H, I, J, K, L, M> = ArchivedTuple<
-    (
-        A,
-        (B, (C, (D, (E, (F, (G, (H, (I, (J, (K, (L, (M, ())))))))))))),
-    ),
->;
+pub type ArchivedTuple13<A, B, C, D, E, F, G, H, I, J, K, L, M> = ArchivedTuple<FourParts<A, B, C, D, FourParts<E, F, G, H, FourParts<I, J, K, L, (M, ())>>>>;

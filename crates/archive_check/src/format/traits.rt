@@ -17,6 +17,7 @@ use crate::self_check::SelfCheck;
 use std::alloc::{Allocator, Global};
 
 mod arrays;
+mod four_parts;
 mod layouts;
 mod leaves;
 mod parts;
@@ -24,6 +25,7 @@ mod phantom;
 mod pointees;
 mod variants;
 
+pub use four_parts::FourParts;
 pub use layouts::{LayoutRaw, layout_of_run};
 pub use parts::{PortableParts, Record, define_record, expr_of_record, size_of_record};
 pub use pointees::PortablePointee;
