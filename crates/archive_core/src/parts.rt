@@ -12,6 +12,8 @@ ghost use Rattle.archive_core.specs.Writing.{Naming};
 ghost use Rattle.archive_write.specs.Written.{GoesOn};
 ghost use Rattle.archive_core.specs.PartsWritten.{PartsPut, PartsUnput, PartsOwned, PartsUnowned, ReadsParts, UnreadParts};
 
+mod four_parts;
+
 use crate::ser::resolve_into;
 use crate::traits::{Archive, Deserialize, Entries, Keys, Portable, PortableParts, Serialize};
 use crate::view::RawView;

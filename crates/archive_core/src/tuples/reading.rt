@@ -53,13 +53,3 @@ impl<A: Archive + Drop, B: Archive + Drop, C: Archive + Drop> FromParts for (A, 
         (a, b, c)
     }
 }
-
-impl<A: Archive + Drop, B: Archive + Drop, C: Archive + Drop, D: Archive + Drop> FromParts
-    for (A, B, C, D) {
-    type Owned = (A, (B, (C, (D, ()))));
-
-    fn from_parts(values: (A, (B, (C, (D, ()))))) -> (A, B, C, D) {
-        let (a, (b, (c, (d, ())))) = values;
-        (a, b, c, d)
-    }
-}

@@ -14,7 +14,9 @@ use crate::parts::{PartOf, SerializeParts, SourceParts};
 use crate::place::Place;
 use crate::record::{resolve_record, serialize_record};
 use crate::ser::serialize_one;
-use crate::traits::{Archive, ArchiveUnsized, Keys, Portable, Serialize, SerializeUnsized};
+use crate::traits::{
+    Archive, ArchiveUnsized, FourParts, Keys, Portable, Serialize, SerializeUnsized,
+};
 use archive_check::format::error::Error;
 use archive_tuple::ArchivedTuple;
 use archive_write::ser::{ResolverAlloc, Writer};
@@ -105,10 +107,17 @@ impl<
     E: Archive + Drop,
     F: Archive + Drop,
 > FromParts for (A, B, C, D, E, F) {
-    type Owned = (A, (B, (C, (D, (E, (F, ()))))));
+    type Owned = FourParts<A, B, C, D, (E, (F, ()))>;
 
-    fn from_parts(values: (A, (B, (C, (D, (E, (F, ()))))))) -> (A, B, C, D, E, F) {
-        let (a, (b, (c, (d, (e, (f, ())))))) = values;
+    fn from_parts(values: Self::Owned) -> (A, B, C, D, E, F) {
+        let FourParts {
+            first: a,
+            second: b,
+            third: c,
+            fourth: d,
+            rest,
+        } = values;
+        let (e, (f, ())) = rest;
         (a, b, c, d, e, f)
     }
 }

@@ -4,7 +4,9 @@ use archive_core::api::{HighSerializer, access, access_mut, from_bytes, to_bytes
 use archive_core::error::Error;
 use archive_core::primitive::{ArchivedI32, ArchivedU16, ArchivedU32};
 use archive_core::traits::{Archive, Deserialize, Portable, Record, Serialize};
-use archive_tuple::{ArchivedTuple1, ArchivedTuple3, ArchivedTuple5};
+use archive_tuple::{
+    ArchivedTuple1, ArchivedTuple3, ArchivedTuple5, ArchivedTuple7, ArchivedTuple11, ArchivedTuple13,
+};
 use std::alloc::Global;
 use std::test::Fail;
 
@@ -17,6 +19,51 @@ type Numbers = ArchivedTuple3<ArchivedI32, bool, ArchivedU32>;
 const FIVE: &[u8] = b"\x01\0\0\0\x02\0\0\0\x01\0\x03\0\x04\0\0\0";
 
 type Five = ArchivedTuple5<u8, ArchivedU32, bool, ArchivedU16, u8>;
+
+// The tuple (1, 2, true, 3, 4, 5, 6): a `u8`, a `u32` at 4, a `bool` at 8, a `u16` at 10, a `u8` at 12, one at 13 and a `u32` at 16.
+const SEVEN: &[u8] = b"\x01\0\0\0\x02\0\0\0\x01\0\x03\0\x04\x05\0\0\x06\0\0\0";
+
+type Seven = ArchivedTuple7<u8, ArchivedU32, bool, ArchivedU16, u8, u8, ArchivedU32>;
+
+// The tuple (1, 2, 3, 4, true, 5, 6, 7, 8, 9, 10): a `u8`, a `u16` at 2, a `u8` at 4, a `u32` at 8, a `bool` at 12, a `u8` at 13, a `u16` at 14, a `u8` at
+// 16, one at 17, a `u16` at 18 and a `u8` at 20, and zeros up to a multiple of 4.
+const ELEVEN: &[u8] = b"\x01\0\x02\0\x03\0\0\0\x04\0\0\0\x01\x05\x06\0\x07\x08\x09\0\x0a\0\0\0";
+
+type Eleven = ArchivedTuple11<
+    u8,
+    ArchivedU16,
+    u8,
+    ArchivedU32,
+    bool,
+    u8,
+    ArchivedU16,
+    u8,
+    u8,
+    ArchivedU16,
+    u8,
+>;
+
+// The tuple (1, 2, true, 3, 4, 5, 6, 7, 8, 9, 10, false, 11): a `u8`, one at 1, a `bool` at 2, a `u8` at 3, a `u32` at 4, a `u8` at 8, one at 9, a `u16` at
+// 10, a `u8` at 12, a `u16` at 14, a `u8` at 16, a `bool` at 17 and a `u32` at 20.
+const THIRTEEN: &[u8] = b"\x01\x02\x01\x03\x04\0\0\0\x05\x06\x07\0\x08\0\x09\0\x0a\0\0\0\x0b\0\0\0";
+
+type NativeThirteen = (u8, u8, bool, u8, u32, u8, u8, u16, u8, u16, u8, bool, u32);
+
+type Thirteen = ArchivedTuple13<
+    u8,
+    u8,
+    bool,
+    u8,
+    ArchivedU32,
+    u8,
+    u8,
+    ArchivedU16,
+    u8,
+    ArchivedU16,
+    u8,
+    bool,
+    ArchivedU32,
+>;
 
 // Whether a value is written as these bytes, and read back from them.
 fn goes_there_and_back<T: Serialize<HighSerializer<Vec<u8>, Global>> + PartialEq + Drop>(
@@ -88,6 +135,38 @@ fn a_tuple_of_six_is_written(rt: HostRuntime) -> Result<(), Fail> {
     let six: (u8, u8, bool, u8, u8, u8) = (1, 2, true, 3, 4, 5);
     let bytes = archived(rt.alloc(), &six)?;
     assert_eq!(rt; bytes.as_slice(), b"\x01\x02\x01\x03\x04\x05".as_slice());
+    Ok(())
+}
+
+#[test]
+fn a_tuple_of_seven_is_written_viewed_and_read_back(rt: HostRuntime) -> Result<(), Fail> {
+    let seven: (u8, u32, bool, u16, u8, u8, u32) = (1, 2, true, 3, 4, 5, 6);
+    assert!(rt; goes_there_and_back(rt.alloc(), &seven, SEVEN)?);
+    let view = access::<Seven>(rt.alloc(), SEVEN)?;
+    assert_eq!(rt; view.field::<ArchivedU32>(6).get(), 6);
+    Ok(())
+}
+
+#[test]
+fn a_tuple_of_eleven_is_written_viewed_and_read_back(rt: HostRuntime) -> Result<(), Fail> {
+    let eleven: (u8, u16, u8, u32, bool, u8, u16, u8, u8, u16, u8) =
+        (1, 2, 3, 4, true, 5, 6, 7, 8, 9, 10);
+    assert!(rt; goes_there_and_back(rt.alloc(), &eleven, ELEVEN)?);
+    let view = access::<Eleven>(rt.alloc(), ELEVEN)?;
+    assert_eq!(rt; view.field::<ArchivedU16>(9).get(), 9);
+    Ok(())
+}
+
+#[test]
+fn a_tuple_of_thirteen_is_written_viewed_and_read_back(rt: HostRuntime) -> Result<(), Fail> {
+    let thirteen: NativeThirteen = (1, 2, true, 3, 4, 5, 6, 7, 8, 9, 10, false, 11);
+    assert_eq!(rt; archived(rt.alloc(), &thirteen)?.as_slice(), THIRTEEN);
+    let back: NativeThirteen = from_bytes(rt.alloc(), THIRTEEN, &mut ())?;
+    let (a, b, c, d, e, f, g, h, i, j, k, l, m) = back;
+    assert_eq!(rt; (a, b, c, d, e, f, g), (1, 2, true, 3, 4, 5, 6));
+    assert_eq!(rt; (h, i, j, k, l, m), (7, 8, 9, 10, false, 11));
+    let view = access::<Thirteen>(rt.alloc(), THIRTEEN)?;
+    assert_eq!(rt; view.field::<ArchivedU32>(12).get(), 11);
     Ok(())
 }
 
