@@ -116,7 +116,7 @@ impl<N: NamedRecord> Record for ArchivedRecord<N> {
 
 /// A record that is made of the values of its parts when it is read back.
 pub trait FromParts: Archive {
-    /// The values, nested pair by pair: `(a, (b, ()))`.
+    /// The values, nested as the parts are: `(a, (b, ()))` for two.
     type Owned: OwnedParts;
 
     /// The record of these values. It means just what they mean, in order.

@@ -34,7 +34,7 @@ pub trait PartOf<T> {
         ensures { result.now ≡ part whole.now };
 }
 
-/// Parts of a `T` one after another, as sources: `()`, or `(A, R)` for a part `A` and then those of `R`.
+/// Parts of a `T` one after another, as sources: `()`, or `(A, R)` for a part `A` and then those of `R`, or four at once by `FourParts`.
 pub trait SourceParts<T> {
     /// The archived types.
     type Archived: PortableParts;
@@ -180,7 +180,7 @@ where
     }
 }
 
-/// Values one after another, as they are read back: `()`, or `(a, rest)` for a value `a` and then those of `rest`.
+/// Values one after another, as they are read back: `()`, or `(a, rest)` for a value `a` and then those of `rest`, or four at once in a `FourParts`.
 pub trait OwnedParts {
     // What they mean.
     ghost meanings: { Self → Values };

@@ -99,22 +99,36 @@ pub type ArchivedTuple5<A, B, C, D, E> = ArchivedTuple<FourParts<A, B, C, D, (E,
 pub type ArchivedTuple6<A, B, C, D, E, F> = ArchivedTuple<FourParts<A, B, C, D, (E, (F, ()))>>;
 
 /// An archived tuple of 7 parts.
-pub type ArchivedTuple7<A, B, C, D, E, F, G> = ArchivedTuple<FourParts<A, B, C, D, (E, (F, (G, ())))>>;
+pub type ArchivedTuple7<A, B, C, D, E, F, G> = ArchivedTuple<
+    FourParts<A, B, C, D, (E, (F, (G, ())))>,
+>;
 
 /// An archived tuple of 8 parts.
-pub type ArchivedTuple8<A, B, C, D, E, F, G, H> = ArchivedTuple<FourParts<A, B, C, D, FourParts<E, F, G, H, ()>>>;
+pub type ArchivedTuple8<A, B, C, D, E, F, G, H> = ArchivedTuple<
+    FourParts<A, B, C, D, FourParts<E, F, G, H, ()>>,
+>;
 
 /// An archived tuple of 9 parts.
-pub type ArchivedTuple9<A, B, C, D, E, F, G, H, I> = ArchivedTuple<FourParts<A, B, C, D, FourParts<E, F, G, H, (I, ())>>>;
+pub type ArchivedTuple9<A, B, C, D, E, F, G, H, I> = ArchivedTuple<
+    FourParts<A, B, C, D, FourParts<E, F, G, H, (I, ())>>,
+>;
 
 /// An archived tuple of 10 parts.
-pub type ArchivedTuple10<A, B, C, D, E, F, G, H, I, J> = ArchivedTuple<FourParts<A, B, C, D, FourParts<E, F, G, H, (I, (J, ()))>>>;
+pub type ArchivedTuple10<A, B, C, D, E, F, G, H, I, J> = ArchivedTuple<
+    FourParts<A, B, C, D, FourParts<E, F, G, H, (I, (J, ()))>>,
+>;
 
 /// An archived tuple of 11 parts.
-pub type ArchivedTuple11<A, B, C, D, E, F, G, H, I, J, K> = ArchivedTuple<FourParts<A, B, C, D, FourParts<E, F, G, H, (I, (J, (K, ())))>>>;
+pub type ArchivedTuple11<A, B, C, D, E, F, G, H, I, J, K> = ArchivedTuple<
+    FourParts<A, B, C, D, FourParts<E, F, G, H, (I, (J, (K, ())))>>,
+>;
 
 /// An archived tuple of 12 parts.
-pub type ArchivedTuple12<A, B, C, D, E, F, G, H, I, J, K, L> = ArchivedTuple<FourParts<A, B, C, D, FourParts<E, F, G, H, FourParts<I, J, K, L, ()>>>>;
+pub type ArchivedTuple12<A, B, C, D, E, F, G, H, I, J, K, L> = ArchivedTuple<
+    FourParts<A, B, C, D, FourParts<E, F, G, H, FourParts<I, J, K, L, ()>>>,
+>;
 
 /// An archived tuple of 13 parts.
-pub type ArchivedTuple13<A, B, C, D, E, F, G, H, I, J, K, L, M> = ArchivedTuple<FourParts<A, B, C, D, FourParts<E, F, G, H, FourParts<I, J, K, L, (M, ())>>>>;
+pub type ArchivedTuple13<A, B, C, D, E, F, G, H, I, J, K, L, M> = ArchivedTuple<
+    FourParts<A, B, C, D, FourParts<E, F, G, H, FourParts<I, J, K, L, (M, ())>>>,
+>;

@@ -18,7 +18,7 @@ use crate::format::traits::Portable;
 use crate::plan::extents::offset_of;
 use std::marker::PhantomData;
 
-/// Parts that are checked one behind another: `()`, or `(A, R)` for an `A` and then the parts of `R`.
+/// Parts that are checked one behind another: `()`, or `(A, R)` for an `A` and then the parts of `R`, or four at once by `FourParts`.
 pub trait CheckedParts {
     // What they are.
     ghost parts: { Parts };

@@ -5,7 +5,8 @@ use archive_core::error::Error;
 use archive_core::primitive::{ArchivedI32, ArchivedU16, ArchivedU32};
 use archive_core::traits::{Archive, Deserialize, Portable, Record, Serialize};
 use archive_tuple::{
-    ArchivedTuple1, ArchivedTuple3, ArchivedTuple5, ArchivedTuple7, ArchivedTuple11, ArchivedTuple13,
+    ArchivedTuple1, ArchivedTuple3, ArchivedTuple5, ArchivedTuple7, ArchivedTuple11,
+    ArchivedTuple13,
 };
 use std::alloc::Global;
 use std::test::Fail;
@@ -149,8 +150,9 @@ fn a_tuple_of_seven_is_written_viewed_and_read_back(rt: HostRuntime) -> Result<(
 
 #[test]
 fn a_tuple_of_eleven_is_written_viewed_and_read_back(rt: HostRuntime) -> Result<(), Fail> {
-    let eleven: (u8, u16, u8, u32, bool, u8, u16, u8, u8, u16, u8) =
-        (1, 2, 3, 4, true, 5, 6, 7, 8, 9, 10);
+    let eleven: (u8, u16, u8, u32, bool, u8, u16, u8, u8, u16, u8) = (
+        1, 2, 3, 4, true, 5, 6, 7, 8, 9, 10,
+    );
     assert!(rt; goes_there_and_back(rt.alloc(), &eleven, ELEVEN)?);
     let view = access::<Eleven>(rt.alloc(), ELEVEN)?;
     assert_eq!(rt; view.field::<ArchivedU16>(9).get(), 9);

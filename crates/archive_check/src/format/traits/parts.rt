@@ -17,8 +17,8 @@ use crate::plan::extents::multiple_of;
 use crate::self_check::CheckedParts;
 use std::alloc::Global;
 
-/// The parts of a record, laid out one behind another: `()`, or `(A, R)` for an `A` and then the parts of `R`. Our own, so that the layout and the
-/// definitions of every record, tuple and variant are told by one logic.
+/// The parts of a record, laid out one behind another: `()`, or `(A, R)` for an `A` and then the parts of `R`, or four at once by `FourParts`. Our own,
+/// so that the layout and the definitions of every record, tuple and variant are told by one logic.
 pub trait PortableParts: CheckedParts {
     // The greatest alignment.
     ghost greatest: { ℕ };
