@@ -47,17 +47,17 @@ module _ (D : Definitions) (X : Shape) (n : ℕ) (ks : List Naming) (vs : Values
       (λ p x below s names k m. (let q = x below s names k m in record { flat = list q.flats; steps = q.steps; stop = q.stop; plans = plans_array q.plans; such = q.such })) h
 
 -- as many as the type says
-module _ {A : Type 0} (D : Definitions) (X : Shape) (n : ℕ) (k : A → List Naming) (m : A → Value) (xs : List A) (count : length xs ≡ n) (old new : WriterState) where
-  all_there : are xs n ≡ true
-  all_there = subst (λ c. are xs c ≡ true) count (they_are xs)
+pub all_there : {A : Type 0} (xs : List A) (n : ℕ) → length xs ≡ n → are xs n ≡ true
+all_there xs n count = subst (λ c. are xs c ≡ true) count (they_are xs)
 
+module _ {A : Type 0} (D : Definitions) (X : Shape) (n : ℕ) (k : A → List Naming) (m : A → Value) (xs : List A) (count : length xs ≡ n) (old new : WriterState) where
   pub serialized_array : (flats : Values) → SerializedRun D X (length xs) (each_keys k xs) (each_meaning m xs) flats old new
       → Serialized D (array n X) (array_keys n k xs) (array_meaning n m xs) (list flats) old new
-  serialized_array flats h = subst (λ c. Serialized D (array n X) (keys_if c (each_keys k xs)) (value_if c (list (each_meaning m xs))) (list flats) old new) (sym all_there)
+  serialized_array flats h = subst (λ c. Serialized D (array n X) (keys_if c (each_keys k xs)) (value_if c (list (each_meaning m xs))) (list flats) old new) (sym (all_there xs n count))
       (serialized_list D X n (each_keys k xs) (each_meaning m xs) old new flats (subst (λ c. SerializedRun D X c (each_keys k xs) (each_meaning m xs) flats old new) count h))
 
   pub array_refused : (e : Error) → IsRunRefused D X (length xs) (each_keys k xs) (each_meaning m xs) old new e → IsRefused D (array n X) (array_keys n k xs) (array_meaning n m xs) old new e
-  array_refused e h = subst (λ c. IsRefused D (array n X) (keys_if c (each_keys k xs)) (value_if c (list (each_meaning m xs))) old new e) (sym all_there)
+  array_refused e h = subst (λ c. IsRefused D (array n X) (keys_if c (each_keys k xs)) (value_if c (list (each_meaning m xs))) old new e) (sym (all_there xs n count))
       (list_refused D X n (each_keys k xs) (each_meaning m xs) old new e (subst (λ c. IsRunRefused D X c (each_keys k xs) (each_meaning m xs) old new e) count h))
 
 -- the bytes of elements, one in front of others

@@ -1,15 +1,18 @@
-//! Arrays: elements one behind another, where they lie. As sources they are written element by element.
+//! Arrays: elements one behind another, where they lie. As sources they are written element by element, and so they are read back.
 
 ghost use Rattle.std.specs.Prelude.{◌≡◌, ◌+◌, ◌-◌, ◌*◌, ◌<◌, ◌↔◌, IfSome, IsSome, IsTrue};
 ghost use Rattle.archive_check.specs.Shape.{one};
 ghost use Rattle.archive_core.specs.Seen.{ShowsPartOf, elements_between, elements_of};
 ghost use Rattle.archive_core.specs.Views.{element_in};
 
+mod owned;
+mod reading;
 mod sources;
 
 use crate::slice::Iter;
 use crate::traits::Portable;
 use crate::view::{RawView, Ref};
+pub use owned::OwnedArray;
 
 impl<'a, T: Portable, const N: usize> Ref<'a, [T; N]> {
     /// How many elements there are: as many as the type says.

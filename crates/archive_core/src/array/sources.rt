@@ -17,7 +17,7 @@ use archive_write::ser::{ResolverAlloc, Writer};
 use std::alloc::Global;
 
 // Resolves each of the values, in order, over the bytes of all of them, which stand at `pos`. Asks for zeros there, and for a resolver of each value.
-fn resolve_elements<T: Archive>(
+pub(super) fn resolve_elements<T: Archive>(
     values: &[T],
     resolvers: Vec<T::Resolver>,
     pos: usize,
