@@ -12,6 +12,7 @@ use Rattle.archive_check.specs.Pooled.{Entries}
 use Rattle.archive_check.specs.Entries.{ReadsBack, RefusesReading}
 use Rattle.archive_check.proofs.ReadParts.{IsPart, ReadFirst, none_read, one_more_read, each, elements_read_back, element_cyclic, run_elements, run_element, array_elements, array_element}
 use Rattle.archive_core.specs.Runs.{each_meaning, each_keys}
+use Rattle.archive_core.specs.Sources.{AreAllOf}
 use Rattle.archive_core.specs.Arrays.{value_if, keys_if, array_meaning, array_keys}
 use Rattle.archive_core.proofs.Arrays.{all_there}
 
@@ -33,11 +34,9 @@ abbrev pub FirstElements : {A : Type 0} → Definitions → Shape → Layout →
 FirstElements D X L bytes q P n meaning keys old new items = ReadFirst D bytes q P n (λ k. q + k * L.size) (λ k. X) old new meaning items (each_keys keys items)
 
 module _ (D : Definitions) (X : Shape) (L : Layout) (laid : HasLayout D X L) (bytes : List ℕ) (q : ℕ) where
-  pub run_has : (n : ℕ) → HasElements D X L bytes q (run X) n n
-  run_has n = record { all = run_elements D bytes q X L laid L.size refl n; element = run_element D bytes q X L laid L.size refl n }
-
-  pub array_has : (m n : ℕ) → HasElements D X L bytes q (one (array m X)) n m
-  array_has m n = record { all = array_elements D bytes q X L laid L.size refl m n; element = array_element D bytes q X L laid L.size refl m n }
+  pub all_have : (n : ℕ) (P : Pointee) (m : ℕ) → AreAllOf X n P m → HasElements D X L bytes q P m n
+  all_have n P m (inl h) = rw (h.0, h.1) (record { all = run_elements D bytes q X L laid L.size refl n; element = run_element D bytes q X L laid L.size refl n })
+  all_have n P m (inr h) = rw h (record { all = array_elements D bytes q X L laid L.size refl n m; element = array_element D bytes q X L laid L.size refl n m })
 
   module _ (P : Pointee) (n count : ℕ) (has : HasElements D X L bytes q P n count) {A : Type 0} (meaning : A → Value) (keys : A → List Naming) (old : Entries) where
     pub elements_none : FirstElements D X L bytes q P n meaning keys old old []
@@ -59,8 +58,8 @@ module _ (D : Definitions) (X : Shape) (L : Layout) (laid : HasLayout D X L) (by
         (λ c. inr (c.0, element_cyclic D bytes q X L laid L.size refl P n count has.all has.element old mid i h.kept below (rw is at c.1)))
         r
 
-    -- of as many as an array has
-    pub array_all : (new : Entries) (items : List A) → length items ≡ count → FirstElements D X L bytes q P n meaning keys old new items
-        → ReadsBack D bytes q P n old new (array_meaning count meaning items) (array_keys count keys items)
-    array_all new items whole h = subst (λ c. ReadsBack D bytes q P n old new (value_if c (list (each_meaning meaning items))) (keys_if c (each_keys keys items)))
-        (sym (all_there items count whole)) (elements_all new items whole h)
+-- of an array there are as many as its type says
+pub array_read : {A : Type 0} (D : Definitions) (bytes : List ℕ) (q : ℕ) (P : Pointee) (m n : ℕ) (meaning : A → Value) (keys : A → List Naming) (old new : Entries) (items : List A) → length items ≡ n
+    → ReadsBack D bytes q P m old new (list (each_meaning meaning items)) (each_keys keys items) → ReadsBack D bytes q P m old new (array_meaning n meaning items) (array_keys n keys items)
+array_read D bytes q P m n meaning keys old new items whole h =
+    subst (λ c. ReadsBack D bytes q P m old new (value_if c (list (each_meaning meaning items))) (keys_if c (each_keys keys items))) (sym (all_there items n whole)) h

@@ -10,7 +10,7 @@ ghost use Rattle.archive_core.specs.Writing.{Fresh};
 use super::sources::resolve_elements;
 use crate::place::Place;
 use crate::slice::serialize_each;
-use crate::traits::{Archive, Portable, Serialize};
+use crate::traits::{Archive, CopyOptimization, Keys, Portable, Serialize};
 use archive_check::format::error::Error;
 use archive_write::ser::{ResolverAlloc, Writer};
 use std::alloc::Global;
@@ -102,6 +102,22 @@ impl<T: Archive, const N: usize> Archive for OwnedArray<T, N> {
     {
         let Place { bytes, pos, .. } = place;
         resolve_elements(self.as_slice(), resolver, pos, bytes)
+    }
+
+    // Each has its elements in memory of its own, so there is nothing to copy in one piece.
+    #[inline(always)]
+    fn copy_optimization() -> CopyOptimization<OwnedArray<T, N>> {
+        CopyOptimization::disable()
+    }
+
+    #[tactic(auto, using(crate::proofs::Causes::goes_nowhere))]
+    #[inline(always)]
+    fn serialize_copied<S: Writer + Keys>(
+        _values: &[OwnedArray<T, N>],
+        _together: usize,
+        _serializer: &mut S,
+    ) -> Result<Option<usize>, Error> {
+        Ok(None)
     }
 }
 

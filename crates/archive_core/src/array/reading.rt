@@ -5,8 +5,9 @@ ghost use Rattle.archive_core.specs.Seen.{IsPartOf, RefusesPart};
 ghost use Rattle.archive_core.specs.Sources.{Read};
 
 use super::owned::OwnedArray;
+use crate::slice::read_each;
 use crate::traits::{Archive, ArchivePointee, Deserialize, Entries, Portable};
-use crate::view::{RawView, Ref};
+use crate::view::RawView;
 use archive_check::format::error::Error;
 use std::alloc::Global;
 
@@ -23,12 +24,7 @@ impl<T: Portable + Deserialize<U, D>, U: Archive + Drop, D: Entries, const N: us
         ensures read { IfOk result (Read ⟦<Self as ArchivePointee>⟧ part D.Entries deserializer ⟦<OwnedArray<U, N> as Archive>⟧) }
         ensures refused { IfErr result (RefusesPart ⟦<Self as ArchivePointee>⟧ part D.Entries deserializer) }
     {
-        let array: Ref<'_, [T; N]> = Ref::at(part);
-        let mut items = Vec::with_capacity(alloc, N)?;
-        for index in 0..N {
-            let item = T::deserialize_part(alloc, array.index(index).part(), deserializer)?;
-            items.push_reserved(item);
-        }
+        let items = read_each::<T, U, D>(alloc, part, N, deserializer)?;
         Ok(OwnedArray { items })
     }
 }

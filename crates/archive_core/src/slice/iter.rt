@@ -2,6 +2,7 @@
 
 ghost use Rattle.std.specs.Prelude.{◌≡◌, ◌+◌, ◌*◌, ◌-◌, ◌≤◌, ◌<◌};
 ghost use Rattle.std.specs.Iterator.{YieldsFirstBy, YieldsLastBy, item_count};
+ghost use Rattle.archive_check.specs.Viewed.{Viewed};
 ghost use Rattle.archive_core.specs.Seen.{elements_between, elements_shown, first_elements, shown};
 ghost use Rattle.archive_core.specs.Views.{AreViewed};
 
@@ -20,6 +21,23 @@ pub struct Iter<'a, T: Portable> {
     of: PhantomData<T>,
     ghost valid: { AreViewed T.definitions slice.bytes.now slice.pos T.layout.size T.pointee back },
     ghost order: { front ≤ back },
+}
+
+// The element `index` of those that stand at the position of `part`, one behind another.
+#[inline(always)]
+pub(super) fn element_at<'a, T: Portable>(part: RawView<'a>, index: usize) -> Ref<'a, T>
+    requires { Viewed T.definitions part.bytes.now (part.pos + index * T.layout.size) T.pointee 0 }
+    ensures buffer { result.bytes.now ≡ part.entry.bytes.now }
+    ensures position { result.pos ≡ part.entry.pos + index * T.layout.size }
+    ensures length { result.len ≡ 0 }
+{
+    let RawView { bytes, pos, .. } = part;
+    prove!(bytes.len() <= usize::MAX);
+    Ref::at(RawView {
+        bytes,
+        pos: pos + index * T::size(),
+        len: 0,
+    })
 }
 
 impl<'a, T: Portable> Iter<'a, T> {
@@ -43,13 +61,7 @@ impl<'a, T: Portable> Iter<'a, T> {
         ensures position { result.pos ≡ self.now.slice.pos + index * T.layout.size }
         ensures length { result.len ≡ 0 }
     {
-        let RawView { bytes, pos, .. } = self.slice;
-        prove!(bytes.len() <= usize::MAX);
-        Ref::at(RawView {
-            bytes,
-            pos: pos + index * T::size(),
-            len: 0,
-        })
+        element_at(self.slice, index)
     }
 }
 
