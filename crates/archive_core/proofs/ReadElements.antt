@@ -1,5 +1,5 @@
 -- Elements are read back one after another: what a loop over them keeps, and what it comes to, whether they are a run or an array.
-use Rattle.std.proofs.Common.{◌≡◌, ◌≢◌, inl, inr, ⊎_elim, ℕ, ◌+◌, ◌*◌, ◌<◌, List, [], ◌∷◌, ◌++◌, length, arith, refl, sym, ap, subst, ◌∙◌, append-nil, append_assoc}
+use Rattle.std.proofs.Common.{◌≡◌, Result, Ok, Err, IfOk, inl, inr, ⊎_elim, ℕ, ◌+◌, ◌*◌, ◌<◌, List, [], ◌∷◌, ◌++◌, length, arith, refl, sym, ap, subst, ◌∙◌, append-nil, append_assoc}
 use Rattle.archive_check.specs.declared.format.error.Error.{Error}
 use Rattle.archive_check.specs.Shape.{Shape, array, Pointee, one, run}
 use Rattle.archive_check.specs.Layout.{Layout}
@@ -63,3 +63,8 @@ pub array_read : {A : Type 0} (D : Definitions) (bytes : List ℕ) (q : ℕ) (P 
     → ReadsBack D bytes q P m old new (list (each_meaning meaning items)) (each_keys keys items) → ReadsBack D bytes q P m old new (array_meaning n meaning items) (array_keys n keys items)
 array_read D bytes q P m n meaning keys old new items whole h =
     subst (λ c. ReadsBack D bytes q P m old new (value_if c (list (each_meaning meaning items))) (keys_if c (each_keys keys items))) (sym (all_there items n whole)) h
+
+-- in a contract's form
+pub ok_from : {A : Type 0} {P Q : A → Type 0} (r : Result A Error) → IfOk r P → ((a : A) → P a → Q a) → IfOk r Q
+ok_from (Ok a) h f = f a h
+ok_from (Err e) h f = tt
