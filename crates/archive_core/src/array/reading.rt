@@ -12,8 +12,10 @@ use archive_check::format::error::Error;
 use std::alloc::Global;
 
 /// As an `OwnedArray`, where rkyv 0.8.18 gives the array. The elements take their memory at once.
-impl<T: Portable + Deserialize<U, D>, U: Archive + Drop, D: Entries, const N: usize>
-    Deserialize<OwnedArray<U, N>, D> for [T; N] {
+impl<T: Portable + Deserialize<U, D>, U: Archive + Drop, D: Entries, const N: usize> Deserialize<
+    OwnedArray<U, N>,
+    D,
+> for [T; N] {
     #[inline(always)]
     fn deserialize_part(
         alloc: Global,

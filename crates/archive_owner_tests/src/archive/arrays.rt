@@ -1,13 +1,30 @@
 // Arrays.
 
-use archive_core::api::{HighValidator, access, access_mut, to_bytes};
+use archive_core::api::{HighSerializer, HighValidator, access, access_mut, from_bytes, to_bytes};
+use archive_core::array::OwnedArray;
+use archive_core::error::Error;
 use archive_core::primitive::ArchivedU16;
 use archive_core::shape::Schema;
 use archive_core::string::ArchivedString;
+use archive_core::traits::{Deserialize, Serialize};
+use std::alloc::Global;
 use std::test::Fail;
 
 // The array of the texts "hi" and "".
 const TEXTS: &[u8] = b"hi\xff\xff\xff\xff\xff\xff\xff\xff\xff\xff\xff\xff\xff\xff";
+
+// What is read back from these bytes, and what that is written as again.
+fn read_and_written<T: Serialize<HighSerializer<Vec<u8>, Global>> + Drop>(
+    alloc: Global,
+    bytes: &[u8],
+) -> Result<(T, Vec<u8>), Error>
+where
+    T::Archived: Deserialize<T, ()>,
+{
+    let back: T = from_bytes(alloc, bytes, &mut ())?;
+    let written = to_bytes(alloc, &back)?;
+    Ok((back, written))
+}
 
 #[test]
 fn arrays_have_their_elements(rt: HostRuntime) -> Result<(), Fail> {
@@ -68,5 +85,60 @@ fn an_element_is_written_over(rt: HostRuntime) -> Result<(), Fail> {
     let numbers = access_mut::<[ArchivedU16; 3]>(rt.alloc(), &mut bytes)?;
     numbers.index(1).write(258);
     assert_eq!(rt; bytes, [1, 0, 2, 1, 3, 0]);
+    Ok(())
+}
+
+#[test]
+fn an_array_of_numbers_comes_back(rt: HostRuntime) -> Result<(), Fail> {
+    let bytes = b"\x01\0\0\0\x02\0\0\0\x03\0\0\0".as_slice();
+    let (numbers, written) = read_and_written::<OwnedArray<u32, 3>>(rt.alloc(), bytes)?;
+    assert_eq!(rt; numbers.as_slice(), [1, 2, 3].as_slice());
+    assert_eq!(rt; written.as_slice(), bytes);
+    Ok(())
+}
+
+#[test]
+fn an_array_of_texts_comes_back(rt: HostRuntime) -> Result<(), Fail> {
+    let (texts, written) = read_and_written::<OwnedArray<String, 2>>(rt.alloc(), TEXTS)?;
+    assert_eq!(rt; texts.as_slice()[0].as_str(), "hi");
+    assert_eq!(rt; texts.as_slice()[1].as_str(), "");
+    assert_eq!(rt; written.as_slice(), TEXTS);
+    Ok(())
+}
+
+#[test]
+fn an_array_of_arrays_comes_back(rt: HostRuntime) -> Result<(), Fail> {
+    let bytes = b"\x01\0\x02\0\x03\0\x04\0".as_slice();
+    let (rows, written) = read_and_written::<OwnedArray<OwnedArray<u16, 2>, 2>>(rt.alloc(), bytes)?;
+    assert_eq!(rt; rows.as_slice()[0].as_slice(), [1, 2].as_slice());
+    assert_eq!(rt; rows.as_slice()[1].as_slice(), [3, 4].as_slice());
+    assert_eq!(rt; written.as_slice(), bytes);
+    Ok(())
+}
+
+#[test]
+fn an_array_of_none_comes_back(rt: HostRuntime) -> Result<(), Fail> {
+    let (none, written) = read_and_written::<OwnedArray<u32, 0>>(rt.alloc(), b"")?;
+    assert!(rt; none.as_slice().is_empty());
+    assert!(rt; written.is_empty());
+    Ok(())
+}
+
+#[test]
+fn an_array_in_a_tuple_comes_back(rt: HostRuntime) -> Result<(), Fail> {
+    let bytes = b"\x07\0\x01\0\x02\0".as_slice();
+    let (pair, written) = read_and_written::<(u8, OwnedArray<u16, 2>)>(rt.alloc(), bytes)?;
+    assert_eq!(rt; pair.0, 7);
+    assert_eq!(rt; pair.1.as_slice(), [1, 2].as_slice());
+    assert_eq!(rt; written.as_slice(), bytes);
+    Ok(())
+}
+
+#[test]
+fn an_owned_array_has_as_many_as_it_says(rt: HostRuntime) -> Result<(), Fail> {
+    let two = OwnedArray::<u32, 2>::from_vec(vec![in rt.alloc(); 1, 2]?);
+    assert_eq!(rt; two.map(|numbers| numbers.into_array()), Some([1, 2]));
+    let three = OwnedArray::<u32, 3>::from_vec(vec![in rt.alloc(); 1, 2]?);
+    assert!(rt; three.is_none());
     Ok(())
 }

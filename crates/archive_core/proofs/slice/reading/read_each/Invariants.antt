@@ -11,4 +11,4 @@ invariant-loop-index g l =
     × (vec_len l.items ≡ l.index)
     × (l.count ≤ vec_capacity l.items)
     × ((P : Pointee) (m : ℕ) → AreAllOf g.T.Portable.shape l.count P m → FirstElements g.T.ArchivePointee.definitions g.T.Portable.shape g.T.Portable.layout l.part.bytes.now l.part.pos P m
-        g.U.Archive.meaning g.U.Archive.keys (g.D.Entries.entry_of l.fn.deserializer) (g.D.Entries.entry_of l.deserializer) l.items.items)
+    g.U.Archive.meaning g.U.Archive.keys (g.D.Entries.entry_of l.fn.deserializer) (g.D.Entries.entry_of l.deserializer) l.items.items)
