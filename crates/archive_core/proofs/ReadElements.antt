@@ -12,7 +12,7 @@ use Rattle.archive_check.specs.Pooled.{Entries}
 use Rattle.archive_check.specs.Entries.{ReadsBack, RefusesReading}
 use Rattle.archive_check.proofs.ReadParts.{IsPart, ReadFirst, none_read, one_more_read, each, elements_read_back, element_cyclic, run_elements, run_element, array_elements, array_element}
 use Rattle.archive_core.specs.Runs.{each_meaning, each_keys}
-use Rattle.archive_core.specs.Sources.{AreAllOf}
+use Rattle.archive_core.specs.ElementsRead.{AreAllOf}
 use Rattle.archive_core.specs.Arrays.{value_if, keys_if, array_meaning, array_keys}
 use Rattle.archive_core.proofs.Arrays.{all_there}
 

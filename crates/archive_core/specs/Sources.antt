@@ -1,9 +1,9 @@
 -- What is said of the writing of a source, and of what is read back as one.
 use denote.Triple.Both.{Both}
 use denote.Ref.{MutBor}
-use Rattle.std.specs.Prelude.{◌≡◌, ◌⊎◌, Option, ℕ, List, length}
+use Rattle.std.specs.Prelude.{Option, ℕ, List, length}
 use Rattle.archive_check.specs.Entries.{ReadsBack, RefusesReading}
-use Rattle.archive_check.specs.Shape.{Shape, Pointee, array, boxed, one, run}
+use Rattle.archive_check.specs.Shape.{boxed, one, run}
 use Rattle.archive_check.specs.Value.{list, box, hole}
 use Rattle.archive_check.specs.Viewed.{Viewed}
 use Rattle.archive_check.specs.declared.format.error.Error.{Error}
@@ -40,19 +40,6 @@ ReadsElements f p d b a xs =
 
 abbrev pub RefusesElements : {M D E : Type 0} → FormatOf M → Both RawView E → Entries.Ghosts D → Both (MutBor D) (MutBor D) → Error → Type 0
 RefusesElements f p d b e = RefusesReading f.definitions p.entry.bytes.now p.entry.pos (run f.shape) p.entry.len (d.entry_of b.entry.now) e
-
--- so many elements, one behind another, are this, of this length: a run, or an array
-abbrev pub AreAllOf : Shape → ℕ → Pointee → ℕ → Type 0
-AreAllOf X n P m = ((P ≡ run X) × (m ≡ n)) ⊎ (P ≡ one (array n X))
-
--- what was read back of so many, whichever they are, and why it wasn't
-abbrev pub ReadsEach : {M T A R N C D E : Type 0} → FormatOf M → ℕ → Both RawView E → Entries.Ghosts D → Both (MutBor D) (MutBor D) → Archive.Ghosts T A R C N → List T → Type 0
-ReadsEach f n p d b a xs =
-    (P : Pointee) (m : ℕ) → AreAllOf f.shape n P m → ReadsBack f.definitions p.entry.bytes.now p.entry.pos P m (d.entry_of b.entry.now) (d.entry_of b.exit.now)
-    (list (each_meaning a.meaning xs)) (each_keys a.keys xs)
-
-abbrev pub RefusesEach : {M D E : Type 0} → FormatOf M → ℕ → Both RawView E → Entries.Ghosts D → Both (MutBor D) (MutBor D) → Error → Type 0
-RefusesEach f n p d b e = (P : Pointee) (m : ℕ) → AreAllOf f.shape n P m → RefusesReading f.definitions p.entry.bytes.now p.entry.pos P m (d.entry_of b.entry.now) e
 
 -- the bytes of the place are clean and read as the value, by its resolver; and what hinders that
 abbrev pub ResolvedAs : {T A R M C F E : Type 0} → Archive.Ghosts T A R C M → FormatOf M → Both (Place F) (MutBor (List ℕ) × E) → T → R → Type 0

@@ -5,9 +5,10 @@ ghost use Rattle.archive_check.specs.Shape.{run};
 ghost use Rattle.archive_check.specs.Value.{list};
 ghost use Rattle.archive_check.specs.Viewed.{Viewed};
 ghost use Rattle.archive_check.specs.Entries.{ReadsBack, RefusesReading};
+ghost use Rattle.archive_core.specs.ElementsRead.{ReadsEach, RefusesEach};
 ghost use Rattle.archive_core.specs.Runs.{each_meaning, each_keys};
 ghost use Rattle.archive_core.specs.Seen.{IsPartOf, RefusesPart};
-ghost use Rattle.archive_core.specs.Sources.{Read, AreElementsOf, ReadsElements, RefusesElements, ReadsEach, RefusesEach};
+ghost use Rattle.archive_core.specs.Sources.{Read, AreElementsOf, ReadsElements, RefusesElements};
 ghost use Rattle.archive_core.specs.Views.{AreViewed};
 
 use super::ArchivedSlice;

@@ -1,7 +1,7 @@
 use Rattle.std.proofs.Common.{◌≡◌, ◌≤◌, ℕ, length}
 use Rattle.std.specs.Vec.{vec_len, vec_capacity}
 use Rattle.archive_check.specs.Shape.{Pointee}
-use Rattle.archive_core.specs.Sources.{AreAllOf}
+use Rattle.archive_core.specs.ElementsRead.{AreAllOf}
 use Rattle.archive_core.proofs.ReadElements.{FirstElements}
 use Rattle.archive_core.proofs.slice.reading.read_each.Given as goal
 
