@@ -1,8 +1,10 @@
 // Commands with what they print and the status that they end with. The words of a command stand between bars.
 
+use crate::assertions::{assert_said, assert_same};
 use crate::command::run;
 use std::alloc::{AllocError, Global};
 use std::io;
+use std::process::Abort;
 use std::test::Fail;
 
 mod nodes;
@@ -28,49 +30,52 @@ pub(crate) fn said(alloc: Global, command: &str) -> Result<(u8, Vec<u8>), AllocE
 #[test]
 fn values_are_written(rt: HostRuntime) -> Result<(), Fail> {
     let rows = [
-        ("write|u32|42", "2a000000\n"),
-        ("write|u32|0042", "2a000000\n"),
-        ("write|u32|4294967295", "ffffffff\n"),
+        ("write|u32|42", 0, "2a000000\n"),
+        ("write|u32|0042", 0, "2a000000\n"),
+        ("write|u32|4294967295", 0, "ffffffff\n"),
         (
             "write|string|hello world",
+            0,
             "68656c6c6f20776f726c64008b000000f4ffffff\n",
         ),
-        ("write|vec-u32|1,2", "0100000002000000f8ffffff02000000\n"),
-        ("write|vec-u32|", "0000000000000000\n"),
-        ("write|opt-box-bytes|none", "000000000000000000000000\n"),
+        ("write|vec-u32|1,2", 0, "0100000002000000f8ffffff02000000\n"),
+        ("write|vec-u32|", 0, "0000000000000000\n"),
+        ("write|opt-box-bytes|none", 0, "000000000000000000000000\n"),
         (
             "write|opt-box-bytes|some:48656c6c6f20776f726c64",
+            0,
             "48656c6c6f20776f726c640001000000f0ffffff0b000000\n",
         ),
-        ("write|string|hi", "6869ffffffffffff\n"),
-        ("write|string|", "ffffffffffffffff\n"),
-        ("write|string|12345678", "3132333435363738\n"),
+        ("write|string|hi", 0, "6869ffffffffffff\n"),
+        ("write|string|", 0, "ffffffffffffffff\n"),
+        ("write|string|12345678", 0, "3132333435363738\n"),
         (
             "write|string|123456789",
+            0,
             "31323334353637383900000089000000f4ffffff\n",
         ),
         (
             "write|test|42;hello world;1,2,3,4",
+            0,
             "68656c6c6f20776f726c6400010000000200000003000000040000002a0000008b000000e0ffffff01000000e0ffffff04000000\n",
         ),
         (
             "write|test|1;a;b;none",
+            0,
             "01000000613b62ffffffffff000000000000000000000000\n",
         ),
         (
             "write|test|0;;",
+            0,
             "00000000ffffffffffffffff01000000f0ffffff00000000\n",
         ),
         (
             "write|test|255;;-1",
+            0,
             "ffffffffff000000ffffffffffffffff01000000ecffffff01000000\n",
         ),
     ];
-    for (command, line) in rows {
-        let (status, out) = said(rt.alloc(), command)?;
-        assert_eq!(rt; status, 0, "{command}");
-        assert_eq!(rt; out.as_slice(), line.as_bytes(), "{command}");
-    }
+    assert_said(&rt, rt.alloc(), &rows)?;
     Ok(())
 }
 
@@ -146,11 +151,7 @@ fn archives_are_checked(rt: HostRuntime) -> Result<(), Fail> {
             "refused: 24 InvalidDiscriminant\n",
         ),
     ];
-    for (command, status, line) in rows {
-        let (ended, out) = said(rt.alloc(), command)?;
-        assert_eq!(rt; ended, status, "{command}");
-        assert_eq!(rt; out.as_slice(), line.as_bytes(), "{command}");
-    }
+    assert_said(&rt, rt.alloc(), &rows)?;
     Ok(())
 }
 
@@ -197,13 +198,12 @@ fn other_words_are_bad_arguments(rt: HostRuntime) -> Result<(), Fail> {
         "check|string|68 69",
     ];
     for command in rows {
-        let (status, out) = said(rt.alloc(), command)?;
-        assert_eq!(rt; status, 2, "{command}");
-        assert_eq!(rt; out.as_slice(), b"bad arguments\n".as_slice(), "{command}");
+        assert_said(&rt, rt.alloc(), &[(command, 2, "bad arguments\n")])?;
     }
     let mut out = Vec::new(rt.alloc());
-    assert_eq!(rt; run(rt.alloc(), &[], &mut out), 2);
-    assert_eq!(rt; out.as_slice(), b"bad arguments\n".as_slice());
+    let status = run(rt.alloc(), &[], &mut out);
+    assert_same(&rt, "without a word", status, 2);
+    assert_same(&rt, "what it prints", out.as_slice(), b"bad arguments\n");
     Ok(())
 }
 
@@ -230,26 +230,29 @@ impl io::Write for FailsAfter {
     }
 }
 
+// A command that ends with this status ends with 1 where its output fails, after whatever it has printed.
+fn assert_fails(
+    rt: &impl Abort,
+    alloc: Global,
+    command: &str,
+    status: u8,
+) -> Result<(), AllocError> {
+    let words = words_of(alloc, command)?;
+    for pieces in 0..20 {
+        let ended = run(alloc, words.as_slice(), &mut FailsAfter { pieces });
+        assert!(rt; ended == 1 || ended == status, "{command}, {pieces} pieces");
+    }
+    let ended = run(alloc, words.as_slice(), &mut FailsAfter { pieces: 0 });
+    assert_same(rt, command, ended, 1);
+    let ended = run(alloc, words.as_slice(), &mut FailsAfter { pieces: 20 });
+    assert_same(rt, command, ended, status);
+    Ok(())
+}
+
 #[test]
 fn a_failing_output_is_status_1(rt: HostRuntime) -> Result<(), Fail> {
-    for (command, status) in [
-        ("write|u32|42", 0),
-        ("check|u32|2a000000", 0),
-        ("write|u32|-", 2),
-    ] {
-        let words = words_of(rt.alloc(), command)?;
-        for pieces in 0..20 {
-            let ended = run(rt.alloc(), words.as_slice(), &mut FailsAfter { pieces });
-            assert!(rt; ended == 1 || ended == status, "{command}, {pieces} pieces");
-        }
-        assert_eq!(rt;
-            run(rt.alloc(), words.as_slice(), &mut FailsAfter { pieces: 0 }),
-            1
-        );
-        assert_eq!(rt;
-            run(rt.alloc(), words.as_slice(), &mut FailsAfter { pieces: 20 }),
-            status
-        );
-    }
+    assert_fails(&rt, rt.alloc(), "write|u32|42", 0)?;
+    assert_fails(&rt, rt.alloc(), "check|u32|2a000000", 0)?;
+    assert_fails(&rt, rt.alloc(), "write|u32|-", 2)?;
     Ok(())
 }

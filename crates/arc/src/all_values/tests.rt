@@ -1,6 +1,6 @@
 // Shared values of their own type: a circle of them is refused, whatever the bytes.
 
-use crate::tests::said;
+use crate::assertions::assert_said;
 use std::test::Fail;
 
 #[test]
@@ -18,10 +18,6 @@ fn a_circle_is_refused(rt: HostRuntime) -> Result<(), Fail> {
         ),
         ("write|all-values|0", 2, "bad arguments\n"),
     ];
-    for (command, status, line) in rows {
-        let (ended, out) = said(rt.alloc(), command)?;
-        assert_eq!(rt; ended, status, "{command}");
-        assert_eq!(rt; out.as_slice(), line.as_bytes(), "{command}");
-    }
+    assert_said(&rt, rt.alloc(), &rows)?;
     Ok(())
 }

@@ -1,6 +1,6 @@
 // Pairs of shared and weak pointers: written and checked.
 
-use crate::tests::said;
+use crate::assertions::assert_said;
 use std::test::Fail;
 
 #[test]
@@ -25,11 +25,7 @@ fn two_shared_numbers_are_written(rt: HostRuntime) -> Result<(), Fail> {
         ("write|two-rc-bytes|01", 2, "bad arguments\n"),
         ("write|rc-weak|10", 2, "bad arguments\n"),
     ];
-    for (command, status, line) in rows {
-        let (ended, out) = said(rt.alloc(), command)?;
-        assert_eq!(rt; ended, status, "{command}");
-        assert_eq!(rt; out.as_slice(), line.as_bytes(), "{command}");
-    }
+    assert_said(&rt, rt.alloc(), &rows)?;
     Ok(())
 }
 
@@ -65,10 +61,6 @@ fn pairs_are_checked(rt: HostRuntime) -> Result<(), Fail> {
         ("check|rc-weak|0a000000fcffffff01000000", 0, "accepted\n"),
         ("check|rc-weak|0a000000fcfffffff8ffffff", 0, "accepted\n"),
     ];
-    for (command, status, line) in rows {
-        let (ended, out) = said(rt.alloc(), command)?;
-        assert_eq!(rt; ended, status, "{command}");
-        assert_eq!(rt; out.as_slice(), line.as_bytes(), "{command}");
-    }
+    assert_said(&rt, rt.alloc(), &rows)?;
     Ok(())
 }

@@ -2,7 +2,7 @@
 
 ghost use Rattle.std.specs.Prelude.{◌≢◌, Some};
 
-use super::said;
+use crate::assertions::{assert_said, assert_same};
 use crate::formats::Format;
 use archive_core::api::{HighValidator, access, access_with_context, from_bytes};
 use archive_core::error::Error;
@@ -41,16 +41,12 @@ fn nodes_are_written_and_checked(rt: HostRuntime) -> Result<(), Fail> {
             "refused: 24 InvalidDiscriminant\n",
         ),
     ];
-    for (command, status, line) in rows {
-        let (ended, out) = said(rt.alloc(), command)?;
-        assert_eq!(rt; ended, status, "{command}");
-        assert_eq!(rt; out.as_slice(), line.as_bytes(), "{command}");
-    }
+    assert_said(&rt, rt.alloc(), &rows)?;
     Ok(())
 }
 
 #[test]
-fn a_box_behind_its_own_node_is_refused(rt: HostRuntime) -> Result<(), Fail> {
+fn a_box_behind_its_own_node_is_refused(rt: HostRuntime) {
     let refusal = Error::InvalidSubtreePointer {
         position: 8,
         size: 8,
@@ -58,19 +54,28 @@ fn a_box_behind_its_own_node_is_refused(rt: HostRuntime) -> Result<(), Fail> {
         end: 0,
     };
     let bytes = b"\x01\0\0\0\x04\0\0\0\x01\0\0\0\xf4\xff\xff\xff";
-    assert_eq!(rt; Format::Node.check(rt.alloc(), bytes), Err(refusal));
-    Ok(())
+    let checked = Format::Node.check(rt.alloc(), bytes);
+    assert_same(&rt, "the refusal", checked, Err(refusal));
+}
+
+// The tag of the node at the end.
+fn tag_of(alloc: Global, bytes: &[u8]) -> Result<u8, Error> {
+    Ok(access::<ArchivedNode>(alloc, bytes)?.tag())
+}
+
+// How many boxes a node has that is read back, counted up to two.
+fn boxes_of(alloc: Global, bytes: &[u8]) -> Result<usize, Error> {
+    let node: Node = from_bytes(alloc, bytes, &mut ())?;
+    Ok(boxes(&node, 2))
 }
 
 #[test]
-fn nodes_are_viewed_and_come_back(rt: HostRuntime) -> Result<(), Fail> {
-    let view = access::<ArchivedNode>(rt.alloc(), ONE)?;
-    assert_eq!(rt; view.tag(), 1);
-    let node: Node = from_bytes(rt.alloc(), ONE, &mut ())?;
-    assert_eq!(rt; boxes(&node, 2), 1);
-    let none: Node = from_bytes(rt.alloc(), b"\0\0\0\0\0\0\0\0", &mut ())?;
-    assert_eq!(rt; boxes(&none, 2), 0);
-    Ok(())
+fn nodes_are_viewed_and_come_back(rt: HostRuntime) {
+    assert_same(&rt, "the tag", tag_of(rt.alloc(), ONE), Ok(1));
+    let one = boxes_of(rt.alloc(), ONE);
+    assert_same(&rt, "one", one, Ok(1));
+    let none = boxes_of(rt.alloc(), b"\0\0\0\0\0\0\0\0");
+    assert_same(&rt, "none", none, Ok(0));
 }
 
 // The archive of so many boxes, one in another, with its root at the end.
@@ -94,22 +99,21 @@ fn entered(alloc: Global, bytes: &[u8], levels: Option<usize>) -> Result<usize, 
 #[test]
 fn a_node_is_as_deep_as_its_boxes(rt: HostRuntime) -> Result<(), Fail> {
     let bytes = chain(rt.alloc(), 3)?;
+    let too_deep = Error::ExceededMaximumSubtreeDepth;
     for levels in [1, 2, 3, 4] {
-        assert_eq!(rt;
-            entered(rt.alloc(), &bytes, Some(levels)),
-            Err(Error::ExceededMaximumSubtreeDepth),
-            "at depth {levels}"
-        );
+        let found = entered(rt.alloc(), &bytes, Some(levels));
+        assert_same(&rt, "with few levels", found, Err(too_deep));
     }
-    assert_eq!(rt; entered(rt.alloc(), &bytes, Some(5)), Ok(4));
+    let found = entered(rt.alloc(), &bytes, Some(5));
+    assert_same(&rt, "with five levels", found, Ok(4));
     Ok(())
 }
 
 #[test]
 fn a_long_chain_is_checked(rt: HostRuntime) -> Result<(), Fail> {
     let bytes = chain(rt.alloc(), 200_000)?;
-    let view = access::<ArchivedNode>(rt.alloc(), &bytes)?;
-    assert_eq!(rt; view.tag(), 1);
-    assert_eq!(rt; entered(rt.alloc(), &bytes, None), Ok(200_001));
+    assert_same(&rt, "the tag", tag_of(rt.alloc(), &bytes), Ok(1));
+    let found = entered(rt.alloc(), &bytes, None);
+    assert_same(&rt, "regions", found, Ok(200_001));
     Ok(())
 }

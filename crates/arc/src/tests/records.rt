@@ -1,5 +1,6 @@
 // A record of an own type: written, viewed, read back, and edited in place.
 
+use crate::assertions::assert_same;
 use crate::formats::Format;
 use archive_core::api::{HighSerializer, access, access_mut, from_bytes, to_bytes};
 use archive_core::error::Error;
@@ -41,25 +42,27 @@ where
 fn a_record_is_written(rt: HostRuntime) -> Result<(), Fail> {
     let value = record(rt.alloc())?;
     let bytes = archived(rt.alloc(), &value)?;
-    assert_eq!(rt; bytes.as_slice(), RECORD.as_slice());
+    assert_same(&rt, "the bytes", bytes.as_slice(), RECORD);
     Ok(())
 }
 
 #[test]
 fn a_record_comes_back(rt: HostRuntime) -> Result<(), Fail> {
     let value = record(rt.alloc())?;
-    assert!(rt; value_of::<Test>(rt.alloc(), RECORD).is_ok_and(|back| back == value));
+    let back: Test = value_of(rt.alloc(), RECORD)?;
+    assert_same(&rt, "the record", back, value);
     Ok(())
 }
 
 #[test]
 fn a_records_fields_are_viewed(rt: HostRuntime) -> Result<(), Fail> {
     let view = access::<ArchivedTest>(rt.alloc(), RECORD)?;
-    assert_eq!(rt; view.pos(), 28);
-    assert_eq!(rt; view.field::<u8>(0).get(), 42);
-    assert_eq!(rt; view.field::<ArchivedString>(1).as_str(), "hello world");
+    assert_same(&rt, "the position", view.pos(), 28);
+    assert_same(&rt, "the number", view.field::<u8>(0).get(), 42);
+    let text = view.field::<ArchivedString>(1).as_str();
+    assert_same(&rt, "the text", text, "hello world");
     let numbers = view.field::<Numbers>(2).as_ref().map(|list| list.len());
-    assert_eq!(rt; numbers, Some(4));
+    assert_same(&rt, "the list", numbers, Some(4));
     Ok(())
 }
 
@@ -71,7 +74,8 @@ fn a_list_with_another_tag_is_refused(rt: HostRuntime) {
     };
     let mut bytes = *RECORD;
     bytes[40] = 2;
-    assert_eq!(rt; Format::Test.check(rt.alloc(), &bytes), Err(refusal));
+    let checked = Format::Test.check(rt.alloc(), &bytes);
+    assert_same(&rt, "the refusal", checked, Err(refusal));
 }
 
 #[test]
@@ -82,7 +86,7 @@ fn a_records_number_is_written_over(rt: HostRuntime) -> Result<(), Fail> {
         .write(7);
     let mut wanted = *RECORD;
     wanted[28] = 7;
-    assert_eq!(rt; bytes.as_slice(), wanted.as_slice());
+    assert_same(&rt, "the bytes", bytes, wanted);
     Ok(())
 }
 
@@ -101,6 +105,6 @@ fn an_element_of_a_records_list_is_written_over(rt: HostRuntime) -> Result<(), F
     for at in 20..24 {
         wanted[at] = 0xff;
     }
-    assert_eq!(rt; bytes.as_slice(), wanted.as_slice());
+    assert_same(&rt, "the bytes", bytes, wanted);
     Ok(())
 }
