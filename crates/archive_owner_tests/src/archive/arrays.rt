@@ -1,10 +1,10 @@
 // Arrays.
 
-use archive_core::api::{HighSerializer, HighValidator, access, access_mut, from_bytes, to_bytes};
+use crate::assertions::{assert_holds, assert_same, assert_written, checked, checked_by_schema};
+use archive_core::api::{HighSerializer, access, access_mut, from_bytes, to_bytes};
 use archive_core::array::OwnedArray;
 use archive_core::error::Error;
 use archive_core::primitive::ArchivedU16;
-use archive_core::shape::Schema;
 use archive_core::string::ArchivedString;
 use archive_core::traits::{Deserialize, Serialize};
 use std::alloc::Global;
@@ -30,40 +30,37 @@ where
 fn arrays_have_their_elements(rt: HostRuntime) -> Result<(), Fail> {
     let bytes = b"\x01\0\x02\0\x03\0";
     let view = access::<[ArchivedU16; 3]>(rt.alloc(), bytes)?;
-    assert_eq!(rt; view.len(), 3);
-    assert!(rt; !view.is_empty());
-    assert_eq!(rt; view.index(2).get(), 3);
-    assert_eq!(rt; view.get(1).map(|number| number.get()), Some(2));
-    assert!(rt; view.get(3).is_none());
-    assert!(rt; access::<[ArchivedU16; 4]>(rt.alloc(), bytes).is_err());
+    assert_same(&rt, "the length", view.len(), 3);
+    assert_holds(&rt, "not empty", !view.is_empty());
+    assert_same(&rt, "the last", view.index(2).get(), 3);
+    let second = view.get(1).map(|number| number.get());
+    assert_same(&rt, "the second", second, Some(2));
+    assert_holds(&rt, "no fourth", view.get(3).is_none());
+    let four = checked::<[ArchivedU16; 4]>(rt.alloc(), bytes);
+    assert_holds(&rt, "refused as four", four.is_err());
     let none = access::<[ArchivedU16; 0]>(rt.alloc(), b"")?;
-    assert!(rt; none.is_empty());
+    assert_holds(&rt, "empty", none.is_empty());
     Ok(())
 }
 
 #[test]
 fn an_array_is_checked_by_its_schema(rt: HostRuntime) -> Result<(), Fail> {
-    let schema = Schema::of::<[ArchivedString; 2]>(rt.alloc())?;
-    let mut context = HighValidator::new(rt.alloc(), TEXTS);
-    schema.check(TEXTS, 0, &mut context)?;
+    checked_by_schema::<[ArchivedString; 2]>(rt.alloc(), TEXTS)?;
     let view = access::<[ArchivedString; 2]>(rt.alloc(), TEXTS)?;
-    assert_eq!(rt; view.index(0).as_str(), "hi");
-    assert_eq!(rt; view.index(1).pos(), 8);
+    assert_same(&rt, "the first", view.index(0).as_str(), "hi");
+    assert_same(&rt, "the second", view.index(1).pos(), 8);
     Ok(())
 }
 
 #[test]
 fn an_array_is_written_element_by_element(rt: HostRuntime) -> Result<(), Fail> {
     let numbers: [u16; 3] = [1, 2, 3];
-    assert_eq!(rt;
-        to_bytes(rt.alloc(), &numbers)?.as_slice(),
-        b"\x01\0\x02\0\x03\0".as_slice()
-    );
+    assert_written(&rt, rt.alloc(), &numbers, b"\x01\0\x02\0\x03\0")?;
     let texts = [
         String::from_str(rt.alloc(), "hi")?,
         String::from_str(rt.alloc(), "")?,
     ];
-    assert_eq!(rt; to_bytes(rt.alloc(), &texts)?.as_slice(), TEXTS);
+    assert_written(&rt, rt.alloc(), &texts, TEXTS)?;
     Ok(())
 }
 
@@ -71,11 +68,14 @@ fn an_array_is_written_element_by_element(rt: HostRuntime) -> Result<(), Fail> {
 fn the_elements_of_an_array_come_from_both_ends(rt: HostRuntime) -> Result<(), Fail> {
     let view = access::<[ArchivedU16; 3]>(rt.alloc(), b"\x01\0\x02\0\x03\0")?;
     let mut items = view.iter();
-    assert_eq!(rt; items.len(), 3);
-    assert_eq!(rt; items.next_back().map(|number| number.get()), Some(3));
-    assert_eq!(rt; items.next().map(|number| number.get()), Some(1));
-    assert_eq!(rt; items.next().map(|number| number.get()), Some(2));
-    assert!(rt; items.next().is_none());
+    assert_same(&rt, "the length", items.len(), 3);
+    let last = items.next_back().map(|number| number.get());
+    assert_same(&rt, "the last", last, Some(3));
+    let first = items.next().map(|number| number.get());
+    assert_same(&rt, "the first", first, Some(1));
+    let second = items.next().map(|number| number.get());
+    assert_same(&rt, "the second", second, Some(2));
+    assert_holds(&rt, "no further one", items.next().is_none());
     Ok(())
 }
 
@@ -84,7 +84,7 @@ fn an_element_is_written_over(rt: HostRuntime) -> Result<(), Fail> {
     let mut bytes = [1, 0, 2, 0, 3, 0];
     let numbers = access_mut::<[ArchivedU16; 3]>(rt.alloc(), &mut bytes)?;
     numbers.index(1).write(258);
-    assert_eq!(rt; bytes, [1, 0, 2, 1, 3, 0]);
+    assert_same(&rt, "the bytes", bytes, [1, 0, 2, 1, 3, 0]);
     Ok(())
 }
 
@@ -92,17 +92,17 @@ fn an_element_is_written_over(rt: HostRuntime) -> Result<(), Fail> {
 fn an_array_of_numbers_comes_back(rt: HostRuntime) -> Result<(), Fail> {
     let bytes = b"\x01\0\0\0\x02\0\0\0\x03\0\0\0".as_slice();
     let (numbers, written) = read_and_written::<OwnedArray<u32, 3>>(rt.alloc(), bytes)?;
-    assert_eq!(rt; numbers.as_slice(), [1, 2, 3].as_slice());
-    assert_eq!(rt; written.as_slice(), bytes);
+    assert_same(&rt, "the numbers", numbers.as_slice(), [1, 2, 3].as_slice());
+    assert_same(&rt, "the bytes", written.as_slice(), bytes);
     Ok(())
 }
 
 #[test]
 fn an_array_of_texts_comes_back(rt: HostRuntime) -> Result<(), Fail> {
     let (texts, written) = read_and_written::<OwnedArray<String, 2>>(rt.alloc(), TEXTS)?;
-    assert_eq!(rt; texts.as_slice()[0].as_str(), "hi");
-    assert_eq!(rt; texts.as_slice()[1].as_str(), "");
-    assert_eq!(rt; written.as_slice(), TEXTS);
+    assert_same(&rt, "the first", texts.as_slice()[0].as_str(), "hi");
+    assert_same(&rt, "the second", texts.as_slice()[1].as_str(), "");
+    assert_same(&rt, "the bytes", written.as_slice(), TEXTS);
     Ok(())
 }
 
@@ -110,17 +110,19 @@ fn an_array_of_texts_comes_back(rt: HostRuntime) -> Result<(), Fail> {
 fn an_array_of_arrays_comes_back(rt: HostRuntime) -> Result<(), Fail> {
     let bytes = b"\x01\0\x02\0\x03\0\x04\0".as_slice();
     let (rows, written) = read_and_written::<OwnedArray<OwnedArray<u16, 2>, 2>>(rt.alloc(), bytes)?;
-    assert_eq!(rt; rows.as_slice()[0].as_slice(), [1, 2].as_slice());
-    assert_eq!(rt; rows.as_slice()[1].as_slice(), [3, 4].as_slice());
-    assert_eq!(rt; written.as_slice(), bytes);
+    let first = rows.as_slice()[0].as_slice();
+    assert_same(&rt, "the first", first, [1, 2].as_slice());
+    let second = rows.as_slice()[1].as_slice();
+    assert_same(&rt, "the second", second, [3, 4].as_slice());
+    assert_same(&rt, "the bytes", written.as_slice(), bytes);
     Ok(())
 }
 
 #[test]
 fn an_array_of_none_comes_back(rt: HostRuntime) -> Result<(), Fail> {
     let (none, written) = read_and_written::<OwnedArray<u32, 0>>(rt.alloc(), b"")?;
-    assert!(rt; none.as_slice().is_empty());
-    assert!(rt; written.is_empty());
+    assert_holds(&rt, "no element", none.as_slice().is_empty());
+    assert_holds(&rt, "no byte", written.is_empty());
     Ok(())
 }
 
@@ -128,17 +130,18 @@ fn an_array_of_none_comes_back(rt: HostRuntime) -> Result<(), Fail> {
 fn an_array_in_a_tuple_comes_back(rt: HostRuntime) -> Result<(), Fail> {
     let bytes = b"\x07\0\x01\0\x02\0".as_slice();
     let (pair, written) = read_and_written::<(u8, OwnedArray<u16, 2>)>(rt.alloc(), bytes)?;
-    assert_eq!(rt; pair.0, 7);
-    assert_eq!(rt; pair.1.as_slice(), [1, 2].as_slice());
-    assert_eq!(rt; written.as_slice(), bytes);
+    assert_same(&rt, "the number", pair.0, 7);
+    assert_same(&rt, "the array", pair.1.as_slice(), [1, 2].as_slice());
+    assert_same(&rt, "the bytes", written.as_slice(), bytes);
     Ok(())
 }
 
 #[test]
 fn an_owned_array_has_as_many_as_it_says(rt: HostRuntime) -> Result<(), Fail> {
     let two = OwnedArray::<u32, 2>::from_vec(vec![in rt.alloc(); 1, 2]?);
-    assert_eq!(rt; two.map(|numbers| numbers.into_array()), Some([1, 2]));
+    let array = two.map(|numbers| numbers.into_array());
+    assert_same(&rt, "of two", array, Some([1, 2]));
     let three = OwnedArray::<u32, 3>::from_vec(vec![in rt.alloc(); 1, 2]?);
-    assert!(rt; three.is_none());
+    assert_holds(&rt, "no third", three.is_none());
     Ok(())
 }

@@ -1,8 +1,7 @@
 // Boxed slices and texts, and the calls with a serializer or an allocator of the caller's own.
 
-use archive_core::api::{
-    from_bytes, serialize_using, to_bytes, to_bytes_in_with_alloc, to_bytes_with_alloc,
-};
+use crate::assertions::{assert_same, assert_written, value_of};
+use archive_core::api::{serialize_using, to_bytes_in_with_alloc, to_bytes_with_alloc};
 use archive_core::boxed::{BoxSlice, BoxStr};
 use archive_core::error::Error;
 use archive_core::primitive::ArchivedU32;
@@ -19,52 +18,51 @@ const HELLO_WORLD: &[u8] = b"hello world\0\xf4\xff\xff\xff\x0b\0\0\0";
 #[test]
 fn boxed_slices(rt: HostRuntime) -> Result<(), Fail> {
     let items = vec![in rt.alloc(); 1u16, 2]?;
-    let bytes = to_bytes(rt.alloc(), &BoxSlice { items })?;
-    assert_eq!(rt; bytes.as_slice(), ONE_AND_TWO);
-    let back: BoxSlice<u16> = from_bytes(rt.alloc(), ONE_AND_TWO, &mut ())?;
-    assert_eq!(rt; back.items.as_slice(), [1, 2].as_slice());
+    assert_written(&rt, rt.alloc(), &BoxSlice { items }, ONE_AND_TWO)?;
+    let back: BoxSlice<u16> = value_of(rt.alloc(), ONE_AND_TWO)?;
+    assert_same(&rt, "the items", back.items.as_slice(), &[1, 2]);
     Ok(())
 }
 
 #[test]
 fn boxed_texts(rt: HostRuntime) -> Result<(), Fail> {
     let text = String::from_str(rt.alloc(), "hello world")?;
-    let bytes = to_bytes(rt.alloc(), &BoxStr { text })?;
-    assert_eq!(rt; bytes.as_slice(), HELLO_WORLD);
-    let back: BoxStr = from_bytes(rt.alloc(), HELLO_WORLD, &mut ())?;
-    assert_eq!(rt; back.text.as_str(), "hello world");
+    assert_written(&rt, rt.alloc(), &BoxStr { text }, HELLO_WORLD)?;
+    let back: BoxStr = value_of(rt.alloc(), HELLO_WORLD)?;
+    assert_same(&rt, "the text", back.text.as_str(), "hello world");
     Ok(())
 }
 
 #[test]
-fn a_pointer_is_written_by_itself(rt: HostRuntime) -> Result<(), Fail> {
+fn a_pointer_is_written_by_itself(rt: HostRuntime) {
     let mut serializer = Serializer::new(Vec::new(rt.alloc()), rt.alloc(), ());
     let text = Text {
         text: "hello world",
     };
-    assert_eq!(rt; serialize_using(&text, &mut serializer)?, 0);
-    assert_eq!(rt; serializer.align_for::<ArchivedU32>()?, 12);
-    assert_eq!(rt; serializer.resolve_unsized_aligned(&text, 0)?, 12);
-    assert_eq!(rt; serializer.resolve_unsized_aligned(&7u8, 24)?, 20);
+    let region = serialize_using(&text, &mut serializer);
+    assert_same(&rt, "the text", region, Ok(0));
+    let end = serializer.align_for::<ArchivedU32>();
+    assert_same(&rt, "zeros", end, Ok(12));
+    let pointer = serializer.resolve_unsized_aligned(&text, 0);
+    assert_same(&rt, "a pointer to it", pointer, Ok(12));
+    let pointer = serializer.resolve_unsized_aligned(&7u8, 24);
+    assert_same(&rt, "a pointer to a byte", pointer, Ok(20));
     let far = serializer.resolve_unsized_aligned(&7u8, 4_294_967_296);
-    assert_eq!(rt; far, Err(Error::OffsetOverflow));
-    assert_eq!(rt; serializer.pos(), 24);
+    assert_same(&rt, "too far", far, Err(Error::OffsetOverflow));
+    assert_same(&rt, "the end", serializer.pos(), 24);
     let bytes = serializer.into_writer();
-    assert_eq!(rt;
-        bytes.as_slice(),
-        b"hello world\0\xf4\xff\xff\xff\x0b\0\0\0\x04\0\0\0".as_slice()
-    );
-    Ok(())
+    let right = b"hello world\0\xf4\xff\xff\xff\x0b\0\0\0\x04\0\0\0";
+    assert_same(&rt, "the bytes", bytes.as_slice(), right);
 }
 
 #[test]
 fn resolvers_have_an_allocator_of_their_own(rt: HostRuntime) -> Result<(), Fail> {
     let numbers = vec![in rt.alloc(); 1u32, 2]?;
-    let archive = b"\x01\0\0\0\x02\0\0\0\xf8\xff\xff\xff\x02\0\0\0".as_slice();
+    let archive = b"\x01\0\0\0\x02\0\0\0\xf8\xff\xff\xff\x02\0\0\0";
     let bytes = to_bytes_with_alloc(rt.alloc(), &numbers, rt.alloc())?;
-    assert_eq!(rt; bytes.as_slice(), archive);
+    assert_same(&rt, "the archive", bytes.as_slice(), archive);
     let writer = Vec::new(rt.alloc());
     let bytes = to_bytes_in_with_alloc(rt.alloc(), &numbers, writer, rt.alloc())?;
-    assert_eq!(rt; bytes.as_slice(), archive);
+    assert_same(&rt, "behind nothing", bytes.as_slice(), archive);
     Ok(())
 }

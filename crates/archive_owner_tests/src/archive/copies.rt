@@ -11,7 +11,8 @@ ghost use Rattle.archive_core.specs.Planned.{leaf_planned};
 ghost use Rattle.archive_core.specs.KindsWritten.{LeafResolved, LeafHindered};
 ghost use Rattle.archive_core.specs.Writing.{Fresh};
 
-use archive_core::api::{from_bytes, to_bytes};
+use crate::assertions::{assert_holds, assert_read, assert_same, assert_written};
+use archive_core::api::{HighSerializer, to_bytes};
 use archive_core::error::Error;
 use archive_core::place::Place;
 use archive_core::primitive::{ArchivedNonZeroU16, ArchivedU32};
@@ -21,6 +22,7 @@ use archive_core::traits::{Archive, Copied, CopyOptimization, Keys, Serialize, S
 use archive_core::vec::ArchivedVec;
 use std::alloc::{AllocError, Global};
 use std::marker::PhantomData;
+use std::process::Abort;
 use std::test::Fail;
 
 // A length in metres: an own type, which is copied as its number is.
@@ -112,6 +114,14 @@ fn expected(alloc: Global, numbers: &[u32]) -> Result<Vec<u8>, AllocError> {
     Ok(bytes)
 }
 
+// The archive of a value.
+fn archived<T: Serialize<HighSerializer<Vec<u8>, Global>>>(
+    alloc: Global,
+    value: &T,
+) -> Result<Vec<u8>, Error> {
+    to_bytes(alloc, value)
+}
+
 // What is behind one byte, of numbers that are written as a slice or by an iterator.
 fn behind_one_byte(alloc: Global, numbers: &[u32], by_iter: bool) -> Result<Vec<u8>, Error> {
     let mut serializer = Serializer::new(vec![in alloc; 0xaa]?, alloc, ());
@@ -127,50 +137,57 @@ fn behind_one_byte(alloc: Global, numbers: &[u32], by_iter: bool) -> Result<Vec<
     }
 }
 
+// So many numbers have their bytes, as a slice, by an iterator, and in an archive, which is read back.
+fn assert_copied(rt: &impl Abort, alloc: Global, count: u32) -> Result<(), Error> {
+    let numbers = numbers(alloc, count)?;
+    let right = expected(alloc, &numbers)?;
+    let bytes = behind_one_byte(alloc, &numbers, false)?;
+    assert_same(rt, "a slice", bytes.as_slice(), right.as_slice());
+    let bytes = behind_one_byte(alloc, &numbers, true)?;
+    assert_same(rt, "an iterator", bytes.as_slice(), right.as_slice());
+    let archive = archived(alloc, &numbers)?;
+    assert_read(rt, alloc, &archive, &numbers)
+}
+
 #[test]
 fn each_byte_is_copied(rt: HostRuntime) -> Result<(), Fail> {
     for count in [0, 1, 255, 256, 257, 1000] {
-        let numbers = numbers(rt.alloc(), count)?;
-        let right = expected(rt.alloc(), &numbers)?;
-        let bytes = behind_one_byte(rt.alloc(), &numbers, false)?;
-        assert_eq!(rt; bytes.as_slice(), right.as_slice());
-        let bytes = behind_one_byte(rt.alloc(), &numbers, true)?;
-        assert_eq!(rt; bytes.as_slice(), right.as_slice());
-        let archive = to_bytes(rt.alloc(), &numbers)?;
-        let back: Vec<u32> = from_bytes(rt.alloc(), &archive, &mut ())?;
-        assert_eq!(rt; back.as_slice(), numbers.as_slice());
+        assert_copied(&rt, rt.alloc(), count)?;
     }
     Ok(())
 }
 
 #[test]
-fn what_has_no_byte_is_copied_too(rt: HostRuntime) -> Result<(), Fail> {
+fn what_has_no_byte_is_copied_too(rt: HostRuntime) {
     let mut serializer = Serializer::new(Vec::new(rt.alloc()), rt.alloc(), ());
-    assert_eq!(rt;
-        Slice { slice: &[(), ()] }.serialize_unsized(&mut serializer)?,
-        0
-    );
-    assert_eq!(rt;
-        Slice {
-            slice: &[true, false]
-        }
-        .serialize_unsized(&mut serializer)?,
-        0
-    );
+    let units = Slice { slice: &[(), ()] };
+    let region = units.serialize_unsized(&mut serializer);
+    assert_same(&rt, "units", region, Ok(0));
+    let flags = Slice {
+        slice: &[true, false],
+    };
+    let region = flags.serialize_unsized(&mut serializer);
+    assert_same(&rt, "bools", region, Ok(0));
     let bytes = serializer.into_writer();
-    assert_eq!(rt; bytes.as_slice(), [1, 0].as_slice());
-    Ok(())
+    assert_same(&rt, "the bytes", bytes.as_slice(), &[1, 0]);
+}
+
+// Whether a type is copied in bulk.
+fn is_copied<T: Archive>() -> bool {
+    T::copy_optimization().is_enabled()
 }
 
 #[test]
 fn the_switch(rt: HostRuntime) {
-    assert!(rt; u32::copy_optimization().is_enabled());
-    assert!(rt; !String::copy_optimization().is_enabled());
-    assert!(rt; CopyOptimization::<u32>::enable_if(true).is_enabled());
-    assert!(rt; !CopyOptimization::<u32>::disable().is_enabled());
+    assert_holds(&rt, "numbers", is_copied::<u32>());
+    assert_holds(&rt, "no texts", !is_copied::<String>());
+    let on = CopyOptimization::<u32>::enable_if(true);
+    assert_holds(&rt, "on", on.is_enabled());
+    let off = CopyOptimization::<u32>::disable();
+    assert_holds(&rt, "off", !off.is_enabled());
     let mut bytes = [0xcc; 4];
     u16::copy_into(&[1, 2], &mut bytes);
-    assert_eq!(rt; bytes, [1, 0, 2, 0]);
+    assert_same(&rt, "the bytes", bytes, [1, 0, 2, 0]);
 }
 
 // Why numbers aren't written as one region; none where they are.
@@ -191,8 +208,9 @@ fn a_piece_is_written_whole_or_not_at_all(rt: HostRuntime) -> Result<(), Fail> {
         cap: 6,
         len: 0,
     };
-    assert_eq!(rt; refusal_of(rt.alloc(), &[1, 2], &mut buffer), Some(refusal));
-    assert!(rt; buffer.as_slice().is_empty());
+    let found = refusal_of(rt.alloc(), &[1, 2], &mut buffer);
+    assert_same(&rt, "no room", found, Some(refusal));
+    assert_holds(&rt, "no bytes", buffer.as_slice().is_empty());
     let mut bytes = [0xcc; 1100];
     let mut buffer = Buffer::from(&mut bytes);
     let numbers = numbers(rt.alloc(), 300)?;
@@ -201,11 +219,9 @@ fn a_piece_is_written_whole_or_not_at_all(rt: HostRuntime) -> Result<(), Fail> {
         cap: 1100,
         len: 1024,
     };
-    assert_eq!(rt;
-        refusal_of(rt.alloc(), &numbers, &mut buffer),
-        Some(refusal)
-    );
-    assert_eq!(rt; buffer.as_slice().len(), 1024);
+    let found = refusal_of(rt.alloc(), &numbers, &mut buffer);
+    assert_same(&rt, "no room for the second", found, Some(refusal));
+    assert_same(&rt, "the first", buffer.as_slice().len(), 1024);
     Ok(())
 }
 
@@ -223,17 +239,16 @@ fn refusal_of_arrays<W: Writer>(
 }
 
 #[test]
-fn an_array_is_copied_whole(rt: HostRuntime) -> Result<(), Fail> {
-    assert!(rt; <[u16; 3] as Archive>::copy_optimization().is_enabled());
-    assert!(rt; !<[u8; 1025] as Archive>::copy_optimization().is_enabled());
+fn an_array_is_copied_whole(rt: HostRuntime) {
+    assert_holds(&rt, "a small array", is_copied::<[u16; 3]>());
+    assert_holds(&rt, "no large one", !is_copied::<[u8; 1025]>());
     let mut bytes = [0xcc; 12];
     let mut buffer = Buffer::from(&mut bytes);
     let two = [[1, 2, 3], [4, 5, 6]];
-    assert_eq!(rt; refusal_of_arrays(rt.alloc(), &two, &mut buffer), None);
-    assert_eq!(rt;
-        buffer.as_slice(),
-        [1, 0, 2, 0, 3, 0, 4, 0, 5, 0, 6, 0].as_slice()
-    );
+    let found = refusal_of_arrays(rt.alloc(), &two, &mut buffer);
+    assert_same(&rt, "two arrays", found, None);
+    let right = b"\x01\0\x02\0\x03\0\x04\0\x05\0\x06\0";
+    assert_same(&rt, "their bytes", buffer.as_slice(), right);
     let mut bytes = [0xcc; 1100];
     let mut buffer = Buffer::from(&mut bytes);
     let refusal = Error::BufferOverflow {
@@ -241,44 +256,40 @@ fn an_array_is_copied_whole(rt: HostRuntime) -> Result<(), Fail> {
         cap: 1100,
         len: 1020,
     };
-    assert_eq!(rt;
-        refusal_of_arrays(rt.alloc(), &[[7; 3]; 300], &mut buffer),
-        Some(refusal)
-    );
-    Ok(())
+    let found = refusal_of_arrays(rt.alloc(), &[[7; 3]; 300], &mut buffer);
+    assert_same(&rt, "too many", found, Some(refusal));
 }
 
 #[test]
 fn an_own_type_is_copied(rt: HostRuntime) -> Result<(), Fail> {
     let lengths = vec![in rt.alloc(); Metres { number: 7 }, Metres { number: 256 }]?;
-    assert!(rt; Metres::copy_optimization().is_enabled());
-    let bytes = to_bytes(rt.alloc(), &lengths)?;
-    assert_eq!(rt;
-        bytes.as_slice(),
-        b"\x07\0\0\0\0\x01\0\0\xf8\xff\xff\xff\x02\0\0\0".as_slice()
-    );
-    let back: Vec<u32> = from_bytes(rt.alloc(), &bytes, &mut ())?;
-    assert_eq!(rt; back.as_slice(), [7, 256].as_slice());
+    assert_holds(&rt, "metres", is_copied::<Metres>());
+    let archive = b"\x07\0\0\0\0\x01\0\0\xf8\xff\xff\xff\x02\0\0\0";
+    assert_written(&rt, rt.alloc(), &lengths, archive)?;
+    let numbers = vec![in rt.alloc(); 7u32, 256]?;
+    assert_read(&rt, rt.alloc(), archive, &numbers)?;
     Ok(())
 }
 
 #[test]
-fn numbers_that_are_not_0_and_nothing_are_copied(rt: HostRuntime) -> Result<(), Fail> {
+fn numbers_that_are_not_0_and_nothing_are_copied(rt: HostRuntime) {
     let numbers = [
         ArchivedNonZeroU16::from_native(1),
         ArchivedNonZeroU16::from_native(513),
     ];
-    assert!(rt; ArchivedNonZeroU16::copy_optimization().is_enabled());
+    assert_holds(&rt, "not 0", is_copied::<ArchivedNonZeroU16>());
     let mut bytes = [0xcc; 6];
     let mut buffer = Buffer::from(&mut bytes);
-    assert_eq!(rt; copy_slice(&[9u8], &mut buffer)?, 0);
-    assert_eq!(rt; copy_slice(&numbers, &mut buffer)?, 2);
-    assert_eq!(rt; buffer.as_slice(), [9, 0, 1, 0, 1, 2].as_slice());
-    assert!(rt; PhantomData::<u8>::copy_optimization().is_enabled());
+    let region = copy_slice(&[9u8], &mut buffer);
+    assert_same(&rt, "a byte", region, Ok(0));
+    let region = copy_slice(&numbers, &mut buffer);
+    assert_same(&rt, "two numbers", region, Ok(2));
+    assert_same(&rt, "the bytes", buffer.as_slice(), &[9, 0, 1, 0, 1, 2]);
+    assert_holds(&rt, "nothing", is_copied::<PhantomData<u8>>());
     let nothing: [PhantomData<u8>; 2] = [PhantomData, PhantomData];
-    assert_eq!(rt; copy_slice(&nothing, &mut buffer)?, 6);
-    assert_eq!(rt; buffer.as_slice().len(), 6);
-    Ok(())
+    let region = copy_slice(&nothing, &mut buffer);
+    assert_same(&rt, "at the end", region, Ok(6));
+    assert_same(&rt, "no further byte", buffer.as_slice().len(), 6);
 }
 
 #[test]
@@ -286,11 +297,12 @@ fn copies_need_no_allocator(rt: HostRuntime) -> Result<(), Fail> {
     let numbers = numbers(rt.alloc(), 257)?;
     let mut bytes = [0xcc; 1032];
     let mut buffer = Buffer::from(&mut bytes);
-    assert_eq!(rt; copy_slice(&[0xaau8], &mut buffer)?, 0);
+    let region = copy_slice(&[0xaau8], &mut buffer);
+    assert_same(&rt, "a byte", region, Ok(0));
     if let Err(error) = ArchivedVec::<ArchivedU32>::serialize_from_copied(&numbers, &mut buffer) {
         return Err(Fail::from(error));
     }
     let right = expected(rt.alloc(), &numbers)?;
-    assert_eq!(rt; buffer.as_slice(), right.as_slice());
+    assert_same(&rt, "all bytes", buffer.as_slice(), right.as_slice());
     Ok(())
 }

@@ -1,5 +1,6 @@
 // Vectors written from iterators.
 
+use crate::assertions::assert_same;
 use archive_core::error::Error;
 use archive_core::primitive::{ArchivedU16, ArchivedU32};
 use archive_core::ser::Serializer;
@@ -17,7 +18,8 @@ fn items_are_written_as_those_of_a_slice(rt: HostRuntime) -> Result<(), Fail> {
         return Err(Fail::from(error));
     }
     let bytes = serializer.into_writer();
-    assert_eq!(rt; bytes.as_slice(), b"\xaa\0\x01\0\x02\0\x03\0".as_slice());
+    let right = b"\xaa\0\x01\0\x02\0\x03\0";
+    assert_same(&rt, "the bytes", bytes.as_slice(), right);
     Ok(())
 }
 
@@ -29,7 +31,8 @@ fn two_items_are_written_as_two_elements(rt: HostRuntime) -> Result<(), Fail> {
         return Err(Fail::from(error));
     }
     let bytes = serializer.into_writer();
-    assert_eq!(rt; bytes.as_slice(), b"\x01\0\0\0\x02\0\0\0".as_slice());
+    let right = b"\x01\0\0\0\x02\0\0\0";
+    assert_same(&rt, "the bytes", bytes.as_slice(), right);
     Ok(())
 }
 
@@ -45,7 +48,8 @@ fn written_as_they_come(alloc: Global, numbers: Range<u16>) -> Result<Vec<u8>, E
 #[test]
 fn items_are_written_as_they_come(rt: HostRuntime) -> Result<(), Fail> {
     let bytes = written_as_they_come(rt.alloc(), 1..4)?;
-    assert_eq!(rt; bytes.as_slice(), b"\xaa\0\x01\0\x02\0\x03\0".as_slice());
+    let right = b"\xaa\0\x01\0\x02\0\x03\0";
+    assert_same(&rt, "the bytes", bytes.as_slice(), right);
     Ok(())
 }
 
@@ -62,11 +66,9 @@ fn an_item_that_writes_is_refused(rt: HostRuntime) -> Result<(), Fail> {
     let Err(error) = written else {
         panic!(rt; "written")
     };
-    assert_eq!(rt; error, Error::ItemWrote);
+    assert_same(&rt, "the refusal", error, Error::ItemWrote);
     let bytes = serializer.into_writer();
-    assert_eq!(rt;
-        bytes.as_slice(),
-        b"hi\xff\xff\xff\xff\xff\xffhello world".as_slice()
-    );
+    let right = b"hi\xff\xff\xff\xff\xff\xffhello world";
+    assert_same(&rt, "the bytes", bytes.as_slice(), right);
     Ok(())
 }

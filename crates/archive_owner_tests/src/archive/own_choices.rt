@@ -4,6 +4,7 @@
 ghost use Rattle.std.specs.Prelude.{codes};
 ghost use Rattle.archive_check.specs.SelfCheck.Laws.{by_schema};
 
+use crate::assertions::{assert_same, checked};
 use archive_core::api::{access, access_mut};
 use archive_core::error::Error;
 use archive_core::own::{ArchivedChoice, NamedChoice};
@@ -34,20 +35,22 @@ pub(super) type Event = ArchivedChoice<EventNamed>;
 
 #[test]
 fn a_choice_is_laid_out_by_its_variants(rt: HostRuntime) {
-    assert_eq!(rt; Event::size(), 12);
-    assert_eq!(rt; Event::align(), 4);
-    assert_eq!(rt; Event::offset(1, 0), 4);
-    assert_eq!(rt; Event::offset(2, 0), 1);
-    assert_eq!(rt; Event::offset(2, 1), 4);
+    assert_same(&rt, "the size", Event::size(), 12);
+    assert_same(&rt, "the alignment", Event::align(), 4);
+    assert_same(&rt, "the number", Event::offset(1, 0), 4);
+    assert_same(&rt, "the byte", Event::offset(2, 0), 1);
+    assert_same(&rt, "the text", Event::offset(2, 1), 4);
 }
 
 #[test]
 fn what_stands_behind_a_tag_is_viewed(rt: HostRuntime) -> Result<(), Fail> {
     let view = access::<Event>(rt.alloc(), b"\x02\x07\0\0hi\xff\xff\xff\xff\xff\xff")?;
-    assert_eq!(rt; view.tag(), 2);
+    assert_same(&rt, "the tag", view.tag(), 2);
     if view.tag() == 2 {
-        assert_eq!(rt; view.payload::<u8>(0).get(), 7);
-        assert_eq!(rt; view.payload::<ArchivedString>(1).as_str(), "hi");
+        let byte = view.payload::<u8>(0).get();
+        assert_same(&rt, "the byte", byte, 7);
+        let text = view.payload::<ArchivedString>(1).as_str();
+        assert_same(&rt, "the text", text, "hi");
     }
     Ok(())
 }
@@ -59,7 +62,8 @@ fn what_stands_behind_a_tag_is_written_over(rt: HostRuntime) -> Result<(), Fail>
     if event.as_ref().tag() == 2 {
         event.payload::<u8>(0).write(9);
     }
-    assert_eq!(rt; bytes, *b"\x02\x09\0\0hi\xff\xff\xff\xff\xff\xff");
+    let right = *b"\x02\x09\0\0hi\xff\xff\xff\xff\xff\xff";
+    assert_same(&rt, "the bytes", bytes, right);
     Ok(())
 }
 
@@ -70,5 +74,6 @@ fn a_tag_without_a_variant_is_refused(rt: HostRuntime) {
         name: "ArchivedEvent",
         value: 3,
     };
-    assert!(rt; access::<Event>(rt.alloc(), bytes).is_err_and(|error| error == refusal));
+    let found = checked::<Event>(rt.alloc(), bytes);
+    assert_same(&rt, "the refusal", found, Err(refusal));
 }

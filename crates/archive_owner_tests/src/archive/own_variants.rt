@@ -8,6 +8,7 @@ ghost use Rattle.archive_core.specs.Seen.{tag_of};
 ghost use Rattle.archive_core.specs.Writing.{Fresh};
 
 use super::own_choices::Event;
+use crate::assertions::{assert_holds, assert_same};
 use archive_core::api::{HighSerializer, access};
 use archive_core::error::Error;
 use archive_core::own::{deserialize_variant, resolve_variant, serialize_variant};
@@ -80,15 +81,17 @@ fn a_variant_is_written_by_its_parts(rt: HostRuntime) -> Result<(), Fail> {
         &mut serializer,
         bytes.as_mut_slice(),
     )?;
-    assert_eq!(rt; bytes, *b"\x02\x07\0\0hi\xff\xff\xff\xff\xff\xff");
-    assert!(rt; serializer.into_writer().is_empty());
+    let right = *b"\x02\x07\0\0hi\xff\xff\xff\xff\xff\xff";
+    assert_same(&rt, "the bytes", bytes, right);
+    let before = serializer.into_writer();
+    assert_holds(&rt, "nothing before", before.is_empty());
     Ok(())
 }
 
 #[test]
 fn a_variant_is_read_back_by_its_parts(rt: HostRuntime) -> Result<(), Fail> {
     let view = access::<Event>(rt.alloc(), b"\x02\x07\0\0hi\xff\xff\xff\xff\xff\xff")?;
-    assert_eq!(rt; view.tag(), 2);
+    assert_same(&rt, "the tag", view.tag(), 2);
     if view.tag() == 2 {
         let (number, (text, ())) = read::<
             Event,
@@ -96,8 +99,8 @@ fn a_variant_is_read_back_by_its_parts(rt: HostRuntime) -> Result<(), Fail> {
             (u8, (String, ())),
             (),
         >(rt.alloc(), view, &mut ())?;
-        assert_eq!(rt; number, 7);
-        assert_eq!(rt; text.as_str(), "hi");
+        assert_same(&rt, "the number", number, 7);
+        assert_same(&rt, "the text", text.as_str(), "hi");
     }
     Ok(())
 }

@@ -1,13 +1,16 @@
 // Views of boxes, slices and vectors, and of what strings tell of their texts.
 
 use crate::archive::HELLO_WORLD;
+use crate::assertions::{assert_holds, assert_same};
 use archive_core::api::access;
 use archive_core::boxed::ArchivedBox;
+use archive_core::error::Error;
 use archive_core::primitive::{ArchivedU16, ArchivedU32};
 use archive_core::slice::ArchivedSlice;
 use archive_core::string::{ArchivedStr, ArchivedString};
 use archive_core::traits::{LayoutRaw, Portable};
 use archive_core::vec::ArchivedVec;
+use std::alloc::Global;
 use std::test::Fail;
 
 // The numbers 1 and 2, and at 8 the vector that points back at them.
@@ -16,48 +19,69 @@ const ONE_AND_TWO: &[u8] = b"\x01\0\0\0\x02\0\0\0\xf8\xff\xff\xff\x02\0\0\0";
 // The text "hello world", a zero, and at 12 the box that points back at its eleven bytes.
 const BOXED_HELLO_WORLD: &[u8] = b"hello world\0\xf4\xff\xff\xff\x0b\0\0\0";
 
+// The size and the alignment of a type, in bytes.
+fn layout_of<T: Portable>() -> (usize, usize) {
+    (T::size(), T::align())
+}
+
 #[test]
 fn a_box_shows_its_value(rt: HostRuntime) -> Result<(), Fail> {
     let boxed = b"\x07\0\0\0\xfc\xff\xff\xff";
-    let view = access::<ArchivedBox<ArchivedU32>>(rt.alloc(), boxed)?;
-    assert_eq!(rt; view.get().pos(), 0);
-    assert_eq!(rt; view.get().get(), 7);
-    assert_eq!(rt; ArchivedBox::<ArchivedU32>::size(), 4);
-    assert_eq!(rt; ArchivedBox::<ArchivedU32>::align(), 4);
+    let value = access::<ArchivedBox<ArchivedU32>>(rt.alloc(), boxed)?.get();
+    assert_same(&rt, "the position", value.pos(), 0);
+    assert_same(&rt, "the number", value.get(), 7);
+    let layout = layout_of::<ArchivedBox<ArchivedU32>>();
+    assert_same(&rt, "the layout", layout, (4, 4));
     Ok(())
 }
 
 #[test]
 fn a_box_shows_its_slice_or_text(rt: HostRuntime) -> Result<(), Fail> {
     let slice = access::<ArchivedBox<ArchivedSlice<u8>>>(rt.alloc(), BOXED_HELLO_WORLD)?.get();
-    assert_eq!(rt; slice.len(), 11);
+    assert_same(&rt, "the slice's length", slice.len(), 11);
     if slice.len() > 4 {
-        assert_eq!(rt; slice.index(4).get(), b'o');
+        assert_same(&rt, "a byte", slice.index(4).get(), b'o');
     }
     let text = access::<ArchivedBox<ArchivedStr>>(rt.alloc(), BOXED_HELLO_WORLD)?.get();
-    assert_eq!(rt; text.as_str(), "hello world");
-    assert_eq!(rt; text.as_bytes(), b"hello world".as_slice());
-    assert!(rt; !text.is_empty());
-    assert_eq!(rt; ArchivedBox::<ArchivedStr>::size(), 8);
+    assert_same(&rt, "the text", text.as_str(), "hello world");
+    assert_same(&rt, "its bytes", text.as_bytes(), b"hello world");
+    assert_holds(&rt, "not empty", !text.is_empty());
+    let size = ArchivedBox::<ArchivedStr>::size();
+    assert_same(&rt, "the size", size, 8);
     Ok(())
+}
+
+// How long a vector is, and whether it is empty.
+fn vector_length<T: Portable>(alloc: Global, bytes: &[u8]) -> Result<(usize, bool), Error> {
+    let view = access::<ArchivedVec<T>>(alloc, bytes)?;
+    Ok((view.len(), view.is_empty()))
 }
 
 #[test]
 fn a_vector_shows_its_elements(rt: HostRuntime) -> Result<(), Fail> {
-    let view = access::<ArchivedVec<ArchivedU32>>(rt.alloc(), ONE_AND_TWO)?;
-    assert_eq!(rt; view.len(), 2);
-    assert!(rt; !view.is_empty());
-    let slice = view.as_slice();
-    assert_eq!(rt; slice.pos(), 0);
-    assert!(rt; !slice.is_empty());
-    assert_eq!(rt; slice.get(0).map(|v| v.get()), Some(1));
-    assert_eq!(rt; slice.get(1).map(|v| v.pos()), Some(4));
-    assert!(rt; slice.get(2).is_none());
-    let empty = access::<ArchivedVec<ArchivedU32>>(rt.alloc(), b"\0\0\0\0\0\0\0\0")?;
-    assert!(rt; empty.is_empty());
-    assert!(rt; empty.as_slice().iter().next().is_none());
-    let units = access::<ArchivedVec<()>>(rt.alloc(), b"\0\0\0\0\xff\xff\xff\xff")?;
-    assert_eq!(rt; units.len(), 4_294_967_295);
+    let two = vector_length::<ArchivedU32>(rt.alloc(), ONE_AND_TWO);
+    assert_same(&rt, "the vector", two, Ok((2, false)));
+    let slice = access::<ArchivedVec<ArchivedU32>>(rt.alloc(), ONE_AND_TWO)?.as_slice();
+    assert_same(&rt, "the slice", slice.pos(), 0);
+    assert_holds(&rt, "the slice isn't empty", !slice.is_empty());
+    let first = slice.get(0).map(|v| v.get());
+    assert_same(&rt, "the first", first, Some(1));
+    let second = slice.get(1).map(|v| v.pos());
+    assert_same(&rt, "the second", second, Some(4));
+    assert_holds(&rt, "no third", slice.get(2).is_none());
+    Ok(())
+}
+
+#[test]
+fn vectors_show_no_elements_and_many(rt: HostRuntime) -> Result<(), Fail> {
+    let nothing = b"\0\0\0\0\0\0\0\0";
+    let found = vector_length::<ArchivedU32>(rt.alloc(), nothing);
+    assert_same(&rt, "nothing", found, Ok((0, true)));
+    let empty = access::<ArchivedVec<ArchivedU32>>(rt.alloc(), nothing)?;
+    let item = empty.as_slice().iter().next();
+    assert_holds(&rt, "no item", item.is_none());
+    let found = vector_length::<()>(rt.alloc(), b"\0\0\0\0\xff\xff\xff\xff");
+    assert_same(&rt, "units", found, Ok((4_294_967_295, false)));
     Ok(())
 }
 
@@ -66,13 +90,16 @@ fn elements_come_from_both_ends(rt: HostRuntime) -> Result<(), Fail> {
     let bytes = b"\x01\0\x02\0\x03\0\0\0\xf8\xff\xff\xff\x03\0\0\0";
     let slice = access::<ArchivedVec<ArchivedU16>>(rt.alloc(), bytes)?.as_slice();
     let mut elements = slice.iter();
-    assert_eq!(rt; elements.len(), 3);
-    assert_eq!(rt; elements.size_hint(), (3, Some(3)));
-    assert_eq!(rt; elements.next().map(|v| v.get()), Some(1));
-    assert_eq!(rt; elements.next_back().map(|v| v.get()), Some(3));
-    assert_eq!(rt; elements.next_back().map(|v| v.pos()), Some(2));
-    assert!(rt; elements.next().is_none());
-    assert!(rt; elements.next_back().is_none());
+    assert_same(&rt, "the length", elements.len(), 3);
+    assert_same(&rt, "the hint", elements.size_hint(), (3, Some(3)));
+    let first = elements.next().map(|v| v.get());
+    assert_same(&rt, "the first", first, Some(1));
+    let last = elements.next_back().map(|v| v.get());
+    assert_same(&rt, "the last", last, Some(3));
+    let middle = elements.next_back().map(|v| v.pos());
+    assert_same(&rt, "the middle", middle, Some(2));
+    assert_holds(&rt, "no next", elements.next().is_none());
+    assert_holds(&rt, "none at the back", elements.next_back().is_none());
     Ok(())
 }
 
@@ -82,21 +109,22 @@ fn strings_tell_where_their_texts_stand(rt: HostRuntime) -> Result<(), Fail> {
     if long.is_inline() {
         return Err(Fail::from("the text stands elsewhere"));
     }
-    assert_eq!(rt; long.out_of_line_offset(), -12);
-    assert_eq!(rt; long.as_bytes(), b"hello world".as_slice());
-    assert!(rt; !long.is_empty());
+    assert_same(&rt, "the offset", long.out_of_line_offset(), -12);
+    assert_same(&rt, "the bytes", long.as_bytes(), b"hello world");
+    assert_holds(&rt, "not empty", !long.is_empty());
     let empty = access::<ArchivedString>(rt.alloc(), b"\xff\xff\xff\xff\xff\xff\xff\xff")?;
-    assert!(rt; empty.is_inline());
-    assert!(rt; empty.is_empty());
+    assert_holds(&rt, "in place", empty.is_inline());
+    assert_holds(&rt, "empty", empty.is_empty());
     Ok(())
 }
 
 #[test]
 fn slices_and_texts_have_layouts(rt: HostRuntime) -> Result<(), Fail> {
     let slice = ArchivedSlice::<ArchivedU32>::layout_raw(3)?;
-    assert_eq!(rt; (slice.size, slice.align), (12, 4));
-    assert!(rt; ArchivedSlice::<ArchivedU32>::layout_raw(4_611_686_018_427_387_904).is_err());
+    assert_same(&rt, "a slice", (slice.size, slice.align), (12, 4));
+    let large = ArchivedSlice::<ArchivedU32>::layout_raw(4_611_686_018_427_387_904);
+    assert_holds(&rt, "too large", large.is_err());
     let text = ArchivedStr::layout_raw(11)?;
-    assert_eq!(rt; (text.size, text.align), (11, 1));
+    assert_same(&rt, "a text", (text.size, text.align), (11, 1));
     Ok(())
 }

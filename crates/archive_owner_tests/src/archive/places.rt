@@ -1,6 +1,7 @@
 // Places of parts: each stands where its type says, and what is written there leaves the other bytes as they are.
 
 use super::own_choices::Event;
+use crate::assertions::assert_same;
 use archive_core::place::Place;
 use archive_core::primitive::{ArchivedU16, ArchivedU32};
 use archive_tuple::ArchivedTuple2;
@@ -13,11 +14,11 @@ fn a_field_is_written_where_it_stands(rt: HostRuntime) {
     let mut bytes = [0xcc; 8];
     let place: Place<'_, Pair> = Place::new(16, &mut bytes);
     let mut number = place.field::<ArchivedU32>(1);
-    assert_eq!(rt; number.pos(), 20);
+    assert_same(&rt, "the position", number.pos(), 20);
     if number.as_slice().len() == 4 {
         number.write(258);
     }
-    assert_eq!(rt; bytes, [0xcc, 0xcc, 0xcc, 0xcc, 2, 1, 0, 0]);
+    assert_same(&rt, "the bytes", bytes, *b"\xcc\xcc\xcc\xcc\x02\x01\0\0");
 }
 
 #[test]
@@ -25,11 +26,11 @@ fn an_element_is_written_where_it_stands(rt: HostRuntime) {
     let mut bytes = [0xcc; 6];
     let place: Place<'_, [ArchivedU16; 3]> = Place::new(16, &mut bytes);
     let mut element = place.index(1);
-    assert_eq!(rt; element.pos(), 18);
+    assert_same(&rt, "the position", element.pos(), 18);
     if element.as_slice().len() == 2 {
         element.write(258);
     }
-    assert_eq!(rt; bytes, [0xcc, 0xcc, 2, 1, 0xcc, 0xcc]);
+    assert_same(&rt, "the bytes", bytes, [0xcc, 0xcc, 2, 1, 0xcc, 0xcc]);
 }
 
 #[test]
@@ -38,14 +39,12 @@ fn a_variant_is_written_behind_its_tag(rt: HostRuntime) {
     let mut place: Place<'_, Event> = Place::new(16, &mut bytes);
     place.write_tag(1);
     let mut number = place.payload::<ArchivedU32>(1, 0);
-    assert_eq!(rt; number.pos(), 20);
+    assert_same(&rt, "the position", number.pos(), 20);
     if number.as_slice().len() == 4 {
         number.write(258);
     }
-    assert_eq!(rt;
-        bytes,
-        [1, 0xcc, 0xcc, 0xcc, 2, 1, 0, 0, 0xcc, 0xcc, 0xcc, 0xcc]
-    );
+    let right = *b"\x01\xcc\xcc\xcc\x02\x01\0\0\xcc\xcc\xcc\xcc";
+    assert_same(&rt, "the bytes", bytes, right);
 }
 
 #[test]
@@ -53,6 +52,6 @@ fn a_place_is_lent(rt: HostRuntime) {
     let mut bytes = [0xcc; 4];
     let mut place: Place<'_, ArchivedU32> = Place::new(16, &mut bytes);
     place.reborrow().write(258);
-    assert_eq!(rt; place.pos(), 16);
-    assert_eq!(rt; place.as_slice(), [2, 1, 0, 0].as_slice());
+    assert_same(&rt, "the position", place.pos(), 16);
+    assert_same(&rt, "the bytes", place.as_slice(), &[2, 1, 0, 0]);
 }

@@ -1,5 +1,8 @@
 // Tuples: their layouts, and what a check says of their bytes.
 
+use crate::assertions::{
+    assert_holds, assert_read, assert_same, assert_written, checked, value_of,
+};
 use archive_core::api::{HighSerializer, access, access_mut, from_bytes, to_bytes};
 use archive_core::error::Error;
 use archive_core::primitive::{ArchivedI32, ArchivedU16, ArchivedU32};
@@ -80,71 +83,71 @@ where
     Ok(written.as_slice() == bytes && back == *value)
 }
 
-// The archive of a value.
-fn archived<T: Serialize<HighSerializer<Vec<u8>, Global>>>(
-    alloc: Global,
-    value: &T,
-) -> Result<Vec<u8>, Error> {
-    to_bytes(alloc, value)
-}
-
 #[test]
-fn a_tuple_has_the_layout_of_its_parts(rt: HostRuntime) -> Result<(), Fail> {
-    assert_eq!(rt; <Numbers as Portable>::size(), 12);
-    assert_eq!(rt; <Numbers as Portable>::align(), 4);
-    for (i, offset) in [(0, 0), (1, 4), (2, 8)] {
-        assert_eq!(rt; <Numbers as Record>::offset(i), offset, "of part {i}");
-    }
-    assert_eq!(rt; <ArchivedTuple1<bool> as Portable>::size(), 1);
-    Ok(())
+fn a_tuple_has_the_layout_of_its_parts(rt: HostRuntime) {
+    assert_same(&rt, "the size", <Numbers as Portable>::size(), 12);
+    let align = <Numbers as Portable>::align();
+    assert_same(&rt, "the alignment", align, 4);
+    let offset = <Numbers as Record>::offset(0);
+    assert_same(&rt, "the number", offset, 0);
+    let offset = <Numbers as Record>::offset(1);
+    assert_same(&rt, "the bool", offset, 4);
+    let offset = <Numbers as Record>::offset(2);
+    assert_same(&rt, "the last", offset, 8);
+    let size = <ArchivedTuple1<bool> as Portable>::size();
+    assert_same(&rt, "of one part", size, 1);
 }
 
 #[test]
 fn a_tuple_is_checked_part_by_part(rt: HostRuntime) -> Result<(), Fail> {
-    assert_eq!(rt; access::<Numbers>(rt.alloc(), NUMBERS)?.pos(), 0);
-    assert_eq!(rt;
-        access::<Numbers>(rt.alloc(), b"\x18\0\0\0\x02\0\0\0\x10\0\0\0").err(),
-        Some(Error::InvalidBool)
-    );
+    let view = access::<Numbers>(rt.alloc(), NUMBERS)?;
+    assert_same(&rt, "the position", view.pos(), 0);
+    let wrong = b"\x18\0\0\0\x02\0\0\0\x10\0\0\0";
+    let found = checked::<Numbers>(rt.alloc(), wrong);
+    assert_same(&rt, "the refusal", found, Err(Error::InvalidBool));
     Ok(())
 }
 
 #[test]
 fn a_tuple_is_written_viewed_and_read_back(rt: HostRuntime) -> Result<(), Fail> {
     let value: (i32, bool, u32) = (24, true, 16);
-    assert_eq!(rt; to_bytes(rt.alloc(), &value)?.as_slice(), NUMBERS);
+    assert_written(&rt, rt.alloc(), &value, NUMBERS)?;
     let view = access::<Numbers>(rt.alloc(), NUMBERS)?;
-    assert_eq!(rt; view.field::<ArchivedI32>(0).get(), 24);
-    assert!(rt; view.field::<bool>(1).get());
-    assert_eq!(rt; view.field::<ArchivedU32>(2).get(), 16);
-    let back: Result<(i32, bool, u32), Error> = from_bytes(rt.alloc(), NUMBERS, &mut ());
-    assert_eq!(rt; back, Ok(value));
+    let number = view.field::<ArchivedI32>(0).get();
+    assert_same(&rt, "the number", number, 24);
+    assert_holds(&rt, "the bool", view.field::<bool>(1).get());
+    let last = view.field::<ArchivedU32>(2).get();
+    assert_same(&rt, "the last", last, 16);
+    assert_read(&rt, rt.alloc(), NUMBERS, &value)?;
     Ok(())
 }
 
 #[test]
 fn a_tuple_of_five_is_written_viewed_and_read_back(rt: HostRuntime) -> Result<(), Fail> {
     let five: (u8, u32, bool, u16, u8) = (1, 2, true, 3, 4);
-    assert!(rt; goes_there_and_back(rt.alloc(), &five, FIVE)?);
+    assert_written(&rt, rt.alloc(), &five, FIVE)?;
+    assert_read(&rt, rt.alloc(), FIVE, &five)?;
     let view = access::<Five>(rt.alloc(), FIVE)?;
-    assert_eq!(rt; view.field::<ArchivedU16>(3).get(), 3);
+    let fourth = view.field::<ArchivedU16>(3).get();
+    assert_same(&rt, "the fourth", fourth, 3);
     Ok(())
 }
 
 #[test]
 fn a_tuple_of_six_is_written(rt: HostRuntime) -> Result<(), Fail> {
     let six: (u8, u8, bool, u8, u8, u8) = (1, 2, true, 3, 4, 5);
-    let bytes = archived(rt.alloc(), &six)?;
-    assert_eq!(rt; bytes.as_slice(), b"\x01\x02\x01\x03\x04\x05".as_slice());
+    assert_written(&rt, rt.alloc(), &six, b"\x01\x02\x01\x03\x04\x05")?;
     Ok(())
 }
 
 #[test]
 fn a_tuple_of_seven_is_written_viewed_and_read_back(rt: HostRuntime) -> Result<(), Fail> {
     let seven: (u8, u32, bool, u16, u8, u8, u32) = (1, 2, true, 3, 4, 5, 6);
-    assert!(rt; goes_there_and_back(rt.alloc(), &seven, SEVEN)?);
+    let same = goes_there_and_back(rt.alloc(), &seven, SEVEN)?;
+    assert_holds(&rt, "there and back", same);
     let view = access::<Seven>(rt.alloc(), SEVEN)?;
-    assert_eq!(rt; view.field::<ArchivedU32>(6).get(), 6);
+    let last = view.field::<ArchivedU32>(6).get();
+    assert_same(&rt, "the last", last, 6);
     Ok(())
 }
 
@@ -153,22 +156,25 @@ fn a_tuple_of_eleven_is_written_viewed_and_read_back(rt: HostRuntime) -> Result<
     let eleven: (u8, u16, u8, u32, bool, u8, u16, u8, u8, u16, u8) = (
         1, 2, 3, 4, true, 5, 6, 7, 8, 9, 10,
     );
-    assert!(rt; goes_there_and_back(rt.alloc(), &eleven, ELEVEN)?);
+    let same = goes_there_and_back(rt.alloc(), &eleven, ELEVEN)?;
+    assert_holds(&rt, "there and back", same);
     let view = access::<Eleven>(rt.alloc(), ELEVEN)?;
-    assert_eq!(rt; view.field::<ArchivedU16>(9).get(), 9);
+    let tenth = view.field::<ArchivedU16>(9).get();
+    assert_same(&rt, "the tenth", tenth, 9);
     Ok(())
 }
 
 #[test]
 fn a_tuple_of_thirteen_is_written_viewed_and_read_back(rt: HostRuntime) -> Result<(), Fail> {
     let thirteen: NativeThirteen = (1, 2, true, 3, 4, 5, 6, 7, 8, 9, 10, false, 11);
-    assert_eq!(rt; archived(rt.alloc(), &thirteen)?.as_slice(), THIRTEEN);
-    let back: NativeThirteen = from_bytes(rt.alloc(), THIRTEEN, &mut ())?;
+    assert_written(&rt, rt.alloc(), &thirteen, THIRTEEN)?;
+    let back: NativeThirteen = value_of(rt.alloc(), THIRTEEN)?;
     let (a, b, c, d, e, f, g, h, i, j, k, l, m) = back;
-    assert_eq!(rt; (a, b, c, d, e, f, g), (1, 2, true, 3, 4, 5, 6));
-    assert_eq!(rt; (h, i, j, k, l, m), (7, 8, 9, 10, false, 11));
+    assert_same(&rt, "the first", (a, b, c, d, e, f, g), (1, 2, true, 3, 4, 5, 6));
+    assert_same(&rt, "the others", (h, i, j, k, l, m), (7, 8, 9, 10, false, 11));
     let view = access::<Thirteen>(rt.alloc(), THIRTEEN)?;
-    assert_eq!(rt; view.field::<ArchivedU32>(12).get(), 11);
+    let last = view.field::<ArchivedU32>(12).get();
+    assert_same(&rt, "the last", last, 11);
     Ok(())
 }
 
@@ -178,6 +184,7 @@ fn a_part_of_a_tuple_is_written_over(rt: HostRuntime) -> Result<(), Fail> {
     access_mut::<Numbers>(rt.alloc(), &mut bytes)?
         .field::<ArchivedU32>(2)
         .write(17);
-    assert_eq!(rt; bytes, *b"\x18\0\0\0\x01\0\0\0\x11\0\0\0");
+    let right = *b"\x18\0\0\0\x01\0\0\0\x11\0\0\0";
+    assert_same(&rt, "the bytes", bytes, right);
     Ok(())
 }
