@@ -3,3 +3,5 @@
 
 #[cfg(test)]
 mod archive;
+#[cfg(test)]
+mod assertions;

@@ -4,12 +4,12 @@ ghost use Rattle.std.specs.Prelude.{refl};
 ghost use Rattle.std.proofs.Common.{inl, inr};
 ghost use Rattle.archive_shared_tests.specs.CircleShape.{circle_name, circle_pointer};
 
+use crate::assertions::assert_same;
 use archive_core::api::{HighValidator, access_with_context};
 use archive_core::error::Error;
 use archive_core::own::{ArchivedRecursive, NamedRecursive};
 use archive_core::shape::{Expr, FlavorInfo, Pointee};
 use std::alloc::{AllocError, Global};
-use std::test::Fail;
 
 // The name of a shared pointer to one of it.
 struct Circle;
@@ -62,8 +62,7 @@ fn entered(alloc: Global, bytes: &[u8]) -> Result<usize, Error> {
 }
 
 #[test]
-fn a_circle_is_entered_once_a_pointer(rt: HostRuntime) -> Result<(), Fail> {
-    assert_eq!(rt; entered(rt.alloc(), ONE), Ok(2));
-    assert_eq!(rt; entered(rt.alloc(), TWO), Ok(3));
-    Ok(())
+fn a_circle_is_entered_once_a_pointer(rt: HostRuntime) {
+    assert_same(&rt, "one", entered(rt.alloc(), ONE), Ok(2));
+    assert_same(&rt, "two", entered(rt.alloc(), TWO), Ok(3));
 }

@@ -2,6 +2,7 @@
 
 ghost use Rattle.std.specs.Prelude.{true, refl, codes};
 
+use crate::assertions::{assert_holds, assert_same};
 use archive_core::api::{HighSerializer, access};
 use archive_core::error::Error;
 use archive_core::place::Place;
@@ -53,18 +54,16 @@ fn two_pointers_lead_to_one_text(rt: HostRuntime) -> Result<(), Fail> {
         serializer.write(&bytes)?;
     }
     let bytes = serializer.into_writer();
-    assert_eq!(rt;
-        bytes.as_slice(),
-        b"hello\0\0\0\xf8\xff\xff\xff\x05\0\0\0\xf0\xff\xff\xff\x05\0\0\0".as_slice()
-    );
-    let view = access::<SharedText>(rt.alloc(), bytes.as_slice())?;
-    assert_eq!(rt; view.get().as_str(), "hello");
-    assert_eq!(rt; view.get().pos(), 0);
+    let right = b"hello\0\0\0\xf8\xff\xff\xff\x05\0\0\0\xf0\xff\xff\xff\x05\0\0\0";
+    assert_same(&rt, "the bytes", bytes.as_slice(), right);
+    let text = access::<SharedText>(rt.alloc(), bytes.as_slice())?.get();
+    assert_same(&rt, "the text", text.as_str(), "hello");
+    assert_same(&rt, "its position", text.pos(), 0);
     Ok(())
 }
 
 #[test]
-fn a_zero_stands_behind_an_empty_text(rt: HostRuntime) -> Result<(), Fail> {
+fn a_zero_stands_behind_an_empty_text(rt: HostRuntime) {
     let empty = Text { text: "" };
     let mut serializer = serializer(rt.alloc());
     for key in [1, 2] {
@@ -72,8 +71,8 @@ fn a_zero_stands_behind_an_empty_text(rt: HostRuntime) -> Result<(), Fail> {
             panic!(rt; "refused")
         };
     }
-    assert_eq!(rt; serializer.into_writer().as_slice(), b"\0\0".as_slice());
-    Ok(())
+    let bytes = serializer.into_writer();
+    assert_same(&rt, "the bytes", bytes.as_slice(), b"\0\0");
 }
 
 #[test]
@@ -84,19 +83,26 @@ fn a_pending_key_is_refused(rt: HostRuntime) -> Result<(), Fail> {
     let Err(error) = SharedText::serialize_from_ref(7, &hello, &mut serializer) else {
         panic!(rt; "not refused")
     };
-    assert_eq!(rt; error, Error::CyclicSerialize);
-    assert_eq!(rt; serializer.into_writer().len(), 0);
+    assert_same(&rt, "the refusal", error, Error::CyclicSerialize);
+    assert_same(&rt, "no bytes", serializer.into_writer().len(), 0);
     Ok(())
 }
 
 #[test]
-fn a_weak_pointer_is_null_or_leads_there(rt: HostRuntime) -> Result<(), Fail> {
+fn a_weak_pointer_is_null(rt: HostRuntime) -> Result<(), Fail> {
     let mut bytes = [0xff; 8];
     let nothing: Option<&Text<'_>> = None;
     WeakText::resolve_from_ref(nothing, None, Place::new(0, &mut bytes))?;
-    assert_eq!(rt; bytes, [1, 0, 0, 0, 0, 0, 0, 0]);
+    assert_same(&rt, "the bytes", bytes, [1, 0, 0, 0, 0, 0, 0, 0]);
     let view = access::<WeakText>(rt.alloc(), bytes.as_slice())?;
-    assert!(rt; view.upgrade().is_none());
+    assert_holds(&rt, "null", view.upgrade().is_none());
+    Ok(())
+}
+
+#[test]
+fn a_weak_pointer_leads_there(rt: HostRuntime) -> Result<(), Fail> {
+    let mut bytes = [0xff; 8];
+    let nothing: Option<&Text<'_>> = None;
     let hello = Text { text: "hello" };
     let mut serializer = serializer(rt.alloc());
     let Ok(None) = WeakText::serialize_from_ref(7, nothing, &mut serializer) else {
@@ -110,10 +116,8 @@ fn a_weak_pointer_is_null_or_leads_there(rt: HostRuntime) -> Result<(), Fail> {
     serializer.write(&bytes)?;
     let bytes = serializer.into_writer();
     let view = access::<WeakText>(rt.alloc(), bytes.as_slice())?;
-    let Some(text) = view.upgrade() else {
-        panic!(rt; "null")
-    };
-    assert_eq!(rt; text.as_str(), "hello");
+    let text = view.upgrade().map(|text| text.as_str());
+    assert_same(&rt, "the text", text, Some("hello"));
     Ok(())
 }
 
@@ -121,21 +125,17 @@ fn a_weak_pointer_is_null_or_leads_there(rt: HostRuntime) -> Result<(), Fail> {
 fn a_weak_pointer_to_the_next_byte_is_refused(rt: HostRuntime) {
     let hello = Text { text: "hello" };
     let mut bytes = [0; 8];
-    assert_eq!(rt;
-        WeakText::resolve_from_ref(
-            Some(&hello),
-            Some(RcResolver::from_pos(9)),
-            Place::new(8, &mut bytes),
-        ),
-        Err(Error::OffsetOverflow)
-    );
+    let next = Some(RcResolver::from_pos(9));
+    let place = Place::new(8, &mut bytes);
+    let resolved = WeakText::resolve_from_ref(Some(&hello), next, place);
+    assert_same(&rt, "the refusal", resolved, Err(Error::OffsetOverflow));
 }
 
 #[test]
 fn a_flavor_is_part_of_the_expression(rt: HostRuntime) -> Result<(), Fail> {
     let shared = SharedText::expr(rt.alloc())?;
     let looping = ArchivedRc::<ArchivedStr, Looping>::expr(rt.alloc())?;
-    assert!(rt; shared != looping);
-    assert_eq!(rt; RcFlavor::name(), "RcFlavor");
+    assert_holds(&rt, "not equal", shared != looping);
+    assert_same(&rt, "the name", RcFlavor::name(), "RcFlavor");
     Ok(())
 }

@@ -2,6 +2,7 @@
 
 ghost use Rattle.std.specs.Prelude.{◌≡◌, IfOk};
 
+use crate::assertions::assert_same;
 use archive_core::error::Error;
 use archive_core::ser::{Serializer, Writer};
 use archive_core::sharing::{Share, Sharing, SharingExt};
@@ -26,31 +27,30 @@ fn a_shared_value_is_written_once(rt: HostRuntime) -> Result<(), Fail> {
     let sharing = Share::new(rt.alloc());
     let mut serializer = Serializer::new(Vec::new(rt.alloc()), rt.alloc(), sharing);
     let (hello, world) = (Text { text: "hello" }, Text { text: "world" });
-    assert_eq!(rt; write_twice(&mut serializer, 1, &hello), Ok((0, 0)));
-    assert_eq!(rt; serializer.serialize_shared(2, &world), Ok(5));
-    assert_eq!(rt; serializer.serialize_shared(1, &hello), Ok(0));
+    let twice = write_twice(&mut serializer, 1, &hello);
+    assert_same(&rt, "twice", twice, Ok((0, 0)));
+    let pos = serializer.serialize_shared(2, &world);
+    assert_same(&rt, "another", pos, Ok(5));
+    let pos = serializer.serialize_shared(1, &hello);
+    assert_same(&rt, "again", pos, Ok(0));
     serializer.start_sharing(3)?;
-    assert_eq!(rt;
-        serializer.serialize_shared(3, &hello),
-        Err(Error::CyclicSerialize)
-    );
-    assert_eq!(rt;
-        serializer.into_writer().as_slice(),
-        b"helloworld".as_slice()
-    );
+    let pos = serializer.serialize_shared(3, &hello);
+    assert_same(&rt, "pending", pos, Err(Error::CyclicSerialize));
+    let bytes = serializer.into_writer();
+    assert_same(&rt, "the bytes", bytes.as_slice(), b"helloworld");
     Ok(())
 }
 
 #[test]
-fn a_tuple_of_four_is_shared(rt: HostRuntime) -> Result<(), Fail> {
+fn a_tuple_of_four_is_shared(rt: HostRuntime) {
     let sharing = Share::new(rt.alloc());
     let mut serializer = Serializer::new(Vec::new(rt.alloc()), rt.alloc(), sharing);
     let value = (1u32, 2u32, 3u32, 4u32);
-    assert_eq!(rt; serializer.serialize_shared(5, &value), Ok(0));
-    assert_eq!(rt; serializer.serialize_shared(5, &value), Ok(0));
-    assert_eq!(rt;
-        serializer.into_writer().as_slice(),
-        b"\x01\0\0\0\x02\0\0\0\x03\0\0\0\x04\0\0\0".as_slice()
-    );
-    Ok(())
+    let pos = serializer.serialize_shared(5, &value);
+    assert_same(&rt, "at first", pos, Ok(0));
+    let pos = serializer.serialize_shared(5, &value);
+    assert_same(&rt, "again", pos, Ok(0));
+    let bytes = serializer.into_writer();
+    let right = b"\x01\0\0\0\x02\0\0\0\x03\0\0\0\x04\0\0\0";
+    assert_same(&rt, "the bytes", bytes.as_slice(), right);
 }

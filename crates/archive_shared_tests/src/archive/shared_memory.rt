@@ -3,6 +3,7 @@
 ghost use Rattle.std.specs.Prelude.{true, IfOk, ◌≤◌, length};
 ghost use Rattle.std.proofs.Common.{true≢false};
 
+use crate::assertions::{assert_holds, assert_same};
 use archive_check::context::positions::SharedValidator;
 use archive_check::context::range::ArchiveValidator;
 use archive_check::context::validator::Validator;
@@ -18,6 +19,7 @@ use archive_core::traits::Entries;
 use archive_tuple::ArchivedTuple2;
 use linked_list_allocator::LocalHeap;
 use std::alloc::{Allocator, Global};
+use std::process::Abort;
 use std::rc::Rc;
 use std::test::Fail;
 
@@ -56,6 +58,11 @@ fn written_in<A: Allocator + Copy + Drop>(
     (serializer.into_writer(), root)
 }
 
+// What `what` names holds where there is memory for so many units.
+fn assert_with(rt: &impl Abort, units: usize, what: &str, holds: bool) {
+    assert!(rt; holds, "{what}, with {units} units");
+}
+
 #[test]
 fn what_was_written_before_stands(rt: HostRuntime) -> Result<(), Fail> {
     let pair = pair_of(rt.alloc(), 10)?;
@@ -64,23 +71,23 @@ fn what_was_written_before_stands(rt: HostRuntime) -> Result<(), Fail> {
     for units in 1..64usize {
         let heap = LocalHeap::new(rt.alloc(), units * 16)?;
         let (bytes, root) = written_in(&heap, &pair);
-        assert!(rt;
-            BEHIND_OTHERS.starts_with(bytes.as_slice()),
-            "with {units} units"
-        );
+        let beginning = BEHIND_OTHERS.starts_with(bytes.as_slice());
+        assert_with(&rt, units, "a beginning", beginning);
         match root {
             Ok(root) => {
-                assert_eq!(rt; (root, bytes.as_slice()), (8, BEHIND_OTHERS));
+                assert_same(&rt, "the root", root, 8);
+                assert_same(&rt, "all", bytes.as_slice(), BEHIND_OTHERS);
                 served = true;
             }
             Err(error) => {
-                assert_eq!(rt; error, Error::OutOfMemory, "with {units} units");
-                assert!(rt; !served && most <= bytes.len(), "with {units} units");
+                assert_same(&rt, "the refusal", error, Error::OutOfMemory);
+                let more = !served && most <= bytes.len();
+                assert_with(&rt, units, "no less", more);
                 most = bytes.len();
             }
         }
     }
-    assert!(rt; served && most >= 4);
+    assert_holds(&rt, "served, and refused before", served && most >= 4);
     Ok(())
 }
 
@@ -109,13 +116,13 @@ fn a_check_is_served_or_refused(rt: HostRuntime) -> Result<(), Fail> {
         match refusal_in(rt.alloc(), ONE_NUMBER, &mut context) {
             0 => served = true,
             number => {
-                assert_eq!(rt; number, 1, "with {units} units");
-                assert!(rt; !served, "with {units} units");
+                assert_with(&rt, units, "refused with 1", number == 1);
+                assert_with(&rt, units, "never served before", !served);
                 refused = true;
             }
         }
     }
-    assert!(rt; refused && served);
+    assert_holds(&rt, "refused and served", refused && served);
     Ok(())
 }
 
@@ -169,15 +176,14 @@ fn read_with(alloc: Global, served: usize) -> Result<(Option<Error>, Option<Opti
 }
 
 #[test]
-fn what_a_pool_finished_stands(rt: HostRuntime) -> Result<(), Fail> {
-    let rows = [
-        (0, Some(Error::OutOfMemory), None),
-        (1, Some(Error::OutOfMemory), Some(None)),
-        (2, Some(Error::OutOfMemory), Some(Some(10))),
-        (3, None, Some(Some(10))),
-    ];
-    for (served, refusal, state) in rows {
-        assert_eq!(rt; read_with(rt.alloc(), served), Ok((refusal, state)));
-    }
-    Ok(())
+fn what_a_pool_finished_stands(rt: HostRuntime) {
+    let no_memory = Some(Error::OutOfMemory);
+    let found = read_with(rt.alloc(), 0);
+    assert_same(&rt, "none served", found, Ok((no_memory, None)));
+    let found = read_with(rt.alloc(), 1);
+    assert_same(&rt, "one served", found, Ok((no_memory, Some(None))));
+    let found = read_with(rt.alloc(), 2);
+    assert_same(&rt, "two served", found, Ok((no_memory, Some(Some(10)))));
+    let found = read_with(rt.alloc(), 3);
+    assert_same(&rt, "three served", found, Ok((None, Some(Some(10)))));
 }

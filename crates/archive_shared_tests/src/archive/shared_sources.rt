@@ -1,6 +1,6 @@
 // Shared values as sources.
 
-use archive_core::api::to_bytes;
+use crate::assertions::{archived, assert_same, assert_written};
 use archive_core::error::Error;
 use archive_core::rc::{Shared, SharedSlice, SharedStr, WeakShared};
 use std::rc::{Rc, RcSlice, RcStr};
@@ -13,11 +13,8 @@ fn a_shared_number_is_written_once(rt: HostRuntime) -> Result<(), Fail> {
         let value = Rc::new(rt.alloc(), 10u32)?;
         numbers.push(Shared { key: 1, value })?;
     }
-    let bytes = to_bytes(rt.alloc(), &numbers)?;
-    assert_eq!(rt;
-        bytes.as_slice(),
-        b"\x0a\0\0\0\xfc\xff\xff\xff\xf8\xff\xff\xff\xf8\xff\xff\xff\x02\0\0\0".as_slice()
-    );
+    let archive = b"\x0a\0\0\0\xfc\xff\xff\xff\xf8\xff\xff\xff\xf8\xff\xff\xff\x02\0\0\0";
+    assert_written(&rt, rt.alloc(), &numbers, archive)?;
     Ok(())
 }
 
@@ -32,10 +29,8 @@ fn a_key_within_itself_is_refused(rt: HostRuntime) -> Result<(), Fail> {
         },
     )?;
     let outer = Shared { key: 7, value };
-    let Err(error) = to_bytes(rt.alloc(), &outer) else {
-        panic!(rt; "written")
-    };
-    assert_eq!(rt; error, Error::CyclicSerialize);
+    let refusal = archived(rt.alloc(), &outer).err();
+    assert_same(&rt, "the refusal", refusal, Some(Error::CyclicSerialize));
     Ok(())
 }
 
@@ -48,26 +43,19 @@ fn a_shared_slice_of_texts(rt: HostRuntime) -> Result<(), Fail> {
         let value = RcSlice::from_vec(vec![in rt.alloc(); hello, world]?)?;
         pointers.push(SharedSlice { key: 1, value })?;
     }
-    let bytes = to_bytes(rt.alloc(), &pointers)?;
-    assert_eq!(rt;
-        bytes.as_slice(),
-        b"hello\xff\xff\xffworld\xff\xff\xff\xf0\xff\xff\xff\x02\0\0\0\xe8\xff\xff\xff\x02\0\0\0\xf0\xff\xff\xff\x02\0\0\0".as_slice()
-    );
+    let archive =
+        b"hello\xff\xff\xffworld\xff\xff\xff\xf0\xff\xff\xff\x02\0\0\0\xe8\xff\xff\xff\x02\0\0\0\xf0\xff\xff\xff\x02\0\0\0";
+    assert_written(&rt, rt.alloc(), &pointers, archive)?;
     Ok(())
 }
 
 #[test]
 fn a_shared_text_and_a_null(rt: HostRuntime) -> Result<(), Fail> {
     let value = RcStr::from_str(rt.alloc(), "hello")?;
-    let bytes = to_bytes(rt.alloc(), &SharedStr { key: 1, value })?;
-    assert_eq!(rt;
-        bytes.as_slice(),
-        b"hello\0\0\0\xf8\xff\xff\xff\x05\0\0\0".as_slice()
-    );
+    let text = SharedStr { key: 1, value };
+    let archive = b"hello\0\0\0\xf8\xff\xff\xff\x05\0\0\0";
+    assert_written(&rt, rt.alloc(), &text, archive)?;
     let null: WeakShared<u32> = WeakShared { value: None };
-    assert_eq!(rt;
-        to_bytes(rt.alloc(), &null)?.as_slice(),
-        b"\x01\0\0\0".as_slice()
-    );
+    assert_written(&rt, rt.alloc(), &null, b"\x01\0\0\0")?;
     Ok(())
 }

@@ -4,6 +4,7 @@ ghost use Rattle.std.specs.Prelude.{◌≡◌, true, is_some, refl};
 ghost use Rattle.std.proofs.Common.{true≢false};
 ghost use Rattle.archive_shared_tests.specs.TwoPools.{both_pools};
 
+use crate::assertions::assert_same;
 use archive_core::api::from_bytes;
 use archive_core::error::Error;
 use archive_core::pooling::{Pool, Pooled, Pooling, PoolingState};
@@ -98,9 +99,13 @@ fn values_of_two_types_are_pooled(rt: HostRuntime) -> Result<(), Fail> {
         texts: Pool::new(rt.alloc()),
     };
     let (number, text) = read_both(rt.alloc(), &mut pools)?;
-    assert_eq!(rt; (number.key, *number.value), (0, 10));
-    assert_eq!(rt; (text.key, text.value.as_str()), (4, "hello"));
-    assert!(rt; pools.numbers.is_known(0) && !pools.numbers.is_known(4));
-    assert!(rt; pools.texts.is_known(4) && !pools.texts.is_known(0));
+    let found = (number.key, *number.value);
+    assert_same(&rt, "the number", found, (0, 10));
+    let found = (text.key, text.value.as_str());
+    assert_same(&rt, "the text", found, (4, "hello"));
+    let found = (pools.numbers.is_known(0), pools.numbers.is_known(4));
+    assert_same(&rt, "the numbers' pool", found, (true, false));
+    let found = (pools.texts.is_known(4), pools.texts.is_known(0));
+    assert_same(&rt, "the texts' pool", found, (true, false));
     Ok(())
 }
