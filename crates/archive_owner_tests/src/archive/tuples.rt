@@ -170,8 +170,18 @@ fn a_tuple_of_thirteen_is_written_viewed_and_read_back(rt: HostRuntime) -> Resul
     assert_written(&rt, rt.alloc(), &thirteen, THIRTEEN)?;
     let back: NativeThirteen = value_of(rt.alloc(), THIRTEEN)?;
     let (a, b, c, d, e, f, g, h, i, j, k, l, m) = back;
-    assert_same(&rt, "the first", (a, b, c, d, e, f, g), (1, 2, true, 3, 4, 5, 6));
-    assert_same(&rt, "the others", (h, i, j, k, l, m), (7, 8, 9, 10, false, 11));
+    assert_same(
+        &rt,
+        "the first",
+        (a, b, c, d, e, f, g),
+        (1, 2, true, 3, 4, 5, 6),
+    );
+    assert_same(
+        &rt,
+        "the others",
+        (h, i, j, k, l, m),
+        (7, 8, 9, 10, false, 11),
+    );
     let view = access::<Thirteen>(rt.alloc(), THIRTEEN)?;
     let last = view.field::<ArchivedU32>(12).get();
     assert_same(&rt, "the last", last, 11);
