@@ -1,7 +1,7 @@
 -- Elements are read back one after another: what a loop over them keeps, and what it comes to, whether they are a run or an array.
-use Rattle.std.proofs.Common.{◌≡◌, Result, Ok, Err, IfOk, inl, inr, ⊎_elim, ℕ, ◌+◌, ◌*◌, ◌<◌, List, [], ◌∷◌, ◌++◌, length, arith, refl, sym, ap, subst, ◌∙◌, append-nil, append_assoc}
+use Rattle.std.proofs.Common.{◌≡◌, Result, Ok, Err, IfOk, inl, inr, ⊎_elim, ℕ, ◌+◌, ◌*◌, ◌<◌, List, [], ◌∷◌, ◌++◌, length, refl, sym, ap, subst, ◌∙◌, append-nil, append_assoc}
 use Rattle.archive_check.specs.declared.format.error.Error.{Error}
-use Rattle.archive_check.specs.Shape.{Shape, array, Pointee, one, run}
+use Rattle.archive_check.specs.Shape.{Shape, Pointee, one}
 use Rattle.archive_check.specs.Layout.{Layout}
 use Rattle.archive_check.specs.Value.{Value, list, Values, value}
 use Rattle.archive_check.specs.Reads.{Schema, ReadsRun}

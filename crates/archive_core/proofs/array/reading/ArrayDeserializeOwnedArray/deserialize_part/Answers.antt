@@ -1,4 +1,4 @@
-use Rattle.std.proofs.Common.{◌≡◌, length, refl, inr}
+use Rattle.std.proofs.Common.{refl, inr}
 use Rattle.archive_check.specs.Shape.{array, one}
 use Rattle.archive_core.proofs.ArraysShown.{array_element_viewed}
 use Rattle.archive_core.proofs.Causes.{err_by}
