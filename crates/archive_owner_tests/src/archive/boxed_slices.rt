@@ -34,25 +34,26 @@ fn boxed_texts(rt: HostRuntime) -> Result<(), Fail> {
 }
 
 #[test]
-fn a_pointer_is_written_by_itself(rt: HostRuntime) {
+fn a_pointer_is_written_by_itself(rt: HostRuntime) -> Result<(), Fail> {
     let mut serializer = Serializer::new(Vec::new(rt.alloc()), rt.alloc(), ());
     let text = Text {
         text: "hello world",
     };
     let region = serialize_using(&text, &mut serializer);
     assert_same(&rt, "the text", region, Ok(0));
-    let end = serializer.align_for::<ArchivedU32>();
-    assert_same(&rt, "zeros", end, Ok(12));
-    let pointer = serializer.resolve_unsized_aligned(&text, 0);
-    assert_same(&rt, "a pointer to it", pointer, Ok(12));
-    let pointer = serializer.resolve_unsized_aligned(&7u8, 24);
-    assert_same(&rt, "a pointer to a byte", pointer, Ok(20));
+    let end = serializer.align_for::<ArchivedU32>()?;
+    assert_same(&rt, "zeros", end, 12);
+    let pointer = serializer.resolve_unsized_aligned(&text, 0)?;
+    assert_same(&rt, "a pointer to it", pointer, 12);
+    let pointer = serializer.resolve_unsized_aligned(&7u8, 24)?;
+    assert_same(&rt, "a pointer to a byte", pointer, 20);
     let far = serializer.resolve_unsized_aligned(&7u8, 4_294_967_296);
     assert_same(&rt, "too far", far, Err(Error::OffsetOverflow));
     assert_same(&rt, "the end", serializer.pos(), 24);
     let bytes = serializer.into_writer();
     let right = b"hello world\0\xf4\xff\xff\xff\x0b\0\0\0\x04\0\0\0";
     assert_same(&rt, "the bytes", bytes.as_slice(), right);
+    Ok(())
 }
 
 #[test]
