@@ -60,18 +60,18 @@ pub type RcWeakResolver = Option<RcResolver>;
 pub(super) fn write_shared<F: Flavor, U: SerializeUnsized<S>, S: Sharing + Writer>(
     key: u64,
     value: &U,
-    serializer: &mut S,
+    writer: &mut S,
 ) -> Result<usize, Error>
-    ensures serialized { IfOk result (IsShared F.Flavor U.Archived.ArchivePointee U.ArchiveUnsized key value.now S.Keys serializer) }
-    ensures goes_on { GoesOn (S.state serializer.old) (S.state serializer.new) }
-    ensures refused { IfErr result (IsntShared F.Flavor U.Archived.ArchivePointee U.ArchiveUnsized key value.now S.Keys serializer) }
-    ensures pending { AnswersPending key result S.Keys serializer }
+    ensures serialized { IfOk result (IsShared F.Flavor U.Archived.ArchivePointee U.ArchiveUnsized key value.now S.Keys writer) }
+    ensures goes_on { GoesOn (S.state writer.old) (S.state writer.new) }
+    ensures refused { IfErr result (IsntShared F.Flavor U.Archived.ArchivePointee U.ArchiveUnsized key value.now S.Keys writer) }
+    ensures pending { AnswersPending key result S.Keys writer }
 {
-    let pos = serializer.serialize_shared(key, value)?;
-    if serializer.pos() != pos {
+    let pos = writer.serialize_shared(key, value)?;
+    if writer.pos() != pos {
         return Ok(pos);
     }
-    serializer.write(&[0])?;
+    writer.write(&[0])?;
     Ok(pos)
 }
 

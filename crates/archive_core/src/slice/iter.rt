@@ -41,15 +41,15 @@ pub(super) fn element_at<'a, T: Portable>(part: RawView<'a>, index: usize) -> Re
 }
 
 impl<'a, T: Portable> Iter<'a, T> {
-    // Views of elements, of which there are so many from the position of `part` on.
-    pub(crate) fn over(part: RawView<'a>, count: usize) -> Iter<'a, T>
-        requires { AreViewed T.definitions part.bytes.now part.pos T.layout.size T.pointee count }
-        ensures { elements_between result.slice T.layout.size result.front result.back ≡ first_elements part.entry T.layout.size count }
+    // Views of elements, of which there are so many from the position of `run` on.
+    pub(crate) fn over(run: RawView<'a>, len: usize) -> Iter<'a, T>
+        requires { AreViewed T.definitions run.bytes.now run.pos T.layout.size T.pointee len }
+        ensures { elements_between result.slice T.layout.size result.front result.back ≡ first_elements run.entry T.layout.size len }
     {
         Iter {
-            slice: part,
+            slice: run,
             front: 0,
-            back: count,
+            back: len,
             of: PhantomData,
         }
     }
