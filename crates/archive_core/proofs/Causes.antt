@@ -75,50 +75,50 @@ explains_sooner own all reaches whole old new e f m (no_room h) = no_room (recor
 explains_sooner own all reaches whole old new e f m (device_failed h) = device_failed h
 explains_sooner own all reaches whole old new e f m (own_cause h) = own_cause (f h)
 
-full_now : (r : Option ℕ) (n place len count cap position : ℕ) → place ≡ len → count ≡ n → position ≡ place
-    → IsSomeAnd r (λ room. (room < n) × (cap ≡ place + room)) → IsSomeAnd r (λ room. (cap ≡ len + room) × (cap < position + count))
-full_now None n place len count cap position e f g h = absurd h
-full_now (Some room) n place len count cap position e f g h = (omega (arith, h.1), omega (arith, h.0, h.1))
+full_now : (r : Option ℕ) (n begin len count cap position : ℕ) → begin ≡ len → count ≡ n → position ≡ begin
+    → IsSomeAnd r (λ room. (room < n) × (cap ≡ begin + room)) → IsSomeAnd r (λ room. (cap ≡ len + room) × (cap < position + count))
+full_now None n begin len count cap position e f g h = absurd h
+full_now (Some room) n begin len count cap position e f g h = (omega (arith, h.1), omega (arith, h.0, h.1))
 
 -- a write of n bytes was refused
-pub explains_write : (own : Error → Type 0) (reaches : ℕ → Type 0) (n place : ℕ) (old new : WriterState) (e : Error) → place ≡ length old.bytes → reaches (place + n)
-    → ExplainsRefusal n place old.room old.failures new.failures e → Explains own reaches old new e
-explains_write own reaches n place old new OutOfMemory here fits h = no_memory
-explains_write own reaches n place old new (BufferOverflow count cap position) here fits h = no_room (record {
+pub explains_write : (own : Error → Type 0) (reaches : ℕ → Type 0) (n position : ℕ) (old new : WriterState) (e : Error) → position ≡ length old.bytes → reaches (position + n)
+    → ExplainsRefusal n position old.room old.failures new.failures e → Explains own reaches old new e
+explains_write own reaches n position old new OutOfMemory here fits h = no_memory
+explains_write own reaches n position old new (BufferOverflow count cap at) here fits h = no_room (record {
   behind = omega (arith, h.1, here);
   planned = rw (h.0, h.1) fits;
-  full = full_now old.room n place (length old.bytes) count cap position here h.0 h.1 h.2;
+  full = full_now old.room n position (length old.bytes) count cap at here h.0 h.1 h.2;
 })
-explains_write own reaches n place old new WriterFailed here fits h = device_failed h
-explains_write own reaches n place old new IsizeOverflow here fits h = absurd h
-explains_write own reaches n place old new OffsetOverflow here fits h = absurd h
-explains_write own reaches n place old new PositionTooLarge here fits h = absurd h
-explains_write own reaches n place old new LengthTooLarge here fits h = absurd h
-explains_write own reaches n place old new NumberTooLarge here fits h = absurd h
-explains_write own reaches n place old new StringTooLong here fits h = absurd h
-explains_write own reaches n place old new ItemWrote here fits h = absurd h
-explains_write own reaches n place old new CyclicSerialize here fits h = absurd h
-explains_write own reaches n place old new CyclicValidate here fits h = absurd h
-explains_write own reaches n place old new CyclicDeserialize here fits h = absurd h
-explains_write own reaches n place old new NotStarted here fits h = absurd h
-explains_write own reaches n place old new AlreadyFinished here fits h = absurd h
-explains_write own reaches n place old new ExceededMaximumSubtreeDepth here fits h = absurd h
-explains_write own reaches n place old new RangePoppedTooManyTimes here fits h = absurd h
-explains_write own reaches n place old new RangePoppedOutOfOrder here fits h = absurd h
-explains_write own reaches n place old new TypeMismatch here fits h = absurd h
-explains_write own reaches n place old new MetadataMismatch here fits h = absurd h
-explains_write own reaches n place old new LayoutTooLarge here fits h = absurd h
-explains_write own reaches n place old new InvalidBool here fits h = absurd h
-explains_write own reaches n place old new InvalidChar here fits h = absurd h
-explains_write own reaches n place old new ZeroNumber here fits h = absurd h
-explains_write own reaches n place old new InvalidUtf8 here fits h = absurd h
-explains_write own reaches n place old new InvalidStringRepr here fits h = absurd h
-explains_write own reaches n place old new ShapeConflict here fits h = absurd h
-explains_write own reaches n place old new RecursiveLayout here fits h = absurd h
-explains_write own reaches n place old new UnsortedKeys here fits h = absurd h
-explains_write own reaches n place old new (InvalidSubtreePointer a b c d) here fits h = absurd h
-explains_write own reaches n place old new (UnalignedPointer a b) here fits h = absurd h
-explains_write own reaches n place old new (InvalidDiscriminant a b) here fits h = absurd h
+explains_write own reaches n position old new WriterFailed here fits h = device_failed h
+explains_write own reaches n position old new IsizeOverflow here fits h = absurd h
+explains_write own reaches n position old new OffsetOverflow here fits h = absurd h
+explains_write own reaches n position old new PositionTooLarge here fits h = absurd h
+explains_write own reaches n position old new LengthTooLarge here fits h = absurd h
+explains_write own reaches n position old new NumberTooLarge here fits h = absurd h
+explains_write own reaches n position old new StringTooLong here fits h = absurd h
+explains_write own reaches n position old new ItemWrote here fits h = absurd h
+explains_write own reaches n position old new CyclicSerialize here fits h = absurd h
+explains_write own reaches n position old new CyclicValidate here fits h = absurd h
+explains_write own reaches n position old new CyclicDeserialize here fits h = absurd h
+explains_write own reaches n position old new NotStarted here fits h = absurd h
+explains_write own reaches n position old new AlreadyFinished here fits h = absurd h
+explains_write own reaches n position old new ExceededMaximumSubtreeDepth here fits h = absurd h
+explains_write own reaches n position old new RangePoppedTooManyTimes here fits h = absurd h
+explains_write own reaches n position old new RangePoppedOutOfOrder here fits h = absurd h
+explains_write own reaches n position old new TypeMismatch here fits h = absurd h
+explains_write own reaches n position old new MetadataMismatch here fits h = absurd h
+explains_write own reaches n position old new LayoutTooLarge here fits h = absurd h
+explains_write own reaches n position old new InvalidBool here fits h = absurd h
+explains_write own reaches n position old new InvalidChar here fits h = absurd h
+explains_write own reaches n position old new ZeroNumber here fits h = absurd h
+explains_write own reaches n position old new InvalidUtf8 here fits h = absurd h
+explains_write own reaches n position old new InvalidStringRepr here fits h = absurd h
+explains_write own reaches n position old new ShapeConflict here fits h = absurd h
+explains_write own reaches n position old new RecursiveLayout here fits h = absurd h
+explains_write own reaches n position old new UnsortedKeys here fits h = absurd h
+explains_write own reaches n position old new (InvalidSubtreePointer a b c d) here fits h = absurd h
+explains_write own reaches n position old new (UnalignedPointer a b) here fits h = absurd h
+explains_write own reaches n position old new (InvalidDiscriminant a b) here fits h = absurd h
 
 pub explains_own : (own : Error → Type 0) (reaches : ℕ → Type 0) (old new : WriterState) (e : Error) → own e → Explains own reaches old new e
 explains_own own reaches old new e h = own_cause h

@@ -104,16 +104,16 @@ module _ {A : Type 0} (D : Definitions) (X : Shape) (size : ℕ) (m : A → Valu
         }
 
     -- a piece is refused
-    pub copies_broken : (new : WriterState) (rest piece later : List A) (start bytes place : ℕ) (e : Error) → rest ≡ piece ++ later → start ≡ length first.bytes → bytes ≡ size
-        → Copies D X size m b first now all rest → GoesOn now new → place ≡ length now.bytes
-        → ExplainsRefusal (length piece * size) place now.room now.failures new.failures e → IsUnwritten (start + length all * bytes) first new e
-    copies_broken new rest piece later start bytes place e cut begin same h g here refused =
+    pub copies_broken : (new : WriterState) (rest piece later : List A) (start bytes position : ℕ) (e : Error) → rest ≡ piece ++ later → start ≡ length first.bytes → bytes ≡ size
+        → Copies D X size m b first now all rest → GoesOn now new → position ≡ length now.bytes
+        → ExplainsRefusal (length piece * size) position now.room now.failures new.failures e → IsUnwritten (start + length all * bytes) first new e
+    copies_broken new rest piece later start bytes position e cut begin same h g here refused =
         let end : ℕ = start + length all * bytes in
         let whole : end ≡ length first.bytes + length all * size = λ i. begin i + length all * same i in
         let c : Copies D X size m b first now all (piece ++ later) = rw cut at h in
         let many : (length piece + length later) * size ≡ length piece * size + length later * size = add-mul (length piece) (length later) size in
         explains_later (λ x. ⊥) (λ x. ⊥) (λ n. n ≤ end) _ first now new e c.goes g (λ x. x) (λ n x. x)
-        (explains_write (λ x. ⊥) (λ n. n ≤ end) (length piece * size) place now new e here
+        (explains_write (λ x. ⊥) (λ n. n ≤ end) (length piece * size) position now new e here
         (omega (arith, here, whole, c.ends, many, ap (λ z. z * size) (length-append piece later))) refused)
 
     -- none is left
@@ -258,8 +258,8 @@ module _ {A : Type 0} (D : Definitions) (X : Shape) (L : Layout) (k : A → List
             named = rw (x.0) of_layout;
             cause = λ below s names l n. (
                 let q = planned below s names l n in
-                let t : ℕ = up q.stop.place (align_of s.layouts X) in
-                let here : copies_from L (length old.bytes) ≡ t = padded (length old.bytes) L.align is ∙ ap (λ p. up p L.align) q.such.1.place ∙ ap (up q.stop.place) (sym (align_is layout s l)) in
+                let t : ℕ = up q.stop.position (align_of s.layouts X) in
+                let here : copies_from L (length old.bytes) ≡ t = padded (length old.bytes) L.align is ∙ ap (λ p. up p L.align) q.such.1.position ∙ ap (up q.stop.position) (sym (align_is layout s l)) in
                 let size : length xs * size_of s.layouts X ≡ length xs * L.size = ap (λ z. length xs * z) (size_is layout s l) in
                 let ends : 2 ^ 64 ≤ t + length xs * size_of s.layouts X = omega (arith, here, x.1, size) in
                 run_plan D X (length xs) (each_keys k xs) (each_meaning m xs) s names (cursor old) _ _ q t refl
@@ -267,8 +267,8 @@ module _ {A : Type 0} (D : Definitions) (X : Shape) (L : Layout) (k : A → List
           })
           (λ p x below s names l n. (
           let q = planned below s names l n in
-          let t : ℕ = up q.stop.place (align_of s.layouts X) in
-          let here : copies_from L (length old.bytes) ≡ t = padded (length old.bytes) L.align is ∙ ap (λ p. up p L.align) q.such.1.place ∙ ap (up q.stop.place) (sym (align_is layout s l)) in
+          let t : ℕ = up q.stop.position (align_of s.layouts X) in
+          let here : copies_from L (length old.bytes) ≡ t = padded (length old.bytes) L.align is ∙ ap (λ p. up p L.align) q.such.1.position ∙ ap (up q.stop.position) (sym (align_is layout s l)) in
           let size : length xs * size_of s.layouts X ≡ length xs * L.size = ap (λ z. length xs * z) (size_is layout s l) in
           run_plan D X (length xs) (each_keys k xs) (each_meaning m xs) s names (cursor old) _ _ q t refl (omega (arith, here, x, size)))) h
 

@@ -20,9 +20,9 @@ module _ (D : Definitions) (X : Shape) (ks : List Naming) (v flat : Value) (L : 
   boxed_there t mid low new pads puts at = record { since = λ old g h. serialized_box D (one X) 0 ks v t old new (serialized_one D X ks v flat L t old mid low new h pads puts at) }
 
   -- there is no room for the padding
-  pub unpadded : (place : ℕ) (mid new : WriterState) (e : Error) → IsAlign L.align → HasLayout D X L → place ≡ length mid.bytes → GoesOn mid new
-      → ExplainsRefusal (padding L.align place) place mid.room mid.failures new.failures e → IsNotBoxed D X ks v flat mid new e
-  unpadded place mid new e is layout at k refusal = record { since = λ old g h. box_refused D (one X) 0 ks v old new e (one_padded D X ks v flat L place old mid new e is layout h g at k refusal) }
+  pub unpadded : (position : ℕ) (mid new : WriterState) (e : Error) → IsAlign L.align → HasLayout D X L → position ≡ length mid.bytes → GoesOn mid new
+      → ExplainsRefusal (padding L.align position) position mid.room mid.failures new.failures e → IsNotBoxed D X ks v flat mid new e
+  unpadded position mid new e is layout at k refusal = record { since = λ old g h. box_refused D (one X) 0 ks v old new e (one_padded D X ks v flat L position old mid new e is layout h g at k refusal) }
 
   -- the region isn't written
   pub unresolved : (mid low new : WriterState) (e : Error) → HasLayout D X L → Pads L.align mid low → GoesOn mid low → GoesOn low new

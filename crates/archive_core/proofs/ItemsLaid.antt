@@ -88,8 +88,8 @@ module _ (D : Definitions) (X : Shape) (keys : List Naming) (v flat : Value) (fi
         fills = λ w c. fills_elsewhere w.schema w.bytes (writes.fills (told w mid.bytes) (covers w c)) shared;
         plans = λ s names below k m. (
             let q = planned (λ key t is. omega (arith, below key t (rw same at is), later)) s names k m in
-            let r = plans_anywhere s k.laid_out names q.plans (omega (arith, q.such.1.place, ap length silent)) (rw (same) (subst (λ z. AreFinished z v) still writes.finished)) (rw (q.such.0) shared) in
-            rw (← q.such.0) (subst (λ z. Plans s names X v (record { place = length first.bytes; states = z }) q.flat [] (record { place = length first.bytes; states = z })) same (r.1 (length first.bytes))));
+            let r = plans_anywhere s k.laid_out names q.plans (omega (arith, q.such.1.position, ap length silent)) (rw (same) (subst (λ z. AreFinished z v) still writes.finished)) (rw (q.such.0) shared) in
+            rw (← q.such.0) (subst (λ z. Plans s names X v (record { position = length first.bytes; states = z }) q.flat [] (record { position = length first.bytes; states = z })) same (r.1 (length first.bytes))));
       }
 
 lead_back_none : (D : Definitions) (X : Shape) (first : WriterState) → LeadBack D X 0 [] no_value no_value first
@@ -130,7 +130,7 @@ serialized_back D X n keys vs flats first h = serialized_run
       };
       fills = h.fills;
     })
-    (λ below s names k m. record { flats = flats; steps = []; stop = cursor first; plans = h.plans s names below k m; such = (refl, record { place = refl; keys = λ j. refl }) })
+    (λ below s names k m. record { flats = flats; steps = []; stop = cursor first; plans = h.plans s names below k m; such = (refl, record { position = refl; keys = λ j. refl }) })
 
 -- what was put where the writer stood with the same bytes and keys
 puts_from : (D : Definitions) (X : Shape) (L : Layout) (v : Value) (old mid new : WriterState) → mid.bytes ≡ old.bytes → mid.states ≡ old.states → Puts D mid new X L v → Puts D old new X L v

@@ -31,7 +31,7 @@ use Rattle.archive_core.proofs.Causes.{explains_write, explains_sooner, explains
 use Rattle.archive_core.proofs.StringsWritten.{flat_inline, flat_out_of_line, writes_inline, lays_text, writes_out_of_line}
 
 pub is_here : (w : WriterState) → IsAt (cursor w) w
-is_here w = record { place = refl; keys = λ k. refl }
+is_here w = record { position = refl; keys = λ k. refl }
 
 -- leaves
 
@@ -59,7 +59,7 @@ isize_refused D z old new h = number_refused D (number_kind signed w32) z old ne
 pub serialized_text : (D : Definitions) (old new : WriterState) (bs : List ℕ) (t : ℕ) → IsUtf8 bs → new.bytes ≡ old.bytes ++ bs → t ≡ length old.bytes
     → KeepsKeys old.states new.states → SerializedRegion D text (length bs) [] (text_value bs) t old new
 serialized_text D old new bs t u grown here keys = serialized_region (lays_text D old new bs t u grown here keys)
-    (λ below s names k n. text_region s names bs (cursor old) _ (sym here, record { place = ap length grown ∙ length-append old.bytes bs; keys = keys }))
+    (λ below s names k n. text_region s names bs (cursor old) _ (sym here, record { position = ap length grown ∙ length-append old.bytes bs; keys = keys }))
 
 pub long_text_refused : (D : Definitions) (old new : WriterState) (bs : List ℕ) → 4294967295 < length bs → IsRegionRefused D text (length bs) [] (text_value bs) old new LengthTooLarge
 long_text_refused D old new bs long = own_cause (record {
@@ -67,10 +67,10 @@ long_text_refused D old new bs long = own_cause (record {
   cause = λ below s names k n. text_region s names bs (cursor old) _ (lays (region_at s (length old.bytes) text (length bs) false) (text_value bs), contains_first [] _, length_hinders long);
 })
 
-pub text_refused : (D : Definitions) (old new : WriterState) (bs : List ℕ) (place : ℕ) (e : Error) → place ≡ length old.bytes
-    → ExplainsRefusal (length bs) place old.room old.failures new.failures e → IsRegionRefused D text (length bs) [] (text_value bs) old new e
-text_refused D old new bs place e here h =
-    explains_write _ _ (length bs) place old new e here (λ below s names k n. text_region s names bs (cursor old) _ (omega (arith, here))) h
+pub text_refused : (D : Definitions) (old new : WriterState) (bs : List ℕ) (position : ℕ) (e : Error) → position ≡ length old.bytes
+    → ExplainsRefusal (length bs) position old.room old.failures new.failures e → IsRegionRefused D text (length bs) [] (text_value bs) old new e
+text_refused D old new bs position e here h =
+    explains_write _ _ (length bs) position old new e here (λ below s names k n. text_region s names bs (cursor old) _ (omega (arith, here))) h
 
 -- strings
 
@@ -145,18 +145,18 @@ module _ (D : Definitions) (X : Shape) (ks : List Naming) (v : Value) where
   serialized_one flat L t old mid low new (serialized writes planned) pads puts here = serialized_region (lays_one D old mid low new ks flat v X L t writes pads puts here)
       (λ below s names k n. (
       let q = planned below s names k n in
-      one_plan D X ks v s names (cursor old) _ _ q t (here ∙ pads.aligned ∙ ap (λ m. up m L.align) q.such.1.place ∙ ap (up q.stop.place) (sym (align_is puts.layout s k))) (
+      one_plan D X ks v s names (cursor old) _ _ q t (here ∙ pads.aligned ∙ ap (λ m. up m L.align) q.such.1.position ∙ ap (up q.stop.position) (sym (align_is puts.layout s k))) (
         refl,
         record {
-          place = omega (arith, ap length puts.grown, length-append low.bytes puts.added, puts.sized, size_is puts.layout s k, here);
+          position = omega (arith, ap length puts.grown, length-append low.bytes puts.added, puts.sized, size_is puts.layout s k, here);
           keys = λ key. ap (λ f. f key) (puts.states ∙ pads.states) ∙ q.such.1.keys key;
         },
       )))
 
-  pub serialized_if : (r : Result ℕ Error) (flat : Value) (L : Layout) (place : ℕ) (old mid low new : WriterState) → Serialized D X ks v flat old mid → Pads L.align mid low → OnOk r (Puts D low new X L flat)
-      → place ≡ length low.bytes → IfOk r (λ t. t ≡ place) → IfOk r (λ t. SerializedRegion D (one X) 0 ks v t old new)
-  serialized_if (Ok t) flat L place old mid low new h pads puts here at = serialized_one flat L t old mid low new h pads puts (at ∙ here)
-  serialized_if (Err e) flat L place old mid low new h pads puts here at = tt
+  pub serialized_if : (r : Result ℕ Error) (flat : Value) (L : Layout) (position : ℕ) (old mid low new : WriterState) → Serialized D X ks v flat old mid → Pads L.align mid low → OnOk r (Puts D low new X L flat)
+      → position ≡ length low.bytes → IfOk r (λ t. t ≡ position) → IfOk r (λ t. SerializedRegion D (one X) 0 ks v t old new)
+  serialized_if (Ok t) flat L position old mid low new h pads puts here at = serialized_one flat L t old mid low new h pads puts (at ∙ here)
+  serialized_if (Err e) flat L position old mid low new h pads puts here at = tt
 
   -- what it owns isn't written
   pub one_owned : (old new : WriterState) (e : Error) → IsRefused D X ks v old new e → IsRegionRefused D (one X) 0 ks v old new e
@@ -165,7 +165,7 @@ module _ (D : Definitions) (X : Shape) (ks : List Naming) (v : Value) where
         named = x.named;
         cause = λ below s names k n. (
             let q = x.cause below s names k n in
-            let t : ℕ = up q.stop.place (align_of s.layouts X) in
+            let t : ℕ = up q.stop.position (align_of s.layouts X) in
             let last : Step = lays (region_at s t (one X) 0 false) q.flat in
             one_plan D X ks v s names (cursor old) _ _ q t refl (elim q.such [
               | inl y ↦ (y.0, Contains-append_left q.steps (last ∷ []) y.0 y.1, y.2)
@@ -174,17 +174,17 @@ module _ (D : Definitions) (X : Shape) (ks : List Naming) (v : Value) where
       })
       (λ m x below s names k n. (
       let q = x below s names k n in
-      one_plan D X ks v s names (cursor old) _ _ q (up q.stop.place (align_of s.layouts X)) refl (omega (arith, q.such, up_le q.stop.place (align_of s.layouts X) (align_pos s.layouts k.laid_out.aligned X))))) h
+      one_plan D X ks v s names (cursor old) _ _ q (up q.stop.position (align_of s.layouts X)) refl (omega (arith, q.such, up_le q.stop.position (align_of s.layouts X) (align_pos s.layouts k.laid_out.aligned X))))) h
 
   -- nor the zeros behind that
-  pub one_padded : (flat : Value) (L : Layout) (place : ℕ) (old mid new : WriterState) (e : Error) → IsAlign L.align → HasLayout D X L → Serialized D X ks v flat old mid → GoesOn old mid → place ≡ length mid.bytes
-      → GoesOn mid new → ExplainsRefusal (padding L.align place) place mid.room mid.failures new.failures e → IsRegionRefused D (one X) 0 ks v old new e
-  one_padded flat L place old mid new e is layout (serialized writes planned) g here k refused =
-      explains_later (HindersRegion D (one X) 0 ks v (cursor old)) _ (RegionReaches D (one X) 0 ks v (cursor old)) _ old mid new e g k (λ x. x) (λ m x. x) (explains_write _ _ (padding L.align place) place mid new e here (λ below s names l n. (
+  pub one_padded : (flat : Value) (L : Layout) (position : ℕ) (old mid new : WriterState) (e : Error) → IsAlign L.align → HasLayout D X L → Serialized D X ks v flat old mid → GoesOn old mid → position ≡ length mid.bytes
+      → GoesOn mid new → ExplainsRefusal (padding L.align position) position mid.room mid.failures new.failures e → IsRegionRefused D (one X) 0 ks v old new e
+  one_padded flat L position old mid new e is layout (serialized writes planned) g here k refused =
+      explains_later (HindersRegion D (one X) 0 ks v (cursor old)) _ (RegionReaches D (one X) 0 ks v (cursor old)) _ old mid new e g k (λ x. x) (λ m x. x) (explains_write _ _ (padding L.align position) position mid new e here (λ below s names l n. (
       let q = planned below s names l n in
-      let t : ℕ = up q.stop.place (align_of s.layouts X) in
-      let there : up place L.align ≡ t = ap (λ m. up m L.align) (here ∙ q.such.1.place) ∙ ap (up q.stop.place) (sym (align_is layout s l)) in
-      one_plan D X ks v s names (cursor old) _ _ q t refl (omega (arith, padded place L.align is, there)))) refused)
+      let t : ℕ = up q.stop.position (align_of s.layouts X) in
+      let there : up position L.align ≡ t = ap (λ m. up m L.align) (here ∙ q.such.1.position) ∙ ap (up q.stop.position) (sym (align_is layout s l)) in
+      one_plan D X ks v s names (cursor old) _ _ q t refl (omega (arith, padded position L.align is, there)))) refused)
 
   -- nor its own region
   pub one_hindered : (flat : Value) (L : Layout) (old mid low new : WriterState) (e : Error) → HasLayout D X L → Serialized D X ks v flat old mid → Pads L.align mid low
@@ -208,10 +208,10 @@ module _ (D : Definitions) (X : Shape) (ks : List Naming) (v : Value) where
     where
       plan : AreBelow (cursor old) → (s : Schema) (names : NameMap) → Knows s D → AreNamed names ks → (such : ℕ → List Step → Cursor → Type 0)
           → ((q : PlanOf s names X v (cursor old) (λ w C b. (w ≡ flat) × IsAt b mid)) (t : ℕ) → t ≡ length low.bytes → q.flat ≡ flat
-          → such t (q.steps ++ lays (region_at s t (one X) 0 false) q.flat ∷ []) (record { place = t + size_of s.layouts X; states = q.stop.states }))
+          → such t (q.steps ++ lays (region_at s t (one X) 0 false) q.flat ∷ []) (record { position = t + size_of s.layouts X; states = q.stop.states }))
           → RegionPlan s names (one X) 0 v (cursor old) such
       plan below s names l n such f =
           let q = planned below s names l n in
-          let t : ℕ = up q.stop.place (align_of s.layouts X) in
-          let here : t ≡ length low.bytes = sym (pads.aligned ∙ ap (λ m. up m L.align) q.such.1.place ∙ ap (up q.stop.place) (sym (align_is layout s l))) in
+          let t : ℕ = up q.stop.position (align_of s.layouts X) in
+          let here : t ≡ length low.bytes = sym (pads.aligned ∙ ap (λ m. up m L.align) q.such.1.position ∙ ap (up q.stop.position) (sym (align_is layout s l))) in
           one_plan D X ks v s names (cursor old) _ such q t refl (f q t here q.such.0)

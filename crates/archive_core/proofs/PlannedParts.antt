@@ -23,7 +23,7 @@ use Rattle.archive_core.proofs.PlansForward.{parts_forward, plans_below}
 
 -- a writer stands where a plan ends
 pub is_at_same : (b : Cursor) (w : WriterState) → IsAt b w → b ≡ cursor w
-is_at_same b w h = λ i. record { place = sym h.place i; states = λ k. sym (h.keys k) i }
+is_at_same b w h = λ i. record { position = sym h.position i; states = λ k. sym (h.keys k) i }
 
 -- and the keys that are finished then stand below it
 pub below_later : (s : Schema) → LaidOut s → (names : NameMap) {X : Shape} {v w : Value} {a b : Cursor} {C : List Step} (mid : WriterState) → Plans s names X v a w C b → IsAt b mid → AreBelow a
@@ -33,7 +33,7 @@ below_later s l names {b = b} mid plans at below = subst AreBelow (is_at_same b 
 -- no part
 
 pub serialized_no_part : (D : Definitions) (w : WriterState) → SerializedParts D no_part [] no_value no_value w w
-serialized_no_part D w = serialized_parts (writes_none D w) (λ below s names k n. record { flats = no_value; steps = []; stop = cursor w; plans = plans_no_part; such = (refl, record { place = refl; keys = λ j. refl }) })
+serialized_no_part D w = serialized_parts (writes_none D w) (λ below s names k n. record { flats = no_value; steps = []; stop = cursor w; plans = plans_no_part; such = (refl, record { position = refl; keys = λ j. refl }) })
 
 -- one part, and others behind it
 module _ (D E : Definitions) (X : Shape) (ps : Parts) (ks ls : List Naming) (v : Value) (vs : Values) where

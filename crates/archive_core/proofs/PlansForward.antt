@@ -35,7 +35,7 @@ pointee_align_low s l text = omega arith
 
 -- what is written lies close together
 mutual
-  pub plans_tight : (s : Schema) (names : NameMap) {X : Shape} {v w : Value} {a b : Cursor} {C : List Step} → Plans s names X v a w C b → Tight a.place (laid C) b.place
+  pub plans_tight : (s : Schema) (names : NameMap) {X : Shape} {v w : Value} {a b : Cursor} {C : List Step} → Plans s names X v a w C b → Tight a.position (laid C) b.position
   plans_tight s names plans_leaf = refl
   plans_tight s names (plans_parts h) = parts_tight s names h
   plans_tight s names (plans_choice is h) = parts_tight s names h
@@ -49,31 +49,31 @@ mutual
   plans_tight s names (plans_weak h) = shared_tight s names h
   plans_tight s names (plans_named is h) = plans_tight s names h
 
-  pub parts_tight : (s : Schema) (names : NameMap) {ps : Parts} {vs ws : Values} {a b : Cursor} {C : List Step} → PlansParts s names ps vs a ws C b → Tight a.place (laid C) b.place
+  pub parts_tight : (s : Schema) (names : NameMap) {ps : Parts} {vs ws : Values} {a b : Cursor} {C : List Step} → PlansParts s names ps vs a ws C b → Tight a.position (laid C) b.position
   parts_tight s names plans_no_part = refl
-  parts_tight s names (plans_part {a = a} {b = b} {c = c} {C = C} {D = D} h i) = tight_both C D a.place b.place c.place (plans_tight s names h) (parts_tight s names i)
+  parts_tight s names (plans_part {a = a} {b = b} {c = c} {C = C} {D = D} h i) = tight_both C D a.position b.position c.position (plans_tight s names h) (parts_tight s names i)
 
-  pub run_tight : (s : Schema) (names : NameMap) {n : ℕ} {X : Shape} {vs ws : Values} {a b : Cursor} {C : List Step} → PlansRun s names n X vs a ws C b → Tight a.place (laid C) b.place
+  pub run_tight : (s : Schema) (names : NameMap) {n : ℕ} {X : Shape} {vs ws : Values} {a b : Cursor} {C : List Step} → PlansRun s names n X vs a ws C b → Tight a.position (laid C) b.position
   run_tight s names plans_none = refl
-  run_tight s names (plans_element {a = a} {b = b} {c = c} {C = C} {D = D} h i) = tight_both C D a.place b.place c.place (plans_tight s names h) (run_tight s names i)
+  run_tight s names (plans_element {a = a} {b = b} {c = c} {C = C} {D = D} h i) = tight_both C D a.position b.position c.position (plans_tight s names h) (run_tight s names i)
 
-  pub pointee_tight : (s : Schema) (names : NameMap) {P : Pointee} {n : ℕ} {v w : Value} {a b : Cursor} {C : List Step} → PlansPointee s names P n v a w C b → Tight a.place (laid C) b.place
+  pub pointee_tight : (s : Schema) (names : NameMap) {P : Pointee} {n : ℕ} {v w : Value} {a b : Cursor} {C : List Step} → PlansPointee s names P n v a w C b → Tight a.position (laid C) b.position
   pointee_tight s names (plans_one h) = plans_tight s names h
   pointee_tight s names (plans_run h) = run_tight s names h
   pointee_tight s names plans_text = refl
 
-  pub region_tight : (s : Schema) (names : NameMap) {is_shared : Bool} {P : Pointee} {n t : ℕ} {v : Value} {a b : Cursor} {C : List Step} → PlansRegion s names is_shared P n v a t C b → Tight a.place (laid C) b.place
+  pub region_tight : (s : Schema) (names : NameMap) {is_shared : Bool} {P : Pointee} {n t : ℕ} {v : Value} {a b : Cursor} {C : List Step} → PlansRegion s names is_shared P n v a t C b → Tight a.position (laid C) b.position
   region_tight s names (plans_region {is_shared = is_shared} {P = P} {n = n} {t = t} {w = w} {a = a} {b = b} {C = C} h at) =
-      tight_both C (lays (region_at s t P n is_shared) w ∷ []) a.place b.place (after (region_at s t P n is_shared)) (pointee_tight s names h) (at, refl)
+      tight_both C (lays (region_at s t P n is_shared) w ∷ []) a.position b.position (after (region_at s t P n is_shared)) (pointee_tight s names h) (at, refl)
 
-  pub shared_tight : (s : Schema) (names : NameMap) {flavor : Flavor} {P : Pointee} {key : ℕ} {w : Value} {a b : Cursor} {C : List Step} → PlansShared s names flavor P key a w C b → Tight a.place (laid C) b.place
+  pub shared_tight : (s : Schema) (names : NameMap) {flavor : Flavor} {P : Pointee} {key : ℕ} {w : Value} {a b : Cursor} {C : List Step} → PlansShared s names flavor P key a w C b → Tight a.position (laid C) b.position
   shared_tight s names (plans_new none is h) = region_tight s names h
   shared_tight s names (plans_finished at is) = refl
   shared_tight s names (plans_pending at) = refl
 
 -- and a plan ends no earlier than it begins
 mutual
-  pub plans_forward : (s : Schema) (l : LaidOut s) (names : NameMap) {X : Shape} {v w : Value} {a b : Cursor} {C : List Step} → Plans s names X v a w C b → a.place ≤ b.place
+  pub plans_forward : (s : Schema) (l : LaidOut s) (names : NameMap) {X : Shape} {v w : Value} {a b : Cursor} {C : List Step} → Plans s names X v a w C b → a.position ≤ b.position
   plans_forward s l names plans_leaf = omega arith
   plans_forward s l names (plans_parts h) = parts_forward s l names h
   plans_forward s l names (plans_choice is h) = parts_forward s l names h
@@ -87,24 +87,24 @@ mutual
   plans_forward s l names (plans_weak h) = shared_forward s l names h
   plans_forward s l names (plans_named is h) = plans_forward s l names h
 
-  pub parts_forward : (s : Schema) (l : LaidOut s) (names : NameMap) {ps : Parts} {vs ws : Values} {a b : Cursor} {C : List Step} → PlansParts s names ps vs a ws C b → a.place ≤ b.place
+  pub parts_forward : (s : Schema) (l : LaidOut s) (names : NameMap) {ps : Parts} {vs ws : Values} {a b : Cursor} {C : List Step} → PlansParts s names ps vs a ws C b → a.position ≤ b.position
   parts_forward s l names plans_no_part = omega arith
   parts_forward s l names (plans_part {a = a} {b = b} {c = c} {C = C} {D = D} h i) = omega (arith, plans_forward s l names h, parts_forward s l names i)
 
-  pub run_forward : (s : Schema) (l : LaidOut s) (names : NameMap) {n : ℕ} {X : Shape} {vs ws : Values} {a b : Cursor} {C : List Step} → PlansRun s names n X vs a ws C b → a.place ≤ b.place
+  pub run_forward : (s : Schema) (l : LaidOut s) (names : NameMap) {n : ℕ} {X : Shape} {vs ws : Values} {a b : Cursor} {C : List Step} → PlansRun s names n X vs a ws C b → a.position ≤ b.position
   run_forward s l names plans_none = omega arith
   run_forward s l names (plans_element {a = a} {b = b} {c = c} {C = C} {D = D} h i) = omega (arith, plans_forward s l names h, run_forward s l names i)
 
-  pub pointee_forward : (s : Schema) (l : LaidOut s) (names : NameMap) {P : Pointee} {n : ℕ} {v w : Value} {a b : Cursor} {C : List Step} → PlansPointee s names P n v a w C b → a.place ≤ b.place
+  pub pointee_forward : (s : Schema) (l : LaidOut s) (names : NameMap) {P : Pointee} {n : ℕ} {v w : Value} {a b : Cursor} {C : List Step} → PlansPointee s names P n v a w C b → a.position ≤ b.position
   pointee_forward s l names (plans_one h) = plans_forward s l names h
   pointee_forward s l names (plans_run h) = run_forward s l names h
   pointee_forward s l names plans_text = omega arith
 
-  pub region_forward : (s : Schema) (l : LaidOut s) (names : NameMap) {is_shared : Bool} {P : Pointee} {n t : ℕ} {v : Value} {a b : Cursor} {C : List Step} → PlansRegion s names is_shared P n v a t C b → a.place ≤ b.place
+  pub region_forward : (s : Schema) (l : LaidOut s) (names : NameMap) {is_shared : Bool} {P : Pointee} {n t : ℕ} {v : Value} {a b : Cursor} {C : List Step} → PlansRegion s names is_shared P n v a t C b → a.position ≤ b.position
   region_forward s l names (plans_region {is_shared = is_shared} {P = P} {n = n} {t = t} {w = w} {a = a} {b = b} {C = C} h at) =
-      omega (arith, at, pointee_forward s l names h, up_le b.place (pointee_align s P) (pointee_align_low s l P))
+      omega (arith, at, pointee_forward s l names h, up_le b.position (pointee_align s P) (pointee_align_low s l P))
 
-  pub shared_forward : (s : Schema) (l : LaidOut s) (names : NameMap) {flavor : Flavor} {P : Pointee} {key : ℕ} {w : Value} {a b : Cursor} {C : List Step} → PlansShared s names flavor P key a w C b → a.place ≤ b.place
+  pub shared_forward : (s : Schema) (l : LaidOut s) (names : NameMap) {flavor : Flavor} {P : Pointee} {key : ℕ} {w : Value} {a b : Cursor} {C : List Step} → PlansShared s names flavor P key a w C b → a.position ≤ b.position
   shared_forward s l names (plans_new none is h) = region_forward s l names h
   shared_forward s l names (plans_finished at is) = omega arith
   shared_forward s l names (plans_pending at) = omega arith
@@ -120,13 +120,13 @@ begun_below a key below k t is = elim (cases_eq k key) [
   | inr n ↦ below k t (sym (update_apart a.states key (Some None) k n) ∙ is)
 ]
 
-pub ended_below : (b : Cursor) (key p : ℕ) → p < b.place → AreBelow b → AreBelow (ended b key p)
+pub ended_below : (b : Cursor) (key p : ℕ) → p < b.position → AreBelow b → AreBelow (ended b key p)
 ended_below b key p less below k t is = elim (cases_eq k key) [
   | inl eq ↦ (let there : (ended b key p).states k ≡ Some (Some p) = rw eq (update_here b.states key (Some (Some p))) in let same : t ≡ p = cc in omega (arith, same, less))
   | inr n ↦ below k t (sym (update_apart b.states key (Some (Some p)) k n) ∙ is)
 ]
 
-pub region_ends : (s : Schema) (names : NameMap) {P : Pointee} {n t : ℕ} {v : Value} {a b : Cursor} {C : List Step} → PlansRegion s names true P n v a t C b → t < b.place
+pub region_ends : (s : Schema) (names : NameMap) {P : Pointee} {n t : ℕ} {v : Value} {a b : Cursor} {C : List Step} → PlansRegion s names true P n v a t C b → t < b.position
 region_ends s names (plans_region {P = P} {n = n} {t = t} h at) = ends_behind t (pointee_size s P n)
 
 -- where the keys that are finished stand below, so they do where the plan ends
@@ -160,7 +160,7 @@ mutual
 
   pub region_below : (s : Schema) (l : LaidOut s) (names : NameMap) {is_shared : Bool} {P : Pointee} {n t : ℕ} {v : Value} {a b : Cursor} {C : List Step} → PlansRegion s names is_shared P n v a t C b → AreBelow a → AreBelow b
   region_below s l names (plans_region {is_shared = is_shared} {P = P} {n = n} {t = t} {w = w} {a = a} {b = b} {C = C} h at) =
-      λ below k q is. omega (arith, at, pointee_below s l names h below k q is, up_le b.place (pointee_align s P) (pointee_align_low s l P))
+      λ below k q is. omega (arith, at, pointee_below s l names h below k q is, up_le b.position (pointee_align s P) (pointee_align_low s l P))
 
   pub shared_below : (s : Schema) (l : LaidOut s) (names : NameMap) {flavor : Flavor} {P : Pointee} {key : ℕ} {w : Value} {a b : Cursor} {C : List Step} → PlansShared s names flavor P key a w C b → AreBelow a → AreBelow b
   shared_below s l names (plans_new {key = key} {t = t} {a = a} {b = b} none is h) = λ below. ended_below b key t (region_ends s names h) (region_below s l names h (begun_below a key below))

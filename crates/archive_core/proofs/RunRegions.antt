@@ -110,7 +110,7 @@ module _ (D : Definitions) (X : Shape) (L : Layout) (n : ℕ) (v : Value) (vs : 
 pub record Completes {A R : Type 0} (D : Definitions) (X : Shape) (L : Layout) (f : A → R → Value) (b : A → R → Type 0) (first now : WriterState) (n : ℕ) (all : Values) (rest : List A) (left : List R) : Type 0 where
   pub goes : GoesOn first now
   pub states : KeepsKeys first.states now.states
-  pub place : length now.bytes + length rest * L.size < 2 ^ 64
+  pub position : length now.bytes + length rest * L.size < 2 ^ 64
   pub done : (new : WriterState) → PutsRun D now new X L (length rest) (each_flat f rest left) → PutsRun D first new X L n all
   pub refused : (new : WriterState) (e : Error) → GoesOn now new → AreUnresolved D X L (length rest) (each_flat f rest left) now new e → AreUnresolved D X L n all first new e
   pub belongs : EachBelongs b rest left
@@ -118,7 +118,7 @@ pub record Completes {A R : Type 0} (D : Definitions) (X : Shape) (L : Layout) (
 module _ {A R : Type 0} (D : Definitions) (X : Shape) (L : Layout) (f : A → R → Value) (b : A → R → Type 0) where
   pub completes_start : (first : WriterState) (all : List A) (rs : List R) → EachBelongs b all rs → length first.bytes + length all * L.size < 2 ^ 64
       → Completes D X L f b first first (length all) (each_flat f all rs) all rs
-  completes_start first all rs same fits = record { goes = goes_nowhere first; states = λ k. refl; place = fits; done = λ new h. h; refused = λ new e g h. h; belongs = same }
+  completes_start first all rs same fits = record { goes = goes_nowhere first; states = λ k. refl; position = fits; done = λ new h. h; refused = λ new e g h. h; belongs = same }
 
   -- there is a value for each resolver
   pub completes_more : (first now : WriterState) (n : ℕ) (all : Values) (rest : List A) (left later : List R) (r : R) → left ≡ r ∷ later → length rest ≡ 0 → Completes D X L f b first now n all rest left → ⊥
@@ -136,7 +136,7 @@ module _ {A R : Type 0} (D : Definitions) (X : Shape) (L : Layout) (f : A → R 
     place_here e h =
         let c : Completes D X L f b first now n all (x ∷ others) left = rw e at h in
         let many : suc (length others) * L.size ≡ length others * L.size + L.size = suc-mul (length others) L.size in
-        omega (arith, c.place, many)
+        omega (arith, c.position, many)
 
     pub completes_step : (next : WriterState) → rest ≡ x ∷ others → left ≡ r ∷ later → Completes D X L f b first now n all rest left → Puts D now next X L (f x r) → GoesOn now next
         → KeepsKeys now.states next.states → Completes D X L f b first next n all others later
@@ -147,7 +147,7 @@ module _ {A R : Type 0} (D : Definitions) (X : Shape) (L : Layout) (f : A → R 
         record {
           goes = goes_both first now next c.goes g;
           states = λ k. keys k ∙ c.states k;
-          place = omega (arith, c.place, there, many);
+          position = omega (arith, c.position, there, many);
           done = λ new q. c.done new (puts_element D now next new X L (length others) (f x r) (each_flat f others later) p q);
           refused = λ new e k q. c.refused new e (goes_both now next new g k) (later_unresolved D X L (length others) (f x r) (each_flat f others later) now next new e p g k q);
           belongs = c.belongs.1;
@@ -157,7 +157,7 @@ module _ {A R : Type 0} (D : Definitions) (X : Shape) (L : Layout) (f : A → R 
         → Explains (HindersRegionAt D X L (f x r) (length now.bytes)) (λ m. m ≤ length now.bytes + L.size) now new e → AreUnresolved D X L n all first new e
     completes_broken new w e d h g q =
         let c : Completes D X L f b first now n all (x ∷ others) (r ∷ later) = rw (e, d) at h in
-        c.refused new w g (first_unresolved D X L (length others) (f x r) (each_flat f others later) now now new w c.place q)
+        c.refused new w g (first_unresolved D X L (length others) (f x r) (each_flat f others later) now now new w c.position q)
 
   -- no resolver is left, and so no value
   pub completes_end : (first now : WriterState) (n : ℕ) (all : Values) (rest : List A) (left : List R) → HasLayout D X L → length left ≡ 0 → Completes D X L f b first now n all rest left → PutsRun D first now X L n all
@@ -201,18 +201,18 @@ module _ (D : Definitions) (X : Shape) (n : ℕ) (ks : List Naming) (vs : Values
   serialized_elements ws L t old mid low new (serialized_run writes planned) pads puts here = serialized_region (lays_run D old mid low new ks ws vs X L n t writes pads puts here)
       (λ below s names k m. (
       let q = planned below s names k m in
-      run_plan D X n ks vs s names (cursor old) _ _ q t (here ∙ pads.aligned ∙ ap (λ p. up p L.align) q.such.1.place ∙ ap (up q.stop.place) (sym (align_is puts.layout s k))) (
+      run_plan D X n ks vs s names (cursor old) _ _ q t (here ∙ pads.aligned ∙ ap (λ p. up p L.align) q.such.1.position ∙ ap (up q.stop.position) (sym (align_is puts.layout s k))) (
         refl,
         record {
-          place = ap length puts.grown ∙ length-append low.bytes puts.added ∙ (λ i. sym here i + (puts.sized ∙ ap (λ z. n * z) (sym (size_is puts.layout s k))) i);
+          position = ap length puts.grown ∙ length-append low.bytes puts.added ∙ (λ i. sym here i + (puts.sized ∙ ap (λ z. n * z) (sym (size_is puts.layout s k))) i);
           keys = λ key. ap (λ f. f key) (puts.states ∙ pads.states) ∙ q.such.1.keys key;
         },
       )))
 
-  pub serialized_elements_if : (r : Result ℕ Error) (ws : Values) (L : Layout) (place : ℕ) (old mid low new : WriterState) → SerializedRun D X n ks vs ws old mid → Pads L.align mid low → OnOk r (PutsRun D low new X L n ws)
-      → place ≡ length low.bytes → IfOk r (λ t. t ≡ place) → IfOk r (λ t. SerializedRegion D (run X) n ks (list vs) t old new)
-  serialized_elements_if (Ok t) ws L place old mid low new h pads puts here at = serialized_elements ws L t old mid low new h pads puts (at ∙ here)
-  serialized_elements_if (Err e) ws L place old mid low new h pads puts here at = tt
+  pub serialized_elements_if : (r : Result ℕ Error) (ws : Values) (L : Layout) (position : ℕ) (old mid low new : WriterState) → SerializedRun D X n ks vs ws old mid → Pads L.align mid low → OnOk r (PutsRun D low new X L n ws)
+      → position ≡ length low.bytes → IfOk r (λ t. t ≡ position) → IfOk r (λ t. SerializedRegion D (run X) n ks (list vs) t old new)
+  serialized_elements_if (Ok t) ws L position old mid low new h pads puts here at = serialized_elements ws L t old mid low new h pads puts (at ∙ here)
+  serialized_elements_if (Err e) ws L position old mid low new h pads puts here at = tt
 
   -- there are more than a pointer can say
   pub long_run_refused : (old new : WriterState) → HasRunPlan D X n ks vs → 4294967295 < n → IsRegionRefused D (run X) n ks (list vs) old new LengthTooLarge
@@ -220,7 +220,7 @@ module _ (D : Definitions) (X : Shape) (n : ℕ) (ks : List Naming) (vs : Values
     named = of_length;
     cause = λ below s names k m. (
         let q = plans (cursor old) s names k m in
-        run_plan D X n ks vs s names (cursor old) _ _ q _ refl (_, in_last q.steps _, length_hinders {r = region_at s (up q.stop.place (align_of s.layouts X)) (run X) n false} long));
+        run_plan D X n ks vs s names (cursor old) _ _ q _ refl (_, in_last q.steps _, length_hinders {r = region_at s (up q.stop.position (align_of s.layouts X)) (run X) n false} long));
   })
 
   -- what they own isn't written
@@ -230,7 +230,7 @@ module _ (D : Definitions) (X : Shape) (n : ℕ) (ks : List Naming) (vs : Values
         named = x.named;
         cause = λ below s names k m. (
             let q = x.cause below s names k m in
-            let t : ℕ = up q.stop.place (align_of s.layouts X) in
+            let t : ℕ = up q.stop.position (align_of s.layouts X) in
             let last : Step = lays (region_at s t (run X) n false) (list q.flats) in
             run_plan D X n ks vs s names (cursor old) _ _ q t refl (elim q.such [
               | inl y ↦ (y.0, Contains-append_left q.steps (last ∷ []) y.0 y.1, y.2)
@@ -239,18 +239,18 @@ module _ (D : Definitions) (X : Shape) (n : ℕ) (ks : List Naming) (vs : Values
       })
       (λ p x below s names k m. (
       let q = x below s names k m in
-      let more : q.stop.place ≤ up q.stop.place (align_of s.layouts X) = up_le q.stop.place (align_of s.layouts X) (align_pos s.layouts k.laid_out.aligned X) in
-      run_plan D X n ks vs s names (cursor old) _ _ q (up q.stop.place (align_of s.layouts X)) refl (omega (arith, q.such, more)))) h
+      let more : q.stop.position ≤ up q.stop.position (align_of s.layouts X) = up_le q.stop.position (align_of s.layouts X) (align_pos s.layouts k.laid_out.aligned X) in
+      run_plan D X n ks vs s names (cursor old) _ _ q (up q.stop.position (align_of s.layouts X)) refl (omega (arith, q.such, more)))) h
 
   -- nor the zeros behind that
-  pub run_padded : (ws : Values) (L : Layout) (place : ℕ) (old mid new : WriterState) (e : Error) → IsAlign L.align → HasLayout D X L → SerializedRun D X n ks vs ws old mid → GoesOn old mid → place ≡ length mid.bytes
-      → GoesOn mid new → ExplainsRefusal (padding L.align place) place mid.room mid.failures new.failures e → IsRegionRefused D (run X) n ks (list vs) old new e
-  run_padded ws L place old mid new e is layout (serialized_run writes planned) g here k refused =
-      explains_later (HindersRegion D (run X) n ks (list vs) (cursor old)) _ (RegionReaches D (run X) n ks (list vs) (cursor old)) _ old mid new e g k (λ x. x) (λ m x. x) (explains_write _ _ (padding L.align place) place mid new e here (λ below s names l m. (
+  pub run_padded : (ws : Values) (L : Layout) (position : ℕ) (old mid new : WriterState) (e : Error) → IsAlign L.align → HasLayout D X L → SerializedRun D X n ks vs ws old mid → GoesOn old mid → position ≡ length mid.bytes
+      → GoesOn mid new → ExplainsRefusal (padding L.align position) position mid.room mid.failures new.failures e → IsRegionRefused D (run X) n ks (list vs) old new e
+  run_padded ws L position old mid new e is layout (serialized_run writes planned) g here k refused =
+      explains_later (HindersRegion D (run X) n ks (list vs) (cursor old)) _ (RegionReaches D (run X) n ks (list vs) (cursor old)) _ old mid new e g k (λ x. x) (λ m x. x) (explains_write _ _ (padding L.align position) position mid new e here (λ below s names l m. (
       let q = planned below s names l m in
-      let t : ℕ = up q.stop.place (align_of s.layouts X) in
-      let there : up place L.align ≡ t = ap (λ p. up p L.align) (here ∙ q.such.1.place) ∙ ap (up q.stop.place) (sym (align_is layout s l)) in
-      run_plan D X n ks vs s names (cursor old) _ _ q t refl (omega (arith, padded place L.align is, there)))) refused)
+      let t : ℕ = up q.stop.position (align_of s.layouts X) in
+      let there : up position L.align ≡ t = ap (λ p. up p L.align) (here ∙ q.such.1.position) ∙ ap (up q.stop.position) (sym (align_is layout s l)) in
+      run_plan D X n ks vs s names (cursor old) _ _ q t refl (omega (arith, padded position L.align is, there)))) refused)
 
   -- nor the elements
   pub run_hindered : (ws : Values) (L : Layout) (old mid low new : WriterState) (e : Error) → HasLayout D X L → SerializedRun D X n ks vs ws old mid → Pads L.align mid low
@@ -278,10 +278,10 @@ module _ (D : Definitions) (X : Shape) (n : ℕ) (ks : List Naming) (vs : Values
     where
       plan : AreBelow (cursor old) → (s : Schema) (names : NameMap) → Knows s D → AreNamed names ks → (such : ℕ → List Step → Cursor → Type 0)
           → ((q : RunPlan s names n X vs (cursor old) (λ us C b. (us ≡ ws) × IsAt b mid)) (t : ℕ) → t ≡ length low.bytes → q.flats ≡ ws
-          → such t (q.steps ++ lays (region_at s t (run X) n false) (list q.flats) ∷ []) (record { place = t + n * size_of s.layouts X; states = q.stop.states }))
+          → such t (q.steps ++ lays (region_at s t (run X) n false) (list q.flats) ∷ []) (record { position = t + n * size_of s.layouts X; states = q.stop.states }))
           → RegionPlan s names (run X) n (list vs) (cursor old) such
       plan below s names l m such f =
           let q = planned below s names l m in
-          let t : ℕ = up q.stop.place (align_of s.layouts X) in
-          let here : t ≡ length low.bytes = sym (pads.aligned ∙ ap (λ p. up p L.align) q.such.1.place ∙ ap (up q.stop.place) (sym (align_is layout s l))) in
+          let t : ℕ = up q.stop.position (align_of s.layouts X) in
+          let here : t ≡ length low.bytes = sym (pads.aligned ∙ ap (λ p. up p L.align) q.such.1.position ∙ ap (up q.stop.position) (sym (align_is layout s l))) in
           run_plan D X n ks vs s names (cursor old) _ such q t refl (f q t here q.such.0)

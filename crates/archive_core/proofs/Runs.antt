@@ -41,7 +41,7 @@ writes_once D old new keys flats values h = record {
 -- no element, and one in front of others
 module _ (D : Definitions) (X : Shape) where
   pub serialized_none : (w : WriterState) → SerializedRun D X 0 [] no_value no_value w w
-  serialized_none w = serialized_run (writes_none D w) (λ below s names k m. record { flats = no_value; steps = []; stop = cursor w; plans = plans_none; such = (refl, record { place = refl; keys = λ j. refl }) })
+  serialized_none w = serialized_run (writes_none D w) (λ below s names k m. record { flats = no_value; steps = []; stop = cursor w; plans = plans_none; such = (refl, record { position = refl; keys = λ j. refl }) })
 
   module _ (n : ℕ) (ks ls : List Naming) (v : Value) (vs : Values) where
     element_plan : (s : Schema) (names : NameMap) (a : Cursor) (holds : Value → List Step → Cursor → Type 0) (rest such : Values → List Step → Cursor → Type 0) → (q : PlanOf s names X v a holds)

@@ -23,7 +23,7 @@ pub begun_cursor : (old mid : WriterState) (key : ℕ) → old.states key ≡ No
     → cursor mid ≡ begun (cursor old) key
 begun_cursor old mid key unknown same set =
     let states : mid.states ≡ update nat_eq old.states key (Some None) = (λ i k. (set k ∙ ap (λ s. update nat_eq old.states key (started s) k) unknown) i) in
-    (λ i. record { place = length (same.0 i); states = states i })
+    (λ i. record { position = length (same.0 i); states = states i })
 
 but_states : (a b : WriterState) → KeepsBytes a b → b ≡ record a { states = b.states }
 but_states a b (bytes, room, failures) = λ i. record { bytes = bytes i; room = room i; failures = failures i; states = b.states }
@@ -91,7 +91,7 @@ module _ (D : Definitions) (P : Pointee) (n : ℕ) (ks : List Naming) (v : Value
         such = (
           q.such.0,
           record {
-            place = ap length (like.0) ∙ q.such.1.place;
+            position = ap length (like.0) ∙ q.such.1.position;
             keys = λ j. finish j ∙ ap (λ f. update nat_eq f key (Some (Some p)) j) (λ i m. q.such.1.keys m i);
           },
         );

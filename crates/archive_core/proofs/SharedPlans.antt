@@ -34,7 +34,7 @@ module _ (D : Definitions) (P : Pointee) (n : ℕ) (ks : List Naming) (v : Value
       let q = planned (begun_below (cursor old) key below) s names k m.1 in
       let r = as_shared s names q.plans in
       let there : q.begin ≡ t = q.such.0 in
-      let place : length mid.bytes ≡ q.begin + r.size = q.such.1.place ∙ r.place in
+      let position : length mid.bytes ≡ q.begin + r.size = q.such.1.position ∙ r.position in
       let last : length tail ≡ cond (nat_eq (length mid.bytes) q.begin) 1 0 = few ∙ ap (λ p. cond (nat_eq (length mid.bytes) p) 1 0) (sym there) in
       record {
         flat = hole (to_shared q.begin flavor P n);
@@ -44,8 +44,8 @@ module _ (D : Definitions) (P : Pointee) (n : ℕ) (ks : List Naming) (v : Value
         such = (
           ap (λ p. hole (to_shared p flavor P n)) there,
           record {
-            place = ap length more ∙ length-append mid.bytes tail ∙ behind_empty q.begin r.size (length mid.bytes) (length tail) place last ∙ sym r.end;
-            keys = λ j. ap (λ f. f j) same ∙ q.such.1.keys j ∙ (λ i. (ended (record { place = r.stop.place; states = sym r.states i }) key (sym there i)).states j);
+            position = ap length more ∙ length-append mid.bytes tail ∙ behind_empty q.begin r.size (length mid.bytes) (length tail) position last ∙ sym r.end;
+            keys = λ j. ap (λ f. f j) same ∙ q.such.1.keys j ∙ (λ i. (ended (record { position = r.stop.position; states = sym r.states i }) key (sym there i)).states j);
           },
         );
       }))
@@ -64,7 +64,7 @@ module _ (D : Definitions) (P : Pointee) (n : ℕ) (ks : List Naming) (v : Value
         such = (
           refl,
           record {
-            place = stays (length old.bytes) (length new.bytes) (length tail) t (ap length more ∙ length-append old.bytes tail) few (below key t is);
+            position = stays (length old.bytes) (length new.bytes) (length tail) t (ap length more ∙ length-append old.bytes tail) few (below key t is);
             keys = λ j. ap (λ f. f j) same;
           },
         );

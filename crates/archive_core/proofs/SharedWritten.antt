@@ -83,7 +83,7 @@ module _ (D : Definitions) (P : Pointee) (n : ℕ) (ks : List Naming) (v : Value
         steps = _;
         stop = ended r.stop key q.begin;
         plans = plans_shared (plans_new none l.0 r.plans);
-        such = omega (arith, q.such, r.place, r.end, no_shorter q.begin r.size);
+        such = omega (arith, q.such, r.position, r.end, no_shorter q.begin r.size);
       })) h
 
   -- what `serialize_shared` refuses isn't written
@@ -103,11 +103,11 @@ module _ (D : Definitions) (P : Pointee) (n : ℕ) (ks : List Naming) (v : Value
     planned_byte : length mid.bytes ≡ p → Reaches D (shared flavor P) all (shared_value key) (cursor old) (p + 1)
     planned_byte here below s names k m = by_state (old.states key) refl
       where
-        with_new : old.states key ≡ None → SerializedShared D P n key ks v p old mid → PlanOf s names (shared flavor P) (shared_value key) (cursor old) (λ flat C b. p + 1 ≤ b.place)
+        with_new : old.states key ≡ None → SerializedShared D P n key ks v p old mid → PlanOf s names (shared flavor P) (shared_value key) (cursor old) (λ flat C b. p + 1 ≤ b.position)
         with_new none (serialized_shared laid planned) =
             let q = planned (begun_below (cursor old) key below) s names k m.1 in
             let r = as_shared s names q.plans in
-            let empty : q.begin + r.size ≡ p = sym r.place ∙ sym q.such.1.place ∙ here in
+            let empty : q.begin + r.size ≡ p = sym r.position ∙ sym q.such.1.position ∙ here in
             record {
               flat = hole (to_shared q.begin flavor P n);
               steps = _;
@@ -116,7 +116,7 @@ module _ (D : Definitions) (P : Pointee) (n : ℕ) (ks : List Naming) (v : Value
               such = omega (arith, r.end, a_byte q.begin r.size p empty q.such.0);
             }
 
-        by_state : (state : KeyState) → old.states key ≡ state → PlanOf s names (shared flavor P) (shared_value key) (cursor old) (λ flat C b. p + 1 ≤ b.place)
+        by_state : (state : KeyState) → old.states key ≡ state → PlanOf s names (shared flavor P) (shared_value key) (cursor old) (λ flat C b. p + 1 ≤ b.position)
         by_state None none = with_new none (laid none)
         by_state (Some None) pending = (let f = known None pending in cc)
         by_state (Some (Some t)) done =
@@ -126,11 +126,11 @@ module _ (D : Definitions) (P : Pointee) (n : ℕ) (ks : List Naming) (v : Value
             let grown = ap length (kept (Some t) done).0.0 in
             absurd (omega (arith, same, lower, grown, here))
 
-    pub byte_refused : (place : ℕ) (new : WriterState) (e : Error) → place ≡ length mid.bytes → place ≡ p → GoesOn old mid → GoesOn mid new → ExplainsRefusal 1 place mid.room mid.failures new.failures e
+    pub byte_refused : (position : ℕ) (new : WriterState) (e : Error) → position ≡ length mid.bytes → position ≡ p → GoesOn old mid → GoesOn mid new → ExplainsRefusal 1 position mid.room mid.failures new.failures e
         → IsRefused D (shared flavor P) all (shared_value key) old new e
-    byte_refused place new e here there g more h =
+    byte_refused position new e here there g more h =
         explains_later (Hinders D (shared flavor P) all (shared_value key) (cursor old)) _ (Reaches D (shared flavor P) all (shared_value key) (cursor old)) _ old mid new e g more (λ x. x) (λ m x. x)
-        (explains_write _ _ 1 place mid new e here (rw there (planned_byte (sym here ∙ there))) h)
+        (explains_write _ _ 1 position mid new e here (rw there (planned_byte (sym here ∙ there))) h)
 
     -- it was written
     pub shared_serialized : (new : WriterState) (tail : List ℕ) → new.bytes ≡ mid.bytes ++ tail → IsZeroed tail → length tail ≡ cond (nat_eq (length mid.bytes) p) 1 0 → KeepsKeys mid.states new.states
@@ -210,11 +210,11 @@ pending_said (Err d) r e state is said known pending = let f = known None pendin
 no_byte : (a p : ℕ) → (a ≡ p → ⊥) → ◌≡◌ {A = ℕ} 0 (cond (nat_eq a p) 1 0)
 no_byte a p h = elim (cases_eq a p) [ inl e ↦ absurd (h e) | inr n ↦ grind arith ]
 
-pub without_byte : (bytes : List ℕ) (place p : ℕ) → place ≡ length bytes → (place ≡ p → ⊥) → length {A = ℕ} [] ≡ cond (nat_eq (length bytes) p) 1 0
-without_byte bytes place p here apart = no_byte (length bytes) p (λ e. apart (here ∙ e))
+pub without_byte : (bytes : List ℕ) (position p : ℕ) → position ≡ length bytes → (position ≡ p → ⊥) → length {A = ℕ} [] ≡ cond (nat_eq (length bytes) p) 1 0
+without_byte bytes position p here apart = no_byte (length bytes) p (λ e. apart (here ∙ e))
 
-pub with_byte : (bytes : List ℕ) (place p : ℕ) → place ≡ length bytes → place ≡ p → length {A = ℕ} (0 ∷ []) ≡ cond (nat_eq (length bytes) p) 1 0
-with_byte bytes place p here same = let e : length bytes ≡ p = sym here ∙ same in rw e (one_byte p)
+pub with_byte : (bytes : List ℕ) (position p : ℕ) → position ≡ length bytes → position ≡ p → length {A = ℕ} (0 ∷ []) ≡ cond (nat_eq (length bytes) p) 1 0
+with_byte bytes position p here same = let e : length bytes ≡ p = sym here ∙ same in rw e (one_byte p)
   where
     one_byte : (p : ℕ) → ◌≡◌ {A = ℕ} 1 (cond (nat_eq p p) 1 0)
     one_byte p = grind arith

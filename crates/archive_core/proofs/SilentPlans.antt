@@ -80,13 +80,13 @@ mutual
 -- a plan that ends where it begins, of finished keys, has no step, and is one from anywhere
 
 abbrev cursor_at : ℕ → KeyStates → Cursor
-cursor_at q states = record { place = q; states = states }
+cursor_at q states = record { position = q; states = states }
 
-region_begins : (s : Schema) (l : LaidOut s) (names : NameMap) {P : Pointee} {n t : ℕ} {v : Value} {a b : Cursor} {C : List Step} → PlansRegion s names true P n v a t C b → a.place ≤ t
-region_begins s l names (plans_region {P = P} {b = b} h here) = omega (arith, here, pointee_forward s l names h, up_le b.place (pointee_align s P) (pointee_align_low s l P))
+region_begins : (s : Schema) (l : LaidOut s) (names : NameMap) {P : Pointee} {n t : ℕ} {v : Value} {a b : Cursor} {C : List Step} → PlansRegion s names true P n v a t C b → a.position ≤ t
+region_begins s l names (plans_region {P = P} {b = b} h here) = omega (arith, here, pointee_forward s l names h, up_le b.position (pointee_align s P) (pointee_align_low s l P))
 
 mutual
-  pub plans_anywhere : (s : Schema) (l : LaidOut s) (names : NameMap) {X : Shape} {v w : Value} {a b : Cursor} {C : List Step} → Plans s names X v a w C b → b.place ≤ a.place
+  pub plans_anywhere : (s : Schema) (l : LaidOut s) (names : NameMap) {X : Shape} {v w : Value} {a b : Cursor} {C : List Step} → Plans s names X v a w C b → b.position ≤ a.position
       → AreFinished a.states v → AllShared (pointers w) → (b.states ≡ a.states) × ((q : ℕ) → Plans s names X v (cursor_at q a.states) w [] (cursor_at q a.states))
   plans_anywhere s l names plans_leaf le f h = (refl, λ q. plans_leaf)
   plans_anywhere s l names (plans_parts i) le f h = (let r = parts_anywhere s l names i le (λ k n. f k (names_product n)) h in (r.0, λ q. plans_parts (r.1 q)))
@@ -101,7 +101,7 @@ mutual
   plans_anywhere s l names (plans_weak i) le f h = (let r = key_anywhere s l names i le f in (r.0, λ q. plans_weak (r.1 q)))
   plans_anywhere s l names (plans_named is i) le f h = (let r = plans_anywhere s l names i le f h in (r.0, λ q. plans_named is (r.1 q)))
 
-  pub parts_anywhere : (s : Schema) (l : LaidOut s) (names : NameMap) {ps : Parts} {vs ws : Values} {a b : Cursor} {C : List Step} → PlansParts s names ps vs a ws C b → b.place ≤ a.place
+  pub parts_anywhere : (s : Schema) (l : LaidOut s) (names : NameMap) {ps : Parts} {vs ws : Values} {a b : Cursor} {C : List Step} → PlansParts s names ps vs a ws C b → b.position ≤ a.position
       → AllFinished a.states vs → AllShared (all_pointers ws) → (b.states ≡ a.states) × ((q : ℕ) → PlansParts s names ps vs (cursor_at q a.states) ws [] (cursor_at q a.states))
   parts_anywhere s l names plans_no_part le f h = (refl, λ q. plans_no_part)
   parts_anywhere s l names (plans_part {X = X} {ps = ps} {v = v} {w = w} {vs = vs} {ws = ws} {a = a} {b = b} {c = c} i j) le f h =
@@ -109,7 +109,7 @@ mutual
       let later = parts_anywhere s l names j (omega (arith, le, plans_forward s l names i)) (subst (λ z. AllFinished z vs) (sym first.0) (λ k n. f k (names_later n))) (shared_right (pointers w) (all_pointers ws) h) in
       (later.0 ∙ first.0, λ q. plans_part (first.1 q) (subst (λ z. PlansParts s names ps vs (cursor_at q z) ws [] (cursor_at q z)) first.0 (later.1 q)))
 
-  pub run_anywhere : (s : Schema) (l : LaidOut s) (names : NameMap) {n : ℕ} {X : Shape} {vs ws : Values} {a b : Cursor} {C : List Step} → PlansRun s names n X vs a ws C b → b.place ≤ a.place
+  pub run_anywhere : (s : Schema) (l : LaidOut s) (names : NameMap) {n : ℕ} {X : Shape} {vs ws : Values} {a b : Cursor} {C : List Step} → PlansRun s names n X vs a ws C b → b.position ≤ a.position
       → AllFinished a.states vs → AllShared (all_pointers ws) → (b.states ≡ a.states) × ((q : ℕ) → PlansRun s names n X vs (cursor_at q a.states) ws [] (cursor_at q a.states))
   run_anywhere s l names plans_none le f h = (refl, λ q. plans_none)
   run_anywhere s l names (plans_element {n = n} {X = X} {v = v} {w = w} {vs = vs} {ws = ws} {a = a} {b = b} {c = c} i j) le f h =
@@ -117,7 +117,7 @@ mutual
       let later = run_anywhere s l names j (omega (arith, le, plans_forward s l names i)) (subst (λ z. AllFinished z vs) (sym first.0) (λ k n. f k (names_later n))) (shared_right (pointers w) (all_pointers ws) h) in
       (later.0 ∙ first.0, λ q. plans_element (first.1 q) (subst (λ z. PlansRun s names n X vs (cursor_at q z) ws [] (cursor_at q z)) first.0 (later.1 q)))
 
-  pub key_anywhere : (s : Schema) (l : LaidOut s) (names : NameMap) {flavor : Flavor} {P : Pointee} {key : ℕ} {w : Value} {a b : Cursor} {C : List Step} → PlansShared s names flavor P key a w C b → b.place ≤ a.place
+  pub key_anywhere : (s : Schema) (l : LaidOut s) (names : NameMap) {flavor : Flavor} {P : Pointee} {key : ℕ} {w : Value} {a b : Cursor} {C : List Step} → PlansShared s names flavor P key a w C b → b.position ≤ a.position
       → AreFinished a.states (shared_value key) → (b.states ≡ a.states) × ((q : ℕ) → PlansShared s names flavor P key (cursor_at q a.states) w [] (cursor_at q a.states))
   key_anywhere s l names (plans_new {key = key} {a = a} none is i) le f = absurd (omega (arith, le, region_begins s l names i, region_ends s names i))
   key_anywhere s l names (plans_finished here is) le f = (refl, λ q. plans_finished here is)

@@ -164,10 +164,10 @@ HindersRegionAt D X L flat p e = ((e ≡ LayoutTooLarge) × (2 ^ 64 ≤ p + L.si
 
 -- the plan goes on to n at least
 abbrev pub Reaches : Definitions → Shape → List Naming → Value → Cursor → ℕ → Type 0
-Reaches D X keys v a n = Foreseen D keys a (λ s names. PlanOf s names X v a (λ flat C b. n ≤ b.place))
+Reaches D X keys v a n = Foreseen D keys a (λ s names. PlanOf s names X v a (λ flat C b. n ≤ b.position))
 
 abbrev pub RegionReaches : Definitions → Pointee → ℕ → List Naming → Value → Cursor → ℕ → Type 0
-RegionReaches D P n keys v a m = Foreseen D keys a (λ s names. RegionPlan s names P n v a (λ t C b. m ≤ b.place))
+RegionReaches D P n keys v a m = Foreseen D keys a (λ s names. RegionPlan s names P n v a (λ t C b. m ≤ b.position))
 
 -- why what v owns, as an X, wasn't written
 abbrev pub IsRefused : Definitions → Shape → List Naming → Value → WriterState → WriterState → Error → Type 0

@@ -14,28 +14,28 @@ use Rattle.archive_core.specs.Copies.{EachCopied, copies_from, copies_to, behind
 abbrev pub AllCopied : {A M : Type 0} → FormatOf M → ℕ → (A → Value) → (A → List ℕ) → List A → Type 0
 AllCopied f size meaning bytes xs = EachCopied f.definitions f.shape size meaning bytes xs
 
-module _ {S : Type 0} (place : S → ℕ) (k : Keys.Ghosts S) (w : Both (MutBor S) (MutBor S)) where
+module _ {S : Type 0} (position : S → ℕ) (k : Keys.Ghosts S) (w : Both (MutBor S) (MutBor S)) where
   -- why n bytes weren't written; why a copy of n bytes was refused
   abbrev pub PiecesUnwritten : ℕ → Error → Type 0
-  PiecesUnwritten n = IsUnwritten (place w.entry.now + n) (k.state w.entry.now) (k.state w.exit.now)
+  PiecesUnwritten n = IsUnwritten (position w.entry.now + n) (k.state w.entry.now) (k.state w.exit.now)
 
   abbrev pub CopyRefused : ℕ → Error → Type 0
-  CopyRefused n = IsCopyRefused (place w.entry.now + n) (k.state w.entry.now) (k.state w.exit.now)
+  CopyRefused n = IsCopyRefused (position w.entry.now + n) (k.state w.entry.now) (k.state w.exit.now)
 
   -- why a copy of n values was refused, behind zeros up to their alignment; of a vector's elements
   abbrev pub CopiesRefused : Layout → ℕ → Error → Type 0
-  CopiesRefused L n = IsCopyRefused (copies_to L n (place w.entry.now)) (k.state w.entry.now) (k.state w.exit.now)
+  CopiesRefused L n = IsCopyRefused (copies_to L n (position w.entry.now)) (k.state w.entry.now) (k.state w.exit.now)
 
   abbrev pub ElementsRefused : Layout → ℕ → Error → Type 0
-  ElementsRefused L n = AreCopiesRefused L n (place w.entry.now) (k.state w.entry.now) (k.state w.exit.now)
+  ElementsRefused L n = AreCopiesRefused L n (position w.entry.now) (k.state w.entry.now) (k.state w.exit.now)
 
   -- nothing refuses it
   abbrev pub Takes : Bool → Layout → ℕ → Type 0
-  Takes takes_memory L n = TakesCopy (IsTrue takes_memory) (copies_to L n (place w.entry.now)) (k.state w.entry.now) (k.state w.exit.now)
+  Takes takes_memory L n = TakesCopy (IsTrue takes_memory) (copies_to L n (position w.entry.now)) (k.state w.entry.now) (k.state w.exit.now)
 
   -- so a vector of them succeeds, where a pointer can say their number and their position
   abbrev pub CopiesSucceed : Bool → Layout → ℕ → {R : Type 0} → Result R Error → Type 0
-  CopiesSucceed takes_memory L n result = Takes takes_memory L n → n ≤ 4294967295 → copies_from L (place w.entry.now) ≤ 4294967295 → IsOk result
+  CopiesSucceed takes_memory L n result = Takes takes_memory L n → n ≤ 4294967295 → copies_from L (position w.entry.now) ≤ 4294967295 → IsOk result
 
 -- zeros came up to the values' alignment, and then these bytes
 abbrev pub AddedAligned : {S : Type 0} → Layout → List ℕ → Keys.Ghosts S → Both (MutBor S) (MutBor S) → Type 0

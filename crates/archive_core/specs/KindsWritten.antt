@@ -50,7 +50,7 @@ TextUnstored bytes k w e = IsRegionRefused no_definition text (length bytes) [] 
 
 -- why a text isn't written, by the one write that it takes
 abbrev pub NoTextSince : {S : Type 0} → List ℕ → (S → ℕ) → Keys.Ghosts S → Both (MutBor S) (MutBor S) → Error → Type 0
-NoTextSince bytes place k w e = ExplainsTextRefusal bytes (place w.entry.now) (k.state w.entry.now) (k.state w.exit.now) e
+NoTextSince bytes position k w e = ExplainsTextRefusal bytes (position w.entry.now) (k.state w.entry.now) (k.state w.exit.now) e
 
 -- a string, with its text at t where it isn't inline
 abbrev pub StringSerialized : {S : Type 0} → List ℕ → Keys.Ghosts S → Both (MutBor S) (MutBor S) → ℕ → Type 0
@@ -60,7 +60,7 @@ abbrev pub StringRefused : {S : Type 0} → List ℕ → Keys.Ghosts S → Both 
 StringRefused bytes k w e = IsRefused no_definition str [] (text_value bytes) (k.state w.entry.now) (k.state w.exit.now) e
 
 abbrev pub NoStringSince : {S : Type 0} → List ℕ → (S → ℕ) → Keys.Ghosts S → Both (MutBor S) (MutBor S) → Error → Type 0
-NoStringSince bytes place k w e = ExplainsStringRefusal bytes (place w.entry.now) (k.state w.entry.now) (k.state w.exit.now) e
+NoStringSince bytes position k w e = ExplainsStringRefusal bytes (position w.entry.now) (k.state w.entry.now) (k.state w.exit.now) e
 
 abbrev pub StringResolved : {F R : Type 0} → List ℕ → Both (Place F) (MutBor (List ℕ) × R) → ℕ → Type 0
 StringResolved bytes p t = Resolves no_definition p.entry.pos p.exit.0.now str (string_flat bytes t)

@@ -43,7 +43,7 @@ pub record HindersParts (D : Definitions) (ps : Parts) (keys : List Naming) (vs 
 
 -- the plan goes on to n at least
 abbrev pub PartsReach : Definitions → Parts → List Naming → Values → Cursor → ℕ → Type 0
-PartsReach D ps keys vs a n = Foreseen D keys a (λ s names. PartsPlan s names ps vs a (λ ws C b. n ≤ b.place))
+PartsReach D ps keys vs a n = Foreseen D keys a (λ s names. PartsPlan s names ps vs a (λ ws C b. n ≤ b.position))
 
 -- why they weren't serialized
 abbrev pub ArePartsRefused : Definitions → Parts → List Naming → Values → WriterState → WriterState → Error → Type 0

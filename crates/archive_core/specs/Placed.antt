@@ -54,17 +54,17 @@ BytesAdded bytes k w = (k.state w.exit.now).bytes ≡ (k.state w.entry.now).byte
 abbrev pub GrowsBy : {S : Type 0} → ℕ → Keys.Ghosts S → Both (MutBor S) (MutBor S) → Type 0
 GrowsBy n k w = length (k.state w.exit.now).bytes ≡ length (k.state w.entry.now).bytes + n
 
--- why a write of n bytes was refused, where the writer stood at its place
+-- why a write of n bytes was refused, where the writer stood at its position
 abbrev pub WriteRefused : {S : Type 0} → ℕ → (S → ℕ) → Keys.Ghosts S → Both (MutBor S) (MutBor S) → Error → Type 0
-WriteRefused n place k w e = ExplainsRefusal n (place w.entry.now) (k.state w.entry.now).room (k.state w.entry.now).failures (k.state w.exit.now).failures e
+WriteRefused n position k w e = ExplainsRefusal n (position w.entry.now) (k.state w.entry.now).room (k.state w.entry.now).failures (k.state w.exit.now).failures e
 
--- a pointer to such a pointee of n elements or bytes at t was appended, at the writer's place; why it wasn't
+-- a pointer to such a pointee of n elements or bytes at t was appended, at the writer's position; why it wasn't
 abbrev pub Pointed : {S : Type 0} → Pointee → ℕ → ℕ → (S → ℕ) → Keys.Ghosts S → Both (MutBor S) (MutBor S) → Type 0
-Pointed P n t place k w = (k.state w.exit.now).bytes ≡ (k.state w.entry.now).bytes ++ owner_bytes (has_length P) (distance (place w.entry.now) t) n
+Pointed P n t position k w = (k.state w.exit.now).bytes ≡ (k.state w.entry.now).bytes ++ owner_bytes (has_length P) (distance (position w.entry.now) t) n
 
 abbrev pub Unpointed : {S : Type 0} → Pointee → ℕ → ℕ → (S → ℕ) → Keys.Ghosts S → Both (MutBor S) (MutBor S) → Error → Type 0
-Unpointed P n t place k w e =
-    (HindersPointerAt n (pointer_size P) (place w.entry.now) t e × (k.state w.exit.now ≡ k.state w.entry.now)) ⊎ WriteRefused (pointer_size P) place k w e
+Unpointed P n t position k w e =
+    (HindersPointerAt n (pointer_size P) (position w.entry.now) t e × (k.state w.exit.now ≡ k.state w.entry.now)) ⊎ WriteRefused (pointer_size P) position k w e
 
 -- there is a plan of a pointee of n elements or bytes, with its region
 abbrev pub IsPlanned : {T M : Type 0} → ArchivePointee.Ghosts T M → ℕ → List Naming → Value → Type 0

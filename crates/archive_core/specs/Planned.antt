@@ -18,13 +18,13 @@ up_one n = omega arith
 
 -- a text's bytes come at once
 pub text_region : (s : Schema) (names : NameMap) (bytes : List ℕ) (a : Cursor) (holds : ℕ → List Step → Cursor → Type 0)
-    → holds a.place (lays (region_at s a.place text (length bytes) false) (text_value bytes) ∷ []) (record { place = a.place + length bytes; states = a.states })
+    → holds a.position (lays (region_at s a.position text (length bytes) false) (text_value bytes) ∷ []) (record { position = a.position + length bytes; states = a.states })
     → RegionPlan s names text (length bytes) (text_value bytes) a holds
 text_region s names bytes a holds h = record {
-  begin = a.place;
-  steps = lays (region_at s a.place text (length bytes) false) (text_value bytes) ∷ [];
-  stop = record { place = a.place + length bytes; states = a.states };
-  plans = plans_region plans_text (sym (up_one a.place));
+  begin = a.position;
+  steps = lays (region_at s a.position text (length bytes) false) (text_value bytes) ∷ [];
+  stop = record { position = a.position + length bytes; states = a.states };
+  plans = plans_region plans_text (sym (up_one a.position));
   such = h;
 }
 

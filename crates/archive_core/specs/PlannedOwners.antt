@@ -14,12 +14,12 @@ use Rattle.archive_core.specs.Runs.{RunPlan, HasRunPlan, each_meaning, each_keys
 
 -- one value in a region of its own
 module _ (D : Definitions) (X : Shape) (ks : List Naming) (v : Value) where
-  pub one_plan : (s : Schema) (names : NameMap) (a : Cursor) (holds : Value → List Step → Cursor → Type 0) (such : ℕ → List Step → Cursor → Type 0) → (q : PlanOf s names X v a holds) → (t : ℕ) → t ≡ up q.stop.place (align_of s.layouts X)
-      → such t (q.steps ++ lays (region_at s t (one X) 0 false) q.flat ∷ []) (record { place = t + size_of s.layouts X; states = q.stop.states }) → RegionPlan s names (one X) 0 v a such
+  pub one_plan : (s : Schema) (names : NameMap) (a : Cursor) (holds : Value → List Step → Cursor → Type 0) (such : ℕ → List Step → Cursor → Type 0) → (q : PlanOf s names X v a holds) → (t : ℕ) → t ≡ up q.stop.position (align_of s.layouts X)
+      → such t (q.steps ++ lays (region_at s t (one X) 0 false) q.flat ∷ []) (record { position = t + size_of s.layouts X; states = q.stop.states }) → RegionPlan s names (one X) 0 v a such
   one_plan s names a holds such q t here h = record {
     begin = t;
     steps = q.steps ++ lays (region_at s t (one X) 0 false) q.flat ∷ [];
-    stop = record { place = t + size_of s.layouts X; states = q.stop.states };
+    stop = record { position = t + size_of s.layouts X; states = q.stop.states };
     plans = plans_region (plans_one q.plans) here;
     such = h;
   }
@@ -37,12 +37,12 @@ is_long e = absurd (true≢false e)
 
 -- elements in one
 module _ (D : Definitions) (X : Shape) (n : ℕ) (ks : List Naming) (vs : Values) where
-  pub run_plan : (s : Schema) (names : NameMap) (a : Cursor) (holds : Values → List Step → Cursor → Type 0) (such : ℕ → List Step → Cursor → Type 0) → (q : RunPlan s names n X vs a holds) → (t : ℕ) → t ≡ up q.stop.place (align_of s.layouts X)
-      → such t (q.steps ++ lays (region_at s t (run X) n false) (list q.flats) ∷ []) (record { place = t + n * size_of s.layouts X; states = q.stop.states }) → RegionPlan s names (run X) n (list vs) a such
+  pub run_plan : (s : Schema) (names : NameMap) (a : Cursor) (holds : Values → List Step → Cursor → Type 0) (such : ℕ → List Step → Cursor → Type 0) → (q : RunPlan s names n X vs a holds) → (t : ℕ) → t ≡ up q.stop.position (align_of s.layouts X)
+      → such t (q.steps ++ lays (region_at s t (run X) n false) (list q.flats) ∷ []) (record { position = t + n * size_of s.layouts X; states = q.stop.states }) → RegionPlan s names (run X) n (list vs) a such
   run_plan s names a holds such q t here h = record {
     begin = t;
     steps = q.steps ++ lays (region_at s t (run X) n false) (list q.flats) ∷ [];
-    stop = record { place = t + n * size_of s.layouts X; states = q.stop.states };
+    stop = record { position = t + n * size_of s.layouts X; states = q.stop.states };
     plans = plans_region (plans_run q.plans) here;
     such = h;
   }

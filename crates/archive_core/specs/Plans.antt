@@ -14,11 +14,11 @@ use Rattle.archive_core.specs.Writing.{NameMap, Naming, AreNamed, to_pointee, to
 
 -- where a writer stands: how many bytes it holds, and the states of the shared keys
 pub record Cursor : Type 0 where
-  pub place : ℕ
+  pub position : ℕ
   pub states : KeyStates
 
 abbrev pub cursor : WriterState → Cursor
-cursor w = record { place = length w.bytes; states = w.states }
+cursor w = record { position = length w.bytes; states = w.states }
 
 -- a writer as one that keeps no keys
 abbrev pub unshared : WriterState → WriterState
@@ -26,20 +26,20 @@ unshared w = record w { states = no_keys }
 
 -- of what holds nothing and knows no key
 abbrev pub at_start : Cursor
-at_start = record { place = 0; states = no_keys }
+at_start = record { position = 0; states = no_keys }
 
 -- the writer stands there
 pub record IsAt (c : Cursor) (w : WriterState) : Type 0 where
-  pub place : length w.bytes ≡ c.place
+  pub position : length w.bytes ≡ c.position
   pub keys : (k : ℕ) → w.states k ≡ c.states k
 
 -- a key is pending from here on
 abbrev pub begun : Cursor → ℕ → Cursor
-begun c key = record { place = c.place; states = update nat_eq c.states key (Some None) }
+begun c key = record { position = c.position; states = update nat_eq c.states key (Some None) }
 
 -- it is finished at a position
 abbrev pub ended : Cursor → ℕ → ℕ → Cursor
-ended c key p = record { place = c.place; states = update nat_eq c.states key (Some (Some p)) }
+ended c key p = record { position = c.position; states = update nat_eq c.states key (Some (Some p)) }
 
 -- a step of a plan: a region is written, in which this will be read; or a key is met that is pending
 pub data Step : Type 0 where
@@ -115,8 +115,8 @@ mutual
   pub data PlansRegion (s : Schema) (names : NameMap) : Bool → Pointee → ℕ → Value → Cursor → ℕ → List Step → Cursor → Type 0 where
     plans_region : {is_shared : Bool} {P : Pointee} {n t : ℕ} {v w : Value} {a b : Cursor} {C : List Step}
         → PlansPointee s names P n v a w C b
-        → t ≡ up b.place (pointee_align s P)
-        → PlansRegion s names is_shared P n v a t (C ++ lays (region_at s t P n is_shared) w ∷ []) (record { place = after (region_at s t P n is_shared); states = b.states })
+        → t ≡ up b.position (pointee_align s P)
+        → PlansRegion s names is_shared P n v a t (C ++ lays (region_at s t P n is_shared) w ∷ []) (record { position = after (region_at s t P n is_shared); states = b.states })
 
   -- a shared value, by its key: an unknown key's is written and finished, a finished one's stands where it is
   pub data PlansShared (s : Schema) (names : NameMap) : Flavor → Pointee → ℕ → Cursor → Value → List Step → Cursor → Type 0 where
@@ -151,9 +151,9 @@ pub record RegionPlan (s : Schema) (names : NameMap) (P : Pointee) (n : ℕ) (v 
   pub plans : PlansRegion s names false P n v a begin steps stop
   pub such : holds begin steps stop
 
--- each key that is finished stands below the place
+-- each key that is finished stands below the position
 abbrev pub AreBelow : Cursor → Type 0
-AreBelow c = (k t : ℕ) → c.states k ≡ Some (Some t) → t < c.place
+AreBelow c = (k t : ℕ) → c.states k ≡ Some (Some t) → t < c.position
 
 -- the same of a plan from a on, where the finished keys stand below
 abbrev pub Foreseen : Definitions → List Naming → Cursor → (Schema → NameMap → Type 0) → Type 0

@@ -59,7 +59,7 @@ pub record HindersElements (D : Definitions) (X : Shape) (n : ℕ) (keys : List 
   pub cause : Foreseen D keys a (λ s names. RunPlan s names n X vs a (λ ws C b. HindersSome s C e ⊎ ((o : ℕ) × (Y : Shape) × (w : Value) × PartOfRun s n X ws o Y w × HindersPart Y w e)))
 
 abbrev pub RunReaches : Definitions → Shape → ℕ → List Naming → Values → Cursor → ℕ → Type 0
-RunReaches D X n keys vs a m = Foreseen D keys a (λ s names. RunPlan s names n X vs a (λ ws C b. m ≤ b.place))
+RunReaches D X n keys vs a m = Foreseen D keys a (λ s names. RunPlan s names n X vs a (λ ws C b. m ≤ b.position))
 
 -- why what elements own wasn't written
 abbrev pub IsRunRefused : Definitions → Shape → ℕ → List Naming → Values → WriterState → WriterState → Error → Type 0

@@ -79,13 +79,13 @@ pub record AsShared (s : Schema) (names : NameMap) (P : Pointee) (n : ℕ) (v : 
   pub stop : Cursor
   pub plans : PlansRegion s names true P n v a t (before ++ lays (region_at s t P n true) last ∷ []) stop
   pub size : ℕ
-  pub place : b.place ≡ t + size
-  pub end : stop.place ≡ t + cond (true && nat_eq size 0) 1 size
+  pub position : b.position ≡ t + size
+  pub end : stop.position ≡ t + cond (true && nat_eq size 0) 1 size
   pub states : stop.states ≡ b.states
 
 pub as_shared : (s : Schema) (names : NameMap) {P : Pointee} {n t : ℕ} {v : Value} {a b : Cursor} {C : List Step} → PlansRegion s names false P n v a t C b → AsShared s names P n v a t C b
 as_shared s names (plans_region {P = P} {n = n} {w = w} {C = C} h at) =
-    record { before = C; last = w; was = refl; stop = _; plans = plans_region h at; size = pointee_size s P n; place = refl; end = refl; states = refl }
+    record { before = C; last = w; was = refl; stop = _; plans = plans_region h at; size = pointee_size s P n; position = refl; end = refl; states = refl }
 
 module _ (D : Definitions) (P : Pointee) (n : ℕ) (ks : List Naming) (v : Value) (flavor : Flavor) (key : ℕ) where
   pub shared_planned : HasRegionPlan D P n ks v → HasPlan D (shared flavor P) (naming_of key flavor P n v ∷ ks) (shared_value key)

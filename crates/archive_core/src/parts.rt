@@ -9,16 +9,16 @@ ghost use Rattle.archive_core.specs.Parts.{ArePlanned, AreKeyed, FreshParts};
 ghost use Rattle.archive_core.specs.PartsPlanned.{no_part_planned, part_planned};
 ghost use Rattle.archive_core.specs.PartsReading.{PartsViewed};
 ghost use Rattle.archive_core.specs.Writing.{Naming};
-ghost use Rattle.archive_write.specs.Written.{GoesOn};
-ghost use Rattle.archive_core.specs.PartsWritten.{PartsPut, PartsUnput, PartsOwned, PartsUnowned, ReadsParts, UnreadParts};
+ghost use Rattle.archive_core.specs.PartsWritten.{PartsPut, PartsUnput, ReadsParts, UnreadParts};
 
 mod four_parts;
+mod serializing;
 
 use crate::ser::resolve_into;
-use crate::traits::{Archive, Deserialize, Entries, Keys, Portable, PortableParts, Serialize};
+use crate::traits::{Archive, Deserialize, Entries, Portable, PortableParts};
 use crate::view::RawView;
 use archive_check::format::error::Error;
-use archive_write::ser::Writer;
+pub use serializing::SerializeParts;
 use std::alloc::Global;
 
 /// A part of a `T` that is archived: which one, and how it is found. Each field of a record has a type of its own that implements this.
@@ -143,40 +143,6 @@ impl<T, A: PartOf<T>, R: SourceParts<T>> SourceParts<T> for (A, R) {
             &mut bytes[first - start..end - start],
         )?;
         R::resolve_parts(whole, others, pos, end, &mut bytes[end - start..])
-    }
-}
-
-/// Parts of a `T` one after another that can be serialized to an `S`.
-pub trait SerializeParts<T, S: Writer + Keys>: SourceParts<T> {
-    /// Writes what each of the parts owns, in order, and answers their resolvers. It asks nothing. Refused as `Serialize::serialize` is, for a cause
-    /// of one of them; after a refusal, too, the bytes from before are a beginning of those that `serializer` holds, and known keys keep their states.
-    fn serialize_parts(whole: &T, serializer: &mut S) -> Result<Self::Resolvers, Error>
-        ensures serialized { IfOk result (PartsOwned Self.Archived.CheckedParts Self.keys Self.meanings Self.flats whole.now S.Keys serializer) }
-        ensures same_values { IfOk result (λ r. Self.belongs whole.now r) }
-        ensures goes_on { GoesOn (S.state serializer.old) (S.state serializer.new) }
-        ensures refused { IfErr result (PartsUnowned Self.Archived.CheckedParts Self.keys Self.meanings whole.now S.Keys serializer) };
-}
-
-impl<T, S: Writer + Keys> SerializeParts<T, S> for () {
-    #[tactic(auto, using(crate::proofs::PlannedParts::serialized_no_part))]
-    #[inline(always)]
-    fn serialize_parts(_whole: &T, _serializer: &mut S) -> Result<(), Error> {
-        Ok(())
-    }
-}
-
-impl<T, S: Writer + Keys, A: PartOf<T>, R: SerializeParts<T, S>> SerializeParts<T, S> for (A, R)
-where
-    A::Source: Serialize<S>,
-{
-    #[inline(always)]
-    fn serialize_parts(
-        whole: &T,
-        serializer: &mut S,
-    ) -> Result<(<A::Source as Archive>::Resolver, R::Resolvers), Error> {
-        let first = A::part_of(whole).serialize(serializer)?;
-        let others = R::serialize_parts(whole, serializer)?;
-        Ok((first, others))
     }
 }
 

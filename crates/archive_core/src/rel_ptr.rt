@@ -8,18 +8,20 @@ ghost use Rattle.archive_check.specs.declared.format.error.Error.TheVariants.{Is
 
 use archive_check::format::error::Error;
 
+mod metadata;
 mod offset;
 mod owners;
 mod raw;
 mod typed;
 
+pub use metadata::Metadata;
 pub use offset::{Offset, OffsetNumber};
 pub(crate) use owners::{emplace_long_owner, emplace_pointer};
 pub use raw::{
     RawRelPtr, RawRelPtrI8, RawRelPtrI16, RawRelPtrI32, RawRelPtrI64, RawRelPtrU8, RawRelPtrU16,
     RawRelPtrU32, RawRelPtrU64,
 };
-pub use typed::{Metadata, RelPtr};
+pub use typed::RelPtr;
 
 /// How far it is from one position to another, in bytes. Refused with `IsizeOverflow`, 2, exactly where the difference doesn't fit `isize`. As in rkyv
 /// 0.8.18.

@@ -84,7 +84,7 @@ fn resolve_large<W: Writer, A: Allocator + Drop, T: Archive>(
     requires ends { length (W.state writer.old).bytes + size < 2 ^ 64 }
     requires same_value { T.belongs value.now resolver }
     ensures region { OnOk result (RegionPut T.Archived.Portable (T.flat value.now resolver) W.Keys writer) }
-    ensures position { IfOk result (λ p. p ≡ W.place writer.old) }
+    ensures position { IfOk result (λ p. p ≡ W.position writer.old) }
     ensures refused { IfErr result (RegionRefused T.Archived.Portable (T.flat value.now resolver) W.Keys writer) }
     ensures goes_on { GoesOn (W.state writer.old) (W.state writer.new) }
     ensures sized { OnOk result (GrowsBy T.Archived.layout.size W.Keys writer) }
@@ -105,7 +105,7 @@ pub(crate) fn resolve_next<W: Writer, A: Allocator + Drop, T: Archive>(
 ) -> Result<usize, Error>
     requires same_value { T.belongs value.now resolver }
     ensures region { OnOk result (RegionPut T.Archived.Portable (T.flat value.now resolver) W.Keys writer) }
-    ensures position { IfOk result (λ p. p ≡ W.place writer.old) }
+    ensures position { IfOk result (λ p. p ≡ W.position writer.old) }
     ensures refused { IfErr result (RegionRefused T.Archived.Portable (T.flat value.now resolver) W.Keys writer) }
     ensures goes_on { GoesOn (W.state writer.old) (W.state writer.new) }
     ensures sized { OnOk result (GrowsBy T.Archived.layout.size W.Keys writer) }
@@ -219,10 +219,10 @@ pub trait ResolveExt: Writer {
     ) -> Result<usize, Error>
     where
         Self: Sized,
-        requires aligned { Self.place self.old % T.Archived.layout.align ≡ 0 }
+        requires aligned { Self.position self.old % T.Archived.layout.align ≡ 0 }
         requires same_value { T.belongs value.now resolver }
         ensures region { OnOk result (RegionPut T.Archived.Portable (T.flat value.now resolver) Self.Keys self) }
-        ensures position { IfOk result (λ p. p ≡ Self.place self.old) }
+        ensures position { IfOk result (λ p. p ≡ Self.position self.old) }
         ensures refused { IfErr result (RegionRefused T.Archived.Portable (T.flat value.now resolver) Self.Keys self) }
         ensures goes_on { GoesOn (Self.state self.old) (Self.state self.new) }
         ensures sized { OnOk result (GrowsBy T.Archived.layout.size Self.Keys self) }
@@ -247,10 +247,10 @@ pub trait ResolveExt: Writer {
     ) -> Result<usize, Error>
     where
         Self: Sized,
-        requires aligned { Self.place self.old % T.Archived.layout.align ≡ 0 }
+        requires aligned { Self.position self.old % T.Archived.layout.align ≡ 0 }
         requires same_values { EachBelongs T.belongs values.now resolvers.items }
         ensures region { OnOk result (EachPut T.Archived.Portable T.flat values.now resolvers.items Self.Keys self) }
-        ensures position { IfOk result (λ p. p ≡ Self.place self.old) }
+        ensures position { IfOk result (λ p. p ≡ Self.position self.old) }
         ensures refused { IfErr result (EachHindered T.Archived.Portable T.flat values.now resolvers.items Self.Keys self) }
         ensures goes_on { GoesOn (Self.state self.old) (Self.state self.new) }
         ensures keys { KeepsKeys (Self.state self.old).states (Self.state self.new).states }
@@ -285,10 +285,10 @@ pub trait ResolveExt: Writer {
         Self: Sized,
         T::Archived: PortablePointee,
         ArchivedMetadata<T>: Drop,
-        requires aligned { Self.place self.old % 4 ≡ 0 }
-        ensures written { OnOk result (Pointed T.Archived.pointee (T.source_length value.now) to Self.place Self.Keys self) }
-        ensures position { IfOk result (λ p. p ≡ Self.place self.old) }
-        ensures refused { IfErr result (Unpointed T.Archived.pointee (T.source_length value.now) to Self.place Self.Keys self) }
+        requires aligned { Self.position self.old % 4 ≡ 0 }
+        ensures written { OnOk result (Pointed T.Archived.pointee (T.source_length value.now) to Self.position Self.Keys self) }
+        ensures position { IfOk result (λ p. p ≡ Self.position self.old) }
+        ensures refused { IfErr result (Unpointed T.Archived.pointee (T.source_length value.now) to Self.position Self.Keys self) }
         ensures goes_on { GoesOn (Self.state self.old) (Self.state self.new) }
         ensures keys { KeepsKeys (Self.state self.old).states (Self.state self.new).states }
     {

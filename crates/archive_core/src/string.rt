@@ -210,7 +210,7 @@ impl<'a, S: Writer + Keys> SerializeUnsized<S> for Text<'a> {
         ensures text { OnOk result ((S.state serializer.new).bytes ≡ (S.state serializer.old).bytes ++ self.now.text.now) }
         ensures keys { KeepsKeys (S.state serializer.old).states (S.state serializer.new).states }
         ensures too_long { 4294967295 < length self.now.text.now → AtOnce result LengthTooLarge S.Keys serializer }
-        ensures cause { IfErr result (NoTextSince self.now.text.now S.place S.Keys serializer) }
+        ensures cause { IfErr result (NoTextSince self.now.text.now S.position S.Keys serializer) }
     {
         if let Err(error) = self.archived_metadata() {
             return Err(error);
@@ -258,7 +258,7 @@ impl ArchivedString {
         ensures near { 8 < length value.now → OnOk result (length (S.state serializer.old).bytes ≤ 4294967295) }
         ensures elsewhere { 8 < length value.now → IfOk result (Added value.now S.Keys serializer) }
         ensures keys { KeepsKeys (S.state serializer.old).states (S.state serializer.new).states }
-        ensures cause { IfErr result (NoStringSince value.now S.place S.Keys serializer) }
+        ensures cause { IfErr result (NoStringSince value.now S.position S.Keys serializer) }
     {
         if value.len() <= repr::INLINE_CAPACITY {
             return Ok(StringResolver { pos: 0 });
@@ -349,7 +349,7 @@ impl<S: Writer + Keys> Serialize<S> for String {
         ensures inline { length (string_bytes self.now) ≤ 8 → IsOk result × (S.state serializer.new ≡ S.state serializer.old) }
         ensures too_long { 1073741823 < length (string_bytes self.now) → AtOnce result StringTooLong S.Keys serializer }
         ensures elsewhere { 8 < length (string_bytes self.now) → IfOk result (Added (string_bytes self.now) S.Keys serializer) }
-        ensures cause { IfErr result (NoStringSince (string_bytes self.now) S.place S.Keys serializer) }
+        ensures cause { IfErr result (NoStringSince (string_bytes self.now) S.position S.Keys serializer) }
     {
         ArchivedString::serialize_from_str(self.as_str(), serializer)
     }

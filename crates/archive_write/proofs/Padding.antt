@@ -37,12 +37,12 @@ padded n a h = omega (arith, up_le n a (align_low a h))
 pub zeroed_replicate : (n : ℕ) → IsZeroed (replicate n 0)
 zeroed_replicate n = record { zero_at = λ i h. get_or-replicate n i 0 0 (omega (arith, length-replicate {A = ℕ} n 0)) }
 
-pub pads_by : (align place : ℕ) (old new : WriterState) → IsAlign align → place ≡ length old.bytes
-    → new.bytes ≡ old.bytes ++ replicate (padding align place) 0 → KeepsKeys old.states new.states → Pads align old new
-pads_by align place old new is here grown keys = record {
-  zeros = replicate (padding align place) 0;
+pub pads_by : (align position : ℕ) (old new : WriterState) → IsAlign align → position ≡ length old.bytes
+    → new.bytes ≡ old.bytes ++ replicate (padding align position) 0 → KeepsKeys old.states new.states → Pads align old new
+pads_by align position old new is here grown keys = record {
+  zeros = replicate (padding align position) 0;
   grown = grown;
-  zeroed = zeroed_replicate (padding align place);
-  aligned = ap length grown ∙ length-append old.bytes (replicate {A = ℕ} (padding align place) 0) ∙ omega (arith, length-replicate {A = ℕ} (padding align place) 0, ap (padding align) here, padded (length old.bytes) align is);
+  zeroed = zeroed_replicate (padding align position);
+  aligned = ap length grown ∙ length-append old.bytes (replicate {A = ℕ} (padding align position) 0) ∙ omega (arith, length-replicate {A = ℕ} (padding align position) 0, ap (padding align) here, padded (length old.bytes) align is);
   states = λ i k. keys k i;
 }

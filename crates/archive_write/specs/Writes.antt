@@ -14,16 +14,16 @@ module _ {W : Type 0} (state : W → WriterState) (w : Both (MutBor W) (MutBor W
   abbrev pub SpendsRoom : Type 0
   SpendsRoom = RoomFalls (state w.entry.now).room (state w.exit.now).room (state w.entry.now).bytes (state w.exit.now).bytes
 
-  -- why a write of n bytes was refused, where the writer stood at its place
+  -- why a write of n bytes was refused, where the writer stood at its position
   abbrev pub ExplainsWrite : (W → ℕ) → ℕ → Error → Type 0
-  ExplainsWrite place n = ExplainsRefusal n (place w.entry.now) (state w.entry.now).room (state w.entry.now).failures (state w.exit.now).failures
+  ExplainsWrite position n = ExplainsRefusal n (position w.entry.now) (state w.entry.now).room (state w.entry.now).failures (state w.exit.now).failures
 
   -- zeros came up to the next multiple of a; why they didn't
   abbrev pub Padded : (W → ℕ) → ℕ → Type 0
-  Padded place a = (state w.exit.now).bytes ≡ (state w.entry.now).bytes ++ replicate (padding a (place w.entry.now)) 0
+  Padded position a = (state w.exit.now).bytes ≡ (state w.entry.now).bytes ++ replicate (padding a (position w.entry.now)) 0
 
   abbrev pub ExplainsPadding : (W → ℕ) → ℕ → Error → Type 0
-  ExplainsPadding place a = ExplainsWrite place (padding a (place w.entry.now))
+  ExplainsPadding position a = ExplainsWrite position (padding a (position w.entry.now))
 
 -- the state of a key that is started, the others as they were
 abbrev pub IsStarted : (ℕ → KeyState) → ℕ → (ℕ → KeyState) → Type 0

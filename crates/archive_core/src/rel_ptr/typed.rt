@@ -1,6 +1,6 @@
 //! Relative pointers that say what they lead to.
 
-ghost use Rattle.std.specs.Prelude.{◌≡◌, ◌+◌, ◌≤◌, ℕ, Bool, true, false, MatchResult, IsOk, IfOk, IfErr, length, pos, ◌+ℤ◌, refl, min};
+ghost use Rattle.std.specs.Prelude.{◌≡◌, ◌+◌, ◌≤◌, true, false, MatchResult, IsOk, IfOk, IfErr, length, pos, ◌+ℤ◌, refl, min};
 ghost use Rattle.std.specs.Int.{byte_len};
 ghost use Rattle.std.specs.Ordering.{int_eq};
 ghost use Rattle.archive_check.specs.SelfCheck.Laws.{by_schema};
@@ -12,10 +12,12 @@ ghost use Rattle.archive_check.specs.LittleEndian.{little_bytes};
 ghost use Rattle.archive_check.specs.declared.format.error.Error.TheVariants.{OutOfMemory, OffsetOverflow};
 ghost use Rattle.archive_core.specs.Offsets.{distance, offset_at};
 ghost use Rattle.archive_core.specs.OffsetsWritten.{RelWritten, RelPut, InvalidPut};
+ghost use Rattle.archive_core.specs.PointersWritten.{PointerPut};
 ghost use Rattle.archive_core.specs.RelativePointers.{rel_parts, length_begin, rel_layout, written_at};
 ghost use Rattle.archive_core.specs.RelativeLayout.{rel_align, rel_has_layout};
 ghost use Rattle.archive_core.specs.LengthsSeen.{length_of};
 
+use super::metadata::Metadata;
 use super::offset::{Offset, OffsetNumber};
 use super::raw::{raw_kind, read_offset, write_offset};
 use super::signed_offset;
@@ -26,64 +28,9 @@ use archive_check::format::error::Error;
 use archive_check::format::expr::{Defs, Expr, IntegerKind, Kind};
 use archive_check::format::traits::{ArchivePointee, Portable};
 use archive_check::self_check::BySchema;
-use archive_num::{ArchivedUsize, FixedUsize, Integer};
+use archive_num::{FixedUsize, Integer};
 use std::alloc::Global;
 use std::marker::PhantomData;
-
-/// What stands in a relative pointer behind its offset: nothing, or a length. Our own: rkyv 0.8.18 takes any archived type there.
-pub trait Metadata: Copy {
-    // Whether a length stands there.
-    ghost is_length: { Bool };
-
-    // The length.
-    ghost count: { Self → ℕ };
-
-    /// Whether a length stands there.
-    fn is_length() -> bool
-        ensures { result ≡ is_length };
-
-    /// The metadata of this length, which is left out where none stands there.
-    fn from_length(length: FixedUsize) -> Self
-        ensures { is_length ≡ true → count result ≡ length };
-
-    /// The length; 0 where none stands there.
-    fn to_length(self) -> FixedUsize
-        ensures { result ≡ count self };
-}
-
-impl Metadata for () {
-    ghost is_length = { false };
-
-    ghost count = { λ _. 0 };
-
-    fn is_length() -> bool {
-        false
-    }
-
-    fn from_length(_length: FixedUsize) {}
-
-    fn to_length(self) -> FixedUsize {
-        0
-    }
-}
-
-impl Metadata for ArchivedUsize {
-    ghost is_length = { true };
-
-    ghost count = { λ m. m };
-
-    fn is_length() -> bool {
-        true
-    }
-
-    fn from_length(length: FixedUsize) -> ArchivedUsize {
-        ArchivedUsize::from_native(length)
-    }
-
-    fn to_length(self) -> FixedUsize {
-        self.to_native()
-    }
-}
 
 /// An archived relative pointer to a `T`: an offset, in bytes, from its own position, and then a length where a `T` is a slice or a text. The check
 /// doesn't follow it. The bytes are those of rkyv 0.8.18.
@@ -222,7 +169,7 @@ where
         place: Place<'_, RelPtr<T, O>>,
     ) -> Result<(), Error>
         requires { length place.bytes.now ≡ (rel_layout O.Number.width T.ArchivedMetadata.is_length).size }
-        ensures { RelPut O.Number.sign O.Number.width T.ArchivedMetadata.is_length (T.ArchivedMetadata.count metadata) to place result }
+        ensures { PointerPut O.Number.sign O.Number.width T.ArchivedMetadata.Metadata metadata to place result }
     {
         let Place { bytes, pos, .. } = place;
         let distance = signed_offset(pos, to)?;

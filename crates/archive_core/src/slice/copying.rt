@@ -32,7 +32,7 @@ fn write_piece<W: Writer, T: Copied>(
     ensures copied { OnOk result (BytesAdded (each_bytes T.copied_bytes values.now) W.Keys writer) }
     ensures read { AllCopied T.CopiedAs.Portable T.CopiedAs.layout.size T.copied_meaning T.copied_bytes values.now }
     ensures goes_on { GoesOn (W.state writer.old) (W.state writer.new) }
-    ensures refused { IfErr result (WriteRefused (length values.now * T.CopiedAs.layout.size) W.place W.Keys writer) }
+    ensures refused { IfErr result (WriteRefused (length values.now * T.CopiedAs.layout.size) W.position W.Keys writer) }
     ensures memory { IsErrOf result Error.OutOfMemory → IsTrue W.takes_memory }
     ensures keys { KeepsKeys (W.state writer.old).states (W.state writer.new).states }
 {
@@ -74,7 +74,7 @@ fn copy_by<W: Writer, T: Copied, const N: usize>(
     requires few { N ≤ 1024 }
     ensures copied { OnOk result (BytesAdded (each_bytes T.copied_bytes values.now) W.Keys writer) }
     ensures read { OnOk result (AllCopied T.CopiedAs.Portable size T.copied_meaning T.copied_bytes values.now) }
-    ensures refused { IfErr result (PiecesUnwritten W.place W.Keys writer (length values.now * size)) }
+    ensures refused { IfErr result (PiecesUnwritten W.position W.Keys writer (length values.now * size)) }
     ensures memory { IsErrOf result Error.OutOfMemory → IsTrue W.takes_memory }
     ensures goes_on { GoesOn (W.state writer.old) (W.state writer.new) }
     ensures keys { KeepsKeys (W.state writer.old).states (W.state writer.new).states }
@@ -104,7 +104,7 @@ fn copy_pieces<W: Writer, T: Copied>(
     requires counted { length values.now * size < 2 ^ 64 }
     ensures copied { OnOk result (BytesAdded (each_bytes T.copied_bytes values.now) W.Keys writer) }
     ensures read { OnOk result (AllCopied T.CopiedAs.Portable size T.copied_meaning T.copied_bytes values.now) }
-    ensures refused { IfErr result (PiecesUnwritten W.place W.Keys writer (length values.now * size)) }
+    ensures refused { IfErr result (PiecesUnwritten W.position W.Keys writer (length values.now * size)) }
     ensures memory { IsErrOf result Error.OutOfMemory → IsTrue W.takes_memory }
     ensures goes_on { GoesOn (W.state writer.old) (W.state writer.new) }
     ensures keys { KeepsKeys (W.state writer.old).states (W.state writer.new).states }
@@ -128,8 +128,8 @@ fn copy_aligned<W: Writer, T: Copied>(
     requires small { together * size ≤ 1024 }
     ensures copied { OnOk result (BytesAdded (each_bytes T.copied_bytes values.now) W.Keys writer) }
     ensures read { OnOk result (AllCopied T.CopiedAs.Portable size T.copied_meaning T.copied_bytes values.now) }
-    ensures position { IfOk result (λ p. p ≡ W.place writer.old) }
-    ensures refused { IfErr result (CopyRefused W.place W.Keys writer (length values.now * size)) }
+    ensures position { IfOk result (λ p. p ≡ W.position writer.old) }
+    ensures refused { IfErr result (CopyRefused W.position W.Keys writer (length values.now * size)) }
     ensures memory { IsErrOf result Error.OutOfMemory → IsTrue W.takes_memory }
     ensures goes_on { GoesOn (W.state writer.old) (W.state writer.new) }
     ensures keys { KeepsKeys (W.state writer.old).states (W.state writer.new).states }
@@ -157,12 +157,12 @@ fn copy_together<S: Writer + Keys, T: Copied>(
     ensures serialized { IfOk result (CopiesStored T.Copied T.CopiedAs.Portable values.now S.Keys serializer) }
     ensures copied { OnOk result (AddedAligned T.CopiedAs.layout (each_bytes T.copied_bytes values.now) S.Keys serializer) }
     ensures read { OnOk result (AllCopied T.CopiedAs.Portable size T.copied_meaning T.copied_bytes values.now) }
-    ensures position { IfOk result (λ p. p ≡ copies_from T.CopiedAs.layout (S.place serializer.old)) }
+    ensures position { IfOk result (λ p. p ≡ copies_from T.CopiedAs.layout (S.position serializer.old)) }
     ensures goes_on { GoesOn (S.state serializer.old) (S.state serializer.new) }
     ensures refused { IfErr result (CopiesUnstored T.Copied T.CopiedAs.Portable values.now S.Keys serializer) }
-    ensures cause { IfErr result (CopiesRefused S.place S.Keys serializer T.CopiedAs.layout (length values.now)) }
+    ensures cause { IfErr result (CopiesRefused S.position S.Keys serializer T.CopiedAs.layout (length values.now)) }
     ensures memory { IsErrOf result Error.OutOfMemory → IsTrue S.takes_memory }
-    ensures succeeds { Takes S.place S.Keys serializer S.takes_memory T.CopiedAs.layout (length values.now) → IsOk result }
+    ensures succeeds { Takes S.position S.Keys serializer S.takes_memory T.CopiedAs.layout (length values.now) → IsOk result }
     ensures keys { OnOk result (KeepsKeys (S.state serializer.old).states (S.state serializer.new).states) }
 {
     serializer.align_for::<T::CopiedAs>()?;
@@ -181,12 +181,12 @@ pub fn copy_slice<S: Writer + Keys, T: Copied>(
 ) -> Result<usize, Error>
     ensures serialized { IfOk result (CopiesStored T.Copied T.CopiedAs.Portable values.now S.Keys serializer) }
     ensures copied { OnOk result (AddedAligned T.CopiedAs.layout (each_bytes T.copied_bytes values.now) S.Keys serializer) }
-    ensures position { IfOk result (λ p. p ≡ copies_from T.CopiedAs.layout (S.place serializer.old)) }
+    ensures position { IfOk result (λ p. p ≡ copies_from T.CopiedAs.layout (S.position serializer.old)) }
     ensures goes_on { GoesOn (S.state serializer.old) (S.state serializer.new) }
     ensures refused { IfErr result (CopiesUnstored T.Copied T.CopiedAs.Portable values.now S.Keys serializer) }
-    ensures cause { IfErr result (CopiesRefused S.place S.Keys serializer T.CopiedAs.layout (length values.now)) }
+    ensures cause { IfErr result (CopiesRefused S.position S.Keys serializer T.CopiedAs.layout (length values.now)) }
     ensures memory { IsErrOf result Error.OutOfMemory → IsTrue S.takes_memory }
-    ensures succeeds { Takes S.place S.Keys serializer S.takes_memory T.CopiedAs.layout (length values.now) → IsOk result }
+    ensures succeeds { Takes S.position S.Keys serializer S.takes_memory T.CopiedAs.layout (length values.now) → IsOk result }
 {
     let size = T::copied_size();
     copy_together(values, size, 1, serializer)

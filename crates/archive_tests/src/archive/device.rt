@@ -23,7 +23,7 @@ struct Failing {
 }
 
 impl Positional for Failing {
-    ghost place = { λ w. length w.bytes.items };
+    ghost position = { λ w. length w.bytes.items };
 
     fn pos(&self) -> usize {
         self.bytes.len()
@@ -37,7 +37,7 @@ impl Keys for Failing {
 impl Writer for Failing {
     ghost takes_memory = { true };
 
-    ghost place_law = { λ w. refl };
+    ghost position_law = { λ w. refl };
 
     fn write(&mut self, bytes: &[u8]) -> Result<(), Error> {
         if self.failures == u64::MAX {

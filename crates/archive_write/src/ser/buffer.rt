@@ -47,7 +47,7 @@ impl<'a> Buffer<'a> {
 }
 
 impl<'a> Positional for Buffer<'a> {
-    ghost place = { λ b. b.len };
+    ghost position = { λ b. b.len };
 
     fn pos(&self) -> usize {
         self.len
@@ -62,7 +62,7 @@ impl<'a> Keys for Buffer<'a> {
 impl<'a> Writer for Buffer<'a> {
     ghost takes_memory = { false };
 
-    ghost place_law = { λ b. sym (length-take-le b.len b.bytes.now b.in_bounds) };
+    ghost position_law = { λ b. sym (length-take-le b.len b.bytes.now b.in_bounds) };
 
     fn write(&mut self, bytes: &[u8]) -> Result<(), Error>
         ensures written { OnOk result (HoldsMore self.old.len self.old.bytes.now self.new.len self.new.bytes.now bytes.now) }

@@ -32,7 +32,7 @@ pub trait WriterExt: Writer {
         ensures written { OnOk result ((Self.state self.new).bytes ≡ (Self.state self.old).bytes ++ replicate n 0) }
         ensures kept { OnErr result (IsBeginning (Self.state self.old).bytes (Self.state self.new).bytes) }
         ensures room { SpendsRoom Self.state self }
-        ensures refusal { IfErr result (ExplainsWrite Self.state self Self.place n) }
+        ensures refusal { IfErr result (ExplainsWrite Self.state self Self.position n) }
         ensures device { (Self.state self.old).failures ≤ (Self.state self.new).failures }
         ensures keys { KeepsKeys (Self.state self.old).states (Self.state self.new).states }
         ensures memory { IsErrOf result Error.OutOfMemory → IsTrue Self.takes_memory }
@@ -52,11 +52,11 @@ pub trait WriterExt: Writer {
         Self: Sized,
         requires low { 0 < align }
         requires high { align ≤ 32 }
-        ensures position { IfOk result (λ p. p ≡ Self.place self.new) }
-        ensures written { OnOk result (Padded Self.state self Self.place align) }
+        ensures position { IfOk result (λ p. p ≡ Self.position self.new) }
+        ensures written { OnOk result (Padded Self.state self Self.position align) }
         ensures kept { OnErr result (IsBeginning (Self.state self.old).bytes (Self.state self.new).bytes) }
         ensures room { SpendsRoom Self.state self }
-        ensures refusal { IfErr result (ExplainsPadding Self.state self Self.place align) }
+        ensures refusal { IfErr result (ExplainsPadding Self.state self Self.position align) }
         ensures device { (Self.state self.old).failures ≤ (Self.state self.new).failures }
         ensures keys { KeepsKeys (Self.state self.old).states (Self.state self.new).states }
         ensures memory { IsErrOf result Error.OutOfMemory → IsTrue Self.takes_memory }
@@ -71,12 +71,12 @@ pub trait WriterExt: Writer {
     final fn align_for<T: Portable>(&mut self) -> Result<usize, Error>
     where
         Self: Sized,
-        ensures position { IfOk result (λ p. p ≡ Self.place self.new) }
+        ensures position { IfOk result (λ p. p ≡ Self.position self.new) }
         ensures padded { OnOk result (Pads T.layout.align (Self.state self.old) (Self.state self.new)) }
-        ensures written { OnOk result (Padded Self.state self Self.place T.layout.align) }
+        ensures written { OnOk result (Padded Self.state self Self.position T.layout.align) }
         ensures kept { OnErr result (IsBeginning (Self.state self.old).bytes (Self.state self.new).bytes) }
         ensures room { SpendsRoom Self.state self }
-        ensures refusal { IfErr result (ExplainsPadding Self.state self Self.place T.layout.align) }
+        ensures refusal { IfErr result (ExplainsPadding Self.state self Self.position T.layout.align) }
         ensures device { (Self.state self.old).failures ≤ (Self.state self.new).failures }
         ensures keys { KeepsKeys (Self.state self.old).states (Self.state self.new).states }
         ensures memory { IsErrOf result Error.OutOfMemory → IsTrue Self.takes_memory }

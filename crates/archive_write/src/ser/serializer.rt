@@ -83,7 +83,7 @@ impl<W, A: Allocator + Copy, S> ResolverAlloc for Serializer<W, A, S> {
 }
 
 impl<W: Positional, A, S> Positional for Serializer<W, A, S> {
-    ghost place = { λ s. W.place s.writer };
+    ghost position = { λ s. W.position s.writer };
 
     #[inline(always)]
     fn pos(&self) -> usize {
@@ -98,7 +98,7 @@ impl<W: Keys, A, S: Keys> Keys for Serializer<W, A, S> {
 impl<W: Writer, A, S: Keys> Writer for Serializer<W, A, S> {
     ghost takes_memory = { W.takes_memory };
 
-    ghost place_law = { λ s. W.place_law s.writer };
+    ghost position_law = { λ s. W.position_law s.writer };
 
     #[inline(always)]
     fn write(&mut self, bytes: &[u8]) -> Result<(), Error> {

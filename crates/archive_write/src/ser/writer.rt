@@ -12,11 +12,11 @@ use std::alloc::Allocator;
 /// What stands at a position. As in rkyv 0.8.18.
 pub trait Positional {
     // The position: how many bytes stand before it.
-    ghost place: { Self → ℕ };
+    ghost position: { Self → ℕ };
 
     /// The position: how many bytes stand before it.
     fn pos(&self) -> usize
-        ensures { result ≡ place self.now };
+        ensures { result ≡ position self.now };
 }
 
 /// What takes bytes at its end. The call is that of rkyv 0.8.18; that a writer tells its bytes, its room and its device's failures is our own.
@@ -31,18 +31,18 @@ pub trait Writer: Positional + Keys {
         ensures written { OnOk result ((Self.state self.new).bytes ≡ (Self.state self.old).bytes ++ bytes.now) }
         ensures kept { OnErr result (IsBeginning (Self.state self.old).bytes (Self.state self.new).bytes) }
         ensures room { SpendsRoom Self.state self }
-        ensures refusal { IfErr result (ExplainsWrite Self.state self Self.place (length bytes.now)) }
+        ensures refusal { IfErr result (ExplainsWrite Self.state self Self.position (length bytes.now)) }
         ensures device { (Self.state self.old).failures ≤ (Self.state self.new).failures }
         ensures keys { KeepsKeys (Self.state self.old).states (Self.state self.new).states }
         ensures memory { IsErrOf result Error.OutOfMemory → IsTrue takes_memory };
 
     // It stands behind the bytes that it tells.
-    ghost place_law: { (w : Self) → Self.place w ≡ length (Self.state w).bytes };
+    ghost position_law: { (w : Self) → Self.position w ≡ length (Self.state w).bytes };
 }
 
 /// What is borrowed stands where its owner does.
 impl<P: Positional> Positional for &P {
-    ghost place = { λ r. P.place r.now };
+    ghost position = { λ r. P.position r.now };
 
     #[inline(always)]
     fn pos(&self) -> usize {
@@ -52,7 +52,7 @@ impl<P: Positional> Positional for &P {
 
 /// What is borrowed stands where its owner does.
 impl<P: Positional> Positional for &mut P {
-    ghost place = { λ r. P.place r.now };
+    ghost position = { λ r. P.position r.now };
 
     #[inline(always)]
     fn pos(&self) -> usize {
@@ -64,7 +64,7 @@ impl<P: Positional> Positional for &mut P {
 impl<W: Writer> Writer for &mut W {
     ghost takes_memory = { W.takes_memory };
 
-    ghost place_law = { λ r. W.place_law r.now };
+    ghost position_law = { λ r. W.position_law r.now };
 
     #[inline(always)]
     fn write(&mut self, bytes: &[u8]) -> Result<(), Error> {
@@ -73,7 +73,7 @@ impl<W: Writer> Writer for &mut W {
 }
 
 impl<A: Allocator> Positional for Vec<u8, A> {
-    ghost place = { λ v. length v.items };
+    ghost position = { λ v. length v.items };
 
     #[inline(always)]
     fn pos(&self) -> usize {
@@ -85,7 +85,7 @@ impl<A: Allocator> Positional for Vec<u8, A> {
 impl<A: Allocator> Writer for Vec<u8, A> {
     ghost takes_memory = { true };
 
-    ghost place_law = { λ v. refl };
+    ghost position_law = { λ v. refl };
 
     #[inline(always)]
     fn write(&mut self, bytes: &[u8]) -> Result<(), Error>

@@ -5,7 +5,7 @@ use Rattle.archive_core.proofs.boxed.inner.write_inner.Goals as goal
 
 pub returns-in_err-align_for-clause-refused : goal.returns-in_err-align_for-clause-refused
 returns-in_err-align_for-clause-refused g c = err_by c.from_residual.result c.in_err-align_for.field-0.0 _ c.from_residual.ensures.1
-    (unpadded _ _ _ _ _ _ _ _ _ _ g.met.T.Archived.Portable.is_align g.met.T.Archived.Portable.has_layout (g.met.S.Writer.place_law _)
+    (unpadded _ _ _ _ _ _ _ _ _ _ g.met.T.Archived.Portable.is_align g.met.T.Archived.Portable.has_layout (g.met.S.Writer.position_law _)
     (goes_refused _ _ c.in_err-align_for.ensures.kept c.in_err-align_for.ensures.room c.in_err-align_for.ensures.device c.in_err-align_for.ensures.keys) c.in_err-align_for.ensures.refusal)
 
 pub returns-in_err-pos-clause-refused : goal.returns-in_err-pos-clause-refused
@@ -20,12 +20,12 @@ returns-in_default-clause-goes_on g c = goes_both _ _ _
 pub returns-in_default-clause-refused : goal.returns-in_default-clause-refused
 returns-in_default-clause-refused g c =
     let far : 4294967295 < c.in_ok-pos.pos = omega (arith, c.in_default.ensures) in
-    too_far_inner _ _ _ _ _ _ _ _ _ _ far c.in_ok-align_for.ensures.padded c.in_ok-pos.ensures.region (c.in_ok-pos.ensures.position ∙ g.met.S.Writer.place_law _)
+    too_far_inner _ _ _ _ _ _ _ _ _ _ far c.in_ok-align_for.ensures.padded c.in_ok-pos.ensures.region (c.in_ok-pos.ensures.position ∙ g.met.S.Writer.position_law _)
 
 pub returns-clause-boxed : goal.returns-clause-boxed
 returns-clause-boxed g c =
     let same : c.from_pos.result ≡ c.in_ok-pos.pos = omega (arith, c.from_pos.ensures, c.in-Ok.ensures) in
-    boxed_there _ _ _ _ _ _ _ _ _ _ c.in_ok-align_for.ensures.padded c.in_ok-pos.ensures.region (same ∙ c.in_ok-pos.ensures.position ∙ g.met.S.Writer.place_law _)
+    boxed_there _ _ _ _ _ _ _ _ _ _ c.in_ok-align_for.ensures.padded c.in_ok-pos.ensures.region (same ∙ c.in_ok-pos.ensures.position ∙ g.met.S.Writer.position_law _)
 
 pub returns-clause-goes_on : goal.returns-clause-goes_on
 returns-clause-goes_on g c = goes_both _ _ _

@@ -17,7 +17,7 @@ returns-in_err-pos-clause-pending g c pending =
 pub returns-then-pos-clause-serialized : goal.returns-then-pos-clause-serialized
 returns-then-pos-clause-serialized g c =
     shared_serialized _ _ _ _ _ _ c.args.key c.serialize_shared.result c.in_ok-pos.pos _ _ c.in_ok-pos.was c.serialize_shared.ensures.known c.serialize_shared.ensures.unchanged c.in_ok-pos.ensures.serialized
-    _ [] (sym (append-nil _)) zeroed_none (without_byte _ _ _ (c.pos.ensures ∙ g.met.S.Writer.place_law _) c.if-pos.true) (λ k. refl)
+    _ [] (sym (append-nil _)) zeroed_none (without_byte _ _ _ (c.pos.ensures ∙ g.met.S.Writer.position_law _) c.if-pos.true) (λ k. refl)
 
 pub returns-in_err-write-clause-goes_on : goal.returns-in_err-write-clause-goes_on
 returns-in_err-write-clause-goes_on g c = goes_both _ _ _ c.in_ok-pos.ensures.goes_on (goes_refused _ _ c.in_err-write.ensures.kept c.write.ensures.room c.write.ensures.device c.write.ensures.keys)
@@ -25,12 +25,12 @@ returns-in_err-write-clause-goes_on g c = goes_both _ _ _ c.in_ok-pos.ensures.go
 pub returns-in_err-write-clause-refused : goal.returns-in_err-write-clause-refused
 returns-in_err-write-clause-refused g c = err_by c.from_residual-in_err-write.result c.in_err-write.field-0.0 _ c.from_residual-in_err-write.ensures.1
     (byte_refused _ _ _ _ _ _ c.args.key c.serialize_shared.result c.in_ok-pos.pos _ _ c.in_ok-pos.was c.serialize_shared.ensures.known c.serialize_shared.ensures.unchanged c.in_ok-pos.ensures.serialized
-    _ _ _ (g.met.S.Writer.place_law _) (sym c.pos.ensures ∙ c.if-pos.false) c.in_ok-pos.ensures.goes_on (goes_refused _ _ c.in_err-write.ensures.kept c.write.ensures.room c.write.ensures.device c.write.ensures.keys) c.in_err-write.ensures.refusal)
+    _ _ _ (g.met.S.Writer.position_law _) (sym c.pos.ensures ∙ c.if-pos.false) c.in_ok-pos.ensures.goes_on (goes_refused _ _ c.in_err-write.ensures.kept c.write.ensures.room c.write.ensures.device c.write.ensures.keys) c.in_err-write.ensures.refusal)
 
 pub returns-clause-serialized : goal.returns-clause-serialized
 returns-clause-serialized g c =
     shared_serialized _ _ _ _ _ _ c.args.key c.serialize_shared.result c.in_ok-pos.pos _ _ c.in_ok-pos.was c.serialize_shared.ensures.known c.serialize_shared.ensures.unchanged c.in_ok-pos.ensures.serialized
-    _ (0 ∷ []) c.in_ok-write.ensures.written a_zero (with_byte _ _ _ (c.pos.ensures ∙ g.met.S.Writer.place_law _) c.if-pos.false) c.write.ensures.keys
+    _ (0 ∷ []) c.in_ok-write.ensures.written a_zero (with_byte _ _ _ (c.pos.ensures ∙ g.met.S.Writer.position_law _) c.if-pos.false) c.write.ensures.keys
 
 pub returns-clause-goes_on : goal.returns-clause-goes_on
 returns-clause-goes_on g c = goes_both _ _ _ c.in_ok-pos.ensures.goes_on (goes_written _ _ (0 ∷ []) c.in_ok-write.ensures.written c.write.ensures.room c.write.ensures.device c.write.ensures.keys)

@@ -6,8 +6,8 @@ use Rattle.archive_core.proofs.slice.copying.copy_by.Goals as goal
 
 pub returns-in_err-write_piece-clause-refused : goal.returns-in_err-write_piece-clause-refused
 returns-in_err-write_piece-clause-refused g c = err_by c.from_residual.result c.in_err-write_piece.field-0.0 _ c.from_residual.ensures.1
-    (copies_broken _ _ _ _ _ _ _ _ _ _ _ _ _ _ _ _ (cut_at _ _ _ _ c.split_at.ensures.front c.split_at.ensures.back) (g.met.W.Writer.place_law _) c.requires.same
-    c.loop-rest.invariant.copies c.write_piece.ensures.goes_on (g.met.W.Writer.place_law _) c.in_err-write_piece.ensures.refused)
+    (copies_broken _ _ _ _ _ _ _ _ _ _ _ _ _ _ _ _ (cut_at _ _ _ _ c.split_at.ensures.front c.split_at.ensures.back) (g.met.W.Writer.position_law _) c.requires.same
+    c.loop-rest.invariant.copies c.write_piece.ensures.goes_on (g.met.W.Writer.position_law _) c.in_err-write_piece.ensures.refused)
 
 pub loop-rest-preserved : goal.loop-rest-preserved
 loop-rest-preserved g c = record {

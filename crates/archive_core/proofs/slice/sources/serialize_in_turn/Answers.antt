@@ -12,12 +12,12 @@ returns-in_err-align_for-clause-goes_on g c = goes_both _ _ _ c.serialize_each.e
 pub returns-in_err-align_for-clause-refused : goal.returns-in_err-align_for-clause-refused
 returns-in_err-align_for-clause-refused g c = err_by c.from_residual-in_err-align_for.result c.in_err-align_for.field-0.0 _ c.from_residual-in_err-align_for.ensures.1
     (run_padded _ _ _ _ _ _ _ _ _ _ _ _ g.met.T.Archived.Portable.is_align g.met.T.Archived.Portable.has_layout c.in_ok-resolvers.ensures.serialized c.serialize_each.ensures.goes_on
-    (g.met.S.Writer.place_law _) (goes_refused _ _ c.in_err-align_for.ensures.kept c.in_err-align_for.ensures.room c.in_err-align_for.ensures.device c.in_err-align_for.ensures.keys)
+    (g.met.S.Writer.position_law _) (goes_refused _ _ c.in_err-align_for.ensures.kept c.in_err-align_for.ensures.room c.in_err-align_for.ensures.device c.in_err-align_for.ensures.keys)
     c.in_err-align_for.ensures.refusal)
 
 pub returns-clause-serialized : goal.returns-clause-serialized
 returns-clause-serialized g c = serialized_elements_if _ _ _ _ _ c.resolve_slice_aligned.result _ _ _ _ _ _ _ c.in_ok-resolvers.ensures.serialized c.in_ok-align_for.ensures.padded c.resolve_slice_aligned.ensures.region
-    (g.met.S.Writer.place_law _) c.resolve_slice_aligned.ensures.position
+    (g.met.S.Writer.position_law _) c.resolve_slice_aligned.ensures.position
 
 pub returns-clause-goes_on : goal.returns-clause-goes_on
 returns-clause-goes_on g c = goes_both _ _ _ (goes_both _ _ _ c.serialize_each.ensures.goes_on

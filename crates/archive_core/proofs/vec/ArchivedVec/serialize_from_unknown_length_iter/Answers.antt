@@ -6,10 +6,10 @@ use Rattle.archive_core.proofs.vec.ArchivedVec.serialize_from_unknown_length_ite
 
 pub returns-in_err-pos-clause-refused : goal.returns-in_err-pos-clause-refused
 returns-in_err-pos-clause-refused g c = err_by c.from_residual.result c.in_err-pos.field-0.0 _ c.from_residual.ensures.1
-    (not_aligned (rw (g.met.S.Writer.place_law c.args.serializer.now) at c.in_err-pos.ensures.refusal))
+    (not_aligned (rw (g.met.S.Writer.position_law c.args.serializer.now) at c.in_err-pos.ensures.refusal))
 
 pub returns-then-pos-clause-refused : goal.returns-then-pos-clause-refused
-returns-then-pos-clause-refused g c = too_far c.in_ok-pos.ensures.padded (omega (arith, c.if-pos.true, c.in_ok-pos.ensures.position, g.met.S.Writer.place_law c.align_for.new.self))
+returns-then-pos-clause-refused g c = too_far c.in_ok-pos.ensures.padded (omega (arith, c.if-pos.true, c.in_ok-pos.ensures.position, g.met.S.Writer.position_law c.align_for.new.self))
 
 pub loop-item-init : goal.loop-item-init
 loop-item-init g c = record {
@@ -18,7 +18,7 @@ loop-item-init g c = record {
   goes = goes_written _ _ _ c.in_ok-pos.ensures.written c.in_ok-pos.ensures.room c.in_ok-pos.ensures.device c.in_ok-pos.ensures.keys;
   counted = refl;
   few = omega arith;
-  laid = laid_none _ _ _ _ _ _ _ _ _ _ c.in_ok-pos.ensures.padded (c.in_ok-pos.ensures.position ∙ g.met.S.Writer.place_law c.align_for.new.self);
+  laid = laid_none _ _ _ _ _ _ _ _ _ _ c.in_ok-pos.ensures.padded (c.in_ok-pos.ensures.position ∙ g.met.S.Writer.position_law c.align_for.new.self);
 }
 
 pub returns-in_default-clause-refused : goal.returns-in_default-clause-refused

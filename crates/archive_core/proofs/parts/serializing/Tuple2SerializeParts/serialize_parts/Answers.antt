@@ -1,6 +1,6 @@
 use Rattle.archive_core.proofs.Causes.{err_by, goes_both}
 use Rattle.archive_core.proofs.PlannedParts.{serialized_part, first_refused, later_refused}
-use Rattle.archive_core.proofs.parts.Tuple2SerializeParts.serialize_parts.Goals as goal
+use Rattle.archive_core.proofs.parts.serializing.Tuple2SerializeParts.serialize_parts.Goals as goal
 
 pub returns-in_err-first-clause-refused : goal.returns-in_err-first-clause-refused
 returns-in_err-first-clause-refused g c = err_by c.from_residual.result c.in_err-first.field-0.0 _ c.from_residual.ensures.1
