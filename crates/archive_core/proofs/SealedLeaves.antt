@@ -12,7 +12,7 @@ use Rattle.archive_check.specs.Viewed.{Lies, Viewed}
 use Rattle.archive_check.specs.Within.{in_string}
 use Rattle.archive_check.proofs.ViewedValues.{leaf_readable, text_readable, string_readable}
 use Rattle.archive_check.proofs.EditedBytes.{bytes_long}
-use Rattle.archive_core.specs.Sealed.{Holds, leaf_at, text_begin, string_leaf}
+use Rattle.archive_core.specs.Sealed.{Encodes, leaf_at, text_begin, string_leaf}
 use Rattle.archive_core.specs.Standing.{KeepsParts}
 use Rattle.archive_core.proofs.StandingParts.{leaf_keeps}
 use Rattle.archive_check.specs.Readable.{string_text}
@@ -23,11 +23,11 @@ pub leaf_lies : (D : Definitions) (bytes : List ℕ) (q : ℕ) (P : Pointee) (n 
 leaf_lies D bytes q P n count kind e size v = rw (← size) (leaf_shown bytes q n kind (leaf_readable D bytes q n kind (rw e at v))).fits
 
 -- every archive in which it stands changes in it alone
-pub leaf_changed : (bytes new b : List ℕ) (p : ℕ) (kind : Kind) (z : ℤ) → LeafWritten → Holds kind b z → new ≡ edit bytes p b → WritesLeaf (leaf_at kind bytes p) (number_leaf p kind z) bytes new
+pub leaf_changed : (bytes new b : List ℕ) (p : ℕ) (kind : Kind) (z : ℤ) → LeafWritten → Encodes kind b z → new ≡ edit bytes p b → WritesLeaf (leaf_at kind bytes p) (number_leaf p kind z) bytes new
 leaf_changed bytes new b p kind z law h e = rw (e, ← h.says) (law bytes b (leaf_at kind bytes p) (number_leaf p kind (kind_value kind b)) (overwrites_number h.legal))
 
 -- whose parts stay
-pub leaf_kept : (bytes new b : List ℕ) (p : ℕ) (kind : Kind) (z : ℤ) → Holds kind b z → new ≡ edit bytes p b → KeepsParts (leaf_at kind bytes p) bytes new
+pub leaf_kept : (bytes new b : List ℕ) (p : ℕ) (kind : Kind) (z : ℤ) → Encodes kind b z → new ≡ edit bytes p b → KeepsParts (leaf_at kind bytes p) bytes new
 leaf_kept bytes new b p kind z h e = leaf_keeps bytes new b (leaf_at kind bytes p) (number_leaf p kind (kind_value kind b)) (overwrites_number h.legal) e
 
 -- texts

@@ -11,7 +11,7 @@ use Rattle.archive_check.specs.Readable.{target_from, string_text}
 use Rattle.archive_num.specs.Digits.{is_zero}
 
 -- the bytes are legal for a leaf, which says z then
-pub record Holds (kind : Kind) (bytes : List ℕ) (z : ℤ) : Type 0 where
+pub record Encodes (kind : Kind) (bytes : List ℕ) (z : ℤ) : Type 0 where
   pub legal : IsLegal kind bytes
   pub says : kind_value kind bytes ≡ z
 
@@ -31,11 +31,11 @@ text_begin bytes p = if (slice_index bytes p / 64) == 2 then target_from bytes p
 abbrev pub string_leaf : List ℕ → ℕ → Leaf
 string_leaf bytes p = text_leaf (text_begin bytes p) (string_text bytes p)
 
--- the bytes of a value hold it
-pub value_holds : {A : Type 0} (value_of : A → ℤ) (number_of : List ℕ → A) (bytes_of : A → List ℕ) (kind : Kind) (x : A)
+-- the bytes of a value encode it
+pub value_encodes : {A : Type 0} (value_of : A → ℤ) (number_of : List ℕ → A) (bytes_of : A → List ℕ) (kind : Kind) (x : A)
     → ((bs : List ℕ) → IsLegal kind bs → value_of (number_of bs) ≡ kind_value kind bs) → number_of (bytes_of x) ≡ x → IsLegal kind (bytes_of x)
-    → Holds kind (bytes_of x) (value_of x)
-value_holds value_of number_of bytes_of kind x values back legal = record { legal = legal; says = sym (values (bytes_of x) legal) ∙ ap value_of back }
+    → Encodes kind (bytes_of x) (value_of x)
+value_encodes value_of number_of bytes_of kind x values back legal = record { legal = legal; says = sym (values (bytes_of x) legal) ∙ ap value_of back }
 
 zero_sign : (sign : Sign) (w : Width) → with_sign sign w 0 ≡ pos 0
 zero_sign unsigned w = refl
@@ -49,9 +49,9 @@ not_zero_number : (sign : Sign) (w : Width) (n : ℕ) (z : ℤ) → with_sign si
 not_zero_number sign w n z e f g = (let same : z ≡ pos 0 = sym e ∙ ap (with_sign sign w) g ∙ zero_sign sign w in let no : is_zero z ≡ true = rw same refl in cc)
 
 -- so do those of a number that isn't 0, in a leaf that mustn't be
-pub non_zero_holds : (kind : Kind) (sign : Sign) (w : Width) (bytes : List ℕ) (z : ℤ) → kind ≡ number_kind sign w → Holds kind bytes z → is_zero z ≡ false → Holds (non_zero sign w) bytes z
+pub non_zero_encodes : (kind : Kind) (sign : Sign) (w : Width) (bytes : List ℕ) (z : ℤ) → kind ≡ number_kind sign w → Encodes kind bytes z → is_zero z ≡ false → Encodes (non_zero sign w) bytes z
 unfolding kind_value kind_number
-non_zero_holds kind sign w bytes z e h zero =
+non_zero_encodes kind sign w bytes z e h zero =
     let says : with_sign sign w (from_le_bytes w bytes) ≡ z = ap (λ k. kind_value k bytes) (sym e) ∙ h.says in
     let plain : IsLegal (number_kind sign w) bytes = rw e at h.legal in
     record { legal = record { size = plain.size; number = not_zero_number sign w (from_le_bytes w bytes) z says zero }; says = says }
