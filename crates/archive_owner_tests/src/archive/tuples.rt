@@ -152,34 +152,6 @@ fn a_tuple_of_seven_is_written_viewed_and_read_back(rt: HostRuntime) -> Result<(
 }
 
 #[test]
-fn tuples_of_eight_and_nine_are_written_and_read_back(rt: HostRuntime) -> Result<(), Fail> {
-    let eight: (u8, u16, bool, u8, u8, u8, u8, u8) = (1, 2, true, 3, 4, 5, 6, 7);
-    let bytes = b"\x01\0\x02\0\x01\x03\x04\x05\x06\x07";
-    let same = goes_there_and_back(rt.alloc(), &eight, bytes)?;
-    assert_holds(&rt, "eight", same);
-    let nine: (u8, u8, bool, u8, u8, u8, u8, u8, u16) = (1, 2, true, 3, 4, 5, 6, 7, 8);
-    let bytes = b"\x01\x02\x01\x03\x04\x05\x06\x07\x08\0";
-    let same = goes_there_and_back(rt.alloc(), &nine, bytes)?;
-    assert_holds(&rt, "nine", same);
-    Ok(())
-}
-
-#[test]
-fn tuples_of_ten_and_twelve_are_written_and_read_back(rt: HostRuntime) -> Result<(), Fail> {
-    let ten: (u8, u8, bool, u8, u8, u8, u8, u8, u8, u16) = (1, 2, true, 3, 4, 5, 6, 7, 8, 9);
-    let bytes = b"\x01\x02\x01\x03\x04\x05\x06\x07\x08\0\x09\0";
-    let same = goes_there_and_back(rt.alloc(), &ten, bytes)?;
-    assert_holds(&rt, "ten", same);
-    let twelve: (u8, u8, bool, u8, u8, u8, u8, u8, u8, u8, u8, u32) = (
-        1, 2, true, 3, 4, 5, 6, 7, 8, 9, 10, 11,
-    );
-    let bytes = b"\x01\x02\x01\x03\x04\x05\x06\x07\x08\x09\x0a\0\x0b\0\0\0";
-    let same = goes_there_and_back(rt.alloc(), &twelve, bytes)?;
-    assert_holds(&rt, "twelve", same);
-    Ok(())
-}
-
-#[test]
 fn a_tuple_of_eleven_is_written_viewed_and_read_back(rt: HostRuntime) -> Result<(), Fail> {
     let eleven: (u8, u16, u8, u32, bool, u8, u16, u8, u8, u16, u8) = (
         1, 2, 3, 4, true, 5, 6, 7, 8, 9, 10,
