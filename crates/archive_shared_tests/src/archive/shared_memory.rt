@@ -3,12 +3,12 @@
 ghost use Rattle.std.specs.Prelude.{true, IfOk, ◌≤◌, length};
 ghost use Rattle.std.proofs.Common.{true≢false};
 
-use crate::assertions::{assert_holds, assert_same};
+use crate::assertions::{assert_holds, assert_same, read};
 use archive_check::context::positions::SharedValidator;
 use archive_check::context::range::ArchiveValidator;
 use archive_check::context::validator::Validator;
 use archive_check::context::{ArchiveContext, SharedContext};
-use archive_core::api::{check_pos_with_context, from_bytes, serialize_using};
+use archive_core::api::{check_pos_with_context, serialize_using};
 use archive_core::error::Error;
 use archive_core::pooling::{Pool, Pooling, PoolingState};
 use archive_core::primitive::ArchivedU32;
@@ -163,16 +163,16 @@ impl Pooling<Shared<u32>> for Refusing {
 fn read_with(alloc: Global, served: usize) -> Result<(Option<Error>, Option<Option<u32>>), Error> {
     let pool = Pool::new(alloc);
     let mut refusing = Refusing { pool, served };
-    let read: Result<Pair, Error> = from_bytes(alloc, ONE_NUMBER, &mut refusing);
+    let found: Result<Pair, Error> = read(alloc, ONE_NUMBER, &mut refusing);
     let Refusing { mut pool, .. } = refusing;
     if !pool.is_known(0) {
-        return Ok((read.err(), None));
+        return Ok((found.err(), None));
     }
     let state = match pool.start_pooling(0)? {
         PoolingState::Finished(number) => Some(*number.value),
         PoolingState::Pending | PoolingState::Started => None,
     };
-    Ok((read.err(), Some(state)))
+    Ok((found.err(), Some(state)))
 }
 
 #[test]

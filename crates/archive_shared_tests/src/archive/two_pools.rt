@@ -4,8 +4,7 @@ ghost use Rattle.std.specs.Prelude.{◌≡◌, true, is_some, refl};
 ghost use Rattle.std.proofs.Common.{true≢false};
 ghost use Rattle.archive_shared_tests.specs.TwoPools.{both_pools};
 
-use crate::assertions::assert_same;
-use archive_core::api::from_bytes;
+use crate::assertions::{assert_same, read};
 use archive_core::error::Error;
 use archive_core::pooling::{Pool, Pooled, Pooling, PoolingState};
 use archive_core::rc::{Shared, SharedStr};
@@ -89,7 +88,7 @@ fn read_both<P: Telling<Shared<u32>>, Q: Telling<SharedStr>>(
     alloc: Global,
     pools: &mut TwoPools<P, Q>,
 ) -> Result<(Shared<u32>, SharedStr), Error> {
-    from_bytes(alloc, NUMBER_AND_TEXT, pools)
+    read(alloc, NUMBER_AND_TEXT, pools)
 }
 
 #[test]
