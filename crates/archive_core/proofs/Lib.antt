@@ -52,7 +52,6 @@ pub mod WrittenVariants
 pub mod NamedVariants
 pub mod Inner
 pub mod ChoicesShown
-pub mod BoxesBefore
 pub mod Nothing
 pub mod ResolvedVariants
 pub mod OwnKeys
@@ -66,3 +65,4 @@ pub mod SaidOrder
 mod FollowedPointers
 mod OneReading
 pub mod MeantOrder
+pub mod Nests

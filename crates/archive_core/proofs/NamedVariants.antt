@@ -1,11 +1,10 @@
 -- Variants with no part or one, of a choice that stands under its own name; and those whose part is a box of one value, as of a type that holds itself.
-use Rattle.std.proofs.Common.{◌≡◌, ℕ, ◌+◌, ◌<◌, List, [], length, slice_index, Some, refl, sym}
+use Rattle.std.proofs.Common.{◌≡◌, ℕ, ◌+◌, ◌<◌, List, [], length, slice_index, Some, refl}
 use Rattle.archive_check.specs.Shape.{Name, Shape, choice, named, boxed, one, Variants, part, no_part, variant_at, definition}
 use Rattle.archive_check.specs.Layout.{Layout, up}
 use Rattle.archive_check.specs.Definitions.{Definitions, Knows, HasLayout}
 use Rattle.archive_check.specs.Value.{Value, case, box, hole, no_value}
 use Rattle.archive_check.specs.Reads.{Schema}
-use Rattle.archive_check.specs.CleanRegions.{IsZeroed}
 use Rattle.archive_check.specs.WriterState.{WriterState}
 use Rattle.archive_check.specs.Pooled.{Entries}
 use Rattle.archive_check.specs.Entries.{ReadsBack, RefusesReading}
@@ -19,7 +18,7 @@ use Rattle.archive_core.specs.Inner.{IsBoxed, IsNotBoxed}
 use Rattle.archive_core.specs.Variants.{case_of, HoldsCase}
 use Rattle.archive_core.proofs.Owners.{box_refused}
 use Rattle.archive_core.proofs.Planned.{one_owned}
-use Rattle.archive_core.proofs.ResolvedVariants.{resolves_case, resolves_zeros}
+use Rattle.archive_core.proofs.ResolvedVariants.{resolves_case}
 use Rattle.archive_core.proofs.WrittenVariants.{serialized_case, case_refused, case_hindered_at, serialized_empty_case, serialized_named, named_refused, resolves_named, named_hindered_at}
 
 module _ (D : Definitions) (name : Name) (vs : Variants) (has : (s : Schema) → Knows s D → definition s.table name ≡ Some (choice name vs)) (tag : ℕ) where
@@ -65,8 +64,3 @@ module _ (D : Definitions) (name : Name) (vs : Variants) (has : (s : Schema) →
     pub inner_unboxed : (flat : Value) (mid new : WriterState) (e : Error) → GoesOn old mid → Serialized E Y ks v flat old mid → IsNotBoxed E Y ks v flat mid new e
         → IsRefused D (named name) ks (case_of tag (box v)) old new e
     inner_unboxed flat mid new e g h b = part_refused E known (boxed (one Y)) is ks (box v) old new e (b.since old g h)
-
--- the first variant, where it has no part, is zeros
-pub named_zeros : (D : Definitions) (name : Name) (vs : Variants) → ((s : Schema) → Knows s D → definition s.table name ≡ Some (choice name vs)) → variant_at vs 0 ≡ Some no_part → (C : Layout) → HasLayout D (choice name vs) C
-    → (p : ℕ) (a : List ℕ) → 0 < length a → length a ≡ C.size → IsZeroed a → Resolves D p a (named name) (case 0 no_value)
-named_zeros D name vs has is C outer p a some sized z = resolves_named D name (choice name vs) has p a _ (resolves_zeros D name vs is C outer p a some sized z)

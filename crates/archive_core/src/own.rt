@@ -13,6 +13,7 @@ ghost use Rattle.archive_core.specs.Seen.{IsPartOf, RefusesPart};
 ghost use Rattle.archive_core.specs.Sources.{Read};
 
 mod choices;
+mod nested;
 mod recursive;
 mod variants;
 
@@ -27,6 +28,7 @@ use archive_check::format::error::Error;
 use archive_check::self_check::SelfCheck;
 use archive_check::shape::{Defs, Expr};
 pub use choices::{ArchivedChoice, NamedChoice};
+pub use nested::{FromNested, Nested, resolve_nested, serialize_nested};
 pub use recursive::{ArchivedRecursive, NamedRecursive, RecursiveChoice, choice_of};
 use std::alloc::Global;
 use std::marker::PhantomData;

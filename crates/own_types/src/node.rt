@@ -1,25 +1,25 @@
 //! A list of boxes in boxes: an own type that holds itself.
 
-ghost use Rattle.std.specs.Prelude.{◌≡◌, [], length, refl, ⊤, OnOk, IfOk, IfErr};
+ghost use Rattle.std.specs.Prelude.{◌≡◌, [], length, refl, ⊤, OnOk, IfErr};
 ghost use Rattle.std.proofs.Common.{inl, inr};
 ghost use Rattle.archive_check.specs.VariantsLayout.{is_recursive_choice};
-ghost use Rattle.archive_check.specs.Shape.{one};
-ghost use Rattle.archive_check.specs.Viewed.{Viewed};
+ghost use Rattle.archive_check.specs.Value.{box};
+ghost use Rattle.archive_core.specs.Nests.{HoldsBox, nest_keyed, nest_planned};
 ghost use Rattle.archive_core.specs.Placed.{Resolved, Hindered};
-ghost use Rattle.archive_core.specs.Seen.{ReadsPart, RefusesPart};
+ghost use Rattle.archive_core.specs.Variants.{case_of};
 ghost use Rattle.archive_core.specs.Writing.{Fresh};
-ghost use Rattle.own_types.specs.NodeShape.{node_name, node_shape, node_variants, node_choice, node_definitions, node_layout, choice_has_layout, knows_variants};
+ghost use Rattle.own_types.specs.NodeShape.{node_name, node_variants, node_choice};
 
-use archive_core::boxed::{ArchivedBox, BoxResolver, resolve_inner, serialize_inner};
+use archive_core::boxed::{ArchivedBox, BoxResolver};
 use archive_core::error::Error;
-use archive_core::own::{ArchivedRecursive, NamedRecursive, RecursiveChoice, choice_of};
+use archive_core::own::{
+    ArchivedRecursive, FromNested, NamedRecursive, Nested, RecursiveChoice, choice_of,
+    resolve_nested, serialize_nested,
+};
 use archive_core::place::Place;
 use archive_core::ser::{ResolverAlloc, Writer};
 use archive_core::shape::{Expr, Pointee};
-use archive_core::traits::{
-    Archive, ArchivePointee, Deserialize, Entries, Keys, Portable, Serialize,
-};
-use archive_core::view::{RawView, Ref};
+use archive_core::traits::{Archive, Keys, Portable, Serialize};
 use std::alloc::{AllocError, Global};
 
 /// Nothing, or a box of the rest.
@@ -61,11 +61,11 @@ impl NamedRecursive for NodeFormat {
 
     ghost stands_for = { node_choice };
 
-    ghost layout = { node_layout };
+    ghost layout = { record { size = 8; align = 4 } };
 
     ghost is_align = { inr (inr (inl refl)) };
 
-    ghost laid_out = { choice_has_layout };
+    ghost laid_out = { record { solved = λ s k. refl } };
 
     fn name() -> &'static str {
         "ArchivedNode"
@@ -89,11 +89,12 @@ impl NamedRecursive for NodeFormat {
 impl RecursiveChoice for NodeFormat {
     type Variants = ((), ((ArchivedBox<ArchivedNode>, ()), ()));
 
-    ghost has_variants = { is_recursive_choice node_name _ node_variants knows_variants };
+    ghost has_variants = { is_recursive_choice node_name _ node_variants
+        (λ s k. record { has = (tt, ((k.has, tt), tt)); finite = k.finite; laid_out = k.laid_out }) };
 }
 
 impl Archive for Node {
-    ghost use Rattle.own_types.specs.Node.{node_meaning, node_flat, node_keyed, node_planned};
+    ghost use Rattle.own_types.specs.Node.{node_meaning, node_flat, node_nest};
 
     type Archived = ArchivedNode;
 
@@ -107,9 +108,9 @@ impl Archive for Node {
 
     ghost belongs = { λ _ _. ⊤ };
 
-    ghost keyed = { node_keyed };
+    ghost keyed = { λ n. nest_keyed (node_nest n) };
 
-    ghost planned = { node_planned };
+    ghost planned = { λ n. nest_planned (node_nest n) };
 
     fn resolve(
         &self,
@@ -123,53 +124,50 @@ impl Archive for Node {
         ensures refused { IfErr result (Hindered ⟦<Self::Archived as Portable>⟧ place (node_flat resolver)) }
     {
         let Place { bytes, pos, .. } = place;
-        let rest = match resolver {
-            None => return Ok(()),
-            Some(rest) => rest,
-        };
-        resolve_inner::<ArchivedNode>(1, rest, pos, bytes)
+        match resolver {
+            None => resolve_nested::<ArchivedNode>(0, None, Place::new(pos, bytes)),
+            Some(rest) => resolve_nested::<ArchivedNode>(1, Some(rest), Place::new(pos, bytes)),
+        }
+    }
+}
+
+impl Nested<ArchivedNode> for Node {
+    ghost is_named = { refl };
+
+    ghost no_keys = { λ _. refl };
+
+    fn inner(&self) -> (u8, Option<&Node>) {
+        match self {
+            Node::Nil => (0, None),
+            Node::Cons(rest) => (1, Some(&**rest)),
+        }
     }
 }
 
 impl<S: Writer + Keys + ResolverAlloc> Serialize<S> for Node {
     fn serialize(&self, serializer: &mut S) -> Result<Option<BoxResolver>, Error> {
-        let rest = match self {
-            Node::Nil => return Ok(None),
-            Node::Cons(rest) => &**rest,
-        };
-        let resolver = match <Node as Serialize<S>>::serialize(rest, serializer) {
-            Ok(resolver) => resolver,
-            Err(error) => return Err(error),
-        };
-        match serialize_inner(rest, resolver, serializer) {
-            Ok(resolver) => Ok(Some(resolver)),
-            Err(error) => Err(error),
-        }
+        serialize_nested::<ArchivedNode, Node, S>(self, serializer)
     }
 }
 
-impl<D: Entries> Deserialize<Node, D> for ArchivedNode {
+impl FromNested<NodeFormat> for Node {
     ghost use Rattle.own_types.specs.Node.{node_meaning};
 
-    fn deserialize_part(
-        alloc: Global,
-        part: RawView<'_>,
-        deserializer: &mut D,
-    ) -> Result<Node, Error>
-        requires { Viewed node_definitions part.bytes.now part.pos (one node_shape) part.len }
-        ensures read { IfOk result (λ t. ReadsPart ⟦<Self as ArchivePointee>⟧ part D.Entries deserializer (node_meaning t) []) }
-        ensures refused { IfErr result (RefusesPart ⟦<Self as ArchivePointee>⟧ part D.Entries deserializer) }
-    {
-        let view: Ref<'_, ArchivedNode> = Ref::at(part);
-        if view.tag() == 0 {
-            return Ok(Node::Nil);
+    ghost nests = { (inl refl, (inr refl, tt)) };
+
+    ghost no_keys = { λ _. refl };
+
+    fn empty(tag: u8) -> Option<Node> {
+        if tag == 0 {
+            return Some(Node::Nil);
         }
-        let rest: Ref<'_, ArchivedBox<ArchivedNode>> = view.payload(0);
-        let node = <ArchivedNode as Deserialize<Node, D>>::deserialize_part(
-            alloc,
-            rest.get().part(),
-            deserializer,
-        )?;
-        Ok(Node::Cons(Box::new(alloc, node)?))
+        None
+    }
+
+    fn around(_tag: u8, inner: Box<Node>) -> Node
+        requires { HoldsBox 0 node_variants _tag }
+        ensures { node_meaning result ≡ case_of _tag (box (node_meaning inner.value)) }
+    {
+        Node::Cons(inner)
     }
 }
