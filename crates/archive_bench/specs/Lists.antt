@@ -2,9 +2,9 @@
 use Rattle.archive_check.specs.Shape.{Shape, Pointee, vec}
 use Rattle.archive_check.specs.declared.format.traits.ArchivePointee as ArchivePointee
 use Rattle.archive_enum.specs.Choices.{option_shape}
-use Rattle.archive_core.specs.Standing.{StandsWith, view}
-use Rattle.archive_core.specs.declared.seal.Spot.{Spot}
-use Rattle.archive_core.specs.declared.view.Ref.{Ref}
+use Rattle.archive_types.specs.Standing.{StandsWith, view}
+use Rattle.archive_seal.specs.declared.seal.Spot.{Spot}
+use Rattle.archive_types.specs.declared.view.Ref.{Ref}
 
 -- nothing, or elements
 abbrev pub optional_list : Shape → Shape

@@ -3,7 +3,7 @@
 ghost use Rattle.std.specs.Prelude.{◌≡◌, ◌≤◌, Some, IfSome};
 ghost use Rattle.archive_check.specs.PartsLayout.{part_at, definitions_at};
 ghost use Rattle.archive_check.specs.Viewed.{Viewed};
-ghost use Rattle.archive_core.specs.Standing.{KeepsViews, view};
+ghost use Rattle.archive_types.specs.Standing.{KeepsViews, view};
 ghost use Rattle.archive_bench.specs.Lists.{optional_list, SpotBeside};
 
 use crate::sets::ArchivedSmall;
@@ -25,7 +25,7 @@ fn third<R: Record, T: Portable>(root: Ref<'_, R>) -> Option<Spot<T>>
 {
     let list = root.field::<ArchivedOption<ArchivedVec<T>>>(2).as_ref()?;
     let item = list.as_slice().get(2)?;
-    Some(item.spot())
+    Some(Spot::of(item))
 }
 
 // Writes a value over the leaf at a spot. Views of what stands beside it stay views.
@@ -80,7 +80,7 @@ pub extern "C" fn archive_bench_seal_record(alloc: Global, bytes: &mut [u8], cou
     ensures { result ≤ count }
 {
     let root = match access::<ArchivedSmall>(alloc, bytes) {
-        Ok(root) => root.spot(),
+        Ok(root) => Spot::of(root),
         Err(_) => return 0,
     };
     written_over(bytes, root, count)

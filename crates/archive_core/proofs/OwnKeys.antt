@@ -7,9 +7,9 @@ use Rattle.archive_check.specs.WriterState.{KeyStates, WriterState}
 use Rattle.archive_check.specs.declared.format.error.Error.{Error}
 use Rattle.archive_write.specs.Written.{GoesOn}
 use Rattle.archive_write.specs.Sharing.{KnowsNone}
-use Rattle.archive_core.specs.Writing.{Naming}
-use Rattle.archive_core.specs.Plans.{unshared}
-use Rattle.archive_core.specs.Causes.{Explains, no_memory, no_room, device_failed, own_cause, IsRegionRefused}
+use Rattle.archive_types.specs.Writing.{Naming}
+use Rattle.archive_types.specs.Plans.{unshared}
+use Rattle.archive_types.specs.Causes.{Explains, no_memory, no_room, device_failed, own_cause, IsRegionRefused}
 
 -- what the serializer of these keys tells
 abbrev pub keyed : WriterState → KeyStates → WriterState

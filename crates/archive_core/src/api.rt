@@ -8,23 +8,23 @@ ghost use Rattle.archive_check.specs.Archives.{IsAnswerable, Answers, root_in};
 ghost use Rattle.archive_check.specs.declared.format.error.Error.TheVariants.{OutOfMemory};
 ghost use Rattle.archive_check.specs.Shape.{one};
 ghost use Rattle.archive_check.specs.Viewed.{Viewed};
-ghost use Rattle.archive_core.specs.ArchivesOf.{Leaves, LeavesOne, LeavesIn, IsArchiveOf, NoArchiveOf, EndsWithNone, IsArchiveIn, ReadsArchive, RefusesArchive, AsCheckIfNeverOpen, IsNew, LacksSchema, AnswersRoot, WholeRefused};
-ghost use Rattle.archive_core.specs.Causes.{IsRegionRefused};
-ghost use Rattle.archive_core.specs.Plans.{unshared};
-ghost use Rattle.archive_core.specs.Seen.{ReadsView, RefusesView};
-ghost use Rattle.archive_core.specs.Sources.{OneUnstored};
+ghost use Rattle.archive_types.specs.ArchivesOf.{Leaves, LeavesOne, LeavesIn, IsArchiveOf, NoArchiveOf, EndsWithNone, IsArchiveIn, ReadsArchive, RefusesArchive, AsCheckIfNeverOpen, IsNew, LacksSchema, AnswersRoot, WholeRefused};
+ghost use Rattle.archive_types.specs.Causes.{IsRegionRefused};
+ghost use Rattle.archive_types.specs.Plans.{unshared};
+ghost use Rattle.archive_types.specs.Seen.{ReadsView, RefusesView};
+ghost use Rattle.archive_types.specs.Sources.{OneUnstored};
 ghost use Rattle.archive_write.specs.Written.{GoesOn};
 ghost use Rattle.archive_check.specs.Contexts.{AnswersIn};
 
 mod kept;
 mod using;
 
-use crate::pooling::Pool;
-use crate::seal::Seal;
-use crate::ser::{Serializer, Writer, serialize_one, serialize_with};
-use crate::sharing::Share;
-use crate::traits::{Archive, Deserialize, Entries, Keys, Portable, Serialize};
-use crate::view::{RawView, Ref};
+use archive_shared::pooling::Pool;
+use archive_seal::seal::{Seal, Spot};
+use archive_types::ser::{Serializer, Writer, serialize_one, serialize_with};
+use archive_types::sharing::Share;
+use archive_types::traits::{Archive, Deserialize, Entries, Keys, Portable, Serialize};
+use archive_types::view::{RawView, Ref};
 pub use archive_check::context::HighValidator;
 use archive_check::context::{ArchiveContext, SharedContext};
 use archive_check::format::error::Error;
@@ -186,7 +186,7 @@ pub fn access_pos_mut<'a, T: Portable>(
     ensures viewed { IfOk result (λ s. Viewed T.definitions s.bytes.now s.pos T.pointee s.len) }
 {
     let spot = match access_pos::<T>(alloc, bytes, pos) {
-        Ok(root) => root.spot(),
+        Ok(root) => Spot::of(root),
         Err(error) => return Err(error),
     };
     Ok(spot.seal(bytes))

@@ -2,35 +2,17 @@
 #![tactic(auto)]
 
 pub mod api;
-pub mod array;
-pub mod boxed;
-pub mod choice;
-pub mod compare;
-mod fields;
-pub mod option;
-pub mod own;
-pub mod parts;
-mod phantom;
-pub mod place;
-pub mod pooling;
-pub mod primitive;
 pub mod rc;
-pub mod record;
-pub mod rel_ptr;
-pub mod result;
-pub mod seal;
-pub mod ser;
-pub mod sharing;
-pub mod slice;
-pub mod string;
-pub mod traits;
-pub mod tuples;
-mod variants;
-pub mod vec;
-pub mod view;
 
 pub use archive_check::format::error;
 pub use archive_check::{context as validation, laws, self_check, shape};
+pub use archive_own::own;
+pub use archive_seal::seal;
+pub use archive_shared::pooling;
+pub use archive_types::{
+    array, boxed, choice, compare, option, parts, place, primitive, record, rel_ptr, result, ser,
+    sharing, slice, string, traits, tuples, vec, view,
+};
 
 /// A relative pointer to a `T` whose offset is of 32 bits. As in rkyv 0.8.18.
-pub type RelPtr<T> = rel_ptr::RelPtr<T, primitive::ArchivedIsize>;
+pub type RelPtr<T> = archive_types::rel_ptr::RelPtr<T, archive_types::primitive::ArchivedIsize>;

@@ -7,10 +7,10 @@ use Rattle.archive_check.specs.Readable.{target_from}
 use Rattle.archive_check.specs.Pooled.{Entries, pooled}
 use Rattle.archive_check.specs.Viewed.{Viewed}
 use Rattle.archive_check.specs.Entries.{NoEntries, RefusesReading}
-use Rattle.archive_core.specs.Pooling.{IsPut, RefusesShared}
-use Rattle.archive_core.proofs.NamedVariants.{part_refuses}
-use Rattle.archive_core.proofs.PooledPointers.{shared_unread}
-use Rattle.archive_core.proofs.PooledReading.{kept_pending, kept_refused}
+use Rattle.archive_shared.specs.Pooling.{IsPut, RefusesShared}
+use Rattle.archive_own.proofs.NamedVariants.{part_refuses}
+use Rattle.archive_shared.proofs.PooledPointers.{shared_unread}
+use Rattle.archive_shared.proofs.PooledReading.{kept_pending, kept_refused}
 use Rattle.archive_shared_tests.specs.LoopShape.{loop_name, loop_shape, loop_flavor, loop_pointer, loop_variants, loop_definitions, loop_layout, choice_has_layout}
 
 module _ (bytes : List ℕ) (q n : ℕ) (first : slice_index bytes q ≡ 0) (viewed : Viewed loop_definitions bytes (q + 4) (one loop_pointer) 0) where

@@ -4,7 +4,7 @@ use Rattle.std.specs.Prelude.{is_some, true, false}
 use Rattle.std.proofs.lemmas.Bool.{cases_eq}
 use Rattle.std.proofs.lemmas.Map.{update_here, update_apart}
 use Rattle.archive_check.specs.Pooled.{Kept, EntryState, Entries, pooled}
-use Rattle.archive_core.specs.Pooling.{IsPut, IsSame}
+use Rattle.archive_shared.specs.Pooling.{IsPut, IsSame}
 use Rattle.archive_shared_tests.specs.TwoPools.{either_known, both_pools}
 
 -- what is unknown to one of them is known as the other one knows it

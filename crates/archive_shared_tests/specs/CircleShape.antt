@@ -1,7 +1,7 @@
 -- What a pointer that may lead to itself looks like.
 use Rattle.std.specs.Prelude.{true, codes}
 use Rattle.archive_check.specs.Shape.{Name, Shape, named, one, shared}
-use Rattle.archive_core.specs.SharedLaws.{flavor_as}
+use Rattle.archive_types.specs.SharedLaws.{flavor_as}
 
 abbrev pub circle_name : Name
 circle_name = codes "ArchivedCircle"

@@ -5,7 +5,7 @@ use Rattle.archive_check.specs.Layout.{Layout}
 use Rattle.archive_check.specs.Definitions.{Definitions, no_definition, defines, both, Knows, HasLayout}
 use Rattle.archive_check.specs.Reads.{Schema}
 use Rattle.archive_check.specs.NamedLayout.{name_has_layout}
-use Rattle.archive_core.specs.SharedLaws.{flavor_as}
+use Rattle.archive_types.specs.SharedLaws.{flavor_as}
 
 abbrev pub loop_name : Name
 loop_name = codes "ArchivedAllValues"

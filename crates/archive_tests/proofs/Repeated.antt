@@ -8,10 +8,10 @@ use Rattle.archive_check.specs.Value.{Value, list, number}
 use Rattle.archive_check.specs.Reads.{Schema, reads_array, ReadsRun, reads_none, reads_element}
 use Rattle.archive_check.specs.CleanRegions.{Occurs, clean_array, CleanRun, clean_none, clean_element}
 use Rattle.archive_check.proofs.StandingBytes.{stands_front, stands_back}
-use Rattle.archive_core.specs.Writing.{Resolves}
+use Rattle.archive_types.specs.Writing.{Resolves}
 use Rattle.archive_tests.specs.Repeated.{repeated, copies}
-use Rattle.archive_core.proofs.Appending.{size_is}
-use Rattle.archive_core.proofs.Resolving.{resolves_usize}
+use Rattle.archive_types.proofs.Appending.{size_is}
+use Rattle.archive_types.proofs.Resolving.{resolves_usize}
 
 module _ (D : Definitions) (X : Shape) (L : Layout) (a : List ℕ) (v : Value) (layout : HasLayout D X L) (sized : length a ≡ L.size) (each : (q : ℕ) → Resolves D q a X v) where
   next : (s : Schema) → Knows s D → (p : ℕ) → p + size_of s.layouts X ≡ p + length a

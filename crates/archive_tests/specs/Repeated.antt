@@ -5,9 +5,9 @@ use Rattle.archive_check.specs.Reached.{Names, names_list, NamesAmong, names_fir
 use Rattle.archive_check.specs.Shape.{Kind, leaf, array}
 use Rattle.archive_check.specs.Definitions.{Definitions}
 use Rattle.archive_check.specs.Reads.{Schema}
-use Rattle.archive_core.specs.Keyed.{keyed_by_none}
-use Rattle.archive_core.specs.Plans.{Cursor, plans_leaf, plans_array, PlansRun, plans_none, plans_element, HasPlan}
-use Rattle.archive_core.specs.Writing.{IsKeyed, NameMap, Naming}
+use Rattle.archive_types.specs.Keyed.{keyed_by_none}
+use Rattle.archive_types.specs.Plans.{Cursor, plans_leaf, plans_array, PlansRun, plans_none, plans_element, HasPlan}
+use Rattle.archive_types.specs.Writing.{IsKeyed, NameMap, Naming}
 
 abbrev pub repeated : ℕ → Value → Values
 repeated zero v = no_value

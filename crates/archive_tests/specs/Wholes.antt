@@ -5,7 +5,7 @@ use Rattle.archive_check.specs.Archives.{IsValueOf}
 use Rattle.archive_check.specs.Definitions.{no_definition}
 use Rattle.archive_check.specs.Shape.{leaf, number as number_kind, unsigned, str}
 use Rattle.archive_check.specs.Value.{number, text_value}
-use Rattle.archive_core.specs.Writing.{Archives}
+use Rattle.archive_types.specs.Writing.{Archives}
 
 -- the number of 4 bytes at the end is n
 abbrev pub DenotesNumber : List ℕ → ℕ → Type 0

@@ -4,10 +4,10 @@ ghost use Rattle.std.specs.Prelude.{◌≡◌, [], length, refl, ⊤, OnOk, IfEr
 ghost use Rattle.std.proofs.Common.{inl, inr};
 ghost use Rattle.archive_check.specs.VariantsLayout.{is_recursive_choice};
 ghost use Rattle.archive_check.specs.Value.{box};
-ghost use Rattle.archive_core.specs.Nests.{HoldsBox, nest_keyed, nest_planned};
-ghost use Rattle.archive_core.specs.Placed.{Resolved, Hindered};
-ghost use Rattle.archive_core.specs.Variants.{case_of};
-ghost use Rattle.archive_core.specs.Writing.{Fresh};
+ghost use Rattle.archive_own.specs.Nests.{HoldsBox, nest_keyed, nest_planned};
+ghost use Rattle.archive_types.specs.Placed.{Resolved, Hindered};
+ghost use Rattle.archive_types.specs.Variants.{case_of};
+ghost use Rattle.archive_types.specs.Writing.{Fresh};
 ghost use Rattle.own_types.specs.NodeShape.{node_name, node_variants, node_choice};
 
 use archive_core::boxed::{ArchivedBox, BoxResolver};

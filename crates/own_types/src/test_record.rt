@@ -4,10 +4,10 @@ ghost use Rattle.std.specs.Prelude.{◌≡◌, codes, length, OnOk, IfErr};
 ghost use Rattle.archive_check.specs.PartsLayout.{is_named_record};
 ghost use Rattle.archive_check.specs.SelfCheck.Laws.{by_schema};
 ghost use Rattle.archive_check.specs.Value.{product};
-ghost use Rattle.archive_core.specs.Keyed.{nothing_keyed, part_keyed, record_keyed};
-ghost use Rattle.archive_core.specs.PartsPlanned.{no_part_planned, part_planned, record_planned};
-ghost use Rattle.archive_core.specs.Sources.{ResolvedAs, HinderedAs};
-ghost use Rattle.archive_core.specs.Writing.{Fresh};
+ghost use Rattle.archive_types.specs.Keyed.{nothing_keyed, part_keyed, record_keyed};
+ghost use Rattle.archive_types.specs.PartsPlanned.{no_part_planned, part_planned, record_planned};
+ghost use Rattle.archive_types.specs.Sources.{ResolvedAs, HinderedAs};
+ghost use Rattle.archive_types.specs.Writing.{Fresh};
 
 use archive_core::error::Error;
 use archive_core::option::ArchivedOption;

@@ -10,11 +10,11 @@ ghost use Rattle.archive_check.specs.FreshContexts.{HasLevels, KeepsLevels};
 ghost use Rattle.archive_check.specs.OneSchema.{IsSchemaOf-prop};
 ghost use Rattle.archive_check.specs.Pushes.{FewPushed};
 ghost use Rattle.archive_check.specs.Schemas.{IsSchemaOf, ExplainsNoSchema};
-ghost use Rattle.archive_core.specs.ArchivesOf.{IsArchiveIn, ReadsArchive, RefusesArchive, AsCheckIfNeverOpen};
+ghost use Rattle.archive_types.specs.ArchivesOf.{IsArchiveIn, ReadsArchive, RefusesArchive, AsCheckIfNeverOpen};
 ghost use Rattle.archive_check.specs.Contexts.{AnswersIn};
 
-use crate::traits::{Archive, Deserialize, Entries, Portable};
-use crate::view::{RawView, Ref};
+use archive_types::traits::{Archive, Deserialize, Entries, Portable};
+use archive_types::view::{RawView, Ref};
 use archive_check::context::{ArchiveContext, HighValidator, SharedContext};
 use archive_check::format::error::Error;
 use archive_check::self_check::{SelfCheck, check_root};

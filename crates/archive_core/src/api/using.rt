@@ -3,15 +3,15 @@
 ghost use Rattle.std.specs.Prelude.{◌≡◌, ◌⊎◌, IfOk, IfErr, ℕ, []};
 ghost use Rattle.archive_check.specs.Shape.{one};
 ghost use Rattle.archive_check.specs.declared.format.error.Error.TheVariants.{OutOfMemory};
-ghost use Rattle.archive_core.specs.ArchivesOf.{LeavesOne, IsArchiveOf, NoArchiveOf, EndsWithNone, Stored, Unstored};
-ghost use Rattle.archive_core.specs.Causes.{HindersRegion, IsRegionRefused};
-ghost use Rattle.archive_core.specs.Plans.{SerializedRegion, at_start, unshared};
-ghost use Rattle.archive_core.specs.Writing.{Archives};
+ghost use Rattle.archive_types.specs.ArchivesOf.{LeavesOne, IsArchiveOf, NoArchiveOf, EndsWithNone, Stored, Unstored};
+ghost use Rattle.archive_types.specs.Causes.{HindersRegion, IsRegionRefused};
+ghost use Rattle.archive_types.specs.Plans.{SerializedRegion, at_start, unshared};
+ghost use Rattle.archive_types.specs.Writing.{Archives};
 ghost use Rattle.archive_write.specs.Written.{GoesOn};
 
 use super::{HighSerializer, serialize_whole};
-use crate::ser::Writer;
-use crate::traits::{Keys, Serialize, SerializeUnsized};
+use archive_types::ser::Writer;
+use archive_types::traits::{Keys, Serialize, SerializeUnsized};
 use archive_check::format::error::Error;
 use std::alloc::{Allocator, Global};
 

@@ -6,10 +6,10 @@ ghost use Rattle.archive_check.specs.Definitions.{no_definition};
 ghost use Rattle.archive_check.specs.LittleEndian.{little_bytes};
 ghost use Rattle.archive_check.specs.Shape.{leaf, number as number_kind, unsigned};
 ghost use Rattle.archive_check.specs.Value.{number};
-ghost use Rattle.archive_core.specs.Keyed.{number_keyed};
-ghost use Rattle.archive_core.specs.Planned.{leaf_planned};
-ghost use Rattle.archive_core.specs.KindsWritten.{LeafResolved, LeafHindered};
-ghost use Rattle.archive_core.specs.Writing.{Fresh};
+ghost use Rattle.archive_types.specs.Keyed.{number_keyed};
+ghost use Rattle.archive_types.specs.Planned.{leaf_planned};
+ghost use Rattle.archive_types.specs.KindsWritten.{LeafResolved, LeafHindered};
+ghost use Rattle.archive_types.specs.Writing.{Fresh};
 
 use crate::assertions::{assert_holds, assert_read, assert_same, assert_written};
 use archive_core::api::{HighSerializer, to_bytes};

@@ -3,9 +3,9 @@
 
 ghost use Rattle.std.specs.Prelude.{◌≡◌, ◌≤◌, ◌<◌, ◌+◌, ◌^◌, Some};
 ghost use Rattle.archive_check.specs.Shape.{variant_at};
-ghost use Rattle.archive_core.specs.OwnChoices.{variant_definitions};
-ghost use Rattle.archive_core.specs.Seen.{tag_of};
-ghost use Rattle.archive_core.specs.Writing.{Fresh};
+ghost use Rattle.archive_own.specs.OwnChoices.{variant_definitions};
+ghost use Rattle.archive_types.specs.Seen.{tag_of};
+ghost use Rattle.archive_types.specs.Writing.{Fresh};
 
 use super::own_choices::Event;
 use crate::assertions::{assert_holds, assert_same};

@@ -8,8 +8,8 @@ ghost use Rattle.archive_check.specs.NamedLayout.{name_reached};
 ghost use Rattle.archive_check.specs.SelfCheck.Laws.{by_schema};
 ghost use Rattle.archive_check.specs.VariantsLayout.{is_recursive_choice};
 ghost use Rattle.archive_check.specs.Viewed.{Viewed};
-ghost use Rattle.archive_core.specs.Seen.{RefusesPart};
-ghost use Rattle.archive_core.specs.Sources.{Read};
+ghost use Rattle.archive_types.specs.Seen.{RefusesPart};
+ghost use Rattle.archive_types.specs.Sources.{Read};
 ghost use Rattle.archive_shared_tests.specs.LoopShape.{loop_name, loop_shape, loop_choice, loop_definitions, loop_layout, loop_has_layout, loop_variants, knows_variants};
 
 use super::rc::Looping;

@@ -13,7 +13,7 @@ use archive_core::option::ArchivedOption;
 use archive_core::primitive::{ArchivedChar, ArchivedI32, ArchivedNonZeroU16, ArchivedU32};
 use archive_core::rc::{ArchivedRc, ArchivedRcWeak, RcFlavor};
 use archive_core::result::ArchivedResult;
-use archive_core::seal::SealedLeaf;
+use archive_core::seal::{SealedLeaf, Spot};
 use archive_core::string::{ArchivedStr, ArchivedString};
 use archive_core::traits::{ArchivePointee, Portable, Record};
 use archive_core::vec::ArchivedVec;
@@ -43,7 +43,7 @@ fn write_root<T: Portable + SealedLeaf>(
     ensures refused { IsErr result → bytes.new ≡ bytes.old }
 {
     let spot = match access::<T>(alloc, bytes) {
-        Ok(root) => root.spot(),
+        Ok(root) => Spot::of(root),
         Err(error) => return Err(error),
     };
     spot.seal(bytes).write(value);
@@ -65,10 +65,10 @@ fn write_part<R: Record>(
     ensures refused { IsErr result → bytes.new ≡ bytes.old }
 {
     let root = match access::<R>(alloc, bytes) {
-        Ok(root) => root.spot(),
+        Ok(root) => Spot::of(root),
         Err(error) => return Err(error),
     };
-    let part = root.view(bytes).field::<ArchivedU32>(i).spot();
+    let part = Spot::of(root.view(bytes).field::<ArchivedU32>(i));
     let mut seal = root.seal(bytes);
     seal.write_at(part, value);
     let written = seal.as_ref().field::<ArchivedU32>(i).get();
@@ -337,6 +337,6 @@ fn a_lent_seal_writes(rt: HostRuntime) -> Result<(), Fail> {
     assert_same(&rt, "the bytes", bytes, [0xaa, 0, 0, 0, 2, 1, 0, 0]);
     let view = access::<ArchivedU32>(alloc, &bytes)?;
     assert_same(&rt, "the number", view.get(), 258);
-    assert_same(&rt, "the spot", view.spot().pos(), 4);
+    assert_same(&rt, "the spot", Spot::of(view).pos(), 4);
     Ok(())
 }

@@ -7,8 +7,8 @@ ghost use Rattle.archive_check.specs.Shape.{array, leaf, number, one, unsigned};
 ghost use Rattle.archive_check.specs.Definitions.{no_definition};
 ghost use Rattle.archive_check.specs.LeafLayout.{no_definition_reached};
 ghost use Rattle.archive_check.specs.Value.{list, number as number_value};
-ghost use Rattle.archive_core.specs.Sources.{ResolvedAs, HinderedAs};
-ghost use Rattle.archive_core.specs.Writing.{Fresh};
+ghost use Rattle.archive_types.specs.Sources.{ResolvedAs, HinderedAs};
+ghost use Rattle.archive_types.specs.Writing.{Fresh};
 ghost use Rattle.archive_tests.specs.Repeated.{leaves_planned, numbers_keyed, repeated};
 ghost use Rattle.archive_check.specs.SelfCheck.Laws.{by_schema};
 

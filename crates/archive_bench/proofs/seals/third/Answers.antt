@@ -1,7 +1,7 @@
 use Rattle.archive_check.specs.Reads.{Schema}
 use Rattle.archive_check.specs.Definitions.{Knows}
 use Rattle.archive_check.specs.PartsLayout.{knows_at}
-use Rattle.archive_core.proofs.ViewsTogether.{shown_with, with_trans}
+use Rattle.archive_types.proofs.ViewsTogether.{shown_with, with_trans}
 use Rattle.archive_bench.proofs.Besides.{beside_in}
 use Rattle.archive_bench.proofs.seals.third.Goals as goal
 

@@ -1,5 +1,5 @@
 use Rattle.std.proofs.Common.{◌≡◌, ◌∙◌, ◌+◌, refl, sym, slice_index}
-use Rattle.archive_core.proofs.Causes.{err_from}
+use Rattle.archive_types.proofs.Causes.{err_from}
 use Rattle.archive_shared_tests.specs.LoopShape.{loop_tag}
 use Rattle.archive_shared_tests.proofs.Loops.{pending_there, refused_there}
 use Rattle.archive_shared_tests.proofs.archive.endless.+follow.Goals as goal

@@ -1,4 +1,4 @@
-use Rattle.archive_core.proofs.ViewsTogether.{shown_with, viewed_still}
+use Rattle.archive_types.proofs.ViewsTogether.{shown_with, viewed_still}
 use Rattle.archive_shared_tests.proofs.archive.seals.write_part.Goals as goal
 
 pub view-requires : goal.view-requires

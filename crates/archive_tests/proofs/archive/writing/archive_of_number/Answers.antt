@@ -1,6 +1,6 @@
 use Rattle.std.proofs.Common.{inl, inr, arith}
-use Rattle.archive_core.proofs.Causes.{err_from}
-use Rattle.archive_core.proofs.Unhindered.{number_unhindered}
+use Rattle.archive_types.proofs.Causes.{err_from}
+use Rattle.archive_types.proofs.Unhindered.{number_unhindered}
 use Rattle.archive_tests.proofs.archive.writing.archive_of_number.Goals as goal
 
 pub returns : goal.returns

@@ -1,6 +1,6 @@
 use Rattle.archive_check.specs.NamedLayout.{leaves_differ}
 use Rattle.archive_check.proofs.format.AddedDefinitions.{first_refused, second_refused, second_never}
-use Rattle.archive_core.proofs.Causes.{err_by}
+use Rattle.archive_types.proofs.Causes.{err_by}
 use Rattle.archive_tests.proofs.archive.without_meaning.ArchivedTwicePortable.define.Goals as goal
 
 pub returns-in_err-add-clause-refused : goal.returns-in_err-add-clause-refused

@@ -1,5 +1,0 @@
-use Rattle.archive_core.proofs.ComparedValues.{slice_compares}
-use Rattle.archive_core.proofs.compare.native_lists.Ref+ArchivedSlice+T.cmp_slice.Goals as goal
-
-pub returns-clause-by_value : goal.returns-clause-by_value
-returns-clause-by_value g c = slice_compares g.T.ArchivePointee.definitions g.T.Portable.shape g.T.Portable.layout g.met.T.Portable.has_layout g.T.ArchivePointee.pointee g.met.T.Portable.is_one g.U.Archive.meaning g.T.CompareNative.native_order g.met.T.CompareNative.native_by_value c.args.self.bytes.now c.args.self.pos c.args.self.len c.args.values.now c.compare_slice.result c.compare_slice.ensures

@@ -1,8 +1,0 @@
-use Rattle.std.proofs.Common.{refl}
-use Rattle.archive_check.proofs.ReadBack.{leaf_read_back}
-use Rattle.archive_core.proofs.primitive.AnyDeserialize.deserialize_part.Goals as goal
-
-pub returns-clause-read : goal.returns-clause-read
-returns-clause-read g c =
-    rw g.met.N.Plain.same_pointee
-    (leaf_read_back _ _ _ _ _ _ refl _ _ (rw (c.at-view.ensures.buffer, c.at-view.ensures.position, c.at-view.ensures.length, g.met.N.Plain.same_pointee) at c.get.ensures.says))

@@ -1,9 +1,0 @@
-use Rattle.std.proofs.Common.{drop}
-use Rattle.archive_core.proofs.Runs.{Continues}
-use Rattle.archive_core.proofs.slice.sources.serialize_each.Given as goal
-
-abbrev pub invariant-loop-value : goal.invariant-loop-value
-invariant-loop-value g l = record {
-  continues : Continues g.T.Archived.ArchivePointee.definitions g.T.Archived.Portable.shape g.T.Archive.keys g.T.Archive.meaning g.T.Archive.flat g.T.Archive.belongs
-      (g.S.Keys.state l.initial.serializer) (g.S.Keys.state l.serializer) l.values (drop l.value-index l.values) l.resolvers.items;
-}

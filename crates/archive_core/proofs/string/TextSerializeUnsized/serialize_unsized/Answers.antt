@@ -1,7 +1,0 @@
-use Rattle.archive_core.proofs.Causes.{err_by}
-use Rattle.archive_core.proofs.Planned.{text_refused}
-use Rattle.archive_core.proofs.string.TextSerializeUnsized.serialize_unsized.Goals as goal
-
-pub returns-in_err-write-clause-refused : goal.returns-in_err-write-clause-refused
-returns-in_err-write-clause-refused g c = err_by c.from_residual.result c.in_err-write.field-0.0 _ c.from_residual.ensures.1
-    (text_refused _ _ _ c.args.self.now.text.now _ _ (g.met.S.Writer.position_law c.args.serializer.now) (rw c.as_bytes.ensures.value at c.in_err-write.ensures.refusal))

@@ -1,5 +1,0 @@
-use Rattle.archive_core.proofs.OwnersWritten.{vec_unresolved}
-use Rattle.archive_core.proofs.vec.ArchivedVec.resolve_from_len.Goals as goal
-
-pub returns-clause-refused : goal.returns-clause-refused
-returns-clause-refused g c = rw (← c.resolver.view_is) (vec_unresolved c.emplace_long_owner.result _ _ _ _ _ _ c.emplace_long_owner.ensures.refused)

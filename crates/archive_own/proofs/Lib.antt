@@ -1,0 +1,4 @@
+pub mod OwnChoices
+pub mod ReadChoices
+pub mod NamedVariants
+pub mod Nests

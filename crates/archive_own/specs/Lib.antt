@@ -1,0 +1,3 @@
+pub mod OwnChoices
+pub mod Nests
+pub mod NestsRead

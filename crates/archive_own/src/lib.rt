@@ -1,0 +1,4 @@
+//! Records and choices of your own.
+#![tactic(auto)]
+
+pub mod own;

@@ -1,0 +1,2 @@
+pub mod StandingParts
+pub mod SealedLeaves

@@ -1,0 +1,3 @@
+pub mod SealedResults
+pub mod SealedOptions
+pub mod SealsWritten

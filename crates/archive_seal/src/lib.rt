@@ -1,0 +1,4 @@
+//! Archives are edited where they lie: seals.
+#![tactic(auto)]
+
+pub mod seal;

@@ -1,0 +1,109 @@
+// Texts that are written over, in place or in a region of their own.
+
+ghost use Rattle.std.specs.Prelude.{◌≡◌, ◌+◌, ◌≤◌, length};
+ghost use Rattle.archive_check.specs.Definitions.{no_definition};
+ghost use Rattle.archive_check.specs.Leaves.{edit, text_leaf};
+ghost use Rattle.archive_check.specs.Readable.{string_text};
+ghost use Rattle.archive_check.specs.Reads.{bytes_at};
+ghost use Rattle.archive_check.specs.Revised.{WritesLeaf};
+ghost use Rattle.archive_check.specs.Shape.{str as str_shape, one, text};
+ghost use Rattle.archive_check.specs.Viewed.{Viewed};
+ghost use Rattle.archive_types.specs.Sealed.{StandsIn, text_begin, string_leaf};
+ghost use Rattle.archive_seal.specs.SealsWritten.{SealsBeside, TextStands, TextWritten, TextKeepsParts, StringStands, StringWritten, string_edit};
+ghost use Rattle.archive_types.specs.Seen.{IsTextAt, TextStandsBeside};
+ghost use Rattle.archive_types.specs.Standing.{KeepsParts, KeepsViews, view};
+
+use super::{Seal, Spot};
+use archive_types::string::{ArchivedStr, ArchivedString};
+use archive_types::view::{RawView, Ref};
+use archive_check::format::bytes::{inline_length, is_out_of_line, read_coded_length, read_target};
+use archive_check::laws::leaf_written;
+
+// Writes a text over the bytes at `pos`.
+fn write_text(value: &str, bytes: &mut [u8], pos: usize)
+    requires { pos + length value.now ≤ length bytes.old }
+    ensures { bytes.new ≡ edit bytes.old pos value.now }
+{
+    let end = pos + value.len();
+    bytes[pos..end].copy_from_slice(value.as_bytes());
+}
+
+// Writes a text over another one, which changes in every archive in which it stands.
+fn write_text_over(value: &str, bytes: &mut [u8], pos: usize)
+    requires { pos + length value.now ≤ length bytes.old }
+    ensures edited { bytes.new ≡ edit bytes.old pos value.now }
+    ensures leaf { TextWritten pos (length value.now) value.now bytes.old bytes.new }
+    ensures parts { KeepsParts (text_leaf pos (bytes_at bytes.old pos (length value.now))) bytes.old bytes.new }
+{
+    write_text(value, bytes, pos);
+    leaf_written();
+}
+
+// Where the text of a string stands.
+fn text_spot(string: Ref<'_, ArchivedString>) -> Spot<ArchivedStr>
+    ensures position { result.pos ≡ text_begin string.entry.bytes.now string.entry.pos }
+    ensures text { IsTextAt string.entry result.pos result.len }
+    ensures viewed { Viewed no_definition string.entry.bytes.now result.pos text result.len }
+    ensures beside { TextStandsBeside string.entry result.pos result.len }
+{
+    let RawView { bytes, pos, .. } = string.part();
+    if is_out_of_line(bytes, pos) {
+        return Spot::at(
+            read_target(bytes, pos, pos + 4),
+            read_coded_length(bytes, pos),
+        );
+    }
+    Spot::at(pos, inline_length(bytes, pos))
+}
+
+impl<'a> Seal<'a, ArchivedStr> {
+    /// Writes a text over the one that it shows. Asks that the seal shows a part of a buffer that was checked, as it does when it is made, and that
+    /// both texts have equally many bytes. Every other byte stays, and in every archive in which the text stands it alone changes.
+    pub fn write_str(self, value: &str)
+        requires viewed { Viewed no_definition self.bytes.now self.pos text self.len }
+        requires same_length { length value.now ≡ self.len }
+        ensures edited { self.exit.0.now ≡ edit self.entry.bytes.now self.entry.pos value.now }
+        ensures stands { TextStands self.entry.bytes.now self.entry.pos self.entry.len }
+        ensures leaf { TextWritten self.entry.pos self.entry.len value.now self.entry.bytes.now self.exit.0.now }
+        ensures parts { TextKeepsParts self.entry.pos self.entry.len self.entry.bytes.now self.exit.0.now }
+        ensures views { KeepsViews self.entry.bytes.now self.exit.0.now (view self.entry.pos text self.entry.len) }
+    {
+        let Seal { bytes, pos, .. } = self;
+        write_text_over(value, bytes, pos);
+    }
+}
+
+impl<'a> Seal<'a, ArchivedString> {
+    /// A seal of its text, wherever it stands. Asks that the seal shows a part of a buffer that was checked, as it does when it is made. No byte
+    /// changes.
+    pub fn as_str_seal(self) -> Seal<'a, ArchivedStr>
+        requires { Viewed no_definition self.bytes.now self.pos (one str_shape) self.len }
+        ensures same_reference { result.bytes.ghost_name ≡ self.entry.bytes.ghost_name }
+        ensures buffer { result.bytes.now ≡ self.entry.bytes.now }
+        ensures position { result.pos ≡ text_begin self.entry.bytes.now self.entry.pos }
+        ensures length { result.len ≡ length (string_text self.entry.bytes.now self.entry.pos) }
+        ensures viewed { Viewed no_definition result.bytes.now result.pos text result.len }
+        ensures beside { SealsBeside no_definition (one str_shape) text result self.entry }
+    {
+        let spot = text_spot(self.as_ref());
+        let Seal { bytes, .. } = self;
+        spot.seal(bytes)
+    }
+
+    /// Writes a text over that of the string, wherever it stands. Asks that the seal shows a part of a buffer that was checked, as it does when it is
+    /// made, and that both texts have equally many bytes. Every other byte stays, and in every archive in which the text stands it alone changes.
+    pub fn write_str(self, value: &str)
+        requires viewed { Viewed no_definition self.bytes.now self.pos (one str_shape) self.len }
+        requires same_length { length value.now ≡ length (string_text self.bytes.now self.pos) }
+        ensures edited { self.exit.0.now ≡ string_edit self.entry.bytes.now self.entry.pos value.now }
+        ensures stands { StringStands self.entry.bytes.now self.entry.pos self.entry.len }
+        ensures leaf { StringWritten self.entry.pos value.now self.entry.bytes.now self.exit.0.now }
+        ensures parts { KeepsParts (string_leaf self.entry.bytes.now self.entry.pos)
+            self.entry.bytes.now self.exit.0.now }
+        ensures views { KeepsViews self.entry.bytes.now self.exit.0.now (view self.entry.pos (one str_shape) self.entry.len) }
+    {
+        let spot = text_spot(self.as_ref());
+        let Seal { bytes, .. } = self;
+        write_text_over(value, bytes, spot.pos);
+    }
+}

@@ -1,0 +1,3 @@
+pub mod SharedOnes
+pub mod PooledReading
+pub mod PooledPointers

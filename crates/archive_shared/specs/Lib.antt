@@ -1,0 +1,4 @@
+pub mod Pooling
+pub mod SharedSeen
+pub mod KeptValues
+pub mod Spans

@@ -1,0 +1,126 @@
+// Weak pointers as sources: to a shared value, or to none.
+
+ghost use Rattle.std.specs.Prelude.{◌≡◌, ⊤, IfOk, OnOk, IfErr, Option, Some, None, length, refl};
+ghost use Rattle.archive_check.specs.Layout.{pointer_size};
+ghost use Rattle.archive_check.specs.Shape.{weak};
+ghost use Rattle.archive_check.specs.Value.{shared_value};
+ghost use Rattle.archive_types.specs.Causes.{HindersAt, IsRefused};
+ghost use Rattle.archive_types.specs.PlannedOwners.{one_planned};
+ghost use Rattle.archive_types.specs.Plans.{Serialized};
+ghost use Rattle.archive_types.specs.SharedLaws.{weak_value, weak_keys, weak_flat, weak_keyed, weak_planned};
+ghost use Rattle.archive_types.specs.SharedSources.{rc_flavor, rc_keys, rc_keyed, rc_one_planned};
+ghost use Rattle.archive_types.specs.Sources.{ResolvedAs, HinderedAs, Wrote, Refused};
+ghost use Rattle.archive_types.specs.Writing.{Fresh, Resolves};
+ghost use Rattle.archive_write.specs.Written.{GoesOn};
+
+use super::Shared;
+use archive_types::place::Place;
+use archive_types::rc::{ArchivedRcWeak, RcFlavor, RcWeakResolver, write_null, write_pointer};
+use archive_types::ser::{ResolverAlloc, Writer, serialize_one};
+use archive_types::sharing::Sharing;
+use archive_types::traits::{Archive, ArchiveUnsized, Portable, Serialize, SerializeUnsized};
+use archive_check::format::error::Error;
+
+/// A weak pointer to a shared value, or to none. Our own: it stands for `rc::Weak` of rkyv 0.8.18, which is null where its value is gone.
+#[derive(Drop)]
+pub struct WeakShared<T> {
+    /// What it leads to.
+    pub value: Option<Shared<T>>,
+}
+
+impl<T: Archive> Archive for WeakShared<T> {
+    type Archived = ArchivedRcWeak<T::Archived, RcFlavor>;
+
+    type Resolver = RcWeakResolver;
+
+    ghost meaning = { λ w. weak_value (λ s. shared_value s.key) w.value };
+
+    ghost flat = { λ w r. weak_flat rc_flavor T.Archived.pointee 0 r };
+
+    ghost keys = { λ w. weak_keys (λ s. rc_keys s.key T.Archived.pointee 0 (T.meaning s.value.value) (T.keys s.value.value)) w.value };
+
+    ghost belongs = { λ _ _. ⊤ };
+
+    ghost keyed = { λ w. weak_keyed (λ s. rc_keys s.key T.Archived.pointee 0 (T.meaning s.value.value) (T.keys s.value.value)) (λ s. shared_value s.key)
+        (λ s. rc_keyed s.key T.Archived.pointee 0 (T.meaning s.value.value) (T.keys s.value.value) (T.keyed s.value.value)) w.value };
+
+    ghost planned = { λ w. weak_planned T.Archived.definitions rc_flavor T.Archived.pointee
+        (λ s. rc_keys s.key T.Archived.pointee 0 (T.meaning s.value.value) (T.keys s.value.value)) (λ s. shared_value s.key)
+        (λ s. rc_one_planned T.Archived.definitions s.key T.Archived.pointee T.Archived.shape T.Archived.is_one
+        (T.meaning s.value.value) (T.keys s.value.value) (T.planned s.value.value)) w.value };
+
+    #[tactic(auto, using(archive_types::proofs::SharedBytes::resolves_weak, archive_types::proofs::SharedBytes::resolves_null, archive_types::proofs::SharedBytes::weak_hindered_at, archive_types::proofs::SharedBytes::null_hindered_at))]
+    fn resolve(
+        &self,
+        resolver: RcWeakResolver,
+        place: Place<'_, ArchivedRcWeak<T::Archived, RcFlavor>>,
+    ) -> Result<(), Error>
+        requires fresh { Fresh (pointer_size T.Archived.pointee) place.pos place.bytes.now }
+        requires same_value { ⊤ }
+        ensures resolved { OnOk result (ResolvedAs ⟦<Self as Archive>⟧ ⟦<Self::Archived as Portable>⟧ place self.now resolver) }
+        ensures same_length { length place.exit.0.now ≡ length place.entry.bytes.now }
+        ensures refused { IfErr result (HinderedAs ⟦<Self as Archive>⟧ ⟦<Self::Archived as Portable>⟧ place self.now resolver) }
+    {
+        let Place { bytes, pos, .. } = place;
+        let Some(resolver) = resolver else {
+            return write_null::<T::Archived>(bytes);
+        };
+        let target = resolver.pos as usize;
+        if target.saturating_sub(pos) == 1 {
+            return Err(Error::OffsetOverflow);
+        }
+        write_pointer::<T::Archived>(target, 0, pos, bytes)
+    }
+}
+
+impl<T: Serialize<S>, S: Sharing + Writer + ResolverAlloc> Serialize<S> for WeakShared<T> {
+    /// Writes what it leads to as a shared value, with its refusals; where that is none, nothing, and it isn't refused.
+    #[tactic(auto, using(archive_types::proofs::SharedWritten::weak_serialized, archive_types::proofs::SharedWritten::weak_refused, archive_types::proofs::SharedWritten::null_serialized, archive_types::proofs::Causes::goes_nowhere))]
+    fn serialize(&self, serializer: &mut S) -> Result<RcWeakResolver, Error>
+        ensures serialized { IfOk result (Wrote ⟦<Self as Archive>⟧ ⟦<Self::Archived as Portable>⟧ self.now S.Keys serializer) }
+        ensures same_value { ⊤ }
+        ensures goes_on { GoesOn (S.state serializer.old) (S.state serializer.new) }
+        ensures refused { IfErr result (Refused ⟦<Self as Archive>⟧ ⟦<Self::Archived as Portable>⟧ self.now S.Keys serializer) }
+    {
+        let Some(value) = &self.value else {
+            return Ok(None);
+        };
+        match value.serialize(serializer) {
+            Ok(resolver) => Ok(Some(resolver)),
+            Err(error) => Err(error),
+        }
+    }
+}
+
+/// As a region of its own: the pointer itself, not the value.
+impl<T: Archive> ArchiveUnsized for WeakShared<T> {
+    type Archived = ArchivedRcWeak<T::Archived, RcFlavor>;
+
+    ghost source_length = { λ _. 0 };
+
+    ghost meaning = { λ w. weak_value (λ s. shared_value s.key) w.value };
+
+    ghost keys = { λ w. weak_keys (λ s. rc_keys s.key T.Archived.pointee 0 (T.meaning s.value.value) (T.keys s.value.value)) w.value };
+
+    ghost keyed = { λ w. weak_keyed (λ s. rc_keys s.key T.Archived.pointee 0 (T.meaning s.value.value) (T.keys s.value.value)) (λ s. shared_value s.key)
+        (λ s. rc_keyed s.key T.Archived.pointee 0 (T.meaning s.value.value) (T.keys s.value.value) (T.keyed s.value.value)) w.value };
+
+    ghost one_length = { λ _ _. refl };
+
+    ghost planned = { λ w. one_planned T.Archived.definitions (weak rc_flavor T.Archived.pointee)
+        (weak_keys (λ s. rc_keys s.key T.Archived.pointee 0 (T.meaning s.value.value) (T.keys s.value.value)) w.value) (weak_value (λ s. shared_value s.key) w.value)
+        (weak_planned T.Archived.definitions rc_flavor T.Archived.pointee
+        (λ s. rc_keys s.key T.Archived.pointee 0 (T.meaning s.value.value) (T.keys s.value.value)) (λ s. shared_value s.key)
+        (λ s. rc_one_planned T.Archived.definitions s.key T.Archived.pointee T.Archived.shape T.Archived.is_one
+        (T.meaning s.value.value) (T.keys s.value.value) (T.planned s.value.value)) w.value) };
+
+    fn archived_metadata(&self) -> Result<(), Error> {
+        Ok(())
+    }
+}
+
+impl<T: Serialize<S>, S: Sharing + Writer + ResolverAlloc> SerializeUnsized<S> for WeakShared<T> {
+    fn serialize_unsized(&self, serializer: &mut S) -> Result<usize, Error> {
+        serialize_one(self, serializer)
+    }
+}

@@ -1,0 +1,13 @@
+use Rattle.std.proofs.Common.{◌≡◌, ◌+◌, ◌-◌, arith, refl}
+use Rattle.archive_check.specs.Reads.{bytes_at}
+use Rattle.archive_types.proofs.place.Place.field.Goals as goal
+
+pub returns-clause-buffer : goal.returns-clause-buffer
+unfolding bytes_at
+returns-clause-buffer g c =
+    let inside = g.met.T.Parts.PortableParts.within 0 c.args.i in
+    let holds = g.met.T.Record.holds in
+    let begin : c.offset-begin.result ≡ g.T.Parts.PortableParts.begin 0 c.args.i = omega (arith, c.offset-begin.ensures, inside, holds, c.requires.size, c.requires.sized, c.requires.ends) in
+    let size : c.size.result ≡ g.U.Portable.layout.size = omega (arith, c.size.ensures, inside, holds, c.requires.size, c.requires.sized, c.requires.ends) in
+    let count : c.offset-begin.result + c.size.result - c.offset-begin.result ≡ c.size.result = omega arith in
+    rw (c.new.ensures.buffer, count, begin, size) refl

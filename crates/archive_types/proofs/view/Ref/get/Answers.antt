@@ -1,0 +1,12 @@
+use Rattle.archive_check.proofs.ViewedValues.{leaf_readable}
+use Rattle.archive_types.proofs.Shown.{number_says}
+use Rattle.archive_types.proofs.view.Ref.get.Goals as goal
+
+pub read_leaf-requires : goal.read_leaf-requires
+read_leaf-requires g c = leaf_readable _ _ _ _ _ (rw g.met.N.Plain.same_pointee at c.part.ensures.viewed)
+
+pub returns-clause-says : goal.returns-clause-says
+returns-clause-says g c =
+    rw g.met.N.Plain.same_pointee
+    (number_says g.N.Native.value_of g.N.Native.number_of _ _ _ c.args.self.len g.N.Native.byte_count g.N.Native.kind _ g.met.N.Native.size_law g.met.N.Native.value_law
+    (rw (c.part.ensures.buffer, c.part.ensures.position) at c.read_leaf.ensures))

@@ -1,0 +1,32 @@
+// The elements of an array are read back one after another.
+
+ghost use Rattle.std.specs.Prelude.{◌≡◌, IfOk, IfErr};
+ghost use Rattle.archive_types.specs.Seen.{IsPartOf, RefusesPart};
+ghost use Rattle.archive_types.specs.Sources.{Read};
+
+use super::owned::OwnedArray;
+use crate::slice::read_each;
+use crate::traits::{Archive, ArchivePointee, Deserialize, Entries, Portable};
+use crate::view::RawView;
+use archive_check::format::error::Error;
+use std::alloc::Global;
+
+/// As an `OwnedArray`, where rkyv 0.8.18 gives the array. The elements take their memory at once.
+impl<T: Portable + Deserialize<U, D>, U: Archive + Drop, D: Entries, const N: usize> Deserialize<
+    OwnedArray<U, N>,
+    D,
+> for [T; N] {
+    #[inline(always)]
+    fn deserialize_part(
+        alloc: Global,
+        part: RawView<'_>,
+        deserializer: &mut D,
+    ) -> Result<OwnedArray<U, N>, Error>
+        requires { IsPartOf ⟦<Self as ArchivePointee>⟧ part }
+        ensures read { IfOk result (Read ⟦<Self as ArchivePointee>⟧ part D.Entries deserializer ⟦<OwnedArray<U, N> as Archive>⟧) }
+        ensures refused { IfErr result (RefusesPart ⟦<Self as ArchivePointee>⟧ part D.Entries deserializer) }
+    {
+        let items = read_each::<T, U, D>(alloc, part, N, deserializer)?;
+        Ok(OwnedArray { items })
+    }
+}

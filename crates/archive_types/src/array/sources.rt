@@ -1,0 +1,132 @@
+// Arrays as sources: what each element owns, and then all elements where the array lies.
+
+ghost use Rattle.std.specs.Prelude.{◌≡◌, ◌*◌, length, None, OnOk, IfOk, IfErr, All};
+ghost use Rattle.archive_check.specs.Value.{list};
+ghost use Rattle.archive_types.specs.Arrays.{array_meaning, array_keys, array_keyed, array_planned};
+ghost use Rattle.archive_types.specs.Runs.{each_flat, EachBelongs};
+ghost use Rattle.archive_types.specs.Sources.{ResolvedAs, HinderedAs, EachResolved, EachHinderedAt};
+ghost use Rattle.archive_types.specs.Writing.{Fresh};
+ghost use Rattle.archive_write.specs.Written.{GoesOn};
+
+use crate::place::Place;
+use crate::ser::resolve_into;
+use crate::slice::{PIECE, serialize_each};
+use crate::traits::{Archive, CopyOptimization, Keys, Portable, Serialize};
+use archive_check::format::error::Error;
+use archive_write::ser::{ResolverAlloc, Writer};
+use std::alloc::Global;
+
+// Resolves each of the values, in order, over the bytes of all of them, which stand at `pos`. Asks for zeros there, and for a resolver of each value.
+pub(super) fn resolve_elements<T: Archive>(
+    values: &[T],
+    resolvers: Vec<T::Resolver>,
+    pos: usize,
+    bytes: &mut [u8],
+) -> Result<(), Error>
+    requires fresh { Fresh (length values.now * T.Archived.layout.size) pos bytes.old }
+    requires same_values { EachBelongs T.belongs values.now resolvers.items }
+    ensures resolved { OnOk result (EachResolved T.Archive T.Archived.Portable pos values.now resolvers.items bytes.new) }
+    ensures same_length { length bytes.new ≡ length bytes.old }
+    ensures refused { IfErr result (EachHinderedAt T.Archive T.Archived.Portable pos values.now resolvers.items) }
+{
+    let size = T::Archived::size();
+    let mut rest = values;
+    let mut begin = 0;
+    for resolver in resolvers {
+        let Some((value, others)) = rest.split_first() else {
+            unreachable!();
+        };
+        resolve_into(
+            value,
+            resolver,
+            pos + begin,
+            &mut bytes[begin..begin + size],
+        )?;
+        begin += size;
+        rest = others;
+    }
+    Ok(())
+}
+
+// An array has as many elements as its type says.
+#[inline(always)]
+fn is_whole<T, const N: usize>(_array: &[T; N])
+    ensures { length _array.now ≡ N }
+{}
+
+// So has each of a slice of arrays. In proofs alone an array can be a list of any length, so this does nothing.
+#[inline(always)]
+fn each_is_whole<T, const N: usize>(arrays: &[[T; N]])
+    ensures { All (λ array. length array ≡ N) arrays.now }
+{
+    for array in arrays {
+        is_whole(array);
+    }
+}
+
+/// As in rkyv 0.8.18, where the resolvers are an array. They are kept in a vector here, in memory of the global allocator.
+impl<T: Archive, const N: usize> Archive for [T; N] {
+    type Archived = [T::Archived; N];
+
+    type Resolver = Vec<T::Resolver>;
+
+    ghost meaning = { array_meaning N T.meaning };
+
+    ghost flat = { λ v r. list (each_flat T.flat v r.items) };
+
+    ghost keys = { array_keys N T.keys };
+
+    ghost belongs = { λ v r. EachBelongs T.belongs v r.items };
+
+    ghost keyed = { array_keyed N T.keys T.meaning T.keyed };
+
+    ghost planned = { array_planned N T.Archived.definitions T.Archived.shape T.keys T.meaning T.planned };
+
+    fn resolve(
+        &self,
+        resolver: Vec<T::Resolver>,
+        place: Place<'_, [T::Archived; N]>,
+    ) -> Result<(), Error>
+        requires fresh { Fresh ⟦<Self::Archived as Portable>⟧.layout.size place.pos place.bytes.now }
+        requires same_value { EachBelongs T.belongs self.now resolver.items }
+        ensures resolved { OnOk result (ResolvedAs ⟦<Self as Archive>⟧ ⟦<Self::Archived as Portable>⟧ place self.now resolver) }
+        ensures same_length { length place.exit.0.now ≡ length place.entry.bytes.now }
+        ensures refused { IfErr result (HinderedAs ⟦<Self as Archive>⟧ ⟦<Self::Archived as Portable>⟧ place self.now resolver) }
+    {
+        let Place { bytes, pos, .. } = place;
+        resolve_elements(self, resolver, pos, bytes)
+    }
+
+    #[inline(always)]
+    fn copy_optimization() -> CopyOptimization<[T; N]> {
+        let is_small = T::Archived::size().saturating_mul(N) <= PIECE;
+        CopyOptimization::enable_if(is_small && T::copy_optimization().is_enabled())
+    }
+
+    #[tactic(auto, using(crate::proofs::Causes::goes_nowhere))]
+    #[inline(always)]
+    fn serialize_copied<S: Writer + Keys>(
+        values: &[[T; N]],
+        together: usize,
+        serializer: &mut S,
+    ) -> Result<Option<usize>, Error> {
+        each_is_whole(values);
+        if values.len().checked_mul(N).is_none() {
+            return Ok(None);
+        }
+        T::serialize_copied(
+            values.as_flattened(),
+            together.saturating_mul(N),
+            serializer,
+        )
+    }
+}
+
+impl<T: Serialize<S>, S: Writer + ResolverAlloc<Alloc = Global>, const N: usize> Serialize<S>
+    for [T; N] {
+    /// Writes what each element owns, in order. Memory for their resolvers comes from the serializer's allocator, the global one.
+    fn serialize(&self, serializer: &mut S) -> Result<Vec<T::Resolver>, Error> {
+        let alloc = serializer.resolver_alloc();
+        serialize_each(alloc, self, serializer)
+    }
+}

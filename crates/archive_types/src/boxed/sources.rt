@@ -1,0 +1,195 @@
+// Boxes as sources: what they own as a region, and the pointer to it.
+
+ghost use Rattle.std.specs.Prelude.{◌≡◌, ◌⊎◌, ◌<◌, ◌≤◌, ℕ, ⊤, IfOk, OnOk, IfErr, FitsSigned, length, false, refl};
+ghost use Rattle.std.specs.Int.{w32};
+ghost use Rattle.archive_check.specs.Shape.{boxed};
+ghost use Rattle.archive_check.specs.Layout.{pointer_size, has_length};
+ghost use Rattle.archive_check.specs.Value.{box, hole};
+ghost use Rattle.archive_check.specs.declared.format.error.Error.TheVariants.{LengthTooLarge};
+ghost use Rattle.archive_types.specs.Causes.{HindersAt, IsRefused};
+ghost use Rattle.archive_types.specs.Keyed.{box_keyed};
+ghost use Rattle.archive_types.specs.KindsWritten.{BoxResolved, BoxHindered};
+ghost use Rattle.archive_types.specs.Offsets.{distance, IsTooFar};
+ghost use Rattle.archive_types.specs.OwnerBytes.{owner_bytes};
+ghost use Rattle.archive_types.specs.Placed.{IsTooFarFrom, PointsTo, IsNoPointer};
+ghost use Rattle.archive_types.specs.PlannedOwners.{one_planned, boxed_one_planned};
+ghost use Rattle.archive_types.specs.Plans.{Serialized};
+ghost use Rattle.archive_types.specs.Sources.{BoxSerialized, BoxRefused, OneBoxed, OneUnboxed};
+ghost use Rattle.archive_types.specs.Writing.{Fresh, Resolves, to_pointee};
+ghost use Rattle.archive_write.specs.Written.{GoesOn};
+
+use super::ArchivedBox;
+use crate::place::Place;
+use crate::rel_ptr::{Metadata, emplace_pointer};
+use crate::ser::serialize_one;
+use crate::traits::{Archive, ArchiveUnsized, PortablePointee, Serialize, SerializeUnsized};
+use archive_check::format::error::Error;
+use archive_num::FixedUsize;
+use archive_write::ser::{ResolverAlloc, Writer};
+use std::marker::Model;
+
+/// Where what a box owns was written, in bytes from the first one. In a contract it is that position. As in rkyv 0.8.18.
+#[derive(Clone, Copy, Debug)]
+pub struct BoxResolver {
+    pos: u32,
+}
+
+impl Model for BoxResolver {
+    ghost Value = { ℕ };
+
+    ghost view = { λ r. r.pos };
+
+    ghost inverse = { λ n. record { pos = n } };
+}
+
+impl BoxResolver {
+    /// The resolver of a box of what stands at `pos`, in bytes from the first one. Asks that it fits 32 bits. As in rkyv 0.8.18, where it may be any.
+    pub fn from_pos(pos: usize) -> BoxResolver
+        requires { pos ≤ 4294967295 }
+        ensures { result ≡ pos }
+    {
+        BoxResolver { pos: pos as u32 }
+    }
+}
+
+impl<T: PortablePointee> ArchivedBox<T> {
+    /// Writes what `value` owns and then its region, and answers where. It asks nothing. Refused with `PositionTooLarge`, 4, where the region stands
+    /// above 4,294,967,295, and as `serialize_unsized` of `value` refuses.
+    #[tactic(auto, using(crate::proofs::Owners::serialized_box, crate::proofs::Owners::box_refused, crate::proofs::Owners::far_box_refused))]
+    pub fn serialize_from_ref<S: Writer, U: SerializeUnsized<S, Archived = T>>(
+        value: &U,
+        serializer: &mut S,
+    ) -> Result<BoxResolver, Error>
+        ensures serialized { IfOk result (BoxSerialized T.ArchivePointee U.ArchiveUnsized value.now S.Keys serializer) }
+        ensures goes_on { GoesOn (S.state serializer.old) (S.state serializer.new) }
+        ensures refused { IfErr result (BoxRefused T.ArchivePointee U.ArchiveUnsized value.now S.Keys serializer) }
+    {
+        let pos = value.serialize_unsized(serializer)?;
+        let Ok(pos) = u32::try_from(pos) else {
+            return Err(Error::PositionTooLarge);
+        };
+        Ok(BoxResolver { pos })
+    }
+
+    /// Writes the box's bytes over those of `place`, with this length of what it leads to. Asks that they are as many as the box has, and that the
+    /// length is 0 where that is one value. Refused with `IsizeOverflow`, 2, or `OffsetOverflow`, 3, exactly where the offset doesn't fit; they are then
+    /// unchanged. rkyv 0.8.18 takes the pointer's metadata, and panics there.
+    #[tactic(auto, using(crate::proofs::OwnersWritten::resolves_box, crate::proofs::OwnersWritten::box_hindered_at))]
+    pub fn resolve_from_raw_parts(
+        resolver: BoxResolver,
+        count: FixedUsize,
+        place: Place<'_, ArchivedBox<T>>,
+    ) -> Result<(), Error>
+        requires sized { length place.bytes.now ≡ pointer_size T.pointee }
+        requires plain { has_length T.pointee ≡ false → count ≡ 0 }
+        ensures resolved { OnOk result (BoxResolved T.ArchivePointee place resolver count) }
+        ensures written { OnOk result (PointsTo place (has_length T.pointee) resolver count) }
+        ensures fits { OnOk result (FitsSigned w32 (distance place.entry.pos resolver)) }
+        ensures refused { IfErr result (BoxHindered T.ArchivePointee place resolver count) }
+        ensures cause { IfErr result (IsTooFarFrom place resolver) }
+        ensures same_length { length place.exit.0.now ≡ length place.entry.bytes.now }
+    {
+        let Place { bytes, pos, .. } = place;
+        emplace_pointer(T::has_length(), resolver.pos as usize, count, pos, bytes)
+    }
+
+    /// The same with the length of `value`. Refused with `LengthTooLarge`, 5, exactly where that is above 4,294,967,295.
+    pub fn resolve_from_ref<U: ArchiveUnsized<Archived = T>>(
+        value: &U,
+        resolver: BoxResolver,
+        place: Place<'_, ArchivedBox<T>>,
+    ) -> Result<(), Error>
+    where
+        T::ArchivedMetadata: Metadata,
+        requires sized { length place.bytes.now ≡ pointer_size T.pointee }
+        ensures resolved { OnOk result (BoxResolved T.ArchivePointee place resolver (U.source_length value.now)) }
+        ensures written { OnOk result (PointsTo place (has_length T.pointee) resolver (U.source_length value.now)) }
+        ensures refused { IfErr result (IsNoPointer place resolver (U.source_length value.now)) }
+    {
+        let Place { bytes, pos, .. } = place;
+        let metadata = value.archived_metadata()?;
+        let count = T::pointer_metadata(&metadata) as FixedUsize;
+        Self::resolve_from_raw_parts(resolver, count, Place::new(pos, bytes))
+    }
+}
+
+impl<T: Archive> Archive for Box<T> {
+    type Archived = ArchivedBox<T::Archived>;
+
+    type Resolver = BoxResolver;
+
+    ghost meaning = { λ b. box (T.meaning b.value) };
+
+    ghost flat = { λ b r. box (hole (to_pointee r T.Archived.pointee 0)) };
+
+    ghost keys = { λ b. T.keys b.value };
+
+    ghost belongs = { λ _ _. ⊤ };
+
+    ghost keyed = { λ b. box_keyed (T.keys b.value) (T.meaning b.value) (T.keyed b.value) };
+
+    ghost planned = { λ b. boxed_one_planned T.Archived.definitions T.Archived.pointee T.Archived.shape T.Archived.is_one (T.keys b.value) (T.meaning b.value) (T.planned b.value) };
+
+    fn resolve(
+        &self,
+        resolver: BoxResolver,
+        place: Place<'_, ArchivedBox<T::Archived>>,
+    ) -> Result<(), Error>
+        requires fresh { Fresh (pointer_size T.Archived.pointee) place.pos place.bytes.now }
+        requires same_value { ⊤ }
+        ensures resolved { OnOk result (BoxResolved T.Archived.ArchivePointee place resolver 0) }
+        ensures same_length { length place.exit.0.now ≡ length place.entry.bytes.now }
+        ensures refused { IfErr result (BoxHindered T.Archived.ArchivePointee place resolver 0) }
+        ensures written { OnOk result (PointsTo place (has_length T.Archived.pointee) resolver 0) }
+        ensures cause { IfErr result (λ e. IsTooFar e (distance place.entry.pos resolver)) }
+    {
+        let Place { bytes, pos, .. } = place;
+        ArchivedBox::<T::Archived>::resolve_from_raw_parts(resolver, 0, Place::new(pos, bytes))
+    }
+}
+
+impl<S: Writer + ResolverAlloc, T: Serialize<S>> Serialize<S> for Box<T> {
+    /// Writes what the value owns and then the value as a region of its own. Refused with `PositionTooLarge`, 4, where it stands above 4,294,967,295,
+    /// with `LayoutTooLarge`, 23, where it would end above `usize::MAX`, as the value refuses, and as the trait says it.
+    #[tactic(auto, using(crate::proofs::Owners::serialized_boxed_one, crate::proofs::Owners::boxed_one_refused, crate::proofs::Owners::far_boxed_one_refused))]
+    fn serialize(&self, serializer: &mut S) -> Result<BoxResolver, Error>
+        ensures serialized { IfOk result (OneBoxed T.Archived.ArchivePointee T.Archive self.now.value S.Keys serializer) }
+        ensures same_value { ⊤ }
+        ensures goes_on { GoesOn (S.state serializer.old) (S.state serializer.new) }
+        ensures refused { IfErr result (OneUnboxed T.Archived.ArchivePointee T.Archive self.now.value S.Keys serializer) }
+    {
+        let pos = serialize_one(&**self, serializer)?;
+        let Ok(pos) = u32::try_from(pos) else {
+            return Err(Error::PositionTooLarge);
+        };
+        Ok(BoxResolver { pos })
+    }
+}
+
+/// As a region of its own: the box itself, not what it owns.
+impl<T: Archive> ArchiveUnsized for Box<T> {
+    type Archived = ArchivedBox<T::Archived>;
+
+    ghost source_length = { λ _. 0 };
+
+    ghost meaning = { λ b. box (T.meaning b.value) };
+
+    ghost keys = { λ b. T.keys b.value };
+
+    ghost keyed = { λ b. box_keyed (T.keys b.value) (T.meaning b.value) (T.keyed b.value) };
+
+    ghost one_length = { λ _ _. refl };
+
+    ghost planned = { λ b. one_planned T.Archived.definitions (boxed T.Archived.pointee) (T.keys b.value) (box (T.meaning b.value))
+        (boxed_one_planned T.Archived.definitions T.Archived.pointee T.Archived.shape T.Archived.is_one (T.keys b.value) (T.meaning b.value) (T.planned b.value)) };
+
+    fn archived_metadata(&self) -> Result<(), Error> {
+        Ok(())
+    }
+}
+
+impl<S: Writer + ResolverAlloc, T: Serialize<S>> SerializeUnsized<S> for Box<T> {
+    fn serialize_unsized(&self, serializer: &mut S) -> Result<usize, Error> {
+        serialize_one(self, serializer)
+    }
+}

@@ -1,0 +1,121 @@
+// `PhantomData`: a record of nothing.
+
+ghost use Rattle.std.specs.Prelude.{◌≡◌, ⊤, [], length, IfOk, OnOk, IfErr, IsOk};
+ghost use Rattle.archive_check.specs.Shape.{one, parts, no_part};
+ghost use Rattle.archive_check.specs.Definitions.{no_definition};
+ghost use Rattle.archive_check.specs.Entries.{ReadsBack};
+ghost use Rattle.archive_check.specs.Value.{product, no_value};
+ghost use Rattle.archive_check.specs.Viewed.{Viewed};
+ghost use Rattle.archive_types.specs.Causes.{HindersAt, IsRefused};
+ghost use Rattle.archive_types.specs.KindsWritten.{NothingSerialized, NothingRefused};
+ghost use Rattle.archive_types.specs.Nothing.{empty_product_keyed, empty_product_planned};
+ghost use Rattle.archive_types.specs.Placed.{Resolved};
+ghost use Rattle.archive_types.specs.Plans.{Serialized};
+ghost use Rattle.archive_types.specs.Seen.{IsPartOf};
+ghost use Rattle.archive_types.specs.Sources.{Read};
+ghost use Rattle.archive_types.specs.Writing.{Fresh, Resolves};
+ghost use Rattle.archive_write.specs.Written.{GoesOn};
+
+use crate::place::Place;
+use crate::slice::copy_groups;
+use crate::traits::{
+    Archive, ArchivePointee, Copied, CopyOptimization, Deserialize, Entries, Keys, Portable,
+    Serialize,
+};
+use crate::view::RawView;
+use archive_check::format::error::Error;
+use archive_write::ser::Writer;
+use std::alloc::Global;
+use std::marker::PhantomData;
+
+/// It is never refused, and takes no byte. As in rkyv 0.8.18.
+impl<T> Archive for PhantomData<T> {
+    type Archived = PhantomData<T>;
+
+    type Resolver = ();
+
+    ghost meaning = { λ _. product no_value };
+
+    ghost flat = { λ _ _. product no_value };
+
+    ghost keys = { λ _. [] };
+
+    ghost belongs = { λ _ _. ⊤ };
+
+    ghost keyed = { λ _. empty_product_keyed };
+
+    ghost planned = { λ _. empty_product_planned };
+
+    #[tactic(auto, using(crate::proofs::Nothing::resolves_empty_product))]
+    fn resolve(&self, _resolver: (), place: Place<'_, PhantomData<T>>) -> Result<(), Error>
+        requires fresh { Fresh 0 place.pos place.bytes.now }
+        requires same_value { ⊤ }
+        ensures resolved { OnOk result (Resolved ⟦<Self::Archived as Portable>⟧ place (product no_value)) }
+        ensures same_length { length place.exit.0.now ≡ length place.entry.bytes.now }
+        ensures refused { IfErr result (HindersAt no_definition (parts no_part) (product no_value) place.entry.pos) }
+        ensures succeeds { IsOk result }
+    {
+        let Place { bytes: _bytes, .. } = place;
+        Ok(())
+    }
+
+    fn copy_optimization() -> CopyOptimization<PhantomData<T>> {
+        CopyOptimization::enable()
+    }
+
+    fn serialize_copied<S: Writer + Keys>(
+        values: &[PhantomData<T>],
+        together: usize,
+        serializer: &mut S,
+    ) -> Result<Option<usize>, Error> {
+        copy_groups(values, together, serializer)
+    }
+}
+
+/// It has no bytes, so nothing is copied.
+impl<T> Copied for PhantomData<T> {
+    type CopiedAs = PhantomData<T>;
+
+    ghost copied_keys = { λ _. [] };
+
+    ghost copied_meaning = { λ _. product no_value };
+
+    ghost copied_bytes = { λ _. [] };
+
+    #[tactic(auto, using(crate::proofs::Nothing::serialized_empty_product))]
+    fn copied_size() -> usize {
+        0
+    }
+
+    fn copy_one(&self, _bytes: &mut [u8]) {}
+}
+
+impl<T, S: Writer + Keys> Serialize<S> for PhantomData<T> {
+    #[tactic(auto, using(crate::proofs::Nothing::serialized_empty_product, crate::proofs::Causes::goes_nowhere))]
+    fn serialize(&self, _serializer: &mut S) -> Result<(), Error>
+        ensures serialized { IfOk result (NothingSerialized S.Keys _serializer) }
+        ensures same_value { ⊤ }
+        ensures goes_on { GoesOn (S.state _serializer.old) (S.state _serializer.new) }
+        ensures refused { IfErr result (NothingRefused S.Keys _serializer) }
+        ensures unchanged { S.state _serializer.new ≡ S.state _serializer.old }
+        ensures succeeds { IsOk result }
+    {
+        Ok(())
+    }
+}
+
+impl<T, D: Entries> Deserialize<PhantomData<T>, D> for PhantomData<T> {
+    fn deserialize_part(
+        _alloc: Global,
+        part: RawView<'_>,
+        _deserializer: &mut D,
+    ) -> Result<PhantomData<T>, Error>
+        requires { IsPartOf ⟦<Self as ArchivePointee>⟧ part }
+        ensures read { IfOk result (Read ⟦<Self as ArchivePointee>⟧ part D.Entries _deserializer ⟦<Self as Archive>⟧) }
+        ensures unchanged { D.entry_of _deserializer.new ≡ D.entry_of _deserializer.old }
+        ensures succeeds { IsOk result }
+    {
+        let _part = part;
+        Ok(PhantomData)
+    }
+}

@@ -1,0 +1,225 @@
+// `usize` and `isize` as sources: 32 bits, and refused where they need more.
+
+ghost use Rattle.std.specs.Prelude.{◌≡◌, ◌<◌, ◌^◌, pos, length, refl, IfOk, IfErr, IsOk, ⊤, [], OnOk};
+ghost use Rattle.std.specs.Int.{w32, cast_signed, cast_unsigned};
+ghost use Rattle.std.specs.Int.RustNames.{FitsSigned};
+ghost use Rattle.archive_check.specs.Shape.{leaf, one, number, signed, unsigned};
+ghost use Rattle.archive_check.specs.Definitions.{no_definition};
+ghost use Rattle.archive_check.specs.Reads.{bytes_at};
+ghost use Rattle.archive_check.specs.Value.{number as number_value};
+ghost use Rattle.archive_check.specs.Viewed.{Viewed};
+ghost use Rattle.archive_check.specs.Entries.{ReadsBack};
+ghost use Rattle.archive_check.specs.declared.format.error.Error.TheVariants.{NumberTooLarge};
+ghost use Rattle.archive_check.specs.LittleEndian.{little_bytes, little_number};
+ghost use Rattle.archive_types.specs.Keyed.{number_keyed};
+ghost use Rattle.archive_types.specs.Causes.{HindersAt, IsRefused};
+ghost use Rattle.archive_types.specs.KindsWritten.{LeafSerialized, LeafRefused, LeafResolved, LeafHindered};
+ghost use Rattle.archive_types.specs.Planned.{leaf_planned};
+ghost use Rattle.archive_types.specs.PlannedOwners.{one_planned};
+ghost use Rattle.archive_types.specs.Plans.{Serialized};
+ghost use Rattle.archive_types.specs.Seen.{IsPartOf, part_number};
+ghost use Rattle.archive_types.specs.Sources.{Read};
+ghost use Rattle.archive_types.specs.Writing.{Fresh, Resolves};
+ghost use Rattle.archive_write.specs.Written.{GoesOn};
+
+use crate::place::Place;
+use crate::ser::serialize_one;
+use crate::traits::{
+    Archive, ArchivePointee, ArchiveUnsized, Deserialize, Entries, Keys, Serialize,
+    SerializeUnsized,
+};
+use crate::view::{RawView, Ref};
+use archive_check::format::error::Error;
+use archive_num::{ArchivedIsize, ArchivedUsize, FixedIsize, FixedUsize, Native};
+use archive_write::ser::{ResolverAlloc, Writer};
+use std::alloc::Global;
+
+impl Archive for usize {
+    type Archived = ArchivedUsize;
+
+    type Resolver = ();
+
+    ghost meaning = { λ n. number_value (pos n) };
+
+    ghost flat = { λ n _. number_value (pos n) };
+
+    ghost keys = { λ _. [] };
+
+    ghost belongs = { λ n _. n < 2 ^ 32 };
+
+    ghost keyed = { λ n. number_keyed (pos n) };
+
+    ghost planned = { λ n. leaf_planned no_definition (leaf (number unsigned w32)) (number unsigned w32) [] (pos n) refl };
+
+    #[tactic(auto, using(crate::proofs::Resolving::resolves_usize))]
+    fn resolve(&self, _resolver: (), place: Place<'_, ArchivedUsize>) -> Result<(), Error>
+        requires fresh { Fresh 4 place.pos place.bytes.now }
+        requires same_value { self.now < 2 ^ 32 }
+        ensures resolved { OnOk result (LeafResolved (number unsigned w32) place (pos self.now)) }
+        ensures same_length { length place.exit.0.now ≡ length place.entry.bytes.now }
+        ensures refused { IfErr result (LeafHindered (number unsigned w32) place (pos self.now)) }
+        ensures written { place.exit.0.now ≡ little_bytes 4 self.now }
+        ensures succeeds { IsOk result }
+    {
+        let Place { bytes, .. } = place;
+        (*self as FixedUsize).write_to(bytes);
+        Ok(())
+    }
+}
+
+impl<S: Writer + Keys> Serialize<S> for usize {
+    /// Writes nothing. Refused with `NumberTooLarge`, 6, exactly where the number doesn't fit 32 bits without a sign. rkyv 0.8.18 cuts it off.
+    #[tactic(auto, using(crate::proofs::Causes::goes_nowhere, crate::proofs::Planned::usize_refused))]
+    fn serialize(&self, _serializer: &mut S) -> Result<(), Error>
+        ensures serialized { IfOk result (LeafSerialized (number unsigned w32) (pos self.now) S.Keys _serializer) }
+        ensures same_value { IfOk result (λ _. self.now < 2 ^ 32) }
+        ensures goes_on { GoesOn (S.state _serializer.old) (S.state _serializer.new) }
+        ensures refused { IfErr result (LeafRefused (number unsigned w32) (pos self.now) S.Keys _serializer) }
+        ensures unchanged { S.state _serializer.new ≡ S.state _serializer.old }
+        ensures cause { IfErr result (λ e. (e ≡ NumberTooLarge) × (self.now < 2 ^ 32 → ⊥)) }
+    {
+        if FixedUsize::try_from(*self).is_err() {
+            return Err(Error::NumberTooLarge);
+        }
+        Ok(())
+    }
+}
+
+/// As a region of its own.
+impl ArchiveUnsized for usize {
+    type Archived = ArchivedUsize;
+
+    ghost source_length = { λ _. 0 };
+
+    ghost meaning = { λ n. number_value (pos n) };
+
+    ghost keys = { λ _. [] };
+
+    ghost keyed = { λ n. number_keyed (pos n) };
+
+    ghost one_length = { λ _ _. refl };
+
+    ghost planned = { λ n. one_planned no_definition (leaf (number unsigned w32)) [] (number_value (pos n)) (leaf_planned no_definition (leaf (number unsigned w32)) (number unsigned w32) [] (pos n) refl) };
+
+    fn archived_metadata(&self) -> Result<(), Error> {
+        Ok(())
+    }
+}
+
+impl<S: Writer + ResolverAlloc> SerializeUnsized<S> for usize {
+    fn serialize_unsized(&self, serializer: &mut S) -> Result<usize, Error> {
+        serialize_one(self, serializer)
+    }
+}
+
+impl<D: Entries> Deserialize<usize, D> for ArchivedUsize {
+    fn deserialize_part(
+        _alloc: Global,
+        part: RawView<'_>,
+        _deserializer: &mut D,
+    ) -> Result<usize, Error>
+        requires { IsPartOf ⟦<Self as ArchivePointee>⟧ part }
+        ensures read { IfOk result (Read ⟦<Self as ArchivePointee>⟧ part D.Entries _deserializer ⟦<usize as Archive>⟧) }
+        ensures number { IfOk result (λ n. n ≡ part_number part.entry 4) }
+        ensures unchanged { D.entry_of _deserializer.new ≡ D.entry_of _deserializer.old }
+        ensures succeeds { IsOk result }
+    {
+        let view: Ref<'_, ArchivedUsize> = Ref::at(part);
+        Ok(view.get() as usize)
+    }
+}
+
+impl Archive for isize {
+    type Archived = ArchivedIsize;
+
+    type Resolver = ();
+
+    ghost meaning = { λ n. number_value n };
+
+    ghost flat = { λ n _. number_value n };
+
+    ghost keys = { λ _. [] };
+
+    ghost belongs = { λ n _. FitsSigned w32 n };
+
+    ghost keyed = { λ n. number_keyed n };
+
+    ghost planned = { λ n. leaf_planned no_definition (leaf (number signed w32)) (number signed w32) [] n refl };
+
+    #[tactic(auto, using(crate::proofs::Resolving::resolves_isize))]
+    fn resolve(&self, _resolver: (), place: Place<'_, ArchivedIsize>) -> Result<(), Error>
+        requires fresh { Fresh 4 place.pos place.bytes.now }
+        requires same_value { FitsSigned w32 self.now }
+        ensures resolved { OnOk result (LeafResolved (number signed w32) place self.now) }
+        ensures same_length { length place.exit.0.now ≡ length place.entry.bytes.now }
+        ensures refused { IfErr result (LeafHindered (number signed w32) place self.now) }
+        ensures written { place.exit.0.now ≡ little_bytes 4 (cast_unsigned w32 self.now) }
+        ensures succeeds { IsOk result }
+    {
+        let Place { bytes, .. } = place;
+        (*self as FixedIsize).write_to(bytes);
+        Ok(())
+    }
+}
+
+impl<S: Writer + Keys> Serialize<S> for isize {
+    /// Writes nothing. Refused with `NumberTooLarge`, 6, exactly where the number doesn't fit 32 bits with a sign. rkyv 0.8.18 cuts it off.
+    #[tactic(auto, using(crate::proofs::Causes::goes_nowhere, crate::proofs::Planned::isize_refused))]
+    fn serialize(&self, _serializer: &mut S) -> Result<(), Error>
+        ensures serialized { IfOk result (LeafSerialized (number signed w32) self.now S.Keys _serializer) }
+        ensures same_value { IfOk result (λ _. FitsSigned w32 self.now) }
+        ensures goes_on { GoesOn (S.state _serializer.old) (S.state _serializer.new) }
+        ensures refused { IfErr result (LeafRefused (number signed w32) self.now S.Keys _serializer) }
+        ensures unchanged { S.state _serializer.new ≡ S.state _serializer.old }
+        ensures cause { IfErr result (λ e. (e ≡ NumberTooLarge) × (FitsSigned w32 self.now → ⊥)) }
+    {
+        if FixedIsize::try_from(*self).is_err() {
+            return Err(Error::NumberTooLarge);
+        }
+        Ok(())
+    }
+}
+
+/// As a region of its own.
+impl ArchiveUnsized for isize {
+    type Archived = ArchivedIsize;
+
+    ghost source_length = { λ _. 0 };
+
+    ghost meaning = { λ n. number_value n };
+
+    ghost keys = { λ _. [] };
+
+    ghost keyed = { λ n. number_keyed n };
+
+    ghost one_length = { λ _ _. refl };
+
+    ghost planned = { λ n. one_planned no_definition (leaf (number signed w32)) [] (number_value n) (leaf_planned no_definition (leaf (number signed w32)) (number signed w32) [] n refl) };
+
+    fn archived_metadata(&self) -> Result<(), Error> {
+        Ok(())
+    }
+}
+
+impl<S: Writer + ResolverAlloc> SerializeUnsized<S> for isize {
+    fn serialize_unsized(&self, serializer: &mut S) -> Result<usize, Error> {
+        serialize_one(self, serializer)
+    }
+}
+
+impl<D: Entries> Deserialize<isize, D> for ArchivedIsize {
+    fn deserialize_part(
+        _alloc: Global,
+        part: RawView<'_>,
+        _deserializer: &mut D,
+    ) -> Result<isize, Error>
+        requires { IsPartOf ⟦<Self as ArchivePointee>⟧ part }
+        ensures read { IfOk result (Read ⟦<Self as ArchivePointee>⟧ part D.Entries _deserializer ⟦<isize as Archive>⟧) }
+        ensures number { IfOk result (λ n. n ≡ cast_signed w32 (part_number part.entry 4)) }
+        ensures unchanged { D.entry_of _deserializer.new ≡ D.entry_of _deserializer.old }
+        ensures succeeds { IsOk result }
+    {
+        let view: Ref<'_, ArchivedIsize> = Ref::at(part);
+        Ok(view.get() as isize)
+    }
+}

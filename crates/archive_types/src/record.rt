@@ -1,0 +1,76 @@
+//! Records by their parts: what an own type's impls call. Our own, where rkyv 0.8.18 derives the impls.
+
+ghost use Rattle.std.specs.Prelude.{◌≡◌, length, IfOk, OnOk, IfErr};
+ghost use Rattle.archive_check.specs.Entries.{ReadsBack, RefusesReading};
+ghost use Rattle.archive_check.specs.Value.{product};
+ghost use Rattle.archive_check.specs.Viewed.{Viewed};
+ghost use Rattle.archive_types.specs.Causes.{HindersAt, IsRefused};
+ghost use Rattle.archive_types.specs.KindsWritten.{RecordSerialized, RecordRefused};
+ghost use Rattle.archive_types.specs.Placed.{Resolved, Hindered};
+ghost use Rattle.archive_types.specs.Plans.{Serialized};
+ghost use Rattle.archive_types.specs.Seen.{IsPartOf, RefusesPart, ReadsRecord};
+ghost use Rattle.archive_types.specs.Writing.{Fresh, Resolves};
+ghost use Rattle.archive_write.specs.Written.{GoesOn};
+
+use crate::parts::{DeserializeParts, OwnedParts, SerializeParts, SourceParts};
+use crate::place::Place;
+use crate::traits::{Entries, Keys, Record};
+use crate::view::RawView;
+use archive_check::format::error::Error;
+use archive_write::ser::Writer;
+use std::alloc::Global;
+
+/// Writes what the parts of a record own, one after another, and answers their resolvers. It asks nothing. Refused as `Serialize::serialize` is, for
+/// a cause of one of the parts.
+#[tactic(auto, using(crate::proofs::PlannedParts::serialized_record, crate::proofs::PlannedParts::record_refused))]
+#[inline(always)]
+pub fn serialize_record<
+    T,
+    P: SerializeParts<T, S>,
+    X: Record<Parts = P::Archived>,
+    S: Writer + Keys,
+>(whole: &T, serializer: &mut S) -> Result<P::Resolvers, Error>
+    ensures serialized { IfOk result (RecordSerialized X.Portable P.keys P.meanings P.flats whole.now S.Keys serializer) }
+    ensures same_values { IfOk result (λ r. P.belongs whole.now r) }
+    ensures goes_on { GoesOn (S.state serializer.old) (S.state serializer.new) }
+    ensures refused { IfErr result (RecordRefused X.Portable P.keys P.meanings whole.now S.Keys serializer) }
+{
+    P::serialize_parts(whole, serializer)
+}
+
+/// Writes the archived record over the bytes of `place`, part by part, each at its offset; between them and behind the last one zeros stay. Asks that
+/// the bytes are zeros, as many as the record has, and that the resolvers are those of these parts. Refused as the parts are: with `IsizeOverflow`,
+/// 2, or `OffsetOverflow`, 3, where an offset doesn't fit.
+#[inline(always)]
+pub fn resolve_record<T, P: SourceParts<T>, X: Record<Parts = P::Archived>>(
+    whole: &T,
+    resolvers: P::Resolvers,
+    place: Place<'_, X>,
+) -> Result<(), Error>
+    requires fresh { Fresh X.layout.size place.pos place.bytes.now }
+    requires same_values { P.belongs whole.now resolvers }
+    ensures resolved { OnOk result (Resolved X.Portable place (product (P.flats whole.now resolvers))) }
+    ensures same_length { length place.exit.0.now ≡ length place.entry.bytes.now }
+    ensures refused { IfErr result (Hindered X.Portable place (product (P.flats whole.now resolvers))) }
+{
+    let Place { bytes, pos, .. } = place;
+    P::resolve_parts(whole, resolvers, pos, 0, bytes)
+}
+
+/// The values of a record's parts, which `part` shows, one after another. Asks for what a view promises of it. Memory comes from `alloc`: refused with
+/// `OutOfMemory`, 1, where it is refused, and with `CyclicDeserialize`, 13, only where a shared position is met that is still being read.
+#[inline(always)]
+pub fn deserialize_record<X: Record, T: OwnedParts, D: Entries>(
+    alloc: Global,
+    part: RawView<'_>,
+    deserializer: &mut D,
+) -> Result<T, Error>
+where
+    X::Parts: DeserializeParts<T, D>,
+    requires { IsPartOf X.ArchivePointee part }
+    ensures read { IfOk result (ReadsRecord X.ArchivePointee part D.Entries deserializer T.meanings T.keys) }
+    ensures refused { IfErr result (RefusesPart X.ArchivePointee part D.Entries deserializer) }
+{
+    let RawView { bytes, pos, .. } = part;
+    <X::Parts as DeserializeParts<T, D>>::deserialize_parts(alloc, bytes, pos, 0, deserializer)
+}

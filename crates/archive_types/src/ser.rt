@@ -1,0 +1,349 @@
+//! Writers, and the regions that are resolved into them.
+
+ghost use Rattle.std.specs.Prelude.{◌≡◌, ◌⊎◌, ◌+◌, ◌++◌, ◌*◌, ◌^◌, ◌<◌, ◌≤◌, ◌%◌, ◌↔◌, min, true, length, IfOk, OnOk, IfErr};
+ghost use Rattle.archive_check.specs.WriterState.{KeepsKeys};
+ghost use Rattle.archive_check.specs.Layout.{has_length};
+ghost use Rattle.archive_check.specs.Shape.{one};
+ghost use Rattle.archive_types.specs.Causes.{HindersAt};
+ghost use Rattle.archive_types.specs.KindsWritten.{BytesResolved, RegionPut, RegionRefused, EachPut, EachHindered};
+ghost use Rattle.archive_types.specs.Placed.{GrowsBy, Pointed, Unpointed};
+ghost use Rattle.archive_types.specs.Runs.{EachBelongs};
+ghost use Rattle.archive_types.specs.Sources.{OneStored, OneUnstored};
+ghost use Rattle.archive_types.specs.Writing.{Fresh, Resolves};
+ghost use Rattle.archive_write.specs.Written.{GoesOn};
+
+use crate::place::Place;
+use crate::rel_ptr::emplace_pointer;
+use crate::traits::{
+    Archive, ArchivePointee, ArchiveUnsized, ArchivedMetadata, Portable, PortablePointee, Serialize,
+};
+use archive_check::format::error::Error;
+use archive_num::FixedUsize;
+pub use archive_write::ser::{Buffer, Positional, ResolverAlloc, Serializer, Writer, WriterExt};
+use std::alloc::Allocator;
+
+/// Regions of this size or less are resolved in a local array.
+const LOCAL_SIZE: usize = 64;
+
+// The same refusal. A loop hands its values' refusals on by this call: where no word of them is named, the compiled code keeps 16 bytes of each refusal that
+// may come on the way, and clears them for each value.
+#[inline(always)]
+pub(crate) fn by_words(error: Error) -> Error
+    ensures { result ≡ error }
+{
+    match error {
+        Error::BufferOverflow {
+            write_len,
+            cap,
+            len,
+        } => Error::BufferOverflow {
+            write_len,
+            cap,
+            len,
+        },
+        error => error,
+    }
+}
+
+// Resolves a value into zeros that are to stand at the writer's end, and writes them.
+#[tactic(auto, using(crate::proofs::Regions::puts_by, crate::proofs::Regions::region_hindered, crate::proofs::Regions::region_refused, crate::proofs::Causes::goes_nowhere, crate::proofs::Causes::goes_written, crate::proofs::Causes::goes_refused))]
+#[inline(always)]
+fn resolve_region<W: Writer, T: Archive>(
+    writer: &mut W,
+    value: &T,
+    resolver: T::Resolver,
+    region: &mut [u8],
+) -> Result<usize, Error>
+    requires fresh { Fresh T.Archived.layout.size (length (W.state writer.old).bytes) region.old }
+    requires same_value { T.belongs value.now resolver }
+    ensures put { OnOk result (RegionPut T.Archived.Portable (T.flat value.now resolver) W.Keys writer) }
+    ensures position { IfOk result (λ p. p ≡ length (W.state writer.old).bytes) }
+    ensures refused { IfErr result (RegionRefused T.Archived.Portable (T.flat value.now resolver) W.Keys writer) }
+    ensures goes_on { GoesOn (W.state writer.old) (W.state writer.new) }
+    ensures keys { KeepsKeys (W.state writer.old).states (W.state writer.new).states }
+    ensures same_length { length region.new ≡ length region.old }
+{
+    let pos = writer.pos();
+    resolve_into(value, resolver, pos, region)?;
+    writer.write(region)?;
+    Ok(pos)
+}
+
+// Resolves a value into zeros in memory from `alloc`, and writes them at the writer's end, wherever that is. It stands apart, so that a caller holds the
+// code that resolves once.
+#[tactic(auto, using(crate::proofs::Regions::fresh_zeros, crate::proofs::Causes::goes_nowhere))]
+#[inline(never)]
+fn resolve_large<W: Writer, A: Allocator + Drop, T: Archive>(
+    writer: &mut W,
+    alloc: A,
+    value: &T,
+    resolver: T::Resolver,
+    size: usize,
+) -> Result<usize, Error>
+    requires sized { size ≡ min T.Archived.layout.size 18446744073709551615 }
+    requires ends { length (W.state writer.old).bytes + size < 2 ^ 64 }
+    requires same_value { T.belongs value.now resolver }
+    ensures region { OnOk result (RegionPut T.Archived.Portable (T.flat value.now resolver) W.Keys writer) }
+    ensures position { IfOk result (λ p. p ≡ W.position writer.old) }
+    ensures refused { IfErr result (RegionRefused T.Archived.Portable (T.flat value.now resolver) W.Keys writer) }
+    ensures goes_on { GoesOn (W.state writer.old) (W.state writer.new) }
+    ensures sized { OnOk result (GrowsBy T.Archived.layout.size W.Keys writer) }
+    ensures keys { KeepsKeys (W.state writer.old).states (W.state writer.new).states }
+{
+    let mut region = vec![in alloc; 0u8; size]?;
+    resolve_region(writer, value, resolver, &mut region)
+}
+
+// Resolves a value into zeros at the writer's end, wherever that is, and writes them. Memory for a region above 64 bytes comes from `alloc`.
+#[tactic(auto, using(crate::proofs::Regions::fresh_zeros, crate::proofs::Regions::fresh_front, crate::proofs::Regions::region_too_large, crate::proofs::Causes::goes_nowhere))]
+#[inline(always)]
+pub(crate) fn resolve_next<W: Writer, A: Allocator + Drop, T: Archive>(
+    writer: &mut W,
+    alloc: A,
+    value: &T,
+    resolver: T::Resolver,
+) -> Result<usize, Error>
+    requires same_value { T.belongs value.now resolver }
+    ensures region { OnOk result (RegionPut T.Archived.Portable (T.flat value.now resolver) W.Keys writer) }
+    ensures position { IfOk result (λ p. p ≡ W.position writer.old) }
+    ensures refused { IfErr result (RegionRefused T.Archived.Portable (T.flat value.now resolver) W.Keys writer) }
+    ensures goes_on { GoesOn (W.state writer.old) (W.state writer.new) }
+    ensures sized { OnOk result (GrowsBy T.Archived.layout.size W.Keys writer) }
+    ensures keys { KeepsKeys (W.state writer.old).states (W.state writer.new).states }
+{
+    let size = T::Archived::size();
+    if writer.pos().checked_add(size).is_none() {
+        return Err(Error::LayoutTooLarge);
+    }
+    if size > LOCAL_SIZE {
+        return resolve_large(writer, alloc, value, resolver, size);
+    }
+    let mut region = [0; LOCAL_SIZE];
+    resolve_region(writer, value, resolver, &mut region[..size])
+}
+
+// Resolves a value into zeros that stand at a position.
+#[inline(always)]
+pub(crate) fn resolve_into<T: Archive>(
+    value: &T,
+    resolver: T::Resolver,
+    pos: usize,
+    bytes: &mut [u8],
+) -> Result<(), Error>
+    requires fresh { Fresh T.Archived.layout.size pos bytes.old }
+    requires same_value { T.belongs value.now resolver }
+    ensures resolved { OnOk result (BytesResolved T.Archived.Portable pos bytes.new (T.flat value.now resolver)) }
+    ensures same_length { length bytes.new ≡ length bytes.old }
+    ensures refused { IfErr result (HindersAt T.Archived.definitions T.Archived.shape (T.flat value.now resolver) pos) }
+{
+    value.resolve(resolver, Place::new(pos, bytes))
+}
+
+// Resolves values one after another at the writer's end, each into zeros over the same bytes. There is a resolver for each.
+#[tactic(auto, using(crate::proofs::Regions::fresh_zeros, crate::proofs::RunRegions::completes_start, crate::proofs::RunRegions::completes_step, crate::proofs::RunRegions::completes_more, crate::proofs::RunRegions::completes_end, crate::proofs::RunRegions::belongs_here, crate::proofs::RunRegions::place_here))]
+#[inline(always)]
+fn resolve_each<W: Writer, T: Archive, A: Allocator + Drop>(
+    writer: &mut W,
+    values: &[T],
+    resolvers: Vec<T::Resolver, A>,
+    region: &mut [u8],
+) -> Result<(), Error>
+    requires sized { length region.old ≡ T.Archived.layout.size }
+    requires ends { length (W.state writer.old).bytes + length values.now * T.Archived.layout.size < 2 ^ 64 }
+    requires same_values { EachBelongs T.belongs values.now resolvers.items }
+    ensures put { OnOk result (EachPut T.Archived.Portable T.flat values.now resolvers.items W.Keys writer) }
+    ensures refused { IfErr result (EachHindered T.Archived.Portable T.flat values.now resolvers.items W.Keys writer) }
+    ensures goes_on { GoesOn (W.state writer.old) (W.state writer.new) }
+    ensures keys { KeepsKeys (W.state writer.old).states (W.state writer.new).states }
+{
+    let mut rest = values;
+    for resolver in resolvers {
+        let Some((value, others)) = rest.split_first() else {
+            unreachable!();
+        };
+        region.fill(0);
+        if let Err(error) = resolve_region(writer, value, resolver, region) {
+            return Err(by_words(error));
+        }
+        rest = others;
+    }
+    Ok(())
+}
+
+// The same over zeros in memory from `alloc`. It stands apart, as `resolve_large` does.
+#[tactic(auto, using(crate::proofs::Causes::goes_nowhere))]
+#[inline(never)]
+fn resolve_each_large<W: Writer, A: Allocator + Drop, T: Archive, B: Allocator + Drop>(
+    writer: &mut W,
+    alloc: A,
+    values: &[T],
+    resolvers: Vec<T::Resolver, B>,
+    size: usize,
+) -> Result<(), Error>
+    requires sized { size ≡ min T.Archived.layout.size 18446744073709551615 }
+    requires ends { length (W.state writer.old).bytes + length values.now * size < 2 ^ 64 }
+    requires same_values { EachBelongs T.belongs values.now resolvers.items }
+    ensures put { OnOk result (EachPut T.Archived.Portable T.flat values.now resolvers.items W.Keys writer) }
+    ensures refused { IfErr result (EachHindered T.Archived.Portable T.flat values.now resolvers.items W.Keys writer) }
+    ensures goes_on { GoesOn (W.state writer.old) (W.state writer.new) }
+    ensures keys { KeepsKeys (W.state writer.old).states (W.state writer.new).states }
+{
+    let mut region = vec![in alloc; 0u8; size]?;
+    resolve_each(writer, values, resolvers, &mut region)
+}
+
+// Whether so many values of this size end at `usize::MAX` or below, where the first one stands at `pos`.
+#[inline(always)]
+pub(crate) fn run_fits(pos: usize, count: usize, size: usize) -> bool
+    ensures { result ≡ true ↔ (pos + count * size < 2 ^ 64) }
+{
+    match count.checked_mul(size) {
+        Some(sum) => pos.checked_add(sum).is_some(),
+        None => false,
+    }
+}
+
+/// The regions that every writer can take. rkyv 0.8.18 has the call in `WriterExt`.
+pub trait ResolveExt: Writer {
+    /// Resolves `value` into the next region and writes it; answers the region's position, in bytes from the first one. Asks that the writer stands
+    /// at a multiple of the archived type's alignment, as `align_for` leaves it, and that the resolver is one of this value. Memory for a region
+    /// above 64 bytes comes from `alloc`: refused with `OutOfMemory`, 1, where it is refused, with `LayoutTooLarge`, 23, where the region would end
+    /// above `usize::MAX`, with what `resolve` refuses with, or as the writer refuses (`BufferOverflow`, 8; `WriterFailed`, 9). After a refusal,
+    /// too, the bytes from before are a beginning of those that the writer holds.
+    #[inline(always)]
+    final fn resolve_aligned<A: Allocator + Drop, T: Archive>(
+        &mut self,
+        alloc: A,
+        value: &T,
+        resolver: T::Resolver,
+    ) -> Result<usize, Error>
+    where
+        Self: Sized,
+        requires aligned { Self.position self.old % T.Archived.layout.align ≡ 0 }
+        requires same_value { T.belongs value.now resolver }
+        ensures region { OnOk result (RegionPut T.Archived.Portable (T.flat value.now resolver) Self.Keys self) }
+        ensures position { IfOk result (λ p. p ≡ Self.position self.old) }
+        ensures refused { IfErr result (RegionRefused T.Archived.Portable (T.flat value.now resolver) Self.Keys self) }
+        ensures goes_on { GoesOn (Self.state self.old) (Self.state self.new) }
+        ensures sized { OnOk result (GrowsBy T.Archived.layout.size Self.Keys self) }
+        ensures keys { KeepsKeys (Self.state self.old).states (Self.state self.new).states }
+    {
+        resolve_next(self, alloc, value, resolver)
+    }
+
+    /// Resolves `values`, one after another, into the next region and writes it; answers the region's position, in bytes from the first one. Asks
+    /// that the writer stands at a multiple of the archived type's alignment, as `align_for` leaves it, and for a resolver of each value, in order.
+    /// Memory for a value above 64 bytes comes from `alloc`, once for all: refused with `OutOfMemory`, 1, where it is refused, with
+    /// `LayoutTooLarge`, 23, where the region would end above `usize::MAX`, with what `resolve` refuses with, or as the writer refuses
+    /// (`BufferOverflow`, 8; `WriterFailed`, 9). After a refusal, too, the bytes from before are a beginning of those that the writer holds. Our own:
+    /// rkyv 0.8.18 has it within `serialize_unsized` of a slice.
+    #[tactic(auto, using(crate::proofs::RunRegions::run_too_large, crate::proofs::Causes::goes_nowhere))]
+    #[inline(always)]
+    final fn resolve_slice_aligned<A: Allocator + Drop, T: Archive, B: Allocator + Drop>(
+        &mut self,
+        alloc: A,
+        values: &[T],
+        resolvers: Vec<T::Resolver, B>,
+    ) -> Result<usize, Error>
+    where
+        Self: Sized,
+        requires aligned { Self.position self.old % T.Archived.layout.align ≡ 0 }
+        requires same_values { EachBelongs T.belongs values.now resolvers.items }
+        ensures region { OnOk result (EachPut T.Archived.Portable T.flat values.now resolvers.items Self.Keys self) }
+        ensures position { IfOk result (λ p. p ≡ Self.position self.old) }
+        ensures refused { IfErr result (EachHindered T.Archived.Portable T.flat values.now resolvers.items Self.Keys self) }
+        ensures goes_on { GoesOn (Self.state self.old) (Self.state self.new) }
+        ensures keys { KeepsKeys (Self.state self.old).states (Self.state self.new).states }
+    {
+        let pos = self.pos();
+        let size = T::Archived::size();
+        if !run_fits(pos, values.len(), size) {
+            return Err(Error::LayoutTooLarge);
+        }
+        if size > LOCAL_SIZE {
+            resolve_each_large(self, alloc, values, resolvers, size)?;
+            return Ok(pos);
+        }
+        let mut local = [0u8; LOCAL_SIZE];
+        resolve_each(self, values, resolvers, &mut local[..size])?;
+        Ok(pos)
+    }
+
+    /// Writes a pointer to the region of `value`, which stands at `to`: an offset of four bytes, and behind it the length, of four, where `value` is a
+    /// slice or a text. Answers the pointer's position, in bytes from the first one. Asks that the writer stands at a multiple of four. It takes no
+    /// memory. Refused with `LengthTooLarge`, 5, where the length is above 4,294,967,295, with `LayoutTooLarge`, 23, where the pointer would end above
+    /// `usize::MAX`, with `IsizeOverflow`, 2, or `OffsetOverflow`, 3, where the offset doesn't fit, nothing being written then, or as the writer refuses
+    /// (`BufferOverflow`, 8; `WriterFailed`, 9). rkyv 0.8.18 has the call in `WriterExt`, and panics where the offset doesn't fit.
+    #[tactic(auto, using(crate::proofs::Owned::size_by_length, crate::proofs::Causes::goes_nowhere, crate::proofs::Causes::goes_written, crate::proofs::Causes::goes_refused))]
+    #[inline(always)]
+    final fn resolve_unsized_aligned<T: ArchiveUnsized>(
+        &mut self,
+        value: &T,
+        to: usize,
+    ) -> Result<usize, Error>
+    where
+        Self: Sized,
+        T::Archived: PortablePointee,
+        ArchivedMetadata<T>: Drop,
+        requires aligned { Self.position self.old % 4 ≡ 0 }
+        ensures written { OnOk result (Pointed T.Archived.pointee (T.source_length value.now) to Self.position Self.Keys self) }
+        ensures position { IfOk result (λ p. p ≡ Self.position self.old) }
+        ensures refused { IfErr result (Unpointed T.Archived.pointee (T.source_length value.now) to Self.position Self.Keys self) }
+        ensures goes_on { GoesOn (Self.state self.old) (Self.state self.new) }
+        ensures keys { KeepsKeys (Self.state self.old).states (Self.state self.new).states }
+    {
+        let metadata = value.archived_metadata()?;
+        let count = T::Archived::pointer_metadata(&metadata) as FixedUsize;
+        let is_long = T::Archived::has_length();
+        let size = if is_long { 8 } else { 4 };
+        let pos = self.pos();
+        if pos.checked_add(size).is_none() {
+            return Err(Error::LayoutTooLarge);
+        }
+        let mut pointer = [0; 8];
+        emplace_pointer(is_long, to, count, pos, &mut pointer[..size])?;
+        self.write(&pointer[..size])?;
+        Ok(pos)
+    }
+}
+
+impl<W: Writer> ResolveExt for W {}
+
+/// As `serialize_one`, with memory for a large region from `alloc`. Our own.
+#[inline(always)]
+pub fn serialize_with<A: Allocator + Drop, S: Writer, T: Serialize<S>>(
+    alloc: A,
+    value: &T,
+    serializer: &mut S,
+) -> Result<usize, Error>
+    ensures serialized { IfOk result (OneStored T.Archive T.Archived.Portable value.now S.Keys serializer) }
+    ensures ends { IfOk result (λ p. p + T.Archived.layout.size ≡ length (S.state serializer.new).bytes) }
+    ensures goes_on { GoesOn (S.state serializer.old) (S.state serializer.new) }
+    ensures refused { IfErr result (OneUnstored T.Archive T.Archived.Portable value.now S.Keys serializer) }
+{
+    let resolver = match value.serialize(serializer) {
+        Ok(resolver) => resolver,
+        Err(error) => return Err(by_words(error)),
+    };
+    serializer.align_for::<T::Archived>()?;
+    serializer.resolve_aligned(alloc, value, resolver)
+}
+
+/// Writes what `value` owns and then the value as a region of its own, at the next multiple of its alignment, and answers the region's position, in
+/// bytes from the first one. It asks nothing. Refused as the value's serialization or its resolving refuses, with `LayoutTooLarge`, 23, where the
+/// region would end above `usize::MAX`, with `OutOfMemory`, 1, where memory is refused, or as the writer refuses (`BufferOverflow`, 8;
+/// `WriterFailed`, 9). After a refusal, too, the bytes from before are a beginning of those that `serializer` holds, and known keys keep their
+/// states. Our own: rkyv 0.8.18 has it as `SerializeUnsized` of a value.
+#[inline(always)]
+pub fn serialize_one<S: Writer + ResolverAlloc, T: Serialize<S>>(
+    value: &T,
+    serializer: &mut S,
+) -> Result<usize, Error>
+    ensures serialized { IfOk result (OneStored T.Archive T.Archived.Portable value.now S.Keys serializer) }
+    ensures ends { IfOk result (λ p. p + T.Archived.layout.size ≡ length (S.state serializer.new).bytes) }
+    ensures goes_on { GoesOn (S.state serializer.old) (S.state serializer.new) }
+    ensures refused { IfErr result (OneUnstored T.Archive T.Archived.Portable value.now S.Keys serializer) }
+{
+    let alloc = serializer.resolver_alloc();
+    serialize_with(alloc, value, serializer)
+}

@@ -1,0 +1,51 @@
+//! Shared values: each is written once, and its key answers where.
+
+ghost use Rattle.std.specs.Prelude.{◌≡◌, ◌⊎◌, None, Option, Some, ℕ, IfOk, IfErr, OnErr};
+ghost use Rattle.archive_check.specs.WriterState.{KeepsBytes, KeepsKeys};
+ghost use Rattle.archive_types.specs.Causes.{Explains, HindersShared, HindersRegion, RegionReaches};
+ghost use Rattle.archive_types.specs.Plans.{cursor, begun, SerializedShared};
+ghost use Rattle.archive_types.specs.SharedWriting.{IsUnchangedIfKnown, IsUnfinished, StoresIfUnknown, UnstoredUnder};
+ghost use Rattle.archive_write.specs.Sharing.{known_answer};
+ghost use Rattle.archive_write.specs.Written.{GoesOn};
+
+use crate::traits::SerializeUnsized;
+use archive_check::format::error::Error;
+use archive_write::ser::Writer;
+pub use archive_write::sharing::{Share, Sharing, SharingState};
+
+/// What everything that writes and keeps shared keys can do besides. As in rkyv 0.8.18, with a key in place of an address.
+pub trait SharingExt: Sharing + Writer {
+    /// Writes `value` where `key` is unknown, finishes the key there and answers the position, in bytes from the first one; of a finished key
+    /// answers the kept position and writes nothing, whatever `value` is: a key should name one value, and nothing tests it. Refused with
+    /// `CyclicSerialize`, 11, where the key is pending, so that its value holds itself; nothing changes then. Else refused with `OutOfMemory`, 1,
+    /// where memory is refused, or as the value and the writer refuse; the key is then unknown or pending. Never refused with `NotStarted`, 14, or
+    /// `AlreadyFinished`, 15.
+    #[tactic(auto, using(crate::proofs::Causes::goes_nowhere))]
+    final fn serialize_shared<T: SerializeUnsized<Self>>(
+        &mut self,
+        key: u64,
+        value: &T,
+    ) -> Result<usize, Error>
+    where
+        Self: Sized,
+        ensures known { (s : Option ℕ) → (Self.state self.old).states key ≡ Some s → result ≡ known_answer s }
+        ensures unchanged { IsUnchangedIfKnown key Self.Keys self }
+        ensures serialized { StoresIfUnknown key T.ArchiveUnsized T.Archived.ArchivePointee value.now Self.Keys self result }
+        ensures goes_on { GoesOn (Self.state self.old) (Self.state self.new) }
+        ensures refused { IfErr result (UnstoredUnder key T.ArchiveUnsized T.Archived.ArchivePointee value.now Self.Keys self) }
+        ensures finished { IfOk result (λ p. (Self.state self.new).states key ≡ Some (Some p)) }
+        ensures unfinished { OnErr result (IsUnfinished key Self.Keys self) }
+    {
+        match self.start_sharing(key)? {
+            SharingState::Started => {
+                let pos = value.serialize_unsized(self)?;
+                self.finish_sharing(key, pos)?;
+                Ok(pos)
+            }
+            SharingState::Pending => Err(Error::CyclicSerialize),
+            SharingState::Finished(pos) => Ok(pos),
+        }
+    }
+}
+
+impl<S: Sharing + Writer> SharingExt for S {}

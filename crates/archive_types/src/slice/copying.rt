@@ -1,0 +1,218 @@
+// Slices of values that are copied: their bytes are written a piece at a time.
+
+ghost use Rattle.std.specs.Prelude.{◌≡◌, ◌+◌, ◌*◌, ◌^◌, ◌++◌, ◌<◌, ◌≤◌, IfOk, OnOk, IfErr, IsOk, IsErrOf, IsTrue, length, None};
+ghost use Rattle.archive_check.specs.WriterState.{KeepsKeys};
+ghost use Rattle.archive_types.specs.Copies.{each_bytes, copies_from};
+ghost use Rattle.archive_types.specs.KindsWritten.{OwnsNothingAs};
+ghost use Rattle.archive_types.specs.Sources.{CopiesStored, CopiesStoredIf, CopiesUnstored, CopiesInBulkIf, CopiesNotInBulk};
+ghost use Rattle.archive_write.specs.Written.{GoesOn};
+ghost use Rattle.archive_types.specs.CopiesWritten.{AllCopied, PiecesUnwritten, CopyRefused, CopiesRefused, Takes, AddedAligned};
+ghost use Rattle.archive_types.specs.Placed.{BytesAdded, WriteRefused};
+
+use crate::ser::run_fits;
+use crate::traits::{Copied, Keys};
+use archive_check::format::error::Error;
+use archive_write::ser::{Writer, WriterExt};
+
+/// As many bytes as are written at once, at most, and as a value has that is copied.
+pub(crate) const PIECE: usize = 1024;
+
+/// As many bytes as values have whose buffer is cleared for them alone: one of `PIECE` bytes would take most of their time.
+const SHORT: usize = 64;
+
+// Writes the bytes of values, which take no more than `bytes`. Nothing is written where they have none.
+#[tactic(auto, using(crate::proofs::Causes::goes_written, crate::proofs::Causes::goes_refused, crate::proofs::Causes::goes_nowhere))]
+#[inline(always)]
+fn write_piece<W: Writer, T: Copied>(
+    values: &[T],
+    bytes: &mut [u8],
+    writer: &mut W,
+) -> Result<(), Error>
+    requires sized { length bytes.old ≡ length values.now * T.CopiedAs.layout.size }
+    ensures copied { OnOk result (BytesAdded (each_bytes T.copied_bytes values.now) W.Keys writer) }
+    ensures read { AllCopied T.CopiedAs.Portable T.CopiedAs.layout.size T.copied_meaning T.copied_bytes values.now }
+    ensures goes_on { GoesOn (W.state writer.old) (W.state writer.new) }
+    ensures refused { IfErr result (WriteRefused (length values.now * T.CopiedAs.layout.size) W.position W.Keys writer) }
+    ensures memory { IsErrOf result Error.OutOfMemory → IsTrue W.takes_memory }
+    ensures keys { KeepsKeys (W.state writer.old).states (W.state writer.new).states }
+{
+    T::copy_into(values, bytes);
+    if bytes.is_empty() {
+        return Ok(());
+    }
+    writer.write(bytes)
+}
+
+// How many values of so many bytes are written at once, of `count` that are left: as many times `together` as fit `room` bytes.
+#[tactic(auto, using(crate::proofs::Copies::fits_piece, crate::proofs::Copies::some_fit))]
+#[inline(always)]
+fn count_at_once(size: usize, together: usize, count: usize, room: usize) -> usize
+    requires joined { 0 < together }
+    requires small { together * size ≤ room }
+    requires some { 0 < count }
+    ensures some { 0 < result }
+    ensures few { result * size ≤ room }
+    ensures within { result ≤ count }
+{
+    if size == 0 {
+        return count;
+    }
+    count.min(room / (together * size) * together)
+}
+
+// Writes the bytes of values, which have so many each, as many times `together` of them at once as fit `N` bytes.
+#[inline(always)]
+fn copy_by<W: Writer, T: Copied, const N: usize>(
+    values: &[T],
+    size: usize,
+    together: usize,
+    writer: &mut W,
+) -> Result<(), Error>
+    requires same { size ≡ T.CopiedAs.layout.size }
+    requires joined { 0 < together }
+    requires small { together * size ≤ N }
+    requires few { N ≤ 1024 }
+    ensures copied { OnOk result (BytesAdded (each_bytes T.copied_bytes values.now) W.Keys writer) }
+    ensures read { OnOk result (AllCopied T.CopiedAs.Portable size T.copied_meaning T.copied_bytes values.now) }
+    ensures refused { IfErr result (PiecesUnwritten W.position W.Keys writer (length values.now * size)) }
+    ensures memory { IsErrOf result Error.OutOfMemory → IsTrue W.takes_memory }
+    ensures goes_on { GoesOn (W.state writer.old) (W.state writer.new) }
+    ensures keys { KeepsKeys (W.state writer.old).states (W.state writer.new).states }
+{
+    let mut piece = [0; N];
+    let mut rest = values;
+    while !rest.is_empty() {
+        let count = count_at_once(size, together, rest.len(), N);
+        let (now, later) = rest.split_at(count);
+        write_piece(now, &mut piece[..count * size], writer)?;
+        rest = later;
+    }
+    Ok(())
+}
+
+// Writes the bytes of values, which have so many each, as many times `together` of them at once as fit 1,024 bytes.
+#[inline(always)]
+fn copy_pieces<W: Writer, T: Copied>(
+    values: &[T],
+    size: usize,
+    together: usize,
+    writer: &mut W,
+) -> Result<(), Error>
+    requires same { size ≡ T.CopiedAs.layout.size }
+    requires joined { 0 < together }
+    requires small { together * size ≤ 1024 }
+    requires counted { length values.now * size < 2 ^ 64 }
+    ensures copied { OnOk result (BytesAdded (each_bytes T.copied_bytes values.now) W.Keys writer) }
+    ensures read { OnOk result (AllCopied T.CopiedAs.Portable size T.copied_meaning T.copied_bytes values.now) }
+    ensures refused { IfErr result (PiecesUnwritten W.position W.Keys writer (length values.now * size)) }
+    ensures memory { IsErrOf result Error.OutOfMemory → IsTrue W.takes_memory }
+    ensures goes_on { GoesOn (W.state writer.old) (W.state writer.new) }
+    ensures keys { KeepsKeys (W.state writer.old).states (W.state writer.new).states }
+{
+    if together * size <= SHORT && values.len() * size <= SHORT {
+        return copy_by::<W, T, SHORT>(values, size, together, writer);
+    }
+    copy_by::<W, T, PIECE>(values, size, together, writer)
+}
+
+// Writes the bytes of values as the next region, where the writer stands at a multiple of their alignment.
+#[inline(always)]
+fn copy_aligned<W: Writer, T: Copied>(
+    values: &[T],
+    size: usize,
+    together: usize,
+    writer: &mut W,
+) -> Result<usize, Error>
+    requires same { size ≡ T.CopiedAs.layout.size }
+    requires joined { 0 < together }
+    requires small { together * size ≤ 1024 }
+    ensures copied { OnOk result (BytesAdded (each_bytes T.copied_bytes values.now) W.Keys writer) }
+    ensures read { OnOk result (AllCopied T.CopiedAs.Portable size T.copied_meaning T.copied_bytes values.now) }
+    ensures position { IfOk result (λ p. p ≡ W.position writer.old) }
+    ensures refused { IfErr result (CopyRefused W.position W.Keys writer (length values.now * size)) }
+    ensures memory { IsErrOf result Error.OutOfMemory → IsTrue W.takes_memory }
+    ensures goes_on { GoesOn (W.state writer.old) (W.state writer.new) }
+    ensures keys { KeepsKeys (W.state writer.old).states (W.state writer.new).states }
+{
+    let pos = writer.pos();
+    if !run_fits(pos, values.len(), size) {
+        return Err(Error::LayoutTooLarge);
+    }
+    copy_pieces(values, size, together, writer)?;
+    Ok(pos)
+}
+
+// Writes zeros up to the values' alignment, and then the bytes of all, `together` of them always in one piece.
+#[inline(always)]
+fn copy_together<S: Writer + Keys, T: Copied>(
+    values: &[T],
+    size: usize,
+    together: usize,
+    serializer: &mut S,
+) -> Result<usize, Error>
+    requires same { size ≡ T.CopiedAs.layout.size }
+    requires owns_nothing { (v : T) → OwnsNothingAs T.CopiedAs.Portable (T.copied_keys v) (T.copied_meaning v) }
+    requires joined { 0 < together }
+    requires small { together * size ≤ 1024 }
+    ensures serialized { IfOk result (CopiesStored T.Copied T.CopiedAs.Portable values.now S.Keys serializer) }
+    ensures copied { OnOk result (AddedAligned T.CopiedAs.layout (each_bytes T.copied_bytes values.now) S.Keys serializer) }
+    ensures read { OnOk result (AllCopied T.CopiedAs.Portable size T.copied_meaning T.copied_bytes values.now) }
+    ensures position { IfOk result (λ p. p ≡ copies_from T.CopiedAs.layout (S.position serializer.old)) }
+    ensures goes_on { GoesOn (S.state serializer.old) (S.state serializer.new) }
+    ensures refused { IfErr result (CopiesUnstored T.Copied T.CopiedAs.Portable values.now S.Keys serializer) }
+    ensures cause { IfErr result (CopiesRefused S.position S.Keys serializer T.CopiedAs.layout (length values.now)) }
+    ensures memory { IsErrOf result Error.OutOfMemory → IsTrue S.takes_memory }
+    ensures succeeds { Takes S.position S.Keys serializer S.takes_memory T.CopiedAs.layout (length values.now) → IsOk result }
+    ensures keys { OnOk result (KeepsKeys (S.state serializer.old).states (S.state serializer.new).states) }
+{
+    serializer.align_for::<T::CopiedAs>()?;
+    copy_aligned(values, size, together, serializer)
+}
+
+/// Writes zeros up to the values' alignment, and then the bytes of all, one behind another, a piece of at most 1,024 bytes at a time; answers the region's
+/// position, in bytes from the first one. It asks nothing, and takes no memory of its own. Refused with `LayoutTooLarge`, 23, where the region would end
+/// above `usize::MAX`, or as the writer refuses (`OutOfMemory`, 1; `BufferOverflow`, 8; `WriterFailed`, 9), of a whole piece each time; so over a
+/// `Buffer` exactly where the bytes don't fit. After a refusal, too, the bytes from before are a beginning of those that `serializer` holds. rkyv
+/// 0.8.18 has it within `serialize_unsized` of a slice, and copies memory.
+#[inline(always)]
+pub fn copy_slice<S: Writer + Keys, T: Copied>(
+    values: &[T],
+    serializer: &mut S,
+) -> Result<usize, Error>
+    ensures serialized { IfOk result (CopiesStored T.Copied T.CopiedAs.Portable values.now S.Keys serializer) }
+    ensures copied { OnOk result (AddedAligned T.CopiedAs.layout (each_bytes T.copied_bytes values.now) S.Keys serializer) }
+    ensures position { IfOk result (λ p. p ≡ copies_from T.CopiedAs.layout (S.position serializer.old)) }
+    ensures goes_on { GoesOn (S.state serializer.old) (S.state serializer.new) }
+    ensures refused { IfErr result (CopiesUnstored T.Copied T.CopiedAs.Portable values.now S.Keys serializer) }
+    ensures cause { IfErr result (CopiesRefused S.position S.Keys serializer T.CopiedAs.layout (length values.now)) }
+    ensures memory { IsErrOf result Error.OutOfMemory → IsTrue S.takes_memory }
+    ensures succeeds { Takes S.position S.Keys serializer S.takes_memory T.CopiedAs.layout (length values.now) → IsOk result }
+{
+    let size = T::copied_size();
+    copy_together(values, size, 1, serializer)
+}
+
+/// The same, so many values `together` always in one piece: those of an array. Where these have more than 1,024 bytes, nothing is written, and no position
+/// is answered. An own type's `serialize_copied` is this call. Our own.
+#[tactic(auto, using(crate::proofs::Causes::goes_nowhere))]
+#[inline(always)]
+pub fn copy_groups<S: Writer + Keys, T: Copied>(
+    values: &[T],
+    together: usize,
+    serializer: &mut S,
+) -> Result<Option<usize>, Error>
+    ensures serialized { IfOk result (CopiesStoredIf T.Copied T.CopiedAs.Portable values.now S.Keys serializer) }
+    ensures in_bulk { IfOk result (CopiesInBulkIf T.Copied T.CopiedAs.Portable values.now S.Keys serializer) }
+    ensures untouched { IfOk result (λ o. o ≡ None → S.state serializer.new ≡ S.state serializer.old) }
+    ensures goes_on { GoesOn (S.state serializer.old) (S.state serializer.new) }
+    ensures refused { IfErr result (CopiesUnstored T.Copied T.CopiedAs.Portable values.now S.Keys serializer) }
+    ensures not_in_bulk { IfErr result (CopiesNotInBulk T.Copied T.CopiedAs.Portable values.now S.Keys serializer) }
+{
+    let size = T::copied_size();
+    let together = together.max(1);
+    if together.saturating_mul(size) > PIECE {
+        return Ok(None);
+    }
+    let pos = copy_together(values, size, together, serializer)?;
+    Ok(Some(pos))
+}

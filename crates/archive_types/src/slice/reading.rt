@@ -1,0 +1,72 @@
+// The elements of a slice are read back one after another.
+
+ghost use Rattle.std.specs.Prelude.{◌≡◌, length, IfOk, IfErr};
+ghost use Rattle.archive_check.specs.Shape.{run};
+ghost use Rattle.archive_check.specs.Value.{list};
+ghost use Rattle.archive_check.specs.Viewed.{Viewed};
+ghost use Rattle.archive_check.specs.Entries.{ReadsBack, RefusesReading};
+ghost use Rattle.archive_types.specs.ElementsRead.{ReadsEach, RefusesEach};
+ghost use Rattle.archive_types.specs.Runs.{each_meaning, each_keys};
+ghost use Rattle.archive_types.specs.Seen.{IsPartOf, RefusesPart};
+ghost use Rattle.archive_types.specs.Sources.{Read, AreElementsOf, ReadsElements, RefusesElements};
+ghost use Rattle.archive_types.specs.Views.{AreViewed};
+
+use super::ArchivedSlice;
+use super::iter::element_at;
+use crate::traits::{Archive, ArchivePointee, Deserialize, DeserializeUnsized, Entries, Portable};
+use crate::view::{RawView, Ref};
+use archive_check::format::error::Error;
+use std::alloc::Global;
+
+// The elements that stand at the position of `part`, so many, each read back; the list takes its memory at once.
+#[inline(always)]
+pub(crate) fn read_each<T: Portable + Deserialize<U, D>, U: Archive + Drop, D: Entries>(
+    alloc: Global,
+    part: RawView<'_>,
+    count: usize,
+    deserializer: &mut D,
+) -> Result<Vec<U>, Error>
+    requires { AreViewed T.definitions part.bytes.now part.pos T.layout.size T.pointee count }
+    ensures read { IfOk result (λ v. ReadsEach T.Portable count part D.Entries deserializer U.Archive v.items) }
+    ensures whole { IfOk result (λ v. length v.items ≡ count) }
+    ensures refused { IfErr result (RefusesEach T.Portable count part D.Entries deserializer) }
+{
+    let mut items = Vec::with_capacity(alloc, count)?;
+    for index in 0..count {
+        let element: Ref<'_, T> = element_at(part, index);
+        let item = T::deserialize_part(alloc, element.part(), deserializer)?;
+        items.push_reserved(item);
+    }
+    Ok(items)
+}
+
+/// The elements, each read back; the list takes its memory at once.
+#[inline(always)]
+pub fn read_elements<T: Portable + Deserialize<U, D>, U: Archive + Drop, D: Entries>(
+    alloc: Global,
+    part: RawView<'_>,
+    deserializer: &mut D,
+) -> Result<Vec<U>, Error>
+    requires { AreElementsOf T.Portable part }
+    ensures read { IfOk result (λ v. ReadsElements T.Portable part D.Entries deserializer U.Archive v.items) }
+    ensures refused { IfErr result (RefusesElements T.Portable part D.Entries deserializer) }
+{
+    let count = part.len;
+    read_each::<T, U, D>(alloc, part, count, deserializer)
+}
+
+/// The elements, as a vector.
+impl<T: Portable + Deserialize<U, D>, U: Archive + Drop, D: Entries> DeserializeUnsized<Vec<U>, D>
+    for ArchivedSlice<T> {
+    fn deserialize_unsized_part(
+        alloc: Global,
+        part: RawView<'_>,
+        deserializer: &mut D,
+    ) -> Result<Vec<U>, Error>
+        requires { IsPartOf ⟦<Self as ArchivePointee>⟧ part }
+        ensures read { IfOk result (Read ⟦<Self as ArchivePointee>⟧ part D.Entries deserializer ⟦<Vec<U> as Archive>⟧) }
+        ensures refused { IfErr result (RefusesPart ⟦<Self as ArchivePointee>⟧ part D.Entries deserializer) }
+    {
+        read_elements::<T, U, D>(alloc, part, deserializer)
+    }
+}

@@ -1,0 +1,522 @@
+//! Strings and texts.
+
+ghost use Rattle.std.specs.Prelude.{◌≡◌, ◌++◌, ◌+◌, ◌<◌, ◌≤◌, ◌↔◌, ℕ, [], OnOk, IfOk, IfErr, IfSome, IsOk, IsErrOf, IsTrue, false, FitsSigned, length, refl, string_bytes};
+ghost use Rattle.std.specs.Int.{w32};
+ghost use Rattle.std.proofs.Common.{inl, inr};
+ghost use Rattle.archive_check.specs.Shape.{str as str_shape, boxed, one, text};
+ghost use Rattle.archive_check.specs.Definitions.{no_definition};
+ghost use Rattle.archive_check.specs.LeafLayout.{no_definition_reached};
+ghost use Rattle.archive_check.specs.SelfCheck.Laws.{plain_check};
+ghost use Rattle.archive_check.specs.SelfCheck.Owners.{text_check};
+ghost use Rattle.archive_check.specs.Reads.{bytes_at, u32_at, i32_at, IsOutOfLine, decoded_length};
+ghost use Rattle.archive_check.specs.Readable.{string_text};
+ghost use Rattle.archive_check.specs.Value.{text_value};
+ghost use Rattle.archive_check.specs.Viewed.{Viewed, Says};
+ghost use Rattle.archive_check.specs.Entries.{ReadsBack};
+ghost use Rattle.archive_check.specs.declared.format.error.Error.TheVariants.{OutOfMemory, LengthTooLarge, StringTooLong};
+ghost use Rattle.archive_check.specs.WriterState.{KeepsKeys};
+ghost use Rattle.archive_write.specs.Written.{GoesOn};
+ghost use Rattle.archive_types.specs.Causes.{HindersAt, IsRefused, IsRegionRefused};
+ghost use Rattle.archive_types.specs.Keyed.{text_keyed};
+ghost use Rattle.archive_types.specs.KindsWritten.{TextStored, TextUnstored, NoTextSince, StringSerialized, StringRefused, NoStringSince, StringResolved, StringHindered};
+ghost use Rattle.archive_types.specs.Offsets.{distance, IsTooFar};
+ghost use Rattle.archive_types.specs.Placed.{IsTooFarFrom, AtOnce, Added};
+ghost use Rattle.archive_types.specs.Planned.{string_planned, text_planned};
+ghost use Rattle.archive_types.specs.PlannedOwners.{is_long, one_planned};
+ghost use Rattle.archive_types.specs.Plans.{Serialized, SerializedRegion};
+ghost use Rattle.archive_types.specs.Seen.{ShowsValue, IsPartOf};
+ghost use Rattle.archive_types.specs.Sources.{Read};
+ghost use Rattle.archive_types.specs.Strings.{string_form, string_flat};
+ghost use Rattle.archive_types.specs.TextPlans.{HindersStringAt, ExplainsTextRefusal, ExplainsStringRefusal};
+ghost use Rattle.archive_types.specs.Writing.{Fresh, Resolves};
+
+pub mod repr;
+
+use crate::place::Place;
+use crate::primitive::ArchivedUsize;
+use crate::ser::serialize_one;
+use crate::traits::{
+    Archive, ArchivePointee, ArchiveUnsized, Deserialize, DeserializeUnsized, Entries, Keys,
+    LayoutRaw, Portable, PortablePointee, Serialize, SerializeUnsized,
+};
+use crate::view::{RawView, Ref};
+use archive_check::format::bytes::{
+    inline_length, is_out_of_line, read_coded_length, read_i32, read_position, read_text, read_u32,
+};
+use archive_check::format::error::Error;
+use archive_check::format::layout::Layout;
+use archive_check::self_check::{BoxStrCheck, StringCheck};
+use archive_check::shape::{Defs, Expr, Pointee};
+use archive_write::ser::{ResolverAlloc, Writer};
+use std::alloc::Global;
+use std::marker::Model;
+
+/// An archived string: eight bytes at a multiple of four, which hold a text of at most eight bytes or say where a longer one stands. As in rkyv
+/// 0.8.18.
+#[derive(Clone, Copy, Debug)]
+pub struct ArchivedString {
+    _private: (),
+}
+
+/// An archived text in a region of its own. It stands where rkyv 0.8.18 has an archived `str`.
+#[derive(Clone, Copy, Debug)]
+pub struct ArchivedStr {
+    _private: (),
+}
+
+/// A borrowed text, as a source. It stands where rkyv 0.8.18 has `str`.
+#[derive(Clone, Copy, Debug)]
+pub struct Text<'a> {
+    /// The text.
+    pub text: &'a str,
+}
+
+/// Where a long text was written, in bytes from the first one; 0 for a short one. In a contract it is that position. As in rkyv 0.8.18.
+#[derive(Clone, Copy, Debug)]
+pub struct StringResolver {
+    pos: u32,
+}
+
+impl Model for StringResolver {
+    ghost Value = { ℕ };
+
+    ghost view = { λ r. r.pos };
+
+    ghost inverse = { λ n. record { pos = n } };
+}
+
+impl ArchivePointee for ArchivedString {
+    type ArchivedMetadata = ();
+
+    ghost pointee = { one str_shape };
+
+    ghost definitions = { no_definition };
+
+    ghost metadata_length = { λ _. 0 };
+
+    fn pointer_metadata(_metadata: &()) -> usize {
+        0
+    }
+}
+
+impl Portable for ArchivedString {
+    ghost shape = { str_shape };
+
+    ghost layout = { record { size = 8; align = 4 } };
+
+    type Check = StringCheck;
+
+    ghost is_one = { refl };
+
+    ghost is_align = { inr (inr (inl refl)) };
+
+    ghost has_layout = { record { solved = λ s k. refl } };
+
+    ghost no_others = { no_definition_reached str_shape };
+
+    ghost checks = { λ direct. plain_check str_shape 8 refl refl };
+
+    fn size() -> usize {
+        8
+    }
+
+    fn align() -> usize {
+        4
+    }
+
+    fn expr(_alloc: Global) -> Result<Expr, Error> {
+        Ok(Expr::Str)
+    }
+
+    fn define(_alloc: Global, _defs: &mut Defs) -> Result<(), Error> {
+        Ok(())
+    }
+}
+
+impl ArchivePointee for ArchivedStr {
+    type ArchivedMetadata = ArchivedUsize;
+
+    ghost pointee = { text };
+
+    ghost definitions = { no_definition };
+
+    ghost metadata_length = { λ n. n };
+
+    fn pointer_metadata(metadata: &ArchivedUsize) -> usize {
+        metadata.to_native() as usize
+    }
+}
+
+impl PortablePointee for ArchivedStr {
+    type BoxCheck = BoxStrCheck;
+
+    ghost box_reaches = { no_definition_reached (boxed text) };
+
+    ghost box_checks = { λ direct. text_check };
+
+    fn has_length() -> bool {
+        true
+    }
+
+    fn pointee_expr(_alloc: Global) -> Result<Pointee, Error> {
+        Ok(Pointee::Text)
+    }
+
+    fn define_pointee(_alloc: Global, _defs: &mut Defs) -> Result<(), Error> {
+        Ok(())
+    }
+}
+
+impl LayoutRaw for ArchivedStr {
+    fn layout_raw(length: usize) -> Result<Layout, Error> {
+        Ok(Layout {
+            size: length,
+            align: 1,
+        })
+    }
+}
+
+impl<'a> ArchiveUnsized for Text<'a> {
+    type Archived = ArchivedStr;
+
+    ghost source_length = { λ t. length t.text.now };
+
+    ghost meaning = { λ t. text_value t.text.now };
+
+    ghost keys = { λ _. [] };
+
+    ghost keyed = { λ t. text_keyed t.text.now };
+
+    ghost one_length = { λ t e. is_long e };
+
+    ghost planned = { λ t. text_planned no_definition [] t.text.now };
+
+    fn archived_metadata(&self) -> Result<ArchivedUsize, Error> {
+        let Ok(len) = u32::try_from(self.text.len()) else {
+            return Err(Error::LengthTooLarge);
+        };
+        Ok(ArchivedUsize::from_native(len))
+    }
+}
+
+impl<'a, S: Writer + Keys> SerializeUnsized<S> for Text<'a> {
+    #[tactic(auto, using(crate::proofs::Planned::serialized_text, crate::proofs::Planned::text_refused, crate::proofs::Planned::long_text_refused, crate::proofs::Causes::goes_nowhere, crate::proofs::Causes::goes_written, crate::proofs::Causes::goes_refused))]
+    #[inline(always)]
+    fn serialize_unsized(&self, serializer: &mut S) -> Result<usize, Error>
+        ensures serialized { IfOk result (TextStored self.now.text.now S.Keys serializer) }
+        ensures goes_on { GoesOn (S.state serializer.old) (S.state serializer.new) }
+        ensures refused { IfErr result (TextUnstored self.now.text.now S.Keys serializer) }
+        ensures there { IfOk result (λ p. p ≡ length (S.state serializer.old).bytes) }
+        ensures text { OnOk result ((S.state serializer.new).bytes ≡ (S.state serializer.old).bytes ++ self.now.text.now) }
+        ensures keys { KeepsKeys (S.state serializer.old).states (S.state serializer.new).states }
+        ensures too_long { 4294967295 < length self.now.text.now → AtOnce result LengthTooLarge S.Keys serializer }
+        ensures cause { IfErr result (NoTextSince self.now.text.now S.position S.Keys serializer) }
+    {
+        if let Err(error) = self.archived_metadata() {
+            return Err(error);
+        }
+        let pos = serializer.pos();
+        serializer.write(self.text.as_bytes())?;
+        Ok(pos)
+    }
+}
+
+impl<D: Entries> DeserializeUnsized<String, D> for ArchivedStr {
+    fn deserialize_unsized_part(
+        alloc: Global,
+        part: RawView<'_>,
+        _deserializer: &mut D,
+    ) -> Result<String, Error>
+        requires { IsPartOf ⟦<Self as ArchivePointee>⟧ part }
+        ensures read { IfOk result (Read ⟦<Self as ArchivePointee>⟧ part D.Entries _deserializer ⟦<String as Archive>⟧) }
+        ensures text { IfOk result (λ s. string_bytes s ≡ bytes_at part.entry.bytes.now part.entry.pos part.entry.len) }
+        ensures unchanged { D.entry_of _deserializer.new ≡ D.entry_of _deserializer.old }
+        ensures refused { IfErr result (λ e. e ≡ OutOfMemory) }
+    {
+        let view: Ref<'_, ArchivedStr> = Ref::at(part);
+        Ok(String::from_str(alloc, view.as_str())?)
+    }
+}
+
+impl ArchivedString {
+    /// Writes the text, if it is longer than eight bytes, and answers where. It asks nothing. Refused with `StringTooLong`, 7, exactly where it is
+    /// longer than 1,073,741,823 bytes, before anything is written, with `PositionTooLarge`, 4, where it was written above position 4,294,967,295, or
+    /// as the writer refuses (`OutOfMemory`, 1; `BufferOverflow`, 8; `WriterFailed`, 9). After a refusal, too, the bytes from before are a beginning
+    /// of those that `serializer` holds. rkyv 0.8.18 cuts such a position off.
+    #[tactic(auto, using(crate::proofs::Planned::serialized_inline, crate::proofs::Planned::serialized_out_of_line, crate::proofs::Planned::string_refused, crate::proofs::Planned::long_string_refused, crate::proofs::Planned::far_string_refused, crate::proofs::Causes::goes_nowhere))]
+    #[inline(always)]
+    pub fn serialize_from_str<S: Writer + Keys>(
+        value: &str,
+        serializer: &mut S,
+    ) -> Result<StringResolver, Error>
+        ensures serialized { IfOk result (StringSerialized value.now S.Keys serializer) }
+        ensures held { OnOk result (length value.now ≤ 1073741823) }
+        ensures goes_on { GoesOn (S.state serializer.old) (S.state serializer.new) }
+        ensures refused { IfErr result (StringRefused value.now S.Keys serializer) }
+        ensures inline { length value.now ≤ 8 → IsOk result × (S.state serializer.new ≡ S.state serializer.old) }
+        ensures too_long { 1073741823 < length value.now → AtOnce result StringTooLong S.Keys serializer }
+        ensures near { 8 < length value.now → OnOk result (length (S.state serializer.old).bytes ≤ 4294967295) }
+        ensures elsewhere { 8 < length value.now → IfOk result (Added value.now S.Keys serializer) }
+        ensures keys { KeepsKeys (S.state serializer.old).states (S.state serializer.new).states }
+        ensures cause { IfErr result (NoStringSince value.now S.position S.Keys serializer) }
+    {
+        if value.len() <= repr::INLINE_CAPACITY {
+            return Ok(StringResolver { pos: 0 });
+        }
+        if value.len() > repr::OUT_OF_LINE_CAPACITY {
+            return Err(Error::StringTooLong);
+        }
+        let pos = Text { text: value }.serialize_unsized(serializer)?;
+        let Ok(pos) = u32::try_from(pos) else {
+            return Err(Error::PositionTooLarge);
+        };
+        Ok(StringResolver { pos })
+    }
+
+    /// Writes the string's bytes over those of `place`. Asks that these are eight, and that `value` has at most 1,073,741,823 bytes; `resolver` should
+    /// be the answer of `serialize_from_str` for it. Refused with `IsizeOverflow`, 2, or `OffsetOverflow`, 3, exactly where the offset to a text of
+    /// more than eight bytes doesn't fit; they are then unchanged. rkyv 0.8.18 panics there.
+    #[tactic(auto, using(crate::proofs::StringsWritten::resolves_inline_flat, crate::proofs::StringsWritten::resolves_out_of_line_flat))]
+    #[inline(always)]
+    pub fn resolve_from_str(
+        value: &str,
+        resolver: StringResolver,
+        place: Place<'_, ArchivedString>,
+    ) -> Result<(), Error>
+        requires sized { length place.bytes.now ≡ 8 }
+        requires held { length value.now ≤ 1073741823 }
+        ensures resolved { OnOk result (StringResolved value.now place resolver) }
+        ensures written { OnOk result (place.exit.0.now ≡ string_form value.now place.entry.pos resolver) }
+        ensures inline { length value.now ≤ 8 → IsOk result }
+        ensures fits { 8 < length value.now → OnOk result (FitsSigned w32 (distance place.entry.pos resolver)) }
+        ensures refused { IfErr result (IsTooFarFrom place resolver) }
+        ensures same_length { length place.exit.0.now ≡ length place.entry.bytes.now }
+    {
+        let Place { bytes, pos, .. } = place;
+        if value.len() <= repr::INLINE_CAPACITY {
+            repr::emplace_inline(value, bytes);
+            return Ok(());
+        }
+        repr::try_emplace_out_of_line(value, pos, resolver.pos as usize, bytes)
+    }
+}
+
+impl Archive for String {
+    type Archived = ArchivedString;
+
+    type Resolver = StringResolver;
+
+    ghost meaning = { λ s. text_value (string_bytes s) };
+
+    ghost flat = { λ s r. string_flat (string_bytes s) r };
+
+    ghost keys = { λ _. [] };
+
+    ghost belongs = { λ s _. length (string_bytes s) ≤ 1073741823 };
+
+    ghost keyed = { λ s. text_keyed (string_bytes s) };
+
+    ghost planned = { λ s. string_planned no_definition [] (string_bytes s) };
+
+    #[inline(always)]
+    fn resolve(
+        &self,
+        resolver: StringResolver,
+        place: Place<'_, ArchivedString>,
+    ) -> Result<(), Error>
+        requires fresh { Fresh 8 place.pos place.bytes.now }
+        requires same_value { length (string_bytes self.now) ≤ 1073741823 }
+        ensures resolved { OnOk result (StringResolved (string_bytes self.now) place resolver) }
+        ensures same_length { length place.exit.0.now ≡ length place.entry.bytes.now }
+        ensures refused { IfErr result (StringHindered (string_bytes self.now) place resolver) }
+        ensures cause { IfErr result (HindersStringAt (string_bytes self.now) resolver place.entry.pos) }
+        ensures written { OnOk result (place.exit.0.now ≡ string_form (string_bytes self.now) place.entry.pos resolver) }
+        ensures inline { length (string_bytes self.now) ≤ 8 → IsOk result }
+    {
+        let Place { bytes, pos, .. } = place;
+        ArchivedString::resolve_from_str(self.as_str(), resolver, Place::new(pos, bytes))
+    }
+}
+
+impl<S: Writer + Keys> Serialize<S> for String {
+    #[inline(always)]
+    fn serialize(&self, serializer: &mut S) -> Result<StringResolver, Error>
+        ensures serialized { IfOk result (StringSerialized (string_bytes self.now) S.Keys serializer) }
+        ensures same_value { OnOk result (length (string_bytes self.now) ≤ 1073741823) }
+        ensures goes_on { GoesOn (S.state serializer.old) (S.state serializer.new) }
+        ensures refused { IfErr result (StringRefused (string_bytes self.now) S.Keys serializer) }
+        ensures keys { KeepsKeys (S.state serializer.old).states (S.state serializer.new).states }
+        ensures inline { length (string_bytes self.now) ≤ 8 → IsOk result × (S.state serializer.new ≡ S.state serializer.old) }
+        ensures too_long { 1073741823 < length (string_bytes self.now) → AtOnce result StringTooLong S.Keys serializer }
+        ensures elsewhere { 8 < length (string_bytes self.now) → IfOk result (Added (string_bytes self.now) S.Keys serializer) }
+        ensures cause { IfErr result (NoStringSince (string_bytes self.now) S.position S.Keys serializer) }
+    {
+        ArchivedString::serialize_from_str(self.as_str(), serializer)
+    }
+}
+
+/// As a region of its own.
+impl ArchiveUnsized for String {
+    type Archived = ArchivedString;
+
+    ghost source_length = { λ _. 0 };
+
+    ghost meaning = { λ s. text_value (string_bytes s) };
+
+    ghost keys = { λ _. [] };
+
+    ghost keyed = { λ s. text_keyed (string_bytes s) };
+
+    ghost one_length = { λ _ _. refl };
+
+    ghost planned = { λ s. one_planned no_definition str_shape [] (text_value (string_bytes s)) (string_planned no_definition [] (string_bytes s)) };
+
+    fn archived_metadata(&self) -> Result<(), Error> {
+        Ok(())
+    }
+}
+
+impl<S: Writer + ResolverAlloc> SerializeUnsized<S> for String {
+    fn serialize_unsized(&self, serializer: &mut S) -> Result<usize, Error> {
+        serialize_one(self, serializer)
+    }
+}
+
+impl<D: Entries> Deserialize<String, D> for ArchivedString {
+    #[inline(always)]
+    fn deserialize_part(
+        alloc: Global,
+        part: RawView<'_>,
+        _deserializer: &mut D,
+    ) -> Result<String, Error>
+        requires { IsPartOf ⟦<Self as ArchivePointee>⟧ part }
+        ensures read { IfOk result (Read ⟦<Self as ArchivePointee>⟧ part D.Entries _deserializer ⟦<String as Archive>⟧) }
+        ensures text { IfOk result (λ s. string_bytes s ≡ string_text part.entry.bytes.now part.entry.pos) }
+        ensures unchanged { D.entry_of _deserializer.new ≡ D.entry_of _deserializer.old }
+        ensures refused { IfErr result (λ e. e ≡ OutOfMemory) }
+    {
+        let view: Ref<'_, ArchivedString> = Ref::at(part);
+        Ok(String::from_str(alloc, view.as_str())?)
+    }
+}
+
+impl<'a> Ref<'a, ArchivedStr> {
+    /// The text.
+    pub fn as_str(self) -> &'a str
+        ensures text { result.now ≡ bytes_at self.entry.bytes.now self.entry.pos self.entry.len }
+        ensures says { ShowsValue self.entry (text_value result.now) }
+    {
+        let RawView { bytes, pos, len } = self.part();
+        read_text(bytes, pos, len)
+    }
+
+    /// The text's bytes.
+    pub fn as_bytes(self) -> &'a [u8]
+        ensures { result.now ≡ bytes_at self.entry.bytes.now self.entry.pos self.entry.len }
+    {
+        self.as_str().as_bytes()
+    }
+
+    /// How many bytes the text has.
+    pub fn len(self) -> usize
+        ensures { result ≡ self.entry.len }
+    {
+        self.part().len
+    }
+
+    /// Whether it has none.
+    pub fn is_empty(self) -> bool
+        ensures { IsTrue result ↔ (self.entry.len ≡ 0) }
+    {
+        self.len() == 0
+    }
+}
+
+// Whether the length that this number codes is sixteen or more.
+#[tactic(auto, unfolding(archive_check::specs::Reads::decoded_length))]
+#[inline(always)]
+fn codes_sixteen(code: u32) -> bool
+    ensures { IsTrue result ↔ (16 ≤ decoded_length code) }
+{
+    code % 64 >= 16 || code >= 256
+}
+
+impl<'a> Ref<'a, ArchivedString> {
+    /// The text, wherever it stands.
+    pub fn as_str(self) -> &'a str
+        ensures text { result.now ≡ string_text self.entry.bytes.now self.entry.pos }
+        ensures says { ShowsValue self.entry (text_value result.now) }
+    {
+        let RawView { bytes, pos, .. } = self.part();
+        if is_out_of_line(bytes, pos) {
+            return self.text_elsewhere();
+        }
+        read_text(bytes, pos, inline_length(bytes, pos))
+    }
+
+    // The text of a string that says that it stands elsewhere.
+    #[inline(always)]
+    fn text_elsewhere(self) -> &'a str
+        requires { IsOutOfLine self.bytes.now self.pos }
+        ensures text { result.now ≡ string_text self.entry.bytes.now self.entry.pos }
+        ensures length { length result.now ≡ decoded_length (u32_at self.entry.bytes.now self.entry.pos) }
+        ensures says { ShowsValue self.entry (text_value result.now) }
+    {
+        let RawView { bytes, pos, .. } = self.part();
+        let target = read_position(bytes, pos, pos + 4) as usize;
+        read_text(bytes, target, read_coded_length(bytes, pos))
+    }
+
+    // The text, where it stands elsewhere and has sixteen bytes or more: no length is decoded to tell this.
+    #[inline(always)]
+    pub(crate) fn long_text(self) -> Option<&'a str>
+        ensures long { IfSome result (λ t. 16 ≤ length t.now) }
+        ensures text { IfSome result (λ t. t.now ≡ string_text self.entry.bytes.now self.entry.pos) }
+    {
+        let RawView { bytes, pos, .. } = self.part();
+        if is_out_of_line(bytes, pos) && codes_sixteen(read_u32(bytes, pos)) {
+            return Some(self.text_elsewhere());
+        }
+        None
+    }
+
+    /// How many bytes the text has.
+    pub fn len(self) -> usize
+        ensures { result ≡ length (string_text self.entry.bytes.now self.entry.pos) }
+    {
+        self.as_str().len()
+    }
+
+    /// Whether it has none.
+    pub fn is_empty(self) -> bool
+        ensures { IsTrue result ↔ (length (string_text self.entry.bytes.now self.entry.pos) ≡ 0) }
+    {
+        self.len() == 0
+    }
+
+    /// The text's bytes, wherever they stand. As in rkyv 0.8.18.
+    pub fn as_bytes(self) -> &'a [u8]
+        ensures { result.now ≡ string_text self.entry.bytes.now self.entry.pos }
+    {
+        self.as_str().as_bytes()
+    }
+
+    /// Whether the text stands in the string's eight bytes. As in rkyv 0.8.18.
+    pub fn is_inline(self) -> bool
+        ensures here { IsTrue result → ¬ IsOutOfLine self.entry.bytes.now self.entry.pos }
+        ensures elsewhere { result ≡ false → IsOutOfLine self.entry.bytes.now self.entry.pos }
+    {
+        let RawView { bytes, pos, .. } = self.part();
+        !is_out_of_line(bytes, pos)
+    }
+
+    /// How far it is to the text, in bytes from the string's first one. Asks that the text stands elsewhere, as where `is_inline` answers false. As in
+    /// rkyv 0.8.18.
+    pub fn out_of_line_offset(self) -> isize
+        requires { IsOutOfLine self.bytes.now self.pos }
+        ensures { result ≡ i32_at self.entry.bytes.now (self.entry.pos + 4) }
+    {
+        let RawView { bytes, pos, .. } = self.part();
+        read_i32(bytes, pos + 4) as isize
+    }
+}

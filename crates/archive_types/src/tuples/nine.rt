@@ -1,0 +1,224 @@
+// Tuples of nine.
+
+ghost use Rattle.std.specs.Prelude.{◌≡◌, length, OnOk, IfErr, refl};
+ghost use Rattle.std.proofs.Common.{rules};
+ghost use Rattle.archive_check.specs.Value.{product};
+ghost use Rattle.archive_types.specs.PartsPlanned.{whole_planned, whole_keyed};
+ghost use Rattle.archive_types.specs.PlannedOwners.{one_planned};
+ghost use Rattle.archive_types.specs.Sources.{ResolvedAs, HinderedAs};
+ghost use Rattle.archive_types.specs.Writing.{Fresh};
+
+use super::parts::{Part0, Part1, Part2, Part3, Part4, Part5, Part6, Part7, Part8, Parts9};
+use crate::parts::FromParts;
+use crate::parts::{PartOf, SerializeParts, SourceParts};
+use crate::place::Place;
+use crate::record::{resolve_record, serialize_record};
+use crate::ser::serialize_one;
+use crate::traits::{
+    Archive, ArchiveUnsized, FourParts, Keys, Portable, Serialize, SerializeUnsized,
+};
+use archive_check::format::error::Error;
+use archive_tuple::ArchivedTuple;
+use archive_write::ser::{ResolverAlloc, Writer};
+
+impl<A, B, C, D, E, F, G, H, I> Archive for (A, B, C, D, E, F, G, H, I)
+where
+    Parts9: SourceParts<Self>,
+{
+    type Archived = ArchivedTuple<<Parts9 as SourceParts<Self>>::Archived>;
+
+    type Resolver = <Parts9 as SourceParts<Self>>::Resolvers;
+
+    ghost meaning = { λ v. product (⟦<Parts9 as SourceParts<Self>>⟧.meanings v) };
+
+    ghost flat = { λ v r. product (⟦<Parts9 as SourceParts<Self>>⟧.flats v r) };
+
+    ghost keys = { λ v. ⟦<Parts9 as SourceParts<Self>>⟧.keys v };
+
+    ghost belongs = { λ v r. ⟦<Parts9 as SourceParts<Self>>⟧.belongs v r };
+
+    ghost keyed = { whole_keyed ⟦<Parts9 as SourceParts<Self>>⟧.keys ⟦<Parts9 as SourceParts<Self>>⟧.meanings (Prim.search rules) };
+
+    ghost planned = { whole_planned ⟦<Parts9 as SourceParts<Self>>⟧.keys ⟦<Parts9 as SourceParts<Self>>⟧.meanings (Prim.search rules) };
+
+    fn resolve(
+        &self,
+        resolver: Self::Resolver,
+        place: Place<'_, Self::Archived>,
+    ) -> Result<(), Error>
+        requires fresh { Fresh ⟦<Self::Archived as Portable>⟧.layout.size place.pos place.bytes.now }
+        requires same_value { ⟦<Self as Archive>⟧.belongs self.now resolver }
+        ensures resolved { OnOk result (ResolvedAs ⟦<Self as Archive>⟧ ⟦<Self::Archived as Portable>⟧ place self.now resolver) }
+        ensures same_length { length place.exit.0.now ≡ length place.entry.bytes.now }
+        ensures refused { IfErr result (HinderedAs ⟦<Self as Archive>⟧ ⟦<Self::Archived as Portable>⟧ place self.now resolver) }
+    {
+        let Place { bytes, pos, .. } = place;
+        resolve_record::<Self, Parts9, Self::Archived>(self, resolver, Place::new(pos, bytes))
+    }
+}
+
+impl<A, B, C, D, E, F, G, H, I, S: Writer + Keys> Serialize<S> for (A, B, C, D, E, F, G, H, I)
+where
+    Parts9: SerializeParts<Self, S>,
+{
+    fn serialize(&self, serializer: &mut S) -> Result<Self::Resolver, Error> {
+        serialize_record::<Self, Parts9, Self::Archived, S>(self, serializer)
+    }
+}
+
+/// As a region of its own: the tuple itself, as one value.
+impl<A, B, C, D, E, F, G, H, I> ArchiveUnsized for (A, B, C, D, E, F, G, H, I)
+where
+    Parts9: SourceParts<Self>,
+{
+    type Archived = ArchivedTuple<<Parts9 as SourceParts<Self>>::Archived>;
+
+    ghost source_length = { λ _. 0 };
+
+    ghost meaning = { λ v. product (⟦<Parts9 as SourceParts<Self>>⟧.meanings v) };
+
+    ghost keys = { λ v. ⟦<Parts9 as SourceParts<Self>>⟧.keys v };
+
+    ghost keyed = { whole_keyed ⟦<Parts9 as SourceParts<Self>>⟧.keys ⟦<Parts9 as SourceParts<Self>>⟧.meanings (Prim.search rules) };
+
+    ghost one_length = { λ _ _. refl };
+
+    ghost planned = { λ v. one_planned _ _ _ _ (whole_planned ⟦<Parts9 as SourceParts<Self>>⟧.keys ⟦<Parts9 as SourceParts<Self>>⟧.meanings (Prim.search rules) v) };
+
+    fn archived_metadata(&self) -> Result<(), Error> {
+        Ok(())
+    }
+}
+
+impl<A, B, C, D, E, F, G, H, I, S: Writer + ResolverAlloc> SerializeUnsized<S>
+    for (A, B, C, D, E, F, G, H, I)
+where
+    Parts9: SerializeParts<Self, S>,
+{
+    fn serialize_unsized(&self, serializer: &mut S) -> Result<usize, Error> {
+        serialize_one(self, serializer)
+    }
+}
+
+impl<
+    A: Archive + Drop,
+    B: Archive + Drop,
+    C: Archive + Drop,
+    D: Archive + Drop,
+    E: Archive + Drop,
+    F: Archive + Drop,
+    G: Archive + Drop,
+    H: Archive + Drop,
+    I: Archive + Drop,
+> FromParts for (A, B, C, D, E, F, G, H, I) {
+    type Owned = FourParts<A, B, C, D, FourParts<E, F, G, H, (I, ())>>;
+
+    fn from_parts(values: Self::Owned) -> (A, B, C, D, E, F, G, H, I) {
+        let FourParts {
+            first: a,
+            second: b,
+            third: c,
+            fourth: d,
+            rest,
+        } = values;
+        let FourParts {
+            first: e,
+            second: f,
+            third: g,
+            fourth: h,
+            rest,
+        } = rest;
+        let (i, ()) = rest;
+        (a, b, c, d, e, f, g, h, i)
+    }
+}
+
+impl<A: Archive, B, C, D, E, F, G, H, I> PartOf<(A, B, C, D, E, F, G, H, I)> for Part0 {
+    type Source = A;
+
+    ghost part = { λ v. v.0 };
+
+    fn part_of(whole: &(A, B, C, D, E, F, G, H, I)) -> &A {
+        &whole.0
+    }
+}
+
+impl<A, B: Archive, C, D, E, F, G, H, I> PartOf<(A, B, C, D, E, F, G, H, I)> for Part1 {
+    type Source = B;
+
+    ghost part = { λ v. v.1 };
+
+    fn part_of(whole: &(A, B, C, D, E, F, G, H, I)) -> &B {
+        &whole.1
+    }
+}
+
+impl<A, B, C: Archive, D, E, F, G, H, I> PartOf<(A, B, C, D, E, F, G, H, I)> for Part2 {
+    type Source = C;
+
+    ghost part = { λ v. v.2 };
+
+    fn part_of(whole: &(A, B, C, D, E, F, G, H, I)) -> &C {
+        &whole.2
+    }
+}
+
+impl<A, B, C, D: Archive, E, F, G, H, I> PartOf<(A, B, C, D, E, F, G, H, I)> for Part3 {
+    type Source = D;
+
+    ghost part = { λ v. v.3 };
+
+    fn part_of(whole: &(A, B, C, D, E, F, G, H, I)) -> &D {
+        &whole.3
+    }
+}
+
+impl<A, B, C, D, E: Archive, F, G, H, I> PartOf<(A, B, C, D, E, F, G, H, I)> for Part4 {
+    type Source = E;
+
+    ghost part = { λ v. v.4 };
+
+    fn part_of(whole: &(A, B, C, D, E, F, G, H, I)) -> &E {
+        &whole.4
+    }
+}
+
+impl<A, B, C, D, E, F: Archive, G, H, I> PartOf<(A, B, C, D, E, F, G, H, I)> for Part5 {
+    type Source = F;
+
+    ghost part = { λ v. v.5 };
+
+    fn part_of(whole: &(A, B, C, D, E, F, G, H, I)) -> &F {
+        &whole.5
+    }
+}
+
+impl<A, B, C, D, E, F, G: Archive, H, I> PartOf<(A, B, C, D, E, F, G, H, I)> for Part6 {
+    type Source = G;
+
+    ghost part = { λ v. v.6 };
+
+    fn part_of(whole: &(A, B, C, D, E, F, G, H, I)) -> &G {
+        &whole.6
+    }
+}
+
+impl<A, B, C, D, E, F, G, H: Archive, I> PartOf<(A, B, C, D, E, F, G, H, I)> for Part7 {
+    type Source = H;
+
+    ghost part = { λ v. v.7 };
+
+    fn part_of(whole: &(A, B, C, D, E, F, G, H, I)) -> &H {
+        &whole.7
+    }
+}
+
+impl<A, B, C, D, E, F, G, H, I: Archive> PartOf<(A, B, C, D, E, F, G, H, I)> for Part8 {
+    type Source = I;
+
+    ghost part = { λ v. v.8 };
+
+    fn part_of(whole: &(A, B, C, D, E, F, G, H, I)) -> &I {
+        &whole.8
+    }
+}

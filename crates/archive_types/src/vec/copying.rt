@@ -1,0 +1,47 @@
+// Vectors of values that are copied.
+
+ghost use Rattle.std.specs.Prelude.{◌≡◌, ◌<◌, ◌≤◌, IfOk, OnOk, IfErr, IsOk, IsErrOf, IsTrue, length};
+ghost use Rattle.archive_check.specs.declared.format.error.Error.TheVariants.{LengthTooLarge};
+ghost use Rattle.archive_types.specs.Copies.{each_bytes, copies_from};
+ghost use Rattle.archive_write.specs.Written.{GoesOn};
+ghost use Rattle.archive_types.specs.CopiesWritten.{AddedAligned, ElementsRefused, CopiesSucceed};
+ghost use Rattle.archive_types.specs.KindsWritten.{VecSerialized};
+ghost use Rattle.archive_types.specs.Placed.{AtOnce};
+
+use super::{ArchivedVec, VecResolver};
+use crate::slice::copy_slice;
+use crate::traits::{Copied, Keys, Portable};
+use archive_check::format::error::Error;
+use archive_write::ser::Writer;
+
+impl<T: Portable> ArchivedVec<T> {
+    /// Writes all elements of `value`, which are copied, as one region, and answers where: zeros up to their alignment, and then the bytes of each, one
+    /// behind another. So does `serialize_from_slice` where the elements' type says that they are copied; this call takes no allocator, and no memory
+    /// but the writer's. It asks nothing. Refused with `LengthTooLarge`, 5, before anything is written, exactly where there are more than 4,294,967,295
+    /// elements; with `PositionTooLarge`, 4, only where they would stand above 4,294,967,295; else as `copy_slice`. Our own.
+    #[tactic(auto, using(crate::proofs::Owners::serialized_vec, crate::proofs::Causes::goes_nowhere, crate::proofs::Copies::copies_refused, crate::proofs::Copies::long_copies_refused, crate::proofs::Copies::far_copies_refused))]
+    #[inline(always)]
+    pub fn serialize_from_copied<U: Copied<CopiedAs = T>, S: Writer + Keys>(
+        value: &[U],
+        serializer: &mut S,
+    ) -> Result<VecResolver, Error>
+        ensures serialized { IfOk result (VecSerialized U.copied_keys U.copied_meaning T.Portable value.now S.Keys serializer) }
+        ensures copied { OnOk result (AddedAligned T.layout (each_bytes U.copied_bytes value.now) S.Keys serializer) }
+        ensures position { IfOk result (λ r. r ≡ copies_from T.layout (S.position serializer.old)) }
+        ensures held { OnOk result (length value.now ≤ 4294967295) }
+        ensures goes_on { GoesOn (S.state serializer.old) (S.state serializer.new) }
+        ensures refused { IfErr result (ElementsRefused S.position S.Keys serializer T.layout (length value.now)) }
+        ensures too_long { 4294967295 < length value.now → AtOnce result LengthTooLarge S.Keys serializer }
+        ensures memory { IsErrOf result Error.OutOfMemory → IsTrue S.takes_memory }
+        ensures succeeds { CopiesSucceed S.position S.Keys serializer S.takes_memory T.layout (length value.now) result }
+    {
+        if value.len() > u32::MAX as usize {
+            return Err(Error::LengthTooLarge);
+        }
+        let pos = copy_slice(value, serializer)?;
+        let Ok(pos) = u32::try_from(pos) else {
+            return Err(Error::PositionTooLarge);
+        };
+        Ok(VecResolver::from_pos(pos as usize))
+    }
+}

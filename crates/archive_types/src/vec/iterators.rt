@@ -1,0 +1,88 @@
+// Vectors written from iterators.
+
+ghost use Rattle.std.specs.Prelude.{◌≡◌, ◌≤◌, ◌⊎◌, List, IfOk, OnOk, IfErr, length};
+ghost use Rattle.std.specs.Iterator.{IsFinite, Drains};
+ghost use Rattle.archive_check.specs.declared.format.error.Error.TheVariants.{OutOfMemory};
+ghost use Rattle.archive_types.specs.ItemsWritten.{ItemPut, ItemUnput, ItemsStored, ItemsUnstored};
+ghost use Rattle.archive_types.specs.KindsWritten.{VecOfItems, NoVecOfItems};
+ghost use Rattle.archive_write.specs.Written.{GoesOn};
+
+use super::{ArchivedVec, VecResolver};
+use crate::ser::resolve_next;
+use crate::traits::{Portable, Serialize};
+use archive_check::format::error::Error;
+use archive_write::ser::{ResolverAlloc, Writer, WriterExt};
+use std::alloc::Allocator;
+
+// Serializes an item, which may write nothing, and resolves it where the writer stands. Memory for a large one comes from `alloc`.
+fn write_item<A: Allocator + Drop, S: Writer, U: Serialize<S>>(
+    alloc: A,
+    item: &U,
+    serializer: &mut S,
+) -> Result<(), Error>
+    ensures written { OnOk result (ItemPut U.Archive U.Archived.Portable item.now S.Keys serializer) }
+    ensures goes_on { GoesOn (S.state serializer.old) (S.state serializer.new) }
+    ensures refused { IfErr result (ItemUnput U.Archive U.Archived.Portable item.now S.Keys serializer) }
+{
+    let before = serializer.pos();
+    let resolver = item.serialize(serializer)?;
+    if serializer.pos() != before {
+        return Err(Error::ItemWrote);
+    }
+    resolve_next(serializer, alloc, item, resolver)?;
+    Ok(())
+}
+
+impl<T: Portable> ArchivedVec<T> {
+    /// Writes the items of `iter` as `serialize_from_slice` writes a slice's: what each owns, in order, and then all of them as one region. Asks that the
+    /// iterator ends. The items are kept meanwhile, in memory from the serializer's allocator: `OutOfMemory`, 1, where that is refused, and then nothing is
+    /// written; else refused as `serialize_from_slice`. rkyv 0.8.18 walks the iterator twice and keeps the resolvers alone.
+    pub fn serialize_from_iter<
+        U: Serialize<S, Archived = T> + Drop,
+        I: Iterator<Item = U> + Drop,
+        S: Writer + ResolverAlloc,
+    >(iter: I, serializer: &mut S) -> Result<VecResolver, Error>
+        requires can { I.can_next iter }
+        requires ends { IsFinite (I.remaining iter) }
+        ensures serialized { IfOk result (VecOfItems (Drains I.next_gives iter) U.keys U.meaning T.Portable S.Keys serializer) }
+        ensures goes_on { GoesOn (S.state serializer.old) (S.state serializer.new) }
+        ensures refused { IfErr result (NoVecOfItems (Drains I.next_gives iter) U.keys U.meaning T.Portable S.Keys serializer) }
+    {
+        let alloc = serializer.resolver_alloc();
+        let Ok(items) = iter.collect::<Vec<U, S::Alloc>>(alloc) else {
+            return Err(Error::OutOfMemory);
+        };
+        Self::serialize_from_slice(items.as_slice(), serializer)
+    }
+    /// Writes the items of `iter` one behind another as they come, from the next multiple of their alignment on, and keeps none of them. Asks that the
+    /// iterator ends. An item may write nothing in its `serialize`: refused with `ItemWrote`, 10, exactly where that of an item succeeded and wrote;
+    /// with `PositionTooLarge`, 4, before an item is taken, where the first one would stand above 4,294,967,295; with `LengthTooLarge`, 5, where more
+    /// than 4,294,967,295 items come; as the items refuse, and as the writer does (`BufferOverflow`, 8; `WriterFailed`, 9). Items with no pointer to
+    /// a region of their own are then a vector's elements, as `serialize_from_slice` writes them. rkyv 0.8.18 panics where an item writes.
+    pub fn serialize_from_unknown_length_iter<
+        U: Serialize<S, Archived = T> + Drop,
+        I: Iterator<Item = U> + Drop,
+        S: Writer + ResolverAlloc,
+    >(iter: I, serializer: &mut S) -> Result<VecResolver, Error>
+        requires can { I.can_next iter }
+        requires ends { IsFinite (I.remaining iter) }
+        ensures stored { IfOk result (ItemsStored I.next_gives iter U.Archive T.Portable S.Keys serializer) }
+        ensures goes_on { GoesOn (S.state serializer.old) (S.state serializer.new) }
+        ensures refused { IfErr result (ItemsUnstored I.next_gives iter U.Archive T.Portable S.Keys serializer) }
+    {
+        let alloc = serializer.resolver_alloc();
+        let pos = serializer.align_for::<T>()?;
+        if pos > u32::MAX as usize {
+            return Err(Error::PositionTooLarge);
+        }
+        let mut count = 0u32;
+        for item in iter {
+            let Some(more) = count.checked_add(1) else {
+                return Err(Error::LengthTooLarge);
+            };
+            write_item(alloc, &item, serializer)?;
+            count = more;
+        }
+        Ok(VecResolver::from_pos(pos))
+    }
+}

@@ -1,0 +1,204 @@
+// Vectors as sources: their elements as one region, and the pointer to it.
+
+ghost use Rattle.std.specs.Prelude.{◌≡◌, ◌<◌, ◌≤◌, ℕ, IfOk, OnOk, IfErr, IsErrOf, FitsSigned, length, true, refl};
+ghost use Rattle.std.specs.Int.{w32};
+ghost use Rattle.archive_check.specs.Shape.{vec as vec_shape, run};
+ghost use Rattle.archive_check.specs.Value.{list, hole};
+ghost use Rattle.archive_check.specs.declared.format.error.Error.TheVariants.{LengthTooLarge};
+ghost use Rattle.archive_types.specs.Causes.{HindersAt, IsRefused};
+ghost use Rattle.archive_types.specs.Keyed.{each_keyed};
+ghost use Rattle.archive_types.specs.KindsWritten.{VecSerialized, VecRefused, VecResolved, VecHindered};
+ghost use Rattle.archive_types.specs.Offsets.{distance, IsTooFar};
+ghost use Rattle.archive_types.specs.OwnerBytes.{owner_bytes};
+ghost use Rattle.archive_types.specs.Placed.{IsTooFarFrom, PointsTo, AtOnce};
+ghost use Rattle.archive_types.specs.PlannedOwners.{one_planned, vec_planned, slice_planned};
+ghost use Rattle.archive_types.specs.Plans.{Serialized};
+ghost use Rattle.archive_types.specs.Runs.{each_keys, each_meaning};
+ghost use Rattle.archive_types.specs.Writing.{Fresh, Resolves, to_pointee};
+ghost use Rattle.archive_write.specs.Written.{GoesOn};
+
+use super::ArchivedVec;
+use crate::place::Place;
+use crate::rel_ptr::emplace_long_owner;
+use crate::ser::serialize_one;
+use crate::slice::serialize_slice;
+use crate::traits::{Archive, ArchiveUnsized, Portable, Serialize, SerializeUnsized};
+use archive_check::format::error::Error;
+use archive_num::FixedUsize;
+use archive_write::ser::{ResolverAlloc, Writer};
+use std::marker::Model;
+
+/// Where a vector's elements were written, in bytes from the first one. In a contract it is that position. As in rkyv 0.8.18.
+#[derive(Clone, Copy, Debug)]
+pub struct VecResolver {
+    pos: u32,
+}
+
+impl Model for VecResolver {
+    ghost Value = { ℕ };
+
+    ghost view = { λ r. r.pos };
+
+    ghost inverse = { λ n. record { pos = n } };
+}
+
+impl VecResolver {
+    /// The resolver of a vector whose elements stand at `pos`, in bytes from the first one. Asks that it fits 32 bits. As in rkyv 0.8.18, where it
+    /// may be any.
+    #[inline(always)]
+    pub fn from_pos(pos: usize) -> VecResolver
+        requires { pos ≤ 4294967295 }
+        ensures { result ≡ pos }
+    {
+        VecResolver { pos: pos as u32 }
+    }
+}
+
+impl<T: Portable> ArchivedVec<T> {
+    /// Writes what each element of `value` owns, in order, and then all elements as one region, and answers where. It asks nothing. Refused with
+    /// `LengthTooLarge`, 5, before anything is written, exactly where there are more than 4,294,967,295 elements; with `PositionTooLarge`, 4, where
+    /// they stand above 4,294,967,295; with `LayoutTooLarge`, 23, where their region would end above `usize::MAX`; with `OutOfMemory`, 1, where
+    /// memory for the elements' resolvers is refused; as the elements refuse, and as the writer does (`BufferOverflow`, 8; `WriterFailed`, 9). rkyv
+    /// 0.8.18 cuts the length off.
+    #[tactic(auto, using(crate::proofs::Owners::serialized_vec, crate::proofs::Owners::vec_refused, crate::proofs::Owners::far_vec_refused))]
+    #[inline(always)]
+    pub fn serialize_from_slice<U: Serialize<S, Archived = T>, S: Writer + ResolverAlloc>(
+        value: &[U],
+        serializer: &mut S,
+    ) -> Result<VecResolver, Error>
+        ensures serialized { IfOk result (VecSerialized U.keys U.meaning T.Portable value.now S.Keys serializer) }
+        ensures held { OnOk result (length value.now ≤ 4294967295) }
+        ensures goes_on { GoesOn (S.state serializer.old) (S.state serializer.new) }
+        ensures refused { IfErr result (VecRefused U.keys U.meaning T.Portable value.now S.Keys serializer) }
+        ensures too_long { 4294967295 < length value.now → AtOnce result LengthTooLarge S.Keys serializer }
+    {
+        let pos = serialize_slice(value, serializer)?;
+        let Ok(pos) = u32::try_from(pos) else {
+            return Err(Error::PositionTooLarge);
+        };
+        Ok(VecResolver { pos })
+    }
+
+    /// Writes the vector's bytes over those of `place`, of `len` elements. Asks that these are eight, and that `len` is at most 4,294,967,295;
+    /// `resolver` should be that of so many elements. Refused with `IsizeOverflow`, 2, or `OffsetOverflow`, 3, exactly where the offset to the elements
+    /// doesn't fit; they are then unchanged. rkyv 0.8.18 panics there.
+    #[tactic(auto, using(crate::proofs::OwnersWritten::resolves_vec, crate::proofs::OwnersWritten::vec_hindered_at))]
+    #[inline(always)]
+    pub fn resolve_from_len(
+        len: usize,
+        resolver: VecResolver,
+        place: Place<'_, ArchivedVec<T>>,
+    ) -> Result<(), Error>
+        requires sized { length place.bytes.now ≡ 8 }
+        requires held { len ≤ 4294967295 }
+        ensures resolved { OnOk result (VecResolved T.Portable place resolver len) }
+        ensures written { OnOk result (PointsTo place true resolver len) }
+        ensures fits { OnOk result (FitsSigned w32 (distance place.entry.pos resolver)) }
+        ensures refused { IfErr result (VecHindered T.Portable place resolver len) }
+        ensures cause { IfErr result (IsTooFarFrom place resolver) }
+        ensures same_length { length place.exit.0.now ≡ length place.entry.bytes.now }
+    {
+        let Place { bytes, pos, .. } = place;
+        emplace_long_owner(resolver.pos as usize, len as FixedUsize, pos, bytes)
+    }
+
+    /// The same for the elements of `value`, of which there may be 4,294,967,295 at most.
+    #[inline(always)]
+    pub fn resolve_from_slice<U: Archive<Archived = T>>(
+        value: &[U],
+        resolver: VecResolver,
+        place: Place<'_, ArchivedVec<T>>,
+    ) -> Result<(), Error>
+        requires sized { length place.bytes.now ≡ 8 }
+        requires held { length value.now ≤ 4294967295 }
+        ensures resolved { OnOk result (VecResolved T.Portable place resolver (length value.now)) }
+        ensures written { OnOk result (PointsTo place true resolver (length value.now)) }
+        ensures fits { OnOk result (FitsSigned w32 (distance place.entry.pos resolver)) }
+        ensures refused { IfErr result (VecHindered T.Portable place resolver (length value.now)) }
+        ensures cause { IfErr result (IsTooFarFrom place resolver) }
+        ensures same_length { length place.exit.0.now ≡ length place.entry.bytes.now }
+    {
+        let Place { bytes, pos, .. } = place;
+        Self::resolve_from_len(value.len(), resolver, Place::new(pos, bytes))
+    }
+}
+
+impl<T: Archive> Archive for Vec<T> {
+    type Archived = ArchivedVec<T::Archived>;
+
+    type Resolver = VecResolver;
+
+    ghost meaning = { λ v. list (each_meaning T.meaning v.items) };
+
+    ghost flat = { λ v r. hole (to_pointee r (run T.Archived.shape) (length v.items)) };
+
+    ghost keys = { λ v. each_keys T.keys v.items };
+
+    ghost belongs = { λ v _. length v.items ≤ 4294967295 };
+
+    ghost keyed = { λ v. each_keyed T.keys T.meaning T.keyed v.items };
+
+    ghost planned = { λ v. vec_planned T.Archived.definitions T.Archived.shape (length v.items) (each_keys T.keys v.items) (list (each_meaning T.meaning v.items))
+        (slice_planned T.Archived.definitions T.Archived.shape T.keys T.meaning T.planned v.items) };
+
+    #[inline(always)]
+    fn resolve(
+        &self,
+        resolver: VecResolver,
+        place: Place<'_, ArchivedVec<T::Archived>>,
+    ) -> Result<(), Error>
+        requires fresh { Fresh 8 place.pos place.bytes.now }
+        requires same_value { length self.now.items ≤ 4294967295 }
+        ensures resolved { OnOk result (VecResolved T.Archived.Portable place resolver (length self.now.items)) }
+        ensures same_length { length place.exit.0.now ≡ length place.entry.bytes.now }
+        ensures refused { IfErr result (VecHindered T.Archived.Portable place resolver (length self.now.items)) }
+        ensures written { OnOk result (PointsTo place true resolver (length self.now.items)) }
+        ensures cause { IfErr result (λ e. IsTooFar e (distance place.entry.pos resolver)) }
+    {
+        let Place { bytes, pos, .. } = place;
+        ArchivedVec::<T::Archived>::resolve_from_len(self.len(), resolver, Place::new(pos, bytes))
+    }
+}
+
+impl<S: Writer + ResolverAlloc, T: Serialize<S>> Serialize<S> for Vec<T> {
+    /// Writes the elements, as `ArchivedVec::serialize_from_slice` does, with its refusals.
+    #[inline(always)]
+    fn serialize(&self, serializer: &mut S) -> Result<VecResolver, Error>
+        ensures serialized { IfOk result (VecSerialized T.keys T.meaning T.Archived.Portable self.now.items S.Keys serializer) }
+        ensures same_value { OnOk result (length self.now.items ≤ 4294967295) }
+        ensures goes_on { GoesOn (S.state serializer.old) (S.state serializer.new) }
+        ensures refused { IfErr result (VecRefused T.keys T.meaning T.Archived.Portable self.now.items S.Keys serializer) }
+        ensures too_long { 4294967295 < length self.now.items → AtOnce result LengthTooLarge S.Keys serializer }
+    {
+        ArchivedVec::<T::Archived>::serialize_from_slice(self.as_slice(), serializer)
+    }
+}
+
+/// As a region of its own: the vector itself, not its elements.
+impl<T: Archive> ArchiveUnsized for Vec<T> {
+    type Archived = ArchivedVec<T::Archived>;
+
+    ghost source_length = { λ _. 0 };
+
+    ghost meaning = { λ v. list (each_meaning T.meaning v.items) };
+
+    ghost keys = { λ v. each_keys T.keys v.items };
+
+    ghost keyed = { λ v. each_keyed T.keys T.meaning T.keyed v.items };
+
+    ghost one_length = { λ _ _. refl };
+
+    ghost planned = { λ v. one_planned T.Archived.definitions (vec_shape T.Archived.shape) (each_keys T.keys v.items) (list (each_meaning T.meaning v.items))
+        (vec_planned T.Archived.definitions T.Archived.shape (length v.items) (each_keys T.keys v.items) (list (each_meaning T.meaning v.items))
+        (slice_planned T.Archived.definitions T.Archived.shape T.keys T.meaning T.planned v.items)) };
+
+    fn archived_metadata(&self) -> Result<(), Error> {
+        Ok(())
+    }
+}
+
+impl<S: Writer + ResolverAlloc, T: Serialize<S>> SerializeUnsized<S> for Vec<T> {
+    fn serialize_unsized(&self, serializer: &mut S) -> Result<usize, Error> {
+        serialize_one(self, serializer)
+    }
+}
