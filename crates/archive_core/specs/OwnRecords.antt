@@ -3,8 +3,8 @@ use Rattle.std.specs.Prelude.{◌≡◌, ℕ, [], ◌∷◌, Some, None, true, f
 use Rattle.archive_check.specs.Shape.{Name, Shape, parts, named, Parts, definition}
 use Rattle.archive_check.specs.Definitions.{Definitions, defines, both, listed}
 use Rattle.archive_check.specs.PartsLayout.{knows_right}
-use Rattle.archive_check.specs.plan.BoundedSizes.{fits}
-use Rattle.archive_check.specs.plan.Names.{missing}
+use Rattle.archive_check.specs.BoundedSizes.{fits}
+use Rattle.archive_check.specs.MissingNames.{missing}
 use Rattle.archive_check.specs.SelfCheck.Orders.{AllIn, IsOrder}
 use Rattle.archive_check.specs.SelfCheck.Laws.{IsCheckOf, by_schema, named_leads}
 

@@ -30,7 +30,8 @@ pub mod vec;
 pub mod view;
 
 pub use archive_check::format::error;
-pub use archive_check::{context as validation, laws, self_check, shape};
+pub use archive_check::{context as validation, laws, self_check};
+pub use archive_schema::shape;
 
 /// A relative pointer to a `T` whose offset is of 32 bits. As in rkyv 0.8.18.
 pub type RelPtr<T> = rel_ptr::RelPtr<T, primitive::ArchivedIsize>;
