@@ -1,31 +1,25 @@
--- What a check of a type's schema says of a buffer.
-use Rattle.std.proofs.Common.{◌≡◌, ◌≢◌, ◌⊎◌, inl, inr, ⊎_elim, ℕ, ℤ, ◌<◌, ◌^◌, List, [], length, Some, Option, Result, Ok, Err, IsErrAnd, Contains, arith, refl, sym, ap, subst, ◌∙◌}
+-- Archives of a type: which schemas know its definitions, what a refusal excludes, and what is read back at the root.
+use Rattle.std.proofs.Common.{◌≡◌, ◌≢◌, inl, inr, ⊎_elim, ℕ, ℤ, ◌<◌, ◌^◌, List, [], length, Some, Option, Result, Ok, Err, IsErrAnd, Contains, arith, refl, sym, ap, subst, ◌∙◌}
 use Rattle.std.proofs.Math.Logic.{∥∥₁_elim, ∥∥₁_map, ∥∥₁_prop}
 use Rattle.std.specs.Ordering.{nat_cmp}
 use Rattle.std.specs.FinMap.{FinMap, get}
 use Rattle.std.proofs.lemmas.List.Elements.{Contains-append_left, Contains-append_right, Contains-append_cases}
 use Rattle.archive_check.specs.declared.format.error.Error.{Error}
-use Rattle.archive_check.specs.declared.format.error.Error.TheVariants.{OutOfMemory}
-use Rattle.archive_check.specs.declared.shape.Schema.{Schema as RustSchema}
 use Rattle.archive_check.specs.Shape.{Name, Shape, one, Table, definition}
 use Rattle.archive_check.specs.Value.{Value, number}
 use Rattle.archive_check.specs.Reads.{Schema, LaidOut}
-use Rattle.archive_check.specs.Depth.{AcceptedWithin}
 use Rattle.archive_check.specs.Defined.{Reaches, reaches, reaches_through, HeldIn, held, held_through, mentions_held, WellFormed}
-use Rattle.archive_check.specs.Definitions.{Definitions, no_definition, defines, both, listed, NoOthers, Has, Knows, HasLayouts}
-use Rattle.archive_check.specs.Trail.{RootTrips}
+use Rattle.archive_check.specs.Definitions.{Definitions, no_definition, defines, both, listed, NoOthers, Has, Knows}
 use Rattle.archive_check.specs.Ranges.{RangeState, whole}
 use Rattle.archive_check.specs.PositionStates.{Positions, nothing_met}
 use Rattle.archive_check.specs.FreshContexts.{IsWhole}
-use Rattle.archive_check.specs.Schemas.{Suits, Accepts, Refuses, IsSchemaOf, ExplainsNoSchema}
+use Rattle.archive_check.specs.Archives.{ExplainsNoSchema, IsArchiveWithin, IsArchive, IsValueOf, ReadsWhole, Answers, IsFaulty, IsRefusal, ExplainsNoArchive}
 use Rattle.archive_check.specs.Tour.{Entry}
 use Rattle.archive_check.specs.Denotes.{Meaning, Naming, Denotes}
 use Rattle.archive_check.specs.Reached.{Names, LeadsTo, leads_at_once, leads_through}
 use Rattle.archive_check.specs.Pooled.{Entries}
 use Rattle.archive_check.specs.Entries.{NoEntries, AreNamedByPosition, AreShared, AreRight, IsCyclic, ReadsBack}
 use Rattle.archive_check.specs.Viewed.{Viewed, Says}
-use Rattle.archive_check.specs.Archives.{IsArchiveWithin, IsArchive, IsValueOf, ReadsWhole, Answers, IsFaulty, IsRefusal, ExplainsNoArchive}
-use Rattle.archive_check.specs.plan.Names.{Prepared}
 use Rattle.archive_check.proofs.Rounds.{rounds}
 use Rattle.archive_check.proofs.AcceptedWalks.{walks}
 use Rattle.archive_check.proofs.FaultyNotWalked.{root_no_walk}
@@ -51,10 +45,6 @@ each_has s (both D E) h = (
   each_has s D (λ name Y c. h name Y (Contains-append_left (listed D) (listed E) (name, Y) c)),
   each_has s E (λ name Y c. h name Y (Contains-append_right (listed D) (listed E) (name, Y) c)),
 )
-
--- what a schema that knows a type's definitions has, the type's own schema has
-pub knows_suits : (r : RustSchema) (X : Shape) (D : Definitions) (s : Schema) → IsSchemaOf r X D → Knows s D → Suits r s
-knows_suits r X D s made k = record { has = λ name Y e. has_each s D k.has name Y (found_stands (listed D) name Y (made.known name Y e)); laid_out = k.laid_out }
 
 -- what a name's definition reaches, whoever reaches the name reaches too
 reached_on : {table : Table} {n m : Name} {X Y : Shape} → Reaches table n X → definition table n ≡ Some Y → Reaches table m Y → Reaches table m X
@@ -101,37 +91,9 @@ module _ (D : Definitions) (X : Shape) (well : WellFormed (listed D) X) (no_othe
     }),
   )
 
--- the definitions that a type's schema keeps have layouts
-pub prepared_laid_out : (D : Definitions) (X : Shape) (table : Table) → NoOthers D X → Prepared D X table → HasLayouts table
-prepared_laid_out D X table no_others p =
-    let (s, k) = some_knows D X p.well_formed no_others in
-    let each : (name : Name) (Y : Shape) → definition table name ≡ Some Y → definition s.table name ≡ Some Y = λ name Y e. has_each s D k.has name Y (found_stands (listed D) name Y (p.known name Y e)) in
-    ∣ (record { table = table; layouts = s.layouts }, refl, record { solves = λ name Y e. k.laid_out.solves name Y (each name Y e); aligned = k.laid_out.aligned }) ∣₁
-
 -- a context of a whole buffer that met nothing
 pub is_whole : (s : RangeState) (met : Positions) (bytes : List ℕ) (depth : Option ℕ) → depth ≢ Some 0 → ((d : ℕ) → depth ≡ Some d → d < 18446744073709551616) → s ≡ whole (length bytes) depth → met ≡ nothing_met → IsWhole s met bytes
 is_whole s met bytes depth levels few e f = rw (e, f) (record { fresh = record { nothing = λ p. refl; levels = levels; few = few }; start = refl; end = refl })
-
--- What a check says with a type's schema, it says with each that knows the type's definitions.
-module _ (r : RustSchema) (D : Definitions) (X : Shape) (bytes : List ℕ) (limit : Option ℕ) (pos : ℕ) (made : IsSchemaOf r X D) where
-  pub accepts_archive : NoOthers D X → Accepts r bytes limit pos → IsArchiveWithin D bytes limit pos X
-  accepts_archive no_others h = record {
-    well_formed = made.well_formed;
-    known = ∣ some_knows D X made.well_formed no_others ∣₁;
-    accepted = λ s k. subst (λ Z. ∥ AcceptedWithin s bytes limit pos Z ∥₁) made.root (h.accepted s (knows_suits r X D s made k));
-  }
-
-  pub refuses_faulty : (e : Error) → Refuses r bytes limit pos e → IsFaulty D bytes limit pos X e
-  refuses_faulty e h = record {
-    well_formed = made.well_formed;
-    fault = h.fault;
-    said = h.said;
-    trips = λ s k. subst (λ Z. ∥ RootTrips s bytes limit pos Z h.fault ∥₁) made.root (h.trips s (knows_suits r X D s made k));
-  }
-
-  pub refuses : (e : Error) → (e ≡ OutOfMemory) ⊎ Refuses r bytes limit pos e → IsRefusal D bytes limit pos X e
-  refuses e (inl memory) = inl (inl memory)
-  refuses e (inr h) = inr (refuses_faulty e h)
 
 -- the root of an archive is a view
 pub archive_viewed : (D : Definitions) (bytes : List ℕ) (limit : Option ℕ) (root : ℕ) (X : Shape) → IsArchiveWithin D bytes limit root X → Viewed D bytes root (one X) 0

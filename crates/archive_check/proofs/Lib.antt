@@ -1,4 +1,8 @@
 pub mod Elements
+pub mod BoundedSizes
+pub mod Named
+pub mod MissingNames
+pub mod TestedAnswers
 pub mod Seen
 pub mod RevisedMeanings
 pub mod RevisedTour
@@ -50,7 +54,6 @@ pub mod ReadVariants
 pub mod ReadShared
 pub mod CalmArchives
 pub mod SharedKnown
-pub mod SuitableSchemas
 pub mod Archives
 pub mod Unshared
 pub mod StandingBytes

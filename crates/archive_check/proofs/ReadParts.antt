@@ -2,7 +2,7 @@
 -- and what it is; those of a run are its elements.
 use Rattle.std.proofs.Common.{◌≡◌, ◌⊎◌, inl, inr, ⊎_elim, ℕ, zero, suc, ◌+◌, ◌*◌, ◌<◌, List, [], ◌∷◌, ◌++◌, length, Some, None, Contains, arith, refl, sym, ap, ◌∙◌}
 use Rattle.std.proofs.lemmas.List.Elements.{Contains-append_cases}
-use Rattle.archive_check.specs.check.Runs.{IsAt}
+use Rattle.archive_check.specs.Elements.{IsAt}
 use Rattle.archive_check.specs.Shape.{Shape, array, Pointee, one, run}
 use Rattle.archive_check.specs.Layout.{Layout, size_of}
 use Rattle.archive_check.specs.Value.{Pointer, Value, list, pointers, all_pointers, Values, no_value, value}

@@ -1,10 +1,10 @@
 -- The parts of a record lie where its type says, and are views as it is.
-use Rattle.std.proofs.Common.{◌≡◌, ℕ, ◌+◌, ◌<◌, ◌≤◌, List, length, Some, arith}
-use Rattle.std.proofs.Math.Logic.{∥∥₁_map, ∥∥₁_elim}
+use Rattle.std.proofs.Common.{◌≡◌, ℕ, ◌+◌, ◌≤◌, List, length, Some, arith}
+use Rattle.std.proofs.Math.Logic.{∥∥₁_map}
 use Rattle.archive_check.specs.Shape.{Shape, parts, Pointee, one, Parts}
 use Rattle.archive_check.specs.Reads.{Schema}
 use Rattle.archive_check.specs.Within.{Within, whole, in_parts, in_named, IsPart}
-use Rattle.archive_check.specs.Definitions.{Definitions, Knows}
+use Rattle.archive_check.specs.Definitions.{Definitions}
 use Rattle.archive_check.specs.PartsLayout.{part_at, definitions_at, knows_at, PartsLaidOut, StandsFor, for_itself, by_name, IsRecord}
 use Rattle.archive_check.specs.Viewed.{Lies, Viewed}
 use Rattle.archive_check.proofs.ReachedParts.{within_reached}

@@ -2,7 +2,6 @@
 use Rattle.std.proofs.Common.{◌≡◌, ℕ, zero, suc, ◌+◌, ◌<◌, ◌≤◌, List, length, slice_index, Some, is_some, true, refl, subst, arith}
 use Rattle.std.proofs.Math.Logic.{∥∥₁_map, ∥∥₁_elim}
 use Rattle.std.specs.Coded.{le_prop}
-use mathlib.Core.Bool.{Bool-set}
 use Rattle.archive_check.specs.Shape.{Name, Shape, choice, Pointee, one, Parts, part, no_part, Variants, no_variant, variant, variant_at}
 use Rattle.archive_check.specs.Layout.{up, size_of, align_of}
 use Rattle.archive_check.specs.Reads.{Schema}

@@ -2,6 +2,7 @@
 pub mod AddedDefinitions
 pub mod BytesAt
 pub mod ChoiceVariants
+pub mod Copies
 pub mod EqualExpressions
 pub mod LegalBytes
 pub mod RecordParts

@@ -2,7 +2,7 @@
 use Rattle.std.specs.Prelude.{◌≡◌, ◌⊎◌, ◌-◌, ℕ, List, length, Option, Some, None, Contains, Result, OnOk, IfErr}
 use Rattle.std.specs.FinMap.{get}
 use Rattle.archive_check.specs.declared.format.error.Error.{Error}
-use Rattle.archive_check.specs.declared.format.error.Error.TheVariants.{OutOfMemory, CyclicDeserialize}
+use Rattle.archive_check.specs.declared.format.error.Error.TheVariants.{OutOfMemory, CyclicDeserialize, ShapeConflict, RecursiveLayout}
 use Rattle.archive_check.specs.Shape.{Shape, one}
 use Rattle.archive_check.specs.Layout.{Layout}
 use Rattle.archive_check.specs.Value.{Value}
@@ -11,10 +11,9 @@ use Rattle.archive_check.specs.Depth.{AcceptedWithin}
 use Rattle.archive_check.specs.Tour.{Entry}
 use Rattle.archive_check.specs.Denotes.{Meaning, Naming, Denotes}
 use Rattle.archive_check.specs.Entries.{NoEntries, KeepsEntries, AreShared, AreRight, IsCyclic}
-use Rattle.archive_check.specs.Defined.{WellFormed}
+use Rattle.archive_check.specs.Defined.{WellFormed, AllDefined}
 use Rattle.archive_check.specs.Definitions.{Definitions, listed, Knows}
 use Rattle.archive_check.specs.Pooled.{Entries}
-use Rattle.archive_check.specs.Schemas.{ExplainsNoSchema}
 use Rattle.archive_check.specs.Trail.{Fault, RootTrips}
 use Rattle.archive_check.specs.Faults.{IsFor, IsOfCheck}
 use Rattle.archive_check.specs.FreshContexts.{HasLevels}
@@ -52,6 +51,13 @@ pub record IsFaulty (D : Definitions) (bytes : List ℕ) (limit : Option ℕ) (r
   pub fault : Fault
   pub said : IsFor fault error
   pub trips : (s : Schema) → Knows s D → ∥ RootTrips s bytes limit root X fault ∥₁
+
+-- Why a shape has no schema: a name that it reaches has none or two definitions, or else one holds itself.
+abbrev pub ExplainsNoSchema : Shape → Definitions → Error → Type 0
+ExplainsNoSchema X D e =
+    (e ≡ OutOfMemory)
+    ⊎ ((e ≡ ShapeConflict) × (AllDefined (listed D) X → ⊥))
+    ⊎ ((e ≡ RecursiveLayout) × AllDefined (listed D) X × (WellFormed (listed D) X → ⊥))
 
 -- why a buffer is refused: memory was refused, the definitions give X no meaning, or the bytes have this fault
 abbrev pub IsRefusal : Definitions → List ℕ → Option ℕ → ℕ → Shape → Error → Type 0

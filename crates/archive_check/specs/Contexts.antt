@@ -2,15 +2,12 @@
 -- return.
 use denote.Triple.Both.{Both}
 use denote.Ref.{MutBor}
-use Rattle.std.specs.Prelude.{◌≡◌, ◌⊎◌, ℕ, List, Result, OnOk, IfErr}
+use Rattle.std.specs.Prelude.{ℕ, List, Result, OnOk, IfErr}
 use Rattle.archive_check.specs.declared.context.Context as Context
 use Rattle.archive_check.specs.declared.format.error.Error.{Error}
-use Rattle.archive_check.specs.declared.format.error.Error.TheVariants.{OutOfMemory}
-use Rattle.archive_check.specs.declared.shape.Schema.{Schema}
 use Rattle.archive_check.specs.Formats.{FormatOf}
 use Rattle.archive_check.specs.Archives.{Answers, IsArchiveWithin, IsRefusal, ExplainsNoArchive}
 use Rattle.archive_check.specs.FreshContexts.{IsWholeIn}
-use Rattle.archive_check.specs.Schemas.{Accepts, Refuses, IsExact}
 
 module _ {C M : Type 0} (f : FormatOf M) (k : Context.Ghosts C) (c : Both (MutBor C) (MutBor C)) where
   -- in such a context: what is accepted is an archive of the type, with its root at p
@@ -28,14 +25,3 @@ module _ {C M : Type 0} (f : FormatOf M) (k : Context.Ghosts C) (c : Both (MutBo
   -- the whole answer
   abbrev pub AnswersIn : List ℕ → ℕ → Result (Unit {0}) Error → Type 0
   AnswersIn bytes p result = IsWholeIn k c.entry.now bytes → Answers f.definitions bytes (k.state c.entry.now).depth p f.shape result
-
-module _ {C : Type 0} (s : Schema) (k : Context.Ghosts C) (c : Both (MutBor C) (MutBor C)) where
-  -- the same of a schema, which may want memory
-  abbrev pub SchemaAccepts : List ℕ → ℕ → Result (Unit {0}) Error → Type 0
-  SchemaAccepts bytes p result = OnOk result (IsWholeIn k c.entry.now bytes → Accepts s bytes (k.state c.entry.now).depth p)
-
-  abbrev pub SchemaRefuses : List ℕ → ℕ → Result (Unit {0}) Error → Type 0
-  SchemaRefuses bytes p result = IfErr result (λ e. (e ≡ OutOfMemory) ⊎ (IsWholeIn k c.entry.now bytes → Refuses s bytes (k.state c.entry.now).depth p e))
-
-  abbrev pub SchemaIsExact : List ℕ → ℕ → Result (Unit {0}) Error → Type 0
-  SchemaIsExact bytes p result = IsWholeIn k c.entry.now bytes → IsExact s bytes (k.state c.entry.now).depth p result

@@ -1,9 +1,13 @@
 pub mod Errors
+pub mod Elements
 pub mod Shape
 pub mod Layout
+pub mod BoundedSizes
 pub mod Defined
+pub mod MissingNames
 pub mod Equality
 pub mod Expressions
+pub mod Measure
 pub mod AddAnswer
 pub mod Value
 pub mod Reads
@@ -11,6 +15,7 @@ pub mod Tour
 pub mod Depth
 pub mod Walk
 pub mod Trail
+pub mod Outcomes
 pub mod Subtrees
 pub mod Denotes
 pub mod Leaves
@@ -38,7 +43,6 @@ pub mod RecalledPositions
 pub mod InSubtree
 pub mod Validators
 pub mod VariantsLayout
-pub mod Schemas
 pub mod Faults
 pub mod Viewed
 pub mod Archives
@@ -47,10 +51,7 @@ pub mod Pooled
 pub mod Unshared
 pub mod CleanRegions
 pub mod WriterState
-pub mod OneSchema
 pub mod AddedDefinitions
 pub mod Contexts
 pub mod SelfCheck
-pub mod plan
-pub mod check
 pub mod TwoVariants

@@ -1,5 +1,5 @@
 -- A name with its definition, and its laws.
-use Rattle.std.proofs.Common.{◌≡◌, ◌≢◌, ◌∙◌, ap, subst, refl, zero, suc, arith, Contains}
+use Rattle.std.proofs.Common.{◌≡◌, ◌≢◌, ◌∙◌, ap, subst, refl, zero, suc, arith}
 use Rattle.archive_check.specs.Shape.{Name, unit, Shape, leaf, named, bool}
 use Rattle.archive_check.specs.Layout.{Layout, layout}
 use Rattle.archive_check.specs.Reads.{Schema}

@@ -1,5 +1,5 @@
 -- The parts of a record, as a type names them: where each lies, and what they take together, in each schema that knows their definitions.
-use Rattle.std.proofs.Common.{◌≡◌, ℕ, zero, suc, ◌+◌, ◌≤◌, max, Option, Some, None, refl, sym, ap, subst, ◌∙◌, arith, inl, inr, ⊎_elim}
+use Rattle.std.proofs.Common.{◌≡◌, ℕ, zero, suc, ◌+◌, ◌≤◌, max, Option, Some, None, refl, ap, subst, ◌∙◌, arith, inl, ⊎_elim}
 use Rattle.std.proofs.lemmas.Bool.{cases_lt}
 use Rattle.std.proofs.lemmas.List.Elements.{Contains-append_left, Contains-append_right}
 use Rattle.archive_check.specs.Shape.{Name, Shape, parts, named, Parts, no_part, part, definition}

@@ -1,5 +1,5 @@
 -- The calls of a check on its range, as functions of the range.
-use Rattle.std.specs.Prelude.{ℕ, ◌+◌, ◌%◌, Bool, ◌&&◌, ◌==◌, nat_le, nat_lt, if◌then◌else◌, min, ℤ, pos, negsuc, Option, Some, None, Result, Ok, Err}
+use Rattle.std.specs.Prelude.{ℕ, ◌+◌, ◌%◌, Bool, ◌&&◌, ◌==◌, nat_le, nat_lt, if◌then◌else◌, min, ℤ, pos, negsuc, Option, Some, None, Result, Ok, Err, ◌≡◌, ◌≤◌}
 use Rattle.archive_check.specs.declared.format.error.Error.{Error}
 use Rattle.archive_check.specs.declared.format.error.Error.TheVariants.{InvalidSubtreePointer, UnalignedPointer, RangePoppedTooManyTimes, RangePoppedOutOfOrder}
 use Rattle.archive_check.specs.Depth.{inside}
@@ -47,3 +47,10 @@ pop_answer s x =
 -- the given range again
 abbrev pub popped : RangeState → ℕ → ℕ → RangeState
 popped s x y = record { start = x; end = y; depth = one_more s.depth; pushes = s.pushes }
+
+-- a region of this size and alignment lies at t, within the range
+pub record Lands (s : RangeState) (z : ℤ) (size align t : ℕ) : Type 0 where
+  pub target : z ≡ pos t
+  pub above : s.start ≤ t
+  pub below : t + size ≤ s.end
+  pub aligned : t % align ≡ 0

@@ -1,7 +1,7 @@
 -- The shared positions that a validator keeps, as a check speaks of them.
 use Rattle.std.specs.Prelude.{◌≡◌, ◌⊎◌, ℕ, ℤ, List, ◌++◌, length, ◌<◌, Option, Some, None, option_map, slice_get}
 use Rattle.std.specs.Option.{ForSome}
-use Rattle.archive_check.specs.declared.plan.SharedType.{SharedType}
+use Rattle.archive_check.specs.declared.context.positions.SharedType.{SharedType}
 use Rattle.archive_check.specs.declared.context.positions.SharedPosition.{SharedPosition}
 use Rattle.archive_check.specs.Expressions.{flavor_of, pointee_of}
 use Rattle.archive_check.specs.Shape.{Flavor, Pointee}

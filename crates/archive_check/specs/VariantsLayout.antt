@@ -1,10 +1,10 @@
 -- The variants of a choice, as a type names them: where each part of each lies, and what they take together, in each schema that knows their definitions.
-use Rattle.std.proofs.Common.{◌≡◌, ℕ, zero, suc, ◌+◌, ◌≤◌, max, Option, Some, None, refl, arith}
-use Rattle.archive_check.specs.Shape.{Name, Shape, choice, named, parts, Parts, Variants, no_variant, variant, variant_at}
+use Rattle.std.proofs.Common.{◌≡◌, ℕ, zero, suc, max, Option, None, refl, arith}
+use Rattle.archive_check.specs.Shape.{Name, Shape, choice, named, parts, Parts, Variants, no_variant, variant}
 use Rattle.archive_check.specs.Layout.{Layouts, up, variants_align, variants_end}
 use Rattle.archive_check.specs.Reads.{Schema}
 use Rattle.archive_check.specs.Defined.{holds_parts, holds_choice, holds_variant, holds_other, Mentions, mentions_held, mentions_parts, mentions_choice, mentions_variant, mentions_other}
-use Rattle.archive_check.specs.Definitions.{Definitions, no_definition, defines, both, Knows, NoOthers, HasLayout, IsAlign}
+use Rattle.archive_check.specs.Definitions.{Definitions, no_definition, defines, both, Knows, NoOthers, HasLayout}
 use Rattle.archive_check.specs.NoOthers.{around_reached, both_reached}
 use Rattle.archive_check.specs.PartsLayout.{part_at, offset_at, definitions_at, knows_none, knows_at, knows_left, knows_right, PartsLaidOut, StandsFor, for_itself, by_name}
 

@@ -4,6 +4,7 @@ pub mod bytes;
 pub mod defs;
 pub mod error;
 pub mod expr;
+pub mod extents;
 pub mod layout;
 pub mod leaf;
 pub mod traits;

@@ -1,8 +1,7 @@
 //! The laws of archives. Each is what a function promises that does nothing, so that the check of this crate proves it. They are laws of our own
 //! definitions, which `specs/Laws.antt` states and docs/DEFINITIONS.md lists.
 
-ghost use Rattle.archive_check.specs.Laws.{MeaningExists, MeaningUnique, AcceptedWhereWalked, FaultyNotWalked, FewSubtrees, RegionsDisjoint, LeavesInRegions, LeafWritten, EmptyRunWalked, PlainRunWalked, PartsReached, ReachedUnique, RootReached, PointersReached, WithinReached, ElementsReached, EncodingUnique, PartsInside, LayoutsExist, LayoutUnique, ReadingUnique, TourUnique, FaultUnique, RefusedKeepsPooled, SameReflexive, SameSymmetric, SameTransitive, PartsReachedMeaning, ReachedMeaningUnique, NamesKnown, RootReachedMeaning};
-ghost use Rattle.archive_check.specs.Laws.{SaidReached, UniqueBefore, KnownWhereWellFormed, NeverCyclic, SharedKnown};
+ghost use Rattle.archive_check.specs.Laws.{MeaningExists, MeaningUnique, AcceptedWhereWalked, FaultyNotWalked, FewSubtrees, RegionsDisjoint, LeavesInRegions, LeafWritten, EmptyRunWalked, PlainRunWalked, PartsReached, ReachedUnique, RootReached, PointersReached, WithinReached, ElementsReached, EncodingUnique, PartsInside, LayoutsExist, LayoutUnique, ReadingUnique, TourUnique, FaultUnique, RefusedKeepsPooled, SameReflexive, SameSymmetric, SameTransitive, PartsReachedMeaning, ReachedMeaningUnique, NamesKnown, RootReachedMeaning, SaidReached, UniqueBefore, KnownWhereWellFormed, NeverCyclic, SharedKnown};
 
 /// An accepted buffer has a meaning.
 pub fn meaning_exists()

@@ -1,10 +1,7 @@
-//! What archived values look like, and the check of bytes against that.
+//! What archived values look like, and what a check of bytes keeps and asks.
 #![tactic(auto)]
 
-mod check;
 pub mod context;
 pub mod format;
 pub mod laws;
-mod plan;
 pub mod self_check;
-pub mod shape;

@@ -29,7 +29,7 @@ pub use archive_check::context::HighValidator;
 use archive_check::context::{ArchiveContext, SharedContext};
 use archive_check::format::error::Error;
 use archive_check::self_check::{SelfCheck, check_root};
-use archive_check::shape::Schema;
+use archive_schema::shape::Schema;
 pub use kept::Access;
 use std::alloc::{Allocator, Global};
 pub use using::{serialize_using, to_bytes_in_with_alloc, to_bytes_with_alloc};

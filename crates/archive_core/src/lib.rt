@@ -5,8 +5,9 @@ pub mod api;
 pub mod rc;
 
 pub use archive_check::format::error;
-pub use archive_check::{context as validation, laws, self_check, shape};
+pub use archive_check::{context as validation, laws, self_check};
 pub use archive_own::own;
+pub use archive_schema::shape;
 pub use archive_seal::seal;
 pub use archive_shared::pooling;
 pub use archive_types::{

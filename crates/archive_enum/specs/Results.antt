@@ -11,7 +11,7 @@ use Rattle.archive_check.specs.Reads.{Schema}
 use Rattle.archive_check.specs.Definitions.{Definitions, no_definition, both, listed, Knows, NoOthers, HasLayout, IsAlign}
 use Rattle.archive_check.specs.NoOthers.{around_reached, both_reached}
 use Rattle.archive_check.specs.PartsLayout.{knows_left, knows_right}
-use Rattle.archive_check.specs.plan.Names.{missing}
+use Rattle.archive_check.specs.MissingNames.{missing}
 use Rattle.archive_check.specs.SelfCheck.Orders.{IsOrder}
 use Rattle.archive_check.specs.SelfCheck.Laws.{IsCheckOf, no_more}
 use Rattle.archive_check.specs.SelfCheck.Lone.{HasOrder, none_missing, none_listed, first_order, later_order, plain_order, or_parts, small_fits}

@@ -1,3 +1,4 @@
 pub mod OwnChoices
 pub mod Nests
 pub mod NestsRead
+pub mod OwnRecords

@@ -25,8 +25,8 @@ use archive_types::traits::{
 };
 use archive_types::view::RawView;
 use archive_check::format::error::Error;
+use archive_check::format::expr::{Defs, Expr};
 use archive_check::self_check::SelfCheck;
-use archive_check::shape::{Defs, Expr};
 pub use archive_types::parts::FromParts;
 pub use choices::{ArchivedChoice, NamedChoice};
 pub use nested::{FromNested, Nested, resolve_nested, serialize_nested};

@@ -3,10 +3,9 @@
 use denote.Triple.Both.{Both}
 use denote.Ref.{MutBor}
 use Rattle.std.specs.Prelude.{◌≡◌, ◌⊎◌, ℕ, List, [], Option, Result, IfErr}
-use Rattle.archive_check.specs.Archives.{Answers, IsArchive, ReadsWhole, RefusesWhole, RefusesAsCheck, root_in}
+use Rattle.archive_check.specs.Archives.{Answers, IsArchive, ReadsWhole, RefusesWhole, RefusesAsCheck, root_in, ExplainsNoSchema}
 use Rattle.archive_check.specs.Defined.{WellFormed}
 use Rattle.archive_check.specs.Definitions.{listed}
-use Rattle.archive_check.specs.Schemas.{ExplainsNoSchema}
 use Rattle.archive_check.specs.Shape.{one}
 use Rattle.archive_check.specs.Unshared.{IsNeverOpen}
 use Rattle.archive_check.specs.WriterState.{WriterState}

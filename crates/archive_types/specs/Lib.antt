@@ -16,7 +16,6 @@ pub mod PartsPlanned
 pub mod PartsReading
 pub mod PartsWritten
 pub mod PartsStored
-pub mod OwnRecords
 pub mod Planned
 pub mod OffsetWidths
 pub mod RelativePointers

@@ -13,8 +13,8 @@ mod writing;
 
 use crate::traits::{ArchivePointee, Portable, PortablePointee};
 use archive_check::format::error::Error;
+use archive_check::format::expr::{Defs, Expr, FlavorInfo};
 use archive_check::self_check::BySchema;
-use archive_check::shape::{Defs, Expr, FlavorInfo};
 use std::alloc::Global;
 use std::marker::PhantomData;
 pub use writing::{RcResolver, RcWeakResolver, write_null, write_pointer, write_shared};

@@ -44,9 +44,9 @@ use archive_check::format::bytes::{
     inline_length, is_out_of_line, read_coded_length, read_i32, read_position, read_text, read_u32,
 };
 use archive_check::format::error::Error;
+use archive_check::format::expr::{Defs, Expr, Pointee};
 use archive_check::format::layout::Layout;
 use archive_check::self_check::{BoxStrCheck, StringCheck};
-use archive_check::shape::{Defs, Expr, Pointee};
 use archive_write::ser::{ResolverAlloc, Writer};
 use std::alloc::Global;
 use std::marker::Model;

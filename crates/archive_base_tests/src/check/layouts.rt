@@ -14,8 +14,8 @@ use crate::assertions::assert_same;
 use archive_check::format::error::Error;
 use archive_check::format::layout::Layout;
 use archive_check::format::traits::{LayoutRaw, Portable, layout_of_run};
-use archive_check::shape::Schema;
 use archive_num::ArchivedU64;
+use archive_schema::shape::Schema;
 use std::alloc::Global;
 use std::process::Abort;
 

@@ -1,12 +1,12 @@
 -- The check of an array is that of its elements.
-use Rattle.std.proofs.Common.{◌≡◌, ℕ, zero, suc, ◌*◌, ◌+◌, ◌≤◌, min, List, Option, arith, inl, inr, ⊎_elim}
+use Rattle.std.proofs.Common.{◌≡◌, ℕ, zero, suc, ◌*◌, ◌+◌, min, List, Option, arith, ⊎_elim}
 use Rattle.std.proofs.lemmas.Bool.{cases_lt}
 use Rattle.archive_check.specs.Shape.{Shape, array}
 use Rattle.archive_check.specs.Reads.{Schema}
 use Rattle.archive_check.specs.Tour.{Seen}
 use Rattle.archive_check.specs.Walk.{walk_array}
 use Rattle.archive_check.specs.Trail.{trips_array}
-use Rattle.archive_check.specs.check.Runs.{Outcome, done, refused}
+use Rattle.archive_check.specs.Outcomes.{Outcome, done, refused}
 use Rattle.archive_check.specs.SelfCheck.Ways.{shape_way, run_way}
 
 pub array_way : (s : Schema) (bytes : List ℕ) (pending : List ℕ) (depth : Option ℕ) (stop start : ℕ) (seen : Seen) (p n : ℕ) (X : Shape) (o : Outcome)

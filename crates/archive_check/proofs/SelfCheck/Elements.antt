@@ -1,9 +1,8 @@
 -- The elements of a run, one after another.
 use Rattle.std.proofs.Common.{◌≡◌, ◌≢◌, ℕ, suc, sym, ◌∙◌, ◌+◌, ◌-◌, ◌*◌, ◌<◌, ◌≤◌, arith, List}
 use Rattle.archive_check.specs.Shape.{Shape}
-use Rattle.archive_check.specs.Layout.{size_of}
+use Rattle.archive_check.specs.Layout.{size_of, Layout}
 use Rattle.archive_check.specs.declared.format.error.Error.{Error}
-use Rattle.archive_check.specs.Layout.{Layout}
 use Rattle.archive_check.specs.Ranges.{RangeState}
 use Rattle.archive_check.specs.Definitions.{Definitions, HasLayout}
 use Rattle.archive_check.specs.SelfCheck.Ways.{Goes, Halts, shape_way, run_way}

@@ -4,11 +4,11 @@ use Rattle.std.proofs.lemmas.Bool.Decides.{nat_tests}
 use Rattle.archive_check.specs.declared.format.error.Error.{Error}
 use Rattle.archive_check.specs.Shape.{Shape}
 use Rattle.archive_check.specs.Ranges.{RangeState}
-use Rattle.archive_check.specs.plan.BoundedSizes.{fits}
+use Rattle.archive_check.specs.BoundedSizes.{fits}
 use Rattle.archive_check.specs.Definitions.{Definitions}
 use Rattle.archive_check.specs.SelfCheck.Ways.{Goes, Halts, shape_way}
 use Rattle.archive_check.specs.SelfCheck.Laws.{IsCheckOf}
-use Rattle.archive_check.proofs.plan.BoundedSizes.{some_below}
+use Rattle.archive_check.proofs.BoundedSizes.{some_below}
 use Rattle.archive_check.proofs.SelfCheck.Ways.{goes_by, halts_by}
 
 module _ (D E : Definitions) (X Y : Shape) (z n : ℕ) {nameless : Bool} (law : IsCheckOf D X z E Y n nameless) where

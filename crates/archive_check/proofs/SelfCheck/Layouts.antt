@@ -4,9 +4,8 @@ use Rattle.archive_check.specs.Shape.{Shape}
 use Rattle.archive_check.specs.Reads.{Schema}
 use Rattle.archive_check.specs.Layout.{Layout, size_of, align_of}
 use Rattle.archive_check.specs.Definitions.{Definitions, Knows, HasLayout}
-use Rattle.archive_check.specs.plan.BoundedSizes.{fits}
-use Rattle.archive_check.specs.check.Runs.{times}
-use Rattle.archive_check.proofs.plan.BoundedSizes.{times_fits}
+use Rattle.archive_check.specs.BoundedSizes.{fits, times}
+use Rattle.archive_check.proofs.BoundedSizes.{times_fits}
 
 -- the layout of a type, as a schema has it
 module _ (D : Definitions) (X : Shape) (L : Layout) (laid : HasLayout D X L) where

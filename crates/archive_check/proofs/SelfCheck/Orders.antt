@@ -4,7 +4,7 @@ use Rattle.std.proofs.lemmas.List.{append-nil}
 use Rattle.archive_check.specs.Shape.{Name, Shape, Table, definition}
 use Rattle.archive_check.specs.Definitions.{Definitions, listed, NoOthers, Extended}
 use Rattle.archive_check.specs.Defined.{WellFormed}
-use Rattle.archive_check.specs.plan.Names.{missing, Collected, Arranged}
+use Rattle.archive_check.specs.MissingNames.{missing, Collected, Arranged}
 use Rattle.archive_check.specs.SelfCheck.Orders.{AllIn, AllClosed, Placed, IsOrder}
 use Rattle.archive_check.proofs.Elements.{contains_cases}
 use Rattle.archive_check.proofs.WellFormed.{found_stands, reached_there, well_formed}

@@ -1,10 +1,9 @@
 -- One part, and then the others.
 use Rattle.std.proofs.Common.{◌≡◌, ℕ, refl, ap, ◌+◌, List}
 use Rattle.archive_check.specs.Shape.{Shape, Parts, part}
-use Rattle.archive_check.specs.Layout.{up, size_of, align_of}
+use Rattle.archive_check.specs.Layout.{up, size_of, align_of, Layout}
 use Rattle.archive_check.specs.Reads.{Schema}
 use Rattle.archive_check.specs.declared.format.error.Error.{Error}
-use Rattle.archive_check.specs.Layout.{Layout}
 use Rattle.archive_check.specs.Ranges.{RangeState}
 use Rattle.archive_check.specs.Definitions.{Definitions, both, Knows, HasLayout}
 pub use Rattle.archive_check.specs.PartsLayout.{knows_left, knows_right}

@@ -1,28 +1,25 @@
 -- Regions are entered, and what they hold is gone through or refused.
-use Rattle.std.proofs.Common.{◌≡◌, ◌≢◌, ℕ, zero, suc, ℤ, pos, negsuc, refl, sym, ap, ◌∙◌, ◌+◌, ◌-◌, ◌%◌, ◌<◌, ◌≤◌, nat_le, nat_eq, Bool, true, false, arith, List, Option, Some, None, Ok, Err}
+use Rattle.std.proofs.Common.{◌≡◌, ℕ, ℤ, pos, negsuc, refl, sym, ap, ◌∙◌, ◌+◌, ◌%◌, ◌≤◌, nat_le, nat_eq, Bool, true, false, arith, List, Option, Some, Ok, Err}
 use Rattle.std.proofs.lemmas.Bool.Decides.{nat_tests}
 use Rattle.archive_check.specs.declared.format.error.Error.{Error}
 use Rattle.archive_check.specs.declared.format.error.Error.TheVariants.{ExceededMaximumSubtreeDepth}
-use Rattle.archive_check.specs.declared.check.regions.Region.{Region}
+use Rattle.archive_check.specs.declared.context.range.Region.{Region}
 use Rattle.archive_check.specs.Value.{Pointer}
 use Rattle.archive_check.specs.Reads.{Schema}
-use Rattle.archive_check.specs.Depth.{Allows, inside}
-use Rattle.archive_check.specs.Ranges.{RangeState, subtree_answer, pushed, one_more, pop_answer, popped}
+use Rattle.archive_check.specs.Ranges.{RangeState, subtree_answer, pushed, one_more, pop_answer, popped, Lands}
 use Rattle.archive_check.specs.Tour.{Seen, region_of, pointee_size, pointee_align}
 use Rattle.archive_check.specs.Walk.{enter}
 use Rattle.archive_check.specs.Trail.{Fault, outside, unaligned, too_deep, TripsEnter, trips_size, trips_range, trips_align, trips_depth, trips_within}
 use Rattle.archive_check.specs.Faults.{IsFor}
 use Rattle.archive_check.specs.Definitions.{Definitions, Knows}
-use Rattle.archive_check.specs.check.Runs.{refused}
-use Rattle.archive_check.specs.check.Entered.{Lands}
+use Rattle.archive_check.specs.Outcomes.{refused}
 use Rattle.archive_check.specs.FreshContexts.{HasLevels}
-use Rattle.archive_check.specs.plan.BoundedSizes.{fits}
+use Rattle.archive_check.specs.BoundedSizes.{fits}
 use Rattle.archive_check.specs.SelfCheck.Ways.{Goes, Halts, enter_way}
 use Rattle.archive_check.specs.SelfCheck.Regions.{NotEntered, not_sized, not_within, not_aligned, not_allowed, EntersNot, Begun, contents_way}
-use Rattle.archive_check.proofs.plan.BoundedSizes.{some_is, some_below, none_is}
-use Rattle.archive_check.proofs.check.ContextAgrees.{taken_back, not_taken}
+use Rattle.archive_check.proofs.BoundedSizes.{some_is, some_below, none_is}
+use Rattle.archive_check.proofs.RangeLevels.{taken_back, not_taken, lands, last_level, levels_inside, inside_few, level_back}
 use Rattle.archive_check.proofs.Depths.{levels_allow}
-use Rattle.archive_check.proofs.RangeLevels.{lands, last_level, levels_inside, inside_few, level_back}
 
 -- what a refusal of the range says
 negative : (n t : ℕ) → negsuc n ≡ pos t → ⊥

@@ -17,7 +17,7 @@ use Rattle.archive_check.specs.SelfCheck.Ways.{Way, Goes, Halts, enter_way}
 use Rattle.archive_check.proofs.ReadingUnique.{pos_one}
 use Rattle.archive_check.proofs.AcceptedWalks.{walked}
 use Rattle.archive_check.proofs.Archives.{some_knows, refusal_no_archive}
-use Rattle.archive_check.proofs.check.OrderlyContexts.{fresh_levels}
+use Rattle.archive_check.proofs.RangeLevels.{fresh_levels}
 
 -- the root is entered where it is said to lie
 entered_root : (s : Schema) (bytes : List ℕ) (limit : Option ℕ) (root : ℕ) (X : Shape) {t : ℕ} {last : Seen} {later : ℕ} → Enter s bytes [] limit (length bytes) (root_pointer root X) t 0 empty later last → RootWalk s bytes limit root X

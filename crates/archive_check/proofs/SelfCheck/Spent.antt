@@ -1,6 +1,6 @@
 -- What is spent on the regions that a type's own check enters.
 use Rattle.std.proofs.Common.{◌≡◌, ℕ, ℤ, ap, ◌+◌, ◌-◌, ◌*◌, ◌<◌, ◌≤◌, arith, Option, Some, None, OnSome, IfNone}
-use Rattle.archive_check.specs.declared.check.regions.Region.{Region}
+use Rattle.archive_check.specs.declared.context.range.Region.{Region}
 use Rattle.archive_check.specs.Ranges.{RangeState, popped}
 use Rattle.archive_check.specs.Pushes.{Spends}
 use Rattle.archive_check.specs.SelfCheck.Regions.{Begun}

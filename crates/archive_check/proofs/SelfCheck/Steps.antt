@@ -7,7 +7,7 @@ use Rattle.archive_check.specs.Reads.{Schema, u32_at, IsOutOfLine, decoded_lengt
 use Rattle.archive_check.specs.Tour.{Seen}
 use Rattle.archive_check.specs.Walk.{walk_parts, walk_boxed, walk_vec, walk_out_of_line, walk_part, walk_none, walk_element, follow_unique, walk_one, walk_run}
 use Rattle.archive_check.specs.Trail.{Fault, trips_parts, trips_boxed, trips_vec, trips_out_of_line, trips_first, trips_later, trips_element, trips_later_element, trips_unique, trips_one, trips_run}
-use Rattle.archive_check.specs.check.Runs.{Outcome, done, refused}
+use Rattle.archive_check.specs.Outcomes.{Outcome, done, refused}
 use Rattle.archive_check.specs.SelfCheck.Ways.{shape_way, parts_way, run_way, enter_way}
 use Rattle.archive_check.specs.SelfCheck.Regions.{follow_way, contents_way}
 

@@ -5,7 +5,7 @@ use Rattle.archive_check.specs.Reads.{Schema}
 use Rattle.archive_check.specs.Tour.{Seen}
 use Rattle.archive_check.specs.Walk.{walk_choice}
 use Rattle.archive_check.specs.Trail.{no_such_variant, trips_choice, trips_tag}
-use Rattle.archive_check.specs.check.Runs.{Outcome, done, refused}
+use Rattle.archive_check.specs.Outcomes.{Outcome, done, refused}
 use Rattle.archive_check.specs.declared.format.error.Error.{Error}
 use Rattle.archive_check.specs.Ranges.{RangeState}
 use Rattle.archive_check.specs.Definitions.{Definitions, both}

@@ -6,7 +6,7 @@ use Rattle.archive_check.specs.Ranges.{RangeState}
 use Rattle.archive_check.specs.Tour.{Seen}
 use Rattle.archive_check.specs.Trail.{Fault}
 use Rattle.archive_check.specs.Definitions.{Definitions, Knows}
-use Rattle.archive_check.specs.check.Runs.{Outcome, done, refused}
+use Rattle.archive_check.specs.Outcomes.{Outcome, done, refused}
 use Rattle.archive_check.specs.FreshContexts.{HasLevels}
 use Rattle.archive_check.specs.SelfCheck.Ways.{Way, Goes, Halts}
 use Rattle.archive_check.proofs.SelfCheck.Outcomes.{some_map, none_map}

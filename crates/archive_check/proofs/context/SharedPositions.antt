@@ -10,7 +10,7 @@ use Rattle.std.specs.Map.{update, lookup}
 use Rattle.std.specs.HashMap.{HashMap, get, Updates, IsUnchanged}
 use Rattle.std.specs.Option.{ForSome}
 use Rattle.archive_check.specs.declared.format.error.Error.TheVariants.{AlreadyFinished}
-use Rattle.archive_check.specs.declared.plan.SharedType.{SharedType}
+use Rattle.archive_check.specs.declared.context.positions.SharedType.{SharedType}
 use Rattle.archive_check.specs.declared.context.positions.SharedPosition.{SharedPosition}
 use Rattle.archive_check.specs.declared.format.expr.FlavorInfo.{FlavorInfo}
 use Rattle.archive_check.specs.declared.format.expr.Pointee.{Pointee as PointeeExpr}

@@ -6,7 +6,7 @@ use Rattle.archive_check.specs.declared.format.error.Error.TheVariants.{OutOfMem
 use Rattle.archive_check.specs.Shape.{Name, Shape, Table, definition}
 use Rattle.archive_check.specs.AddAnswer.{IsAddAnswer}
 use Rattle.archive_check.specs.Definitions.{Definitions, defines, both, listed, Extended, Conflicts}
-use Rattle.archive_check.proofs.plan.Named.{definition_here, append_known, append_unknown, push_some}
+use Rattle.archive_check.proofs.Named.{definition_here, append_known, append_unknown, push_some}
 use Rattle.archive_check.proofs.Elements.{contains_cases, contains_first, contains_later}
 use Rattle.archive_check.proofs.Seen.{same_some}
 use Rattle.archive_check.proofs.WellFormed.{found_stands}

@@ -5,7 +5,7 @@ use Rattle.archive_check.specs.declared.format.expr.Expr.{Expr, Row_of-Expr, end
 use Rattle.archive_check.specs.declared.format.expr.Expr.TheVariants as expr
 use Rattle.archive_check.specs.Shape.{parts, choice, no_part, part, no_variant, variant}
 use Rattle.archive_check.specs.Expressions.{shape_of, shapes_of, variants_of, shapes_in, variants_in}
-use Rattle.archive_check.specs.plan.Measure.{measure_of, measure_of_parts, measure_of_variants}
+use Rattle.archive_check.specs.Measure.{measure_of, measure_of_parts, measure_of_variants}
 use Rattle.std.proofs.lemmas.List.{drop_all}
 
 pub shapes_row : (n : _) (row : Row_of-Expr n) → shapes_of row ≡ shapes_in (items-the_row-Expr n row)

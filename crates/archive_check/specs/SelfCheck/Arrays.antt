@@ -10,7 +10,7 @@ use Rattle.archive_check.specs.Definitions.{Definitions, NoOthers, HasLayout}
 use Rattle.archive_check.specs.NoOthers.{around_reached}
 use Rattle.archive_check.specs.SelfCheck.Laws.{IsCheckOf, own_check}
 use Rattle.archive_check.specs.SelfCheck.Owners.{owned_order}
-use Rattle.archive_check.specs.plan.BoundedSizes.{fits}
+use Rattle.archive_check.specs.BoundedSizes.{fits}
 
 -- so many elements, one behind another
 abbrev pub array_layout : ℕ → Layout → Layout

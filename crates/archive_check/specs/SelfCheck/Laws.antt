@@ -8,13 +8,13 @@ use Rattle.archive_check.specs.Shape.{Name, Kind, unit, bool, char, number, non_
 use Rattle.archive_check.specs.Layout.{kind_size}
 use Rattle.archive_check.specs.Reads.{Schema}
 use Rattle.archive_check.specs.Tour.{Seen}
-use Rattle.archive_check.specs.check.Runs.{Outcome, done, refused}
+use Rattle.archive_check.specs.Outcomes.{Outcome, done, refused}
 use Rattle.archive_check.specs.Walk.{walk_named}
 use Rattle.archive_check.specs.Trail.{trips_named}
-use Rattle.archive_check.specs.plan.BoundedSizes.{fits}
+use Rattle.archive_check.specs.BoundedSizes.{fits}
 use Rattle.archive_check.specs.Definitions.{Definitions, no_definition, listed, Has, Knows}
 use Rattle.archive_check.specs.SelfCheck.Ways.{shape_way}
-use Rattle.archive_check.specs.plan.Names.{missing}
+use Rattle.archive_check.specs.MissingNames.{missing}
 use Rattle.archive_check.specs.SelfCheck.Orders.{IsOrder}
 
 -- under the schema, what comes of a Y comes of the X in its place

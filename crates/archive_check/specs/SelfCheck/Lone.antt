@@ -1,13 +1,13 @@
 -- Parts of which at most one brings definitions: these are in an order, since no two can define one name.
-use Rattle.std.specs.Prelude.{◌≡◌, ◌⊎◌, ℕ, ◌≤◌, Bool, ◌&&◌, ◌||◌, true, false, List, [], ◌∷◌, ◌++◌, Option, None, Some, IsTrue, nat_le, nat_lt}
+use Rattle.std.specs.Prelude.{◌≡◌, ◌⊎◌, ℕ, ◌≤◌, Bool, ◌&&◌, ◌||◌, true, false, [], ◌∷◌, ◌++◌, Option, None, Some, IsTrue, nat_le, nat_lt}
 use Rattle.std.proofs.Common.{refl, ap, ◌∙◌, inl, inr, ⊎_elim, subst, arith}
 use Rattle.std.proofs.lemmas.Bool.{and_parts}
 use Rattle.std.proofs.lemmas.Bool.Decides.{nat_tests}
 use Rattle.std.proofs.lemmas.List.{append-nil}
-use Rattle.archive_check.specs.Shape.{Name, Shape, leaf, parts, choice, array, boxed, vec, str, shared, weak, named, Pointee, one, run, text, Parts, no_part, part, Variants, no_variant, variant, Table, definition}
+use Rattle.archive_check.specs.Shape.{Name, Shape, leaf, parts, choice, array, boxed, vec, str, shared, weak, named, Pointee, one, run, text, Parts, no_part, part, Variants, no_variant, variant, Table}
 use Rattle.archive_check.specs.Definitions.{Definitions, no_definition, both, listed}
-use Rattle.archive_check.specs.plan.Names.{or_else, missing, pointee_missing, parts_missing, variants_missing}
-use Rattle.archive_check.specs.plan.BoundedSizes.{fits}
+use Rattle.archive_check.specs.MissingNames.{or_else, missing, pointee_missing, parts_missing, variants_missing}
+use Rattle.archive_check.specs.BoundedSizes.{fits}
 use Rattle.archive_check.specs.SelfCheck.Orders.{AllIn, IsOrder}
 use Rattle.archive_check.specs.SelfCheck.Laws.{IsCheckOf}
 

@@ -2,7 +2,7 @@
 use Rattle.std.specs.Prelude.{◌≡◌, [], ◌∷◌, ◌++◌, Some, None, true, false}
 use Rattle.archive_check.specs.Shape.{Shape, Table, definition}
 use Rattle.archive_check.specs.Definitions.{Definitions, listed}
-use Rattle.archive_check.specs.plan.Names.{missing}
+use Rattle.archive_check.specs.MissingNames.{missing}
 
 -- each of these is the definition of its name in the table
 abbrev pub AllIn : Table → Table → Type 0

@@ -6,13 +6,13 @@ use Rattle.archive_check.specs.Layout.{pointer_size}
 use Rattle.archive_check.specs.Reads.{Schema}
 use Rattle.archive_check.specs.Walk.{walk_boxed, walk_vec}
 use Rattle.archive_check.specs.Trail.{trips_boxed, trips_vec}
-use Rattle.archive_check.specs.check.Runs.{done, refused}
+use Rattle.archive_check.specs.Outcomes.{done, refused}
 use Rattle.archive_check.specs.Defined.{mentions_boxed, mentions_vec, mentions_one, mentions_run}
 use Rattle.archive_check.specs.Definitions.{Definitions, no_definition, NoOthers}
 use Rattle.archive_check.specs.NoOthers.{around_reached}
 use Rattle.archive_check.specs.SelfCheck.Orders.{IsOrder}
 use Rattle.archive_check.specs.SelfCheck.Laws.{IsCheckOf, Leads, own_check, plain_check, no_more}
-use Rattle.archive_check.specs.plan.Names.{missing}
+use Rattle.archive_check.specs.MissingNames.{missing}
 
 -- an order of what lies there is one of the owner, which mentions the same names
 pub owned_order : (D : Definitions) (X Y : Shape) (order : Table) → missing true order Y ≡ missing true order X → IsOrder D X order → IsOrder D Y order

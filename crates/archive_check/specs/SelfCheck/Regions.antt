@@ -2,18 +2,17 @@
 use Rattle.std.specs.Prelude.{◌≡◌, ℕ, ◌+◌, ◌%◌, ◌≤◌, ℤ, pos, List, Option, Some, None}
 use Rattle.std.proofs.Common.{inl, inr, arith}
 use Rattle.archive_check.specs.declared.format.error.Error.{Error}
-use Rattle.archive_check.specs.declared.check.regions.Region.{Region}
+use Rattle.archive_check.specs.declared.context.range.Region.{Region}
 use Rattle.archive_check.specs.Shape.{Pointee}
 use Rattle.archive_check.specs.Value.{Pointer}
 use Rattle.archive_check.specs.Depth.{Allows, inside}
-use Rattle.archive_check.specs.Ranges.{RangeState}
+use Rattle.archive_check.specs.Ranges.{RangeState, Lands}
 use Rattle.archive_check.specs.Walk.{Follow, WalkContents}
 use Rattle.archive_check.specs.Trail.{Fault, too_large, outside, unaligned, too_deep, TripsFollow, TripsContents}
 use Rattle.archive_check.specs.Faults.{IsFor}
 use Rattle.archive_check.specs.Layout.{up}
 use Rattle.archive_check.specs.Definitions.{IsAlign}
-use Rattle.archive_check.specs.check.Runs.{done, refused}
-use Rattle.archive_check.specs.check.Entered.{Lands}
+use Rattle.archive_check.specs.Outcomes.{done, refused}
 use Rattle.archive_check.specs.FreshContexts.{HasLevels}
 use Rattle.archive_check.specs.SelfCheck.Ways.{Way}
 

@@ -3,7 +3,7 @@
 use denote.Triple.Both.{Both}
 use denote.Ref.{MutBor}
 use Rattle.std.specs.Borrow.{Bor}
-use Rattle.std.specs.Prelude.{◌≡◌, ℕ, ℤ, List, Option, OnSome, IfSome, IfNone, Bool, IsTrue, Some}
+use Rattle.std.specs.Prelude.{ℕ, ℤ, List, Option, OnSome, IfSome, IfNone, Bool, IsTrue}
 use Rattle.archive_check.specs.declared.context.Context as Context
 use Rattle.archive_check.specs.declared.format.error.Error.{Error}
 use Rattle.archive_check.specs.Definitions.{Definitions}

@@ -11,7 +11,7 @@ use Rattle.archive_check.specs.Walk.{Walk, WalkParts, WalkRun, Enter}
 use Rattle.archive_check.specs.Trail.{Fault, Trips, TripsParts, TripsRun, TripsEnter}
 use Rattle.archive_check.specs.Faults.{IsFor}
 use Rattle.archive_check.specs.Definitions.{Definitions, Knows}
-use Rattle.archive_check.specs.check.Runs.{Outcome, done, refused}
+use Rattle.archive_check.specs.Outcomes.{Outcome, done, refused}
 use Rattle.archive_check.specs.FreshContexts.{HasLevels}
 
 -- a way through an archive, under a schema: by what is pending, the levels left, the range's end and start, what is seen, and the outcome

@@ -14,10 +14,18 @@ use crate::context::recalled::FinishedPositions;
 use crate::context::{Context, SharedContext, ValidationState};
 use crate::format::error::Error;
 use crate::format::expr::{Expr, FlavorInfo, Pointee};
-use crate::plan::SharedType;
 use std::alloc::{AllocError, Allocator, Global};
 use std::collections::HashMap;
 use std::hash::{BuildHasherDefault, FoldHasher};
+
+/// What makes two shared pointers of one type: their flavor, and their pointee as it is written.
+#[derive(Drop)]
+pub struct SharedType {
+    /// The flavor.
+    pub flavor: FlavorInfo,
+    /// The pointee.
+    pub pointee: Pointee,
+}
 
 /// What is kept of a shared position: its type, by its place in the list of types, its length, and whether it is finished.
 #[derive(Clone, Copy)]

@@ -10,6 +10,19 @@ use crate::format::layout::Layout;
 use std::marker::{Model, PhantomData};
 use std::ops::Range;
 
+/// A region that is entered, and the range that is given back where it is left. Positions are in bytes from the buffer's first one.
+#[derive(Clone, Copy)]
+pub struct Region {
+    /// Where it begins.
+    pub begin: usize,
+    /// How many bytes it has.
+    pub size: usize,
+    /// Where the range begins.
+    pub outer_start: usize,
+    /// Where the range ends.
+    pub outer_end: usize,
+}
+
 // Whether a position is a multiple of an alignment: by a mask where that is a power of two, since a division is slow.
 fn is_multiple(position: usize, align: usize) -> bool
     requires { 0 < align }

@@ -1,8 +1,7 @@
 //! Contexts of a check that are made of one for the range and one for the shared positions.
 
 ghost use Rattle.std.specs.Prelude.{◌≡◌, ◌≢◌, Some, None, OnOk, OnErr};
-ghost use Rattle.archive_check.specs.FreshContexts.{IsWhole};
-ghost use Rattle.archive_check.specs.FreshContexts.{IsWholeIn};
+ghost use Rattle.archive_check.specs.FreshContexts.{IsWhole, IsWholeIn};
 ghost use Rattle.archive_check.specs.PositionStates.{IsStartAnswer, Starts, entry_as};
 
 use crate::context::positions::SharedValidator;

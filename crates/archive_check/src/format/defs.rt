@@ -38,7 +38,7 @@ impl Defs {
     /// Defines `name`. Answers true where the name is new, and false where it has this very definition already. Refused with `ShapeConflict`, 30,
     /// where it has another one, and with `OutOfMemory`, 1, where it is new and memory is refused; a refused call changes nothing. Memory comes
     /// from the allocator that the definitions were made with.
-    #[tactic(auto, using(crate::proofs::plan::Named::tables))]
+    #[tactic(auto, using(crate::proofs::Named::tables))]
     pub fn add(&mut self, name: &'static str, expr: Expr) -> Result<bool, Error>
         ensures answer { IsAddAnswer (definition (table_of self.old) name.now) (shape_of expr) result }
         ensures added { IfOk result (λ new. table_of self.new ≡ table_after (table_of self.old) name.now (shape_of expr) new) }
@@ -61,8 +61,8 @@ impl Defs {
 }
 
 impl Defs {
-    // The definitions.
-    pub(crate) fn into_items(self) -> Vec<Def>
+    /// The definitions, in the order in which they were added.
+    pub fn into_items(self) -> Vec<Def>
         ensures { entries_of result.items ≡ table_of self }
     {
         self.items
@@ -70,7 +70,7 @@ impl Defs {
 }
 
 // The first definition of a name.
-#[tactic(auto, using(crate::proofs::plan::Named::tables))]
+#[tactic(auto, using(crate::proofs::Named::tables))]
 fn find<'a>(items: &'a [Def], name: &str) -> Option<&'a Expr>
     ensures { IsFound result (definition (entries_of items.now) name.now) }
 {

@@ -277,7 +277,7 @@ fn same_variant_lists(a: &[Vec<Expr>], b: &[Vec<Expr>]) -> bool
 }
 
 #[cycle(copy)]
-#[tactic(auto, using(crate::proofs::format::Views::views, crate::proofs::plan::Copies::copies))]
+#[tactic(auto, using(crate::proofs::format::Views::views, crate::proofs::format::Copies::copies))]
 fn copy_expression(expr: &Expr) -> Result<Expr, AllocError>
     ensures { IfOk result (λ e. shape_of e ≡ shape_of expr.now) }
 {
@@ -302,7 +302,7 @@ fn copy_expression(expr: &Expr) -> Result<Expr, AllocError>
 }
 
 #[cycle(copy)]
-#[tactic(auto, using(crate::proofs::format::Views::views, crate::proofs::plan::Copies::copies))]
+#[tactic(auto, using(crate::proofs::format::Views::views, crate::proofs::format::Copies::copies))]
 fn copy_pointee(pointee: &Pointee) -> Result<Pointee, AllocError>
     ensures { IfOk result (λ p. pointee_of p ≡ pointee_of pointee.now) }
 {
@@ -314,7 +314,7 @@ fn copy_pointee(pointee: &Pointee) -> Result<Pointee, AllocError>
 }
 
 #[cycle(copy)]
-#[tactic(auto, using(crate::proofs::format::Views::views, crate::proofs::plan::Copies::copies))]
+#[tactic(auto, using(crate::proofs::format::Views::views, crate::proofs::format::Copies::copies))]
 fn copy_parts(alloc: Global, parts: &[Expr]) -> Result<Vec<Expr>, AllocError>
     ensures { IfOk result (λ v. shapes_in v.items ≡ shapes_in parts.now) }
 {
@@ -326,7 +326,7 @@ fn copy_parts(alloc: Global, parts: &[Expr]) -> Result<Vec<Expr>, AllocError>
 }
 
 #[cycle(copy)]
-#[tactic(auto, using(crate::proofs::format::Views::views, crate::proofs::plan::Copies::copies))]
+#[tactic(auto, using(crate::proofs::format::Views::views, crate::proofs::format::Copies::copies))]
 fn copy_variants(alloc: Global, variants: &[Vec<Expr>]) -> Result<Vec<Vec<Expr>>, AllocError>
     ensures { IfOk result (λ v. variants_in v.items ≡ variants_in variants.now) }
 {

@@ -12,8 +12,8 @@ use super::values::{check_value, whole_size};
 use crate::context::ArchiveContext;
 use crate::format::bytes::{read_position, read_u32};
 use crate::format::error::Error;
+use crate::format::extents::times;
 use crate::format::traits::Portable;
-use crate::plan::extents::times;
 use std::marker::PhantomData;
 
 // Checks so many of `T` that take no bytes: the first stands for all.

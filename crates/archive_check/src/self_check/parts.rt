@@ -14,8 +14,8 @@ use super::SelfCheck;
 use super::values::check_value;
 use crate::context::ArchiveContext;
 use crate::format::error::Error;
+use crate::format::extents::offset_of;
 use crate::format::traits::Portable;
-use crate::plan::extents::offset_of;
 use std::marker::PhantomData;
 
 /// Parts that are checked one behind another: `()`, or `(A, R)` for an `A` and then the parts of `R`, or four at once by `FourParts`.

@@ -5,8 +5,8 @@ ghost use Rattle.archive_check.specs.Ranges.{subtree_answer, pop_answer, popped}
 ghost use Rattle.archive_check.specs.SelfCheck.Regions.{Begun, Enters, EntersNot};
 
 use super::refusals::{keep, refuse};
-use crate::check::regions::Region;
 use crate::context::ArchiveContext;
+use crate::context::range::Region;
 use crate::format::error::Error;
 use crate::format::layout::Layout;
 use std::ops::Range;

@@ -2,14 +2,14 @@
 
 ghost use Rattle.std.specs.Prelude.{◌≡◌, ◌≤◌, length, IsTrue, IsOk, IfSome, IfNone, IfOk, OnOk, IfErr};
 ghost use Rattle.std.proofs.Props.{props};
-ghost use Rattle.archive_check.specs.Archives.{Answers, root_in};
+ghost use Rattle.archive_check.specs.Archives.{Answers, root_in, ExplainsNoSchema};
 ghost use Rattle.archive_check.specs.Defined.{WellFormed};
 ghost use Rattle.archive_check.specs.Definitions.{listed};
 ghost use Rattle.archive_check.specs.Faults.{IsOfCheck};
 ghost use Rattle.archive_check.specs.FreshContexts.{HasLevels, KeepsLevels};
-ghost use Rattle.archive_check.specs.OneSchema.{IsSchemaOf-prop};
+ghost use Rattle.archive_schema.specs.OneSchema.{IsSchemaOf-prop};
 ghost use Rattle.archive_check.specs.Pushes.{FewPushed};
-ghost use Rattle.archive_check.specs.Schemas.{IsSchemaOf, ExplainsNoSchema};
+ghost use Rattle.archive_schema.specs.Schemas.{IsSchemaOf};
 ghost use Rattle.archive_types.specs.ArchivesOf.{IsArchiveIn, ReadsArchive, RefusesArchive, AsCheckIfNeverOpen};
 ghost use Rattle.archive_check.specs.Contexts.{AnswersIn};
 
@@ -18,7 +18,7 @@ use archive_types::view::{RawView, Ref};
 use archive_check::context::{ArchiveContext, HighValidator, SharedContext};
 use archive_check::format::error::Error;
 use archive_check::self_check::{SelfCheck, check_root};
-use archive_check::shape::Schema;
+use archive_schema::shape::Schema;
 use std::alloc::Global;
 use std::marker::PhantomData;
 

@@ -14,8 +14,8 @@ use archive_types::traits::{
     size_of_choice,
 };
 use archive_check::format::error::Error;
+use archive_check::format::expr::{Defs, Expr};
 use archive_check::self_check::SelfCheck;
-use archive_check::shape::{Defs, Expr};
 use std::alloc::Global;
 use std::marker::PhantomData;
 

@@ -7,7 +7,7 @@ ghost use Rattle.archive_check.specs.Shape.{array, leaf, number, one, unsigned};
 ghost use Rattle.archive_check.specs.Definitions.{no_definition};
 ghost use Rattle.archive_check.specs.LeafLayout.{no_definition_reached};
 ghost use Rattle.archive_check.specs.SelfCheck.Laws.{by_schema};
-ghost use Rattle.archive_types.specs.OwnRecords.{named_check};
+ghost use Rattle.archive_own.specs.OwnRecords.{named_check};
 
 use crate::archive::HELLO_WORLD;
 use crate::assertions::{assert_holds, assert_same};

@@ -7,8 +7,8 @@ ghost use Rattle.archive_check.specs.declared.format.error.Error.TheVariants.{La
 
 use super::{ArchivePointee, Portable};
 use crate::format::error::Error;
+use crate::format::extents::times;
 use crate::format::layout::Layout;
-use crate::plan::extents::times;
 
 /// What knows how large the region is that a pointer to it leads to.
 pub trait LayoutRaw: ArchivePointee {

@@ -13,7 +13,7 @@ ghost use Rattle.archive_check.specs.AddedDefinitions.{AreAdded};
 use super::Portable;
 use crate::format::error::Error;
 use crate::format::expr::{Defs, Expr};
-use crate::plan::extents::multiple_of;
+use crate::format::extents::multiple_of;
 use crate::self_check::CheckedParts;
 use std::alloc::Global;
 

@@ -14,7 +14,7 @@ use super::Portable;
 use super::parts::PortableParts;
 use crate::format::error::Error;
 use crate::format::expr::{Defs, Expr};
-use crate::plan::extents::multiple_of;
+use crate::format::extents::multiple_of;
 use crate::self_check::CheckedVariants;
 use std::alloc::Global;
 

@@ -1,7 +1,8 @@
 use Rattle.std.proofs.Common.{◌≡◌, ◌∙◌, arith, inr, ⊎_elim, inl, sym, Result, Ok, Err, IfErr}
 use Rattle.archive_check.specs.declared.format.error.Error.{Error}
 use Rattle.std.proofs.lemmas.Result.{on_ok_weaker, IfErr-weaker}
-use Rattle.archive_check.proofs.Archives.{accepts_archive, refuses, refusal_no_archive, answers_unmeant}
+use Rattle.archive_schema.proofs.Archives.{accepts_archive, refuses}
+use Rattle.archive_check.proofs.Archives.{refusal_no_archive, answers_unmeant}
 use Rattle.archive_core.proofs.api.check_pos_with_context.Goals as goal
 
 -- a type that checks itself

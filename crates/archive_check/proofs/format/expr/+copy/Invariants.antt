@@ -1,6 +1,6 @@
 use Rattle.std.proofs.Common.{◌≡◌, ◌++◌, drop}
 use Rattle.archive_check.specs.Expressions.{shape_of, pointee_of, shapes_in, variants_in}
-use Rattle.archive_check.specs.plan.Measure.{measure_of, measure_of_pointee, measure_of_parts, measure_of_variants}
+use Rattle.archive_check.specs.Measure.{measure_of, measure_of_pointee, measure_of_parts, measure_of_variants}
 use Rattle.archive_check.proofs.format.expr.+copy.Given as goal
 
 abbrev pub invariant-copy_parts-loop-i : goal.invariant-copy_parts-loop-i

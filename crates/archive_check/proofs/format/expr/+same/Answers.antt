@@ -1,6 +1,6 @@
 use Rattle.std.proofs.Common.{sym, subst, ◌<◌}
 use Rattle.archive_check.specs.Expressions.{variants_in}
-use Rattle.archive_check.specs.plan.Measure.{measure_of_variants}
+use Rattle.archive_check.specs.Measure.{measure_of_variants}
 use Rattle.archive_check.proofs.format.EqualExpressions.{choice_same}
 use Rattle.archive_check.proofs.format.Views.{choice_falls}
 use Rattle.archive_check.proofs.format.expr.+same.Goals as goal

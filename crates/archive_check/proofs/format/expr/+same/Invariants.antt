@@ -1,7 +1,7 @@
 use Rattle.std.proofs.Common.{◌≡◌, drop}
 use Rattle.archive_check.specs.Expressions.{shape_of, pointee_of, shapes_in, variants_in}
 use Rattle.archive_check.specs.Equality.{same_parts, same_variants}
-use Rattle.archive_check.specs.plan.Measure.{measure_of, measure_of_pointee, measure_of_parts, measure_of_variants}
+use Rattle.archive_check.specs.Measure.{measure_of, measure_of_pointee, measure_of_parts, measure_of_variants}
 use Rattle.archive_check.proofs.format.expr.+same.Given as goal
 
 abbrev pub invariant-same_lists-loop-i : goal.invariant-same_lists-loop-i

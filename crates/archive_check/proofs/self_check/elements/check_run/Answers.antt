@@ -10,7 +10,7 @@ use Rattle.archive_check.proofs.SelfCheck.Ways.{goes_from, halts_from}
 use Rattle.archive_check.proofs.SelfCheck.Regions.{enters_not, region_goes, region_left, region_halts}
 use Rattle.archive_check.proofs.SelfCheck.Layouts.{its_size, its_align, times_is}
 use Rattle.archive_check.proofs.SelfCheck.Steps.{many_way}
-use Rattle.archive_check.proofs.plan.BoundedSizes.{some_is}
+use Rattle.archive_check.proofs.BoundedSizes.{some_is}
 use Rattle.archive_check.proofs.SelfCheck.Spent.{region_spends, left_spends}
 use Rattle.archive_check.proofs.self_check.elements.check_run.Goals as goal
 

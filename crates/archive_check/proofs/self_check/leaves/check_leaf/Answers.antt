@@ -10,7 +10,7 @@ use Rattle.archive_check.specs.Trail.{trips_leaf, illegal}
 use Rattle.archive_check.specs.SelfCheck.Ways.{Halts, shape_way}
 use Rattle.archive_check.proofs.EditedBytes.{bytes_long}
 use Rattle.archive_check.proofs.SelfCheck.Outcomes.{if_none}
-use Rattle.archive_check.proofs.check.EnteredRegions.{not_true, is_true}
+use Rattle.archive_check.proofs.TestedAnswers.{not_true, is_true}
 use Rattle.archive_check.proofs.SelfCheck.Ways.{goes_same}
 use Rattle.archive_check.proofs.self_check.leaves.check_leaf.Goals as goal
 

@@ -6,7 +6,7 @@ use Rattle.archive_check.specs.Ranges.{subtree_answer}
 use Rattle.archive_check.specs.Trail.{too_large}
 use Rattle.archive_check.specs.SelfCheck.Regions.{EntersNot, not_sized}
 use Rattle.archive_check.proofs.SelfCheck.Outcomes.{if_none}
-use Rattle.archive_check.proofs.check.EnteredRegions.{not_err, not_refused}
+use Rattle.archive_check.proofs.TestedAnswers.{not_err, not_refused}
 use Rattle.archive_check.proofs.RangeLevels.{lands}
 use Rattle.archive_check.proofs.SelfCheck.Regions.{astray, stopped_deep, begun}
 use Rattle.archive_check.proofs.self_check.regions.enter.Goals as goal

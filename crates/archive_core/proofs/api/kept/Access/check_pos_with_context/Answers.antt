@@ -1,7 +1,8 @@
 use Rattle.std.proofs.Common.{◌≡◌, arith, inr, ⊎_elim, inl, IsTrue}
 use Rattle.std.proofs.lemmas.Result.{on_ok_weaker, IfErr-weaker}
-use Rattle.archive_check.specs.Schemas.{IsSchemaOf}
-use Rattle.archive_check.proofs.Archives.{accepts_archive, refuses, refusal_no_archive}
+use Rattle.archive_schema.specs.Schemas.{IsSchemaOf}
+use Rattle.archive_schema.proofs.Archives.{accepts_archive, refuses}
+use Rattle.archive_check.proofs.Archives.{refusal_no_archive}
 use Rattle.archive_core.proofs.api.kept.Access.check_pos_with_context.Goals as goal
 
 pub returns-in-None-clause-answer : goal.returns-in-None-clause-answer

@@ -1,6 +1,0 @@
-use Rattle.std.proofs.Common.{◌<◌, ◌≤◌, ℕ}
-use Rattle.archive_check.specs.check.LoopInvariant.{PartIsLegalHere}
-use Rattle.archive_check.proofs.check.Checker.first_to_open.Given as goal
-
-abbrev pub invariant-loop-index : goal.invariant-loop-index
-invariant-loop-index l = (k : ℕ) → l.first ≤ k → k < l.index → PartIsLegalHere l.self l.base k

@@ -1,9 +1,0 @@
-use Rattle.std.proofs.Common.{take}
-use Rattle.archive_check.specs.plan.PlanGrowth.{lists_of}
-use Rattle.archive_check.specs.plan.CompileQueue.{waits_of}
-use Rattle.archive_check.specs.plan.NodeNumbers.{def_shapes}
-use Rattle.archive_check.specs.plan.Planned.{Chained}
-use Rattle.archive_check.proofs.plan.assembly.compile_defs.Given as goal
-
-abbrev pub invariant-loop-i : goal.invariant-loop-i
-invariant-loop-i l = Chained l.names (def_shapes (take l.i l.defs)) l.fn.queue.next (waits_of l.queue) (lists_of l.plan)

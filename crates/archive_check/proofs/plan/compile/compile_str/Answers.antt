@@ -1,6 +1,0 @@
-use Rattle.archive_check.proofs.plan.Restated.{ok_map}
-use Rattle.archive_check.proofs.plan.CompiledPointers.{compiled_str}
-use Rattle.archive_check.proofs.plan.compile.compile_str.Goals as goal
-
-pub returns : goal.returns
-returns c = ok_map c.push-2.result c.push-2.ensures (λ j p. λ names done w. compiled_str c.in_ok-pointee.ensures p)

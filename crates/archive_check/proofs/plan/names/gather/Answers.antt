@@ -1,4 +1,0 @@
-use Rattle.archive_check.proofs.plan.names.gather.Goals as goal
-
-pub returns-clause-ok : goal.returns-clause-ok
-returns-clause-ok c = record { def = c.in-Some.def; taken = c.in-Some.ensures; added = c.in_ok-push.ensures.items }

@@ -1,6 +1,0 @@
-use Rattle.archive_check.specs.Expressions.{entries_of}
-use Rattle.archive_check.specs.plan.Names.{NotReady}
-use Rattle.archive_check.proofs.plan.names.next_ready.Given as goal
-
-abbrev pub invariant-loop-i : goal.invariant-loop-i
-invariant-loop-i l = NotReady (entries_of l.placed) l.rest l.i

@@ -1,0 +1,2 @@
+-- Plans, with what they stand for.
+pub mod Plans

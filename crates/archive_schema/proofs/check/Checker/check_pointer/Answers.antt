@@ -1,0 +1,17 @@
+use Rattle.archive_schema.specs.check.Runs.{run_pointer}
+use Rattle.archive_schema.proofs.check.Entries.{read_at}
+use Rattle.archive_schema.proofs.check.AtOnce.{passes_by}
+use Rattle.std.proofs.Common.{arith}
+use Rattle.archive_schema.proofs.check.TurnInvariants.{node_fits}
+use Rattle.archive_schema.proofs.check.Paid.{pointer_few}
+use Rattle.archive_schema.proofs.check.Checker.check_pointer.Goals as goal
+
+pub returns-clause-passes : goal.returns-clause-passes
+returns-clause-passes g c =
+    let position = read_at (record { sfits = c.read_position-position.type_inv }) c.read_position-position.ensures in
+    passes_by (rw (c.count-count.ensures, position) at c.check_shallow_region.ensures.passes) (λ pending seen o r. run_pointer c.requires.kind r)
+
+pub returns-clause-pays : goal.returns-clause-pays
+returns-clause-pays g c =
+    let few = pointer_few c.requires.fits c.args.target (node_fits c.requires.sound c.requires.kind c.requires.fits).0 in
+    omega (arith, c.check_shallow_region.ensures.pays, few)

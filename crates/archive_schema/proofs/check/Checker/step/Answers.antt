@@ -1,0 +1,64 @@
+use Rattle.std.proofs.Common.{◌<◌, arith}
+use Rattle.std.proofs.lemmas.Int.{to_z_pos}
+use mir.Syntax.{w128}
+use Rattle.archive_schema.proofs.check.LegalElements.{node_takes}
+use Rattle.archive_schema.proofs.check.TurnExits.{no_room, opens_free, opens_no_element, opens_element, element_opened, element_node, leaves, finishes, not_finished}
+use Rattle.archive_schema.proofs.check.Checker.step.Goals as goal
+
+pub returns-in-Part-clause-turn : goal.returns-in-Part-clause-turn
+returns-in-Part-clause-turn g c = rw c.in-Part.is c.open.ensures.turn
+
+pub returns-in-Parts-clause-turn : goal.returns-in-Parts-clause-turn
+returns-in-Parts-clause-turn g c = rw c.in-Parts.is c.open_parts.ensures.turn
+
+pub returns-in-Free-clause-turn : goal.returns-in-Free-clause-turn
+returns-in-Free-clause-turn g c =
+    let ready = rw c.in-Elements.is at c.requires.ready in
+    rw c.in-Elements.is (opens_free ready (element_node ready c.index-self-node.is c.in-Free.is))
+
+pub count_passed-passed-requires-clause-size : goal.count_passed-passed-requires-clause-size
+count_passed-passed-requires-clause-size g c =
+    let ready = rw c.in-Elements.is at c.requires.ready in
+    node_takes ready.fits.0 c.index-self-node.is c.unwrap_or-size.ensures
+
+pub count_passed-passed-requires-clause-fits : goal.count_passed-passed-requires-clause-fits
+count_passed-passed-requires-clause-fits g c =
+    let ready = rw c.in-Elements.is at c.requires.ready in
+    ready.fits.0
+
+pub returns-then-passed-left-clause-turn : goal.returns-then-passed-left-clause-turn
+returns-then-passed-left-clause-turn g c =
+    let ready = rw c.in-Elements.is at c.requires.ready in
+    let takes = node_takes ready.fits.0 c.index-self-node.is c.unwrap_or-size.ensures in
+    rw c.in-Elements.is (opens_no_element ready takes c.count_passed-passed.ensures.passed c.count_passed-passed.ensures.below c.if-passed-left.true)
+
+pub returns-in_err-more_elements-in-Elements-clause-turn : goal.returns-in_err-more_elements-in-Elements-clause-turn
+returns-in_err-more_elements-in-Elements-clause-turn g c = rw c.from_residual.ensures (no_room c.in_err-more_elements-in-Elements.ensures.none)
+
+pub open-requires-in-Elements-clause-ready : goal.open-requires-in-Elements-clause-ready
+open-requires-in-Elements-clause-ready g c =
+    let ready = rw c.in-Elements.is at c.requires.ready in
+    let takes = node_takes ready.fits.0 c.index-self-node.is c.unwrap_or-size.ensures in
+    let lt : c.count_passed-passed.result < c.in-Elements.left = omega (arith, c.if-passed-left.false, c.count_passed-passed.ensures.below) in
+    element_opened ready takes lt c.in_ok-more_elements-in-Elements.ensures.some
+
+pub returns-in_ok-more_elements-in-Elements-clause-turn : goal.returns-in_ok-more_elements-in-Elements-clause-turn
+returns-in_ok-more_elements-in-Elements-clause-turn g c =
+    let ready = rw c.in-Elements.is at c.requires.ready in
+    let takes = node_takes ready.fits.0 c.index-self-node.is c.unwrap_or-size.ensures in
+    let lt : c.count_passed-passed.result < c.in-Elements.left = omega (arith, c.if-passed-left.false, c.count_passed-passed.ensures.below) in
+    rw c.in-Elements.is (opens_element ready takes c.count_passed-passed.ensures.passed lt c.in_ok-more_elements-in-Elements.ensures.some c.open-in-Elements.ensures.turn)
+
+pub returns-in-Leave-clause-turn : goal.returns-in-Leave-clause-turn
+returns-in-Leave-clause-turn g c =
+    let ready = rw c.in-Leave.is at c.requires.ready in
+    rw c.in-Leave.is (leaves ready c.leave_region.ensures.leaves)
+
+pub returns-in-Err-clause-turn : goal.returns-in-Err-clause-turn
+returns-in-Err-clause-turn g c =
+    rw c.in-Finish.is (not_finished c.refuse.ensures.none c.refuse.ensures.fault (to_z_pos w128 c.in-Finish.at (omega arith)) c.in-Err.ensures.answer)
+
+pub returns-in_default-finish_shared-clause-turn : goal.returns-in_default-finish_shared-clause-turn
+returns-in_default-finish_shared-clause-turn g c =
+    let ready = rw c.in-Finish.is at c.requires.ready in
+    rw c.in-Finish.is (finishes ready (to_z_pos w128 c.in-Finish.at (omega arith)) c.in_default-finish_shared.ensures.range c.in_default-finish_shared.ensures.finished)

@@ -1,0 +1,249 @@
+-- A region is entered: what the range calls say, and what is left to do.
+use Rattle.std.proofs.Common.{◌≡◌, ◌≢◌, ℕ, ℤ, pos, negsuc, refl, sym, ap, ap₂, ◌∙◌, slice_index_or, ◌+◌, ◌-◌, ◌*◌, ◌%◌, ◌<◌, ◌≤◌, nat_le, nat_eq, Bool, true, false, arith, List, ◌∷◌, length, Option, Some, None, Ok, Err, IsUtf8}
+use Rattle.std.proofs.lemmas.Bool.Decides.{nat_tests}
+use Rattle.archive_check.specs.declared.format.error.Error.{Error}
+use Rattle.archive_check.specs.declared.format.error.Error.TheVariants.{ExceededMaximumSubtreeDepth}
+use Rattle.archive_schema.specs.declared.plan.PointeeKind.{PointeeKind}
+use Rattle.archive_schema.specs.declared.plan.PointeeKind.TheVariants.{One, Run, Text}
+use Rattle.archive_schema.specs.declared.plan.NodeKind.TheVariants.{Free}
+use Rattle.archive_schema.specs.declared.plan.Node.{Node}
+use Rattle.archive_schema.specs.declared.check.Checker.{Checker}
+use Rattle.archive_schema.specs.declared.check.worklist.Work.{Work}
+use Rattle.archive_schema.specs.declared.check.worklist.Work.TheVariants.{Part as PartWork, Elements, Leave}
+use Rattle.archive_check.specs.Depth.{inside}
+use Rattle.archive_check.specs.Ranges.{RangeState, subtree_answer, pushed, one_more, pop_answer, popped, Lands}
+use Rattle.archive_check.specs.PositionStates.{Positions}
+use Rattle.archive_check.specs.Reads.{bytes_at}
+use Rattle.archive_check.specs.Tour.{Seen}
+use Rattle.archive_check.specs.Trail.{Fault, outside, unaligned, too_deep}
+use Rattle.archive_check.specs.BoundedSizes.{times}
+use Rattle.archive_check.specs.Outcomes.{Outcome, done, refused}
+use Rattle.archive_schema.specs.check.Runs.{Takes, RegionIs, EnterRuns, enter_outside, enter_unaligned, enter_too_deep, enter_stop, contents_text, contents_empty, contents_one, contents_run, run_free, elements_free, IsNode, enter_within, ListRuns}
+use Rattle.archive_check.specs.Faults.{IsFor}
+use Rattle.archive_check.specs.declared.context.range.Region.{Region}
+use Rattle.archive_schema.specs.check.Entered.{Entered}
+use Rattle.archive_schema.specs.check.Through.{Rule, Through, Stops, region_rule, contents_rule}
+use Rattle.archive_schema.specs.check.LoopInvariant.{and_then, RegionIsLegalHere, Ready, stage, pending_in, regions_in, Agreeing, IsOrderly, Listing, Entering, TurnLeads, power, level, cost}
+use Rattle.archive_check.specs.FreshContexts.{HasLevels}
+use Rattle.archive_schema.proofs.check.TurnRules.{enter_one, enter_run}
+use Rattle.archive_schema.proofs.check.ContextAgrees.{allows, agrees_inside, levels_of}
+use Rattle.archive_check.proofs.RangeLevels.{taken_back, not_taken, lands, last_level, levels_inside, inside_few, level_back}
+use Rattle.archive_schema.proofs.check.OrderlyContexts.{orderly_levels, orderly_inside}
+use Rattle.archive_schema.proofs.check.TurnsEnd.{level_end, falls_enter}
+use Rattle.archive_check.proofs.Depths.{levels_allow}
+
+negative : (n t : ℕ) → negsuc n ≡ pos t → ⊥
+negative n t e = cc
+
+pos_same : (n t : ℕ) → pos n ≡ pos t → n ≡ t
+pos_same n t e = cc
+
+-- what a refusal of the range says
+pub astray : (m : Checker) (j n : ℕ) (target : PointeeKind) (s : RangeState) (z : ℤ) (size align : ℕ) (e : Error) → RegionIs m j n (Some size) align → Err e ≡ subtree_answer s z size align
+    → (f : Fault) × IsFor f e × ((pending : List ℕ) (seen : Seen) → EnterRuns m pending s.depth s.end target j n z s.start seen (refused f))
+astray m j n target s (negsuc k) size align e reg h =
+    (outside (negsuc k) size s.start s.end, cc, λ pending seen. enter_outside reg (λ t is above below. negative k t is))
+astray m j n target s (pos k) size align e reg h = astray_by m j n target s k size align e reg (nat_le s.start k) (nat_le (k + size) s.end) (nat_eq (k % align) 0) refl refl refl h
+  where
+    astray_by : (m : Checker) (j n : ℕ) (target : PointeeKind) (s : RangeState) (k : ℕ) (size align : ℕ) (e : Error) → RegionIs m j n (Some size) align → (a b d : Bool) → nat_le s.start k ≡ a → nat_le (k + size) s.end ≡ b → nat_eq (k % align) 0 ≡ d → Err e ≡ subtree_answer s (pos k) size align
+        → (f : Fault) × IsFor f e × ((pending : List ℕ) (seen : Seen) → EnterRuns m pending s.depth s.end target j n (pos k) s.start seen (refused f))
+    astray_by m j n target s k size align e reg true true true p q r h = absurd (grind (arith, nat_tests))
+    astray_by m j n target s k size align e reg true true false p q r h =
+        (unaligned k align, grind (arith, nat_tests), λ pending seen. enter_unaligned reg refl (grind (arith, nat_tests)) (grind (arith, nat_tests)) (grind (arith, nat_tests)))
+    astray_by m j n target s k size align e reg true false d p q r h =
+        (outside (pos k) size s.start s.end, grind (arith, nat_tests), λ pending seen. enter_outside reg (λ t is above below. let same : k ≡ t = pos_same k t is in grind (arith, nat_tests)))
+    astray_by m j n target s k size align e reg false b d p q r h =
+        (outside (pos k) size s.start s.end, grind (arith, nat_tests), λ pending seen. enter_outside reg (λ t is above below. let same : k ≡ t = pos_same k t is in grind (arith, nat_tests)))
+
+-- on the last level no region is entered
+pub stopped_deep : (m : Checker) (j n : ℕ) (target : PointeeKind) (s : RangeState) (z : ℤ) (size align t : ℕ) (e : Error) → RegionIs m j n (Some size) align → Lands s z size align t → s.depth ≡ Some 1 → e ≡ ExceededMaximumSubtreeDepth → Stops (region_rule m target j n z) s e
+stopped_deep m j n target s z size align t e reg at deep is some =
+    (too_deep, is, λ pending seen. enter_too_deep reg at.target at.above at.below at.aligned (last_level s.depth deep))
+
+pub times_size : (size : Option ℕ) (n z : ℕ) → times size n ≡ Some z → 0 < z → (y : ℕ) × (size ≡ Some y) × (n * y ≡ z)
+times_size None n z e lt = absurd (grind (arith, nat_tests))
+times_size (Some y) n z e lt = (y, refl, grind (arith, nat_tests))
+
+-- what the calls on the range say of a region that is entered
+pub entered : (m : Checker) (s s1 s2 : RangeState) (j n : ℕ) (z z' : ℤ) (node : Node) (r : Region) (u : Unit {0})
+    → j < length m.nodes.now → node ≡ slice_index_or m.nodes.now j node → times (slice_index_or m.nodes.now j node).size n ≡ Some r.size
+    → z' ≡ z → z' ≡ pos r.begin → Ok u ≡ subtree_answer s z' r.size (slice_index_or m.nodes.now j node).align
+    → s1 ≡ s → s2 ≡ pushed s1 r.begin → (s1.depth ≡ Some 1 → ⊥) → (r.outer_start ≡ r.begin + r.size) × (r.outer_end ≡ s1.end)
+    → Entered m j n z s s2 r
+entered m s s1 s2 j n z z' node r u known is sized zz target v same pushes deep ends =
+    let w : Ok u ≡ subtree_answer s z r.size (slice_index_or m.nodes.now j node).align = v ∙ ap (λ q. subtree_answer s q r.size (slice_index_or m.nodes.now j node).align) zz in
+    let p : s2 ≡ pushed s r.begin = pushes ∙ ap (λ q. pushed q r.begin) same in
+    record {
+      align = (slice_index_or m.nodes.now j node).align;
+      region = record { node = node; at = record { below = known; is = is }; size_is = ap (λ q. times q.size n) is ∙ sized; align_is = ap (λ q. q.align) is };
+      lands = lands s z r.size (slice_index_or m.nodes.now j node).align r.begin u (sym zz ∙ target) w;
+      start = ap (λ q. q.start) p;
+      end = ap (λ q. q.end) p;
+      depth = ap (λ q. q.depth) p;
+      deep = λ e. deep (ap (λ q. q.depth) same ∙ e);
+      outer_start = ends.0;
+      outer_end = ends.1 ∙ ap (λ q. q.end) same;
+    }
+
+-- what a region holds that is legal as it lies, and leads nowhere
+module _ (m : Checker) (j n z t : ℕ) where
+  pub passes_text : IsUtf8 (bytes_at m.bytes.now t z) → RegionIsLegalHere m Text j n z t
+  passes_text utf pending depth start seen = contents_text utf
+
+  pub passes_empty : (target : PointeeKind) → z ≡ 0 → RegionIsLegalHere m target j n z t
+  passes_empty target none pending depth start seen = contents_empty none
+
+  pub passes_free : (target : PointeeKind) (align : ℕ) → (target ≡ Text → ⊥) → (target ≡ One → n ≡ 1) → RegionIs m j n (Some z) align → IsNode m j Free → t + z ≤ length m.bytes.now → RegionIsLegalHere m target j n z t
+  passes_free target align other one region free fits = by_size (nat_eq z 0) refl
+    where
+      takes : 0 < z → (y : ℕ) × Takes m j y × (n * y ≡ z)
+      takes lt =
+          let k = times_size region.node.size n z region.size_is lt in
+          (k.0, record { node = region.node; at = region.at; size_is = k.1 }, k.2)
+
+      filled : (target : PointeeKind) → (target ≡ Text → ⊥) → (target ≡ One → n ≡ 1) → 0 < z → RegionIsLegalHere m target j n z t
+      filled Text other one lt = absurd (other refl)
+      filled One other one lt = λ pending depth start seen.
+          let k = takes lt in
+          let same : n * k.0 ≡ k.0 = (ap (λ q. q * k.0) (one refl) ∙ omega arith) in
+          contents_one lt (run_free free k.1 (omega (arith, k.2)))
+      filled Run other one lt = λ pending depth start seen. let k = takes lt in contents_run lt (elements_free free k.1 (omega (arith, k.2)))
+
+      by_size : (b : Bool) → nat_eq z 0 ≡ b → RegionIsLegalHere m target j n z t
+      by_size true e = passes_empty target (grind (arith, nat_tests))
+      by_size false e = filled target other one (let some : z ≢ 0 = grind (arith, nat_tests) in omega arith)
+
+-- a target of neither one value nor a text is a run
+pub run_left : (target : PointeeKind) → (target ≡ One → ⊥) → target ≢ Text → target ≡ Run
+run_left One one text = absurd (one refl)
+run_left Run one text = refl
+run_left Text one text = absurd (text refl)
+
+-- nothing of the range changes
+pub through_same : (R : Rule) (s : RangeState) → ((pending : List ℕ) (seen : Seen) → R pending s.depth s.end s.start seen (done s.start seen)) → Through R s s
+through_same R s runs = record { end = refl; depth = λ some. refl; runs = λ some. runs }
+
+module _ (m : Checker) (j n : ℕ) (z : ℤ) (s s' : RangeState) (r : Region) (h : Entered m j n z s s' r) (target : PointeeKind) where
+  -- what the region holds is gone through, and it is left
+  pub region_through : (s1 s2 : RangeState) → Through (contents_rule m target j n r.size r.begin) s' s1 → s2 ≡ popped s1 r.outer_start r.outer_end → Through (region_rule m target j n z) s s2
+  region_through s1 s2 through left =
+      let stop : s2.end ≡ s.end = ap (λ q. q.end) left ∙ h.outer_end in
+      let start : s2.start ≡ r.begin + r.size = ap (λ q. q.start) left ∙ h.outer_start in
+      let within : HasLevels s.depth → HasLevels s'.depth = λ some. rw h.depth (levels_inside s.depth some h.deep) in
+      record {
+        end = stop;
+        depth = λ some. ap (λ q. q.depth) left ∙ ap one_more (through.depth (within some) ∙ h.depth) ∙ level_back s.depth some.levels;
+        runs = λ some pending seen.
+            let inward : s'.depth ≡ inside s.depth = h.depth in
+            let c = rw (inward, h.start) at (through.runs (within some) pending seen) in
+            rw start (enter_within h.region h.lands.target h.lands.above h.lands.below h.lands.aligned (levels_allow s.depth some.levels h.deep) c);
+      }
+
+  -- a region whose contents are gone through can be left
+  pub region_left : (s1 : RangeState) (e : Error) → Through (contents_rule m target j n r.size r.begin) s' s1 → pop_answer s1 r.outer_start ≡ Err e → Stops (region_rule m target j n z) s e
+  region_left s1 e through is some =
+      let within : HasLevels s'.depth = rw h.depth (levels_inside s.depth some h.deep) in
+      let end : s1.end ≡ r.begin = through.end ∙ h.end in
+      let fine = taken_back s1 r.outer_start (omega (arith, end, h.outer_start)) (λ d f. inside_few s.depth some d (sym (through.depth within ∙ h.depth) ∙ f)) in
+      absurd (not_taken s1 r.outer_start e is fine)
+
+  -- what the region holds is refused
+  pub region_stops : (e : Error) → Stops (contents_rule m target j n r.size r.begin) s' e → Stops (region_rule m target j n z) s e
+  region_stops e stops some =
+      let within : HasLevels s'.depth = rw h.depth (levels_inside s.depth some h.deep) in
+      let f = stops within in
+      let inward : s'.depth ≡ inside s.depth = h.depth in
+      (f.0, f.1, λ pending seen. enter_stop h.region h.lands.target h.lands.above h.lands.below h.lands.aligned (levels_allow s.depth some.levels h.deep) (rw (inward, h.start) at (f.2 pending seen)))
+
+-- a region that is gone through is no longer to be entered
+pub region_leads : (m : Checker) (target : PointeeKind) (j n : ℕ) (z : ℤ) (s s' : RangeState) (met met' : Positions) (old : List Work) → Through (region_rule m target j n z) s s' → met' ≡ met → TurnLeads m (Entering m target j n z) (stage s met old) (stage s' met' old)
+region_leads m target j n z s s' met met' old through same = record {
+  keeps = λ h. let back = through.depth (orderly_levels h) in rw (back, same) h;
+  leads = λ seen a.
+      let some = levels_of a in
+      let back = through.depth some in (
+        seen,
+        rw (back, same) a,
+        λ o r. and_then (through.runs some (pending_in old) seen) (rw (back, through.end) at r),
+      );
+}
+
+module _ (m : Checker) (j n : ℕ) (z : ℤ) (s s' : RangeState) (met met' : Positions) (old mid : List Work) (r : Region) (h : Entered m j n z s s' r) (same : met' ≡ met) (list : mid ≡ Leave r.outer_start r.outer_end ∷ old) where
+  listed : mid ≡ Leave (r.begin + r.size) s.end ∷ old
+  listed = list ∙ ap₂ (λ a b. Leave a b ∷ old) h.outer_start h.outer_end
+
+  entered_ready : Ready m s old → Ready m s' mid
+  entered_ready r = record {
+    below = omega (arith, h.end, h.lands.below, r.below);
+    fits = rw listed (omega (arith, h.end), r.below, r.fits);
+  }
+
+  moved : {w w' : List Work} {seen : Seen} {o : Outcome} → w ≡ w' → Listing m (stage s' met' w) seen o → ListRuns m (pending_in w') (inside s.depth) r.begin w' s.start seen o
+  moved e r = let inward : s'.depth ≡ inside s.depth = h.depth in rw (h.start, h.end, inward, e) at r
+
+  entering : {target : PointeeKind} {seen : Seen} {o : Outcome} → Entering m target j n (pos r.begin) (stage s met old) seen o → Entering m target j n z (stage s met old) seen o
+  entering q = rw h.lands.target q
+
+  agreed : {seen : Seen} (new : List Work) → pending_in new ≡ pending_in old → regions_in new ≡ 1 + regions_in old → Agreeing (stage s met old) seen → Agreeing (stage s' met' new) seen
+  agreed new e f a = rw (h.depth, same, e, f) (agrees_inside a (allows a h.deep))
+
+  ordered : (new : List Work) → pending_in new ≡ pending_in old → regions_in new ≡ 1 + regions_in old → IsOrderly (stage s met old) → IsOrderly (stage s' met' new)
+  ordered new e f k = rw (h.depth, same, e, f) (orderly_inside h.deep k)
+
+  module _ (new : List Work) (lt : 0 < r.size) where
+    region_takes : (y : ℕ) × Takes m j y × (n * y ≡ r.size)
+    region_takes =
+        let k = times_size h.region.node.size n r.size h.region.size_is lt in
+        (k.0, record { node = h.region.node; at = h.region.at; size_is = k.1 }, k.2)
+
+    pub entered_one : new ≡ PartWork j r.begin ∷ mid → TurnLeads m (Entering m One j n z) (stage s met old) (stage s' met' new)
+    entered_one e =
+        let whole : new ≡ PartWork j r.begin ∷ Leave (r.begin + r.size) s.end ∷ old = e ∙ ap (λ w. PartWork j r.begin ∷ w) listed in
+        record {
+          keeps = ordered new (ap pending_in whole) (ap regions_in whole);
+          leads = λ seen a. (
+            seen,
+            agreed new (ap pending_in whole) (ap regions_in whole) a,
+            λ o q. entering {target = One} (enter_one m h.region h.lands.above h.lands.below h.lands.aligned (allows a h.deep) lt (moved whole q)),
+          );
+        }
+
+    pub entered_run : new ≡ Elements j n r.begin ∷ mid → TurnLeads m (Entering m Run j n z) (stage s met old) (stage s' met' new)
+    entered_run e =
+        let whole : new ≡ Elements j n r.begin ∷ Leave (r.begin + r.size) s.end ∷ old = e ∙ ap (λ w. Elements j n r.begin ∷ w) listed in
+        record {
+          keeps = ordered new (ap pending_in whole) (ap regions_in whole);
+          leads = λ seen a. (
+            seen,
+            agreed new (ap pending_in whole) (ap regions_in whole) a,
+            λ o q. entering {target = Run} (enter_run m h.region h.lands.above h.lands.below h.lands.aligned (allows a h.deep) lt (moved whole q)),
+          );
+        }
+
+    pub entered_one_ready : Ready m s old → n ≡ 1 → new ≡ PartWork j r.begin ∷ mid → Ready m s' new
+    entered_one_ready q one e =
+        let k = region_takes in
+        let all = entered_ready q in
+        record {
+          below = all.below;
+          fits = rw e (record { size = k.0; takes = k.1; fits = let f : n * k.0 ≡ k.0 = (ap (λ x. x * k.0) one ∙ omega arith) in omega (arith, k.2, h.lands.below, q.below, f) }, all.fits);
+        }
+
+    pub entered_run_ready : Ready m s old → n < 18446744073709551616 → new ≡ Elements j n r.begin ∷ mid → Ready m s' new
+    entered_run_ready q few e =
+        let k = region_takes in
+        let all = entered_ready q in
+        record {
+          below = all.below;
+          fits = rw e (record { size = k.0; few = few; takes = k.1; fits = omega (arith, k.2, h.lands.below, q.below) }, all.fits);
+        }
+
+    pub entered_one_ends : j < length m.nodes.now → new ≡ PartWork j r.begin ∷ mid → cost m s'.end new ≤ power (level (length m.nodes.now) s.end 0 0) + cost m s.end old
+    entered_one_ends known e =
+        rw (e ∙ ap (λ w. PartWork j r.begin ∷ w) listed) (falls_enter (level (length m.nodes.now) s'.end j 18446744073709551616) (level (length m.nodes.now) s.end 0 0) (cost m s.end old)
+        (level_end (length m.nodes.now) s.end s'.end 0 0 j 18446744073709551616 (omega (arith, h.end, h.lands.below)) (omega arith) (omega arith)))
+
+    pub entered_run_ends : j < length m.nodes.now → n < 18446744073709551616 → new ≡ Elements j n r.begin ∷ mid → cost m s'.end new ≤ power (level (length m.nodes.now) s.end 0 0) + cost m s.end old
+    entered_run_ends known few e =
+        rw (e ∙ ap (λ w. Elements j n r.begin ∷ w) listed) (falls_enter (level (length m.nodes.now) s'.end (j + 1) n) (level (length m.nodes.now) s.end 0 0) (cost m s.end old)
+        (level_end (length m.nodes.now) s.end s'.end 0 0 (j + 1) n (omega (arith, h.end, h.lands.below)) (omega arith) (omega arith)))

@@ -1,0 +1,25 @@
+-- Lemmas on plans: names and definitions in order, nodes that are added, and what they stand for.
+pub mod AddedNodes
+pub mod ArrangedDefinitions
+pub mod BoundedSizes
+pub mod CollectedDefinitions
+pub mod Compilable
+pub mod Compiled
+pub mod CompiledChain
+pub mod CompiledParts
+pub mod CompiledPointers
+pub mod ExtentsOf
+pub mod FreeWalks
+pub mod GrowingPlans
+pub mod Named
+pub mod NodeNumbers
+pub mod PackedPlans
+pub mod PlanSizes
+pub mod Planned
+pub mod PlansInOrder
+pub mod PreparedDefinitions
+pub mod Represented
+pub mod Restated
+pub mod ShallowMarks
+pub mod SoundPlans
+pub mod WaitingExpressions

@@ -1,0 +1,386 @@
+-- A run over a plan goes as a walk of the shapes that its nodes stand for, or comes to the same fault.
+use Rattle.std.proofs.Common.{◌≡◌, ◌≢◌, ◌⊎◌, inl, inr, ℕ, ℤ, pos, ◌+ℤ◌, refl, sym, ap, ◌∙◌, ◌+◌, ◌-◌, ◌*◌, ◌%◌, ◌<◌, ◌≤◌, ◌^◌, arith, List, ◌∷◌, length, length-take-le, drop, slice_index, Option, Some, None, suc, zero, false, Bor, IsUtf8, IsTrue, Contains}
+use Rattle.std.specs.FinMap.{get, insert}
+use Rattle.std.proofs.lemmas.Str.{IsUtf8-nil}
+use Rattle.archive_check.specs.declared.format.expr.Kind.{Kind as KindExpr}
+use Rattle.archive_schema.specs.declared.plan.PointeeKind.{PointeeKind}
+use Rattle.archive_schema.specs.declared.plan.PointeeKind.TheVariants.{One, Run, Text}
+use Rattle.archive_schema.specs.declared.plan.NodeKind.{NodeKind}
+use Rattle.archive_schema.specs.declared.plan.NodeKind.TheVariants.{Free, Leaf, Record, Choice, Array, Pointer as PointerNode, Str, Shared, Weak}
+use Rattle.archive_schema.specs.declared.plan.Span.{Span}
+use Rattle.archive_check.specs.declared.context.positions.SharedType.{SharedType}
+use Rattle.archive_schema.specs.declared.check.Checker.{Checker}
+use Rattle.archive_check.specs.Shape.{Kind, unit, bool, char, number, non_zero, raw_rel, Flavor, Shape, Pointee, one, run, text, Parts, part, variant_at}
+use Rattle.archive_check.specs.Layout.{kind_size, up, size_of, align_of}
+use Rattle.archive_check.specs.Value.{Pointer}
+use Rattle.archive_check.specs.Reads.{Schema, bytes_at, u32_at, i32_at, IsLegal, IsLegalNumber, kind_number, IsOutOfLine, before_end, decoded_length, length_at, pointer_at, string_at}
+use Rattle.archive_check.specs.Depth.{Allows, inside}
+use Rattle.archive_check.specs.Tour.{Seen, Entry, pointee_size, pointee_align}
+use Rattle.archive_check.specs.Trail.{Fault, too_large, outside, unaligned, too_deep, cyclic, other_type, other_length, illegal, no_such_variant, no_text, no_string, Trips, trips_leaf, trips_parts, trips_tag, trips_choice, trips_array, trips_boxed, trips_vec, trips_inline, trips_short, trips_out_of_line, trips_shared, trips_weak, trips_named, TripsParts, trips_first, trips_later, TripsRun, trips_element, trips_later_element, TripsFollow, trips_unique, trips_before, trips_new, trips_type, trips_length, trips_cycle, TripsEnter, trips_size, trips_range, trips_align, trips_depth, trips_within, TripsContents, trips_one, trips_run, trips_text}
+use Rattle.archive_check.specs.Walk.{Walk, walk_leaf, walk_parts, walk_choice, walk_array, walk_boxed, walk_vec, walk_inline, walk_out_of_line, walk_shared, walk_null, walk_weak, walk_named, WalkParts, walk_no_part, walk_part, WalkRun, walk_none, walk_element, Follow, follow_unique, follow_new, follow_again, Enter, enter, WalkContents, walk_one, walk_run, walk_text}
+use Rattle.archive_check.specs.Expressions.{kind_of, flavor_of, pointee_of}
+use Rattle.archive_check.specs.PositionStates.{SameType}
+use Rattle.archive_schema.specs.check.Runs.{pointer_bytes, pointee_count, pointee_length, entry_for, IsNode, Takes, RegionIs, NodeRuns, run_free, run_leaf, run_illegal, run_record, run_choice, run_tag, run_array, run_pointer, run_inline, run_no_text, run_short, run_out_of_line, run_shared, run_null, run_weak, FollowRuns, follow_before, follow_new as runs_new, follow_again as runs_again, follow_type, follow_length, follow_cycle, PartsRun, parts_end, parts_next, parts_stop, ElementsRun, elements_end, elements_next, elements_free, elements_stop, EnterRuns, enter_too_large, enter_outside, enter_unaligned, enter_too_deep, enter_within, enter_stop, ContentsRun, contents_empty, contents_one, contents_run, contents_text, contents_no_text}
+use Rattle.archive_check.specs.Elements.{IsAt}
+use Rattle.archive_check.specs.Outcomes.{Outcome, done, refused}
+use Rattle.archive_schema.specs.plan.SoundPlans.{NodeKindFits, IsSound}
+use Rattle.archive_schema.specs.plan.Represents.{StandsFor, stands, stands_named, PartsStand, parts_over, parts_more, Sized, Points, points_one, points_run, points_text, Made, made_free, made_leaf, made_record, made_choice, made_array, made_boxed, made_vec, made_str, made_shared, made_weak, Represents, OutcomeSays}
+use Rattle.archive_check.proofs.ReadingUnique.{pos_one}
+use Rattle.archive_schema.proofs.plan.PlanSizes.{take_same, times_some, times_many, sized_takes, element_few}
+use Rattle.archive_check.proofs.Elements.{same_at}
+use Rattle.archive_check.proofs.LittleEndian.{some_byte}
+use Rattle.std.proofs.Math.Nat.{eq_of_mul-eq-mul_left, mul-zero}
+
+pub says_map : {W V : ℕ → Seen → Type 0} {T F : Fault → Type 0} (o : Outcome) → ((a : ℕ) (k : Seen) → W a k → V a k) → ((e : Fault) → T e → F e) → OutcomeSays W T o → OutcomeSays V F o
+says_map (done a k) f g h = f a k h
+says_map (refused e) f g h = g e h
+
+empty_number : (kind : Kind) (n : ℕ) → kind_size kind ≡ 0 → IsLegalNumber kind n
+empty_number unit n e = tt
+empty_number bool n e = absurd (omega arith)
+empty_number char n e = absurd (omega arith)
+empty_number (number sign width) n e = tt
+empty_number (non_zero sign width) n e = absurd (omega (arith, e, some_byte width))
+empty_number (raw_rel sign width) n e = tt
+
+empty_length : (bytes : List ℕ) (p n : ℕ) → n ≡ 0 → length (bytes_at bytes p n) ≡ n
+unfolding bytes_at
+empty_length bytes p n e = length-take-le n (drop p bytes) (omega (arith, e))
+
+-- what takes nothing and isn't free is such a leaf
+abbrev pub Nothing : NodeKind → Type 0
+Nothing kind = (kind ≡ Free) ⊎ ((leaf_kind : KindExpr) × (kind ≡ Leaf leaf_kind) × (kind_size (kind_of leaf_kind) ≡ 0))
+
+empty_target : (target : PointeeKind) → pointer_bytes target ≤ 0 → ⊥
+empty_target One h = omega arith
+empty_target Run h = omega arith
+empty_target Text h = omega arith
+
+empty_kind : (m : Checker) (i : ℕ) (kind : NodeKind) → NodeKindFits m i 0 kind → Nothing kind
+empty_kind m i Free h = inl refl
+empty_kind m i (Leaf kind) h = inr (kind, refl, omega (arith, h))
+empty_kind m i (Record a b) h = absurd (omega (arith, h.0))
+empty_kind m i (Choice name a b) h = absurd (omega (arith, h.tag))
+empty_kind m i (Array n j) h = absurd (omega (arith, h.0))
+empty_kind m i (PointerNode target j) h = absurd (empty_target target h.0)
+empty_kind m i (Str j) h = absurd (omega (arith, h.0))
+empty_kind m i (Shared k target j) h = absurd (empty_target target h.0)
+empty_kind m i (Weak k target j) h = absurd (empty_target target h.0)
+
+empty_text : (bytes : List ℕ) (t n : ℕ) → n ≡ 0 → IsUtf8 (bytes_at bytes t n)
+unfolding bytes_at
+empty_text bytes t n e = rw e IsUtf8-nil
+
+-- a pointer to one value leads to one, and says no length
+abbrev pub Counts : PointeeKind → ℕ → ℕ → Type 0
+Counts One n l = n ≡ 1
+Counts Run n l = n ≡ l
+Counts Text n l = n ≡ l
+
+counts_of : (bytes : List ℕ) (p : ℕ) (target : PointeeKind) → Counts target (pointee_count bytes p target) (pointee_length bytes p target)
+counts_of bytes p One = refl
+counts_of bytes p Run = refl
+counts_of bytes p Text = refl
+
+abbrev pub leading : Option Flavor → ℤ → Pointee → ℕ → Pointer
+leading sharing where_to P l = record { target = where_to; sharing = sharing; pointee = P; length = l }
+
+-- a shared pointer, as its shared_type says
+abbrev pub sorted : SharedType → ℤ → ℕ → Pointer
+sorted shared_type where_to l = leading (Some (flavor_of shared_type.flavor)) where_to (pointee_of shared_type.pointee) l
+
+module _ (s : Schema) (shapes : ℕ → Shape) (m : Checker) where
+  pub stands_walk : {X : Shape} {j : ℕ} {pending : List ℕ} {depth : Option ℕ} {stop p start later : ℕ} {seen last : Seen} → StandsFor s shapes X j → Walk s m.bytes.now pending depth stop p (shapes j) start seen later last → Walk s m.bytes.now pending depth stop p X start seen later last
+  stands_walk (stands e) w = rw e at w
+  stands_walk (stands_named d h) w = walk_named d (stands_walk h w)
+
+  pub stands_trips : {X : Shape} {j : ℕ} {pending : List ℕ} {depth : Option ℕ} {stop p start : ℕ} {seen : Seen} {e : Fault} → StandsFor s shapes X j → Trips s m.bytes.now pending depth stop p (shapes j) start seen e → Trips s m.bytes.now pending depth stop p X start seen e
+  stands_trips (stands e) w = rw e at w
+  stands_trips (stands_named d h) w = trips_named d (stands_trips h w)
+
+  -- what each kind of run says: with each outcome a walk or a fault
+  abbrev pub ShapeSays : Shape → List ℕ → Option ℕ → ℕ → ℕ → ℕ → Seen → Outcome → Type 0
+  ShapeSays X pending depth stop p start seen o = OutcomeSays (Walk s m.bytes.now pending depth stop p X start seen) (Trips s m.bytes.now pending depth stop p X start seen) o
+
+  abbrev pub NodeSays : List ℕ → Option ℕ → ℕ → ℕ → ℕ → ℕ → Seen → Outcome → Type 0
+  NodeSays pending depth stop i p start seen o = ShapeSays (shapes i) pending depth stop p start seen o
+
+  abbrev pub PartsSay : ℕ → Parts → List ℕ → Option ℕ → ℕ → ℕ → ℕ → Seen → Outcome → Type 0
+  PartsSay at ps pending depth stop p start seen o = OutcomeSays (WalkParts s m.bytes.now pending depth stop p at ps start seen) (TripsParts s m.bytes.now pending depth stop p at ps start seen) o
+
+  abbrev pub RunSays : ℕ → Shape → List ℕ → Option ℕ → ℕ → ℕ → ℕ → Seen → Outcome → Type 0
+  RunSays n X pending depth stop p start seen o = OutcomeSays (WalkRun s m.bytes.now pending depth stop p n X start seen) (TripsRun s m.bytes.now pending depth stop p n X start seen) o
+
+  abbrev pub FollowSays : Pointer → List ℕ → Option ℕ → ℕ → ℕ → Seen → Outcome → Type 0
+  FollowSays ptr pending depth stop start seen o = OutcomeSays (Follow s m.bytes.now pending depth stop ptr start seen) (TripsFollow s m.bytes.now pending depth stop ptr start seen) o
+
+  abbrev pub EnterSays : Pointer → List ℕ → Option ℕ → ℕ → ℕ → Seen → Outcome → Type 0
+  EnterSays ptr pending depth stop start seen o = OutcomeSays (λ later last. (t : ℕ) × Enter s m.bytes.now pending depth stop ptr t start seen later last) (TripsEnter s m.bytes.now pending depth stop ptr start seen) o
+
+  abbrev pub ContentsSay : Pointee → ℕ → ℕ → List ℕ → Option ℕ → ℕ → Seen → Outcome → Type 0
+  ContentsSay P l t pending depth start seen o = OutcomeSays (WalkContents s m.bytes.now pending depth t t P l start seen) (TripsContents s m.bytes.now pending depth t t P l start seen) o
+
+  made_of : {i z : ℕ} {kind : NodeKind} → Represents s shapes m → IsNode m i kind → Takes m i z → (size_of s.layouts (shapes i) ≡ z) × Made s shapes m kind (shapes i)
+  made_of {i = i} {z = z} r h t =
+      let made = r.made i h.node z h.at (ap (λ q. q.size) (same_at h.at t.at) ∙ t.size_is) in rw h.kind_is at made
+
+  free_case : {X : Shape} {pending : List ℕ} {depth : Option ℕ} {stop p start : ℕ} {seen : Seen} → Made s shapes m Free X → p + size_of s.layouts X ≤ length m.bytes.now → Walk s m.bytes.now pending depth stop p X start seen start seen
+  free_case (made_free h) room = h _ _ _ _ _ _ _ room
+
+  leaf_case : {X : Shape} {kind : KindExpr} {pending : List ℕ} {depth : Option ℕ} {stop p start : ℕ} {seen : Seen} → Made s shapes m (Leaf kind) X → IsLegal (kind_of kind) (bytes_at m.bytes.now p (kind_size (kind_of kind))) → Walk s m.bytes.now pending depth stop p X start seen start seen
+  leaf_case made_leaf h = walk_leaf h
+
+  illegal_case : {X : Shape} {kind : KindExpr} {pending : List ℕ} {depth : Option ℕ} {stop p start : ℕ} {seen : Seen} → Made s shapes m (Leaf kind) X → (IsLegal (kind_of kind) (bytes_at m.bytes.now p (kind_size (kind_of kind))) → ⊥) → Trips s m.bytes.now pending depth stop p X start seen (illegal (kind_of kind))
+  illegal_case made_leaf h = trips_leaf h
+
+  record_case : {X : Shape} {a b : ℕ} (pending : List ℕ) (depth : Option ℕ) (stop p start : ℕ) (seen : Seen) (o : Outcome) → Made s shapes m (Record a b) X → ((ps : Parts) → PartsStand s shapes m a b 0 ps → PartsSay 0 ps pending depth stop p start seen o) → ShapeSays X pending depth stop p start seen o
+  record_case pending depth stop p start seen o (made_record h) says = says_map o (λ a k w. walk_parts w) (λ e t. trips_parts t) (says _ h)
+
+  part_case : {X : Shape} {j mid : ℕ} {pending : List ℕ} {depth : Option ℕ} {stop start : ℕ} {seen known : Seen} (ps : Parts) (at p : ℕ) (o : Outcome) → StandsFor s shapes X j → Walk s m.bytes.now pending depth stop (p + up at (align_of s.layouts X)) (shapes j) start seen mid known → PartsSay (up at (align_of s.layouts X) + size_of s.layouts X) ps pending depth stop p mid known o → PartsSay at (part X ps) pending depth stop p start seen o
+  part_case ps at p o st w rest = says_map o (λ a k ws. walk_part (stands_walk st w) ws) (λ e t. trips_later (stands_walk st w) t) rest
+
+  choice_case : {X : Shape} {a b tag : ℕ} {name : Bor (List ℕ)} {x : Span} (pending : List ℕ) (depth : Option ℕ) (stop p start : ℕ) (seen : Seen) (o : Outcome) → Made s shapes m (Choice name a b) X → tag ≡ slice_index m.bytes.now p → a + tag < b → IsAt m.variants.now (a + tag) x → ((ps : Parts) → PartsStand s shapes m x.first x.last 1 ps → PartsSay 1 ps pending depth stop p start seen o) → ShapeSays X pending depth stop p start seen o
+  choice_case {tag = tag} {x = x} pending depth stop p start seen o (made_choice {vs = vs} f g) e lt at says =
+      let h = f tag x lt at in
+      let is = ap (variant_at vs) (sym e) ∙ h.1 in
+      says_map o (λ a k w. walk_choice is w) (λ e t. trips_choice is t) (says h.0 h.2)
+
+  tag_case : {X : Shape} {a b p : ℕ} {name : Bor (List ℕ)} {pending : List ℕ} {depth : Option ℕ} {stop start : ℕ} {seen : Seen} → Made s shapes m (Choice name a b) X → b ≤ a + slice_index m.bytes.now p → Trips s m.bytes.now pending depth stop p X start seen (no_such_variant name.now (slice_index m.bytes.now p))
+  tag_case (made_choice f g) le = trips_tag (g _ le)
+
+  array_case : {X : Shape} {n j : ℕ} (pending : List ℕ) (depth : Option ℕ) (stop p start : ℕ) (seen : Seen) (o : Outcome) → Made s shapes m (Array n j) X → ((Y : Shape) → StandsFor s shapes Y j → Takes m j (size_of s.layouts Y) → RunSays n Y pending depth stop p start seen o) → ShapeSays X pending depth stop p start seen o
+  array_case pending depth stop p start seen o (made_array st t) says = says_map o (λ a k w. walk_array w) (λ e t. trips_array t) (says _ st t)
+
+  none_case : {X : Shape} {pending : List ℕ} {depth : Option ℕ} {stop p start : ℕ} {seen : Seen} (n : ℕ) → n ≡ 0 → WalkRun s m.bytes.now pending depth stop p n X start seen start seen
+  none_case n e = rw e walk_none
+
+  element_case : {X : Shape} {j z mid : ℕ} {pending : List ℕ} {depth : Option ℕ} {stop start : ℕ} {seen known : Seen} (n p : ℕ) (o : Outcome) → 0 < n → StandsFor s shapes X j → size_of s.layouts X ≡ z → Walk s m.bytes.now pending depth stop p (shapes j) start seen mid known → RunSays (n - 1) X pending depth stop (p + z) mid known o → RunSays n X pending depth stop p start seen o
+  element_case zero p o lt st e w rest = absurd (omega arith)
+  element_case {X = X} (suc n) p o lt st e w rest =
+      let less : suc n - 1 ≡ n = omega arith in
+      says_map o (λ a k ws. walk_element (stands_walk st w) (rw (less, ← e) at ws)) (λ f t. trips_later_element (stands_walk st w) (rw (less, ← e) at t)) rest
+
+  element_stop_case : {X : Shape} {j : ℕ} {pending : List ℕ} {depth : Option ℕ} {stop start : ℕ} {seen : Seen} {e : Fault} (n p : ℕ) → 0 < n → StandsFor s shapes X j → Trips s m.bytes.now pending depth stop p (shapes j) start seen e → TripsRun s m.bytes.now pending depth stop p n X start seen e
+  element_stop_case zero p lt st w = absurd (omega arith)
+  element_stop_case (suc n) p lt st w = trips_element (stands_trips st w)
+
+  -- any bytes are such elements
+  free_run : {X : Shape} {j : ℕ} {pending : List ℕ} {depth : Option ℕ} {stop start : ℕ} {seen : Seen} (n p : ℕ) → StandsFor s shapes X j → Made s shapes m Free (shapes j) → size_of s.layouts (shapes j) ≡ size_of s.layouts X → p + n * size_of s.layouts X ≤ length m.bytes.now → WalkRun s m.bytes.now pending depth stop p n X start seen start seen
+  free_run zero p st made e room = walk_none
+  free_run {X = X} (suc n) p st made e room = walk_element (stands_walk st (free_case made (omega (arith, e)))) (free_run n (p + size_of s.layouts X) st made e (omega arith))
+
+  -- a pointer of its own is followed by entering its region
+  unique_case : (pending : List ℕ) (depth : Option ℕ) (stop start : ℕ) (seen : Seen) (where_to : ℤ) (P : Pointee) (l : ℕ) (o : Outcome) → EnterSays (leading None where_to P l) pending depth stop start seen o → FollowSays (leading None where_to P l) pending depth stop start seen o
+  unique_case pending depth stop start seen where_to P l o says = says_map o (λ a k w. follow_unique refl w.1) (λ e t. trips_unique refl t) says
+
+  -- the plan and the shapes read the same length
+  length_is : {target : PointeeKind} {j : ℕ} {P : Pointee} (p : ℕ) → Points s shapes m target j P → pointee_length m.bytes.now p target ≡ length_at m.bytes.now p P
+  length_is p (points_one k st) = refl
+  length_is p (points_run k st) = refl
+  length_is p (points_text k) = refl
+
+  pointer_case : {X : Shape} {target : PointeeKind} {j : ℕ} (pending : List ℕ) (depth : Option ℕ) (stop p start : ℕ) (seen : Seen) (o : Outcome) → Made s shapes m (PointerNode target j) X → ((P : Pointee) → Points s shapes m target j P → EnterSays (pointer_at m.bytes.now p None P) pending depth stop start seen o) → ShapeSays X pending depth stop p start seen o
+  pointer_case pending depth stop p start seen o (made_boxed h) says = says_map o (λ a k w. walk_boxed w) (λ e t. trips_boxed t) (unique_case pending depth stop start seen _ _ _ o (says _ h))
+  pointer_case pending depth stop p start seen o (made_vec h) says = says_map o (λ a k w. walk_vec w) (λ e t. trips_vec t) (unique_case pending depth stop start seen _ _ _ o (says _ h))
+
+  inline_case : {X : Shape} {j p : ℕ} {pending : List ℕ} {depth : Option ℕ} {stop start : ℕ} {seen : Seen} → Made s shapes m (Str j) X → (IsOutOfLine m.bytes.now p → ⊥) → IsUtf8 (before_end (bytes_at m.bytes.now p 8)) → Walk s m.bytes.now pending depth stop p X start seen start seen
+  inline_case (made_str k) o h = walk_inline o h
+
+  no_text_case : {X : Shape} {j p : ℕ} {pending : List ℕ} {depth : Option ℕ} {stop start : ℕ} {seen : Seen} → Made s shapes m (Str j) X → (IsOutOfLine m.bytes.now p → ⊥) → (IsUtf8 (before_end (bytes_at m.bytes.now p 8)) → ⊥) → Trips s m.bytes.now pending depth stop p X start seen no_text
+  no_text_case (made_str k) o h = trips_inline o h
+
+  short_case : {X : Shape} {j p : ℕ} {pending : List ℕ} {depth : Option ℕ} {stop start : ℕ} {seen : Seen} → Made s shapes m (Str j) X → IsOutOfLine m.bytes.now p → decoded_length (u32_at m.bytes.now p) ≤ 8 → Trips s m.bytes.now pending depth stop p X start seen no_string
+  short_case (made_str k) o h = trips_short o h
+
+  string_case : {X : Shape} {j : ℕ} (pending : List ℕ) (depth : Option ℕ) (stop p start : ℕ) (seen : Seen) (o : Outcome) → Made s shapes m (Str j) X → IsOutOfLine m.bytes.now p → 8 < decoded_length (u32_at m.bytes.now p) → (Points s shapes m Text j text → EnterSays (string_at m.bytes.now p) pending depth stop start seen o) → ShapeSays X pending depth stop p start seen o
+  string_case pending depth stop p start seen o (made_str k) out long says = says_map o (λ a k w. walk_out_of_line out long w) (λ e t. trips_out_of_line out long t) (unique_case pending depth stop start seen _ _ _ o (says (points_text k)))
+
+  -- what comes of following a shared pointer at p of a shared_type
+  abbrev pub SharedTypeSays : ℕ → PointeeKind → ℕ → List ℕ → Option ℕ → ℕ → ℕ → ℕ → Seen → Outcome → Type 0
+  SharedTypeSays k target j pending depth stop p start seen o =
+      (shared_type : SharedType) → IsAt m.shared_types.now k shared_type → Points s shapes m target j (pointee_of shared_type.pointee) → FollowSays (sorted shared_type (pos p +ℤ i32_at m.bytes.now p) (pointee_length m.bytes.now p target)) pending depth stop start seen o
+
+  shared_case : {X : Shape} {target : PointeeKind} {k j : ℕ} (pending : List ℕ) (depth : Option ℕ) (stop p start : ℕ) (seen : Seen) (o : Outcome) → Made s shapes m (Shared k target j) X → SharedTypeSays k target j pending depth stop p start seen o → ShapeSays X pending depth stop p start seen o
+  shared_case pending depth stop p start seen o (made_shared at h) says = says_map o (λ a k w. walk_shared w) (λ e t. trips_shared t) (rw (length_is p h) at (says _ at h))
+
+  weak_case : {X : Shape} {target : PointeeKind} {k j : ℕ} (pending : List ℕ) (depth : Option ℕ) (stop p start : ℕ) (seen : Seen) (o : Outcome) → Made s shapes m (Weak k target j) X → i32_at m.bytes.now p ≢ pos 1 → SharedTypeSays k target j pending depth stop p start seen o → ShapeSays X pending depth stop p start seen o
+  weak_case pending depth stop p start seen o (made_weak at h) some says = says_map o (λ a k w. walk_weak some w) (λ e t. trips_weak some t) (rw (length_is p h) at (says _ at h))
+
+  null_case : {X : Shape} {target : PointeeKind} {k j p : ℕ} {pending : List ℕ} {depth : Option ℕ} {stop start : ℕ} {seen : Seen} → Made s shapes m (Weak k target j) X → i32_at m.bytes.now p ≡ pos 1 → Walk s m.bytes.now pending depth stop p X start seen start seen
+  null_case (made_weak at h) e = walk_null e
+
+  enter_target : {pending : List ℕ} {depth : Option ℕ} {stop t start : ℕ} {ptr : Pointer} {seen last : Seen} {later : ℕ} → Enter s m.bytes.now pending depth stop ptr t start seen later last → ptr.target ≡ pos t
+  enter_target (enter e above below aligned allowed w) = e
+
+  before_case : (pending : List ℕ) (depth : Option ℕ) (stop start : ℕ) (seen : Seen) (shared_type : SharedType) (where_to : ℤ) (l : ℕ) (o : Outcome) → ((t : ℕ) → where_to ≢ pos t) → EnterSays (sorted shared_type where_to l) pending depth stop start seen o → FollowSays (sorted shared_type where_to l) pending depth stop start seen o
+  before_case pending depth stop start seen shared_type where_to l o nowhere says = says_map o (λ a k w. absurd (nowhere w.0 (enter_target w.1))) (λ e t. trips_before refl nowhere t) says
+
+  new_case : {t : ℕ} {old : SharedType} (pending : List ℕ) (depth : Option ℕ) (stop start : ℕ) (seen : Seen) (shared_type : SharedType) (where_to : ℤ) (l : ℕ) (o : Outcome) → old ≡ shared_type → where_to ≡ pos t → get seen t ≡ None → EnterSays (sorted shared_type where_to l) (t ∷ pending) depth stop start (insert seen t (entry_for old l)) o → FollowSays (sorted shared_type where_to l) pending depth stop start seen o
+  new_case {t = t} pending depth stop start seen shared_type where_to l o alike e none says =
+      says_map o (λ a k w. let same : w.0 ≡ t = pos_one (sym (enter_target w.1) ∙ e) in follow_new refl none (rw same at w.1)) (λ f u. trips_new refl e none u) (rw alike at says)
+
+  again_case : {t start stop : ℕ} {pending : List ℕ} {depth : Option ℕ} {seen : Seen} {old : SharedType} (shared_type : SharedType) (where_to : ℤ) (l : ℕ) → old ≡ shared_type → where_to ≡ pos t → get seen t ≡ Some (entry_for old l) → (Contains pending t → ⊥) ⊎ IsTrue old.flavor.cycles → Follow s m.bytes.now pending depth stop (sorted shared_type where_to l) start seen start seen
+  again_case shared_type where_to l same e known free = follow_again refl e (rw same at known) (rw same at free)
+
+  type_case : {t start stop : ℕ} {pending : List ℕ} {depth : Option ℕ} {seen : Seen} {old : SharedType} {met : Entry} (shared_type : SharedType) (where_to : ℤ) (l : ℕ) → old ≡ shared_type → where_to ≡ pos t → get seen t ≡ Some met → (SameType met (entry_for old l) → ⊥) → TripsFollow s m.bytes.now pending depth stop (sorted shared_type where_to l) start seen other_type
+  type_case shared_type where_to l same e known other = trips_type refl e known (rw same at other)
+
+  length_case : {t start stop : ℕ} {pending : List ℕ} {depth : Option ℕ} {seen : Seen} {old : SharedType} {met : Entry} (shared_type : SharedType) (where_to : ℤ) (l : ℕ) → old ≡ shared_type → where_to ≡ pos t → get seen t ≡ Some met → SameType met (entry_for old l) → met.length ≢ l → TripsFollow s m.bytes.now pending depth stop (sorted shared_type where_to l) start seen other_length
+  length_case shared_type where_to l same e known alike other = trips_length refl e known (rw same at alike) other
+
+  cycle_case : {t start stop : ℕ} {pending : List ℕ} {depth : Option ℕ} {seen : Seen} {old : SharedType} (shared_type : SharedType) (where_to : ℤ) (l : ℕ) → old ≡ shared_type → where_to ≡ pos t → get seen t ≡ Some (entry_for old l) → Contains pending t → old.flavor.cycles ≡ false → TripsFollow s m.bytes.now pending depth stop (sorted shared_type where_to l) start seen cyclic
+  cycle_case shared_type where_to l same e known within none = trips_cycle refl e (rw same at known) within (rw same at none)
+
+  -- what a region takes
+  sized_of : {target : PointeeKind} {j : ℕ} {P : Pointee} (n l : ℕ) → Points s shapes m target j P → Counts target n l → (size : ℕ) × Sized m j size (pointee_align s P) × (n * size ≡ pointee_size s P l)
+  sized_of {P = one X} n l (points_one k st) c = (size_of s.layouts X, k, ap (λ x. x * size_of s.layouts X) c ∙ omega arith)
+  sized_of {P = run X} n l (points_run k st) c = (size_of s.layouts X, k, ap (λ x. x * size_of s.layouts X) c)
+  sized_of n l (points_text k) c = (1, k, omega (arith, c))
+
+  region_many : {target : PointeeKind} {j : ℕ} {P : Pointee} {align : ℕ} (n l : ℕ) → Points s shapes m target j P → Counts target n l → RegionIs m j n None align → 18446744073709551616 ≤ pointee_size s P l
+  region_many n l h c g =
+      let k = sized_of n l h c in
+      let e = ap (λ q. q.size) (same_at g.at k.1.at) ∙ k.1.size_is in
+      rw k.2 at (times_many k.0 n g.node.size e g.size_is)
+
+  region_some : {target : PointeeKind} {j : ℕ} {P : Pointee} {align z : ℕ} (n l : ℕ) → Points s shapes m target j P → Counts target n l → RegionIs m j n (Some z) align → (z ≡ pointee_size s P l) × (z < 18446744073709551616) × (align ≡ pointee_align s P)
+  region_some {z = z} n l h c g =
+      let k = sized_of n l h c in
+      let same = same_at g.at k.1.at in
+      let e = ap (λ q. q.size) same ∙ k.1.size_is in
+      let t = times_some k.0 n z g.node.size e g.size_is in
+      (t.0 ∙ k.2, t.1, sym g.align_is ∙ ap (λ q. q.align) same ∙ k.1.align_is)
+
+  too_large_case : {target : PointeeKind} {j : ℕ} {P : Pointee} {align start : ℕ} {pending : List ℕ} {depth : Option ℕ} {stop : ℕ} {seen : Seen} (sharing : Option Flavor) (where_to : ℤ) (n l : ℕ) → Points s shapes m target j P → Counts target n l → RegionIs m j n None align → TripsEnter s m.bytes.now pending depth stop (leading sharing where_to P l) start seen too_large
+  too_large_case sharing where_to n l h c g = trips_size (region_many n l h c g)
+
+  outside_case : {target : PointeeKind} {j : ℕ} {P : Pointee} {z align start : ℕ} {pending : List ℕ} {depth : Option ℕ} {stop : ℕ} {seen : Seen} (sharing : Option Flavor) (where_to : ℤ) (n l : ℕ) → Points s shapes m target j P → Counts target n l → RegionIs m j n (Some z) align → ((t : ℕ) → where_to ≡ pos t → start ≤ t → t + z ≤ stop → ⊥) → TripsEnter s m.bytes.now pending depth stop (leading sharing where_to P l) start seen (outside where_to z start stop)
+  outside_case {P = P} {start = start} {stop = stop} sharing where_to n l h c g f =
+      let k = region_some n l h c g in
+      let few : pointee_size s P l < 2 ^ 64 = omega (arith, k.0, k.1) in
+      let nowhere : (t : ℕ) → where_to ≡ pos t → start ≤ t → t + pointee_size s P l ≤ stop → ⊥ = λ t e above below. f t e above (omega (arith, k.0, below)) in
+      rw k.0 (trips_range {p = leading sharing where_to P l} few nowhere)
+
+  unaligned_case : {target : PointeeKind} {j : ℕ} {P : Pointee} {z align start t : ℕ} {pending : List ℕ} {depth : Option ℕ} {stop : ℕ} {seen : Seen} (sharing : Option Flavor) (where_to : ℤ) (n l : ℕ) → Points s shapes m target j P → Counts target n l → RegionIs m j n (Some z) align → where_to ≡ pos t → start ≤ t → t + z ≤ stop → t % align ≢ 0 → TripsEnter s m.bytes.now pending depth stop (leading sharing where_to P l) start seen (unaligned t align)
+  unaligned_case {P = P} {t = t} {stop = stop} sharing where_to n l h c g e above below f =
+      let k = region_some n l h c g in
+      let within : t + pointee_size s P l ≤ stop = omega (arith, k.0, below) in
+      rw k.2 (trips_align {p = leading sharing where_to P l} e above within (rw k.2 at f))
+
+  deep_case : {target : PointeeKind} {j : ℕ} {P : Pointee} {z align start t : ℕ} {pending : List ℕ} {depth : Option ℕ} {stop : ℕ} {seen : Seen} (sharing : Option Flavor) (where_to : ℤ) (n l : ℕ) → Points s shapes m target j P → Counts target n l → RegionIs m j n (Some z) align → where_to ≡ pos t → start ≤ t → t + z ≤ stop → t % align ≡ 0 → (Allows depth 1 → ⊥) → TripsEnter s m.bytes.now pending depth stop (leading sharing where_to P l) start seen too_deep
+  deep_case {P = P} {t = t} {stop = stop} sharing where_to n l h c g e above below aligned f =
+      let k = region_some n l h c g in
+      let within : t + pointee_size s P l ≤ stop = omega (arith, k.0, below) in
+      trips_depth {p = leading sharing where_to P l} e above within (rw k.2 at aligned) f
+
+  within_case : {target : PointeeKind} {j : ℕ} {P : Pointee} {z align start mid t : ℕ} {pending : List ℕ} {depth : Option ℕ} {stop : ℕ} {seen known : Seen} (sharing : Option Flavor) (where_to : ℤ) (n l : ℕ) → Points s shapes m target j P → Counts target n l → RegionIs m j n (Some z) align → where_to ≡ pos t → start ≤ t → t + z ≤ stop → t % align ≡ 0 → Allows depth 1 → WalkContents s m.bytes.now pending (inside depth) t t P l start seen mid known → (u : ℕ) × Enter s m.bytes.now pending depth stop (leading sharing where_to P l) u start seen (t + z) known
+  within_case {P = P} {t = t} {stop = stop} sharing where_to n l h c g e above below aligned allowed w =
+      let k = region_some n l h c g in
+      let within : t + pointee_size s P l ≤ stop = omega (arith, k.0, below) in
+      rw k.0 (t, enter {p = leading sharing where_to P l} e above within (rw k.2 at aligned) allowed w)
+
+  stop_case : {target : PointeeKind} {j : ℕ} {P : Pointee} {z align start t : ℕ} {pending : List ℕ} {depth : Option ℕ} {stop : ℕ} {seen : Seen} {f : Fault} (sharing : Option Flavor) (where_to : ℤ) (n l : ℕ) → Points s shapes m target j P → Counts target n l → RegionIs m j n (Some z) align → where_to ≡ pos t → start ≤ t → t + z ≤ stop → t % align ≡ 0 → Allows depth 1 → TripsContents s m.bytes.now pending (inside depth) t t P l start seen f → TripsEnter s m.bytes.now pending depth stop (leading sharing where_to P l) start seen f
+  stop_case {P = P} {t = t} {stop = stop} sharing where_to n l h c g e above below aligned allowed w =
+      let k = region_some n l h c g in
+      let within : t + pointee_size s P l ≤ stop = omega (arith, k.0, below) in
+      trips_within {p = leading sharing where_to P l} e above within (rw k.2 at aligned) allowed w
+
+  run_case : (X : Shape) (pending : List ℕ) (depth : Option ℕ) (t start : ℕ) (seen : Seen) (l : ℕ) (o : Outcome) → RunSays l X pending depth t t start seen o → ContentsSay (run X) l t pending depth start seen o
+  run_case X pending depth t start seen l o h = says_map o (λ a k w. walk_run w) (λ e t. trips_run t) h
+
+  one_case : {X : Shape} {j : ℕ} (pending : List ℕ) (depth : Option ℕ) (t start : ℕ) (seen : Seen) (l : ℕ) (o : Outcome) → StandsFor s shapes X j → NodeSays pending depth t j t start seen o → ContentsSay (one X) l t pending depth start seen o
+  one_case pending depth t start seen l o st h = says_map o (λ a k w. walk_one (stands_walk st w)) (λ e t. trips_one (stands_trips st t)) h
+
+  -- what takes nothing is there
+  empty_node : {X : Shape} {pending : List ℕ} {depth : Option ℕ} {stop p start : ℕ} {seen : Seen} (kind : NodeKind) → Nothing kind → Made s shapes m kind X → p + size_of s.layouts X ≤ length m.bytes.now → Walk s m.bytes.now pending depth stop p X start seen start seen
+  empty_node kind (inl free) made room = free_case (rw free at made) room
+  empty_node {p = p} kind (inr (leaf_kind, is, none)) made room =
+      leaf_case (rw is at made) (record { size = empty_length m.bytes.now p (kind_size (kind_of leaf_kind)) none; number = empty_number (kind_of leaf_kind) (kind_number (kind_of leaf_kind) (bytes_at m.bytes.now p (kind_size (kind_of leaf_kind)))) none })
+
+  module _ (r : Represents s shapes m) (sound : IsSound m) where
+    empty_walk : {X : Shape} {j align : ℕ} {pending : List ℕ} {depth : Option ℕ} {stop p start : ℕ} {seen : Seen} → StandsFor s shapes X j → Sized m j (size_of s.layouts X) align → size_of s.layouts X ≡ 0 → p ≤ length m.bytes.now → Walk s m.bytes.now pending depth stop p X start seen start seen
+    empty_walk {j = j} st k e room =
+        let t = sized_takes k (omega (arith, e)) in
+        let size_is = t.size_is ∙ ap Some e in
+        let made = r.made j t.node 0 t.at size_is in
+        stands_walk st (empty_node t.node.kind (empty_kind m j t.node.kind (sound.fits j t.node 0 t.at size_is)) made.1 (omega (arith, made.0, room)))
+
+    empty_run : {X : Shape} {j align : ℕ} {pending : List ℕ} {depth : Option ℕ} {stop start : ℕ} {seen : Seen} (n p : ℕ) → StandsFor s shapes X j → Sized m j (size_of s.layouts X) align → size_of s.layouts X ≡ 0 → p ≤ length m.bytes.now → WalkRun s m.bytes.now pending depth stop p n X start seen start seen
+    empty_run zero p st k e room = walk_none
+    empty_run (suc n) p st k e room = walk_element (empty_walk st k e room) (empty_run n _ st k e (omega (arith, e)))
+
+    empty_some : {X : Shape} {j align : ℕ} {pending : List ℕ} {depth : Option ℕ} {stop start : ℕ} {seen : Seen} (n p : ℕ) → StandsFor s shapes X j → Sized m j (size_of s.layouts X) align → n * size_of s.layouts X ≡ 0 → p ≤ length m.bytes.now → WalkRun s m.bytes.now pending depth stop p n X start seen start seen
+    empty_some zero p st k e room = walk_none
+    empty_some {X = X} (suc n) p st k e room = empty_run (suc n) p st k (eq_of_mul-eq-mul_left (suc n) (omega arith) (size_of s.layouts X) 0 (e ∙ sym (mul-zero (suc n)))) room
+
+    empty_case : {target : PointeeKind} {j : ℕ} {P : Pointee} {pending : List ℕ} {depth : Option ℕ} {t start : ℕ} {seen : Seen} (l : ℕ) → Points s shapes m target j P → pointee_size s P l ≡ 0 → t ≤ length m.bytes.now → WalkContents s m.bytes.now pending depth t t P l start seen start seen
+    empty_case l (points_one k st) e room = walk_one (empty_walk st k e room)
+    empty_case l (points_run k st) e room = walk_run (empty_some l _ st k e room)
+    empty_case {t = t} l (points_text k) e room = walk_text (empty_text m.bytes.now t l e)
+
+    mutual
+      pub node_says : {pending : List ℕ} {depth : Option ℕ} {stop i p start z : ℕ} {seen : Seen} {o : Outcome} → NodeRuns m pending depth stop i p start seen o → Takes m i z → stop ≤ length m.bytes.now → NodeSays pending depth stop i p start seen o
+      node_says (run_free h t room) k le = let made = made_of r h t in free_case made.1 (omega (arith, made.0, room))
+      node_says (run_leaf h legal) k le = leaf_case (made_of r h k).1 legal
+      node_says (run_illegal h wrong) k le = illegal_case (made_of r h k).1 wrong
+      node_says (run_record {o = o} h v) k le = record_case _ _ _ _ _ _ o (made_of r h k).1 (λ ps st. parts_say v st le)
+      node_says (run_choice {o = o} h lt at v) k le = choice_case _ _ _ _ _ _ o (made_of r h k).1 refl lt at (λ ps st. parts_say v st le)
+      node_says (run_tag h none) k le = tag_case (made_of r h k).1 none
+      node_says (run_array {o = o} h v) k le = array_case _ _ _ _ _ _ o (made_of r h k).1 (λ Y st t. elements_say v st t le)
+      node_says (run_pointer {p = p} {o = o} {target = target} h v) k le =
+          pointer_case _ _ _ p _ _ o (made_of r h k).1 (λ P points. rw (length_is p points) at (enter_says None _ v points (counts_of m.bytes.now p target) le))
+      node_says (run_inline h out utf) k le = inline_case (made_of r h k).1 out utf
+      node_says (run_no_text h out wrong) k le = no_text_case (made_of r h k).1 out wrong
+      node_says (run_short h out few) k le = short_case (made_of r h k).1 out few
+      node_says (run_out_of_line {o = o} h out long v) k le = string_case _ _ _ _ _ _ o (made_of r h k).1 out long (λ points. enter_says None _ v points refl le)
+      node_says (run_shared {p = p} {o = o} {target = target} h v) k le = shared_case _ _ _ p _ _ o (made_of r h k).1 (λ shared_type at points. follow_says shared_type v at points (counts_of m.bytes.now p target) le)
+      node_says (run_null h e) k le = null_case (made_of r h k).1 e
+      node_says (run_weak {p = p} {o = o} {target = target} h some v) k le = weak_case _ _ _ p _ _ o (made_of r h k).1 some (λ shared_type at points. follow_says shared_type v at points (counts_of m.bytes.now p target) le)
+
+      pub follow_says : {pending : List ℕ} {depth : Option ℕ} {stop k j n l start : ℕ} {target : PointeeKind} {where_to : ℤ} {seen : Seen} {o : Outcome} (shared_type : SharedType) → FollowRuns m pending depth stop k target j n l where_to start seen o → IsAt m.shared_types.now k shared_type → Points s shapes m target j (pointee_of shared_type.pointee) → Counts target n l → stop ≤ length m.bytes.now → FollowSays (sorted shared_type where_to l) pending depth stop start seen o
+      follow_says shared_type (follow_before {l = l} {o = o} {where_to = where_to} nowhere v) at h c le = before_case _ _ _ _ _ shared_type where_to l o nowhere (enter_says (Some (flavor_of shared_type.flavor)) l v h c le)
+      follow_says shared_type (runs_new {l = l} {o = o} {where_to = where_to} is e none v) at h c le =
+          new_case _ _ _ _ _ shared_type where_to l o (same_at is at) e none (enter_says (Some (flavor_of shared_type.flavor)) l v h c le)
+      follow_says shared_type (runs_again {l = l} {where_to = where_to} is e known free) at h c le = again_case shared_type where_to l (same_at is at) e known free
+      follow_says shared_type (follow_type {l = l} {where_to = where_to} is e known other) at h c le = type_case shared_type where_to l (same_at is at) e known other
+      follow_says shared_type (follow_length {l = l} {where_to = where_to} is e known alike other) at h c le = length_case shared_type where_to l (same_at is at) e known alike other
+      follow_says shared_type (follow_cycle {l = l} {where_to = where_to} is e known within none) at h c le = cycle_case shared_type where_to l (same_at is at) e known within none
+
+      pub parts_say : {pending : List ℕ} {depth : Option ℕ} {stop a b p start at : ℕ} {seen : Seen} {o : Outcome} {ps : Parts} → PartsRun m pending depth stop a b p start seen o → PartsStand s shapes m a b at ps → stop ≤ length m.bytes.now → PartsSay at ps pending depth stop p start seen o
+      parts_say (parts_end le) (parts_over h) room = walk_no_part
+      parts_say (parts_end le) (parts_more lt x off st t rest) room = absurd (omega arith)
+      parts_say (parts_next {o = o} lt at v vs) (parts_over h) room = absurd (omega arith)
+      parts_say (parts_next {o = o} lt at v vs) (parts_more less x off st t rest) room =
+          let same = same_at at x in
+          let w = node_says v (rw (← ap (λ q. q.node) same) at t) room in
+          part_case _ _ _ o st (rw (same, off) at w) (parts_say vs rest room)
+      parts_say (parts_stop lt at v) (parts_over h) room = absurd (omega arith)
+      parts_say (parts_stop lt at v) (parts_more less x off st t rest) room =
+          let same = same_at at x in
+          let w = node_says v (rw (← ap (λ q. q.node) same) at t) room in
+          trips_first (stands_trips st (rw (same, off) at w))
+
+      pub elements_say : {X : Shape} {pending : List ℕ} {depth : Option ℕ} {stop j n p start : ℕ} {seen : Seen} {o : Outcome} → ElementsRun m pending depth stop j n p start seen o → StandsFor s shapes X j → Takes m j (size_of s.layouts X) → stop ≤ length m.bytes.now → RunSays n X pending depth stop p start seen o
+      elements_say (elements_end {n = n} e) st t le = none_case n e
+      elements_say (elements_next {n = n} {p = p} {o = o} lt t' v vs) st t le =
+          element_case n p o lt st (take_same t t') (node_says v t le) (elements_say vs st t le)
+      elements_say (elements_free {n = n} {p = p} h t' room) st t le = let made = made_of r h t in free_run n p st made.1 made.0 (rw (take_same t' t) at room)
+      elements_say (elements_stop {n = n} {p = p} lt v) st t le = element_stop_case n p lt st (node_says v t le)
+
+      pub enter_says : {pending : List ℕ} {depth : Option ℕ} {stop j n start : ℕ} {target : PointeeKind} {where_to : ℤ} {seen : Seen} {o : Outcome} {P : Pointee} (sharing : Option Flavor) (l : ℕ) → EnterRuns m pending depth stop target j n where_to start seen o → Points s shapes m target j P → Counts target n l → stop ≤ length m.bytes.now → EnterSays (leading sharing where_to P l) pending depth stop start seen o
+      enter_says sharing l (enter_too_large {n = n} {where_to = where_to} g) h c le = too_large_case sharing where_to n l h c g
+      enter_says sharing l (enter_outside {n = n} {where_to = where_to} g f) h c le = outside_case sharing where_to n l h c g f
+      enter_says sharing l (enter_unaligned {n = n} {where_to = where_to} g e above below f) h c le = unaligned_case sharing where_to n l h c g e above below f
+      enter_says sharing l (enter_too_deep {n = n} {where_to = where_to} g e above below aligned f) h c le = deep_case sharing where_to n l h c g e above below aligned f
+      enter_says sharing l (enter_within {n = n} {where_to = where_to} g e above below aligned allowed v) h c le =
+          within_case sharing where_to n l h c g e above below aligned allowed (contents_say l v h c (region_some n l h c g) (omega (arith, below, le)))
+      enter_says sharing l (enter_stop {n = n} {where_to = where_to} g e above below aligned allowed v) h c le =
+          stop_case sharing where_to n l h c g e above below aligned allowed (contents_say l v h c (region_some n l h c g) (omega (arith, below, le)))
+
+      pub contents_say : {pending : List ℕ} {depth : Option ℕ} {j n z t start align : ℕ} {target : PointeeKind} {seen : Seen} {o : Outcome} {P : Pointee} (l : ℕ) → ContentsRun m pending depth target j n z t start seen o → Points s shapes m target j P → Counts target n l → (z ≡ pointee_size s P l) × (z < 18446744073709551616) × (align ≡ pointee_align s P) → t ≤ length m.bytes.now → ContentsSay P l t pending depth start seen o
+      contents_say l (contents_empty e) h c k le = empty_case l h (sym k.0 ∙ e) le
+      contents_say l (contents_one {o = o} lt v) (points_one sized st) c k le = one_case _ _ _ _ _ l o st (node_says v (sized_takes sized (omega (arith, k.0, k.1))) le)
+      contents_say l (contents_run {n = n} {o = o} lt v) (points_run sized st) c k le =
+          run_case _ _ _ _ _ _ l o (rw c at (elements_say v st (sized_takes sized (element_few n l _ _ c k.0 k.1 lt)) le))
+      contents_say l (contents_text utf) (points_text sized) c k le = walk_text (rw k.0 at utf)
+      contents_say l (contents_no_text wrong) (points_text sized) c k le = trips_text (rw k.0 at wrong)

@@ -1,0 +1,5 @@
+pub mod Schemas
+pub mod OneSchema
+pub mod Contexts
+pub mod plan
+pub mod check

@@ -1,0 +1,42 @@
+-- What each call of a check pays for the regions that it enters: four bytes for each, of those that it was given in place.
+use denote.Triple.Both.{Both}
+use denote.Ref.{MutBor}
+use Rattle.std.specs.Prelude.{ℕ, ◌+◌, ◌-◌, ◌*◌, ◌≤◌, List, [], ◌∷◌}
+use Rattle.archive_check.specs.declared.context.Context as Context
+use Rattle.archive_schema.specs.declared.check.Checker.{Checker}
+use Rattle.archive_schema.specs.declared.check.worklist.Work.{Work}
+use Rattle.archive_schema.specs.declared.check.worklist.Work.TheVariants.{Part as PartWork, Parts, Elements, Leave, Finish}
+use Rattle.archive_schema.specs.declared.check.worklist.Worklist.{Worklist}
+use Rattle.archive_check.specs.Ranges.{RangeState}
+use Rattle.archive_check.specs.Pushes.{worth}
+use Rattle.archive_check.specs.Elements.{span}
+use Rattle.archive_schema.specs.plan.PackedPlans.{size_at, parts_size}
+use Rattle.archive_schema.specs.check.Lists.{list_of}
+
+-- the bytes of these parts, and of these elements
+abbrev pub bytes_of_parts : Checker → ℕ → ℕ → ℕ
+bytes_of_parts m a b = parts_size m.nodes.now (span m.parts.now a b)
+
+abbrev pub bytes_of_elements : Checker → ℕ → ℕ → ℕ
+bytes_of_elements m j n = n * size_at m.nodes.now j
+
+-- the bytes that an entry has in place; for a region that is left, those that are given back
+abbrev pub bytes_of : Checker → Work → ℕ
+bytes_of m (PartWork i p) = size_at m.nodes.now i
+bytes_of m (Parts a b p) = bytes_of_parts m a b
+bytes_of m (Elements j n p) = bytes_of_elements m j n
+bytes_of m (Leave x y) = y - x
+bytes_of m (Finish k t) = 0
+
+abbrev pub bytes_in : Checker → List Work → ℕ
+bytes_in m [] = 0
+bytes_in m (entry ∷ work) = bytes_of m entry + bytes_in m work
+
+-- from one range and list to the next: each region that is entered takes four of these n bytes, of those that are left, or of those in which
+-- regions may lie
+abbrev pub PaysFrom : Checker → ℕ → RangeState → List Work → RangeState → List Work → Type 0
+PaysFrom m n s work s' work' = worth s' + bytes_in m work' ≤ n + (worth s + bytes_in m work)
+
+-- so does a call, from one context and list to the next
+abbrev pub Pays : {A : Type 0} → Context.Ghosts A → Checker → ℕ → Both (MutBor A) (MutBor A) → Both (MutBor Worklist) (MutBor Worklist) → Type 0
+Pays k m n c w = PaysFrom m n (k.state c.entry.now) (list_of w.entry.now) (k.state c.exit.now) (list_of w.exit.now)

@@ -1,0 +1,204 @@
+//! The loop of a check: each entry of the list is opened, and leaves others in its place.
+
+ghost use Rattle.std.specs.Prelude.{◌≡◌, ◌+◌, ◌<◌, ◌≤◌, ◌∷◌, [], length, OnSome, IfNone};
+ghost use Rattle.archive_schema.specs.declared.check.worklist.Work.TheVariants.{Part as PartWork, Parts as PartsWork};
+ghost use Rattle.archive_schema.specs.check.Lists.{list_of};
+ghost use Rattle.archive_schema.specs.check.Runs.{pointer_bytes};
+ghost use Rattle.archive_schema.specs.check.LoopInvariant.{Ready};
+ghost use Rattle.archive_check.specs.FreshContexts.{KeepsLevels};
+ghost use Rattle.archive_check.specs.Pushes.{FewPushed};
+ghost use Rattle.archive_schema.specs.plan.PackedPlans.{size_at};
+ghost use Rattle.archive_schema.specs.check.Paid.{Pays, bytes_of, bytes_of_parts};
+ghost use Rattle.archive_schema.specs.check.Turns.{IsCheckable, Turn, Follows, PassesRoot, StopsInRoot};
+
+use crate::check::Checker;
+use crate::check::regions::leave_region;
+use crate::check::worklist::{Work, Worklist};
+use crate::plan::{NodeKind, PointeeKind};
+use archive_check::context::{ArchiveContext, SharedContext, ValidationState};
+use archive_check::format::bytes::{read_i32, read_position};
+use archive_check::format::error::Error;
+
+impl Checker<'_> {
+    /// Follows the shared pointer at `at`. What lies at a position that was met before isn't checked again.
+    fn follow<C: ArchiveContext + SharedContext>(
+        &self,
+        shared_type: usize,
+        target: PointeeKind,
+        pointee: usize,
+        at: usize,
+        work: &mut Worklist,
+        context: &mut C,
+    ) -> Option<()>
+        requires plan { IsCheckable self.now }
+        requires ready { Ready self.now (C.state context.old) (list_of work.old) }
+        requires within { at + pointer_bytes target ≤ length self.now.bytes.now }
+        requires shared_type { shared_type < length self.now.shared_types.now }
+        requires pointee { pointee < length self.now.nodes.now }
+        ensures follows { Follows C.Context self.now shared_type target pointee at
+            context work result }
+        ensures pays { Pays C.Context self.now 4 context work }
+    {
+        let count = self.count(target, at);
+        let length = self.length(target, at);
+        let position = read_position(self.bytes, at, at);
+        let kind = &self.shared_types[shared_type];
+        match context.start_shared(&kind.flavor, &kind.pointee, position, length) {
+            Err(error) => work.refuse(error),
+            Ok(ValidationState::Started) => {
+                let Ok(begin) = usize::try_from(position) else {
+                    return self.enter(target, pointee, count, position, work, context);
+                };
+                work.finish(shared_type, begin)?;
+                self.enter(target, pointee, count, position, work, context)
+            }
+            Ok(ValidationState::Pending) => {
+                if !kind.flavor.cycles {
+                    return work.refuse(Error::CyclicValidate);
+                }
+                Some(())
+            }
+            Ok(ValidationState::Finished) => Some(()),
+        }
+    }
+
+    /// Opens the first of the parts from `first` up to `last` that is to be opened, of what begins at `base`, and leaves the others.
+    #[cycle(open)]
+    fn open_parts<C: ArchiveContext + SharedContext>(
+        &self,
+        first: usize,
+        last: usize,
+        base: usize,
+        work: &mut Worklist,
+        context: &mut C,
+    ) -> Option<()>
+        requires plan { IsCheckable self.now }
+        requires ready { Ready self.now (C.state context.old) (PartsWork first last base ∷ list_of work.old) }
+        ensures turn { Turn C.Context self.now (PartsWork first last base)
+            context work result }
+        ensures pays { Pays C.Context self.now (bytes_of_parts self.now first last) context work }
+    {
+        let next = self.first_to_open(first, last, base);
+        if next >= last {
+            return Some(());
+        }
+        let part = self.parts[next];
+        work.more_parts(next + 1, last, base)?;
+        self.open(part.node, base + part.offset, work, context)
+    }
+
+    /// Opens the node at `at`.
+    #[cycle(open)]
+    fn open<C: ArchiveContext + SharedContext>(
+        &self,
+        node: usize,
+        at: usize,
+        work: &mut Worklist,
+        context: &mut C,
+    ) -> Option<()>
+        requires plan { IsCheckable self.now }
+        requires ready { Ready self.now (C.state context.old) (PartWork node at ∷ list_of work.old) }
+        ensures turn { Turn C.Context self.now (PartWork node at) context work result }
+        ensures pays { Pays C.Context self.now (size_at self.now.nodes.now node) context work }
+    {
+        if self.shallow[node] {
+            return self.check_shallow(node, at, work, context);
+        }
+        let here = self.nodes[node];
+        match here.kind {
+            NodeKind::Free | NodeKind::Leaf(_) | NodeKind::Str { .. } => self.check_shallow(
+                node, at, work, context,
+            ),
+            NodeKind::Record { first, last } => self.open_parts(first, last, at, work, context),
+            NodeKind::Choice { name, first, last } => {
+                let variant = self.chosen(name, first, last, at, work)?;
+                self.open_parts(variant.first, variant.last, at, work, context)
+            }
+            NodeKind::Array { count, element } => work.elements(element, count, at),
+            NodeKind::Pointer { target, pointee } => {
+                let count = self.count(target, at);
+                let position = read_position(self.bytes, at, at);
+                self.enter_here(target, pointee, count, position, work, context)
+            }
+            NodeKind::Shared {
+                shared_type,
+                target,
+                pointee,
+            } => { self.follow(shared_type, target, pointee, at, work, context) }
+            NodeKind::Weak {
+                shared_type,
+                target,
+                pointee,
+            } => {
+                if read_i32(self.bytes, at) == 1 {
+                    return Some(());
+                }
+                self.follow(shared_type, target, pointee, at, work, context)
+            }
+        }
+    }
+
+    /// Takes one entry of the list.
+    fn step<C: ArchiveContext + SharedContext>(
+        &self,
+        entry: Work,
+        work: &mut Worklist,
+        context: &mut C,
+    ) -> Option<()>
+        requires plan { IsCheckable self.now }
+        requires ready { Ready self.now (C.state context.old) (entry ∷ list_of work.old) }
+        ensures turn { Turn C.Context self.now entry context work result }
+        ensures pays { Pays C.Context self.now (bytes_of self.now entry) context work }
+    {
+        match entry {
+            Work::Part { node, at } => self.open(node, at, work, context),
+            Work::Parts { first, last, base } => self.open_parts(first, last, base, work, context),
+            Work::Elements { node, left, at } => {
+                let element = self.nodes[node];
+                if let NodeKind::Free = element.kind {
+                    return Some(());
+                }
+                let size = element.size.unwrap_or(0);
+                let passed = self.count_passed(node, left, at, size, context);
+                if passed == left {
+                    return Some(());
+                }
+                let next = at + passed * size;
+                work.more_elements(node, left - passed - 1, next + size)?;
+                self.open(node, next, work, context)
+            }
+            Work::Leave { start, end } => leave_region(start, end, work, context),
+            Work::Finish { shared_type, at } => {
+                let kind = &self.shared_types[shared_type];
+                if let Err(error) = context.finish_shared(&kind.flavor, &kind.pointee, at as i128) {
+                    return work.refuse(error);
+                }
+                Some(())
+            }
+        }
+    }
+
+    /// Checks the root node at `at`, and all that it leads to, by a list on which nothing is left yet.
+    pub(crate) fn run<C: ArchiveContext + SharedContext>(
+        &self,
+        root: usize,
+        at: usize,
+        work: &mut Worklist,
+        context: &mut C,
+    ) -> Option<()>
+        requires plan { IsCheckable self.now }
+        requires below { (C.state context.old).end ≤ length self.now.bytes.now }
+        requires known { root < length self.now.nodes.now }
+        requires none_left { list_of work.old ≡ [] }
+        ensures ok { OnSome result (PassesRoot C.Context self.now root at context) }
+        ensures err { IfNone result (StopsInRoot C.Context self.now root at context work.new.fault) }
+        ensures levels { OnSome result (KeepsLevels (C.state context.old) (C.state context.new)) }
+        ensures few_subtrees { FewPushed (C.state context.old) (C.state context.new) }
+    {
+        self.enter_here(PointeeKind::One, root, 1, at as i128, work, context)?;
+        while let Some(entry) = work.pop() {
+            self.step(entry, work, context)?;
+        }
+        Some(())
+    }
+}

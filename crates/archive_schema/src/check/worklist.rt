@@ -1,0 +1,181 @@
+//! What is left to check.
+
+ghost use Rattle.std.specs.Prelude.{◌≡◌, ◌≤◌, ◌∷◌, [], None, OnSome, IfSome, IfNone};
+ghost use Rattle.archive_schema.specs.check.Lists.{list_of, PutsMore};
+
+use archive_check::format::error::Error;
+use std::alloc::Global;
+
+/// One thing that is left to check. Places are in bytes from the buffer's first one.
+#[derive(Clone, Copy)]
+pub enum Work {
+    /// The node here.
+    Part {
+        node: usize,
+        at: usize,
+    },
+    /// The parts from `first` up to `last`, of what begins at `base`.
+    Parts {
+        first: usize,
+        last: usize,
+        base: usize,
+    },
+    /// So many elements, the next of them here.
+    Elements {
+        node: usize,
+        left: usize,
+        at: usize,
+    },
+    /// A region is left: the range is this one again.
+    Leave {
+        start: usize,
+        end: usize,
+    },
+    /// What lies at a shared position is checked to its end.
+    Finish {
+        shared_type: usize,
+        at: usize,
+    },
+}
+
+/// What is left to check, the next on top, and the refusal of a check that stopped. The calls that stop a check answer `None` alone, since a
+/// refusal is wide.
+#[derive(Drop)]
+pub struct Worklist {
+    entries: Vec<Work>,
+    fault: Error,
+}
+
+impl Worklist {
+    /// Nothing is left. Memory comes from `alloc`, and none is taken yet.
+    pub fn new(alloc: Global) -> Worklist
+        ensures { list_of result ≡ [] }
+    {
+        Worklist {
+            entries: Vec::new(alloc),
+            fault: Error::OutOfMemory,
+        }
+    }
+
+    /// The next entry, which is left no more.
+    pub fn pop(&mut self) -> Option<Work>
+        ensures next { IfSome result (λ entry. list_of self.old ≡ entry ∷ list_of self.new) }
+        ensures over { IfNone result (list_of self.old ≡ []) }
+    {
+        self.entries.pop()
+    }
+
+    /// Why the check stopped.
+    pub fn fault(&self) -> Error
+        ensures { result ≡ self.now.fault }
+    {
+        self.fault
+    }
+
+    /// Keeps why the check stops.
+    #[cold]
+    #[inline(never)]
+    pub fn keep(&mut self, fault: Error)
+        ensures fault { self.new.fault ≡ fault }
+        ensures list { list_of self.new ≡ list_of self.old }
+    {
+        self.fault = fault;
+    }
+
+    /// Stops the check.
+    #[inline]
+    pub fn refuse<T>(&mut self, fault: Error) -> Option<T>
+        ensures none { result ≡ None }
+        ensures fault { self.new.fault ≡ fault }
+        ensures list { list_of self.new ≡ list_of self.old }
+    {
+        self.keep(fault);
+        None
+    }
+
+    /// One entry more. Refused with 1 where memory is refused.
+    #[inline(always)]
+    fn push(&mut self, entry: Work) -> Option<()>
+        ensures some { OnSome result (list_of self.new ≡ entry ∷ list_of self.old) }
+        ensures none { IfNone result (self.new.fault ≡ Error.OutOfMemory) }
+        ensures kept { IfNone result (list_of self.new ≡ list_of self.old) }
+    {
+        if self.entries.reserve(1).is_err() {
+            return self.refuse(Error::OutOfMemory);
+        }
+        self.entries.push_reserved(entry);
+        Some(())
+    }
+
+    /// The node at `at` is left. Refused with 1 where memory is refused, as are the next ones.
+    #[inline(always)]
+    pub fn part(&mut self, node: usize, at: usize) -> Option<()>
+        ensures some { OnSome result (list_of self.new ≡ Work.Part node at ∷ list_of self.old) }
+        ensures none { IfNone result (self.new.fault ≡ Error.OutOfMemory) }
+        ensures kept { IfNone result (list_of self.new ≡ list_of self.old) }
+    {
+        self.push(Work::Part { node, at })
+    }
+
+    /// The parts from `first` up to `last` are left, of what begins at `base`.
+    pub fn parts(&mut self, first: usize, last: usize, base: usize) -> Option<()>
+        ensures some { OnSome result (list_of self.new ≡ Work.Parts first last base ∷ list_of self.old) }
+        ensures none { IfNone result (self.new.fault ≡ Error.OutOfMemory) }
+        ensures kept { IfNone result (list_of self.new ≡ list_of self.old) }
+    {
+        self.push(Work::Parts { first, last, base })
+    }
+
+    /// So many elements are left, the next of them at `at`.
+    #[inline]
+    pub fn elements(&mut self, node: usize, left: usize, at: usize) -> Option<()>
+        ensures some { OnSome result (list_of self.new ≡ Work.Elements node left at ∷ list_of self.old) }
+        ensures none { IfNone result (self.new.fault ≡ Error.OutOfMemory) }
+        ensures kept { IfNone result (list_of self.new ≡ list_of self.old) }
+    {
+        self.push(Work::Elements { node, left, at })
+    }
+
+    /// What `parts` leaves, where there are any.
+    pub fn more_parts(&mut self, first: usize, last: usize, base: usize) -> Option<()>
+        ensures some { OnSome result (PutsMore (Work.Parts first last base) (last ≤ first) self) }
+        ensures none { IfNone result (self.new.fault ≡ Error.OutOfMemory) }
+        ensures kept { IfNone result (list_of self.new ≡ list_of self.old) }
+    {
+        if first < last {
+            self.parts(first, last, base)?;
+        }
+        Some(())
+    }
+
+    /// What `elements` leaves, where there are any.
+    pub fn more_elements(&mut self, node: usize, left: usize, at: usize) -> Option<()>
+        ensures some { OnSome result (PutsMore (Work.Elements node left at) (left ≡ 0) self) }
+        ensures none { IfNone result (self.new.fault ≡ Error.OutOfMemory) }
+        ensures kept { IfNone result (list_of self.new ≡ list_of self.old) }
+    {
+        if left > 0 {
+            self.elements(node, left, at)?;
+        }
+        Some(())
+    }
+
+    /// A region is to be left, and the range will be this one.
+    #[inline(always)]
+    pub fn leave(&mut self, start: usize, end: usize) -> Option<()>
+        ensures some { OnSome result (list_of self.new ≡ Work.Leave start end ∷ list_of self.old) }
+        ensures none { IfNone result (self.new.fault ≡ Error.OutOfMemory) }
+        ensures kept { IfNone result (list_of self.new ≡ list_of self.old) }
+    {
+        self.push(Work::Leave { start, end })
+    }
+
+    /// The shared position `at` is to be finished.
+    pub fn finish(&mut self, shared_type: usize, at: usize) -> Option<()>
+        ensures some { OnSome result (list_of self.new ≡ Work.Finish shared_type at ∷ list_of self.old) }
+        ensures none { IfNone result (self.new.fault ≡ Error.OutOfMemory) }
+        ensures kept { IfNone result (list_of self.new ≡ list_of self.old) }
+    {
+        self.push(Work::Finish { shared_type, at })
+    }
+}

@@ -1,0 +1,127 @@
+//! Schemas: an expression with the definitions of its names, compiled to a plan once, and the check of bytes against it.
+
+ghost use Rattle.std.specs.Prelude.{◌≡◌, length};
+ghost use Rattle.archive_check.specs.Definitions.{HasLayouts};
+ghost use Rattle.archive_check.specs.Expressions.{shape_of, entries_of};
+ghost use Rattle.archive_schema.specs.plan.Shallow.{AreShallow};
+ghost use Rattle.archive_schema.specs.plan.PackedPlans.{ArePacked};
+ghost use Rattle.archive_schema.specs.plan.Names.{HasAll};
+ghost use Rattle.archive_schema.specs.plan.Planned.{IsPlan, HasNames};
+
+use crate::check::Checker;
+use crate::plan::Plan;
+use crate::plan::growing::NamedNode;
+use crate::plan::names::definitions_of;
+use crate::plan::shallow::shallow_nodes;
+use archive_check::context::{ArchiveContext, SharedContext};
+pub use archive_check::format::error::Error;
+pub use archive_check::format::expr::{Def, Defs, Expr, FlavorInfo, IntegerKind, Kind, Pointee};
+pub use archive_check::format::layout::Layout;
+use archive_check::format::traits::Portable;
+use std::alloc::Global;
+
+mod layouts;
+
+/// An expression, with the definitions of the names that it reaches. It is compiled once, and checks any number of buffers. Our own: rkyv 0.8.18 has
+/// code for each type in its place.
+#[derive(Drop)]
+pub struct Schema {
+    root: Expr,
+    definitions: Vec<Def>,
+    plan: Plan,
+    node: usize,
+    names: Vec<NamedNode>,
+    shallow: Vec<bool>,
+    ghost complete: { HasAll (entries_of definitions.items) (shape_of root) },
+    ghost laid_out: { HasLayouts (entries_of definitions.items) },
+    ghost planned: { ∥ IsPlan definitions.items (shape_of root) plan node ∥₁ },
+    ghost named: { ∥ HasNames definitions.items names.items plan ∥₁ },
+    ghost sound: { AreShallow plan.nodes.items plan.parts.items plan.variants.items shallow.items },
+    ghost marks: { length shallow.items ≡ length plan.nodes.items },
+    ghost packed: { ArePacked plan.nodes.items plan.parts.items plan.variants.items },
+}
+
+impl Schema {
+    ghost use Rattle.std.specs.Prelude.{◌≡◌, ◌≤◌, length, OnOk, IfOk, IfErr};
+    ghost use Rattle.archive_check.specs.declared.format.error.Error.TheVariants.{LayoutTooLarge};
+    ghost use Rattle.archive_schema.specs.Contexts.{SchemaAccepts, SchemaRefuses, SchemaIsExact};
+    ghost use Rattle.archive_check.specs.Faults.{IsOfCheck};
+    ghost use Rattle.archive_check.specs.FreshContexts.{HasLevels, KeepsLevels};
+    ghost use Rattle.archive_check.specs.Pushes.{FewPushed};
+    ghost use Rattle.archive_schema.specs.Schemas.{IsSchemaOf, HasHeld, IsLayoutOf, IsTooLarge};
+    ghost use Rattle.archive_check.specs.Archives.{ExplainsNoSchema};
+    ghost use Rattle.archive_check.specs.Expressions.{shape_of};
+
+    /// The schema of `T`: its expression and the definitions of all names that it reaches, compiled. Memory comes from `alloc`, also that which a
+    /// check takes. Refused with `OutOfMemory`, 1, where memory is refused, with `ShapeConflict`, 30, exactly where a name that is reached has none
+    /// or two definitions, and else with `RecursiveLayout`, 31, exactly where a name holds itself other than behind a pointer.
+    pub fn of<T: Portable>(alloc: Global) -> Result<Schema, Error>
+        ensures made { IfOk result (λ s. IsSchemaOf s T.shape T.definitions) }
+        ensures held { IfOk result (λ s. HasHeld s T.shape) }
+        ensures refused { IfErr result (λ e. ExplainsNoSchema T.shape T.definitions e) }
+    {
+        let root = T::expr(alloc)?;
+        let definitions = definitions_of::<T>(alloc, &root)?;
+        let (plan, node, names) = Plan::of(alloc, &definitions, &root)?;
+        let shallow = shallow_nodes(alloc, &plan)?;
+        Ok(Schema {
+            root,
+            definitions,
+            plan,
+            node,
+            names,
+            shallow,
+        })
+    }
+
+    /// The layout of an expression, in bytes. It asks that each name that `expr` holds, other than behind a pointer, is defined in the schema, as
+    /// those of the type's own expression are. It takes no memory. Refused with `LayoutTooLarge`, 23, exactly where the size is above `usize::MAX`; an
+    /// array of nothing has size 0, whatever its element.
+    pub fn layout(&self, expr: &Expr) -> Result<Layout, Error>
+        requires { HasHeld self.now (shape_of expr.now) }
+        ensures ok { IfOk result (λ l. IsLayoutOf self.now (shape_of expr.now) l) }
+        ensures err { IfErr result (λ e. (e ≡ LayoutTooLarge) × IsTooLarge self.now (shape_of expr.now)) }
+    {
+        let extent = layouts::extent_of(self, expr);
+        match extent.end {
+            None => Err(Error::LayoutTooLarge),
+            Some(size) => Ok(Layout {
+                size,
+                align: extent.align,
+            }),
+        }
+    }
+
+    /// Whether `bytes` hold a value of the schema at `pos`, in bytes from the first one. The order of the tests is our own; docs/FORMAT.md has it.
+    /// Asks that the context's range ends in the buffer. In a context for these bytes that met nothing yet the answer is exact: Ok where the buffer
+    /// is an archive with its root there and with no region too deep, and else the refusal of the first test that is false, with its fields
+    /// (12, 16 to 18 and 21 to 29 of docs/FORMAT.md). Refused with `OutOfMemory`, 1, where memory is refused for the list of what is left to check
+    /// or for a shared position. In any context with levels left a refusal is one of these (1, 12, 16 to 18, 21 to 29), and after a success levels are
+    /// left. Accepted or refused, in any context, it enters at most one region, and one for each four bytes of the context's range: 1 + n / 4 in n
+    /// bytes. What else a context is left with isn't said: make a new one for the next check.
+    pub fn check<C: ArchiveContext + SharedContext>(
+        &self,
+        bytes: &[u8],
+        pos: usize,
+        context: &mut C,
+    ) -> Result<(), Error>
+        requires { (C.state context.old).end ≤ length bytes.now }
+        ensures ok { SchemaAccepts self.now C.Context context bytes.now pos result }
+        ensures err { SchemaRefuses self.now C.Context context bytes.now pos result }
+        ensures exact { SchemaIsExact self.now C.Context context bytes.now pos result }
+        ensures of_check { IfErr result (λ e. HasLevels (C.state context.old).depth → IsOfCheck e) }
+        ensures levels { OnOk result (KeepsLevels (C.state context.old) (C.state context.new)) }
+        ensures few_subtrees { FewPushed (C.state context.old) (C.state context.new) }
+    {
+        let checker = Checker {
+            nodes: &self.plan.nodes,
+            parts: &self.plan.parts,
+            variants: &self.plan.variants,
+            shared_types: &self.plan.shared_types,
+            shallow: &self.shallow,
+            bytes,
+        };
+        let alloc = *self.plan.nodes.allocator();
+        checker.check(alloc, self.node, pos, context)
+    }
+}
