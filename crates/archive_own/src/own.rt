@@ -17,6 +17,10 @@ mod nested;
 mod recursive;
 mod variants;
 
+use archive_check::format::error::Error;
+use archive_check::format::expr::{Defs, Expr};
+use archive_check::self_check::SelfCheck;
+pub use archive_types::parts::FromParts;
 use archive_types::parts::{DeserializeParts, OwnedParts, PartOf};
 use archive_types::record::deserialize_record;
 use archive_types::traits::{
@@ -24,10 +28,6 @@ use archive_types::traits::{
     size_of_record,
 };
 use archive_types::view::RawView;
-use archive_check::format::error::Error;
-use archive_check::format::expr::{Defs, Expr};
-use archive_check::self_check::SelfCheck;
-pub use archive_types::parts::FromParts;
 pub use choices::{ArchivedChoice, NamedChoice};
 pub use nested::{FromNested, Nested, resolve_nested, serialize_nested};
 pub use recursive::{ArchivedRecursive, NamedRecursive, RecursiveChoice, choice_of};

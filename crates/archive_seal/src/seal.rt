@@ -11,9 +11,9 @@ mod parts;
 mod results;
 mod text;
 
-use archive_types::view::{RawView, Ref};
 use archive_check::format::traits::ArchivePointee;
 pub use archive_types::primitive::SealedLeaf;
+use archive_types::view::{RawView, Ref};
 use std::alloc::AllocError;
 use std::marker::PhantomData;
 

@@ -11,9 +11,9 @@ ghost use Rattle.archive_shared.specs.Pooling.{known_by, IsStartAnswer, IsSame, 
 ghost use Rattle.archive_shared.specs.KeptValues.{kept_value};
 ghost use Rattle.archive_shared.specs.SharedSeen.{ReadsKept, RefusesKept, PutAt};
 
+use archive_check::format::error::Error;
 use archive_types::traits::{Archive, ArchivePointee, DeserializeUnsized, Entries};
 use archive_types::view::Ref;
-use archive_check::format::error::Error;
 use std::alloc::Global;
 use std::collections::HashMap;
 

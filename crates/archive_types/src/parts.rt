@@ -3,7 +3,7 @@
 
 ghost use Rattle.std.specs.Prelude.{◌≡◌, ◌<◌, ℕ, length, List, [], ◌++◌, IfOk, OnOk, IfErr};
 ghost use Rattle.archive_check.specs.Shape.{part};
-ghost use Rattle.archive_check.specs.Value.{Values, no_value, value};
+ghost use Rattle.archive_check.specs.Value.{Values, no_value, product, value};
 ghost use Rattle.archive_types.specs.Keyed.{nothing_keyed, part_keyed};
 ghost use Rattle.archive_types.specs.Parts.{ArePlanned, AreKeyed, FreshParts};
 ghost use Rattle.archive_types.specs.PartsPlanned.{no_part_planned, part_planned};

@@ -4,8 +4,7 @@ ghost use Rattle.std.specs.Prelude.{◌≡◌, ◌+◌, ◌*◌, ◌<◌, ◌≤
 ghost use Rattle.archive_check.specs.PartsLayout.{part_at, definitions_at};
 ghost use Rattle.archive_check.specs.Reads.{bytes_at};
 
-use crate::primitive::write_leaf;
-use crate::primitive::SealedLeaf;
+use crate::primitive::{SealedLeaf, write_leaf};
 use crate::traits::{Portable, Record};
 use std::marker::PhantomData;
 

@@ -13,12 +13,12 @@ ghost use Rattle.archive_schema.specs.Schemas.{IsSchemaOf};
 ghost use Rattle.archive_types.specs.ArchivesOf.{IsArchiveIn, ReadsArchive, RefusesArchive, AsCheckIfNeverOpen};
 ghost use Rattle.archive_check.specs.Contexts.{AnswersIn};
 
-use archive_types::traits::{Archive, Deserialize, Entries, Portable};
-use archive_types::view::{RawView, Ref};
 use archive_check::context::{ArchiveContext, HighValidator, SharedContext};
 use archive_check::format::error::Error;
 use archive_check::self_check::{SelfCheck, check_root};
 use archive_schema::shape::Schema;
+use archive_types::traits::{Archive, Deserialize, Entries, Portable};
+use archive_types::view::{RawView, Ref};
 use std::alloc::Global;
 use std::marker::PhantomData;
 

@@ -10,9 +10,9 @@ ghost use Rattle.archive_types.specs.Writing.{Archives};
 ghost use Rattle.archive_write.specs.Written.{GoesOn};
 
 use super::{HighSerializer, serialize_whole};
+use archive_check::format::error::Error;
 use archive_types::ser::Writer;
 use archive_types::traits::{Keys, Serialize, SerializeUnsized};
-use archive_check::format::error::Error;
 use std::alloc::{Allocator, Global};
 
 /// As many bytes as a new vector has room for, so that a small archive is written without more of them.

@@ -9,13 +9,13 @@ ghost use Rattle.archive_check.specs.SelfCheck.Laws.{IsCheckOf};
 ghost use Rattle.archive_check.specs.Shape.{Name, choice, named, one};
 ghost use Rattle.archive_check.specs.VariantsLayout.{choice_has_layout, is_named_choice};
 
+use archive_check::format::error::Error;
+use archive_check::format::expr::{Defs, Expr};
+use archive_check::self_check::SelfCheck;
 use archive_types::traits::{
     ArchivePointee, Choice, Portable, PortableVariants, align_of_choice, define_choice,
     size_of_choice,
 };
-use archive_check::format::error::Error;
-use archive_check::format::expr::{Defs, Expr};
-use archive_check::self_check::SelfCheck;
 use std::alloc::Global;
 use std::marker::PhantomData;
 

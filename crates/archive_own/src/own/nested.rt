@@ -14,11 +14,11 @@ ghost use Rattle.archive_types.specs.Writing.{Fresh};
 ghost use Rattle.archive_write.specs.Written.{GoesOn};
 
 use super::{ArchivedRecursive, RecursiveChoice};
+use archive_check::format::error::Error;
 use archive_types::boxed::{ArchivedBox, BoxResolver, resolve_inner, serialize_inner};
 use archive_types::place::Place;
 use archive_types::traits::{Archive, ArchivePointee, Choice, Deserialize, Entries, Portable};
 use archive_types::view::{RawView, Ref};
-use archive_check::format::error::Error;
 use archive_write::ser::{ResolverAlloc, Writer};
 use std::alloc::Global;
 

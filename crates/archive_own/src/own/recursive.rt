@@ -10,10 +10,10 @@ ghost use Rattle.archive_check.specs.SelfCheck.Laws.{by_schema};
 ghost use Rattle.archive_check.specs.Shape.{Name, Shape, choice, named, one};
 ghost use Rattle.archive_check.specs.VariantsLayout.{IsChoice};
 
-use archive_types::traits::{ArchivePointee, Choice, Portable, PortableVariants};
 use archive_check::format::error::Error;
 use archive_check::format::expr::{Defs, Expr};
 use archive_check::self_check::BySchema;
+use archive_types::traits::{ArchivePointee, Choice, Portable, PortableVariants};
 use std::alloc::{AllocError, Global};
 use std::marker::PhantomData;
 

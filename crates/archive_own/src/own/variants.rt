@@ -10,11 +10,11 @@ ghost use Rattle.archive_types.specs.Seen.{part_tag, IsPartOf, RefusesPart, Read
 ghost use Rattle.archive_types.specs.Writing.{Fresh};
 ghost use Rattle.archive_write.specs.Written.{GoesOn};
 
+use archive_check::format::error::Error;
 use archive_types::parts::{DeserializeParts, OwnedParts, SerializeParts, SourceParts};
 use archive_types::place::Place;
 use archive_types::traits::{Choice, Entries, Keys};
 use archive_types::view::RawView;
-use archive_check::format::error::Error;
 use archive_write::ser::Writer;
 use std::alloc::Global;
 

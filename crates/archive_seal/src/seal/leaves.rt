@@ -8,10 +8,10 @@ ghost use Rattle.archive_types.specs.Sealed.{StandsIn, leaf_at};
 ghost use Rattle.archive_types.specs.Standing.{KeepsParts, KeepsViews, view};
 
 use super::{Seal, Spot};
-use archive_types::primitive::{SealedLeaf, write_leaf};
 use archive_check::format::traits::ArchivePointee;
 use archive_check::laws::leaf_written;
 use archive_num::Native;
+use archive_types::primitive::{SealedLeaf, write_leaf};
 
 // Writes the bytes of a value over those at `pos`.
 fn write_value<N: Native>(value: N, bytes: &mut [u8], pos: usize)

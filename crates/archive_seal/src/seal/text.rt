@@ -14,10 +14,10 @@ ghost use Rattle.archive_types.specs.Seen.{IsTextAt, TextStandsBeside};
 ghost use Rattle.archive_types.specs.Standing.{KeepsParts, KeepsViews, view};
 
 use super::{Seal, Spot};
-use archive_types::string::{ArchivedStr, ArchivedString};
-use archive_types::view::{RawView, Ref};
 use archive_check::format::bytes::{inline_length, is_out_of_line, read_coded_length, read_target};
 use archive_check::laws::leaf_written;
+use archive_types::string::{ArchivedStr, ArchivedString};
+use archive_types::view::{RawView, Ref};
 
 // Writes a text over the bytes at `pos`.
 fn write_text(value: &str, bytes: &mut [u8], pos: usize)

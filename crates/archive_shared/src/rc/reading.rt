@@ -16,13 +16,13 @@ ghost use Rattle.archive_types.specs.Sources.{Read};
 ghost use Rattle.archive_shared.specs.Spans.{one_spans, text_spans, slice_spans, cloned_kept};
 
 use super::{Shared, SharedSlice, SharedStr, WeakShared};
-use archive_types::rc::{ArchivedRc, ArchivedRcWeak, Flavor};
 use crate::pooling::{Pooled, Pooling, PoolingExt};
+use archive_check::format::error::Error;
+use archive_types::rc::{ArchivedRc, ArchivedRcWeak, Flavor};
 use archive_types::slice::ArchivedSlice;
 use archive_types::string::ArchivedStr;
 use archive_types::traits::{Archive, ArchivePointee, Deserialize, DeserializeUnsized, Portable};
 use archive_types::view::{RawView, Ref};
-use archive_check::format::error::Error;
 use std::alloc::{AllocError, Global};
 use std::rc::{Rc, RcSlice, RcStr};
 

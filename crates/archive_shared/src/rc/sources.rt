@@ -15,14 +15,14 @@ ghost use Rattle.archive_write.specs.Written.{GoesOn};
 mod long;
 mod weak;
 
-use archive_types::rc::{ArchivedRc, RcFlavor, RcResolver, write_pointer, write_shared};
+use archive_check::format::error::Error;
 use archive_types::place::Place;
+use archive_types::rc::{ArchivedRc, RcFlavor, RcResolver, write_pointer, write_shared};
 use archive_types::ser::{ResolverAlloc, Writer, serialize_one};
 use archive_types::sharing::Sharing;
 use archive_types::traits::{
     Archive, ArchivePointee, ArchiveUnsized, Portable, Serialize, SerializeUnsized,
 };
-use archive_check::format::error::Error;
 pub use long::{SharedSlice, SharedStr};
 use std::marker::PhantomData;
 use std::rc::Rc;
@@ -119,7 +119,7 @@ impl<T: Archive> Archive for Shared<T> {
         ensures refused { IfErr result (HinderedAs ⟦<Self as Archive>⟧ ⟦<Self::Archived as Portable>⟧ place self.now resolver) }
     {
         let Place { bytes, pos, .. } = place;
-        write_pointer::<T::Archived>(resolver.pos as usize, 0, pos, bytes)
+        write_pointer::<T::Archived>(resolver.pos(), 0, pos, bytes)
     }
 }
 
@@ -140,7 +140,7 @@ impl<T: Serialize<S>, S: Sharing + Writer + ResolverAlloc> Serialize<S> for Shar
         let Ok(pos) = u32::try_from(pos) else {
             return Err(Error::PositionTooLarge);
         };
-        Ok(RcResolver { pos })
+        Ok(RcResolver::from_pos(pos as usize))
     }
 }
 

@@ -50,6 +50,14 @@ impl RcResolver {
     {
         RcResolver { pos: pos as u32 }
     }
+
+    /// Where the value was written, in bytes from the first one. Our own.
+    #[inline(always)]
+    pub fn pos(self) -> usize
+        ensures { result ≡ self }
+    {
+        self.pos as usize
+    }
 }
 
 /// Where what a weak pointer leads to was written; none where it is null. rkyv 0.8.18 has an enum of its own.

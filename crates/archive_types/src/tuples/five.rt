@@ -9,8 +9,7 @@ ghost use Rattle.archive_types.specs.Sources.{ResolvedAs, HinderedAs};
 ghost use Rattle.archive_types.specs.Writing.{Fresh};
 
 use super::parts::{Part0, Part1, Part2, Part3, Part4, Parts5};
-use crate::parts::FromParts;
-use crate::parts::{PartOf, SerializeParts, SourceParts};
+use crate::parts::{FromParts, PartOf, SerializeParts, SourceParts};
 use crate::place::Place;
 use crate::record::{resolve_record, serialize_record};
 use crate::ser::serialize_one;

@@ -4,8 +4,7 @@ ghost use Rattle.std.specs.Prelude.{IfOk, IfErr};
 ghost use Rattle.archive_types.specs.Seen.{IsPartOf, RefusesPart};
 ghost use Rattle.archive_types.specs.Sources.{Read};
 
-use crate::parts::FromParts;
-use crate::parts::DeserializeParts;
+use crate::parts::{DeserializeParts, FromParts};
 use crate::record::deserialize_record;
 use crate::traits::{Archive, ArchivePointee, Deserialize, Entries, PortableParts};
 use crate::view::RawView;

@@ -12,8 +12,7 @@ use super::parts::{
     Part0, Part1, Part2, Part3, Part4, Part5, Part6, Part7, Part8, Part9, Part10, Part11, Part12,
     Parts13,
 };
-use crate::parts::FromParts;
-use crate::parts::{PartOf, SerializeParts, SourceParts};
+use crate::parts::{FromParts, PartOf, SerializeParts, SourceParts};
 use crate::place::Place;
 use crate::record::{resolve_record, serialize_record};
 use crate::ser::serialize_one;

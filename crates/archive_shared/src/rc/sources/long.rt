@@ -16,6 +16,7 @@ ghost use Rattle.archive_types.specs.Sources.{ResolvedAs, HinderedAs};
 ghost use Rattle.archive_types.specs.Writing.{Fresh, Resolves};
 ghost use Rattle.archive_write.specs.Written.{GoesOn};
 
+use archive_check::format::error::Error;
 use archive_types::place::Place;
 use archive_types::rc::{ArchivedRc, RcFlavor, RcResolver};
 use archive_types::ser::{ResolverAlloc, Writer, serialize_one};
@@ -23,7 +24,6 @@ use archive_types::sharing::Sharing;
 use archive_types::slice::{ArchivedSlice, Slice};
 use archive_types::string::{ArchivedStr, Text};
 use archive_types::traits::{Archive, ArchiveUnsized, Portable, Serialize, SerializeUnsized};
-use archive_check::format::error::Error;
 use std::rc::{RcSlice, RcStr};
 
 /// A shared text, with the key that names it. Our own: it stands for `Rc<str>` of rkyv 0.8.18, which goes by the address.

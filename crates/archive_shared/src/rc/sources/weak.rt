@@ -14,12 +14,12 @@ ghost use Rattle.archive_types.specs.Writing.{Fresh, Resolves};
 ghost use Rattle.archive_write.specs.Written.{GoesOn};
 
 use super::Shared;
+use archive_check::format::error::Error;
 use archive_types::place::Place;
 use archive_types::rc::{ArchivedRcWeak, RcFlavor, RcWeakResolver, write_null, write_pointer};
 use archive_types::ser::{ResolverAlloc, Writer, serialize_one};
 use archive_types::sharing::Sharing;
 use archive_types::traits::{Archive, ArchiveUnsized, Portable, Serialize, SerializeUnsized};
-use archive_check::format::error::Error;
 
 /// A weak pointer to a shared value, or to none. Our own: it stands for `rc::Weak` of rkyv 0.8.18, which is null where its value is gone.
 #[derive(Drop)]
@@ -65,7 +65,7 @@ impl<T: Archive> Archive for WeakShared<T> {
         let Some(resolver) = resolver else {
             return write_null::<T::Archived>(bytes);
         };
-        let target = resolver.pos as usize;
+        let target = resolver.pos();
         if target.saturating_sub(pos) == 1 {
             return Err(Error::OffsetOverflow);
         }
