@@ -1,5 +1,5 @@
 -- A region is entered: what the range calls say, and what is left to do.
-use Rattle.std.proofs.Common.{◌≡◌, ◌≢◌, ℕ, ℤ, pos, negsuc, refl, sym, ap, ap₂, ◌∙◌, slice_index_or, ◌+◌, ◌-◌, ◌*◌, ◌%◌, ◌<◌, ◌≤◌, nat_le, nat_eq, Bool, true, false, arith, List, ◌∷◌, length, Option, Some, None, Ok, Err, IsUtf8}
+use Rattle.std.proofs.Common.{◌≡◌, ◌≢◌, ℕ, ℤ, pos, negsuc, refl, sym, ap, ap₂, ◌∙◌, slice_index_or, ◌+◌, ◌*◌, ◌%◌, ◌<◌, ◌≤◌, nat_le, nat_eq, Bool, true, false, arith, List, ◌∷◌, length, Option, Some, None, Ok, Err, IsUtf8}
 use Rattle.std.proofs.lemmas.Bool.Decides.{nat_tests}
 use Rattle.archive_check.specs.declared.format.error.Error.{Error}
 use Rattle.archive_check.specs.declared.format.error.Error.TheVariants.{ExceededMaximumSubtreeDepth}

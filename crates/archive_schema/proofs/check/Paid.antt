@@ -1,5 +1,5 @@
 -- What is paid for the regions that a check enters.
-use Rattle.std.proofs.Common.{◌≡◌, ℤ, inl, inr, ℕ, zero, suc, refl, sym, ap, ◌∙◌, ◌+◌, ◌-◌, ◌*◌, ◌<◌, ◌≤◌, arith, List, [], ◌∷◌, length, Option, Some, None, OnSome, IfNone, unwrap_or, slice_index, Bor}
+use Rattle.std.proofs.Common.{◌≡◌, ℤ, inl, inr, ℕ, zero, suc, ap, ◌∙◌, ◌+◌, ◌-◌, ◌*◌, ◌<◌, ◌≤◌, arith, List, ◌∷◌, length, Option, Some, None, OnSome, IfNone, unwrap_or, slice_index, Bor}
 use Rattle.std.proofs.Math.Nat.{mul-le-mul_right}
 use Rattle.archive_schema.specs.declared.plan.PointeeKind.{PointeeKind}
 use Rattle.archive_schema.specs.declared.plan.PointeeKind.TheVariants.{One, Run, Text}

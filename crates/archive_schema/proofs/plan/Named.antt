@@ -1,5 +1,5 @@
 -- Definitions by name.
-use Rattle.std.proofs.Common.{◌≡◌, ◌≢◌, ◌⊎◌, ⊎_elim, ℕ, zero, suc, ◌+◌, ◌<◌, List, [], ◌∷◌, ◌++◌, length, drop, get_or, refl, sym, ap, ◌∙◌, arith, cond, Option, Some, None, Contains}
+use Rattle.std.proofs.Common.{◌≡◌, ◌≢◌, ⊎_elim, ℕ, zero, suc, ◌+◌, ◌<◌, List, [], ◌∷◌, ◌++◌, length, drop, get_or, refl, sym, ap, ◌∙◌, arith, cond, Option, Some, None, Contains}
 use Rattle.std.proofs.Math.Seq.{drop-length}
 use Rattle.std.specs.Str.{bytes_eq}
 use Rattle.std.specs.List.{remove}

@@ -1,16 +1,15 @@
 -- A plan is packed: the parts of each node take no more bytes together than it has.
-use Rattle.std.proofs.Common.{◌≡◌, ℕ, zero, suc, refl, sym, ap, ◌∙◌, subst, ◌+◌, ◌-◌, ◌*◌, ◌<◌, ◌≤◌, arith, List, [], ◌∷◌, length, drop, Option, Some, unwrap_or}
+use Rattle.std.proofs.Common.{◌≡◌, ℕ, zero, suc, refl, sym, ap, ◌∙◌, ◌+◌, ◌-◌, ◌<◌, ◌≤◌, arith, List, [], ◌∷◌, length, drop, Option, unwrap_or}
 use Rattle.archive_schema.specs.declared.plan.NodeKind.{NodeKind}
-use Rattle.archive_schema.specs.declared.plan.NodeKind.TheVariants.{Free, Leaf, Record, Choice, Array, Pointer as PointerNode, Str, Shared, Weak}
 use Rattle.archive_schema.specs.declared.plan.Node.{Node}
 use Rattle.archive_schema.specs.declared.plan.Part.{Part}
 use Rattle.archive_schema.specs.declared.plan.Span.{Span}
 use Rattle.archive_schema.specs.declared.plan.Plan.{Plan}
 use Rattle.archive_check.specs.declared.format.defs.Def.{Def}
 use Rattle.archive_schema.specs.declared.check.Checker.{Checker}
-use Rattle.archive_check.specs.Shape.{Name, Shape, Table, Parts, definition}
+use Rattle.archive_check.specs.Shape.{Shape, Table, Parts}
 use Rattle.archive_check.specs.Expressions.{entries_of}
-use Rattle.archive_check.specs.Layout.{up, align_of, parts_align, variants_align, size_of, parts_end, variants_end}
+use Rattle.archive_check.specs.Layout.{align_of, parts_align, variants_align, size_of, parts_end, variants_end}
 use Rattle.archive_check.specs.Reads.{Schema, LaidOut}
 use Rattle.archive_check.specs.Elements.{IsAt, span}
 use Rattle.archive_schema.specs.check.Runs.{Takes}

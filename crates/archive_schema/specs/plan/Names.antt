@@ -8,7 +8,7 @@ use Rattle.archive_check.specs.Expressions.{shape_of, entries_of}
 use Rattle.archive_check.specs.Defined.{Reaches, HeldIn, WellFormed}
 use Rattle.archive_check.specs.Definitions.{Definitions, listed}
 use Rattle.archive_schema.specs.plan.NodeNumbers.{def_shapes}
-use Rattle.archive_check.specs.Shape.{Name, Shape, one, Table, definition}
+use Rattle.archive_check.specs.Shape.{Name, Shape, Table, definition}
 use Rattle.archive_check.specs.MissingNames.{Arranged, missing}
 
 -- what is left where the definition of a name was asked for

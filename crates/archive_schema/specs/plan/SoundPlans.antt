@@ -1,5 +1,5 @@
 -- Which plans are sound: each index leads to something, and what is in a node lies within its bytes and stands before it.
-use Rattle.std.specs.Prelude.{◌≡◌, ℕ, ◌+◌, ◌-◌, ◌*◌, ◌<◌, ◌≤◌, List, [], ◌∷◌, length, Some}
+use Rattle.std.specs.Prelude.{◌≡◌, ℕ, ◌+◌, ◌*◌, ◌<◌, ◌≤◌, List, [], ◌∷◌, length, Some}
 use Rattle.archive_schema.specs.declared.plan.NodeKind.{NodeKind}
 use Rattle.archive_schema.specs.declared.plan.NodeKind.TheVariants.{Free, Leaf, Record, Choice, Array, Pointer as PointerNode, Str, Shared, Weak}
 use Rattle.archive_schema.specs.declared.plan.Node.{Node}
