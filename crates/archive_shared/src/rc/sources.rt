@@ -119,7 +119,7 @@ impl<T: Archive> Archive for Shared<T> {
         ensures refused { IfErr result (HinderedAs ⟦<Self as Archive>⟧ ⟦<Self::Archived as Portable>⟧ place self.now resolver) }
     {
         let Place { bytes, pos, .. } = place;
-        write_pointer::<T::Archived>(resolver.pos(), 0, pos, bytes)
+        write_pointer::<T::Archived>(resolver.pos as usize, 0, pos, bytes)
     }
 }
 
@@ -140,7 +140,7 @@ impl<T: Serialize<S>, S: Sharing + Writer + ResolverAlloc> Serialize<S> for Shar
         let Ok(pos) = u32::try_from(pos) else {
             return Err(Error::PositionTooLarge);
         };
-        Ok(RcResolver::from_pos(pos as usize))
+        Ok(RcResolver { pos })
     }
 }
 

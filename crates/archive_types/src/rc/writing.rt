@@ -30,7 +30,8 @@ use std::marker::Model;
 /// Where a shared value was written, in bytes from the first one. In a contract it is that position. As in rkyv 0.8.18.
 #[derive(Clone, Copy, Debug)]
 pub struct RcResolver {
-    pub(super) pos: u32,
+    /// The position.
+    pub pos: u32,
 }
 
 impl Model for RcResolver {
@@ -49,14 +50,6 @@ impl RcResolver {
         ensures { result ≡ pos }
     {
         RcResolver { pos: pos as u32 }
-    }
-
-    /// Where the value was written, in bytes from the first one. Our own.
-    #[inline(always)]
-    pub fn pos(self) -> usize
-        ensures { result ≡ self }
-    {
-        self.pos as usize
     }
 }
 

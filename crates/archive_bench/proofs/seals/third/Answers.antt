@@ -6,7 +6,7 @@ use Rattle.archive_bench.proofs.Besides.{beside_in}
 use Rattle.archive_bench.proofs.seals.third.Goals as goal
 
 pub returns-clause-viewed : goal.returns-clause-viewed
-returns-clause-viewed g c = rw (c.in_ok-item.ensures.buffer, c.as_slice.ensures.buffer, c.in_ok-list.ensures.buffer, c.field.ensures.buffer) at c.spot.ensures.viewed
+returns-clause-viewed g c = rw (c.in_ok-item.ensures.buffer, c.as_slice.ensures.buffer, c.in_ok-list.ensures.buffer, c.field.ensures.buffer) at c.of.ensures.viewed
 
 pub returns-clause-beside : goal.returns-clause-beside
 returns-clause-beside g c =
@@ -16,5 +16,5 @@ returns-clause-beside g c =
     let list = rw (c.field.ensures.buffer, c.field.ensures.length) at c.in_ok-list.ensures.beside in
     let slice = rw (c.in_ok-list.ensures.buffer, c.field.ensures.buffer) at c.as_slice.ensures.shows in
     let item = rw (c.as_slice.ensures.buffer, c.in_ok-list.ensures.buffer, c.field.ensures.buffer) at c.in_ok-item.ensures.shows in
-    rw (c.spot.ensures.position, c.spot.ensures.length) (with_trans D _ _ _ _ (shown_with _ _ _ _ _ _ _ _ _ c.field.ensures.shows)
+    rw (c.of.ensures.position, c.of.ensures.length) (with_trans D _ _ _ _ (shown_with _ _ _ _ _ _ _ _ _ c.field.ensures.shows)
     (beside_in D E known _ _ _ (with_trans E _ _ _ _ list (with_trans E _ _ _ _ (shown_with _ _ _ _ _ _ _ _ _ slice) (shown_with _ _ _ _ _ _ _ _ _ item)))))

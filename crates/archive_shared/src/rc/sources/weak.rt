@@ -65,7 +65,7 @@ impl<T: Archive> Archive for WeakShared<T> {
         let Some(resolver) = resolver else {
             return write_null::<T::Archived>(bytes);
         };
-        let target = resolver.pos();
+        let target = resolver.pos as usize;
         if target.saturating_sub(pos) == 1 {
             return Err(Error::OffsetOverflow);
         }
