@@ -43,6 +43,7 @@ pub mod PartsShown
 pub mod ArraysShown
 pub mod Arrays
 pub mod ReadElements
+pub mod FirstRead
 pub mod ReadRecords
 pub mod OwnChoices
 pub mod ReadChoices
