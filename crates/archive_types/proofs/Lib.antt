@@ -37,6 +37,7 @@ pub mod PartsShown
 pub mod ArraysShown
 pub mod Arrays
 pub mod ReadElements
+pub mod FirstRead
 pub mod ReadRecords
 pub mod FieldsShown
 pub mod LastElements

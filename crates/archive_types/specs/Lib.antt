@@ -23,6 +23,7 @@ pub mod RelativeLayout
 pub mod Sides
 pub mod Runs
 pub mod ElementsRead
+pub mod FirstRead
 pub mod PlannedOwners
 pub mod OwnerBytes
 pub mod Views

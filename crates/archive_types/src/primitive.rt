@@ -25,11 +25,13 @@ pub use archive_num::{
 };
 use std::alloc::Global;
 
+mod blocks;
 mod leaves;
 mod sealed;
 mod sizes;
 mod sources;
 
+use blocks::read_blocks;
 pub use leaves::Leaf;
 pub use sealed::SealedLeaf;
 
@@ -83,6 +85,21 @@ impl<N: Source, D: Entries> Deserialize<N, D> for LittleEndian<N> {
     {
         let view: Ref<'_, LittleEndian<N>> = Ref::at(part);
         Ok(view.get())
+    }
+
+    /// Whole blocks of 1,024, where nothing stands between the numbers.
+    #[inline(always)]
+    fn deserialize_first(
+        alloc: Global,
+        bytes: &[u8],
+        pos: usize,
+        step: usize,
+        count: usize,
+        items: &mut Vec<N>,
+    ) {
+        if step == N::kind().size() {
+            read_blocks(alloc, bytes, pos, count, items);
+        }
     }
 }
 

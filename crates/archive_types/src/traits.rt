@@ -1,6 +1,7 @@
 //! What is archived and how, and what is read back. The traits are those of rkyv 0.8.18; their laws are our own.
 
-ghost use Rattle.std.specs.Prelude.{◌≡◌, ◌<◌, ℕ, length, IfOk, OnOk, IfErr, IfSome, IsErr, List, None, false};
+ghost use Rattle.std.specs.Prelude.{◌≡◌, ◌<◌, ◌≤◌, ℕ, length, IfOk, OnOk, IfErr, IfSome, IsErr, List, [], None, false};
+ghost use Rattle.std.specs.Vec.{vec_len, vec_capacity};
 ghost use Rattle.archive_check.specs.Entries.{ReadsBack, RefusesReading};
 ghost use Rattle.archive_check.specs.Layout.{has_length};
 ghost use Rattle.archive_check.specs.Shape.{run};
@@ -122,7 +123,9 @@ pub trait Serialize<S: Writer + Keys>: Archive {
 
 /// A format that can be read back as a `T`. As in rkyv 0.8.18, by views in place of references.
 pub trait Deserialize<T: Archive, D: Entries>: ArchivePointee {
+    ghost use Rattle.archive_types.specs.FirstRead.{AreFirstRead};
     ghost use Rattle.archive_types.specs.Sources.{Read};
+    ghost use Rattle.archive_types.specs.Views.{AreViewed};
 
     /// What implements this trait writes this call, over the part of a view, and callers use `deserialize`. Asks for what a view promises of the part.
     /// Our own.
@@ -130,6 +133,25 @@ pub trait Deserialize<T: Archive, D: Entries>: ArchivePointee {
         requires { IsPartOf Self.ArchivePointee part }
         ensures read { IfOk result (Read Self.ArchivePointee part D.Entries deserializer T.Archive) }
         ensures refused { IfErr result (RefusesPart Self.ArchivePointee part D.Entries deserializer) };
+
+    /// Puts the first of `count` values that stand `step` bytes apart from the position `pos` on into `items`, in which there is nothing but room: as many
+    /// as are read many at once, by default none. The others are read by `deserialize_part`. Asks for what a view promises of each. Our own.
+    #[inline(always)]
+    fn deserialize_first(
+        _alloc: Global,
+        _bytes: &[u8],
+        _pos: usize,
+        _step: usize,
+        _count: usize,
+        _items: &mut Vec<T>,
+    )
+        requires viewed { AreViewed Self.definitions _bytes.now _pos _step Self.pointee _count }
+        requires nothing { _items.old.items ≡ [] }
+        requires room { _count ≤ vec_capacity _items.old }
+        ensures few { vec_len _items.new ≤ _count }
+        ensures room { _count ≤ vec_capacity _items.new }
+        ensures read { AreFirstRead Self.definitions _bytes.now _pos _step Self.pointee T.meaning T.keys _items.new.items }
+    {}
 
     /// The value that the view shows, each shared value named by its position, as those are that `deserializer` keeps from before; it keeps what it
     /// kept. Memory comes from `alloc`: refused with `OutOfMemory`, 1, where it is refused, and with `CyclicDeserialize`, 13, only where a shared

@@ -25,7 +25,7 @@ pub struct Iter<'a, T: Portable> {
 
 // The element `index` of those that stand at the position of `part`, one behind another.
 #[inline(always)]
-pub(super) fn element_at<'a, T: Portable>(part: RawView<'a>, index: usize) -> Ref<'a, T>
+pub(crate) fn element_at<'a, T: Portable>(part: RawView<'a>, index: usize) -> Ref<'a, T>
     requires { Viewed T.definitions part.bytes.now (part.pos + index * T.layout.size) T.pointee 0 }
     ensures buffer { result.bytes.now ≡ part.entry.bytes.now }
     ensures position { result.pos ≡ part.entry.pos + index * T.layout.size }

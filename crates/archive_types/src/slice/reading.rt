@@ -1,11 +1,13 @@
 // The elements of a slice are read back one after another.
 
-ghost use Rattle.std.specs.Prelude.{◌≡◌, length, IfOk, IfErr};
+ghost use Rattle.std.specs.Prelude.{◌≡◌, ◌≤◌, [], length, IfOk, IfErr};
+ghost use Rattle.std.specs.Vec.{vec_len, vec_capacity};
 ghost use Rattle.archive_check.specs.Shape.{run};
 ghost use Rattle.archive_check.specs.Value.{list};
 ghost use Rattle.archive_check.specs.Viewed.{Viewed};
 ghost use Rattle.archive_check.specs.Entries.{ReadsBack, RefusesReading};
 ghost use Rattle.archive_types.specs.ElementsRead.{ReadsEach, RefusesEach};
+ghost use Rattle.archive_types.specs.FirstRead.{AreFirstRead};
 ghost use Rattle.archive_types.specs.Runs.{each_meaning, each_keys};
 ghost use Rattle.archive_types.specs.Seen.{IsPartOf, RefusesPart};
 ghost use Rattle.archive_types.specs.Sources.{Read, AreElementsOf, ReadsElements, RefusesElements};
@@ -18,7 +20,28 @@ use crate::view::{RawView, Ref};
 use archive_check::format::error::Error;
 use std::alloc::Global;
 
-// The elements that stand at the position of `part`, so many, each read back; the list takes its memory at once.
+// Puts the first of the elements that stand from `pos` on into `items`, as many as their type reads at once.
+#[inline(always)]
+fn put_first<T: Portable + Deserialize<U, D>, U: Archive + Drop, D: Entries>(
+    alloc: Global,
+    bytes: &[u8],
+    pos: usize,
+    count: usize,
+    items: &mut Vec<U>,
+)
+    requires viewed { AreViewed T.definitions bytes.now pos T.layout.size T.pointee count }
+    requires nothing { items.old.items ≡ [] }
+    requires room { count ≤ vec_capacity items.old }
+    ensures few { vec_len items.new ≤ count }
+    ensures room { count ≤ vec_capacity items.new }
+    ensures read { AreFirstRead T.definitions bytes.now pos T.layout.size T.pointee U.meaning U.keys items.new.items }
+{
+    prove!(bytes.len() <= usize::MAX);
+    T::deserialize_first(alloc, bytes, pos, T::size(), count, items);
+}
+
+// The elements that stand at the position of `part`, so many, each read back, the first ones many at once where the type does so; the list takes its
+// memory at once.
 #[inline(always)]
 pub(crate) fn read_each<T: Portable + Deserialize<U, D>, U: Archive + Drop, D: Entries>(
     alloc: Global,
@@ -32,7 +55,8 @@ pub(crate) fn read_each<T: Portable + Deserialize<U, D>, U: Archive + Drop, D: E
     ensures refused { IfErr result (RefusesEach T.Portable count part D.Entries deserializer) }
 {
     let mut items = Vec::with_capacity(alloc, count)?;
-    for index in 0..count {
+    put_first::<T, U, D>(alloc, part.bytes, part.pos, count, &mut items);
+    for index in items.len()..count {
         let element: Ref<'_, T> = element_at(part, index);
         let item = T::deserialize_part(alloc, element.part(), deserializer)?;
         items.push_reserved(item);
