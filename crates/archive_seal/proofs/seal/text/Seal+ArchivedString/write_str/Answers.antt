@@ -6,15 +6,15 @@ use Rattle.archive_seal.proofs.seal.text.Seal+ArchivedString.write_str.Goals as 
 
 pub write_text_over-requires : goal.write_text_over-requires
 write_text_over-requires c =
-    let text = rw (c.as_ref.ensures.buffer, c.as_ref.ensures.position) at c.text_of-spot.ensures.text in
-    let viewed = rw c.as_ref.ensures.buffer at c.text_of-spot.ensures.viewed in
+    let text = rw (c.as_ref.ensures.buffer, c.as_ref.ensures.position) at c.text_spot-spot.ensures.text in
+    let viewed = rw c.as_ref.ensures.buffer at c.text_spot-spot.ensures.viewed in
     text_lies _ _ _ _ _ (c.requires.same_length ∙ sym (text_long _ _ _ _ _ viewed text)) viewed
 
 pub returns-clause-leaf : goal.returns-clause-leaf
 returns-clause-leaf c =
-    let text = rw (c.as_ref.ensures.buffer, c.as_ref.ensures.position) at c.text_of-spot.ensures.text in
-    let viewed = rw c.as_ref.ensures.buffer at c.text_of-spot.ensures.viewed in
-    let begin = rw (c.as_ref.ensures.buffer, c.as_ref.ensures.position) at c.text_of-spot.ensures.position in
+    let text = rw (c.as_ref.ensures.buffer, c.as_ref.ensures.position) at c.text_spot-spot.ensures.text in
+    let viewed = rw c.as_ref.ensures.buffer at c.text_spot-spot.ensures.viewed in
+    let begin = rw (c.as_ref.ensures.buffer, c.as_ref.ensures.position) at c.text_spot-spot.ensures.position in
     string_changed _ _ c.args.value.now _ _ _ c.write_text_over.ensures.leaf begin text (c.requires.same_length ∙ sym (text_long _ _ _ _ _ viewed text))
 
 pub returns-clause-stands : goal.returns-clause-stands
@@ -22,16 +22,16 @@ returns-clause-stands c = λ s root X a i. string_stands s _ a _ _ i
 
 pub returns-clause-parts : goal.returns-clause-parts
 returns-clause-parts c =
-    let text = rw (c.as_ref.ensures.buffer, c.as_ref.ensures.position) at c.text_of-spot.ensures.text in
-    let viewed = rw c.as_ref.ensures.buffer at c.text_of-spot.ensures.viewed in
-    let begin = rw (c.as_ref.ensures.buffer, c.as_ref.ensures.position) at c.text_of-spot.ensures.position in
+    let text = rw (c.as_ref.ensures.buffer, c.as_ref.ensures.position) at c.text_spot-spot.ensures.text in
+    let viewed = rw c.as_ref.ensures.buffer at c.text_spot-spot.ensures.viewed in
+    let begin = rw (c.as_ref.ensures.buffer, c.as_ref.ensures.position) at c.text_spot-spot.ensures.position in
     string_kept _ _ _ _ _ _ c.write_text_over.ensures.parts begin text (c.requires.same_length ∙ sym (text_long _ _ _ _ _ viewed text))
 
 pub returns-clause-views : goal.returns-clause-views
 returns-clause-views c =
-    let text = rw (c.as_ref.ensures.buffer, c.as_ref.ensures.position) at c.text_of-spot.ensures.text in
-    let viewed = rw c.as_ref.ensures.buffer at c.text_of-spot.ensures.viewed in
-    let begin = rw (c.as_ref.ensures.buffer, c.as_ref.ensures.position) at c.text_of-spot.ensures.position in
+    let text = rw (c.as_ref.ensures.buffer, c.as_ref.ensures.position) at c.text_spot-spot.ensures.text in
+    let viewed = rw c.as_ref.ensures.buffer at c.text_spot-spot.ensures.viewed in
+    let begin = rw (c.as_ref.ensures.buffer, c.as_ref.ensures.position) at c.text_spot-spot.ensures.position in
     let same = c.requires.same_length ∙ sym (text_long _ _ _ _ _ viewed text) in
     views_kept _ _ _ _ _ _ _ (string_changed _ _ c.args.value.now _ _ _ c.write_text_over.ensures.leaf begin text same)
     (string_kept _ _ _ _ _ _ c.write_text_over.ensures.parts begin text same) (λ s root X a i. string_stands s _ a _ _ i)
