@@ -29,4 +29,15 @@ impl<T: Portable + Deserialize<U, D>, U: Archive + Drop, D: Entries, const N: us
         let items = read_each::<T, U, D>(alloc, part, N, deserializer)?;
         Ok(OwnedArray { items })
     }
+
+    /// None: an array doesn't inherit the default, of which a caller would have to show that there is room for it.
+    #[inline(always)]
+    fn deserialize_first(
+        _alloc: Global,
+        _bytes: &[u8],
+        _pos: usize,
+        _step: usize,
+        _count: usize,
+        _items: &mut Vec<OwnedArray<U, N>>,
+    ) {}
 }
