@@ -151,7 +151,7 @@ fn assert_copied(rt: &impl Abort, alloc: Global, count: u32) -> Result<(), Error
 
 #[test]
 fn each_byte_is_copied(rt: HostRuntime) -> Result<(), Fail> {
-    for count in [0, 1, 255, 256, 257, 1000] {
+    for count in [0, 1, 255, 256, 257, 1000, 1024, 2050] {
         assert_copied(&rt, rt.alloc(), count)?;
     }
     Ok(())
