@@ -1,15 +1,17 @@
 // Commands with what they print and the status that they end with. The words of a command stand between bars.
 
 use crate::assertions::{assert_said, assert_same};
-use crate::command::run;
+use arc_commands::command::run;
 use std::alloc::{AllocError, Global};
 use std::io;
 use std::process::Abort;
 use std::test::Fail;
 
+mod all_values;
 mod nodes;
 mod readme;
 mod records;
+mod shared;
 
 fn words_of(alloc: Global, command: &str) -> Result<Vec<String>, AllocError> {
     let mut words = Vec::new(alloc);

@@ -3,7 +3,7 @@
 ghost use Rattle.std.specs.Prelude.{◌≢◌, Some};
 
 use crate::assertions::{assert_said, assert_same};
-use crate::formats::Format;
+use arc_commands::formats::Format;
 use archive_core::api::{HighValidator, access, access_with_context, from_bytes};
 use archive_core::error::Error;
 use own_types::node::{ArchivedNode, Node, boxes};

@@ -1,7 +1,7 @@
 // A record of an own type: written, viewed, read back, and edited in place.
 
 use crate::assertions::assert_same;
-use crate::formats::Format;
+use arc_commands::formats::Format;
 use archive_core::api::{HighSerializer, access, access_mut, from_bytes, to_bytes};
 use archive_core::error::Error;
 use archive_core::string::ArchivedString;

@@ -8,9 +8,6 @@ use archive_tuple::ArchivedTuple2;
 use std::alloc::Global;
 use std::rc::Rc;
 
-#[cfg(test)]
-mod tests;
-
 /// Two shared numbers.
 pub type TwoShared = (Shared<u32>, Shared<u32>);
 

@@ -2,14 +2,11 @@
 
 ghost use Rattle.std.specs.Prelude.{refl};
 ghost use Rattle.std.proofs.Common.{inl, inr};
-ghost use Rattle.arc.specs.AllValues.{all_name, all_choice};
+ghost use Rattle.arc_commands.specs.AllValues.{all_name, all_choice};
 
 use archive_core::own::{ArchivedRecursive, NamedRecursive, choice_of};
 use archive_core::shape::{Expr, FlavorInfo, Pointee};
 use std::alloc::{AllocError, Global};
-
-#[cfg(test)]
-mod tests;
 
 /// The choice `ArchivedAllValues`, whose one variant is a shared one of it. Eight bytes, at a multiple of four. No buffer is an archive of it: each
 /// pointer leads to a further one, and none may lead into its own value.
