@@ -13,6 +13,4 @@ mod records;
 mod rounds;
 pub mod seals;
 mod sets;
-#[cfg(test)]
-mod tests;
 pub mod writes;
