@@ -4,7 +4,6 @@ pub mod FirstBytes
 pub mod LevelRuns
 pub mod StandingLeaves
 pub mod ViewsTogether
-pub mod Coded
 pub mod Shown
 pub mod Appending
 pub mod Resolving

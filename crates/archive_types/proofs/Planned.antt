@@ -18,7 +18,7 @@ use Rattle.archive_check.proofs.PartsInside.{up_le}
 use Rattle.archive_check.proofs.PositiveAlignments.{align_pos}
 use Rattle.archive_write.specs.Written.{GoesOn, padding, ExplainsRefusal}
 use Rattle.archive_write.proofs.Padding.{padded}
-use Rattle.archive_types.specs.Offsets.{distance, IsTooFar}
+use Rattle.archive_pointers.specs.Offsets.{distance, IsTooFar}
 use Rattle.archive_types.specs.Strings.{to_text, string_flat}
 use Rattle.archive_types.specs.Planned.{text_region}
 use Rattle.archive_types.specs.PlannedOwners.{one_plan}

@@ -10,7 +10,7 @@ use Rattle.archive_check.specs.Tour.{Region}
 use Rattle.archive_check.specs.WriterState.{KeyState, WriterState}
 use Rattle.archive_check.specs.declared.format.error.Error.{Error}
 use Rattle.archive_check.specs.declared.format.error.Error.TheVariants.{OutOfMemory, IsizeOverflow, OffsetOverflow, PositionTooLarge, LengthTooLarge, NumberTooLarge, StringTooLong, BufferOverflow, WriterFailed, ItemWrote, CyclicSerialize, LayoutTooLarge}
-use Rattle.archive_types.specs.Offsets.{distance, IsTooFar}
+use Rattle.archive_pointers.specs.Offsets.{distance, IsTooFar}
 use Rattle.archive_types.specs.Plans.{Cursor, Step, lays, meets, Foreseen, PlanOf, RegionPlan, cursor}
 use Rattle.archive_types.specs.Writing.{Naming}
 

@@ -1,5 +1,4 @@
 pub mod Sealed
-pub mod Offsets
 pub mod Standing
 pub mod Strings
 pub mod Writing
@@ -17,7 +16,6 @@ pub mod PartsReading
 pub mod PartsWritten
 pub mod PartsStored
 pub mod Planned
-pub mod OffsetWidths
 pub mod RelativePointers
 pub mod RelativeLayout
 pub mod Sides
@@ -25,7 +23,6 @@ pub mod Runs
 pub mod ElementsRead
 pub mod FirstRead
 pub mod PlannedOwners
-pub mod OwnerBytes
 pub mod Views
 pub mod Variants
 pub mod Inner

@@ -1,22 +1,10 @@
--- The eight bytes of a string.
-use Rattle.std.specs.Prelude.{ℕ, ◌+◌, ◌-◌, ◌*◌, ◌/◌, ◌%◌, ℤ, List, ◌++◌, length, replicate, nat_lt, if◌then◌else◌}
-use Rattle.std.specs.Int.{w32, to_le_bytes, cast_unsigned}
+-- A string: its bytes by where its text stands, and what is read in its place.
+use Rattle.std.specs.Prelude.{ℕ, List, length, nat_lt, if◌then◌else◌}
 use Rattle.archive_check.specs.Shape.{text}
 use Rattle.archive_check.specs.Value.{Pointer, Value, text_value, hole}
-use Rattle.archive_types.specs.Offsets.{distance}
+use Rattle.archive_pointers.specs.Offsets.{distance}
+use Rattle.archive_pointers.specs.StringBytes.{inline_bytes, out_of_line_bytes}
 use Rattle.archive_types.specs.Writing.{to_pointee}
-
--- the number that codes the length of a text that stands elsewhere
-abbrev pub coded_length : ℕ → ℕ
-coded_length n = n % 64 + 128 + n / 64 * 256
-
--- of an inline string
-abbrev pub inline_bytes : List ℕ → List ℕ
-inline_bytes bytes = bytes ++ replicate (8 - length bytes) 0xff
-
--- of a string whose text has n bytes and stands so far away
-abbrev pub out_of_line_bytes : ℕ → ℤ → List ℕ
-out_of_line_bytes n offset = to_le_bytes w32 (coded_length n) ++ to_le_bytes w32 (cast_unsigned w32 offset)
 
 -- of the string at p of a text, which stands at t if it isn't inline
 abbrev pub string_form : List ℕ → ℕ → ℕ → List ℕ

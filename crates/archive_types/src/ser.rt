@@ -13,12 +13,12 @@ ghost use Rattle.archive_types.specs.Writing.{Fresh, Resolves};
 ghost use Rattle.archive_write.specs.Written.{GoesOn};
 
 use crate::place::Place;
-use crate::rel_ptr::emplace_pointer;
 use crate::traits::{
     Archive, ArchivePointee, ArchiveUnsized, ArchivedMetadata, Portable, PortablePointee, Serialize,
 };
 use archive_check::format::error::Error;
 use archive_num::FixedUsize;
+use archive_pointers::owners::emplace_pointer;
 pub use archive_write::ser::{Buffer, Positional, ResolverAlloc, Serializer, Writer, WriterExt};
 use std::alloc::Allocator;
 

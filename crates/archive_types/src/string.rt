@@ -19,7 +19,7 @@ ghost use Rattle.archive_write.specs.Written.{GoesOn};
 ghost use Rattle.archive_types.specs.Causes.{HindersAt, IsRefused, IsRegionRefused};
 ghost use Rattle.archive_types.specs.Keyed.{text_keyed};
 ghost use Rattle.archive_types.specs.KindsWritten.{TextStored, TextUnstored, NoTextSince, StringSerialized, StringRefused, NoStringSince, StringResolved, StringHindered};
-ghost use Rattle.archive_types.specs.Offsets.{distance, IsTooFar};
+ghost use Rattle.archive_pointers.specs.Offsets.{distance, IsTooFar};
 ghost use Rattle.archive_types.specs.Placed.{IsTooFarFrom, AtOnce, Added};
 ghost use Rattle.archive_types.specs.Planned.{string_planned, text_planned};
 ghost use Rattle.archive_types.specs.PlannedOwners.{is_long, one_planned};
@@ -29,8 +29,6 @@ ghost use Rattle.archive_types.specs.Sources.{Read};
 ghost use Rattle.archive_types.specs.Strings.{string_form, string_flat};
 ghost use Rattle.archive_types.specs.TextPlans.{HindersStringAt, ExplainsTextRefusal, ExplainsStringRefusal};
 ghost use Rattle.archive_types.specs.Writing.{Fresh, Resolves};
-
-pub mod repr;
 
 use crate::place::Place;
 use crate::primitive::ArchivedUsize;
@@ -47,6 +45,7 @@ use archive_check::format::error::Error;
 use archive_check::format::expr::{Defs, Expr, Pointee};
 use archive_check::format::layout::Layout;
 use archive_check::self_check::{BoxStrCheck, StringCheck};
+pub use archive_pointers::repr;
 use archive_write::ser::{ResolverAlloc, Writer};
 use std::alloc::Global;
 use std::marker::Model;

@@ -1,13 +1,26 @@
-//! Offsets: the numbers that relative pointers hold.
+//! How far it is from one position to another, and the numbers that relative pointers hold.
 
-ghost use Rattle.std.specs.Prelude.{◌≡◌, MatchResult, refl};
-ghost use Rattle.archive_check.specs.declared.format.error.Error.TheVariants.{OffsetOverflow};
-ghost use Rattle.archive_types.specs.Offsets.{Fits, as_isize};
-ghost use Rattle.archive_types.specs.OffsetWidths.{IsOffsetWidth};
-ghost use Rattle.archive_types.specs.OffsetsWritten.{GivesNumber};
+ghost use Rattle.std.specs.Prelude.{◌≡◌, MatchResult, FitsSigned, refl};
+ghost use Rattle.std.specs.Int.{w64};
+ghost use Rattle.archive_check.specs.declared.format.error.Error.TheVariants.{IsizeOverflow, OffsetOverflow};
+ghost use Rattle.archive_pointers.specs.Offsets.{distance, Fits, as_isize};
+ghost use Rattle.archive_pointers.specs.OffsetWidths.{IsOffsetWidth};
+ghost use Rattle.archive_pointers.specs.Distances.{GivesDistance, GivesNumber};
 
 use archive_check::format::error::Error;
 use archive_num::{Integer, LittleEndian};
+
+/// How far it is from one position to another, in bytes. Refused with `IsizeOverflow`, 2, exactly where the difference doesn't fit `isize`. As in rkyv
+/// 0.8.18.
+#[inline(always)]
+pub fn signed_offset(from: usize, to: usize) -> Result<isize, Error>
+    ensures { GivesDistance from to result }
+{
+    let Ok(offset) = isize::try_from(to as i128 - from as i128) else {
+        return Err(Error::IsizeOverflow);
+    };
+    Ok(offset)
+}
 
 /// A number of the machine that an offset may be: of at most 64 bits. Our own, so that each format of it is one implementation of `Offset`.
 pub trait OffsetNumber: Integer {

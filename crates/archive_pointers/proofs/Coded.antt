@@ -3,7 +3,7 @@ use Rattle.std.proofs.Common.{◌≡◌, ℕ, ◌+◌, ◌*◌, ◌/◌, ◌%◌
 use Rattle.std.proofs.lemmas.Nat.{and_mask}
 use Rattle.std.proofs.lemmas.Nat.Bits.{and_high_mask}
 use Rattle.std.specs.Int.Bits.{bit_and, bit_or, or_shifted_r}
-use Rattle.archive_types.specs.Strings.{coded_length}
+use Rattle.archive_pointers.specs.StringBytes.{coded_length}
 
 -- as the original writes it
 pub coded_bits : (n : ℕ) → n ≤ 1073741823 → bit_or (bit_or (bit_and n 63) 128) (bit_and n 18446744073709551552 * 4 % 18446744073709551616) ≡ coded_length n

@@ -2,11 +2,10 @@
 
 ghost use Rattle.std.specs.Prelude.{◌≡◌, ◌<◌, ◌≤◌, MatchResult, FitsSigned, length};
 ghost use Rattle.std.specs.Int.{w32};
-ghost use Rattle.archive_types.specs.Offsets.{distance, IsTooFar};
-ghost use Rattle.archive_types.specs.OffsetsWritten.{OutOfLineWritten};
-ghost use Rattle.archive_types.specs.Strings.{inline_bytes, out_of_line_bytes, coded_length};
+ghost use Rattle.archive_pointers.specs.Offsets.{distance, IsTooFar};
+ghost use Rattle.archive_pointers.specs.StringBytes.{inline_bytes, out_of_line_bytes, coded_length, OutOfLineWritten};
 
-use crate::rel_ptr::signed_offset;
+use crate::offset::signed_offset;
 use archive_check::format::error::Error;
 
 /// A text of at most so many bytes stands in the string itself. As in rkyv 0.8.18.

@@ -1,11 +1,11 @@
-// The bytes of what points to a region: boxes, vectors and shared pointers.
+//! The bytes of what points to a region: boxes, vectors and shared pointers.
 
 ghost use Rattle.std.specs.Prelude.{◌≡◌, OnOk, IfErr, FitsSigned, length, true, false, if◌then◌else◌};
 ghost use Rattle.std.specs.Int.{w32};
-ghost use Rattle.archive_types.specs.Offsets.{distance, IsTooFar};
-ghost use Rattle.archive_types.specs.OwnerBytes.{owner_bytes};
+ghost use Rattle.archive_pointers.specs.Offsets.{distance, IsTooFar};
+ghost use Rattle.archive_pointers.specs.OwnerBytes.{owner_bytes};
 
-use super::signed_offset;
+use crate::offset::signed_offset;
 use archive_check::format::error::Error;
 use archive_num::FixedUsize;
 
@@ -26,9 +26,11 @@ fn emplace_owner(target: usize, pos: usize, bytes: &mut [u8]) -> Result<(), Erro
     Ok(())
 }
 
-/// The same over eight bytes, with a length behind the offset.
+/// Writes over the eight bytes of an owner at `pos` that it leads to `target`, both in bytes from the buffer's first one, and behind the offset the
+/// length `count`. Asks for its eight bytes. Refused with `IsizeOverflow`, 2, exactly where the distance doesn't fit `isize`, and else with
+/// `OffsetOverflow`, 3, exactly where it doesn't fit 32 bits; the bytes are then unchanged. Our own: in rkyv 0.8.18 each pointer writes its parts.
 #[inline(always)]
-pub(crate) fn emplace_long_owner(
+pub fn emplace_long_owner(
     target: usize,
     count: FixedUsize,
     pos: usize,
@@ -49,9 +51,10 @@ pub(crate) fn emplace_long_owner(
     Ok(())
 }
 
-/// The same over as many bytes as the pointer has, with the length behind the offset or none.
+/// The same over as many bytes as the pointer has: eight, with the length behind the offset, where `is_long` holds, and else four with no length, which
+/// asks that `count` is 0. Our own.
 #[inline(always)]
-pub(crate) fn emplace_pointer(
+pub fn emplace_pointer(
     is_long: bool,
     target: usize,
     count: FixedUsize,

@@ -3,7 +3,7 @@ use Rattle.std.specs.Prelude.{◌≡◌, ◌⊎◌, ℕ, ℤ, ◌+◌, ◌^◌, 
 use Rattle.std.specs.Int.{w32, to_le_bytes, cast_unsigned}
 use Rattle.archive_check.specs.declared.format.error.Error.{Error}
 use Rattle.archive_check.specs.declared.format.error.Error.TheVariants.{LengthTooLarge, LayoutTooLarge}
-use Rattle.archive_types.specs.Offsets.{distance, IsTooFar}
+use Rattle.archive_pointers.specs.Offsets.{distance, IsTooFar}
 
 abbrev pub owner_bytes : Bool → ℤ → ℕ → List ℕ
 owner_bytes false offset n = to_le_bytes w32 (cast_unsigned w32 offset)

@@ -1,0 +1,5 @@
+pub mod Offsets
+pub mod OffsetWidths
+pub mod Distances
+pub mod OwnerBytes
+pub mod StringBytes
