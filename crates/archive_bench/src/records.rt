@@ -7,7 +7,7 @@ ghost use Rattle.archive_check.specs.Value.{product};
 ghost use Rattle.archive_types.specs.Keyed.{nothing_keyed, part_keyed, record_keyed};
 ghost use Rattle.archive_types.specs.PartsPlanned.{no_part_planned, part_planned, record_planned};
 ghost use Rattle.archive_types.specs.Sources.{ResolvedAs, HinderedAs};
-ghost use Rattle.archive_types.specs.Writing.{Fresh};
+ghost use Rattle.archive_types.specs.Writing.{ZeroedPlace};
 
 use archive_core::error::Error;
 use archive_core::own::{ArchivedRecord, Field, FromParts, HasField, NamedRecord};
@@ -102,7 +102,7 @@ impl<
         resolver: (A::Resolver, (B::Resolver, (C::Resolver, ()))),
         place: Place<'_, ArchivedRecord<F>>,
     ) -> Result<(), Error>
-        requires fresh { Fresh ⟦<Self::Archived as Portable>⟧.layout.size place.pos place.bytes.now }
+        requires zeroed { ZeroedPlace ⟦<Self::Archived as Portable>⟧.layout.size place.pos place.bytes.now }
         requires same_value { ⟦<Self as Archive>⟧.belongs self.now resolver }
         ensures resolved { OnOk result (ResolvedAs ⟦<Self as Archive>⟧ ⟦<Self::Archived as Portable>⟧ place self.now resolver) }
         ensures same_length { length place.exit.0.now ≡ length place.entry.bytes.now }

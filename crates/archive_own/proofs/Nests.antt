@@ -24,7 +24,7 @@ use Rattle.archive_check.proofs.UniqueBefore.{lies_before}
 use Rattle.archive_check.proofs.Viewed.{lies_reads}
 use Rattle.archive_check.proofs.ViewedVariants.{case_viewed, definition_viewed}
 use Rattle.archive_write.specs.Written.{GoesOn}
-use Rattle.archive_types.specs.Writing.{Naming, Resolves, Fresh, to_pointee}
+use Rattle.archive_types.specs.Writing.{Naming, Resolves, ZeroedPlace, to_pointee}
 use Rattle.archive_types.specs.Plans.{Serialized}
 use Rattle.archive_types.specs.Causes.{IsRefused, HindersAt}
 use Rattle.archive_types.specs.Inner.{IsBoxed, IsNotBoxed}
@@ -125,7 +125,7 @@ module _ (D : Definitions) (X : Shape) (name : Name) (E : Definitions) (vs : Var
   -- resolving
 
   module _ (L : Layout) (laid : HasLayout D X L) (some : 8 ≤ L.size) (tag : ℕ) (o : Option ℕ) (its : IsTagOf X vs tag o) (p : ℕ) where
-    pub empty_resolved : o ≡ None → (old : List ℕ) → Fresh L.size p old → Resolves D p (slice_set old 0 tag) X (nest_flat X tag o)
+    pub empty_resolved : o ≡ None → (old : List ℕ) → ZeroedPlace L.size p old → Resolves D p (slice_set old 0 tag) X (nest_flat X tag o)
     empty_resolved e old fresh =
         let at = rw e at its in
         let long : 0 < length old = omega (arith, fresh.sized) in

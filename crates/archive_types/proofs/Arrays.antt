@@ -11,7 +11,7 @@ use Rattle.archive_check.specs.CleanRegions.{IsZeroed, clean_array, clean_none, 
 use Rattle.archive_check.specs.WriterState.{WriterState}
 use Rattle.archive_check.specs.declared.format.error.Error.{Error}
 use Rattle.archive_check.proofs.StandingBytes.{stands_front, stands_back}
-use Rattle.archive_types.specs.Writing.{Naming, Resolves, Fresh}
+use Rattle.archive_types.specs.Writing.{Naming, Resolves, ZeroedPlace}
 use Rattle.archive_types.specs.Plans.{Serialized, serialized, plans_array}
 use Rattle.archive_types.specs.Causes.{IsRefused, HindersAt, part_of_array}
 use Rattle.archive_types.specs.Runs.{each_meaning, each_flat, each_keys, EachBelongs, SerializedRun, serialized_run, IsRunRefused, HindersEachAt}
@@ -132,7 +132,7 @@ pub none_left : (begin n size len : ℕ) → begin + n * size ≡ len → n ≡ 
 none_left begin zero size len h e = omega (arith, h)
 none_left begin (suc n) size len h e = absurd (omega (arith, e))
 
-pub fresh_element : (size w begin p : ℕ) (bytes : List ℕ) → w ≡ size → begin + size ≤ length bytes → IsZeroed (drop begin bytes) → p + length bytes < 2 ^ 64 → Fresh size (p + begin) (take (begin + w - begin) (drop begin bytes))
+pub fresh_element : (size w begin p : ℕ) (bytes : List ℕ) → w ≡ size → begin + size ≤ length bytes → IsZeroed (drop begin bytes) → p + length bytes < 2 ^ 64 → ZeroedPlace size (p + begin) (take (begin + w - begin) (drop begin bytes))
 fresh_element size w begin p bytes same fits z ends =
     let k : begin + w - begin ≡ size = omega (arith, same) in
     let few : size ≤ length (drop begin bytes) = omega (arith, fits, length-drop begin bytes) in

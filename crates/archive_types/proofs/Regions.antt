@@ -10,14 +10,14 @@ use Rattle.archive_check.specs.declared.format.error.Error.{Error}
 use Rattle.archive_check.specs.declared.format.error.Error.TheVariants.{LayoutTooLarge}
 use Rattle.archive_write.specs.Written.{ExplainsRefusal}
 use Rattle.archive_write.proofs.Padding.{zeroed_replicate}
-use Rattle.archive_types.specs.Writing.{Resolves, Puts, Fresh}
+use Rattle.archive_types.specs.Writing.{Resolves, Puts, ZeroedPlace}
 use Rattle.archive_types.specs.Causes.{Explains, own_cause, HindersAt, HindersRegionAt}
 use Rattle.archive_types.proofs.Causes.{explains_write}
 
-pub fresh_zeros : (size p n : ℕ) (a : List ℕ) → a ≡ replicate n 0 → n ≡ size → p + size < 2 ^ 64 → Fresh size p a
+pub fresh_zeros : (size p n : ℕ) (a : List ℕ) → a ≡ replicate n 0 → n ≡ size → p + size < 2 ^ 64 → ZeroedPlace size p a
 fresh_zeros size p n a e m ends = record { sized = ap length e ∙ length-replicate {A = ℕ} n 0 ∙ m; zeroed = rw e (zeroed_replicate n); ends = ends }
 
-pub fresh_front : (size p n : ℕ) → n ≡ size → n ≤ 64 → p + size < 2 ^ 64 → Fresh size p (take n (replicate 64 0))
+pub fresh_front : (size p n : ℕ) → n ≡ size → n ≤ 64 → p + size < 2 ^ 64 → ZeroedPlace size p (take n (replicate 64 0))
 fresh_front size p n m few ends = fresh_zeros size p n _ (take-replicate n 64 0 few) m ends
 
 pub puts_by : (D : Definitions) (old new : WriterState) (X : Shape) (L : Layout) (a : List ℕ) (p : ℕ) (v : Value)

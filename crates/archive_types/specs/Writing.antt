@@ -147,7 +147,7 @@ pub record Puts (definitions : Definitions) (old new : WriterState) (X : Shape) 
   pub states : new.states ≡ old.states
 
 -- a place that is to be written: zeros, so many, and its end fits
-pub record Fresh (size p : ℕ) (bytes : List ℕ) : Type 0 where
+pub record ZeroedPlace (size p : ℕ) (bytes : List ℕ) : Type 0 where
   pub sized : length bytes ≡ size
   pub zeroed : IsZeroed bytes
   pub ends : p + size < 2 ^ 64

@@ -12,7 +12,7 @@ ghost use Rattle.archive_types.specs.PlannedOwners.{one_planned};
 ghost use Rattle.archive_types.specs.Seen.{tag_of, StandsBeside, IsPartOf, RefusesPart};
 ghost use Rattle.archive_types.specs.Sources.{Read};
 ghost use Rattle.archive_types.specs.Standing.{StandsWith, view};
-ghost use Rattle.archive_types.specs.Writing.{Fresh, Resolves};
+ghost use Rattle.archive_types.specs.Writing.{ZeroedPlace, Resolves};
 
 use crate::place::Place;
 use crate::ser::serialize_one;
@@ -51,7 +51,7 @@ impl<T: Archive> Archive for Option<T> {
         resolver: Option<T::Resolver>,
         place: Place<'_, ArchivedOption<T::Archived>>,
     ) -> Result<(), Error>
-        requires fresh { Fresh (option_layout T.Archived.layout).size place.pos place.bytes.now }
+        requires zeroed { ZeroedPlace (option_layout T.Archived.layout).size place.pos place.bytes.now }
         requires same_value { OptionBelongs T.belongs self.now resolver }
         ensures resolved { OnOk result (Resolved ⟦<Self::Archived as Portable>⟧ place (option_flat T.flat self.now resolver)) }
         ensures same_length { length place.exit.0.now ≡ length place.entry.bytes.now }

@@ -13,7 +13,7 @@ ghost use Rattle.archive_types.specs.Placed.{Resolved};
 ghost use Rattle.archive_types.specs.Plans.{Serialized};
 ghost use Rattle.archive_types.specs.Seen.{IsPartOf};
 ghost use Rattle.archive_types.specs.Sources.{Read};
-ghost use Rattle.archive_types.specs.Writing.{Fresh, Resolves};
+ghost use Rattle.archive_types.specs.Writing.{ZeroedPlace, Resolves};
 ghost use Rattle.archive_write.specs.Written.{GoesOn};
 
 use crate::place::Place;
@@ -48,7 +48,7 @@ impl<T> Archive for PhantomData<T> {
 
     #[tactic(auto, using(crate::proofs::Nothing::resolves_empty_product))]
     fn resolve(&self, _resolver: (), place: Place<'_, PhantomData<T>>) -> Result<(), Error>
-        requires fresh { Fresh 0 place.pos place.bytes.now }
+        requires zeroed { ZeroedPlace 0 place.pos place.bytes.now }
         requires same_value { ⊤ }
         ensures resolved { OnOk result (Resolved ⟦<Self::Archived as Portable>⟧ place (product no_value)) }
         ensures same_length { length place.exit.0.now ≡ length place.entry.bytes.now }

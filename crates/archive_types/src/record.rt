@@ -9,7 +9,7 @@ ghost use Rattle.archive_types.specs.KindsWritten.{RecordSerialized, RecordRefus
 ghost use Rattle.archive_types.specs.Placed.{Resolved, Hindered};
 ghost use Rattle.archive_types.specs.Plans.{Serialized};
 ghost use Rattle.archive_types.specs.Seen.{IsPartOf, RefusesPart, ReadsRecord};
-ghost use Rattle.archive_types.specs.Writing.{Fresh, Resolves};
+ghost use Rattle.archive_types.specs.Writing.{ZeroedPlace, Resolves};
 ghost use Rattle.archive_write.specs.Written.{GoesOn};
 
 use crate::parts::{DeserializeParts, OwnedParts, SerializeParts, SourceParts};
@@ -47,7 +47,7 @@ pub fn resolve_record<T, P: SourceParts<T>, X: Record<Parts = P::Archived>>(
     resolvers: P::Resolvers,
     place: Place<'_, X>,
 ) -> Result<(), Error>
-    requires fresh { Fresh X.layout.size place.pos place.bytes.now }
+    requires zeroed { ZeroedPlace X.layout.size place.pos place.bytes.now }
     requires same_values { P.belongs whole.now resolvers }
     ensures resolved { OnOk result (Resolved X.Portable place (product (P.flats whole.now resolvers))) }
     ensures same_length { length place.exit.0.now ≡ length place.entry.bytes.now }

@@ -9,7 +9,7 @@ ghost use Rattle.archive_types.specs.KindsWritten.{BytesResolved, RegionPut, Reg
 ghost use Rattle.archive_types.specs.Placed.{GrowsBy, Pointed, Unpointed};
 ghost use Rattle.archive_types.specs.Runs.{EachBelongs};
 ghost use Rattle.archive_types.specs.Sources.{OneStored, OneUnstored};
-ghost use Rattle.archive_types.specs.Writing.{Fresh, Resolves};
+ghost use Rattle.archive_types.specs.Writing.{ZeroedPlace, Resolves};
 ghost use Rattle.archive_write.specs.Written.{GoesOn};
 
 use crate::place::Place;
@@ -54,7 +54,7 @@ fn resolve_region<W: Writer, T: Archive>(
     resolver: T::Resolver,
     region: &mut [u8],
 ) -> Result<usize, Error>
-    requires fresh { Fresh T.Archived.layout.size (length (W.state writer.old).bytes) region.old }
+    requires zeroed { ZeroedPlace T.Archived.layout.size (length (W.state writer.old).bytes) region.old }
     requires same_value { T.belongs value.now resolver }
     ensures put { OnOk result (RegionPut T.Archived.Portable (T.flat value.now resolver) W.Keys writer) }
     ensures position { IfOk result (λ p. p ≡ length (W.state writer.old).bytes) }
@@ -130,7 +130,7 @@ pub(crate) fn resolve_into<T: Archive>(
     pos: usize,
     bytes: &mut [u8],
 ) -> Result<(), Error>
-    requires fresh { Fresh T.Archived.layout.size pos bytes.old }
+    requires zeroed { ZeroedPlace T.Archived.layout.size pos bytes.old }
     requires same_value { T.belongs value.now resolver }
     ensures resolved { OnOk result (BytesResolved T.Archived.Portable pos bytes.new (T.flat value.now resolver)) }
     ensures same_length { length bytes.new ≡ length bytes.old }

@@ -28,7 +28,7 @@ ghost use Rattle.archive_types.specs.Seen.{ShowsValue, IsPartOf};
 ghost use Rattle.archive_types.specs.Sources.{Read};
 ghost use Rattle.archive_types.specs.Strings.{string_form, string_flat};
 ghost use Rattle.archive_types.specs.TextPlans.{HindersStringAt, ExplainsTextRefusal, ExplainsStringRefusal};
-ghost use Rattle.archive_types.specs.Writing.{Fresh, Resolves};
+ghost use Rattle.archive_types.specs.Writing.{ZeroedPlace, Resolves};
 
 use crate::place::Place;
 use crate::primitive::ArchivedUsize;
@@ -323,7 +323,7 @@ impl Archive for String {
         resolver: StringResolver,
         place: Place<'_, ArchivedString>,
     ) -> Result<(), Error>
-        requires fresh { Fresh 8 place.pos place.bytes.now }
+        requires zeroed { ZeroedPlace 8 place.pos place.bytes.now }
         requires same_value { length (string_bytes self.now) ≤ 1073741823 }
         ensures resolved { OnOk result (StringResolved (string_bytes self.now) place resolver) }
         ensures same_length { length place.exit.0.now ≡ length place.entry.bytes.now }

@@ -14,7 +14,7 @@ ghost use Rattle.archive_types.specs.Seen.{IsPartOf, RefusesPart, ReadsView, Ref
 ghost use Rattle.archive_types.specs.Causes.{HindersAt, IsRefused, IsRegionRefused};
 ghost use Rattle.archive_types.specs.Plans.{HasPlan, HasRegionPlan, Serialized, SerializedRegion};
 ghost use Rattle.archive_types.specs.Runs.{each_keys, each_meaning};
-ghost use Rattle.archive_types.specs.Writing.{Naming, IsKeyed, Fresh, Resolves};
+ghost use Rattle.archive_types.specs.Writing.{Naming, IsKeyed, ZeroedPlace, Resolves};
 ghost use Rattle.archive_write.specs.Written.{GoesOn};
 
 use crate::place::Place;
@@ -68,7 +68,7 @@ pub trait Archive {
         resolver: Self::Resolver,
         place: Place<'_, Self::Archived>,
     ) -> Result<(), Error>
-        requires fresh { Fresh Self.Archived.layout.size place.pos place.bytes.now }
+        requires zeroed { ZeroedPlace Self.Archived.layout.size place.pos place.bytes.now }
         requires same_value { belongs self.now resolver }
         ensures resolved { OnOk result (Resolved Self.Archived.Portable place (flat self.now resolver)) }
         ensures same_length { length place.exit.0.now ≡ length place.entry.bytes.now }

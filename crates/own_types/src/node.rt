@@ -7,7 +7,7 @@ ghost use Rattle.archive_check.specs.Value.{box};
 ghost use Rattle.archive_own.specs.Nests.{HoldsBox, nest_keyed, nest_planned};
 ghost use Rattle.archive_types.specs.Placed.{Resolved, Hindered};
 ghost use Rattle.archive_types.specs.Variants.{case_of};
-ghost use Rattle.archive_types.specs.Writing.{Fresh};
+ghost use Rattle.archive_types.specs.Writing.{ZeroedPlace};
 ghost use Rattle.own_types.specs.NodeShape.{node_name, node_variants, node_choice};
 
 use archive_core::boxed::{ArchivedBox, BoxResolver};
@@ -117,7 +117,7 @@ impl Archive for Node {
         resolver: Option<BoxResolver>,
         place: Place<'_, ArchivedNode>,
     ) -> Result<(), Error>
-        requires fresh { Fresh 8 place.pos place.bytes.now }
+        requires zeroed { ZeroedPlace 8 place.pos place.bytes.now }
         requires same_value { ⊤ }
         ensures resolved { OnOk result (Resolved ⟦<Self::Archived as Portable>⟧ place (node_flat resolver)) }
         ensures same_length { length place.exit.0.now ≡ length place.entry.bytes.now }

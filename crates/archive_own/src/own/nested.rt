@@ -10,7 +10,7 @@ ghost use Rattle.archive_types.specs.Placed.{Resolved, Hindered};
 ghost use Rattle.archive_types.specs.Seen.{IsPartOf, RefusesPart, part_tag};
 ghost use Rattle.archive_types.specs.Sources.{Wrote, Refused, Read};
 ghost use Rattle.archive_types.specs.Variants.{case_of};
-ghost use Rattle.archive_types.specs.Writing.{Fresh};
+ghost use Rattle.archive_types.specs.Writing.{ZeroedPlace};
 ghost use Rattle.archive_write.specs.Written.{GoesOn};
 
 use super::{ArchivedRecursive, RecursiveChoice};
@@ -94,7 +94,7 @@ pub fn resolve_nested<X: Choice>(
     requires tag { IsTagOf X.shape X.Variants.variants tag resolver }
     requires is_named { X.shape ≡ named X.name }
     requires some { 8 ≤ X.layout.size }
-    requires fresh { Fresh X.layout.size place.pos place.bytes.now }
+    requires zeroed { ZeroedPlace X.layout.size place.pos place.bytes.now }
     ensures resolved { OnOk result (Resolved X.Portable place (nest_flat X.shape tag resolver)) }
     ensures same_length { length place.exit.0.now ≡ length place.entry.bytes.now }
     ensures refused { IfErr result (Hindered X.Portable place (nest_flat X.shape tag resolver)) }

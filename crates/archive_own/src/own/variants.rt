@@ -7,7 +7,7 @@ ghost use Rattle.archive_own.specs.OwnChoices.{variant_definitions};
 ghost use Rattle.archive_types.specs.KindsWritten.{VariantOwned, VariantRefused};
 ghost use Rattle.archive_types.specs.Placed.{Resolved, Hindered};
 ghost use Rattle.archive_types.specs.Seen.{part_tag, IsPartOf, RefusesPart, ReadsVariant};
-ghost use Rattle.archive_types.specs.Writing.{Fresh};
+ghost use Rattle.archive_types.specs.Writing.{ZeroedPlace};
 ghost use Rattle.archive_write.specs.Written.{GoesOn};
 
 use archive_check::format::error::Error;
@@ -47,7 +47,7 @@ pub fn resolve_variant<T, P: SourceParts<T>, X: Choice>(
     requires variant { variant_at X.Variants.variants tag ≡ Some P.Archived.parts }
     requires definitions { variant_definitions X.Variants.definitions tag ≡ P.Archived.definitions }
     requires inside { P.Archived.end 1 ≤ X.layout.size }
-    requires fresh { Fresh X.layout.size place.pos place.bytes.now }
+    requires zeroed { ZeroedPlace X.layout.size place.pos place.bytes.now }
     requires same_values { P.belongs whole.now resolvers }
     ensures resolved { OnOk result (Resolved X.Portable place (case tag (P.flats whole.now resolvers))) }
     ensures same_length { length place.exit.0.now ≡ length place.entry.bytes.now }

@@ -9,7 +9,7 @@ ghost use Rattle.archive_check.specs.Value.{number};
 ghost use Rattle.archive_types.specs.Keyed.{number_keyed};
 ghost use Rattle.archive_types.specs.Planned.{leaf_planned};
 ghost use Rattle.archive_types.specs.KindsWritten.{LeafResolved, LeafHindered};
-ghost use Rattle.archive_types.specs.Writing.{Fresh};
+ghost use Rattle.archive_types.specs.Writing.{ZeroedPlace};
 
 use crate::assertions::{assert_holds, assert_read, assert_same, assert_written};
 use archive_core::api::{HighSerializer, to_bytes};
@@ -49,7 +49,7 @@ impl Archive for Metres {
     ghost planned = { λ m. leaf_planned no_definition (leaf (number_kind unsigned w32)) (number_kind unsigned w32) [] (pos m.number) refl };
 
     fn resolve(&self, _resolver: (), place: Place<'_, ArchivedU32>) -> Result<(), Error>
-        requires fresh { Fresh 4 place.pos place.bytes.now }
+        requires zeroed { ZeroedPlace 4 place.pos place.bytes.now }
         requires same_value { ⊤ }
         ensures resolved { OnOk result (LeafResolved (number_kind unsigned w32) place (pos self.now.number)) }
         ensures same_length { length place.exit.0.now ≡ length place.entry.bytes.now }

@@ -5,7 +5,7 @@ ghost use Rattle.std.specs.Prelude.{◌≡◌, ◌≤◌, ◌<◌, ◌+◌, ◌^
 ghost use Rattle.archive_check.specs.Shape.{variant_at};
 ghost use Rattle.archive_own.specs.OwnChoices.{variant_definitions};
 ghost use Rattle.archive_types.specs.Seen.{tag_of};
-ghost use Rattle.archive_types.specs.Writing.{Fresh};
+ghost use Rattle.archive_types.specs.Writing.{ZeroedPlace};
 
 use super::own_choices::Event;
 use crate::assertions::{assert_holds, assert_same};
@@ -34,7 +34,7 @@ fn resolved<T, P: SourceParts<T>, X: Choice>(
     requires definitions { variant_definitions X.Variants.definitions tag ≡ P.Archived.definitions }
     requires inside { P.Archived.end 1 ≤ X.layout.size }
     requires same_values { P.belongs whole.now resolvers }
-    requires fresh { Fresh X.layout.size 0 bytes.old }
+    requires zeroed { ZeroedPlace X.layout.size 0 bytes.old }
 {
     resolve_variant::<T, P, X>(tag, whole, resolvers, Place::new(0, bytes))
 }
@@ -49,7 +49,7 @@ fn written<T, P: SerializeParts<T, S>, X: Choice, S: Writer + Keys>(
     requires variant { variant_at X.Variants.variants tag ≡ Some P.Archived.parts }
     requires definitions { variant_definitions X.Variants.definitions tag ≡ P.Archived.definitions }
     requires inside { P.Archived.end 1 ≤ X.layout.size }
-    requires fresh { Fresh X.layout.size 0 bytes.old }
+    requires zeroed { ZeroedPlace X.layout.size 0 bytes.old }
 {
     let resolvers = serialize_variant::<T, P, X, S>(tag, whole, serializer)?;
     resolved::<T, P, X>(tag, whole, resolvers, bytes)

@@ -8,7 +8,7 @@ ghost use Rattle.archive_check.specs.Definitions.{no_definition};
 ghost use Rattle.archive_check.specs.LeafLayout.{no_definition_reached};
 ghost use Rattle.archive_check.specs.Value.{list, number as number_value};
 ghost use Rattle.archive_types.specs.Sources.{ResolvedAs, HinderedAs};
-ghost use Rattle.archive_types.specs.Writing.{Fresh};
+ghost use Rattle.archive_types.specs.Writing.{ZeroedPlace};
 ghost use Rattle.archive_tests.specs.Repeated.{leaves_planned, numbers_keyed, repeated};
 ghost use Rattle.archive_check.specs.SelfCheck.Laws.{by_schema};
 
@@ -97,7 +97,7 @@ impl Archive for Sevens {
 
     #[tactic(auto, using(crate::proofs::Repeated::resolves_sevens))]
     fn resolve(&self, _none: (), place: Place<'_, ArchivedSevens>) -> Result<(), Error>
-        requires fresh { Fresh 100 place.pos place.bytes.now }
+        requires zeroed { ZeroedPlace 100 place.pos place.bytes.now }
         requires same_value { ⊤ }
         ensures resolved { OnOk result (ResolvedAs ⟦<Self as Archive>⟧ ⟦<Self::Archived as Portable>⟧ place self.now _none) }
         ensures same_length { length place.exit.0.now ≡ length place.entry.bytes.now }

@@ -5,7 +5,7 @@ ghost use Rattle.archive_check.specs.Value.{list};
 ghost use Rattle.archive_types.specs.Arrays.{array_meaning, array_keys, array_keyed, array_planned};
 ghost use Rattle.archive_types.specs.Runs.{each_flat, EachBelongs};
 ghost use Rattle.archive_types.specs.Sources.{ResolvedAs, HinderedAs};
-ghost use Rattle.archive_types.specs.Writing.{Fresh};
+ghost use Rattle.archive_types.specs.Writing.{ZeroedPlace};
 
 use super::sources::resolve_elements;
 use crate::place::Place;
@@ -94,7 +94,7 @@ impl<T: Archive, const N: usize> Archive for OwnedArray<T, N> {
         resolver: Vec<T::Resolver>,
         place: Place<'_, [T::Archived; N]>,
     ) -> Result<(), Error>
-        requires fresh { Fresh ⟦<Self::Archived as Portable>⟧.layout.size place.pos place.bytes.now }
+        requires zeroed { ZeroedPlace ⟦<Self::Archived as Portable>⟧.layout.size place.pos place.bytes.now }
         requires same_value { EachBelongs T.belongs self.now resolver.items }
         ensures resolved { OnOk result (ResolvedAs ⟦<Self as Archive>⟧ ⟦<Self::Archived as Portable>⟧ place self.now resolver) }
         ensures same_length { length place.exit.0.now ≡ length place.entry.bytes.now }

@@ -5,7 +5,7 @@ ghost use Rattle.archive_check.specs.Value.{list};
 ghost use Rattle.archive_types.specs.Arrays.{array_meaning, array_keys, array_keyed, array_planned};
 ghost use Rattle.archive_types.specs.Runs.{each_flat, EachBelongs};
 ghost use Rattle.archive_types.specs.Sources.{ResolvedAs, HinderedAs, EachResolved, EachHinderedAt};
-ghost use Rattle.archive_types.specs.Writing.{Fresh};
+ghost use Rattle.archive_types.specs.Writing.{ZeroedPlace};
 ghost use Rattle.archive_write.specs.Written.{GoesOn};
 
 use crate::place::Place;
@@ -23,7 +23,7 @@ pub(super) fn resolve_elements<T: Archive>(
     pos: usize,
     bytes: &mut [u8],
 ) -> Result<(), Error>
-    requires fresh { Fresh (length values.now * T.Archived.layout.size) pos bytes.old }
+    requires zeroed { ZeroedPlace (length values.now * T.Archived.layout.size) pos bytes.old }
     requires same_values { EachBelongs T.belongs values.now resolvers.items }
     ensures resolved { OnOk result (EachResolved T.Archive T.Archived.Portable pos values.now resolvers.items bytes.new) }
     ensures same_length { length bytes.new ≡ length bytes.old }
@@ -87,7 +87,7 @@ impl<T: Archive, const N: usize> Archive for [T; N] {
         resolver: Vec<T::Resolver>,
         place: Place<'_, [T::Archived; N]>,
     ) -> Result<(), Error>
-        requires fresh { Fresh ⟦<Self::Archived as Portable>⟧.layout.size place.pos place.bytes.now }
+        requires zeroed { ZeroedPlace ⟦<Self::Archived as Portable>⟧.layout.size place.pos place.bytes.now }
         requires same_value { EachBelongs T.belongs self.now resolver.items }
         ensures resolved { OnOk result (ResolvedAs ⟦<Self as Archive>⟧ ⟦<Self::Archived as Portable>⟧ place self.now resolver) }
         ensures same_length { length place.exit.0.now ≡ length place.entry.bytes.now }

@@ -19,7 +19,7 @@ ghost use Rattle.archive_types.specs.Plans.{Serialized};
 ghost use Rattle.archive_types.specs.Runs.{each_keys, each_meaning};
 ghost use Rattle.archive_types.specs.Seen.{IsPartOf, RefusesPart};
 ghost use Rattle.archive_types.specs.Sources.{Read, SliceBoxed, SliceUnboxed};
-ghost use Rattle.archive_types.specs.Writing.{Fresh, Resolves, to_pointee};
+ghost use Rattle.archive_types.specs.Writing.{ZeroedPlace, Resolves, to_pointee};
 ghost use Rattle.archive_write.specs.Written.{GoesOn};
 
 use super::{ArchivedBox, BoxResolver};
@@ -74,7 +74,7 @@ impl<T: Archive> Archive for BoxSlice<T> {
         resolver: BoxResolver,
         place: Place<'_, ArchivedBox<ArchivedSlice<T::Archived>>>,
     ) -> Result<(), Error>
-        requires fresh { Fresh 8 place.pos place.bytes.now }
+        requires zeroed { ZeroedPlace 8 place.pos place.bytes.now }
         requires same_value { length self.now.items.items ≤ 4294967295 }
         ensures resolved { OnOk result (SliceBoxResolved T.Archived.Portable place resolver (length self.now.items.items)) }
         ensures same_length { length place.exit.0.now ≡ length place.entry.bytes.now }
@@ -179,7 +179,7 @@ impl Archive for BoxStr {
         resolver: BoxResolver,
         place: Place<'_, ArchivedBox<ArchivedStr>>,
     ) -> Result<(), Error>
-        requires fresh { Fresh 8 place.pos place.bytes.now }
+        requires zeroed { ZeroedPlace 8 place.pos place.bytes.now }
         requires same_value { length (string_bytes self.now.text) ≤ 4294967295 }
         ensures resolved { OnOk result (TextBoxResolved place resolver (length (string_bytes self.now.text))) }
         ensures same_length { length place.exit.0.now ≡ length place.entry.bytes.now }

@@ -15,7 +15,7 @@ ghost use Rattle.archive_types.specs.Placed.{IsTooFarFrom, PointsTo, IsNoPointer
 ghost use Rattle.archive_types.specs.PlannedOwners.{one_planned, boxed_one_planned};
 ghost use Rattle.archive_types.specs.Plans.{Serialized};
 ghost use Rattle.archive_types.specs.Sources.{BoxSerialized, BoxRefused, OneBoxed, OneUnboxed};
-ghost use Rattle.archive_types.specs.Writing.{Fresh, Resolves, to_pointee};
+ghost use Rattle.archive_types.specs.Writing.{ZeroedPlace, Resolves, to_pointee};
 ghost use Rattle.archive_write.specs.Written.{GoesOn};
 
 use super::ArchivedBox;
@@ -136,7 +136,7 @@ impl<T: Archive> Archive for Box<T> {
         resolver: BoxResolver,
         place: Place<'_, ArchivedBox<T::Archived>>,
     ) -> Result<(), Error>
-        requires fresh { Fresh (pointer_size T.Archived.pointee) place.pos place.bytes.now }
+        requires zeroed { ZeroedPlace (pointer_size T.Archived.pointee) place.pos place.bytes.now }
         requires same_value { ⊤ }
         ensures resolved { OnOk result (BoxResolved T.Archived.ArchivePointee place resolver 0) }
         ensures same_length { length place.exit.0.now ≡ length place.entry.bytes.now }

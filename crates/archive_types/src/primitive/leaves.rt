@@ -11,7 +11,7 @@ ghost use Rattle.archive_types.specs.KindsWritten.{NumberSerialized, NumberRefus
 ghost use Rattle.archive_types.specs.Placed.{Resolved, Hindered};
 ghost use Rattle.archive_types.specs.Planned.{leaf_planned};
 ghost use Rattle.archive_types.specs.PlannedOwners.{pointee_planned};
-ghost use Rattle.archive_types.specs.Writing.{Fresh, Resolves};
+ghost use Rattle.archive_types.specs.Writing.{ZeroedPlace, Resolves};
 ghost use Rattle.archive_write.specs.Written.{GoesOn};
 
 use super::{Source, write_leaf};
@@ -146,7 +146,7 @@ impl<L: Leaf> Archive for L {
 
     #[inline(always)]
     fn resolve(&self, _resolver: (), place: Place<'_, L::LeafFormat>) -> Result<(), Error>
-        requires fresh { Fresh (L.LeafFormat.layout.size) place.pos place.bytes.now }
+        requires zeroed { ZeroedPlace (L.LeafFormat.layout.size) place.pos place.bytes.now }
         requires same_value { ⊤ }
         ensures resolved { OnOk result (Resolved L.LeafFormat.Portable place (number (L.leaf_number self.now))) }
         ensures same_length { length place.exit.0.now ≡ length place.entry.bytes.now }

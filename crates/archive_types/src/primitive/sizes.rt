@@ -19,7 +19,7 @@ ghost use Rattle.archive_types.specs.PlannedOwners.{one_planned};
 ghost use Rattle.archive_types.specs.Plans.{Serialized};
 ghost use Rattle.archive_types.specs.Seen.{IsPartOf, part_number};
 ghost use Rattle.archive_types.specs.Sources.{Read};
-ghost use Rattle.archive_types.specs.Writing.{Fresh, Resolves};
+ghost use Rattle.archive_types.specs.Writing.{ZeroedPlace, Resolves};
 ghost use Rattle.archive_write.specs.Written.{GoesOn};
 
 use crate::place::Place;
@@ -53,7 +53,7 @@ impl Archive for usize {
 
     #[tactic(auto, using(crate::proofs::Resolving::resolves_usize))]
     fn resolve(&self, _resolver: (), place: Place<'_, ArchivedUsize>) -> Result<(), Error>
-        requires fresh { Fresh 4 place.pos place.bytes.now }
+        requires zeroed { ZeroedPlace 4 place.pos place.bytes.now }
         requires same_value { self.now < 2 ^ 32 }
         ensures resolved { OnOk result (LeafResolved (number unsigned w32) place (pos self.now)) }
         ensures same_length { length place.exit.0.now ≡ length place.entry.bytes.now }
@@ -148,7 +148,7 @@ impl Archive for isize {
 
     #[tactic(auto, using(crate::proofs::Resolving::resolves_isize))]
     fn resolve(&self, _resolver: (), place: Place<'_, ArchivedIsize>) -> Result<(), Error>
-        requires fresh { Fresh 4 place.pos place.bytes.now }
+        requires zeroed { ZeroedPlace 4 place.pos place.bytes.now }
         requires same_value { FitsSigned w32 self.now }
         ensures resolved { OnOk result (LeafResolved (number signed w32) place self.now) }
         ensures same_length { length place.exit.0.now ≡ length place.entry.bytes.now }

@@ -6,7 +6,7 @@ ghost use Rattle.archive_types.specs.Causes.{HindersAt};
 ghost use Rattle.archive_types.specs.Keyed.{nothing_keyed, part_keyed, record_keyed};
 ghost use Rattle.archive_types.specs.PartsPlanned.{no_part_planned, part_planned, product_planned};
 ghost use Rattle.archive_types.specs.Sources.{ResolvedAs, HinderedAs};
-ghost use Rattle.archive_types.specs.Writing.{Fresh, Resolves};
+ghost use Rattle.archive_types.specs.Writing.{ZeroedPlace, Resolves};
 
 use super::parts::{Parts1, Parts2, Parts3};
 use crate::parts::SourceParts;
@@ -39,7 +39,7 @@ impl<A: Archive> Archive for (A,) {
         resolver: (A::Resolver, ()),
         place: Place<'_, ArchivedTuple1<A::Archived>>,
     ) -> Result<(), Error>
-        requires fresh { Fresh ⟦<Self::Archived as Portable>⟧.layout.size place.pos place.bytes.now }
+        requires zeroed { ZeroedPlace ⟦<Self::Archived as Portable>⟧.layout.size place.pos place.bytes.now }
         requires same_value { ⟦<Self as Archive>⟧.belongs self.now resolver }
         ensures resolved { OnOk result (ResolvedAs ⟦<Self as Archive>⟧ ⟦<Self::Archived as Portable>⟧ place self.now resolver) }
         ensures same_length { length place.exit.0.now ≡ length place.entry.bytes.now }
@@ -78,7 +78,7 @@ impl<A: Archive, B: Archive> Archive for (A, B) {
         resolver: (A::Resolver, (B::Resolver, ())),
         place: Place<'_, ArchivedTuple2<A::Archived, B::Archived>>,
     ) -> Result<(), Error>
-        requires fresh { Fresh ⟦<Self::Archived as Portable>⟧.layout.size place.pos place.bytes.now }
+        requires zeroed { ZeroedPlace ⟦<Self::Archived as Portable>⟧.layout.size place.pos place.bytes.now }
         requires same_value { ⟦<Self as Archive>⟧.belongs self.now resolver }
         ensures resolved { OnOk result (ResolvedAs ⟦<Self as Archive>⟧ ⟦<Self::Archived as Portable>⟧ place self.now resolver) }
         ensures same_length { length place.exit.0.now ≡ length place.entry.bytes.now }
@@ -117,7 +117,7 @@ impl<A: Archive, B: Archive, C: Archive> Archive for (A, B, C) {
         resolver: (A::Resolver, (B::Resolver, (C::Resolver, ()))),
         place: Place<'_, ArchivedTuple3<A::Archived, B::Archived, C::Archived>>,
     ) -> Result<(), Error>
-        requires fresh { Fresh ⟦<Self::Archived as Portable>⟧.layout.size place.pos place.bytes.now }
+        requires zeroed { ZeroedPlace ⟦<Self::Archived as Portable>⟧.layout.size place.pos place.bytes.now }
         requires same_value { ⟦<Self as Archive>⟧.belongs self.now resolver }
         ensures resolved { OnOk result (ResolvedAs ⟦<Self as Archive>⟧ ⟦<Self::Archived as Portable>⟧ place self.now resolver) }
         ensures same_length { length place.exit.0.now ≡ length place.entry.bytes.now }

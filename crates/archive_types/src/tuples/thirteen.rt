@@ -6,7 +6,7 @@ ghost use Rattle.archive_check.specs.Value.{product};
 ghost use Rattle.archive_types.specs.PartsPlanned.{whole_planned, whole_keyed};
 ghost use Rattle.archive_types.specs.PlannedOwners.{one_planned};
 ghost use Rattle.archive_types.specs.Sources.{ResolvedAs, HinderedAs};
-ghost use Rattle.archive_types.specs.Writing.{Fresh};
+ghost use Rattle.archive_types.specs.Writing.{ZeroedPlace};
 
 use super::parts::{
     Part0, Part1, Part2, Part3, Part4, Part5, Part6, Part7, Part8, Part9, Part10, Part11, Part12,
@@ -48,7 +48,7 @@ where
         resolver: Self::Resolver,
         place: Place<'_, Self::Archived>,
     ) -> Result<(), Error>
-        requires fresh { Fresh ⟦<Self::Archived as Portable>⟧.layout.size place.pos place.bytes.now }
+        requires zeroed { ZeroedPlace ⟦<Self::Archived as Portable>⟧.layout.size place.pos place.bytes.now }
         requires same_value { ⟦<Self as Archive>⟧.belongs self.now resolver }
         ensures resolved { OnOk result (ResolvedAs ⟦<Self as Archive>⟧ ⟦<Self::Archived as Portable>⟧ place self.now resolver) }
         ensures same_length { length place.exit.0.now ≡ length place.entry.bytes.now }

@@ -14,7 +14,7 @@ ghost use Rattle.archive_types.specs.Placed.{IsTooFarFrom, PointsTo, AtOnce};
 ghost use Rattle.archive_types.specs.PlannedOwners.{one_planned, vec_planned, slice_planned};
 ghost use Rattle.archive_types.specs.Plans.{Serialized};
 ghost use Rattle.archive_types.specs.Runs.{each_keys, each_meaning};
-ghost use Rattle.archive_types.specs.Writing.{Fresh, Resolves, to_pointee};
+ghost use Rattle.archive_types.specs.Writing.{ZeroedPlace, Resolves, to_pointee};
 ghost use Rattle.archive_write.specs.Written.{GoesOn};
 
 use super::ArchivedVec;
@@ -147,7 +147,7 @@ impl<T: Archive> Archive for Vec<T> {
         resolver: VecResolver,
         place: Place<'_, ArchivedVec<T::Archived>>,
     ) -> Result<(), Error>
-        requires fresh { Fresh 8 place.pos place.bytes.now }
+        requires zeroed { ZeroedPlace 8 place.pos place.bytes.now }
         requires same_value { length self.now.items ≤ 4294967295 }
         ensures resolved { OnOk result (VecResolved T.Archived.Portable place resolver (length self.now.items)) }
         ensures same_length { length place.exit.0.now ≡ length place.entry.bytes.now }

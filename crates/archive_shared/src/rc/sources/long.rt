@@ -13,7 +13,7 @@ ghost use Rattle.archive_types.specs.Plans.{Serialized};
 ghost use Rattle.archive_types.specs.Runs.{each_keys, each_meaning};
 ghost use Rattle.archive_types.specs.SharedSources.{rc_flavor, rc_keys, rc_flat, rc_keyed, rc_planned};
 ghost use Rattle.archive_types.specs.Sources.{ResolvedAs, HinderedAs};
-ghost use Rattle.archive_types.specs.Writing.{Fresh, Resolves};
+ghost use Rattle.archive_types.specs.Writing.{ZeroedPlace, Resolves};
 ghost use Rattle.archive_write.specs.Written.{GoesOn};
 
 use archive_check::format::error::Error;
@@ -67,7 +67,7 @@ impl Archive for SharedStr {
         resolver: RcResolver,
         place: Place<'_, ArchivedRc<ArchivedStr, RcFlavor>>,
     ) -> Result<(), Error>
-        requires fresh { Fresh 8 place.pos place.bytes.now }
+        requires zeroed { ZeroedPlace 8 place.pos place.bytes.now }
         requires same_value { length (rc_str_bytes self.now.value) ≤ 4294967295 }
         ensures resolved { OnOk result (ResolvedAs ⟦<Self as Archive>⟧ ⟦<Self::Archived as Portable>⟧ place self.now resolver) }
         ensures same_length { length place.exit.0.now ≡ length place.entry.bytes.now }
@@ -151,7 +151,7 @@ impl<T: Archive> Archive for SharedSlice<T> {
         resolver: RcResolver,
         place: Place<'_, ArchivedRc<ArchivedSlice<T::Archived>, RcFlavor>>,
     ) -> Result<(), Error>
-        requires fresh { Fresh 8 place.pos place.bytes.now }
+        requires zeroed { ZeroedPlace 8 place.pos place.bytes.now }
         requires same_value { length (rc_slice_items self.now.value) ≤ 4294967295 }
         ensures resolved { OnOk result (ResolvedAs ⟦<Self as Archive>⟧ ⟦<Self::Archived as Portable>⟧ place self.now resolver) }
         ensures same_length { length place.exit.0.now ≡ length place.entry.bytes.now }

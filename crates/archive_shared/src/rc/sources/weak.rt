@@ -10,7 +10,7 @@ ghost use Rattle.archive_types.specs.Plans.{Serialized};
 ghost use Rattle.archive_types.specs.SharedLaws.{weak_value, weak_keys, weak_flat, weak_keyed, weak_planned};
 ghost use Rattle.archive_types.specs.SharedSources.{rc_flavor, rc_keys, rc_keyed, rc_one_planned};
 ghost use Rattle.archive_types.specs.Sources.{ResolvedAs, HinderedAs, Wrote, Refused};
-ghost use Rattle.archive_types.specs.Writing.{Fresh, Resolves};
+ghost use Rattle.archive_types.specs.Writing.{ZeroedPlace, Resolves};
 ghost use Rattle.archive_write.specs.Written.{GoesOn};
 
 use super::Shared;
@@ -55,7 +55,7 @@ impl<T: Archive> Archive for WeakShared<T> {
         resolver: RcWeakResolver,
         place: Place<'_, ArchivedRcWeak<T::Archived, RcFlavor>>,
     ) -> Result<(), Error>
-        requires fresh { Fresh (pointer_size T.Archived.pointee) place.pos place.bytes.now }
+        requires zeroed { ZeroedPlace (pointer_size T.Archived.pointee) place.pos place.bytes.now }
         requires same_value { ⊤ }
         ensures resolved { OnOk result (ResolvedAs ⟦<Self as Archive>⟧ ⟦<Self::Archived as Portable>⟧ place self.now resolver) }
         ensures same_length { length place.exit.0.now ≡ length place.entry.bytes.now }

@@ -6,7 +6,7 @@ use Rattle.archive_types.proofs.record.resolve_record.Goals as goal
 
 pub returns-clause-resolved : goal.returns-clause-resolved
 returns-clause-resolved g c = on_ok c.resolve_parts.result
-    (resolves_record _ _ _ _ g.met.X.Record.has_parts _ _ g.X.Portable.layout _ g.met.X.Portable.has_layout (c.resolve_parts.ensures.same_length ∙ c.requires.fresh.sized))
+    (resolves_record _ _ _ _ g.met.X.Record.has_parts _ _ g.X.Portable.layout _ g.met.X.Portable.has_layout (c.resolve_parts.ensures.same_length ∙ c.requires.zeroed.sized))
     c.resolve_parts.ensures.resolved
 
 pub returns-clause-refused : goal.returns-clause-refused

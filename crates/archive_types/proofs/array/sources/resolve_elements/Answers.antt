@@ -10,8 +10,8 @@ loop-resolver-init g c = record {
   can_next = tt;
   finite = tt;
   room = refl;
-  left = omega (arith, c.requires.fresh.sized);
-  zeroed = c.requires.fresh.zeroed;
+  left = omega (arith, c.requires.zeroed.sized);
+  zeroed = c.requires.zeroed.zeroed;
   fills = fills_start _ _ g.T.Archived.Portable.layout g.met.T.Archived.Portable.has_layout _ _ _ (c.args.pos + 0) _ _ _ (omega arith) c.into_iter-resolver-iterator.ensures.into_iter_gives.0 c.requires.same_values;
 }
 
@@ -21,7 +21,7 @@ resolve_into-requires-clause-fresh g c =
     let first = c.in-Some-split_first.ensures.cases.0 in
     let kept = c.loop-resolver.invariant in
     let behind = left_behind c.loop-resolver.begin z _ _ _ _ first kept.left in
-    let ends : c.args.pos + length c.loop-resolver.bytes < 2 ^ 64 = omega (arith, kept.room, c.requires.fresh.sized, c.requires.fresh.ends) in
+    let ends : c.args.pos + length c.loop-resolver.bytes < 2 ^ 64 = omega (arith, kept.room, c.requires.zeroed.sized, c.requires.zeroed.ends) in
     let same : c.size-size.result ≡ z = its_size c.loop-resolver.begin z _ _ _ _ first kept.left c.size-size.result c.args.pos c.size-size.ensures ends in
     fresh_element z c.size-size.result c.loop-resolver.begin c.args.pos c.loop-resolver.bytes same (omega (arith, behind)) kept.zeroed ends
 
@@ -40,7 +40,7 @@ loop-resolver-preserved g c =
     let w = c.size-size.result in
     let new = c.resolve_into.new.bytes in
     let behind = left_behind o z _ _ _ _ first kept.left in
-    let ends : c.args.pos + length old < 2 ^ 64 = omega (arith, kept.room, c.requires.fresh.sized, c.requires.fresh.ends) in
+    let ends : c.args.pos + length old < 2 ^ 64 = omega (arith, kept.room, c.requires.zeroed.sized, c.requires.zeroed.ends) in
     let same : w ≡ z = its_size o z _ _ _ _ first kept.left w c.args.pos c.size-size.ensures ends in
     let k : o + w - o ≡ w = omega arith in
     let few : o + w ≤ length old = omega (arith, behind, same) in

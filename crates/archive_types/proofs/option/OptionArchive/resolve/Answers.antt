@@ -9,8 +9,8 @@ pub returns-in-None-clause-resolved : goal.returns-in-None-clause-resolved
 returns-in-None-clause-resolved g c =
     let L = g.T.Archived.Portable.layout in
     let is = g.met.T.Archived.Portable.is_align in
-    let some : 0 < length c.args.place.bytes.now = omega (arith, c.requires.fresh.sized, option_holds L is, align_low_first L is) in
-    rw c.in-None.is (resolves_zeros _ _ _ refl (option_layout L) (option_has_layout _ _ L is g.met.T.Archived.Portable.has_layout) _ _ some c.requires.fresh.sized c.requires.fresh.zeroed)
+    let some : 0 < length c.args.place.bytes.now = omega (arith, c.requires.zeroed.sized, option_holds L is, align_low_first L is) in
+    rw c.in-None.is (resolves_zeros _ _ _ refl (option_layout L) (option_has_layout _ _ L is g.met.T.Archived.Portable.has_layout) _ _ some c.requires.zeroed.sized c.requires.zeroed.zeroed)
 
 pub returns-clause-resolved : goal.returns-clause-resolved
 returns-clause-resolved g c =
@@ -19,7 +19,7 @@ returns-clause-resolved g c =
     let layout = g.met.T.Archived.Portable.has_layout in
     rw (c.in-Some.is, c.in-Some-resolver.is) (on_ok c.resolve_case.result
     (resolves_case _ _ (λ s k. k) _ _ 1 _ refl L (option_layout L) layout (option_has_layout _ _ L is layout) _ L.align L.size _ _
-    (sym (up_first L.align is)) (align_low_first L is) refl (c.resolve_case.ensures.same_length ∙ c.requires.fresh.sized))
+    (sym (up_first L.align is)) (align_low_first L is) refl (c.resolve_case.ensures.same_length ∙ c.requires.zeroed.sized))
     c.resolve_case.ensures.held)
 
 pub returns-clause-refused : goal.returns-clause-refused

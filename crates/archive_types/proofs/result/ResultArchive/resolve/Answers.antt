@@ -20,11 +20,11 @@ returns-clause-resolved g c =
     elim c.match-self.branch [
       | in-Ok+in-Ok-resolver w ↦ rw (w.in-Ok.is, w.in-Ok-resolver.is, w.bytes-is, w.result-is) (on_ok w.resolve_case.result
           (resolves_case _ _ (λ s k. knows_left s _ _ k) _ _ 0 _ refl L (result_layout L M) value outer _ L.align L.size _ _
-          (sym (up_first L.align is)) (align_low_first L is) refl (w.resolve_case.ensures.same_length ∙ c.requires.fresh.sized))
+          (sym (up_first L.align is)) (align_low_first L is) refl (w.resolve_case.ensures.same_length ∙ c.requires.zeroed.sized))
           w.resolve_case.ensures.held)
       | in-Err+in-Err-resolver w ↦ rw (w.in-Err.is, w.in-Err-resolver.is, w.bytes-is, w.result-is) (on_ok w.resolve_case-in-Err.result
           (resolves_case _ _ (λ s k. knows_right s _ _ k) _ _ 1 _ refl M (result_layout L M) error outer _ M.align M.size _ _
-          (sym (up_first M.align js)) (align_low_first M js) refl (w.resolve_case-in-Err.ensures.same_length ∙ c.requires.fresh.sized))
+          (sym (up_first M.align js)) (align_low_first M js) refl (w.resolve_case-in-Err.ensures.same_length ∙ c.requires.zeroed.sized))
           w.resolve_case-in-Err.ensures.held)
     ]
 
