@@ -3,7 +3,7 @@ use Rattle.std.proofs.Common.{◌≡◌, ℕ, ◌+◌, ◌-◌, ◌<◌, ◌≤�
 use Rattle.std.proofs.lemmas.List.{length-take, length-drop, get_or-drop, get_or-take, drop_at, take_at, take_all, append-nil}
 use Rattle.std.proofs.Math.ListN.{drop_of_length-le}
 use Rattle.archive_check.specs.CleanRegions.{IsZeroed}
-use Rattle.archive_types.specs.Parts.{FreshParts}
+use Rattle.archive_types.specs.Parts.{ZeroedParts}
 
 -- what stands behind an offset, in place of what stood there
 abbrev put : ℕ → ℕ → List ℕ → List ℕ → List ℕ
@@ -36,7 +36,7 @@ module _ (o k n e : ℕ) (old a : List ℕ) (same : k ≡ n) (ends : e ≡ o + n
     rest_zeroed : IsZeroed old → IsZeroed (drop k (drop o old))
     rest_zeroed z = record { zero_at = λ i below. get_or-drop k (drop o old) i 0 ∙ (get_or-drop o old (k + i) 0 ∙ z.zero_at (o + (k + i)) (omega (arith, behind_length))) }
 
-    pub fresh_behind : (end start p q : ℕ) → q ≡ start + e → FreshParts end start p old → FreshParts end q p (take m (drop e (put o k old a)))
+    pub fresh_behind : (end start p q : ℕ) → q ≡ start + e → ZeroedParts end start p old → ZeroedParts end q p (take m (drop e (put o k old a)))
     fresh_behind end start p q there f = rw rest_is (record {
       room = omega (arith, f.room, behind_length);
       zeroed = rest_zeroed f.zeroed;

@@ -10,7 +10,7 @@ use Rattle.archive_check.specs.CleanRegions.{Occurs, IsZeroed, CleanValue, Clean
 use Rattle.archive_check.specs.declared.format.error.Error.{Error}
 use Rattle.archive_check.proofs.StandingBytes.{stands_front, stands_back, stands_zero}
 use Rattle.archive_types.specs.Writing.{Resolves}
-use Rattle.archive_types.specs.Parts.{FreshParts, ResolvesParts, HindersPartsAt}
+use Rattle.archive_types.specs.Parts.{ZeroedParts, ResolvesParts, HindersPartsAt}
 use Rattle.archive_types.specs.Causes.{PartOf, part_of_parts, part_of_named, in_first_part, in_later_part, HindersPartAt, HindersAt}
 use Rattle.archive_types.proofs.Appending.{size_is, align_is}
 
@@ -104,5 +104,5 @@ module _ (D : Definitions) (X : Shape) (E : Definitions) (ps : Parts) (is : IsRe
   }
 
 -- no part, in a contract's form
-pub resolves_nothing : (p at end : ℕ) (a : List ℕ) → FreshParts end at p a → ResolvesParts no_definition p at a no_part no_value
+pub resolves_nothing : (p at end : ℕ) (a : List ℕ) → ZeroedParts end at p a → ResolvesParts no_definition p at a no_part no_value
 resolves_nothing p at end a fresh = resolves_no_part no_definition p at a fresh.zeroed

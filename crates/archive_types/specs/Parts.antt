@@ -50,7 +50,7 @@ abbrev pub ArePartsRefused : Definitions → Parts → List Naming → Values �
 ArePartsRefused D ps keys vs old new = Explains (HindersParts D ps keys vs (cursor old)) (PartsReach D ps keys vs (cursor old)) old new
 
 -- a place of parts, from an offset on: zeros, as many as they take at least, and its end fits
-pub record FreshParts (end start p : ℕ) (bytes : List ℕ) : Type 0 where
+pub record ZeroedParts (end start p : ℕ) (bytes : List ℕ) : Type 0 where
   pub room : end ≤ start + length bytes
   pub zeroed : IsZeroed bytes
   pub ends : p + (start + length bytes) < 2 ^ 64

@@ -5,7 +5,7 @@ ghost use Rattle.std.specs.Prelude.{◌≡◌, ◌<◌, ℕ, length, List, [], �
 ghost use Rattle.archive_check.specs.Shape.{part};
 ghost use Rattle.archive_check.specs.Value.{Values, no_value, product, value};
 ghost use Rattle.archive_types.specs.Keyed.{nothing_keyed, part_keyed};
-ghost use Rattle.archive_types.specs.Parts.{ArePlanned, AreKeyed, FreshParts};
+ghost use Rattle.archive_types.specs.Parts.{ArePlanned, AreKeyed, ZeroedParts};
 ghost use Rattle.archive_types.specs.PartsPlanned.{no_part_planned, part_planned};
 ghost use Rattle.archive_types.specs.PartsReading.{PartsViewed};
 ghost use Rattle.archive_types.specs.Writing.{Naming};
@@ -64,7 +64,7 @@ pub trait SourceParts<T> {
         start: usize,
         bytes: &mut [u8],
     ) -> Result<(), Error>
-        requires fresh { FreshParts (Self.Archived.end start) start pos bytes.old }
+        requires zeroed { ZeroedParts (Self.Archived.end start) start pos bytes.old }
         requires same_values { belongs whole.now resolvers }
         ensures resolved { OnOk result (PartsPut Self.Archived.CheckedParts pos start bytes.new (flats whole.now resolvers)) }
         ensures same_length { length bytes.new ≡ length bytes.old }
