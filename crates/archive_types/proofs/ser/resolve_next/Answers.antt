@@ -9,8 +9,8 @@ resolve_large-requires-clause-ends g c =
     let there = c.pos.ensures in
     omega arith
 
-pub resolve_region-requires-clause-fresh : goal.resolve_region-requires-clause-fresh
-resolve_region-requires-clause-fresh g c =
+pub resolve_region-requires-clause-zeroed : goal.resolve_region-requires-clause-zeroed
+resolve_region-requires-clause-zeroed g c =
     let sum = sum_fits c.checked_add.result _ _ c.checked_add.ensures c.if-is_none.ensures in
     let here = g.met.W.Writer.position_law c.args.writer.now in
     let there = c.pos.ensures in

@@ -15,8 +15,8 @@ loop-resolver-init g c = record {
   fills = fills_start _ _ g.T.Archived.Portable.layout g.met.T.Archived.Portable.has_layout _ _ _ (c.args.pos + 0) _ _ _ (omega arith) c.into_iter-resolver-iterator.ensures.into_iter_gives.0 c.requires.same_values;
 }
 
-pub resolve_into-requires-clause-fresh : goal.resolve_into-requires-clause-fresh
-resolve_into-requires-clause-fresh g c =
+pub resolve_into-requires-clause-zeroed : goal.resolve_into-requires-clause-zeroed
+resolve_into-requires-clause-zeroed g c =
     let z = g.T.Archived.Portable.layout.size in
     let first = c.in-Some-split_first.ensures.cases.0 in
     let kept = c.loop-resolver.invariant in

@@ -16,8 +16,8 @@ returns-in_err-resolve_into-clause-refused g c =
     err_by c.from_residual.result c.in_err-resolve_into.field-0.0 _ c.from_residual.ensures.1
     (first_hinders _ _ _ L g.met.A.Source.Archived.Portable.has_layout _ _ _ _ _ _ (rw (first, c.part_of.ensures) at c.in_err-resolve_into.ensures.refused))
 
-pub resolve_parts-requires-clause-fresh : goal.resolve_parts-requires-clause-fresh
-resolve_parts-requires-clause-fresh g c =
+pub resolve_parts-requires-clause-zeroed : goal.resolve_parts-requires-clause-zeroed
+resolve_parts-requires-clause-zeroed g c =
     let L = g.A.Source.Archived.Portable.layout in
     let old = c.args.bytes.now in
     let start = c.args.start in
