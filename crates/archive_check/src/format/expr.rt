@@ -1,7 +1,7 @@
 //! Expressions: what the bytes of an archived type are read as. They are our own: rkyv 0.8.18 has a trait that each type checks itself by. The bytes
 //! that they stand for are those of rkyv 0.8.18.
 
-ghost use Rattle.std.specs.Prelude.{◌≡◌, ◌↔◌, IsTrue, IfOk};
+ghost use Rattle.std.specs.Prelude.{◌≡◌, ◌↔◌, IsTrue, IfOk, Ok};
 ghost use Rattle.std.specs.Int.{byte_len};
 ghost use Rattle.std.specs.Cmp.{on_equiv, partial_equiv_from_equiv};
 ghost use Rattle.std.specs.Ordering.{on};
@@ -283,20 +283,14 @@ fn copy_expression(expr: &Expr) -> Result<Expr, AllocError>
 {
     match expr {
         Expr::Leaf(kind) => Ok(Expr::Leaf(*kind)),
-        Expr::Record(parts) => Ok(Expr::Record(copy_parts(*parts.allocator(), parts)?)),
-        Expr::Choice(name, variants) => Ok(Expr::Choice(
-            *name,
-            copy_variants(*variants.allocator(), variants)?,
-        )),
-        Expr::Array(count, x) => Ok(Expr::Array(
-            *count,
-            Box::new(*Box::allocator(x), copy_expression(x)?)?,
-        )),
-        Expr::Box(x) => Ok(Expr::Box(Box::new(*Box::allocator(x), copy_pointee(x)?)?)),
-        Expr::Vec(x) => Ok(Expr::Vec(Box::new(*Box::allocator(x), copy_expression(x)?)?)),
+        Expr::Record(parts) => Ok(Expr::Record(copy_parts(parts)?)),
+        Expr::Choice(name, variants) => Ok(Expr::Choice(*name, copy_variants(variants)?)),
+        Expr::Array(count, x) => Ok(Expr::Array(*count, copy_boxed(x)?)),
+        Expr::Box(x) => Ok(Expr::Box(copy_target(x)?)),
+        Expr::Vec(x) => Ok(Expr::Vec(copy_boxed(x)?)),
         Expr::Str => Ok(Expr::Str),
-        Expr::Shared(f, x) => Ok(Expr::Shared(*f, Box::new(*Box::allocator(x), copy_pointee(x)?)?)),
-        Expr::Weak(f, x) => Ok(Expr::Weak(*f, Box::new(*Box::allocator(x), copy_pointee(x)?)?)),
+        Expr::Shared(f, x) => Ok(Expr::Shared(*f, copy_target(x)?)),
+        Expr::Weak(f, x) => Ok(Expr::Weak(*f, copy_target(x)?)),
         Expr::Named(name) => Ok(Expr::Named(*name)),
     }
 }
@@ -315,10 +309,10 @@ fn copy_pointee(pointee: &Pointee) -> Result<Pointee, AllocError>
 
 #[cycle(copy)]
 #[tactic(auto, using(crate::proofs::format::Views::views, crate::proofs::format::Copies::copies))]
-fn copy_parts(alloc: Global, parts: &[Expr]) -> Result<Vec<Expr>, AllocError>
-    ensures { IfOk result (λ v. shapes_in v.items ≡ shapes_in parts.now) }
+fn copy_parts(parts: &Vec<Expr>) -> Result<Vec<Expr>, AllocError>
+    ensures { IfOk result (λ v. shapes_in v.items ≡ shapes_in parts.now.items) }
 {
-    let mut copies = Vec::with_capacity(alloc, parts.len())?;
+    let mut copies = Vec::with_capacity(*parts.allocator(), parts.len())?;
     for i in 0..parts.len() {
         copies.push(copy_expression(&parts[i])?)?;
     }
@@ -327,12 +321,28 @@ fn copy_parts(alloc: Global, parts: &[Expr]) -> Result<Vec<Expr>, AllocError>
 
 #[cycle(copy)]
 #[tactic(auto, using(crate::proofs::format::Views::views, crate::proofs::format::Copies::copies))]
-fn copy_variants(alloc: Global, variants: &[Vec<Expr>]) -> Result<Vec<Vec<Expr>>, AllocError>
-    ensures { IfOk result (λ v. variants_in v.items ≡ variants_in variants.now) }
+fn copy_variants(variants: &Vec<Vec<Expr>>) -> Result<Vec<Vec<Expr>>, AllocError>
+    ensures { IfOk result (λ v. variants_in v.items ≡ variants_in variants.now.items) }
 {
-    let mut copies = Vec::with_capacity(alloc, variants.len())?;
+    let mut copies = Vec::with_capacity(*variants.allocator(), variants.len())?;
     for i in 0..variants.len() {
-        copies.push(copy_parts(alloc, &variants[i])?)?;
+        copies.push(copy_parts(&variants[i])?)?;
     }
     Ok(copies)
+}
+
+#[cycle(copy)]
+#[tactic(auto, using(crate::proofs::format::Views::views, crate::proofs::format::Copies::copies))]
+fn copy_boxed(expr: &Box<Expr>) -> Result<Box<Expr>, AllocError>
+    ensures { IfOk result (λ b. shape_of b.value ≡ shape_of expr.now.value) }
+{
+    Ok(Box::new(*Box::allocator(expr), copy_expression(expr)?)?)
+}
+
+#[cycle(copy)]
+#[tactic(auto, using(crate::proofs::format::Views::views, crate::proofs::format::Copies::copies))]
+fn copy_target(pointee: &Box<Pointee>) -> Result<Box<Pointee>, AllocError>
+    ensures { IfOk result (λ b. pointee_of b.value ≡ pointee_of pointee.now.value) }
+{
+    Ok(Box::new(*Box::allocator(pointee), copy_pointee(pointee)?)?)
 }
