@@ -70,10 +70,10 @@ met_in-kept shared_types f p key k h same e =
     let (shared_type, at) = slice_get-some shared_types k.shared_type (h key k e) in
     (shared_type, at, ap (positions_in shared_types f) (sym same) ∙ ap (met_in shared_types) e ∙ ap (option_map (met_as k)) at)
 
-pub finish_kept : (shared_types : List SharedType) (f : ℤ → Option SharedPosition) (p key : ℤ) (k : SharedPosition) (b : Bool) → AreKnown shared_types f → key ≡ p → Some k ≡ f key → k.finished ≡ b → cond b (Err AlreadyFinished) (Ok tt) ≡ finish_answer (positions_in shared_types f p)
+pub finish_kept : (shared_types : List SharedType) (f : ℤ → Option SharedPosition) (p key : ℤ) (k : SharedPosition) (b : Bool) → AreKnown shared_types f → key ≡ p → Some k ≡ f key → k.finished ≡ b → cond b (Err AlreadyFinished) (Ok tt) ≡ finish_answer (λ met. met.finished) (positions_in shared_types f p)
 finish_kept shared_types f p key k b h same e is =
     let answer : Bool → Result (Unit {0}) Error = λ b. cond b (Err AlreadyFinished) (Ok tt) in
-    sym (ap finish_answer (met_in-kept shared_types f p key k h same (sym e)).2 ∙ ap answer is)
+    sym (ap (finish_answer (λ met. met.finished)) (met_in-kept shared_types f p key k h same (sym e)).2 ∙ ap answer is)
 
 -- equal flavors
 pub same_flavors : (f g : FlavorInfo) → (bytes_eq f.name.now g.name.now && beq f.cycles g.cycles) ≡ true → flavor_of f ≡ flavor_of g

@@ -5,7 +5,7 @@ ghost use Rattle.std.specs.Prelude.{◌≡◌, ◌↔◌, IsTrue, IfOk, Ok};
 ghost use Rattle.std.specs.Int.{byte_len};
 ghost use Rattle.std.specs.Cmp.{on_equiv, partial_equiv_from_equiv};
 ghost use Rattle.std.specs.Ordering.{on};
-ghost use Rattle.archive_check.specs.Expressions.{width_of, kind_of, shape_of, pointee_of, shapes_in, variants_in};
+ghost use Rattle.archive_check.specs.Expressions.{integer_of, kind_of, shape_of, pointee_of, shapes_in, variants_in};
 ghost use Rattle.archive_check.specs.Layout.{kind_size, kind_align};
 ghost use Rattle.archive_check.specs.TwoVariants.{IsChoiceOfTwo};
 ghost use Rattle.archive_check.specs.Equality.{same_shape, same_pointee, same_parts, same_variants, same_shape-equiv, same_pointee-equiv};
@@ -41,7 +41,7 @@ pub enum IntegerKind {
 impl IntegerKind {
     /// How many bytes it has, which is also its alignment. That numbers of 16 bytes are aligned to 16 is our own choice.
     pub fn size(self) -> usize
-        ensures { result ≡ byte_len (width_of self) }
+        ensures { result ≡ byte_len (integer_of self).1 }
     {
         match self {
             IntegerKind::U8 | IntegerKind::I8 => 1,
