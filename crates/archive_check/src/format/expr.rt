@@ -8,7 +8,7 @@ ghost use Rattle.std.specs.Ordering.{on};
 ghost use Rattle.archive_check.specs.Expressions.{integer_of, kind_of, shape_of, pointee_of, shapes_in, variants_in};
 ghost use Rattle.archive_check.specs.Layout.{kind_size, kind_align};
 ghost use Rattle.archive_check.specs.TwoVariants.{IsChoiceOfTwo};
-ghost use Rattle.archive_check.specs.Equality.{same_shape, same_pointee, same_parts, same_variants, same_shape-equiv, same_pointee-equiv};
+ghost use Rattle.archive_check.specs.Equality.{is_same_shape, is_same_pointee, same_shape, same_pointee, same_parts, same_variants, same_shape-equiv, same_pointee-equiv};
 
 pub use crate::format::defs::{Def, Defs};
 use std::alloc::{AllocError, Global};
@@ -156,13 +156,13 @@ impl Expr {
 
 /// Two expressions are equal where they are written alike; names are compared as names.
 impl PartialEq for Expr {
-    ghost eq = { on shape_of same_shape };
+    ghost eq = { on shape_of is_same_shape };
 
     ghost laws = { partial_equiv_from_equiv (on_equiv shape_of same_shape-equiv) };
 
     #[tactic(auto, using(crate::specs::Equality::shapes_decided))]
     fn eq(&self, other: &Expr) -> bool
-        ensures decides { result ≡ on shape_of same_shape self.now other.now }
+        ensures decides { result ≡ on shape_of is_same_shape self.now other.now }
         ensures exact { IsTrue result ↔ shape_of self.now ≡ shape_of other.now }
     {
         same_expressions(self, other)
@@ -175,13 +175,13 @@ impl Eq for Expr {
 
 /// Two pointees are equal where they are written alike; names are compared as names.
 impl PartialEq for Pointee {
-    ghost eq = { on pointee_of same_pointee };
+    ghost eq = { on pointee_of is_same_pointee };
 
     ghost laws = { partial_equiv_from_equiv (on_equiv pointee_of same_pointee-equiv) };
 
     #[tactic(auto, using(crate::specs::Equality::shapes_decided))]
     fn eq(&self, other: &Pointee) -> bool
-        ensures decides { result ≡ on pointee_of same_pointee self.now other.now }
+        ensures decides { result ≡ on pointee_of is_same_pointee self.now other.now }
         ensures exact { IsTrue result ↔ pointee_of self.now ≡ pointee_of other.now }
     {
         same_pointees(self, other)

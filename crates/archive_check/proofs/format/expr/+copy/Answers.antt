@@ -1,8 +1,7 @@
 use Rattle.std.proofs.Common.{sym, ap, ◌∙◌, refl, arith}
 use Rattle.archive_check.specs.Shape.{choice}
-use Rattle.archive_check.specs.Expressions.{shape_of, variants_in}
+use Rattle.archive_check.specs.Expressions.{shape_of}
 use Rattle.archive_check.proofs.format.Views.{shape_of-Choice, choice_falls}
-use Rattle.archive_check.specs.Measure.{measure_of_variants}
 use Rattle.archive_check.proofs.format.expr.+copy.Goals as goal
 
 pub copy_expression-copy_variants-requires : goal.copy_expression-copy_variants-requires
