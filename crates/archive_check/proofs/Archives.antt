@@ -93,7 +93,7 @@ module _ (D : Definitions) (X : Shape) (well : WellFormed (listed D) X) (no_othe
 
 -- a context of a whole buffer that met nothing
 pub is_whole : (s : RangeState) (met : Positions) (bytes : List ℕ) (depth : Option ℕ) → depth ≢ Some 0 → ((d : ℕ) → depth ≡ Some d → d < 18446744073709551616) → s ≡ whole (length bytes) depth → met ≡ nothing_met → IsWhole s met bytes
-is_whole s met bytes depth levels few e f = rw (e, f) (record { fresh = record { nothing = λ p. refl; levels = levels; few = few }; start = refl; end = refl })
+is_whole s met bytes depth levels few e f = rw (e, f) (record { fresh = record { nothing = λ p. refl; levels = record { levels = levels; few = few } }; start = refl; end = refl })
 
 -- the root of an archive is a view
 pub archive_viewed : (D : Definitions) (bytes : List ℕ) (limit : Option ℕ) (root : ℕ) (X : Shape) → IsArchiveWithin D bytes limit root X → Viewed D bytes root (one X) 0

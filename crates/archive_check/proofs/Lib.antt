@@ -13,7 +13,7 @@ pub mod EditedArchives
 pub mod Texts
 pub mod EditedBytes
 pub mod RegionsApart
-pub mod FewSubtrees
+pub mod Subtrees
 pub mod Depths
 pub mod RangeLevels
 pub mod Examples
@@ -28,7 +28,6 @@ pub mod PartsInside
 pub mod EqualBytes
 pub mod EqualTours
 pub mod FaultyNotWalked
-pub mod PooledPositions
 pub mod NamesKnown
 pub mod NamesReached
 pub mod SelectedEntries

@@ -1,15 +1,27 @@
 -- Runs that a check passes in one step.
-use Rattle.std.proofs.Common.{◌≡◌, ℕ, zero, suc, ◌+◌, ◌*◌, ◌≤◌, List, length, Option, IsTrue, arith, refl, ap}
+use Rattle.std.proofs.Common.{◌≡◌, ℕ, zero, suc, ◌+◌, ◌*◌, ◌≤◌, List, length, Option, IsTrue, Bool, true, false, ◌&&◌, arith, refl, ap}
 use Rattle.archive_check.specs.Shape.{Kind, unit, bool, char, number, non_zero, raw_rel, Shape, leaf, parts, choice, array, boxed, vec, str, shared, weak, named, Parts, no_part, part}
 use Rattle.archive_check.specs.Layout.{up, kind_size, align_of, size_of, parts_align, parts_end, variants_align, variants_end}
 use Rattle.archive_check.specs.Reads.{Schema, LaidOut, bytes_at, IsLegalNumber, kind_number}
 use Rattle.archive_check.specs.Tour.{Seen}
 use Rattle.archive_check.specs.Walk.{Walk, walk_leaf, walk_parts, walk_choice, walk_array, walk_boxed, walk_vec, walk_inline, walk_out_of_line, walk_shared, walk_null, walk_weak, walk_named, WalkParts, walk_no_part, walk_part, WalkRun, walk_none, walk_element}
-use Rattle.archive_check.specs.PlainData.{is_plain_kind, is_plain, are_plain}
+use Rattle.archive_check.specs.PlainData.{is_plain_kind}
 use Rattle.archive_check.proofs.PartsInside.{up_le, pointer_few, positive, parts_end_le, variant_end_le}
 use Rattle.archive_check.proofs.EditedBytes.{bytes_long}
 use Rattle.archive_check.proofs.PositiveAlignments.{parts_align_pos, variants_align_pos}
 use Rattle.std.proofs.lemmas.Bool.{and_parts}
+
+-- Plain data: shapes that any bytes are legal for, and that lead nowhere. A name is not looked up, so what has one is not plain.
+abbrev mutual
+  pub is_plain : Shape → Bool
+  is_plain (leaf kind) = is_plain_kind kind
+  is_plain (parts ps) = are_plain ps
+  is_plain (array n X) = is_plain X
+  is_plain _ = false
+
+  pub are_plain : Parts → Bool
+  are_plain no_part = true
+  are_plain (part X ps) = is_plain X && are_plain ps
 
 any_number : (kind : Kind) (n : ℕ) → IsTrue (is_plain_kind kind) → IsLegalNumber kind n
 any_number unit n h = tt

@@ -54,4 +54,4 @@ pub not_taken : (s : RangeState) (x : ℕ) (e : Error) → pop_answer s x ≡ Er
 not_taken s x e p q = let clash = sym p ∙ q in cc
 
 pub fresh_levels : (s : RangeState) (met : Positions) → IsFresh s met → HasLevels s.depth
-fresh_levels s met fresh = record { levels = fresh.levels; few = fresh.few }
+fresh_levels s met fresh = fresh.levels

@@ -200,11 +200,32 @@ same_shape-Decides = decides_same same_shape one_shape own_shape
 pub same_pointee-Decides : (x y : Pointee) → Decides (same_pointee x y) (x ≡ y)
 same_pointee-Decides = decides_same same_pointee one_pointee own_pointee
 
+-- a test of two shapes, or pointees, with what it decides: nobody has to know how
+pub shape_test : (x y : Shape) → (same : Bool) × Decides same (x ≡ y)
+shape_test x y = (same_shape x y, same_shape-Decides x y)
+
+pub pointee_test : (x y : Pointee) → (same : Bool) × Decides same (x ≡ y)
+pointee_test x y = (same_pointee x y, same_pointee-Decides x y)
+
+abbrev pub is_same_shape : Shape → Shape → Bool
+is_same_shape x y = (shape_test x y).0
+
+abbrev pub is_same_pointee : Pointee → Pointee → Bool
+is_same_pointee x y = (pointee_test x y).0
+
+pub shape_tested : (x y : Shape) → same_shape x y ≡ is_same_shape x y
+unfolding shape_test
+shape_tested x y = refl
+
+pub pointee_tested : (x y : Pointee) → same_pointee x y ≡ is_same_pointee x y
+unfolding pointee_test
+pointee_tested x y = refl
+
 -- so they are equivalences
-pub same_shape-equiv : IsEquivalence same_shape
-same_shape-equiv = decided same_shape same_shape-Decides
+pub same_shape-equiv : IsEquivalence is_same_shape
+same_shape-equiv = decided is_same_shape (λ x y. (shape_test x y).1)
 
-pub same_pointee-equiv : IsEquivalence same_pointee
-same_pointee-equiv = decided same_pointee same_pointee-Decides
+pub same_pointee-equiv : IsEquivalence is_same_pointee
+same_pointee-equiv = decided is_same_pointee (λ x y. (pointee_test x y).1)
 
-pub ruleset shapes_decided = (same_shape-Decides, same_pointee-Decides, same_flavor-Decides)
+pub ruleset shapes_decided = (same_shape-Decides, same_pointee-Decides, same_flavor-Decides, shape_tested, pointee_tested)

@@ -16,40 +16,27 @@ use Rattle.archive_check.specs.declared.format.defs.Def.{Def}
 use Rattle.archive_check.specs.declared.format.defs.Defs.{Defs}
 use Rattle.archive_check.specs.Shape.{Sign, unsigned, signed, Kind, unit, bool, char, number, non_zero, raw_rel, Flavor, Shape, leaf, parts, choice, array, boxed, vec, str, shared, weak, named, Pointee, one, run, text, Parts, no_part, part, Variants, no_variant, variant, Table}
 
--- the sign of an integer
-abbrev pub sign_of : IntegerKind → Sign
-sign_of U8 = unsigned
-sign_of U16 = unsigned
-sign_of U32 = unsigned
-sign_of U64 = unsigned
-sign_of U128 = unsigned
-sign_of I8 = signed
-sign_of I16 = signed
-sign_of I32 = signed
-sign_of I64 = signed
-sign_of I128 = signed
-
--- its width
-abbrev pub width_of : IntegerKind → Width
-width_of U8 = w8
-width_of I8 = w8
-width_of U16 = w16
-width_of I16 = w16
-width_of U32 = w32
-width_of I32 = w32
-width_of U64 = w64
-width_of I64 = w64
-width_of U128 = w128
-width_of I128 = w128
+-- the sign of an integer, and its width
+abbrev pub integer_of : IntegerKind → Sign × Width
+integer_of U8 = (unsigned, w8)
+integer_of I8 = (signed, w8)
+integer_of U16 = (unsigned, w16)
+integer_of I16 = (signed, w16)
+integer_of U32 = (unsigned, w32)
+integer_of I32 = (signed, w32)
+integer_of U64 = (unsigned, w64)
+integer_of I64 = (signed, w64)
+integer_of U128 = (unsigned, w128)
+integer_of I128 = (signed, w128)
 
 -- the leaf
 abbrev pub kind_of : KindExpr → Kind
 kind_of UnitKind = unit
 kind_of BoolKind = bool
 kind_of CharKind = char
-kind_of (Number integer) = number (sign_of integer) (width_of integer)
-kind_of (NonZero integer) = non_zero (sign_of integer) (width_of integer)
-kind_of (RawRel integer) = raw_rel (sign_of integer) (width_of integer)
+kind_of (Number integer) = number (integer_of integer).0 (integer_of integer).1
+kind_of (NonZero integer) = non_zero (integer_of integer).0 (integer_of integer).1
+kind_of (RawRel integer) = raw_rel (integer_of integer).0 (integer_of integer).1
 
 abbrev pub flavor_of : FlavorInfo → Flavor
 flavor_of f = record { name = f.name.now; cycles = f.cycles }

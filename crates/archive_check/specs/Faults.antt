@@ -3,17 +3,15 @@ use Rattle.std.specs.Prelude.{◌≡◌, ◌⊎◌, ℕ, pos, List}
 use Rattle.std.specs.Borrow.{Bor}
 use Rattle.archive_check.specs.declared.format.error.Error.{Error}
 use Rattle.archive_check.specs.declared.format.error.Error.TheVariants.{OutOfMemory, InvalidSubtreePointer, UnalignedPointer, ExceededMaximumSubtreeDepth, CyclicValidate, TypeMismatch, MetadataMismatch, LayoutTooLarge, InvalidDiscriminant, InvalidBool, InvalidChar, ZeroNumber, InvalidUtf8, InvalidStringRepr}
-use Rattle.archive_check.specs.Shape.{Kind, unit, bool, char, number, non_zero, raw_rel}
+use Rattle.archive_check.specs.Shape.{Kind, bool, char, non_zero}
 use Rattle.archive_check.specs.Trail.{Fault, too_large, outside, unaligned, too_deep, cyclic, other_type, other_length, illegal, no_such_variant, no_text, no_string}
 
 -- the refusal of an illegal leaf; no bytes of a unit, a number or an offset are illegal
 abbrev pub illegal_error : Kind → Error
-illegal_error unit = OutOfMemory
 illegal_error bool = InvalidBool
 illegal_error char = InvalidChar
-illegal_error (number s w) = OutOfMemory
 illegal_error (non_zero s w) = ZeroNumber
-illegal_error (raw_rel s w) = OutOfMemory
+illegal_error _ = OutOfMemory
 
 -- the refusal says the fault
 abbrev pub IsFor : Fault → Error → Type 0

@@ -16,8 +16,7 @@ KeepsLevels s s' = HasLevels s.depth → HasLevels s'.depth
 -- nothing was met yet, and levels are left
 pub record IsFresh (s : RangeState) (met : Positions) : Type 0 where
   pub nothing : (position : ℤ) → met position ≡ None
-  pub levels : s.depth ≢ Some 0
-  pub few : (d : ℕ) → s.depth ≡ Some d → d < 18446744073709551616
+  pub levels : HasLevels s.depth
 
 -- and regions may lie in the whole buffer
 pub record IsWhole (s : RangeState) (met : Positions) (bytes : List ℕ) : Type 0 where

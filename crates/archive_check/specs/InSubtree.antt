@@ -28,6 +28,13 @@ module _ {C : Type 0} (state : C → RangeState) (positions : C → Positions) w
   abbrev pub IsCallableIn : (MutBor C → Type 0) → Definitions → Pointee → ℕ → C → ℤ → Type 0
   IsCallableIn May D P length old position = (layout : Layout) → IsRegionLayout D P length layout → IsCallable May old position layout.size layout.align
 
+  -- the region at root is accepted and entered, with a level left: what context that leaves
+  pub record IsEntered (old : C) (position : ℤ) (size align root : ℕ) (inner : C) : Type 0 where
+    pub accepted : subtree_answer (state old) position size align ≡ Ok tt
+    pub level_left : (state old).depth ≡ Some 1 → ⊥
+    pub begins : position ≡ pos root
+    pub entered : IsInState inner (pushed (state old) root) old
+
   -- `InSubtree Call Gives old position size align result new`: what is answered and left where the call answers and leaves as `Call` says, and
   -- a refusal of the context gives one of the call's as `Gives` says. With one level left nothing is called.
   pub data InSubtree {R E : Type 0} (Call : C → Result R E → C → Type 0) (Gives : Error → E → Type 0) (old : C) (position : ℤ) (size align : ℕ) : Result R E → C → Type 0 where
@@ -43,27 +50,18 @@ module _ {C : Type 0} (state : C → RangeState) (positions : C → Positions) w
         → IsInState new (state old) old
         → InSubtree Call Gives old position size align (Err given) new
     call_refused : {inner new : C} {root : ℕ} {given : E}
-        → subtree_answer (state old) position size align ≡ Ok tt
-        → ((state old).depth ≡ Some 1 → ⊥)
-        → position ≡ pos root
-        → IsInState inner (pushed (state old) root) old
+        → IsEntered old position size align root inner
         → Call inner (Err given) new
         → InSubtree Call Gives old position size align (Err given) new
     pop_refused : {inner after new : C} {root : ℕ} {r : R} {e : Error} {given : E}
-        → subtree_answer (state old) position size align ≡ Ok tt
-        → ((state old).depth ≡ Some 1 → ⊥)
-        → position ≡ pos root
-        → IsInState inner (pushed (state old) root) old
+        → IsEntered old position size align root inner
         → Call inner (Ok r) after
         → pop_answer (state after) (root + size) ≡ Err e
         → Gives e given
         → IsInState new (state after) after
         → InSubtree Call Gives old position size align (Err given) new
     entered_and_left : {inner after new : C} {root : ℕ} {r : R}
-        → subtree_answer (state old) position size align ≡ Ok tt
-        → ((state old).depth ≡ Some 1 → ⊥)
-        → position ≡ pos root
-        → IsInState inner (pushed (state old) root) old
+        → IsEntered old position size align root inner
         → Call inner (Ok r) after
         → pop_answer (state after) (root + size) ≡ Ok tt
         → IsInState new (popped (state after) (root + size) (state old).end) after

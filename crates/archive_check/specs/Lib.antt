@@ -16,7 +16,6 @@ pub mod Depth
 pub mod Walk
 pub mod Trail
 pub mod Outcomes
-pub mod Subtrees
 pub mod Denotes
 pub mod Leaves
 pub mod Within

@@ -1,8 +1,5 @@
--- The calls of a pool on the positions that are read, as functions of what is known there. A refused call leaves all as it was.
-use Rattle.std.specs.Prelude.{ℕ, nat_eq, List, Option, Some, None, Result, Ok, Err}
-use Rattle.std.specs.Map.{update}
-use Rattle.archive_check.specs.declared.format.error.Error.{Error}
-use Rattle.archive_check.specs.declared.format.error.Error.TheVariants.{NotStarted, AlreadyFinished}
+-- What a pool knows of the positions that are read.
+use Rattle.std.specs.Prelude.{ℕ, List, Option, Some, None}
 use Rattle.archive_check.specs.Value.{Value}
 use Rattle.archive_check.specs.Tour.{Entry}
 use Rattle.archive_check.specs.Denotes.{Naming}
@@ -24,32 +21,7 @@ Entries = ℕ → EntryState
 abbrev pub nothing_pooled : Entries
 nothing_pooled t = None
 
--- what a start answers
-pub data PoolAnswer : Type 0 where
-  started pending : PoolAnswer
-  finished : Kept → PoolAnswer
-
-abbrev pub pool_answer : EntryState → PoolAnswer
-pool_answer None = started
-pool_answer (Some None) = pending
-pool_answer (Some (Some k)) = finished k
-
 -- a start leaves a new position pending, and others as they are
 abbrev pub pooled : EntryState → EntryState
 pooled None = Some None
 pooled (Some known) = Some known
-
--- what a finish answers
-abbrev pub finish_answer : EntryState → Result (Unit {0}) Error
-finish_answer None = Err NotStarted
-finish_answer (Some None) = Ok tt
-finish_answer (Some (Some k)) = Err AlreadyFinished
-
--- a finish leaves a pending position finished with what is kept, and others as they are
-abbrev pub given : Kept → EntryState → EntryState
-given k None = None
-given k (Some None) = Some (Some k)
-given k (Some (Some l)) = Some (Some l)
-
-abbrev pub after_finish : Entries → ℕ → Kept → Entries
-after_finish entries t k = update nat_eq entries t (given k (entries t))

@@ -62,10 +62,10 @@ abbrev pub Starts : {A : Type 0} → (A → Positions) → Both (MutBor A) (MutB
 Starts met c position flavor pointee length =
     met c.exit.now ≡ started (met c.entry.now) position (entry_as flavor.entry.now pointee.entry.now length)
 
--- what is answered where a position is finished
-abbrev pub finish_answer : Option PositionState → Result (Unit {0}) Error
-finish_answer None = Err NotStarted
-finish_answer (Some met) = cond met.finished (Err AlreadyFinished) (Ok tt)
+-- What is answered where something is finished, as a position: it has to be known, and not to be finished already.
+abbrev pub finish_answer : {A : Type 0} → (A → Bool) → Option A → Result (Unit {0}) Error
+finish_answer is_finished None = Err NotStarted
+finish_answer is_finished (Some known) = cond (is_finished known) (Err AlreadyFinished) (Ok tt)
 
 abbrev pub finished : Positions → ℤ → Positions
 finished met position = update int_eq met position (option_map (λ old. record { entry = old.entry; finished = true }) (met position))

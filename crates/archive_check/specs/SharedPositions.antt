@@ -32,10 +32,10 @@ IsType shared_type flavor pointee = (flavor_of shared_type.flavor ≡ flavor) ×
 
 -- the type at a place of a list
 pub record HasType (shared_types : List SharedType) (place : ℕ) (flavor : Flavor) (pointee : Pointee) : Type 0 where
-  pub shared_type : SharedType
-  pub at : slice_get shared_types place ≡ Some shared_type
-  pub flavor_is : flavor_of shared_type.flavor ≡ flavor
-  pub pointee_is : pointee_of shared_type.pointee ≡ pointee
+  pub type_there : SharedType
+  pub at : slice_get shared_types place ≡ Some type_there
+  pub flavor_is : flavor_of type_there.flavor ≡ flavor
+  pub pointee_is : pointee_of type_there.pointee ≡ pointee
 
 -- no place of a list has the type
 abbrev pub IsAbsent : List SharedType → Flavor → Pointee → Type 0

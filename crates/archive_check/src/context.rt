@@ -108,7 +108,7 @@ pub trait SharedContext: Context {
         pointee: &Pointee,
         position: i128,
     ) -> Result<(), Error>
-        ensures answer { result ≡ finish_answer (Self.positions self.old position) }
+        ensures answer { result ≡ finish_answer (λ met. met.finished) (Self.positions self.old position) }
         ensures finished { OnOk result (Self.positions self.new ≡ finished (Self.positions self.old) position) }
         ensures unchanged { OnErr result (Self.positions self.new ≡ Self.positions self.old) }
         ensures range { Self.state self.new ≡ Self.state self.old };

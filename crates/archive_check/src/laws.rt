@@ -1,7 +1,7 @@
 //! The laws of archives. Each is what a function promises that does nothing, so that the check of this crate proves it. They are laws of our own
 //! definitions, which `specs/Laws.antt` states and docs/DEFINITIONS.md lists.
 
-ghost use Rattle.archive_check.specs.Laws.{MeaningExists, MeaningUnique, AcceptedWhereWalked, FaultyNotWalked, FewSubtrees, RegionsDisjoint, LeavesInRegions, LeafWritten, EmptyRunWalked, PlainRunWalked, PartsReached, ReachedUnique, RootReached, PointersReached, WithinReached, ElementsReached, EncodingUnique, PartsInside, LayoutsExist, LayoutUnique, ReadingUnique, TourUnique, FaultUnique, RefusedKeepsPooled, SameReflexive, SameSymmetric, SameTransitive, PartsReachedMeaning, ReachedMeaningUnique, NamesKnown, RootReachedMeaning, SaidReached, UniqueBefore, KnownWhereWellFormed, NeverCyclic, SharedKnown};
+ghost use Rattle.archive_check.specs.Laws.{MeaningExists, MeaningUnique, AcceptedWhereWalked, FaultyNotWalked, RegionsDisjoint, LeavesInRegions, LeafWritten, PartsReached, ReachedUnique, RootReached, PointersReached, WithinReached, ElementsReached, EncodingUnique, PartsInside, LayoutsExist, LayoutUnique, ReadingUnique, TourUnique, FaultUnique, SameReflexive, SameSymmetric, SameTransitive, PartsReachedMeaning, ReachedMeaningUnique, NamesKnown, RootReachedMeaning, SaidReached, UniqueBefore, KnownWhereWellFormed, NeverCyclic, SharedKnown};
 
 /// An accepted buffer has a meaning.
 pub fn meaning_exists()
@@ -23,11 +23,6 @@ pub fn faulty_not_walked()
     ensures { FaultyNotWalked }
 {}
 
-/// A check of n bytes enters at most 1 + n / 4 regions, whether it comes to an end or finds a fault.
-pub fn few_subtrees()
-    ensures { FewSubtrees }
-{}
-
 /// The regions of an accepted buffer, the root's with them, lie apart.
 pub fn regions_disjoint()
     ensures { RegionsDisjoint }
@@ -41,16 +36,6 @@ pub fn leaves_in_regions()
 /// Where legal bytes are written over a leaf, every archive in which it stands stays one, with the same tour, and changes in that leaf alone.
 pub fn leaf_written()
     ensures { LeafWritten }
-{}
-
-/// Where one element of size zero is walked, so is a run of them, and the walk stays where it was.
-pub fn empty_run_walked()
-    ensures { EmptyRunWalked }
-{}
-
-/// A run of plain elements in the buffer is walked, and the walk stays where it was.
-pub fn plain_run_walked()
-    ensures { PlainRunWalked }
 {}
 
 /// Each part of an archive says something.
@@ -116,11 +101,6 @@ pub fn tour_unique()
 /// A check finds one fault.
 pub fn fault_unique()
     ensures { FaultUnique }
-{}
-
-/// A refused call on a pooled position changes nothing.
-pub fn refused_keeps_pooled()
-    ensures { RefusedKeepsPooled }
 {}
 
 /// Each meaning is the same as itself.

@@ -6,7 +6,7 @@ ghost use Rattle.std.specs.Ordering.{int_cmp};
 ghost use Rattle.archive_check.specs.Shape.{Kind as KindOf, Sign, number};
 ghost use Rattle.archive_check.specs.Layout.{kind_size};
 ghost use Rattle.archive_check.specs.Reads.{IsLegal, kind_value};
-ghost use Rattle.archive_check.specs.Expressions.{kind_of, sign_of, width_of};
+ghost use Rattle.archive_check.specs.Expressions.{kind_of, integer_of};
 ghost use Rattle.archive_check.specs.LittleEndian.{AreBytes};
 ghost use Rattle.archive_num.specs.Digits.{is_zero};
 
@@ -102,8 +102,7 @@ pub trait Integer: Native {
 
     /// Its sign and width.
     fn integer_kind() -> IntegerKind
-        ensures sign { sign_of result ≡ sign }
-        ensures width { width_of result ≡ width };
+        ensures { integer_of result ≡ (sign, width) };
 
     /// Whether it is 0.
     fn is_zero(self) -> bool

@@ -1,5 +1,5 @@
 -- Pools: what their calls answer and leave, and what is read back of what a shared pointer leads to.
-use Rattle.std.specs.Prelude.{◌≡◌, ◌⊎◌, ℕ, nat_eq, pos, List, ◌∷◌, Option, Some, None, Result, Err, false}
+use Rattle.std.specs.Prelude.{◌≡◌, ◌⊎◌, ℕ, nat_eq, pos, List, ◌∷◌, Option, Some, None, is_some, Result, Err, false}
 use Rattle.std.specs.Map.{update}
 use Rattle.archive_check.specs.declared.format.error.Error.{Error}
 use Rattle.archive_check.specs.declared.format.error.Error.TheVariants.{OutOfMemory, CyclicDeserialize}
@@ -10,7 +10,8 @@ use Rattle.archive_check.specs.Value.{Value, shared_value, hole}
 use Rattle.archive_check.specs.Reads.{Schema, length_at, pointer_at}
 use Rattle.archive_check.specs.Tour.{Contents}
 use Rattle.archive_check.specs.Denotes.{Naming}
-use Rattle.archive_check.specs.Pooled.{Kept, EntryState, Entries, finish_answer}
+use Rattle.archive_check.specs.Pooled.{Kept, EntryState, Entries}
+use Rattle.archive_check.specs.PositionStates.{finish_answer}
 use Rattle.archive_check.specs.Viewed.{Viewed, Says}
 use Rattle.archive_check.specs.Entries.{IsCyclic, ReadsBack}
 use Rattle.archive_types.specs.SharedSources.{rc_flavor}
@@ -23,7 +24,7 @@ kept_at t P n v ks = record { name = t; entry = record { flavor = rc_flavor; poi
 
 -- the answer to a finish: memory may be refused, too
 abbrev pub IsFinishAnswer : EntryState → Result (Unit {0}) Error → Type 0
-IsFinishAnswer known result = (result ≡ finish_answer known) ⊎ (result ≡ Err OutOfMemory)
+IsFinishAnswer known result = (result ≡ finish_answer is_some known) ⊎ (result ≡ Err OutOfMemory)
 
 -- what is known of a position, by what is kept there
 abbrev pub known_by : {T : Type 0} → (T → Kept) → Option (Option T) → EntryState

@@ -1,5 +1,5 @@
 -- How the writing of a shared value goes, from that of its pointee.
-use Rattle.std.proofs.Common.{◌≡◌, inl, inr, ℕ, length, refl, sym, ap, subst, ◌∙◌, arith, List, Option, Some, None, nat_eq, Result, Ok, Err}
+use Rattle.std.proofs.Common.{◌≡◌, inl, inr, ℕ, length, refl, sym, ap, subst, ◌∙◌, arith, List, Option, Some, None, is_some, nat_eq, Result, Ok, Err}
 use Rattle.std.specs.Map.{update}
 use Rattle.std.proofs.lemmas.Bool.{cases_eq}
 use Rattle.archive_check.specs.Shape.{Pointee}
@@ -9,7 +9,8 @@ use Rattle.archive_check.specs.WriterState.{KeyState, KeyStates, WriterState, Ke
 use Rattle.archive_check.specs.declared.format.error.Error.{Error}
 use Rattle.archive_check.specs.declared.format.error.Error.TheVariants.{CyclicSerialize}
 use Rattle.archive_write.specs.Written.{GoesOn}
-use Rattle.archive_write.specs.Sharing.{IsSet, KeepsKnown, started, start_answer, finish_answer}
+use Rattle.archive_write.specs.Sharing.{IsSet, KeepsKnown, started, start_answer}
+use Rattle.archive_check.specs.PositionStates.{finish_answer}
 use Rattle.archive_write.specs.declared.sharing.SharingState.{SharingState}
 use Rattle.archive_write.specs.declared.sharing.SharingState.TheVariants.{Started, Pending}
 use Rattle.archive_types.specs.Writing.{Naming, LaysOut}
@@ -110,11 +111,11 @@ pending_known (Some None) a e f = refl
 pending_known (Some (Some p)) a e f = cc
 
 -- a key that was started, and stayed so, is finished
-pub finished_served : (f g h : KeyStates) (key : ℕ) (r : Result (Unit {0}) Error) (e : Error) → f key ≡ None → IsSet f key (started (f key)) g → KeepsKnown g h → r ≡ finish_answer (h key) → r ≡ Err e → ⊥
+pub finished_served : (f g h : KeyStates) (key : ℕ) (r : Result (Unit {0}) Error) (e : Error) → f key ≡ None → IsSet f key (started (f key)) g → KeepsKnown g h → r ≡ finish_answer is_some (h key) → r ≡ Err e → ⊥
 finished_served f g h key r e unknown set kept answer is =
     let here : g key ≡ Some None = set_here f g key (started (f key)) set ∙ ap started unknown in
     let there : h key ≡ Some None = kept key None here in
-    let served : r ≡ Ok tt = answer ∙ ap finish_answer there in cc
+    let served : r ≡ Ok tt = answer ∙ ap (finish_answer is_some) there in cc
 
 -- each refusal is one of writing
 shared_own : (D : Definitions) (P : Pointee) (n : ℕ) (ks : List Naming) (v : Value) (a : Cursor) (state : KeyState) (e : Error) → HindersShared state (HindersRegion D P n ks v a) e → IsOwnCause e

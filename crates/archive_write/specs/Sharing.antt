@@ -18,12 +18,6 @@ abbrev pub started : KeyState → KeyState
 started None = Some None
 started (Some s) = Some s
 
--- what a finish of a key answers: a pending key alone can be finished
-abbrev pub finish_answer : KeyState → Result (Unit {0}) Error
-finish_answer None = Err NotStarted
-finish_answer (Some None) = Ok tt
-finish_answer (Some (Some pos)) = Err AlreadyFinished
-
 -- the states are those of before, but that this key has that state
 abbrev pub IsSet : (ℕ → KeyState) → ℕ → KeyState → (ℕ → KeyState) → Type 0
 IsSet before key state after = (k : ℕ) → after k ≡ update nat_eq before key state k

@@ -1,10 +1,11 @@
 //! The states of shared keys. A key names one value, which is written once: the key is unknown, then pending while the value is written, then
 //! finished at the value's position.
 
-ghost use Rattle.std.specs.Prelude.{◌≡◌, ◌+◌, ◌≤◌, ◌<◌, None, Some, OnOk, OnErr, IfOk, IfErr, IsOk, IsSome};
+ghost use Rattle.std.specs.Prelude.{◌≡◌, ◌+◌, ◌≤◌, ◌<◌, None, Some, OnOk, OnErr, IfOk, IfErr, IsOk, IsSome, is_some};
 ghost use Rattle.archive_write.specs.Known.{known_keys, spare_keys};
+ghost use Rattle.archive_check.specs.PositionStates.{finish_answer};
 ghost use Rattle.archive_check.specs.WriterState.{KeepsKeys, KeepsBytes, only_keys};
-ghost use Rattle.archive_write.specs.Sharing.{start_answer, finish_answer, IsSet, KnowsNone};
+ghost use Rattle.archive_write.specs.Sharing.{start_answer, IsSet, KnowsNone};
 ghost use Rattle.archive_write.specs.Writes.{IsStarted};
 
 use crate::ser::Serializer;
@@ -40,7 +41,7 @@ pub trait Sharing: Keys {
     /// Finishes the pending `key` at `pos`, in bytes from the first one. Refused with `NotStarted`, 14, exactly where it is unknown, and with
     /// `AlreadyFinished`, 15, exactly where it is finished already. Takes no memory.
     fn finish_sharing(&mut self, key: u64, pos: usize) -> Result<(), Error>
-        ensures answer { result ≡ finish_answer ((Self.state self.old).states key) }
+        ensures answer { result ≡ finish_answer is_some ((Self.state self.old).states key) }
         ensures after { OnOk result (IsSet (Self.state self.old).states key (Some (Some pos)) (Self.state self.new).states) }
         ensures unchanged { OnErr result (KeepsKeys (Self.state self.old).states (Self.state self.new).states) }
         ensures bytes { KeepsBytes (Self.state self.old) (Self.state self.new) };
@@ -157,7 +158,7 @@ impl<A: Allocator + Clone> Sharing for Share<A> {
     }
 
     fn finish_sharing(&mut self, key: u64, pos: usize) -> Result<(), Error>
-        ensures answer { result ≡ finish_answer (known_keys self.old.states key) }
+        ensures answer { result ≡ finish_answer is_some (known_keys self.old.states key) }
         ensures after { OnOk result (IsSet (known_keys self.old.states) key (Some (Some pos)) (known_keys self.new.states)) }
         ensures unchanged { OnErr result (KeepsKeys (known_keys self.old.states) (known_keys self.new.states)) }
         ensures bytes { KeepsBytes (only_keys (known_keys self.old.states)) (only_keys (known_keys self.new.states)) }

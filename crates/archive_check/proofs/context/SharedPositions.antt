@@ -70,10 +70,10 @@ met_in-kept shared_types f p key k h same e =
     let (shared_type, at) = slice_get-some shared_types k.shared_type (h key k e) in
     (shared_type, at, ap (positions_in shared_types f) (sym same) ∙ ap (met_in shared_types) e ∙ ap (option_map (met_as k)) at)
 
-pub finish_kept : (shared_types : List SharedType) (f : ℤ → Option SharedPosition) (p key : ℤ) (k : SharedPosition) (b : Bool) → AreKnown shared_types f → key ≡ p → Some k ≡ f key → k.finished ≡ b → cond b (Err AlreadyFinished) (Ok tt) ≡ finish_answer (positions_in shared_types f p)
+pub finish_kept : (shared_types : List SharedType) (f : ℤ → Option SharedPosition) (p key : ℤ) (k : SharedPosition) (b : Bool) → AreKnown shared_types f → key ≡ p → Some k ≡ f key → k.finished ≡ b → cond b (Err AlreadyFinished) (Ok tt) ≡ finish_answer (λ met. met.finished) (positions_in shared_types f p)
 finish_kept shared_types f p key k b h same e is =
     let answer : Bool → Result (Unit {0}) Error = λ b. cond b (Err AlreadyFinished) (Ok tt) in
-    sym (ap finish_answer (met_in-kept shared_types f p key k h same (sym e)).2 ∙ ap answer is)
+    sym (ap (finish_answer (λ met. met.finished)) (met_in-kept shared_types f p key k h same (sym e)).2 ∙ ap answer is)
 
 -- equal flavors
 pub same_flavors : (f g : FlavorInfo) → (bytes_eq f.name.now g.name.now && beq f.cycles g.cycles) ≡ true → flavor_of f ≡ flavor_of g
@@ -83,13 +83,13 @@ pub other_flavors : (f g : FlavorInfo) → (bytes_eq f.name.now g.name.now && be
 other_flavors f g e s = true≢false (sym ((same_flavor-Decides (flavor_of f) (flavor_of g)).1 s) ∙ e)
 
 pub has_type : (shared_types : List SharedType) (k : ℕ) (shared_type : SharedType) (f : FlavorInfo) (P : Pointee) → k < length shared_types → shared_type ≡ get_or shared_types k shared_type → flavor_of shared_type.flavor ≡ flavor_of f → pointee_of shared_type.pointee ≡ P → HasType shared_types k (flavor_of f) P
-has_type shared_types k shared_type f P h e s t = record { shared_type = shared_type; at = slice_get_read shared_types (length shared_types) k shared_type refl h e; flavor_is = s; pointee_is = t }
+has_type shared_types k shared_type f P h e s t = record { type_there = shared_type; at = slice_get_read shared_types (length shared_types) k shared_type refl h e; flavor_is = s; pointee_is = t }
 
 pub has_pushed : (shared_types new : List SharedType) (k : ℕ) (f : FlavorInfo) (p : PointeeExpr) (P : Pointee) → new ≡ shared_types ++ record { flavor = f; pointee = p } ∷ [] → k ≡ length shared_types → pointee_of p ≡ P → HasType new k (flavor_of f) P
 has_pushed shared_types new k f p P grown h s =
     let shared_type : SharedType = record { flavor = f; pointee = p } in
     let here : slice_get (shared_types ++ shared_type ∷ []) k ≡ Some shared_type = ap (slice_get (shared_types ++ shared_type ∷ [])) h ∙ slice_get-last shared_types shared_type in
-    record { shared_type = shared_type; at = ap (λ xs. slice_get xs k) grown ∙ here; flavor_is = refl; pointee_is = s }
+    record { type_there = shared_type; at = ap (λ xs. slice_get xs k) grown ∙ here; flavor_is = refl; pointee_is = s }
 
 -- no place before n has the type
 abbrev pub NoneBefore : List SharedType → Flavor → Pointee → ℕ → Type 0
@@ -101,12 +101,12 @@ none_next shared_types flavor pointee n x before below is other place lt has = �
     (λ less. before place less has)
     (λ last.
     let here : slice_get shared_types place ≡ Some x = ap (slice_get shared_types) (omega (arith, last, lt)) ∙ slice_get_read shared_types (length shared_types) n x refl below is in
-    let same : has.shared_type ≡ x = cc (sym has.at ∙ here) in
+    let same : has.type_there ≡ x = cc (sym has.at ∙ here) in
     other (ap (λ (s : SharedType). flavor_of s.flavor) (sym same) ∙ has.flavor_is) (ap (λ (s : SharedType). pointee_of s.pointee) (sym same) ∙ has.pointee_is))
     (cases_lt place n)
 
 pub none_absent : (shared_types : List SharedType) (flavor : Flavor) (pointee : Pointee) (n : ℕ) → NoneBefore shared_types flavor pointee n → length shared_types ≤ n → IsAbsent shared_types flavor pointee
-none_absent shared_types flavor pointee n before end place has = before place (omega (arith, end, slice_get_within shared_types place has.shared_type has.at)) has
+none_absent shared_types flavor pointee n before end place has = before place (omega (arith, end, slice_get_within shared_types place has.type_there has.at)) has
 
 -- the types' list grows, and a position is entered
 pub AreKnown-grown : (old new : List SharedType) (f : ℤ → Option SharedPosition) → AreKnown old f → IsGrown old new → AreKnown new f
@@ -150,7 +150,7 @@ known_cond shared_types false k x old now h o e s = o x (sym e ∙ s)
 pub AreKnown-inserted : {S E : Type 0} (shared_types : List SharedType) (m n : HashMap ℤ SharedPosition S) (key : ℤ) (k : SharedPosition) (flavor : Flavor) (pointee : Pointee) (r : Result (Option SharedPosition) E)
     → AreKnown shared_types (get int_eq m) → HasType shared_types k.shared_type flavor pointee → OnOk r (Updates int_eq m n key (Some k)) → OnErr r (IsUnchanged m n) → AreKnown shared_types (get int_eq n)
 AreKnown-inserted shared_types m n key k flavor pointee (Ok old) known type ok err q x e =
-    known_cond shared_types (int_eq key q) k x (get int_eq m q) (get int_eq n q) (slice_get_within shared_types k.shared_type type.shared_type type.at) (known q) (ok.0 q) e
+    known_cond shared_types (int_eq key q) k x (get int_eq m q) (get int_eq n q) (slice_get_within shared_types k.shared_type type.type_there type.at) (known q) (ok.0 q) e
 AreKnown-inserted shared_types m n key k flavor pointee (Err e') known type ok err q x e =
     known q x (ap (λ es. lookup (int_eq q) es) (sym err) ∙ e)
 

@@ -8,7 +8,7 @@ use Rattle.archive_check.specs.Definitions.{Definitions}
 use Rattle.archive_check.specs.RegionLayout.{IsLargeRegion}
 use Rattle.archive_check.specs.Ranges.{RangeState, subtree_answer, pushed, pop_answer, popped}
 use Rattle.archive_check.specs.PositionStates.{Positions}
-use Rattle.archive_check.specs.InSubtree.{IsInState, InSubtree, InRegion, layout_refused, check_refused, push_refused, call_refused, pop_refused, entered_and_left}
+use Rattle.archive_check.specs.InSubtree.{IsEntered, InSubtree, InRegion, layout_refused, check_refused, push_refused, call_refused, pop_refused, entered_and_left}
 
 -- a position that is accepted isn't below 0
 accepted_at : (s : RangeState) (z : ℤ) (size align : ℕ) → Ok tt ≡ subtree_answer s z size align → z ≡ pos (nat_abs z)
@@ -50,38 +50,37 @@ module _ {C R E : Type 0} (state : C → RangeState) (positions : C → Position
     pub state_is : state inner ≡ pushed (state checked) (nat_abs key)
     pub positions_are : positions inner ≡ positions checked
 
-  root_is : {z key : ℤ} {checked inner : C} → Entered z key checked inner → z ≡ pos (nat_abs key)
-  root_is {key = key} c = sym c.is_checked.same ∙ accepted_at (state old) key size align c.is_checked.accepted
-
-  entered_at : {z key : ℤ} {checked inner : C} → Entered z key checked inner → IsInState state positions inner (pushed (state old) (nat_abs key)) old
+  entered_at : {z key : ℤ} {checked inner : C} → Entered z key checked inner → IsEntered state positions old z size align (nat_abs key) inner
   entered_at {key = key} c = record {
-    state_is = c.state_is ∙ ap (λ s. pushed s (nat_abs key)) c.is_checked.state_is;
-    positions_are = c.positions_are ∙ c.is_checked.positions_are;
+    accepted = accepted c.is_checked;
+    level_left = λ e. c.deep (ap (λ s. s.depth) c.is_checked.state_is ∙ e);
+    begins = sym c.is_checked.same ∙ accepted_at (state old) key size align c.is_checked.accepted;
+    entered = record {
+      state_is = c.state_is ∙ ap (λ s. pushed s (nat_abs key)) c.is_checked.state_is;
+      positions_are = c.positions_are ∙ c.is_checked.positions_are;
+    };
   }
-
-  not_last : {z key : ℤ} {checked inner : C} → Entered z key checked inner → (state old).depth ≡ Some 1 → ⊥
-  not_last c e = c.deep (ap (λ s. s.depth) c.is_checked.state_is ∙ e)
 
   pub at_call : (z key : ℤ) (r : Result R E) (y : E) (checked inner new : C) → Entered z key checked inner
       → IsErrAnd r (λ x. x ≡ y) → Call inner (Err y) new
       → Answered z r new
   at_call z key (Ok x) y checked inner new c given call = absurd given
   at_call z key (Err x) y checked inner new c given call =
-      call_refused (accepted c.is_checked) (not_last c) (root_is c) (entered_at c) (subst (λ x. Call inner (Err x) new) (sym given) call)
+      call_refused (entered_at c) (subst (λ x. Call inner (Err x) new) (sym given) call)
 
   pub at_pop : (z key : ℤ) (e : Error) (r : Result R E) (x : R) (start : ℕ) (checked inner after new : C) → Entered z key checked inner
       → Call inner (Ok x) after → start ≡ nat_abs key + size → Err e ≡ pop_answer (state after) start → IsErrAnd r (Gives e) → state new ≡ state after → positions new ≡ positions after
       → Answered z r new
   at_pop z key e (Ok y) x start checked inner after new c call from a given s p = absurd given
   at_pop z key e (Err y) x start checked inner after new c call from a given s p =
-      pop_refused (accepted c.is_checked) (not_last c) (root_is c) (entered_at c) call (sym (a ∙ ap (pop_answer (state after)) from)) given (record { state_is = s; positions_are = p })
+      pop_refused (entered_at c) call (sym (a ∙ ap (pop_answer (state after)) from)) given (record { state_is = s; positions_are = p })
 
   pub at_end : (z key : ℤ) (x : R) (start end : ℕ) (checked inner after new : C) → Entered z key checked inner
       → Call inner (Ok x) after → start ≡ nat_abs key + size → end ≡ (state checked).end → Ok tt ≡ pop_answer (state after) start
       → state new ≡ popped (state after) start end → positions new ≡ positions after
       → Answered z (Ok x) new
   at_end z key x start end checked inner after new c call from upto a s p =
-      entered_and_left (accepted c.is_checked) (not_last c) (root_is c) (entered_at c) call (sym (a ∙ ap (pop_answer (state after)) from)) (record {
+      entered_and_left (entered_at c) call (sym (a ∙ ap (pop_answer (state after)) from)) (record {
         state_is = s ∙ (λ i. popped (state after) (from i) (upto i)) ∙ ap (λ st. popped (state after) (nat_abs key + size) st.end) c.is_checked.state_is;
         positions_are = p;
       })

@@ -9,12 +9,12 @@ use Rattle.archive_check.specs.declared.format.expr.Kind.{Kind as KindExpr}
 use Rattle.archive_check.specs.declared.format.expr.Kind.TheVariants.{Unit as UnitKind, Bool as BoolKind, Char as CharKind, Number, NonZero, RawRel}
 use Rattle.archive_check.specs.declared.format.expr.Expr.{Expr}
 use Rattle.archive_check.specs.declared.format.expr.Expr.TheVariants as expr
-use Rattle.archive_check.specs.Expressions.{sign_of, width_of, kind_of, shape_of, shapes_in, variants_in}
+use Rattle.archive_check.specs.Expressions.{integer_of, kind_of, shape_of, shapes_in, variants_in}
 use Rattle.archive_check.specs.Equality.{same_sign, same_width, same_kind, same_shape, same_parts, same_variants}
 use Rattle.archive_check.proofs.format.Views.{shape_of-Choice}
 
 -- the derived tests of kinds are those of their shapes
-integer_same : (j k : IntegerKind) → (integer_eq.ghosts).eq j k ≡ (same_sign (sign_of j) (sign_of k) && same_width (width_of j) (width_of k))
+integer_same : (j k : IntegerKind) → (integer_eq.ghosts).eq j k ≡ (same_sign (integer_of j).0 (integer_of k).0 && same_width (integer_of j).1 (integer_of k).1)
 integer_same U8 U8 = refl
 integer_same I8 I8 = refl
 integer_same U16 U16 = refl

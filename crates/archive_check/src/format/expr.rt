@@ -1,14 +1,14 @@
 //! Expressions: what the bytes of an archived type are read as. They are our own: rkyv 0.8.18 has a trait that each type checks itself by. The bytes
 //! that they stand for are those of rkyv 0.8.18.
 
-ghost use Rattle.std.specs.Prelude.{◌≡◌, ◌↔◌, IsTrue, IfOk};
+ghost use Rattle.std.specs.Prelude.{◌≡◌, ◌↔◌, IsTrue, IfOk, Ok};
 ghost use Rattle.std.specs.Int.{byte_len};
 ghost use Rattle.std.specs.Cmp.{on_equiv, partial_equiv_from_equiv};
 ghost use Rattle.std.specs.Ordering.{on};
-ghost use Rattle.archive_check.specs.Expressions.{width_of, kind_of, shape_of, pointee_of, shapes_in, variants_in};
+ghost use Rattle.archive_check.specs.Expressions.{integer_of, kind_of, shape_of, pointee_of, shapes_in, variants_in};
 ghost use Rattle.archive_check.specs.Layout.{kind_size, kind_align};
 ghost use Rattle.archive_check.specs.TwoVariants.{IsChoiceOfTwo};
-ghost use Rattle.archive_check.specs.Equality.{same_shape, same_pointee, same_parts, same_variants, same_shape-equiv, same_pointee-equiv};
+ghost use Rattle.archive_check.specs.Equality.{is_same_shape, is_same_pointee, same_shape, same_pointee, same_parts, same_variants, same_shape-equiv, same_pointee-equiv};
 
 pub use crate::format::defs::{Def, Defs};
 use std::alloc::{AllocError, Global};
@@ -41,7 +41,7 @@ pub enum IntegerKind {
 impl IntegerKind {
     /// How many bytes it has, which is also its alignment. That numbers of 16 bytes are aligned to 16 is our own choice.
     pub fn size(self) -> usize
-        ensures { result ≡ byte_len (width_of self) }
+        ensures { result ≡ byte_len (integer_of self).1 }
     {
         match self {
             IntegerKind::U8 | IntegerKind::I8 => 1,
@@ -156,13 +156,13 @@ impl Expr {
 
 /// Two expressions are equal where they are written alike; names are compared as names.
 impl PartialEq for Expr {
-    ghost eq = { on shape_of same_shape };
+    ghost eq = { on shape_of is_same_shape };
 
     ghost laws = { partial_equiv_from_equiv (on_equiv shape_of same_shape-equiv) };
 
     #[tactic(auto, using(crate::specs::Equality::shapes_decided))]
     fn eq(&self, other: &Expr) -> bool
-        ensures decides { result ≡ on shape_of same_shape self.now other.now }
+        ensures decides { result ≡ on shape_of is_same_shape self.now other.now }
         ensures exact { IsTrue result ↔ shape_of self.now ≡ shape_of other.now }
     {
         same_expressions(self, other)
@@ -175,13 +175,13 @@ impl Eq for Expr {
 
 /// Two pointees are equal where they are written alike; names are compared as names.
 impl PartialEq for Pointee {
-    ghost eq = { on pointee_of same_pointee };
+    ghost eq = { on pointee_of is_same_pointee };
 
     ghost laws = { partial_equiv_from_equiv (on_equiv pointee_of same_pointee-equiv) };
 
     #[tactic(auto, using(crate::specs::Equality::shapes_decided))]
     fn eq(&self, other: &Pointee) -> bool
-        ensures decides { result ≡ on pointee_of same_pointee self.now other.now }
+        ensures decides { result ≡ on pointee_of is_same_pointee self.now other.now }
         ensures exact { IsTrue result ↔ pointee_of self.now ≡ pointee_of other.now }
     {
         same_pointees(self, other)
@@ -283,20 +283,14 @@ fn copy_expression(expr: &Expr) -> Result<Expr, AllocError>
 {
     match expr {
         Expr::Leaf(kind) => Ok(Expr::Leaf(*kind)),
-        Expr::Record(parts) => Ok(Expr::Record(copy_parts(*parts.allocator(), parts)?)),
-        Expr::Choice(name, variants) => Ok(Expr::Choice(
-            *name,
-            copy_variants(*variants.allocator(), variants)?,
-        )),
-        Expr::Array(count, x) => Ok(Expr::Array(
-            *count,
-            Box::new(*Box::allocator(x), copy_expression(x)?)?,
-        )),
-        Expr::Box(x) => Ok(Expr::Box(Box::new(*Box::allocator(x), copy_pointee(x)?)?)),
-        Expr::Vec(x) => Ok(Expr::Vec(Box::new(*Box::allocator(x), copy_expression(x)?)?)),
+        Expr::Record(parts) => Ok(Expr::Record(copy_parts(parts)?)),
+        Expr::Choice(name, variants) => Ok(Expr::Choice(*name, copy_variants(variants)?)),
+        Expr::Array(count, x) => Ok(Expr::Array(*count, copy_boxed(x)?)),
+        Expr::Box(x) => Ok(Expr::Box(copy_target(x)?)),
+        Expr::Vec(x) => Ok(Expr::Vec(copy_boxed(x)?)),
         Expr::Str => Ok(Expr::Str),
-        Expr::Shared(f, x) => Ok(Expr::Shared(*f, Box::new(*Box::allocator(x), copy_pointee(x)?)?)),
-        Expr::Weak(f, x) => Ok(Expr::Weak(*f, Box::new(*Box::allocator(x), copy_pointee(x)?)?)),
+        Expr::Shared(f, x) => Ok(Expr::Shared(*f, copy_target(x)?)),
+        Expr::Weak(f, x) => Ok(Expr::Weak(*f, copy_target(x)?)),
         Expr::Named(name) => Ok(Expr::Named(*name)),
     }
 }
@@ -315,10 +309,10 @@ fn copy_pointee(pointee: &Pointee) -> Result<Pointee, AllocError>
 
 #[cycle(copy)]
 #[tactic(auto, using(crate::proofs::format::Views::views, crate::proofs::format::Copies::copies))]
-fn copy_parts(alloc: Global, parts: &[Expr]) -> Result<Vec<Expr>, AllocError>
-    ensures { IfOk result (λ v. shapes_in v.items ≡ shapes_in parts.now) }
+fn copy_parts(parts: &Vec<Expr>) -> Result<Vec<Expr>, AllocError>
+    ensures { IfOk result (λ v. shapes_in v.items ≡ shapes_in parts.now.items) }
 {
-    let mut copies = Vec::with_capacity(alloc, parts.len())?;
+    let mut copies = Vec::with_capacity(*parts.allocator(), parts.len())?;
     for i in 0..parts.len() {
         copies.push(copy_expression(&parts[i])?)?;
     }
@@ -327,12 +321,28 @@ fn copy_parts(alloc: Global, parts: &[Expr]) -> Result<Vec<Expr>, AllocError>
 
 #[cycle(copy)]
 #[tactic(auto, using(crate::proofs::format::Views::views, crate::proofs::format::Copies::copies))]
-fn copy_variants(alloc: Global, variants: &[Vec<Expr>]) -> Result<Vec<Vec<Expr>>, AllocError>
-    ensures { IfOk result (λ v. variants_in v.items ≡ variants_in variants.now) }
+fn copy_variants(variants: &Vec<Vec<Expr>>) -> Result<Vec<Vec<Expr>>, AllocError>
+    ensures { IfOk result (λ v. variants_in v.items ≡ variants_in variants.now.items) }
 {
-    let mut copies = Vec::with_capacity(alloc, variants.len())?;
+    let mut copies = Vec::with_capacity(*variants.allocator(), variants.len())?;
     for i in 0..variants.len() {
-        copies.push(copy_parts(alloc, &variants[i])?)?;
+        copies.push(copy_parts(&variants[i])?)?;
     }
     Ok(copies)
+}
+
+#[cycle(copy)]
+#[tactic(auto, using(crate::proofs::format::Views::views, crate::proofs::format::Copies::copies))]
+fn copy_boxed(expr: &Box<Expr>) -> Result<Box<Expr>, AllocError>
+    ensures { IfOk result (λ b. shape_of b.value ≡ shape_of expr.now.value) }
+{
+    Ok(Box::new(*Box::allocator(expr), copy_expression(expr)?)?)
+}
+
+#[cycle(copy)]
+#[tactic(auto, using(crate::proofs::format::Views::views, crate::proofs::format::Copies::copies))]
+fn copy_target(pointee: &Box<Pointee>) -> Result<Box<Pointee>, AllocError>
+    ensures { IfOk result (λ b. pointee_of b.value ≡ pointee_of pointee.now.value) }
+{
+    Ok(Box::new(*Box::allocator(pointee), copy_pointee(pointee)?)?)
 }

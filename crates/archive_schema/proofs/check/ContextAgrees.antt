@@ -94,8 +94,8 @@ agrees_fresh s met f = record {
   over = λ t e is gone. absurd (let none = get-empty {X = Entry} nat_cmp t in cc);
   known = λ t here. absurd (let lt = here.1 in omega arith);
   once = tt;
-  levels = f.levels;
-  few = λ d is. let few = f.few d is in omega arith;
+  levels = f.levels.levels;
+  few = λ d is. let few = f.levels.few d is in omega arith;
 }
 
 module _ {d : Option ℕ} {met : Positions} {pd : List ℕ} {r : ℕ} {seen : Seen} (h : Agrees d met pd r seen) where

@@ -57,8 +57,8 @@ orderly_finished {met = met} {t = t} {rest = rest} h = record {
 }
 
 -- so its finish isn't refused
-pub finish_fine : {d : Option ℕ} {met : Positions} {t : ℕ} {rest : List ℕ} {r : ℕ} → Orderly d met (t ∷ rest) r → finish_answer (met (pos t)) ≡ Ok tt
-finish_fine {t = t} {rest = rest} h = let b = h.begun t (contains_first rest t) in ap finish_answer b.1
+pub finish_fine : {d : Option ℕ} {met : Positions} {t : ℕ} {rest : List ℕ} {r : ℕ} → Orderly d met (t ∷ rest) r → finish_answer (λ x. x.finished) (met (pos t)) ≡ Ok tt
+finish_fine {t = t} {rest = rest} h = let b = h.begun t (contains_first rest t) in ap (finish_answer (λ x. x.finished)) b.1
 
 -- a level less, in a region more
 pub orderly_inside : {d : Option ℕ} {met : Positions} {pd : List ℕ} {r : ℕ} → (d ≡ Some 1 → ⊥) → Orderly d met pd r → Orderly (inside d) met pd (1 + r)

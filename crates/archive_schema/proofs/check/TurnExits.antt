@@ -243,5 +243,5 @@ finishes {m = m} {s = s} {s' = s'} {met = met} {met' = met'} {old = old} {k = k}
 })
 
 pub not_finished : {m : Checker} {s : RangeState} {met : Positions} {old : List Work} {k t : ℕ} {z : ℤ} {y : Stage} {r : Option (Unit {0})} {fault e : Error}
-    → r ≡ None → fault ≡ e → z ≡ pos t → Err e ≡ finish_answer (met z) → TurnsFrom m (Listing m) (cost m s.end (Finish k t ∷ old)) (stage s met (Finish k t ∷ old)) y r fault
+    → r ≡ None → fault ≡ e → z ≡ pos t → Err e ≡ finish_answer (λ x. x.finished) (met z) → TurnsFrom m (Listing m) (cost m s.end (Finish k t ∷ old)) (stage s met (Finish k t ∷ old)) y r fault
 not_finished {m = m} {s = s} {met = met} {old = old} {k = k} {t = t} {z = z} {e = e} none is at answer = turn_refused none is (finish_refuses m s met old k t z e at answer)

@@ -145,8 +145,8 @@ module _ (m : Checker) (s : RangeState) (met : Positions) where
       leads = λ seen a. (seen, rw (same, e, at) (agrees_finished a), λ o r. list_finish (rw same at r));
     }
 
-    pub finish_refuses : (k t : ℕ) (z : ℤ) (e : Error) → z ≡ pos t → Err e ≡ finish_answer (met z) → TurnRefuses (Listing m) (stage s met (Finish k t ∷ old)) e
-    finish_refuses k t z e at is = inr (λ h. absurd (let fine = is ∙ ap (λ q. finish_answer (met q)) at ∙ finish_fine h in cc))
+    pub finish_refuses : (k t : ℕ) (z : ℤ) (e : Error) → z ≡ pos t → Err e ≡ finish_answer (λ x. x.finished) (met z) → TurnRefuses (Listing m) (stage s met (Finish k t ∷ old)) e
+    finish_refuses k t z e at is = inr (λ h. absurd (let fine = is ∙ ap (λ q. finish_answer (λ x. x.finished) (met q)) at ∙ finish_fine h in cc))
 
 pub here_from : (m : Checker) (i p z : ℕ) (xs : List Part) → PartsWithin m i z xs → p + z ≤ length m.bytes.now → PartsHere m p xs
 here_from m i p z [] h room = tt

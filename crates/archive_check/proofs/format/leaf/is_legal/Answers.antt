@@ -2,7 +2,7 @@ use Rattle.std.proofs.Common.{◌≤◌, ◌<◌, ℕ, arith, inl, inr, IsTrue, 
 use Rattle.std.proofs.lemmas.Bool.Decides.{nat_tests}
 use Rattle.archive_check.specs.Shape.{char}
 use Rattle.archive_check.specs.Reads.{IsLegalNumber}
-use Rattle.archive_check.specs.Expressions.{sign_of, width_of}
+use Rattle.archive_check.specs.Expressions.{integer_of}
 use Rattle.archive_check.proofs.format.LegalBytes.{legal_bool, legal_char, legal_non_zero, legal_any}
 use Rattle.archive_check.proofs.format.leaf.is_legal.Goals as goal
 
@@ -44,7 +44,7 @@ returns-else-code-ge57344 c =
 pub returns-in-NonZero : goal.returns-in-NonZero
 returns-in-NonZero c =
     let r = rw c.in-NonZero.is at c.requires in
-    let l = legal_non_zero (sign_of c.in-NonZero.integer) (width_of c.in-NonZero.integer) c.args.bytes.now c.args.at c.size.result c.size.ensures r in
+    let l = legal_non_zero (integer_of c.in-NonZero.integer).0 (integer_of c.in-NonZero.integer).1 c.args.bytes.now c.args.at c.size.result c.size.ensures r in
     rw c.in-NonZero.is (λ t. l.0 (c.has_bits.ensures.0 t), λ h. c.has_bits.ensures.1 (l.1 h))
 
 pub returns-in-Unit : goal.returns-in-Unit
