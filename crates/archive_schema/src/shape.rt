@@ -46,11 +46,11 @@ pub struct Schema {
 impl Schema {
     ghost use Rattle.std.specs.Prelude.{◌≡◌, ◌≤◌, length, None, false, OnOk, IfOk, IfErr};
     ghost use Rattle.archive_check.specs.declared.format.error.Error.TheVariants.{LayoutTooLarge};
-    ghost use Rattle.archive_schema.specs.Contexts.{SchemaAnswers};
+    ghost use Rattle.archive_schema.specs.Contexts.{AnswersIn};
     ghost use Rattle.archive_check.specs.Faults.{IsOfCheck};
     ghost use Rattle.archive_check.specs.FreshContexts.{HasLevels, KeepsLevels};
     ghost use Rattle.archive_check.specs.Pushes.{FewPushed};
-    ghost use Rattle.archive_schema.specs.Schemas.{definitions_in, HasMeaning, IsSchemaOf, layout_of};
+    ghost use Rattle.archive_schema.specs.Schemas.{root_of, definitions_in, HasMeaning, IsSchemaOf, layout_of};
     ghost use Rattle.archive_check.specs.Definitions.{listed, HasLayout};
     ghost use Rattle.archive_check.specs.MissingNames.{missing};
     ghost use Rattle.archive_check.specs.RegionLayout.{IsLargeRegion};
@@ -115,7 +115,7 @@ impl Schema {
     ) -> Result<(), Error>
         requires { (C.state context.old).end ≤ length bytes.now }
         ensures meaning { HasMeaning self.now }
-        ensures answer { SchemaAnswers self.now C.Context context bytes.now pos result }
+        ensures answer { AnswersIn (definitions_in self.now) (root_of self.now) C.Context context bytes.now pos result }
         ensures of_check { IfErr result (λ e. HasLevels (C.state context.old).depth → IsOfCheck e) }
         ensures levels { OnOk result (KeepsLevels (C.state context.old) (C.state context.new)) }
         ensures few_subtrees { FewPushed (C.state context.old) (C.state context.new) }
