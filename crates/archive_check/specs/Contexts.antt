@@ -6,7 +6,7 @@ use Rattle.std.specs.Prelude.{ℕ, List, Result, OnOk, IfErr}
 use Rattle.archive_check.specs.declared.context.Context as Context
 use Rattle.archive_check.specs.declared.format.error.Error.{Error}
 use Rattle.archive_check.specs.Formats.{FormatOf}
-use Rattle.archive_check.specs.Archives.{Answers, IsArchiveWithin, IsRefusal, ExplainsNoArchive}
+use Rattle.archive_check.specs.Archives.{IsArchiveWithin, IsRefusal, ExplainsNoArchive}
 use Rattle.archive_check.specs.FreshContexts.{IsWholeIn}
 
 module _ {C M : Type 0} (f : FormatOf M) (k : Context.Ghosts C) (c : Both (MutBor C) (MutBor C)) where
@@ -21,7 +21,3 @@ module _ {C M : Type 0} (f : FormatOf M) (k : Context.Ghosts C) (c : Both (MutBo
   -- and is no archive, want of memory aside
   abbrev pub IsExactIn : List ℕ → ℕ → Result (Unit {0}) Error → Type 0
   IsExactIn bytes p result = IfErr result (λ e. IsWholeIn k c.entry.now bytes → ExplainsNoArchive f.definitions bytes (k.state c.entry.now).depth p f.shape e)
-
-  -- the whole answer
-  abbrev pub AnswersIn : List ℕ → ℕ → Result (Unit {0}) Error → Type 0
-  AnswersIn bytes p result = IsWholeIn k c.entry.now bytes → Answers f.definitions bytes (k.state c.entry.now).depth p f.shape result

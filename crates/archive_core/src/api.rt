@@ -14,7 +14,7 @@ ghost use Rattle.archive_types.specs.Plans.{unshared};
 ghost use Rattle.archive_types.specs.Seen.{ReadsView, RefusesView};
 ghost use Rattle.archive_types.specs.Sources.{OneUnstored};
 ghost use Rattle.archive_write.specs.Written.{GoesOn};
-ghost use Rattle.archive_check.specs.Contexts.{AnswersIn};
+ghost use Rattle.archive_schema.specs.Contexts.{AnswersIn};
 
 mod kept;
 mod using;
@@ -125,7 +125,7 @@ pub fn check_pos_with_context<T: Portable, C: ArchiveContext + SharedContext>(
 ) -> Result<(), Error>
     requires { (C.state context.old).end ≤ length bytes.now }
     ensures meaning { IfErr result (LacksSchema T.Portable) }
-    ensures answer { AnswersIn T.Portable C.Context context bytes.now pos result }
+    ensures answer { AnswersIn T.definitions T.shape C.Context context bytes.now pos result }
     ensures of_check { IfErr result (IsAnswerable T.shape T.definitions (C.state context.old).depth) }
     ensures levels { OnOk result (KeepsLevels (C.state context.old) (C.state context.new)) }
     ensures few_subtrees { FewPushed (C.state context.old) (C.state context.new) }

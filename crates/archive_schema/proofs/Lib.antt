@@ -1,3 +1,4 @@
 pub mod Archives
-pub mod SuitableSchemas
+pub mod PlanAnswers
+pub mod SchemaDefinitions
 pub mod Examples

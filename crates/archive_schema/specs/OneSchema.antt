@@ -46,7 +46,7 @@ AllDefined-prop table X = Π_prop (λ name. →_prop (one name))
           is_prop→PathP (λ j. (Z : Shape) → Contains table (name, Z) → Z ≡ p j) (λ j. Π_prop (λ Z. →_prop (Shape-set Z (p j)))) u.2 v.2 i,
         )
 
-WellFormed-prop : (table : Table) (X : Shape) → IsProp (WellFormed table X)
+pub WellFormed-prop : (table : Table) (X : Shape) → IsProp (WellFormed table X)
 WellFormed-prop table X a b = λ i. record {
   defined = AllDefined-prop table X a.defined b.defined i;
   finite = Π_prop (λ name. Π_prop (λ Y. →_prop (→_prop (→_prop ⊥_prop)))) a.finite b.finite i;

@@ -3,6 +3,7 @@
 ghost use Rattle.std.specs.Prelude.{◌≡◌, length};
 ghost use Rattle.archive_check.specs.Definitions.{HasLayouts};
 ghost use Rattle.archive_check.specs.Expressions.{shape_of, entries_of};
+ghost use Rattle.archive_check.specs.MissingNames.{Arranged};
 ghost use Rattle.archive_schema.specs.plan.Shallow.{AreShallow};
 ghost use Rattle.archive_schema.specs.plan.PackedPlans.{ArePacked};
 ghost use Rattle.archive_schema.specs.plan.Names.{HasAll};
@@ -33,6 +34,7 @@ pub struct Schema {
     names: Vec<NamedNode>,
     shallow: Vec<bool>,
     ghost complete: { HasAll (entries_of definitions.items) (shape_of root) },
+    ghost arranged: { ∥ Arranged (entries_of definitions.items) (entries_of definitions.items) ∥₁ },
     ghost laid_out: { HasLayouts (entries_of definitions.items) },
     ghost planned: { ∥ IsPlan definitions.items (shape_of root) plan node ∥₁ },
     ghost named: { ∥ HasNames definitions.items names.items plan ∥₁ },
@@ -42,13 +44,17 @@ pub struct Schema {
 }
 
 impl Schema {
-    ghost use Rattle.std.specs.Prelude.{◌≡◌, ◌≤◌, length, OnOk, IfOk, IfErr};
+    ghost use Rattle.std.specs.Prelude.{◌≡◌, ◌≤◌, length, None, false, OnOk, IfOk, IfErr};
     ghost use Rattle.archive_check.specs.declared.format.error.Error.TheVariants.{LayoutTooLarge};
-    ghost use Rattle.archive_schema.specs.Contexts.{SchemaAccepts, SchemaRefuses, SchemaIsExact};
+    ghost use Rattle.archive_schema.specs.Contexts.{AnswersIn};
     ghost use Rattle.archive_check.specs.Faults.{IsOfCheck};
     ghost use Rattle.archive_check.specs.FreshContexts.{HasLevels, KeepsLevels};
     ghost use Rattle.archive_check.specs.Pushes.{FewPushed};
-    ghost use Rattle.archive_schema.specs.Schemas.{IsSchemaOf, HasHeld, IsLayoutOf, IsTooLarge};
+    ghost use Rattle.archive_schema.specs.Schemas.{root_of, definitions_in, HasMeaning, IsSchemaOf, layout_of};
+    ghost use Rattle.archive_check.specs.Definitions.{listed, HasLayout};
+    ghost use Rattle.archive_check.specs.MissingNames.{missing};
+    ghost use Rattle.archive_check.specs.RegionLayout.{IsLargeRegion};
+    ghost use Rattle.archive_check.specs.Shape.{one};
     ghost use Rattle.archive_check.specs.Archives.{ExplainsNoSchema};
     ghost use Rattle.archive_check.specs.Expressions.{shape_of};
 
@@ -57,7 +63,7 @@ impl Schema {
     /// or two definitions, and else with `RecursiveLayout`, 31, exactly where a name holds itself other than behind a pointer.
     pub fn of<T: Portable>(alloc: Global) -> Result<Schema, Error>
         ensures made { IfOk result (λ s. IsSchemaOf s T.shape T.definitions) }
-        ensures held { IfOk result (λ s. HasHeld s T.shape) }
+        ensures held { IfOk result (λ s. missing false (listed (definitions_in s)) T.shape ≡ None) }
         ensures refused { IfErr result (λ e. ExplainsNoSchema T.shape T.definitions e) }
     {
         let root = T::expr(alloc)?;
@@ -78,9 +84,11 @@ impl Schema {
     /// those of the type's own expression are. It takes no memory. Refused with `LayoutTooLarge`, 23, exactly where the size is above `usize::MAX`; an
     /// array of nothing has size 0, whatever its element.
     pub fn layout(&self, expr: &Expr) -> Result<Layout, Error>
-        requires { HasHeld self.now (shape_of expr.now) }
-        ensures ok { IfOk result (λ l. IsLayoutOf self.now (shape_of expr.now) l) }
-        ensures err { IfErr result (λ e. (e ≡ LayoutTooLarge) × IsTooLarge self.now (shape_of expr.now)) }
+        requires { missing false (listed (definitions_in self.now)) (shape_of expr.now) ≡ None }
+        ensures meaning { HasMeaning self.now }
+        ensures ok { IfOk result (λ l. HasLayout (definitions_in self.now) (shape_of expr.now) (layout_of l)) }
+        ensures err { IfErr result (λ e. e ≡ LayoutTooLarge) }
+        ensures large { IfErr result (λ e. IsLargeRegion (definitions_in self.now) (one (shape_of expr.now)) 0) }
     {
         let extent = layouts::extent_of(self, expr);
         match extent.end {
@@ -106,9 +114,8 @@ impl Schema {
         context: &mut C,
     ) -> Result<(), Error>
         requires { (C.state context.old).end ≤ length bytes.now }
-        ensures ok { SchemaAccepts self.now C.Context context bytes.now pos result }
-        ensures err { SchemaRefuses self.now C.Context context bytes.now pos result }
-        ensures exact { SchemaIsExact self.now C.Context context bytes.now pos result }
+        ensures meaning { HasMeaning self.now }
+        ensures answer { AnswersIn (definitions_in self.now) (root_of self.now) C.Context context bytes.now pos result }
         ensures of_check { IfErr result (λ e. HasLevels (C.state context.old).depth → IsOfCheck e) }
         ensures levels { OnOk result (KeepsLevels (C.state context.old) (C.state context.new)) }
         ensures few_subtrees { FewPushed (C.state context.old) (C.state context.new) }

@@ -11,7 +11,7 @@ ghost use Rattle.archive_schema.specs.OneSchema.{IsSchemaOf-prop};
 ghost use Rattle.archive_check.specs.Pushes.{FewPushed};
 ghost use Rattle.archive_schema.specs.Schemas.{IsSchemaOf};
 ghost use Rattle.archive_types.specs.ArchivesOf.{IsArchiveIn, ReadsArchive, RefusesArchive, AsCheckIfNeverOpen};
-ghost use Rattle.archive_check.specs.Contexts.{AnswersIn};
+ghost use Rattle.archive_schema.specs.Contexts.{AnswersIn};
 
 use archive_check::context::{ArchiveContext, HighValidator, SharedContext};
 use archive_check::format::error::Error;
@@ -66,7 +66,7 @@ impl<T: Portable> Access<T> {
         context: &mut C,
     ) -> Result<(), Error>
         requires { (C.state context.old).end ≤ length bytes.now }
-        ensures answer { AnswersIn T.Portable C.Context context bytes.now pos result }
+        ensures answer { AnswersIn T.definitions T.shape C.Context context bytes.now pos result }
         ensures of_check { IfErr result (λ e. HasLevels (C.state context.old).depth → IsOfCheck e) }
         ensures levels { OnOk result (KeepsLevels (C.state context.old) (C.state context.new)) }
         ensures few_subtrees { FewPushed (C.state context.old) (C.state context.new) }

@@ -11,7 +11,7 @@ use Rattle.archive_check.specs.Shape.{Name, Shape, named, Pointee, one, run, tex
 use Rattle.archive_check.specs.Layout.{Layouts, up, pointer_size, size_of, align_of, parts_end, parts_align, variants_end, variants_align}
 use Rattle.archive_check.specs.Reads.{Schema, LaidOut}
 use Rattle.archive_check.specs.Elements.{IsAt}
-use Rattle.archive_schema.specs.Schemas.{table_in}
+use Rattle.archive_check.specs.Expressions.{entries_of}
 use Rattle.archive_check.specs.BoundedSizes.{fits, rounded}
 use Rattle.archive_schema.specs.plan.BoundedSizes.{sum_of, greater_of}
 use Rattle.archive_schema.specs.plan.PlanGrowth.{node_of}
@@ -20,6 +20,7 @@ use Rattle.archive_check.proofs.BoundedSizes.{fits_some, rounded_fits}
 use Rattle.archive_schema.proofs.plan.BoundedSizes.{sum_fits, greater_fits}
 use Rattle.archive_schema.proofs.plan.CompiledParts.{ends_positive}
 use Rattle.archive_check.proofs.PositiveAlignments.{parts_align_pos, variants_align_pos}
+use Rattle.archive_schema.proofs.SchemaDefinitions.{own_laid_out}
 
 -- what ends nowhere is too large
 pub pointer_fits : (P : Pointee) → fits (pointer_size P) ≡ Some (pointer_size P)
@@ -98,9 +99,9 @@ module _ (s : RustSchema) (name : Name) where
     name_there = ∥∥₁_elim s.named le_prop (λ h. h.there name j is)
 
     pub name_extent : {node : Node} {e : Extent} → IsAt s.plan.nodes.items j node → e.end ≡ node.size → e.align ≡ node.align → HasExtent s (named name) e
-    name_extent {node} {e} at q a t suits =
-        let own : Schema = record { table = table_in s; layouts = t.layouts } in
-        let laid : LaidOut own = record { solves = λ n Y d. suits.laid_out.solves n Y (suits.has n Y d); aligned = suits.laid_out.aligned } in
+    name_extent {node} {e} at q a t knows =
+        let own : Schema = record { table = entries_of s.definitions.items; layouts = t.layouts } in
+        let laid : LaidOut own = own_laid_out (entries_of s.definitions.items) t knows in
         record {
           end_is = q ∙ ∥∥₁_elim s.named (hlevel (props, ℕ_set)) (λ h. h.sizes own refl laid name j node is at);
           align_is = a ∙ ∥∥₁_elim s.named (ℕ_set _ _) (λ h. h.aligns own refl laid name j node is at);

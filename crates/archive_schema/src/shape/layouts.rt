@@ -3,9 +3,8 @@
 ghost use Rattle.std.specs.Prelude.{◌≡◌, Some, None, false};
 ghost use Rattle.archive_check.specs.Shape.{named};
 ghost use Rattle.archive_check.specs.Layout.{pointer_size as pointer_takes};
-ghost use Rattle.archive_check.specs.Expressions.{shape_of, pointee_of, shapes_in, variants_in};
+ghost use Rattle.archive_check.specs.Expressions.{shape_of, pointee_of, shapes_in, variants_in, entries_of};
 ghost use Rattle.archive_check.specs.MissingNames.{missing, parts_missing, variants_missing};
-ghost use Rattle.archive_schema.specs.Schemas.{table_in};
 ghost use Rattle.archive_schema.specs.plan.Extents.{HasExtent, PartsHaveExtent, VariantsHaveExtent};
 
 use crate::plan::PointeeKind;
@@ -17,7 +16,7 @@ use archive_check::format::extents::times;
 
 // What a name takes: what its node does.
 fn extent_of_name(schema: &Schema, name: &str) -> Extent
-    requires { missing false (table_in schema.now) (named name.now) ≡ None }
+    requires { missing false (entries_of schema.now.definitions.items) (named name.now) ≡ None }
     ensures { HasExtent schema.now (named name.now) result }
 {
     let Some(node) = find(&schema.names, name) else {
@@ -50,7 +49,7 @@ fn extent_of_pointer(pointee: &Pointee) -> Extent
 #[cycle(extent)]
 #[tactic(auto, using(archive_check::proofs::format::Views::views))]
 pub fn extent_of(schema: &Schema, expr: &Expr) -> Extent
-    requires { missing false (table_in schema.now) (shape_of expr.now) ≡ None }
+    requires { missing false (entries_of schema.now.definitions.items) (shape_of expr.now) ≡ None }
     ensures { HasExtent schema.now (shape_of expr.now) result }
 {
     match expr {
@@ -80,7 +79,7 @@ pub fn extent_of(schema: &Schema, expr: &Expr) -> Extent
 #[cycle(extent)]
 #[tactic(auto, using(archive_check::proofs::format::Views::views))]
 fn extent_of_parts(schema: &Schema, parts: &[Expr], start: usize) -> Extent
-    requires { parts_missing false (table_in schema.now) (shapes_in parts.now) ≡ None }
+    requires { parts_missing false (entries_of schema.now.definitions.items) (shapes_in parts.now) ≡ None }
     ensures { PartsHaveExtent schema.now start (shapes_in parts.now) result }
 {
     let mut extent = Extent::new(start);
@@ -95,7 +94,7 @@ fn extent_of_parts(schema: &Schema, parts: &[Expr], start: usize) -> Extent
 #[cycle(extent)]
 #[tactic(auto, using(archive_check::proofs::format::Views::views))]
 fn extent_of_variants(schema: &Schema, variants: &[Vec<Expr>]) -> Extent
-    requires { variants_missing false (table_in schema.now) (variants_in variants.now) ≡ None }
+    requires { variants_missing false (entries_of schema.now.definitions.items) (variants_in variants.now) ≡ None }
     ensures { VariantsHaveExtent schema.now (variants_in variants.now) result }
 {
     let mut extent = Extent::new(1);

@@ -1,8 +1,8 @@
-use Rattle.std.proofs.Common.{◌≡◌, ◌∙◌, arith, inr, ⊎_elim, inl, sym, Result, Ok, Err, IfErr}
+use Rattle.std.proofs.Common.{◌∙◌, arith, inr, inl, sym, Result, Ok, Err, IfErr}
 use Rattle.archive_check.specs.declared.format.error.Error.{Error}
 use Rattle.std.proofs.lemmas.Result.{on_ok_weaker, IfErr-weaker}
-use Rattle.archive_schema.proofs.Archives.{accepts_archive, refuses}
-use Rattle.archive_check.proofs.Archives.{refusal_no_archive, answers_unmeant}
+use Rattle.archive_schema.proofs.Archives.{answers_type}
+use Rattle.archive_check.proofs.Archives.{answers_unmeant}
 use Rattle.archive_core.proofs.api.check_pos_with_context.Goals as goal
 
 -- a type that checks itself
@@ -30,12 +30,8 @@ returns-in_err-schema-clause-answer g c whole = answers_unmeant _ _ _ _ _ c.from
 
 pub returns-clause-answer : goal.returns-clause-answer
 returns-clause-answer g c whole =
-    let made = c.in_ok-schema.ensures.made in
-    record {
-      accepted = on_ok_weaker c.check.result (λ h. accepts_archive c.in_ok-schema.schema g.T.ArchivePointee.definitions g.T.Portable.shape c.args.bytes.now (g.C.Context.state c.args.context.now).depth c.args.pos made g.met.T.Portable.no_others (h whole)) c.check.ensures.ok;
-      refused = IfErr-weaker c.check.result _ _ (λ e h. refuses c.in_ok-schema.schema g.T.ArchivePointee.definitions g.T.Portable.shape c.args.bytes.now (g.C.Context.state c.args.context.now).depth c.args.pos made e (⊎_elim inl (λ f. inr (f whole)) h)) c.check.ensures.err;
-      exact = IfErr-weaker c.check.result _ _ (λ e h. refusal_no_archive _ _ _ _ _ e (omega arith) (refuses c.in_ok-schema.schema g.T.ArchivePointee.definitions g.T.Portable.shape c.args.bytes.now (g.C.Context.state c.args.context.now).depth c.args.pos made e (⊎_elim inl (λ f. inr (f whole)) h))) c.check.ensures.err;
-    }
+    answers_type c.in_ok-schema.schema g.T.Portable.shape g.T.ArchivePointee.definitions c.in_ok-schema.ensures.made c.args.bytes.now (g.C.Context.state c.args.context.now).depth c.args.pos g.met.T.Portable.no_others (omega arith) c.check.result
+    (c.check.ensures.answer whole)
 
 -- in whatever context
 

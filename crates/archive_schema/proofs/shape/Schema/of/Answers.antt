@@ -1,8 +1,7 @@
-use Rattle.std.proofs.Common.{sym, subst, true}
+use Rattle.std.proofs.Common.{sym, subst}
 use Rattle.archive_check.specs.Expressions.{shape_of, entries_of}
 use Rattle.archive_schema.specs.plan.Planned.{InOrder, IsPlan}
-use Rattle.archive_schema.proofs.Archives.{prepared_laid_out}
-use Rattle.archive_check.proofs.MissingNames.{held_known}
+use Rattle.archive_schema.proofs.Archives.{prepared_laid_out, prepared_schema, prepared_held}
 use Rattle.archive_schema.proofs.plan.PlansInOrder.{in_order_of}
 use Rattle.archive_schema.proofs.plan.PackedPlans.{plan_packed}
 use Rattle.archive_schema.proofs.shape.Schema.of.Goals as goal
@@ -15,7 +14,13 @@ of-requires g c =
     subst (λ ds. InOrder ds (shape_of c.in_ok-root.root)) (sym c.deref.ensures.value) here
 
 pub returns-clause-held : goal.returns-clause-held
-returns-clause-held g c = held_known (entries_of c.in_ok-definitions.definitions.items) g.T.Portable.shape true c.in_ok-definitions.ensures.made.complete.root
+returns-clause-held g c = prepared_held g.T.ArchivePointee.definitions g.T.Portable.shape (entries_of c.in_ok-definitions.definitions.items) c.in_ok-definitions.ensures.made
+
+pub returns-clause-made : goal.returns-clause-made
+returns-clause-made g c = prepared_schema _ g.T.Portable.shape g.T.ArchivePointee.definitions c.in_ok-root.ensures.shape c.in_ok-definitions.ensures.made
+
+pub invariant_of-result-clause-arranged : goal.invariant_of-result-clause-arranged
+invariant_of-result-clause-arranged g c = ∣ c.in_ok-definitions.ensures.made.ordered ∣₁
 
 pub invariant_of-result-clause-packed : goal.invariant_of-result-clause-packed
 invariant_of-result-clause-packed g c =

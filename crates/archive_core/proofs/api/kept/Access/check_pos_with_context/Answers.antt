@@ -1,8 +1,7 @@
-use Rattle.std.proofs.Common.{◌≡◌, arith, inr, ⊎_elim, inl, IsTrue}
+use Rattle.std.proofs.Common.{arith}
 use Rattle.std.proofs.lemmas.Result.{on_ok_weaker, IfErr-weaker}
 use Rattle.archive_schema.specs.Schemas.{IsSchemaOf}
-use Rattle.archive_schema.proofs.Archives.{accepts_archive, refuses}
-use Rattle.archive_check.proofs.Archives.{refusal_no_archive}
+use Rattle.archive_schema.proofs.Archives.{answers_type}
 use Rattle.archive_core.proofs.api.kept.Access.check_pos_with_context.Goals as goal
 
 pub returns-in-None-clause-answer : goal.returns-in-None-clause-answer
@@ -17,11 +16,8 @@ returns-in-None-clause-answer g c whole =
 pub returns-in-Some-clause-answer : goal.returns-in-Some-clause-answer
 returns-in-Some-clause-answer g c whole =
     let made : IsSchemaOf c.in-Some.schema g.T.Portable.shape g.T.ArchivePointee.definitions = rw c.in-Some.is at c.args.self.now.made in
-    record {
-      accepted = on_ok_weaker c.check.result (λ h. accepts_archive c.in-Some.schema g.T.ArchivePointee.definitions g.T.Portable.shape c.args.bytes.now (g.C.Context.state c.args.context.now).depth c.args.pos made g.met.T.Portable.no_others (h whole)) c.check.ensures.ok;
-      refused = IfErr-weaker c.check.result _ _ (λ e h. refuses c.in-Some.schema g.T.ArchivePointee.definitions g.T.Portable.shape c.args.bytes.now (g.C.Context.state c.args.context.now).depth c.args.pos made e (⊎_elim inl (λ f. inr (f whole)) h)) c.check.ensures.err;
-      exact = IfErr-weaker c.check.result _ _ (λ e h. refusal_no_archive _ _ _ _ _ e (omega (arith, c.if-prove.false)) (refuses c.in-Some.schema g.T.ArchivePointee.definitions g.T.Portable.shape c.args.bytes.now (g.C.Context.state c.args.context.now).depth c.args.pos made e (⊎_elim inl (λ f. inr (f whole)) h))) c.check.ensures.err;
-    }
+    answers_type c.in-Some.schema g.T.Portable.shape g.T.ArchivePointee.definitions made c.args.bytes.now (g.C.Context.state c.args.context.now).depth c.args.pos g.met.T.Portable.no_others (omega (arith, c.if-prove.false)) c.check.result
+    (c.check.ensures.answer whole)
 
 pub returns-in-None-clause-of_check : goal.returns-in-None-clause-of_check
 returns-in-None-clause-of_check g c = c.check_root.ensures.of_check (rw c.in-None.is at c.args.self.now.needed)
