@@ -1,6 +1,6 @@
 -- Why a write is refused, from why its steps are.
 use Rattle.std.proofs.Common.{◌≡◌, ◌⊎◌, inl, inr, ℕ, ◌+◌, ◌-◌, ◌^◌, ◌<◌, ◌≤◌, List, [], ◌++◌, length, refl, sym, ap, ◌∙◌, append_assoc, length-append, arith, Option, Some, None}
-use Rattle.std.specs.Prelude.{IsSomeAnd, Result, Ok, Err, IfErr, IsErrAnd}
+use Rattle.std.specs.Prelude.{IsSomeAnd, Result, Ok, Err, IfErr, IsErrAnd, Bool, true, false, IsTrue, IsFalse}
 use Rattle.std.proofs.lemmas.List.{append-nil}
 use Rattle.std.proofs.lemmas.Bool.{cases_lt}
 use Rattle.archive_check.specs.WriterState.{WriterState, KeepsKeys, KeepsBytes}
@@ -132,6 +132,12 @@ goes_written old new bs grown room device keys = record { kept = record { rest =
 pub goes_refused : (old new : WriterState) → IsBeginning old.bytes new.bytes → RoomFalls old.room new.room old.bytes new.bytes → old.failures ≤ new.failures
     → KeepsKeys old.states new.states → GoesOn old new
 goes_refused old new kept room device keys = record { kept = kept; room = room; device = device; known = λ k x is. keys k ∙ is }
+
+-- of a write that may not have come to pass
+pub goes_if : (came : Bool) (old new : WriterState) (bs : List ℕ) → (IsTrue came → new.bytes ≡ old.bytes ++ bs) → (IsTrue came → RoomFalls old.room new.room old.bytes new.bytes)
+    → old.failures ≤ new.failures → KeepsKeys old.states new.states → (IsFalse came → new ≡ old) → GoesOn old new
+goes_if true old new bs grown room device keys same = goes_written old new bs (grown refl) (room refl) device keys
+goes_if false old new bs grown room device keys same = rw (same refl) (goes_nowhere old)
 
 -- nothing changed but states of keys
 pub goes_kept : (old new : WriterState) → KeepsBytes old new → KeepsKnown old.states new.states → GoesOn old new

@@ -4,7 +4,7 @@ use Rattle.std.specs.Prelude.{IfSome, IsSomeAnd, IsErrOf}
 use Rattle.std.proofs.lemmas.List.{append-nil, take-append-drop, length-replicate}
 use Rattle.std.proofs.lemmas.Bool.{cases_lt}
 use Rattle.std.proofs.lemmas.Slice.{take-put_mid}
-use Rattle.std.proofs.Math.Seq.{take-suc}
+use Rattle.std.proofs.Math.Seq.{take-suc, take-add}
 use borrow.Rule.Slice.PartMut.{put_mid}
 use Rattle.std.proofs.Math.Nat.{suc-mul, mul_assoc, mul-le-mul_right, add-mul, div-mul-le_self, le-div_iff_mul-le}
 use Rattle.archive_check.specs.Shape.{Shape, run}
@@ -72,6 +72,9 @@ pub record Copies {A : Type 0} (D : Definitions) (X : Shape) (size : ℕ) (m : A
   pub read : EachCopied D X size m b rest → EachCopied D X size m b all
   pub ends : length now.bytes + length rest * size ≡ length first.bytes + length all * size
 
+pub cut_at : {A : Type 0} (n : ℕ) (xs front back : List A) → front ≡ take n xs → back ≡ drop n xs → xs ≡ front ++ back
+cut_at n xs front back e f = sym (take-append-drop n xs) ∙ (λ j. sym e j ++ sym f j)
+
 each_bytes_both : {A : Type 0} (b : A → List ℕ) (xs ys : List A) → each_bytes b (xs ++ ys) ≡ each_bytes b xs ++ each_bytes b ys
 each_bytes_both b [] ys = refl
 each_bytes_both b (x ∷ xs) ys = ap (λ z. b x ++ z) (each_bytes_both b xs ys) ∙ sym (append_assoc (b x) (each_bytes b xs) (each_bytes b ys))
@@ -125,6 +128,49 @@ module _ {A : Type 0} (D : Definitions) (X : Shape) (size : ℕ) (m : A → Valu
     copies_read [] e h = h.read tt
     copies_read (x ∷ xs) e h = absurd (omega (arith, e))
 
+-- A loop that writes blocks: the bytes told are the old ones, and those of so many values.
+pub record FirstCopied {A : Type 0} (D : Definitions) (X : Shape) (size : ℕ) (m : A → Value) (b : A → List ℕ) (first now : WriterState) (all : List A) (n : ℕ) : Type 0 where
+  pub goes : GoesOn first now
+  pub states : KeepsKeys first.states now.states
+  pub bytes : now.bytes ≡ first.bytes ++ each_bytes b (take n all)
+  pub read : EachCopied D X size m b (take n all)
+
+module _ {A : Type 0} (D : Definitions) (X : Shape) (size : ℕ) (m : A → Value) (b : A → List ℕ) (first now : WriterState) (all : List A) where
+  pub first_none : (w : WriterState) → w ≡ first → FirstCopied D X size m b first w all 0
+  first_none w e = rw e (record { goes = goes_nowhere first; states = λ k. refl; bytes = sym (append-nil first.bytes); read = tt })
+
+  pub first_more : (next : WriterState) (n k : ℕ) (piece : List A) → piece ≡ take k (drop n all) → FirstCopied D X size m b first now all n → EachCopied D X size m b piece
+      → next.bytes ≡ now.bytes ++ each_bytes b piece → GoesOn now next → KeepsKeys now.states next.states → FirstCopied D X size m b first next all (n + k)
+  first_more next n k piece is h read grown g keys =
+      let both : take (n + k) all ≡ take n all ++ piece = take-add n k all ∙ ap (λ z. take n all ++ z) (sym is) in
+      record {
+        goes = goes_both first now next h.goes g;
+        states = λ j. keys j ∙ h.states j;
+        bytes = grown ∙ ap (λ z. z ++ each_bytes b piece) h.bytes ∙ append_assoc first.bytes (each_bytes b (take n all)) (each_bytes b piece)
+            ∙ ap (λ z. first.bytes ++ z) (sym (each_bytes_both b (take n all) piece) ∙ ap (each_bytes b) (sym both));
+        read = subst (λ z. EachCopied D X size m b z) (sym both) (copied_both D X size m b (take n all) piece h.read read);
+      }
+
+  -- and the others are left
+  pub left_behind : (n bytes : ℕ) (rest : List A) → rest ≡ drop n all → bytes ≡ size → EachCopied D X size m b (take n all) → now.bytes ≡ first.bytes ++ each_bytes b (take n all)
+      → GoesOn first now → KeepsKeys first.states now.states → Copies D X bytes m b first now all rest
+  left_behind n bytes rest is same read grown g keys = subst (λ k. Copies D X k m b first now all rest) (sym same)
+      (copies_step D X size m b first first all now all (take n all) rest (cut_at n all _ _ refl is) (copies_start D X size m b first first all first refl) read grown g keys)
+
+module _ {A R : Type 0} (D : Definitions) (X : Shape) (size : ℕ) (m : A → Value) (b : A → List ℕ) (first now new : WriterState) (all rest : List A) (h : Copies D X size m b first now all rest) where
+  pub left_written : (r : Result R Error) → OnOk r (new.bytes ≡ now.bytes ++ each_bytes b rest) → OnOk r (new.bytes ≡ first.bytes ++ each_bytes b all)
+  left_written (Ok u) k = k ∙ h.bytes
+  left_written (Err e) k = tt
+
+  pub left_read : (r : Result R Error) → OnOk r (EachCopied D X size m b rest) → OnOk r (EachCopied D X size m b all)
+  left_read (Ok u) k = h.read k
+  left_read (Err e) k = tt
+
+  pub left_unwritten : (r : Result R Error) (start here : ℕ) → start ≡ length first.bytes → here ≡ length now.bytes → GoesOn now new
+      → IfErr r (IsUnwritten (here + length rest * size) now new) → IfErr r (IsUnwritten (start + length all * size) first new)
+  left_unwritten (Ok u) start here begin at g k = tt
+  left_unwritten (Err e) start here begin at g k = explains_later _ _ _ _ first now new e h.goes g (λ y. y) (λ n y. omega (arith, y, begin, at, h.ends)) k
+
 -- a loop that copies values: a step at index i
 
 next_begin : (i size : ℕ) → (i + 1) * size ≡ i * size + size
@@ -162,9 +208,6 @@ module _ (room n count size together : ℕ) (some : 0 < size) (joined : 0 < toge
       let one : 1 ≤ room / (together * size) = (le-div_iff_mul-le {k = together * size} {x = 1} {y = room} whole_pos).1 (omega (arith, small)) in
       let many : 1 * together ≤ room / (together * size) * together = mul-le-mul_right together one in
       omega (arith, e, many, joined, more)
-
-pub cut_at : {A : Type 0} (n : ℕ) (xs front back : List A) → front ≡ take n xs → back ≡ drop n xs → xs ≡ front ++ back
-cut_at n xs front back e f = sym (take-append-drop n xs) ∙ (λ j. sym e j ++ sym f j)
 
 -- so many don't fit where they are said not to
 pub copies_too_large : (old new : WriterState) (p n size : ℕ) (fits : Bool) → (p + n * size < 2 ^ 64 → fits ≡ true) → fits ≡ false → IsCopyRefused (p + n * size) old new LayoutTooLarge

@@ -81,3 +81,25 @@ fn a_buffer_takes_what_fits(rt: HostRuntime) {
     assert_same(&rt, "one more", buffer.write(b"5"), overflow(1, 4));
     assert_same(&rt, "the bytes", buffer.as_slice(), b"1234");
 }
+
+// Whether two bytes, and then five, are written at once.
+fn write_both<W: Writer>(writer: &mut W) -> (bool, bool) {
+    let few = writer.write_at_once(b"12");
+    (few, writer.write_at_once(b"34567"))
+}
+
+#[test]
+fn what_fits_is_written_at_once(rt: HostRuntime) -> Result<(), Fail> {
+    let mut bytes = Vec::with_capacity(rt.alloc(), 4)?;
+    assert_same(&rt, "a vector", write_both(&mut bytes), (true, false));
+    assert_same(&rt, "its bytes", bytes.as_slice(), b"12");
+    let mut serializer = Serializer::new(&mut bytes, rt.alloc(), ());
+    let answers = write_both(&mut serializer);
+    assert_same(&rt, "a serializer over a vector", answers, (true, false));
+    assert_same(&rt, "the vector's bytes", bytes.as_slice(), b"1212");
+    let mut array = [0xcc; 4];
+    let mut buffer = Buffer::from(&mut array);
+    assert_same(&rt, "a buffer", write_both(&mut buffer), (true, false));
+    assert_same(&rt, "the buffer's bytes", buffer.as_slice(), b"12");
+    Ok(())
+}

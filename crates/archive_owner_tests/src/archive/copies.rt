@@ -122,9 +122,11 @@ fn archived<T: Serialize<HighSerializer<Vec<u8>, Global>>>(
     to_bytes(alloc, value)
 }
 
-// What is behind one byte, of numbers that are written as a slice or by an iterator.
+// What is behind one byte, of numbers that are written as a slice or by an iterator to a vector that has room for them.
 fn behind_one_byte(alloc: Global, numbers: &[u32], by_iter: bool) -> Result<Vec<u8>, Error> {
-    let mut serializer = Serializer::new(vec![in alloc; 0xaa]?, alloc, ());
+    let mut bytes = Vec::with_capacity(alloc, 32_768)?;
+    bytes.push(0xaa)?;
+    let mut serializer = Serializer::new(bytes, alloc, ());
     let written = if by_iter {
         let items = numbers.iter().copied();
         ArchivedVec::<ArchivedU32>::serialize_from_iter(items, &mut serializer)
@@ -151,7 +153,7 @@ fn assert_copied(rt: &impl Abort, alloc: Global, count: u32) -> Result<(), Error
 
 #[test]
 fn each_byte_is_copied(rt: HostRuntime) -> Result<(), Fail> {
-    for count in [0, 1, 255, 256, 257, 1000, 1024, 2050] {
+    for count in [0, 1, 255, 256, 257, 1000, 1024, 2050, 6200] {
         assert_copied(&rt, rt.alloc(), count)?;
     }
     Ok(())

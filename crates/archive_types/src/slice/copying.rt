@@ -1,6 +1,6 @@
 // Slices of values that are copied: their bytes are written a piece at a time.
 
-ghost use Rattle.std.specs.Prelude.{◌≡◌, ◌+◌, ◌*◌, ◌^◌, ◌++◌, ◌<◌, ◌≤◌, IfOk, OnOk, IfErr, IsOk, IsErrOf, IsTrue, length, None};
+ghost use Rattle.std.specs.Prelude.{◌≡◌, ◌+◌, ◌*◌, ◌^◌, ◌++◌, ◌<◌, ◌≤◌, IfOk, OnOk, IfErr, IsOk, IsErrOf, IsTrue, IsFalse, length, take, None};
 ghost use Rattle.archive_check.specs.WriterState.{KeepsKeys};
 ghost use Rattle.archive_types.specs.Copies.{each_bytes, copies_from};
 ghost use Rattle.archive_types.specs.KindsWritten.{OwnsNothingAs};
@@ -19,6 +19,11 @@ pub(crate) const PIECE: usize = 1024;
 
 /// As many bytes as values have whose buffer is cleared for them alone: one of `PIECE` bytes would take most of their time.
 const SHORT: usize = 64;
+
+/// As many bytes as are written at once, at most, where the writer has the room for them at hand; while there are enough, the second.
+const BLOCK: usize = 4096;
+
+const LARGE_BLOCK: usize = 16_384;
 
 // Writes the bytes of values, which take no more than `bytes`. Nothing is written where they have none.
 #[tactic(auto, using(crate::proofs::Causes::goes_written, crate::proofs::Causes::goes_refused, crate::proofs::Causes::goes_nowhere))]
@@ -90,6 +95,108 @@ fn copy_by<W: Writer, T: Copied, const N: usize>(
     Ok(())
 }
 
+// Writes the bytes of values, which take no more than `bytes`, where the writer has the room for them at hand.
+#[tactic(auto, using(crate::proofs::Causes::goes_if))]
+#[inline(always)]
+fn write_block<W: Writer, T: Copied>(values: &[T], bytes: &mut [u8], writer: &mut W) -> bool
+    requires sized { length bytes.old ≡ length values.now * T.CopiedAs.layout.size }
+    ensures copied { IsTrue result → BytesAdded (each_bytes T.copied_bytes values.now) W.Keys writer }
+    ensures read { AllCopied T.CopiedAs.Portable T.CopiedAs.layout.size T.copied_meaning T.copied_bytes values.now }
+    ensures goes_on { GoesOn (W.state writer.old) (W.state writer.new) }
+    ensures keys { KeepsKeys (W.state writer.old).states (W.state writer.new).states }
+    ensures untouched { IsFalse result → W.state writer.new ≡ W.state writer.old }
+{
+    T::copy_into(values, bytes);
+    writer.write_at_once(bytes)
+}
+
+// Writes blocks of whole pieces, `N` bytes at most, while the writer has the room at hand; answers how many values were written. It asks for the size itself,
+// so that a block has a length that is known when the program is compiled: then its filling and its writing become one copy of memory.
+#[inline(always)]
+fn copy_blocks<W: Writer, T: Copied, const N: usize>(values: &[T], writer: &mut W) -> usize
+    requires large { 1024 ≤ N }
+    requires few { N ≤ 16384 }
+    ensures within { result ≤ length values.now }
+    ensures copied { BytesAdded (each_bytes T.copied_bytes (take result values.now)) W.Keys writer }
+    ensures read { AllCopied T.CopiedAs.Portable T.CopiedAs.layout.size T.copied_meaning T.copied_bytes (take result values.now) }
+    ensures goes_on { GoesOn (W.state writer.old) (W.state writer.new) }
+    ensures keys { KeepsKeys (W.state writer.old).states (W.state writer.new).states }
+{
+    let size = T::copied_size();
+    let piece = count_at_once(size, 1, PIECE, PIECE);
+    let count = count_at_once(size, piece, N, N);
+    if values.len() < count {
+        return 0;
+    }
+    let mut block = [0; N];
+    let mut done = 0;
+    while count <= values.len() - done {
+        let next = &values[done..done + count];
+        if !write_block(next, &mut block[..count * size], writer) {
+            return done;
+        }
+        done += count;
+    }
+    done
+}
+
+// Writes as many of the values by blocks as the writer has the room for at hand; answers how many. It stands apart, so that its callers stay small.
+#[inline(never)]
+fn copy_at_once<W: Writer, T: Copied>(values: &[T], writer: &mut W) -> usize
+    ensures within { result ≤ length values.now }
+    ensures copied { BytesAdded (each_bytes T.copied_bytes (take result values.now)) W.Keys writer }
+    ensures read { AllCopied T.CopiedAs.Portable T.CopiedAs.layout.size T.copied_meaning T.copied_bytes (take result values.now) }
+    ensures goes_on { GoesOn (W.state writer.old) (W.state writer.new) }
+    ensures keys { KeepsKeys (W.state writer.old).states (W.state writer.new).states }
+{
+    let large = copy_blocks::<W, T, LARGE_BLOCK>(values, writer);
+    large + copy_blocks::<W, T, BLOCK>(&values[large..], writer)
+}
+
+// The same of values that may be written one by one, where they have as many bytes as a block; else nothing is written.
+#[inline(always)]
+fn copy_first<W: Writer, T: Copied>(
+    values: &[T],
+    size: usize,
+    together: usize,
+    writer: &mut W,
+) -> usize
+    requires counted { length values.now * size < 2 ^ 64 }
+    ensures within { result ≤ length values.now }
+    ensures copied { BytesAdded (each_bytes T.copied_bytes (take result values.now)) W.Keys writer }
+    ensures read { AllCopied T.CopiedAs.Portable T.CopiedAs.layout.size T.copied_meaning T.copied_bytes (take result values.now) }
+    ensures goes_on { GoesOn (W.state writer.old) (W.state writer.new) }
+    ensures keys { KeepsKeys (W.state writer.old).states (W.state writer.new).states }
+{
+    if together == 1 && BLOCK <= values.len() * size {
+        return copy_at_once(values, writer);
+    }
+    0
+}
+
+// Writes the bytes of values, which have so many each: the first by blocks where they may be, and what is left by pieces.
+#[inline(always)]
+fn copy_long<W: Writer, T: Copied>(
+    values: &[T],
+    size: usize,
+    together: usize,
+    writer: &mut W,
+) -> Result<(), Error>
+    requires same { size ≡ T.CopiedAs.layout.size }
+    requires joined { 0 < together }
+    requires small { together * size ≤ 1024 }
+    requires counted { length values.now * size < 2 ^ 64 }
+    ensures copied { OnOk result (BytesAdded (each_bytes T.copied_bytes values.now) W.Keys writer) }
+    ensures read { OnOk result (AllCopied T.CopiedAs.Portable size T.copied_meaning T.copied_bytes values.now) }
+    ensures refused { IfErr result (PiecesUnwritten W.position W.Keys writer (length values.now * size)) }
+    ensures memory { IsErrOf result Error.OutOfMemory → IsTrue W.takes_memory }
+    ensures goes_on { GoesOn (W.state writer.old) (W.state writer.new) }
+    ensures keys { KeepsKeys (W.state writer.old).states (W.state writer.new).states }
+{
+    let done = copy_first(values, size, together, writer);
+    copy_by::<W, T, PIECE>(&values[done..], size, together, writer)
+}
+
 // Writes the bytes of values, which have so many each, as many times `together` of them at once as fit 1,024 bytes.
 #[inline(always)]
 fn copy_pieces<W: Writer, T: Copied>(
@@ -112,7 +219,7 @@ fn copy_pieces<W: Writer, T: Copied>(
     if together * size <= SHORT && values.len() * size <= SHORT {
         return copy_by::<W, T, SHORT>(values, size, together, writer);
     }
-    copy_by::<W, T, PIECE>(values, size, together, writer)
+    copy_long(values, size, together, writer)
 }
 
 // Writes the bytes of values as the next region, where the writer stands at a multiple of their alignment.
@@ -169,11 +276,11 @@ fn copy_together<S: Writer + Keys, T: Copied>(
     copy_aligned(values, size, together, serializer)
 }
 
-/// Writes zeros up to the values' alignment, and then the bytes of all, one behind another, a piece of at most 1,024 bytes at a time; answers the region's
-/// position, in bytes from the first one. It asks nothing, and takes no memory of its own. Refused with `LayoutTooLarge`, 23, where the region would end
-/// above `usize::MAX`, or as the writer refuses (`OutOfMemory`, 1; `BufferOverflow`, 8; `WriterFailed`, 9), of a whole piece each time; so over a
-/// `Buffer` exactly where the bytes don't fit. After a refusal, too, the bytes from before are a beginning of those that `serializer` holds. rkyv
-/// 0.8.18 has it within `serialize_unsized` of a slice, and copies memory.
+/// Writes zeros up to the values' alignment, and then the bytes of all, one behind another, a piece of at most 1,024 bytes at a time, and several pieces at
+/// once where the writer has the room for them at hand; answers the region's position, in bytes from the first one. It asks nothing, and takes no memory of
+/// its own. Refused with `LayoutTooLarge`, 23, where the region would end above `usize::MAX`, or as the writer refuses (`OutOfMemory`, 1; `BufferOverflow`,
+/// 8; `WriterFailed`, 9), of a whole piece each time; so over a `Buffer` exactly where the bytes don't fit. After a refusal, too, the bytes from before are
+/// a beginning of those that `serializer` holds. rkyv 0.8.18 has it within `serialize_unsized` of a slice, and copies memory.
 #[inline(always)]
 pub fn copy_slice<S: Writer + Keys, T: Copied>(
     values: &[T],

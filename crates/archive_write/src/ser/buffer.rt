@@ -1,6 +1,6 @@
 //! A writer over bytes that are lent to it.
 
-ghost use Rattle.std.specs.Prelude.{◌≡◌, ◌+◌, ◌-◌, ◌≤◌, ◌++◌, ◌↔◌, length, take, drop, false, IsTrue, None, Some, OnOk, OnErr, IfErr, IsOk, IsErrOf};
+ghost use Rattle.std.specs.Prelude.{◌≡◌, ◌+◌, ◌-◌, ◌≤◌, ◌++◌, ◌↔◌, length, take, drop, false, IsTrue, IsFalse, None, Some, OnOk, OnErr, IfErr, IsOk, IsErrOf};
 ghost use Rattle.std.proofs.Common.{sym};
 ghost use Rattle.std.proofs.lemmas.List.{length-take-le};
 ghost use Rattle.archive_check.specs.WriterState.{KeepsKeys, no_keys};
@@ -78,17 +78,36 @@ impl<'a> Writer for Buffer<'a> {
         ensures beyond { drop self.new.len self.new.bytes.now ≡ drop self.new.len self.old.bytes.now }
         ensures same_reference { self.new.bytes.ghost_name ≡ self.old.bytes.ghost_name }
     {
-        let room = self.bytes.len() - self.len;
-        if bytes.len() > room {
+        if !self.write_at_once(bytes) {
             return Err(Error::BufferOverflow {
                 write_len: bytes.len(),
                 cap: self.bytes.len(),
                 len: self.len,
             });
         }
+        Ok(())
+    }
+
+    #[inline(always)]
+    fn write_at_once(&mut self, bytes: &[u8]) -> bool
+        ensures written { IsTrue result → HoldsMore self.old.len self.old.bytes.now self.new.len self.new.bytes.now bytes.now }
+        ensures room { IsTrue result → SpendsRest self.old.len self.old.bytes.now self.new.len self.new.bytes.now }
+        ensures device { 0 ≤ 0 }
+        ensures keys { KeepsKeys no_keys no_keys }
+        ensures untouched { IsFalse result → ⟦<Buffer<'a> as Keys>⟧.state self.new ≡ ⟦<Buffer<'a> as Keys>⟧.state self.old }
+        ensures unchanged { IsFalse result → (self.new.bytes.now ≡ self.old.bytes.now) × (self.new.len ≡ self.old.len) }
+        ensures fits { IsTrue result ↔ (self.old.len + length bytes.now ≤ length self.old.bytes.now) }
+        ensures beyond { drop self.new.len self.new.bytes.now ≡ drop self.new.len self.old.bytes.now }
+        ensures same_length { length self.new.bytes.now ≡ length self.old.bytes.now }
+        ensures same_reference { self.new.bytes.ghost_name ≡ self.old.bytes.ghost_name }
+    {
+        let room = self.bytes.len() - self.len;
+        if bytes.len() > room {
+            return false;
+        }
         let end = self.len + bytes.len();
         self.bytes[self.len..end].copy_from_slice(bytes);
         self.len = end;
-        Ok(())
+        true
     }
 }

@@ -104,4 +104,9 @@ impl<W: Writer, A, S: Keys> Writer for Serializer<W, A, S> {
     fn write(&mut self, bytes: &[u8]) -> Result<(), Error> {
         self.writer.write(bytes)
     }
+
+    #[inline(always)]
+    fn write_at_once(&mut self, bytes: &[u8]) -> bool {
+        self.writer.write_at_once(bytes)
+    }
 }

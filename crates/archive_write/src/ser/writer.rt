@@ -1,6 +1,6 @@
 //! Writers.
 
-ghost use Rattle.std.specs.Prelude.{◌≡◌, ◌++◌, ◌≤◌, ℕ, Bool, true, IsTrue, None, length, OnOk, OnErr, IfErr, IsErrOf, refl};
+ghost use Rattle.std.specs.Prelude.{◌≡◌, ◌++◌, ◌≤◌, ℕ, Bool, true, IsTrue, IsFalse, None, length, OnOk, OnErr, IfErr, IsErrOf, refl};
 ghost use Rattle.archive_check.specs.WriterState.{KeepsKeys, no_keys};
 ghost use Rattle.archive_write.specs.Written.{IsBeginning, RoomFalls, ExplainsRefusal};
 ghost use Rattle.archive_write.specs.Writes.{SpendsRoom, ExplainsWrite};
@@ -36,6 +36,19 @@ pub trait Writer: Positional + Keys {
         ensures keys { KeepsKeys (Self.state self.old).states (Self.state self.new).states }
         ensures memory { IsErrOf result Error.OutOfMemory → IsTrue takes_memory };
 
+    /// Appends `bytes` where the room for them is at hand, so that no memory is asked for and nothing can refuse; else changes nothing and answers false.
+    /// So it answers by default: who then writes, writes as ever. It asks nothing. Our own.
+    #[inline(always)]
+    fn write_at_once(&mut self, bytes: &[u8]) -> bool
+        ensures written { IsTrue result → (Self.state self.new).bytes ≡ (Self.state self.old).bytes ++ bytes.now }
+        ensures room { IsTrue result → SpendsRoom Self.state self }
+        ensures device { (Self.state self.old).failures ≤ (Self.state self.new).failures }
+        ensures keys { KeepsKeys (Self.state self.old).states (Self.state self.new).states }
+        ensures untouched { IsFalse result → Self.state self.new ≡ Self.state self.old }
+    {
+        false
+    }
+
     // It stands behind the bytes that it tells.
     ghost position_law: { (w : Self) → Self.position w ≡ length (Self.state w).bytes };
 }
@@ -70,6 +83,11 @@ impl<W: Writer> Writer for &mut W {
     fn write(&mut self, bytes: &[u8]) -> Result<(), Error> {
         W::write(&mut **self, bytes)
     }
+
+    #[inline(always)]
+    fn write_at_once(&mut self, bytes: &[u8]) -> bool {
+        W::write_at_once(&mut **self, bytes)
+    }
 }
 
 impl<A: Allocator> Positional for Vec<u8, A> {
@@ -100,5 +118,13 @@ impl<A: Allocator> Writer for Vec<u8, A> {
         ensures out_of_memory { IfErr result (λ e. e ≡ Error.OutOfMemory) }
     {
         Ok(self.extend_from_slice(bytes)?)
+    }
+
+    #[inline(always)]
+    fn write_at_once(&mut self, bytes: &[u8]) -> bool {
+        if self.capacity() - self.pos() < bytes.len() {
+            return false;
+        }
+        self.extend_from_slice(bytes).is_ok()
     }
 }
