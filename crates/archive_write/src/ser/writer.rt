@@ -7,6 +7,7 @@ ghost use Rattle.archive_write.specs.Writes.{SpendsRoom, ExplainsWrite};
 
 use archive_check::format::error::Error;
 use archive_check::format::traits::Keys;
+use core::mem::replace_with;
 use std::alloc::Allocator;
 
 /// What stands at a position. As in rkyv 0.8.18.
@@ -99,6 +100,20 @@ impl<A: Allocator> Positional for Vec<u8, A> {
     }
 }
 
+// The list, with the bytes behind it where it has the room for them, and whether it had. It isn't in its place meanwhile, so that nothing is written between
+// the filling of a local array and its appending.
+#[inline(always)]
+fn with_bytes<A: Allocator>(mut list: Vec<u8, A>, bytes: &[u8]) -> (Vec<u8, A>, bool)
+    ensures written { IsTrue result.1 → result.0.items ≡ list.items ++ bytes.now }
+    ensures untouched { IsFalse result.1 → result.0.items ≡ list.items }
+{
+    if list.capacity() - list.len() < bytes.len() {
+        return (list, false);
+    }
+    let written = list.extend_from_slice(bytes).is_ok();
+    (list, written)
+}
+
 /// A vector has no limit but memory: refused with `OutOfMemory`, 1, alone, and then unchanged.
 impl<A: Allocator> Writer for Vec<u8, A> {
     ghost takes_memory = { true };
@@ -122,9 +137,6 @@ impl<A: Allocator> Writer for Vec<u8, A> {
 
     #[inline(always)]
     fn write_at_once(&mut self, bytes: &[u8]) -> bool {
-        if self.capacity() - self.pos() < bytes.len() {
-            return false;
-        }
-        self.extend_from_slice(bytes).is_ok()
+        replace_with(self, bytes, with_bytes)
     }
 }
