@@ -32,7 +32,7 @@ pub enum Error {
     },
     /// 9: the writer's device failed.
     WriterFailed,
-    /// 10: an item of a sequence of unknown length wrote bytes of its own. No call answers it yet.
+    /// 10: an item of a sequence of unknown length wrote bytes of its own (`serialize_from_unknown_length_iter`).
     ItemWrote,
     /// 11: a shared value is written that is being written already.
     CyclicSerialize,
