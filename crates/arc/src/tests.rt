@@ -9,8 +9,6 @@ use std::test::Fail;
 
 mod all_values;
 mod nodes;
-mod readme;
-mod records;
 mod shared;
 
 fn words_of(alloc: Global, command: &str) -> Result<Vec<String>, AllocError> {

@@ -1,0 +1,11 @@
+//! Tests of the types of own_types, through public calls.
+#![tactic(auto)]
+
+#[cfg(test)]
+mod assertions;
+#[cfg(test)]
+mod nodes;
+#[cfg(test)]
+mod readme;
+#[cfg(test)]
+mod records;
