@@ -3,7 +3,7 @@
 ghost use Rattle.std.specs.Prelude.{◌≡◌, ◌+◌, ◌*◌, ◌^◌, ◌++◌, ◌<◌, ◌≤◌, IfOk, OnOk, IfErr, IsOk, IsErrOf, IsTrue, IsFalse, length, take, None};
 ghost use Rattle.archive_check.specs.WriterState.{KeepsKeys};
 ghost use Rattle.archive_types.specs.Copies.{each_bytes, copies_from};
-ghost use Rattle.archive_types.specs.KindsWritten.{OwnsNothingAs};
+ghost use Rattle.archive_types.specs.KindsWritten.{OwnsNothingAs, EachCopiedAs};
 ghost use Rattle.archive_types.specs.Sources.{CopiesStored, CopiesStoredIf, CopiesUnstored, CopiesInBulkIf, CopiesNotInBulk};
 ghost use Rattle.archive_write.specs.Written.{GoesOn};
 ghost use Rattle.archive_types.specs.CopiesWritten.{AllCopied, PiecesUnwritten, CopyRefused, CopiesRefused, Takes, AddedAligned};
@@ -35,7 +35,7 @@ fn write_piece<W: Writer, T: Copied>(
 ) -> Result<(), Error>
     requires sized { length bytes.old ≡ length values.now * T.CopiedAs.layout.size }
     ensures copied { OnOk result (BytesAdded (each_bytes T.copied_bytes values.now) W.Keys writer) }
-    ensures read { AllCopied T.CopiedAs.Portable T.CopiedAs.layout.size T.copied_meaning T.copied_bytes values.now }
+    ensures read { EachCopiedAs T.CopiedAs.Portable T.copied_meaning T.copied_bytes values.now }
     ensures goes_on { GoesOn (W.state writer.old) (W.state writer.new) }
     ensures refused { IfErr result (WriteRefused (length values.now * T.CopiedAs.layout.size) W.position W.Keys writer) }
     ensures memory { IsErrOf result Error.OutOfMemory → IsTrue W.takes_memory }
@@ -101,7 +101,7 @@ fn copy_by<W: Writer, T: Copied, const N: usize>(
 fn write_block<W: Writer, T: Copied>(values: &[T], bytes: &mut [u8], writer: &mut W) -> bool
     requires sized { length bytes.old ≡ length values.now * T.CopiedAs.layout.size }
     ensures copied { IsTrue result → BytesAdded (each_bytes T.copied_bytes values.now) W.Keys writer }
-    ensures read { AllCopied T.CopiedAs.Portable T.CopiedAs.layout.size T.copied_meaning T.copied_bytes values.now }
+    ensures read { EachCopiedAs T.CopiedAs.Portable T.copied_meaning T.copied_bytes values.now }
     ensures goes_on { GoesOn (W.state writer.old) (W.state writer.new) }
     ensures keys { KeepsKeys (W.state writer.old).states (W.state writer.new).states }
     ensures untouched { IsFalse result → W.state writer.new ≡ W.state writer.old }
@@ -118,7 +118,7 @@ fn copy_blocks<W: Writer, T: Copied, const N: usize>(values: &[T], writer: &mut 
     requires few { N ≤ 16384 }
     ensures within { result ≤ length values.now }
     ensures copied { BytesAdded (each_bytes T.copied_bytes (take result values.now)) W.Keys writer }
-    ensures read { AllCopied T.CopiedAs.Portable T.CopiedAs.layout.size T.copied_meaning T.copied_bytes (take result values.now) }
+    ensures read { EachCopiedAs T.CopiedAs.Portable T.copied_meaning T.copied_bytes (take result values.now) }
     ensures goes_on { GoesOn (W.state writer.old) (W.state writer.new) }
     ensures keys { KeepsKeys (W.state writer.old).states (W.state writer.new).states }
 {
@@ -145,7 +145,7 @@ fn copy_blocks<W: Writer, T: Copied, const N: usize>(values: &[T], writer: &mut 
 fn copy_at_once<W: Writer, T: Copied>(values: &[T], writer: &mut W) -> usize
     ensures within { result ≤ length values.now }
     ensures copied { BytesAdded (each_bytes T.copied_bytes (take result values.now)) W.Keys writer }
-    ensures read { AllCopied T.CopiedAs.Portable T.CopiedAs.layout.size T.copied_meaning T.copied_bytes (take result values.now) }
+    ensures read { EachCopiedAs T.CopiedAs.Portable T.copied_meaning T.copied_bytes (take result values.now) }
     ensures goes_on { GoesOn (W.state writer.old) (W.state writer.new) }
     ensures keys { KeepsKeys (W.state writer.old).states (W.state writer.new).states }
 {
@@ -164,7 +164,7 @@ fn copy_first<W: Writer, T: Copied>(
     requires counted { length values.now * size < 2 ^ 64 }
     ensures within { result ≤ length values.now }
     ensures copied { BytesAdded (each_bytes T.copied_bytes (take result values.now)) W.Keys writer }
-    ensures read { AllCopied T.CopiedAs.Portable T.CopiedAs.layout.size T.copied_meaning T.copied_bytes (take result values.now) }
+    ensures read { EachCopiedAs T.CopiedAs.Portable T.copied_meaning T.copied_bytes (take result values.now) }
     ensures goes_on { GoesOn (W.state writer.old) (W.state writer.new) }
     ensures keys { KeepsKeys (W.state writer.old).states (W.state writer.new).states }
 {
