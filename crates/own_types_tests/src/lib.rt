@@ -4,6 +4,8 @@
 #[cfg(test)]
 mod assertions;
 #[cfg(test)]
+mod lengths;
+#[cfg(test)]
 mod nodes;
 #[cfg(test)]
 mod readme;

@@ -1,100 +1,17 @@
-// Slices of numbers, and of what an own type says to be copied, are written in bulk.
+// Slices of numbers are written in bulk.
 
-ghost use Rattle.std.specs.Prelude.{◌≡◌, ⊤, refl, [], pos, length, OnOk, IfErr};
-ghost use Rattle.std.specs.Int.{w32};
-ghost use Rattle.archive_check.specs.Definitions.{no_definition};
-ghost use Rattle.archive_check.specs.LittleEndian.{little_bytes};
-ghost use Rattle.archive_check.specs.Shape.{leaf, number as number_kind, unsigned};
-ghost use Rattle.archive_check.specs.Value.{number};
-ghost use Rattle.archive_types.specs.Keyed.{number_keyed};
-ghost use Rattle.archive_types.specs.Planned.{leaf_planned};
-ghost use Rattle.archive_types.specs.KindsWritten.{LeafResolved, LeafHindered};
-ghost use Rattle.archive_types.specs.Writing.{ZeroedPlace};
-
-use crate::assertions::{assert_holds, assert_read, assert_same, assert_written};
+use crate::assertions::{assert_holds, assert_read, assert_same};
 use archive_core::api::{HighSerializer, to_bytes};
 use archive_core::error::Error;
-use archive_core::place::Place;
 use archive_core::primitive::{ArchivedNonZeroU16, ArchivedU32};
 use archive_core::ser::{Buffer, Serializer, Writer};
-use archive_core::slice::{Slice, copy_groups, copy_slice};
-use archive_core::traits::{Archive, Copied, CopyOptimization, Keys, Serialize, SerializeUnsized};
+use archive_core::slice::{Slice, copy_slice};
+use archive_core::traits::{Archive, Copied, CopyOptimization, Serialize, SerializeUnsized};
 use archive_core::vec::ArchivedVec;
 use std::alloc::{AllocError, Global};
 use std::marker::PhantomData;
 use std::process::Abort;
 use std::test::Fail;
-
-// A length in metres: an own type, which is copied as its number is.
-#[derive(Clone, Copy, Drop)]
-struct Metres {
-    number: u32,
-}
-
-impl Archive for Metres {
-    type Archived = ArchivedU32;
-
-    type Resolver = ();
-
-    ghost meaning = { λ m. number (pos m.number) };
-
-    ghost flat = { λ m _. number (pos m.number) };
-
-    ghost keys = { λ _. [] };
-
-    ghost belongs = { λ _ _. ⊤ };
-
-    ghost keyed = { λ m. number_keyed (pos m.number) };
-
-    ghost planned = { λ m. leaf_planned no_definition (leaf (number_kind unsigned w32)) (number_kind unsigned w32) [] (pos m.number) refl };
-
-    fn resolve(&self, _resolver: (), place: Place<'_, ArchivedU32>) -> Result<(), Error>
-        requires zeroed { ZeroedPlace 4 place.pos place.bytes.now }
-        requires same_value { ⊤ }
-        ensures resolved { OnOk result (LeafResolved (number_kind unsigned w32) place (pos self.now.number)) }
-        ensures same_length { length place.exit.0.now ≡ length place.entry.bytes.now }
-        ensures refused { IfErr result (LeafHindered (number_kind unsigned w32) place (pos self.now.number)) }
-    {
-        let Place { bytes, pos, .. } = place;
-        self.number.resolve((), Place::new(pos, bytes))
-    }
-
-    fn copy_optimization() -> CopyOptimization<Metres> {
-        CopyOptimization::enable()
-    }
-
-    fn serialize_copied<S: Writer + Keys>(
-        values: &[Metres],
-        together: usize,
-        serializer: &mut S,
-    ) -> Result<Option<usize>, Error> {
-        copy_groups(values, together, serializer)
-    }
-}
-
-impl Copied for Metres {
-    type CopiedAs = ArchivedU32;
-
-    ghost copied_keys = { λ _. [] };
-
-    ghost copied_meaning = { λ m. number (pos m.number) };
-
-    ghost copied_bytes = { λ m. little_bytes 4 m.number };
-
-    fn copied_size() -> usize {
-        4
-    }
-
-    fn copy_one(&self, bytes: &mut [u8]) {
-        self.number.copy_one(bytes);
-    }
-}
-
-impl<S: Writer + Keys> Serialize<S> for Metres {
-    fn serialize(&self, serializer: &mut S) -> Result<(), Error> {
-        self.number.serialize(serializer)
-    }
-}
 
 // So many numbers, each with four bytes that tell them apart.
 fn numbers(alloc: Global, count: u32) -> Result<Vec<u32>, AllocError> {
@@ -260,17 +177,6 @@ fn an_array_is_copied_whole(rt: HostRuntime) {
     };
     let found = refusal_of_arrays(rt.alloc(), &[[7; 3]; 300], &mut buffer);
     assert_same(&rt, "too many", found, Some(refusal));
-}
-
-#[test]
-fn an_own_type_is_copied(rt: HostRuntime) -> Result<(), Fail> {
-    let lengths = vec![in rt.alloc(); Metres { number: 7 }, Metres { number: 256 }]?;
-    assert_holds(&rt, "metres", is_copied::<Metres>());
-    let archive = b"\x07\0\0\0\0\x01\0\0\xf8\xff\xff\xff\x02\0\0\0";
-    assert_written(&rt, rt.alloc(), &lengths, archive)?;
-    let numbers = vec![in rt.alloc(); 7u32, 256]?;
-    assert_read(&rt, rt.alloc(), archive, &numbers)?;
-    Ok(())
 }
 
 #[test]

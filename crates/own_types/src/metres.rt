@@ -1,0 +1,90 @@
+//! A length in metres: an own type, of which slices are written in bulk.
+
+ghost use Rattle.std.specs.Prelude.{◌≡◌, ⊤, refl, [], pos, length, OnOk, IfErr};
+ghost use Rattle.std.specs.Int.{w32};
+ghost use Rattle.archive_check.specs.Definitions.{no_definition};
+ghost use Rattle.archive_check.specs.LittleEndian.{little_bytes};
+ghost use Rattle.archive_check.specs.Shape.{leaf, number as number_kind, unsigned};
+ghost use Rattle.archive_check.specs.Value.{number};
+ghost use Rattle.archive_types.specs.Keyed.{number_keyed};
+ghost use Rattle.archive_types.specs.Planned.{leaf_planned};
+ghost use Rattle.archive_types.specs.KindsWritten.{LeafResolved, LeafHindered};
+ghost use Rattle.archive_types.specs.Writing.{ZeroedPlace};
+
+use archive_core::error::Error;
+use archive_core::place::Place;
+use archive_core::primitive::ArchivedU32;
+use archive_core::ser::Writer;
+use archive_core::slice::copy_groups;
+use archive_core::traits::{Archive, Copied, CopyOptimization, Keys, Serialize};
+
+/// A length in metres. It is archived as its number is, and read back as that.
+#[derive(Clone, Copy, Drop)]
+pub struct Metres {
+    pub number: u32,
+}
+
+impl Archive for Metres {
+    type Archived = ArchivedU32;
+
+    type Resolver = ();
+
+    ghost meaning = { λ m. number (pos m.number) };
+
+    ghost flat = { λ m _. number (pos m.number) };
+
+    ghost keys = { λ _. [] };
+
+    ghost belongs = { λ _ _. ⊤ };
+
+    ghost keyed = { λ m. number_keyed (pos m.number) };
+
+    ghost planned = { λ m. leaf_planned no_definition (leaf (number_kind unsigned w32)) (number_kind unsigned w32) [] (pos m.number) refl };
+
+    fn resolve(&self, _resolver: (), place: Place<'_, ArchivedU32>) -> Result<(), Error>
+        requires zeroed { ZeroedPlace 4 place.pos place.bytes.now }
+        requires same_value { ⊤ }
+        ensures resolved { OnOk result (LeafResolved (number_kind unsigned w32) place (pos self.now.number)) }
+        ensures same_length { length place.exit.0.now ≡ length place.entry.bytes.now }
+        ensures refused { IfErr result (LeafHindered (number_kind unsigned w32) place (pos self.now.number)) }
+    {
+        let Place { bytes, pos, .. } = place;
+        self.number.resolve((), Place::new(pos, bytes))
+    }
+
+    fn copy_optimization() -> CopyOptimization<Metres> {
+        CopyOptimization::enable()
+    }
+
+    fn serialize_copied<S: Writer + Keys>(
+        values: &[Metres],
+        together: usize,
+        serializer: &mut S,
+    ) -> Result<Option<usize>, Error> {
+        copy_groups(values, together, serializer)
+    }
+}
+
+impl Copied for Metres {
+    type CopiedAs = ArchivedU32;
+
+    ghost copied_keys = { λ _. [] };
+
+    ghost copied_meaning = { λ m. number (pos m.number) };
+
+    ghost copied_bytes = { λ m. little_bytes 4 m.number };
+
+    fn copied_size() -> usize {
+        4
+    }
+
+    fn copy_one(&self, bytes: &mut [u8]) {
+        self.number.copy_one(bytes);
+    }
+}
+
+impl<S: Writer + Keys> Serialize<S> for Metres {
+    fn serialize(&self, serializer: &mut S) -> Result<(), Error> {
+        self.number.serialize(serializer)
+    }
+}
