@@ -30,16 +30,16 @@ AreKnown shared_types kept = (position : ℤ) → ForSome (kept position) (λ k.
 abbrev pub IsType : SharedType → Flavor → Pointee → Type 0
 IsType shared_type flavor pointee = (flavor_of shared_type.flavor ≡ flavor) × (pointee_of shared_type.pointee ≡ pointee)
 
--- the type at a place of a list
-pub record HasType (shared_types : List SharedType) (place : ℕ) (flavor : Flavor) (pointee : Pointee) : Type 0 where
+-- the type at an index of a list
+pub record HasType (shared_types : List SharedType) (index : ℕ) (flavor : Flavor) (pointee : Pointee) : Type 0 where
   pub type_there : SharedType
-  pub at : slice_get shared_types place ≡ Some type_there
+  pub at : slice_get shared_types index ≡ Some type_there
   pub flavor_is : flavor_of type_there.flavor ≡ flavor
   pub pointee_is : pointee_of type_there.pointee ≡ pointee
 
--- no place of a list has the type
+-- no index of a list has the type
 abbrev pub IsAbsent : List SharedType → Flavor → Pointee → Type 0
-IsAbsent shared_types flavor pointee = (place : ℕ) → HasType shared_types place flavor pointee → ⊥
+IsAbsent shared_types flavor pointee = (index : ℕ) → HasType shared_types index flavor pointee → ⊥
 
 -- a list stays, or it didn't have the type
 abbrev pub IsAddedOnce : List SharedType → List SharedType → Flavor → Pointee → Type 0

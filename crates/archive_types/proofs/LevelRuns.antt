@@ -1,4 +1,4 @@
--- Elements that stand in the same bytes are passed together.
+-- Elements that stand in the same bytes are skipped together.
 use Rattle.std.proofs.Common.{◌≡◌, Bool, true, false, ℕ, zero, suc, ◌+◌, ◌-◌, ◌*◌, ◌<◌, ◌≤◌, List, take, drop, min, arith, refl, sym, ap, ◌∙◌}
 use Rattle.std.proofs.lemmas.List.{take-take, drop-take, drop-drop}
 use Rattle.std.proofs.Math.Nat.{mul-le-mul_right}
@@ -34,10 +34,10 @@ same_later : (a : List ℕ) (x : ℕ) (b : List ℕ) (y m n : ℕ) → AreSameBy
 same_later a x b y m n e = sym (later_bytes a x m n) ∙ ap (drop m) e ∙ later_bytes b y m n
 
 module _ (R : Standing → Standing → Ordering) (a : List ℕ) (p z : ℕ) (b : List ℕ) (q : ℕ) (some : 0 < z) (level : AreLevelBy z R) where
-  -- k elements in the same bytes are passed
-  pub passed : (i k n m : ℕ) → i + k ≤ n → i + k ≤ m → AreSameBytes (k * z) a (p + i * z) b (q + i * z) → rest R a p z b q i n m ≡ rest R a p z b q (i + k) n m
-  passed i zero n m f g e = let none : i + 0 ≡ i = omega arith in rw none refl
-  passed i (suc k) n m f g e =
+  -- k elements in the same bytes are skipped
+  pub skipped : (i k n m : ℕ) → i + k ≤ n → i + k ≤ m → AreSameBytes (k * z) a (p + i * z) b (q + i * z) → rest R a p z b q i n m ≡ rest R a p z b q (i + k) n m
+  skipped i zero n m f g e = let none : i + 0 ≡ i = omega arith in rw none refl
+  skipped i (suc k) n m f g e =
       let parts : suc k * z ≡ z + k * z = omega arith in
       let same : AreSameBytes (z + k * z) a (p + i * z) b (q + i * z) = rw parts at e in
       let here : p + i * z + z ≡ p + (i + 1) * z = omega arith in
@@ -47,7 +47,7 @@ module _ (R : Standing → Standing → Ordering) (a : List ℕ) (p z : ℕ) (b 
       let next : i + 1 + k ≡ i + suc k = omega arith in
       rest_first R a p z b q i n m (omega (arith, f)) (omega (arith, g))
       ∙ ap (λ o. ordering_then o (rest R a p z b q (i + 1) n m)) none
-      ∙ passed (i + 1) k n m (omega (arith, f)) (omega (arith, g)) later
+      ∙ skipped (i + 1) k n m (omega (arith, f)) (omega (arith, g)) later
       ∙ ap (λ j. rest R a p z b q j n m) next
 
 module _ (q n z len i k : ℕ) (fits : q + n * z ≤ len) (some : i + k ≤ n) where

@@ -49,7 +49,7 @@ pub trait Ordered: ArchivePointee {
     // How many bytes settle that two parts are level: 0 where none do.
     ghost settling: { ℕ };
 
-    /// How many bytes of a part, the same in another one, settle that the two are equal; 0 where none do. So runs of them are passed by their bytes.
+    /// How many bytes of a part, the same in another one, settle that the two are equal; 0 where none do. So runs of them are skipped by their bytes.
     fn settling_bytes() -> usize
         ensures { result ≡ settling };
 

@@ -91,22 +91,22 @@ has_pushed shared_types new k f p P grown h s =
     let here : slice_get (shared_types ++ shared_type ∷ []) k ≡ Some shared_type = ap (slice_get (shared_types ++ shared_type ∷ [])) h ∙ slice_get-last shared_types shared_type in
     record { type_there = shared_type; at = ap (λ xs. slice_get xs k) grown ∙ here; flavor_is = refl; pointee_is = s }
 
--- no place before n has the type
+-- no index before n has the type
 abbrev pub NoneBefore : List SharedType → Flavor → Pointee → ℕ → Type 0
-NoneBefore shared_types flavor pointee n = (place : ℕ) → place < n → HasType shared_types place flavor pointee → ⊥
+NoneBefore shared_types flavor pointee n = (index : ℕ) → index < n → HasType shared_types index flavor pointee → ⊥
 
 pub none_next : (shared_types : List SharedType) (flavor : Flavor) (pointee : Pointee) (n : ℕ) (x : SharedType) → NoneBefore shared_types flavor pointee n → n < length shared_types → x ≡ get_or shared_types n x
     → (flavor_of x.flavor ≡ flavor → pointee_of x.pointee ≡ pointee → ⊥) → NoneBefore shared_types flavor pointee (n + 1)
-none_next shared_types flavor pointee n x before below is other place lt has = ⊎_elim
-    (λ less. before place less has)
+none_next shared_types flavor pointee n x before below is other index lt has = ⊎_elim
+    (λ less. before index less has)
     (λ last.
-    let here : slice_get shared_types place ≡ Some x = ap (slice_get shared_types) (omega (arith, last, lt)) ∙ slice_get_read shared_types (length shared_types) n x refl below is in
+    let here : slice_get shared_types index ≡ Some x = ap (slice_get shared_types) (omega (arith, last, lt)) ∙ slice_get_read shared_types (length shared_types) n x refl below is in
     let same : has.type_there ≡ x = cc (sym has.at ∙ here) in
     other (ap (λ (s : SharedType). flavor_of s.flavor) (sym same) ∙ has.flavor_is) (ap (λ (s : SharedType). pointee_of s.pointee) (sym same) ∙ has.pointee_is))
-    (cases_lt place n)
+    (cases_lt index n)
 
 pub none_absent : (shared_types : List SharedType) (flavor : Flavor) (pointee : Pointee) (n : ℕ) → NoneBefore shared_types flavor pointee n → length shared_types ≤ n → IsAbsent shared_types flavor pointee
-none_absent shared_types flavor pointee n before end place has = before place (omega (arith, end, slice_get_within shared_types place has.type_there has.at)) has
+none_absent shared_types flavor pointee n before end index has = before index (omega (arith, end, slice_get_within shared_types index has.type_there has.at)) has
 
 -- the types' list grows, and a position is entered
 pub AreKnown-grown : (old new : List SharedType) (f : ℤ → Option SharedPosition) → AreKnown old f → IsGrown old new → AreKnown new f

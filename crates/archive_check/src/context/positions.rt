@@ -27,7 +27,7 @@ pub struct SharedType {
     pub pointee: Pointee,
 }
 
-/// What is kept of a shared position: its type, by its place in the list of types, its length, and whether it is finished.
+/// What is kept of a shared position: its type, by its index in the list of types, its length, and whether it is finished.
 #[derive(Clone, Copy)]
 pub(crate) struct SharedPosition {
     shared_type: usize,
@@ -107,7 +107,7 @@ impl SharedPosition {
 
 type Positions<A> = HashMap<i128, SharedPosition, BuildHasherDefault<FoldHasher>, A>;
 
-/// The shared positions that a check came to. Each type is kept once, and a position keeps its type's place. rkyv 0.8.18 keeps a type's number, and
+/// The shared positions that a check came to. Each type is kept once, and a position keeps its type's index. rkyv 0.8.18 keeps a type's number, and
 /// what is known of a position by its address.
 #[derive(Drop)]
 pub struct SharedValidator<A: Allocator = Global> {
@@ -278,15 +278,15 @@ fn type_index<A: Allocator>(
     ensures once { IsAddedOnce shared_types.old.items shared_types.new.items (flavor_of flavor.now)
         (pointee_of pointee.now) }
 {
-    for (place, shared_type) in shared_types.iter().enumerate() {
+    for (index, shared_type) in shared_types.iter().enumerate() {
         if is_of(shared_type, flavor, pointee) {
-            return Ok(place);
+            return Ok(index);
         }
     }
-    let place = shared_types.len();
+    let index = shared_types.len();
     shared_types.push(SharedType {
         flavor: *flavor,
         pointee: pointee.clone()?,
     })?;
-    Ok(place)
+    Ok(index)
 }

@@ -14,7 +14,7 @@ pub(crate) struct FinishedPosition {
     pub(crate) kept: SharedPosition,
 }
 
-/// Finished positions as they come, and hints: at a place that follows from a position, which of them it may be. A hint may be wrong, so what it leads
+/// Finished positions as they come, and hints: at an index that follows from a position, which of them it may be. A hint may be wrong, so what it leads
 /// to is compared with the position.
 #[derive(Drop)]
 pub(crate) struct FinishedPositions<A: Allocator> {
@@ -24,7 +24,7 @@ pub(crate) struct FinishedPositions<A: Allocator> {
 
 // Where the hint to a position stands among so many, a power of two.
 #[inline(always)]
-fn hint_place(position: usize, count: usize) -> usize {
+fn hint_index(position: usize, count: usize) -> usize {
     let product = position.wrapping_mul(0x9e37_79b9_7f4a_7c15);
     (product ^ (product >> 32)) & count.wrapping_sub(1)
 }
@@ -64,11 +64,11 @@ impl<A: Allocator + Copy> FinishedPositions<A> {
         let Ok(position) = usize::try_from(position) else {
             return None;
         };
-        let place = match self.hints.get(hint_place(position, self.hints.len())) {
+        let index = match self.hints.get(hint_index(position, self.hints.len())) {
             Some(hint) => *hint as usize,
             None => 0,
         };
-        match self.list.get(place) {
+        match self.list.get(index) {
             Some(known) if known.position == position => Some(&known.kept),
             _ => None,
         }
@@ -90,16 +90,16 @@ impl<A: Allocator + Copy> FinishedPositions<A> {
         let Ok(position) = usize::try_from(position) else {
             return;
         };
-        let place = self.list.len();
-        let Ok(hint) = u32::try_from(place) else {
+        let index = self.list.len();
+        let Ok(hint) = u32::try_from(index) else {
             return;
         };
-        if place < self.list.capacity() {
+        if index < self.list.capacity() {
             self.list.push_reserved(FinishedPosition {
                 position,
                 kept: now,
             });
-            let at = hint_place(position, self.hints.len());
+            let at = hint_index(position, self.hints.len());
             if at < self.hints.len() {
                 self.hints[at] = hint;
             }

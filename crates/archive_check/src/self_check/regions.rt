@@ -12,7 +12,7 @@ use crate::format::layout::Layout;
 use std::ops::Range;
 
 // The position as an index.
-fn place(position: i128) -> usize
+fn index_of(position: i128) -> usize
     requires { (t : ℕ) × (position ≡ pos t) × (t < 18446744073709551616) }
     ensures { position ≡ pos result }
 {
@@ -96,7 +96,7 @@ pub fn enter<C: ArchiveContext>(
         refuse_region(position, &layout, refusal, context);
         return None;
     }
-    let begin = place(position);
+    let begin = index_of(position);
     let Ok(Range { start, end }) = context.push_subtree_range(begin, begin + size) else {
         return refuse(refusal, Error::ExceededMaximumSubtreeDepth);
     };

@@ -8,7 +8,7 @@ ghost use Rattle.archive_types.specs.OrderedParts.{as_pointee, slices_ordered};
 ghost use Rattle.archive_types.specs.Seen.{shown, element_shown};
 
 use super::Ordered;
-use super::runs::pass_level;
+use super::runs::skip_level;
 use crate::slice::ArchivedSlice;
 use crate::traits::Portable;
 use crate::view::{RawView, Ref};
@@ -47,14 +47,14 @@ impl<T: Portable + Ordered> Ordered for ArchivedSlice<T> {
     }
 }
 
-// The first elements that differ decide, and else the lengths. Those in front that stand in the same bytes are passed, where that settles it.
+// The first elements that differ decide, and else the lengths. Those in front that stand in the same bytes are skipped, where that settles it.
 fn compare_elements<T: Portable + Ordered>(
     a: Ref<'_, ArchivedSlice<T>>,
     b: Ref<'_, ArchivedSlice<T>>,
 ) -> Ordering
     ensures { result ≡ slices T.layout.size T.order (shown a.entry) (shown b.entry) }
 {
-    for index in pass_level(a, b)..a.len() {
+    for index in skip_level(a, b)..a.len() {
         if index >= b.len() {
             return Ordering::Greater;
         }

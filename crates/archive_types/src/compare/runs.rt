@@ -1,4 +1,4 @@
-// Elements at the fronts of two slices that stand in the same bytes are passed many at a time, where bytes settle that elements are level.
+// Elements at the fronts of two slices that stand in the same bytes are skipped many at a time, where bytes settle that elements are level.
 
 ghost use Rattle.std.specs.Prelude.{◌≡◌, ◌+◌, ◌*◌, ◌<◌, ◌≤◌, IsTrue};
 ghost use Rattle.archive_check.specs.Reads.{bytes_at};
@@ -49,8 +49,8 @@ fn are_same<T: Portable + Ordered>(
     bytes_of(a, from, count) == bytes_of(b, from, count)
 }
 
-// The first element, from the element `from` on, in front of which all are passed, `piece` at a time.
-fn pass<T: Portable + Ordered>(
+// The first element, from the element `from` on, in front of which all are skipped, `piece` at a time.
+fn skip<T: Portable + Ordered>(
     a: Ref<'_, ArchivedSlice<T>>,
     b: Ref<'_, ArchivedSlice<T>>,
     from: usize,
@@ -78,7 +78,7 @@ fn pass<T: Portable + Ordered>(
 }
 
 // The first element in front of which all are known to be level by their bytes: 0 where bytes don't settle it.
-pub(super) fn pass_level<T: Portable + Ordered>(
+pub(super) fn skip_level<T: Portable + Ordered>(
     a: Ref<'_, ArchivedSlice<T>>,
     b: Ref<'_, ArchivedSlice<T>>,
 ) -> usize
@@ -90,6 +90,6 @@ pub(super) fn pass_level<T: Portable + Ordered>(
     if size == 0 || size != T::size() || a.is_empty() {
         return 0;
     }
-    let far = pass(a, b, 0, (MANY / size).max(1));
-    pass(a, b, far, (FEW / size).max(1))
+    let far = skip(a, b, 0, (MANY / size).max(1));
+    skip(a, b, far, (FEW / size).max(1))
 }

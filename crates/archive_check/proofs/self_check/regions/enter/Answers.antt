@@ -29,11 +29,11 @@ returns-in_default-push_subtree_range-clause-stops g c =
     let s = g.C.Context.state c.args.context.now in
     let z = to_z-of_z w128 c.args.position c.ranges.position in
     let fits = not_refused c.check_subtree_ptr.result (sym c.is_err.ensures.value ∙ c.if-is_err.false) ∙ c.check_subtree_ptr.ensures.answer ∙ ap (λ q. subtree_answer s q c.in-Some.size c.args.align) z in
-    let at = lands s c.args.position c.in-Some.size c.args.align c.place-begin.result tt (sym z ∙ c.place-begin.ensures) fits in
+    let at = lands s c.args.position c.in-Some.size c.args.align c.index_of-begin.result tt (sym z ∙ c.index_of-begin.ensures) fits in
     let refusal = c.in_default-push_subtree_range in
     let deep : s.depth ≡ Some 1 = ap (λ r. r.depth) (sym c.check_subtree_ptr.ensures.unchanged) ∙ refusal.ensures.refused.0 (ap Err refusal.ensures.too_deep) in
     let refused = c.refuse-in_default-push_subtree_range in
-    if_none (λ e. EntersNot s c.args.position c.args.align c.args.whole e) refused.result refused.new.refusal ExceededMaximumSubtreeDepth refused.ensures.fault (rw c.in-Some.is (stopped_deep s c.args.position c.in-Some.size c.args.align c.place-begin.result ExceededMaximumSubtreeDepth at deep refl))
+    if_none (λ e. EntersNot s c.args.position c.args.align c.args.whole e) refused.result refused.new.refusal ExceededMaximumSubtreeDepth refused.ensures.fault (rw c.in-Some.is (stopped_deep s c.args.position c.in-Some.size c.args.align c.index_of-begin.result ExceededMaximumSubtreeDepth at deep refl))
 
 pub returns-clause-entered : goal.returns-clause-entered
 returns-clause-entered g c =
@@ -41,4 +41,4 @@ returns-clause-entered g c =
     let s = st c.args.context.now in
     let z = to_z-of_z w128 c.args.position c.ranges.position in
     let fits = not_refused c.check_subtree_ptr.result (sym c.is_err.ensures.value ∙ c.if-is_err.false) ∙ c.check_subtree_ptr.ensures.answer ∙ ap (λ q. subtree_answer s q c.in-Some.size c.args.align) z in
-    (c.in-Some.is, begun s (st c.check_subtree_ptr.new.self) (st c.push_subtree_range.new.self) c.args.position c.args.align _ tt (sym z ∙ c.place-begin.ensures) fits c.check_subtree_ptr.ensures.unchanged c.in-Ok.ensures.entered (λ e. not_err c.in-Ok.field-0 ExceededMaximumSubtreeDepth (c.in-Ok.ensures.refused.1 e)) c.in-Ok.ensures.outer)
+    (c.in-Some.is, begun s (st c.check_subtree_ptr.new.self) (st c.push_subtree_range.new.self) c.args.position c.args.align _ tt (sym z ∙ c.index_of-begin.ensures) fits c.check_subtree_ptr.ensures.unchanged c.in-Ok.ensures.entered (λ e. not_err c.in-Ok.field-0 ExceededMaximumSubtreeDepth (c.in-Ok.ensures.refused.1 e)) c.in-Ok.ensures.outer)

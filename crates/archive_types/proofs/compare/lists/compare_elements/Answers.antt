@@ -5,7 +5,7 @@ use Rattle.archive_types.proofs.compare.lists.compare_elements.Goals as goal
 
 pub loop-index-init : goal.loop-index-init
 loop-index-init g c =
-    (c.pass_level-index.ensures.second, rest_start g.T.Ordered.order c.args.a.bytes.now c.args.a.pos g.T.Portable.layout.size c.args.b.bytes.now c.args.b.pos c.args.a.len c.args.b.len ∙ c.pass_level-index.ensures.level)
+    (c.skip_level-index.ensures.second, rest_start g.T.Ordered.order c.args.a.bytes.now c.args.a.pos g.T.Portable.layout.size c.args.b.bytes.now c.args.b.pos c.args.a.len c.args.b.len ∙ c.skip_level-index.ensures.level)
 
 pub returns-then-index-len : goal.returns-then-index-len
 returns-then-index-len g c =

@@ -1,6 +1,6 @@
 use Rattle.std.proofs.Common.{◌+◌, ◌≤◌, arith, ◌∙◌}
-use Rattle.archive_types.proofs.LevelRuns.{passed}
-use Rattle.archive_types.proofs.compare.runs.pass.Goals as goal
+use Rattle.archive_types.proofs.LevelRuns.{skipped}
+use Rattle.archive_types.proofs.compare.runs.skip.Goals as goal
 
 pub loop-at-preserved : goal.loop-at-preserved
 loop-at-preserved g c =
@@ -12,5 +12,5 @@ loop-at-preserved g c =
     let level = rw c.requires.sized at g.met.T.Ordered.level in (
       within,
       c.loop-at.invariant.1
-          ∙ passed g.T.Ordered.order c.args.a.bytes.now c.args.a.pos z c.args.b.bytes.now c.args.b.pos c.requires.some.0 level c.loop-at.at k c.args.a.len c.args.b.len first second (c.are_same.ensures c.if-are_same.true),
+          ∙ skipped g.T.Ordered.order c.args.a.bytes.now c.args.a.pos z c.args.b.bytes.now c.args.b.pos c.requires.some.0 level c.loop-at.at k c.args.a.len c.args.b.len first second (c.are_same.ensures c.if-are_same.true),
     )

@@ -1,6 +1,6 @@
 use Rattle.std.proofs.Common.{◌-◌, ◌≡◌, ◌≤◌}
 use Rattle.archive_types.proofs.Compared.{rest}
-use Rattle.archive_types.proofs.compare.runs.pass.Given as goal
+use Rattle.archive_types.proofs.compare.runs.skip.Given as goal
 
 abbrev pub invariant-loop-at : goal.invariant-loop-at
 invariant-loop-at g l =
