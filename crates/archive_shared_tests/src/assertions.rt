@@ -1,9 +1,15 @@
 // Assertions that are proved once. A call of one takes the check a fifth of a second, and `assert_eq!` written out in a test's body seconds. What is written
-// and read back is compared in here, too: a call of `to_bytes` or `from_bytes` at a type is as dear.
+// and read back is compared in here, too: a call of `to_bytes` or `from_bytes` at a type is as dear. None answers a `Result`: a check lists all locals of a
+// body at each of its steps, with their types in full, and `Error` is the longest of them. What isn't as it should be ends the process.
 
-use archive_core::api::{HighSerializer, access, from_bytes, to_bytes};
+ghost use Rattle.std.specs.Prelude.{◌≡◌};
+ghost use Rattle.archive_check.specs.Viewed.{Viewed};
+
+use archive_core::api::{HighSerializer, access, access_mut, access_pos_mut, from_bytes, to_bytes};
 use archive_core::error::Error;
+use archive_core::seal::Seal;
 use archive_core::traits::{Archive, Deserialize, Entries, Portable, Serialize};
+use archive_core::view::Ref;
 use std::alloc::Global;
 use std::fmt::Debug;
 use std::process::Abort;
@@ -23,40 +29,120 @@ pub(crate) fn assert_holds(rt: &impl Abort, what: &str, holds: bool) {
     assert!(rt; holds, "{what}");
 }
 
+// What `what` names is served, with this answer.
+pub(crate) fn assert_served<T: PartialEq + Debug + Drop>(
+    rt: &impl Abort,
+    what: &str,
+    found: Result<T, Error>,
+    wanted: T,
+) {
+    assert_eq!(rt; found, Ok(wanted), "{what}");
+}
+
+// What `what` names is refused, with this error.
+pub(crate) fn assert_error<T: Drop>(
+    rt: &impl Abort,
+    what: &str,
+    found: Result<T, Error>,
+    refusal: Error,
+) {
+    assert_eq!(rt; found.err(), Some(refusal), "{what}");
+}
+
 // These bytes are the archive of a value.
 pub(crate) fn assert_written<T: Serialize<HighSerializer<Vec<u8>, Global>>>(
     rt: &impl Abort,
     alloc: Global,
     value: &T,
     archive: &[u8],
-) -> Result<(), Error> {
-    let bytes = to_bytes(alloc, value)?;
+) {
+    let bytes = to_bytes(alloc, value).expect(rt, "an archive");
     assert_eq!(rt; bytes.as_slice(), archive);
-    Ok(())
+}
+
+// No archive of a value is made.
+pub(crate) fn assert_unwritten<T: Serialize<HighSerializer<Vec<u8>, Global>>>(
+    rt: &impl Abort,
+    alloc: Global,
+    value: &T,
+    refusal: Error,
+) {
+    assert_eq!(rt; to_bytes(alloc, value).err(), Some(refusal));
 }
 
 // The archive of a value.
 pub(crate) fn archived<T: Serialize<HighSerializer<Vec<u8>, Global>>>(
+    rt: &impl Abort,
     alloc: Global,
     value: &T,
-) -> Result<Vec<u8>, Error> {
-    to_bytes(alloc, value)
+) -> Vec<u8> {
+    to_bytes(alloc, value).expect(rt, "an archive")
 }
 
 // What is read back of an archive, with a deserializer.
 pub(crate) fn read<T: Archive, D: Entries>(
+    rt: &impl Abort,
     alloc: Global,
     archive: &[u8],
     deserializer: &mut D,
-) -> Result<T, Error>
+) -> T
 where
     T::Archived: Deserialize<T, D>,
 {
-    from_bytes(alloc, archive, deserializer)
+    from_bytes(alloc, archive, deserializer).expect(rt, "a value")
 }
 
-// Whether a `T` lies at the end of the bytes, and why not.
-pub(crate) fn checked<T: Portable>(alloc: Global, bytes: &[u8]) -> Result<(), Error> {
-    access::<T>(alloc, bytes)?;
-    Ok(())
+// A `T` lies at the end of the bytes.
+pub(crate) fn assert_accepted<T: Portable>(rt: &impl Abort, alloc: Global, bytes: &[u8]) {
+    let _ = viewed::<T>(rt, alloc, bytes);
+}
+
+// No `T` lies there.
+pub(crate) fn assert_refused<T: Portable>(
+    rt: &impl Abort,
+    what: &str,
+    alloc: Global,
+    bytes: &[u8],
+    refusal: Error,
+) {
+    let Err(error) = access::<T>(alloc, bytes) else {
+        panic!(rt; "{what} is accepted")
+    };
+    assert_eq!(rt; error, refusal, "{what}");
+}
+
+// The view of a `T` at the end of the bytes.
+pub(crate) fn viewed<'a, T: Portable>(
+    rt: &impl Abort,
+    alloc: Global,
+    bytes: &'a [u8],
+) -> Ref<'a, T> {
+    access::<T>(alloc, bytes).expect(rt, "an archive")
+}
+
+// The seal of a `T` at the end of the bytes.
+pub(crate) fn sealed<'a, T: Portable>(
+    rt: &impl Abort,
+    alloc: Global,
+    bytes: &'a mut [u8],
+) -> Seal<'a, T>
+    ensures same_reference { result.bytes.ghost_name ≡ bytes.entry.ghost_name }
+    ensures buffer { result.bytes.now ≡ bytes.old }
+    ensures viewed { Viewed T.definitions result.bytes.now result.pos T.pointee result.len }
+{
+    access_mut::<T>(alloc, bytes).expect(rt, "an archive")
+}
+
+// And of one at a position.
+pub(crate) fn sealed_at<'a, T: Portable>(
+    rt: &impl Abort,
+    alloc: Global,
+    bytes: &'a mut [u8],
+    pos: usize,
+) -> Seal<'a, T>
+    ensures same_reference { result.bytes.ghost_name ≡ bytes.entry.ghost_name }
+    ensures buffer { result.bytes.now ≡ bytes.old }
+    ensures viewed { Viewed T.definitions result.bytes.now result.pos T.pointee result.len }
+{
+    access_pos_mut::<T>(alloc, bytes, pos).expect(rt, "an archive")
 }

@@ -1,9 +1,11 @@
 // Assertions that are proved once. A call of one takes the check a fifth of a second, and `assert_eq!` written out in a test's body seconds. What is written
-// and read back is compared in here, too: a call of `to_bytes` or `from_bytes` at a type is as dear.
+// and read back is compared in here, too: a call of `to_bytes` or `from_bytes` at a type is as dear. A call that isn't refused is made in here as well: the
+// check writes out all locals of a body at each of its steps, and an `Error` among them in a hundred lines.
 
-use archive_core::api::{HighSerializer, from_bytes, to_bytes};
+use archive_core::api::{HighSerializer, access, access_pos, from_bytes, to_bytes};
 use archive_core::error::Error;
-use archive_core::traits::{Archive, Deserialize, Serialize};
+use archive_core::traits::{Archive, Deserialize, Portable, Serialize};
+use archive_core::view::Ref;
 use std::alloc::Global;
 use std::fmt::Debug;
 use std::process::Abort;
@@ -23,16 +25,42 @@ pub(crate) fn assert_holds(rt: &impl Abort, what: &str, holds: bool) {
     assert!(rt; holds, "{what}");
 }
 
+// A call was refused, and for this reason.
+pub(crate) fn assert_err<T: PartialEq + Debug + Drop>(
+    rt: &impl Abort,
+    what: &str,
+    found: Result<T, Error>,
+    refusal: Error,
+) {
+    assert_eq!(rt; found, Err(refusal), "{what}");
+}
+
+// A text.
+pub(crate) fn text(rt: &impl Abort, alloc: Global, text: &str) -> String {
+    String::from_str(alloc, text).expect(rt, "memory for a text")
+}
+
 // These bytes are the archive of a value.
 pub(crate) fn assert_written<T: Serialize<HighSerializer<Vec<u8>, Global>>>(
     rt: &impl Abort,
     alloc: Global,
     value: &T,
     archive: &[u8],
-) -> Result<(), Error> {
-    let bytes = to_bytes(alloc, value)?;
+) {
+    let bytes = to_bytes(alloc, value).expect(rt, "an archive");
     assert_eq!(rt; bytes.as_slice(), archive);
-    Ok(())
+}
+
+// A value has no archive, for this reason.
+pub(crate) fn assert_unwritten<T: Serialize<HighSerializer<Vec<u8>, Global>>>(
+    rt: &impl Abort,
+    alloc: Global,
+    what: &str,
+    value: &T,
+    refusal: Error,
+) {
+    let refused = to_bytes(alloc, value).err();
+    assert_eq!(rt; refused, Some(refusal), "{what}");
 }
 
 // An archive is read back as this value.
@@ -41,11 +69,68 @@ pub(crate) fn assert_read<T: Archive + PartialEq + Debug + Drop>(
     alloc: Global,
     archive: &[u8],
     value: &T,
-) -> Result<(), Error>
+)
 where
     T::Archived: Deserialize<T, ()>,
 {
-    let back: T = from_bytes(alloc, archive, &mut ())?;
+    let back: T = from_bytes(alloc, archive, &mut ()).expect(rt, "a value");
     assert_eq!(rt; &back, value, "of {archive:?}");
-    Ok(())
+}
+
+// No `T` is read back of the bytes, for this reason.
+pub(crate) fn assert_unread<T: Archive + Drop>(
+    rt: &impl Abort,
+    alloc: Global,
+    bytes: &[u8],
+    refusal: Error,
+)
+where
+    T::Archived: Deserialize<T, ()>,
+{
+    let back: Result<T, Error> = from_bytes(alloc, bytes, &mut ());
+    assert_eq!(rt; back.err(), Some(refusal), "reading {bytes:?}");
+}
+
+// The view of the `T` at the end of the bytes.
+pub(crate) fn viewed<'a, T: Portable>(
+    rt: &impl Abort,
+    alloc: Global,
+    bytes: &'a [u8],
+) -> Ref<'a, T> {
+    access::<T>(alloc, bytes).expect(rt, "an archive")
+}
+
+// The view of the `T` at a position.
+pub(crate) fn viewed_at<'a, T: Portable>(
+    rt: &impl Abort,
+    alloc: Global,
+    bytes: &'a [u8],
+    pos: usize,
+) -> Ref<'a, T> {
+    access_pos::<T>(alloc, bytes, pos).expect(rt, "an archive with its root at a position")
+}
+
+// No `T` lies at the end of the bytes, for this reason.
+pub(crate) fn assert_refused<T: Portable>(
+    rt: &impl Abort,
+    alloc: Global,
+    what: &str,
+    bytes: &[u8],
+    refusal: Error,
+) {
+    let refused = access::<T>(alloc, bytes).err();
+    assert_eq!(rt; refused, Some(refusal), "{what}, of {bytes:?}");
+}
+
+// No `T` lies at a position, for this reason.
+pub(crate) fn assert_refused_at<T: Portable>(
+    rt: &impl Abort,
+    alloc: Global,
+    what: &str,
+    bytes: &[u8],
+    pos: usize,
+    refusal: Error,
+) {
+    let refused = access_pos::<T>(alloc, bytes, pos).err();
+    assert_eq!(rt; refused, Some(refusal), "{what}");
 }

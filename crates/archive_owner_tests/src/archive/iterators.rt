@@ -8,56 +8,57 @@ use archive_core::string::ArchivedString;
 use archive_core::vec::ArchivedVec;
 use std::alloc::Global;
 use std::ops::Range;
-use std::test::Fail;
+use std::process::Abort;
 
 #[test]
-fn items_are_written_as_those_of_a_slice(rt: HostRuntime) -> Result<(), Fail> {
-    let mut serializer = Serializer::new(vec![in rt.alloc(); 0xaau8]?, rt.alloc(), ());
-    let written = ArchivedVec::<ArchivedU16>::serialize_from_iter(1u16..4, &mut serializer);
-    if let Err(error) = written {
-        return Err(Fail::from(error));
-    }
+fn items_are_written_as_those_of_a_slice(rt: HostRuntime) {
+    let before = vec![in rt.alloc(); 0xaau8].expect(&rt, "memory");
+    let mut serializer = Serializer::new(before, rt.alloc(), ());
+    let Ok(_) = ArchivedVec::<ArchivedU16>::serialize_from_iter(1u16..4, &mut serializer) else {
+        panic!(rt; "not written")
+    };
     let bytes = serializer.into_writer();
     let right = b"\xaa\0\x01\0\x02\0\x03\0";
     assert_same(&rt, "the bytes", bytes.as_slice(), right);
-    Ok(())
 }
 
 #[test]
-fn two_items_are_written_as_two_elements(rt: HostRuntime) -> Result<(), Fail> {
+fn two_items_are_written_as_two_elements(rt: HostRuntime) {
     let mut serializer = Serializer::new(Vec::new(rt.alloc()), rt.alloc(), ());
-    let written = ArchivedVec::<ArchivedU32>::serialize_from_iter(1u32..3, &mut serializer);
-    if let Err(error) = written {
-        return Err(Fail::from(error));
-    }
+    let Ok(_) = ArchivedVec::<ArchivedU32>::serialize_from_iter(1u32..3, &mut serializer) else {
+        panic!(rt; "not written")
+    };
     let bytes = serializer.into_writer();
     let right = b"\x01\0\0\0\x02\0\0\0";
     assert_same(&rt, "the bytes", bytes.as_slice(), right);
-    Ok(())
 }
 
 // What a vector holds behind one byte, when numbers were written there as they came.
-fn written_as_they_come(alloc: Global, numbers: Range<u16>) -> Result<Vec<u8>, Error> {
-    let mut serializer = Serializer::new(vec![in alloc; 0xaau8]?, alloc, ());
-    match ArchivedVec::<ArchivedU16>::serialize_from_unknown_length_iter(numbers, &mut serializer) {
-        Ok(_) => Ok(serializer.into_writer()),
-        Err(error) => Err(error),
-    }
+fn written_as_they_come(rt: &impl Abort, alloc: Global, numbers: Range<u16>) -> Vec<u8> {
+    let before = vec![in alloc; 0xaau8].expect(rt, "memory");
+    let mut serializer = Serializer::new(before, alloc, ());
+    let written = ArchivedVec::<ArchivedU16>::serialize_from_unknown_length_iter(
+        numbers,
+        &mut serializer,
+    );
+    let Ok(_) = written else {
+        panic!(rt; "not written")
+    };
+    serializer.into_writer()
 }
 
 #[test]
-fn items_are_written_as_they_come(rt: HostRuntime) -> Result<(), Fail> {
-    let bytes = written_as_they_come(rt.alloc(), 1..4)?;
+fn items_are_written_as_they_come(rt: HostRuntime) {
+    let bytes = written_as_they_come(&rt, rt.alloc(), 1..4);
     let right = b"\xaa\0\x01\0\x02\0\x03\0";
     assert_same(&rt, "the bytes", bytes.as_slice(), right);
-    Ok(())
 }
 
 #[test]
-fn an_item_that_writes_is_refused(rt: HostRuntime) -> Result<(), Fail> {
-    let near = String::from_str(rt.alloc(), "hi")?;
-    let far = String::from_str(rt.alloc(), "hello world")?;
-    let texts = vec![in rt.alloc(); near, far]?;
+fn an_item_that_writes_is_refused(rt: HostRuntime) {
+    let near = String::from_str(rt.alloc(), "hi").expect(&rt, "memory");
+    let far = String::from_str(rt.alloc(), "hello world").expect(&rt, "memory");
+    let texts = vec![in rt.alloc(); near, far].expect(&rt, "memory");
     let mut serializer = Serializer::new(Vec::new(rt.alloc()), rt.alloc(), ());
     let written = ArchivedVec::<ArchivedString>::serialize_from_unknown_length_iter(
         texts.into_iter(),
@@ -70,5 +71,4 @@ fn an_item_that_writes_is_refused(rt: HostRuntime) -> Result<(), Fail> {
     let bytes = serializer.into_writer();
     let right = b"hi\xff\xff\xff\xff\xff\xffhello world";
     assert_same(&rt, "the bytes", bytes.as_slice(), right);
-    Ok(())
 }

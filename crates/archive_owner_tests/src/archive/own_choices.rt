@@ -4,15 +4,13 @@
 ghost use Rattle.std.specs.Prelude.{codes};
 ghost use Rattle.archive_check.specs.SelfCheck.Laws.{by_schema};
 
-use crate::assertions::{assert_same, checked};
-use archive_core::api::{access, access_mut};
-use archive_core::error::Error;
+use crate::assertions::{assert_no_variant, assert_same, viewed};
+use archive_core::api::access_mut;
 use archive_core::own::{ArchivedChoice, NamedChoice};
 use archive_core::primitive::ArchivedU32;
 use archive_core::self_check::BySchema;
 use archive_core::string::ArchivedString;
 use archive_core::traits::{Choice, Portable};
-use std::test::Fail;
 
 // The choice `ArchivedEvent`: nothing; a number; or a byte and a text.
 pub(super) struct EventNamed;
@@ -43,8 +41,8 @@ fn a_choice_is_laid_out_by_its_variants(rt: HostRuntime) {
 }
 
 #[test]
-fn what_stands_behind_a_tag_is_viewed(rt: HostRuntime) -> Result<(), Fail> {
-    let view = access::<Event>(rt.alloc(), b"\x02\x07\0\0hi\xff\xff\xff\xff\xff\xff")?;
+fn what_stands_behind_a_tag_is_viewed(rt: HostRuntime) {
+    let view = viewed::<Event>(&rt, rt.alloc(), b"\x02\x07\0\0hi\xff\xff\xff\xff\xff\xff");
     assert_same(&rt, "the tag", view.tag(), 2);
     if view.tag() == 2 {
         let byte = view.payload::<u8>(0).get();
@@ -52,28 +50,22 @@ fn what_stands_behind_a_tag_is_viewed(rt: HostRuntime) -> Result<(), Fail> {
         let text = view.payload::<ArchivedString>(1).as_str();
         assert_same(&rt, "the text", text, "hi");
     }
-    Ok(())
 }
 
 #[test]
-fn what_stands_behind_a_tag_is_written_over(rt: HostRuntime) -> Result<(), Fail> {
+fn what_stands_behind_a_tag_is_written_over(rt: HostRuntime) {
     let mut bytes = *b"\x02\x07\0\0hi\xff\xff\xff\xff\xff\xff";
-    let event = access_mut::<Event>(rt.alloc(), &mut bytes)?;
+    let event = access_mut::<Event>(rt.alloc(), &mut bytes).expect(&rt, "a choice");
     if event.as_ref().tag() == 2 {
         event.payload::<u8>(0).write(9);
     }
     let right = *b"\x02\x09\0\0hi\xff\xff\xff\xff\xff\xff";
     assert_same(&rt, "the bytes", bytes, right);
-    Ok(())
 }
 
 #[test]
 fn a_tag_without_a_variant_is_refused(rt: HostRuntime) {
     let bytes = b"\x03\0\0\0\0\0\0\0\0\0\0\0";
-    let refusal = Error::InvalidDiscriminant {
-        name: "ArchivedEvent",
-        value: 3,
-    };
-    let found = checked::<Event>(rt.alloc(), bytes);
-    assert_same(&rt, "the refusal", found, Err(refusal));
+    let refusal = ("ArchivedEvent", 3);
+    assert_no_variant::<Event>(&rt, "the refusal", rt.alloc(), bytes, refusal);
 }

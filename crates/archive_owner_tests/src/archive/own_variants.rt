@@ -8,8 +8,8 @@ ghost use Rattle.archive_types.specs.Seen.{tag_of};
 ghost use Rattle.archive_types.specs.Writing.{ZeroedPlace};
 
 use super::own_choices::Event;
-use crate::assertions::{assert_holds, assert_same};
-use archive_core::api::{HighSerializer, access};
+use crate::assertions::{assert_holds, assert_same, viewed};
+use archive_core::api::HighSerializer;
 use archive_core::error::Error;
 use archive_core::own::{deserialize_variant, resolve_variant, serialize_variant};
 use archive_core::parts::{DeserializeParts, OwnedParts, SerializeParts, SourceParts};
@@ -21,7 +21,6 @@ use archive_core::traits::{Choice, Entries, Keys};
 use archive_core::tuples::{Part0, Part1};
 use archive_core::view::Ref;
 use std::alloc::Global;
-use std::test::Fail;
 
 // The bytes of a choice of this variant at the position 0, where its parts own nothing that lies outside it.
 fn resolved<T, P: SourceParts<T>, X: Choice>(
@@ -71,8 +70,9 @@ fn read<X: Choice, P: DeserializeParts<T, D>, T: OwnedParts, D: Entries>(
 type Parts = (Part0, (Part1, ()));
 
 #[test]
-fn a_variant_is_written_by_its_parts(rt: HostRuntime) -> Result<(), Fail> {
-    let value = (7u8, String::from_str(rt.alloc(), "hi")?);
+fn a_variant_is_written_by_its_parts(rt: HostRuntime) {
+    let text = String::from_str(rt.alloc(), "hi").expect(&rt, "memory");
+    let value = (7u8, text);
     let mut serializer = Serializer::new(Vec::new(rt.alloc()), rt.alloc(), Share::new(rt.alloc()));
     let mut bytes = [0u8; 12];
     written::<(u8, String), Parts, Event, HighSerializer<Vec<u8>, Global>>(
@@ -80,17 +80,16 @@ fn a_variant_is_written_by_its_parts(rt: HostRuntime) -> Result<(), Fail> {
         &value,
         &mut serializer,
         bytes.as_mut_slice(),
-    )?;
+    ).expect(&rt, "written");
     let right = *b"\x02\x07\0\0hi\xff\xff\xff\xff\xff\xff";
     assert_same(&rt, "the bytes", bytes, right);
     let before = serializer.into_writer();
     assert_holds(&rt, "nothing before", before.is_empty());
-    Ok(())
 }
 
 #[test]
-fn a_variant_is_read_back_by_its_parts(rt: HostRuntime) -> Result<(), Fail> {
-    let view = access::<Event>(rt.alloc(), b"\x02\x07\0\0hi\xff\xff\xff\xff\xff\xff")?;
+fn a_variant_is_read_back_by_its_parts(rt: HostRuntime) {
+    let view = viewed::<Event>(&rt, rt.alloc(), b"\x02\x07\0\0hi\xff\xff\xff\xff\xff\xff");
     assert_same(&rt, "the tag", view.tag(), 2);
     if view.tag() == 2 {
         let (number, (text, ())) = read::<
@@ -98,9 +97,8 @@ fn a_variant_is_read_back_by_its_parts(rt: HostRuntime) -> Result<(), Fail> {
             (u8, (ArchivedString, ())),
             (u8, (String, ())),
             (),
-        >(rt.alloc(), view, &mut ())?;
+        >(rt.alloc(), view, &mut ()).expect(&rt, "read back");
         assert_same(&rt, "the number", number, 7);
         assert_same(&rt, "the text", text.as_str(), "hi");
     }
-    Ok(())
 }

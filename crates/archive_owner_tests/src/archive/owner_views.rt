@@ -1,17 +1,15 @@
 // Views of boxes, slices and vectors, and of what strings tell of their texts.
 
 use crate::archive::HELLO_WORLD;
-use crate::assertions::{assert_holds, assert_same};
-use archive_core::api::access;
+use crate::assertions::{assert_holds, assert_same, viewed};
 use archive_core::boxed::ArchivedBox;
-use archive_core::error::Error;
 use archive_core::primitive::{ArchivedU16, ArchivedU32};
 use archive_core::slice::ArchivedSlice;
 use archive_core::string::{ArchivedStr, ArchivedString};
 use archive_core::traits::{LayoutRaw, Portable};
 use archive_core::vec::ArchivedVec;
 use std::alloc::Global;
-use std::test::Fail;
+use std::process::Abort;
 
 // The numbers 1 and 2, and at 8 the vector that points back at them.
 const ONE_AND_TWO: &[u8] = b"\x01\0\0\0\x02\0\0\0\xf8\xff\xff\xff\x02\0\0\0";
@@ -25,43 +23,46 @@ fn layout_of<T: Portable>() -> (usize, usize) {
 }
 
 #[test]
-fn a_box_shows_its_value(rt: HostRuntime) -> Result<(), Fail> {
+fn a_box_shows_its_value(rt: HostRuntime) {
     let boxed = b"\x07\0\0\0\xfc\xff\xff\xff";
-    let value = access::<ArchivedBox<ArchivedU32>>(rt.alloc(), boxed)?.get();
+    let value = viewed::<ArchivedBox<ArchivedU32>>(&rt, rt.alloc(), boxed).get();
     assert_same(&rt, "the position", value.pos(), 0);
     assert_same(&rt, "the number", value.get(), 7);
     let layout = layout_of::<ArchivedBox<ArchivedU32>>();
     assert_same(&rt, "the layout", layout, (4, 4));
-    Ok(())
 }
 
 #[test]
-fn a_box_shows_its_slice_or_text(rt: HostRuntime) -> Result<(), Fail> {
-    let slice = access::<ArchivedBox<ArchivedSlice<u8>>>(rt.alloc(), BOXED_HELLO_WORLD)?.get();
+fn a_box_shows_its_slice(rt: HostRuntime) {
+    let view = viewed::<ArchivedBox<ArchivedSlice<u8>>>(&rt, rt.alloc(), BOXED_HELLO_WORLD);
+    let slice = view.get();
     assert_same(&rt, "the slice's length", slice.len(), 11);
     if slice.len() > 4 {
         assert_same(&rt, "a byte", slice.index(4).get(), b'o');
     }
-    let text = access::<ArchivedBox<ArchivedStr>>(rt.alloc(), BOXED_HELLO_WORLD)?.get();
+}
+
+#[test]
+fn a_box_shows_its_text(rt: HostRuntime) {
+    let text = viewed::<ArchivedBox<ArchivedStr>>(&rt, rt.alloc(), BOXED_HELLO_WORLD).get();
     assert_same(&rt, "the text", text.as_str(), "hello world");
     assert_same(&rt, "its bytes", text.as_bytes(), b"hello world");
     assert_holds(&rt, "not empty", !text.is_empty());
     let size = ArchivedBox::<ArchivedStr>::size();
     assert_same(&rt, "the size", size, 8);
-    Ok(())
 }
 
 // How long a vector is, and whether it is empty.
-fn vector_length<T: Portable>(alloc: Global, bytes: &[u8]) -> Result<(usize, bool), Error> {
-    let view = access::<ArchivedVec<T>>(alloc, bytes)?;
-    Ok((view.len(), view.is_empty()))
+fn vector_length<T: Portable>(rt: &impl Abort, alloc: Global, bytes: &[u8]) -> (usize, bool) {
+    let view = viewed::<ArchivedVec<T>>(rt, alloc, bytes);
+    (view.len(), view.is_empty())
 }
 
 #[test]
-fn a_vector_shows_its_elements(rt: HostRuntime) -> Result<(), Fail> {
-    let two = vector_length::<ArchivedU32>(rt.alloc(), ONE_AND_TWO);
-    assert_same(&rt, "the vector", two, Ok((2, false)));
-    let slice = access::<ArchivedVec<ArchivedU32>>(rt.alloc(), ONE_AND_TWO)?.as_slice();
+fn a_vector_shows_its_elements(rt: HostRuntime) {
+    let two = vector_length::<ArchivedU32>(&rt, rt.alloc(), ONE_AND_TWO);
+    assert_same(&rt, "the vector", two, (2, false));
+    let slice = viewed::<ArchivedVec<ArchivedU32>>(&rt, rt.alloc(), ONE_AND_TWO).as_slice();
     assert_same(&rt, "the slice", slice.pos(), 0);
     assert_holds(&rt, "the slice isn't empty", !slice.is_empty());
     let first = slice.get(0).map(|v| v.get());
@@ -69,26 +70,24 @@ fn a_vector_shows_its_elements(rt: HostRuntime) -> Result<(), Fail> {
     let second = slice.get(1).map(|v| v.pos());
     assert_same(&rt, "the second", second, Some(4));
     assert_holds(&rt, "no third", slice.get(2).is_none());
-    Ok(())
 }
 
 #[test]
-fn vectors_show_no_elements_and_many(rt: HostRuntime) -> Result<(), Fail> {
+fn vectors_show_no_elements_and_many(rt: HostRuntime) {
     let nothing = b"\0\0\0\0\0\0\0\0";
-    let found = vector_length::<ArchivedU32>(rt.alloc(), nothing);
-    assert_same(&rt, "nothing", found, Ok((0, true)));
-    let empty = access::<ArchivedVec<ArchivedU32>>(rt.alloc(), nothing)?;
+    let found = vector_length::<ArchivedU32>(&rt, rt.alloc(), nothing);
+    assert_same(&rt, "nothing", found, (0, true));
+    let empty = viewed::<ArchivedVec<ArchivedU32>>(&rt, rt.alloc(), nothing);
     let item = empty.as_slice().iter().next();
     assert_holds(&rt, "no item", item.is_none());
-    let found = vector_length::<()>(rt.alloc(), b"\0\0\0\0\xff\xff\xff\xff");
-    assert_same(&rt, "units", found, Ok((4_294_967_295, false)));
-    Ok(())
+    let found = vector_length::<()>(&rt, rt.alloc(), b"\0\0\0\0\xff\xff\xff\xff");
+    assert_same(&rt, "units", found, (4_294_967_295, false));
 }
 
 #[test]
-fn elements_come_from_both_ends(rt: HostRuntime) -> Result<(), Fail> {
+fn elements_come_from_both_ends(rt: HostRuntime) {
     let bytes = b"\x01\0\x02\0\x03\0\0\0\xf8\xff\xff\xff\x03\0\0\0";
-    let slice = access::<ArchivedVec<ArchivedU16>>(rt.alloc(), bytes)?.as_slice();
+    let slice = viewed::<ArchivedVec<ArchivedU16>>(&rt, rt.alloc(), bytes).as_slice();
     let mut elements = slice.iter();
     assert_same(&rt, "the length", elements.len(), 3);
     assert_same(&rt, "the hint", elements.size_hint(), (3, Some(3)));
@@ -100,31 +99,33 @@ fn elements_come_from_both_ends(rt: HostRuntime) -> Result<(), Fail> {
     assert_same(&rt, "the middle", middle, Some(2));
     assert_holds(&rt, "no next", elements.next().is_none());
     assert_holds(&rt, "none at the back", elements.next_back().is_none());
-    Ok(())
 }
 
 #[test]
-fn strings_tell_where_their_texts_stand(rt: HostRuntime) -> Result<(), Fail> {
-    let long = access::<ArchivedString>(rt.alloc(), HELLO_WORLD)?;
+fn strings_tell_where_their_texts_stand(rt: HostRuntime) {
+    let long = viewed::<ArchivedString>(&rt, rt.alloc(), HELLO_WORLD);
     if long.is_inline() {
-        return Err(Fail::from("the text stands elsewhere"));
+        panic!(rt; "the text stands elsewhere")
     }
     assert_same(&rt, "the offset", long.out_of_line_offset(), -12);
     assert_same(&rt, "the bytes", long.as_bytes(), b"hello world");
     assert_holds(&rt, "not empty", !long.is_empty());
-    let empty = access::<ArchivedString>(rt.alloc(), b"\xff\xff\xff\xff\xff\xff\xff\xff")?;
-    assert_holds(&rt, "in place", empty.is_inline());
-    assert_holds(&rt, "empty", empty.is_empty());
-    Ok(())
 }
 
 #[test]
-fn slices_and_texts_have_layouts(rt: HostRuntime) -> Result<(), Fail> {
-    let slice = ArchivedSlice::<ArchivedU32>::layout_raw(3)?;
+fn an_empty_text_stands_in_place(rt: HostRuntime) {
+    let bytes = b"\xff\xff\xff\xff\xff\xff\xff\xff";
+    let empty = viewed::<ArchivedString>(&rt, rt.alloc(), bytes);
+    assert_holds(&rt, "in place", empty.is_inline());
+    assert_holds(&rt, "empty", empty.is_empty());
+}
+
+#[test]
+fn slices_and_texts_have_layouts(rt: HostRuntime) {
+    let slice = ArchivedSlice::<ArchivedU32>::layout_raw(3).expect(&rt, "a layout");
     assert_same(&rt, "a slice", (slice.size, slice.align), (12, 4));
     let large = ArchivedSlice::<ArchivedU32>::layout_raw(4_611_686_018_427_387_904);
     assert_holds(&rt, "too large", large.is_err());
-    let text = ArchivedStr::layout_raw(11)?;
+    let text = ArchivedStr::layout_raw(11).expect(&rt, "a layout");
     assert_same(&rt, "a text", (text.size, text.align), (11, 1));
-    Ok(())
 }

@@ -1,18 +1,19 @@
 // Tuples: their layouts, and what a check says of their bytes.
 
 use crate::assertions::{
-    assert_holds, assert_read, assert_same, assert_written, checked, value_of,
+    assert_holds, assert_read, assert_refused, assert_same, assert_written, value_of, viewed,
+    written,
 };
-use archive_core::api::{HighSerializer, access, access_mut, from_bytes, to_bytes};
+use archive_core::api::{HighSerializer, access_mut};
 use archive_core::error::Error;
 use archive_core::primitive::{ArchivedI32, ArchivedU16, ArchivedU32};
-use archive_core::traits::{Archive, Deserialize, Portable, Record, Serialize};
+use archive_core::traits::{Deserialize, Portable, Record, Serialize};
 use archive_tuple::{
     ArchivedTuple1, ArchivedTuple3, ArchivedTuple5, ArchivedTuple7, ArchivedTuple11,
     ArchivedTuple13,
 };
 use std::alloc::Global;
-use std::test::Fail;
+use std::process::Abort;
 
 // The tuple (24, true, 16) of an `i32`, a `bool` and a `u32`.
 const NUMBERS: &[u8] = b"\x18\0\0\0\x01\0\0\0\x10\0\0\0";
@@ -69,18 +70,20 @@ type Thirteen = ArchivedTuple13<
     ArchivedU32,
 >;
 
-// Whether a value is written as these bytes, and read back from them.
-fn goes_there_and_back<T: Serialize<HighSerializer<Vec<u8>, Global>> + PartialEq + Drop>(
+// A value is written as these bytes, and read back from them.
+fn assert_there_and_back<T: Serialize<HighSerializer<Vec<u8>, Global>> + PartialEq + Drop>(
+    rt: &impl Abort,
     alloc: Global,
     value: &T,
     bytes: &[u8],
-) -> Result<bool, Error>
+)
 where
     T::Archived: Deserialize<T, ()>,
 {
-    let written = to_bytes(alloc, value)?;
-    let back: T = from_bytes(alloc, bytes, &mut ())?;
-    Ok(written.as_slice() == bytes && back == *value)
+    let there = written(rt, alloc, value);
+    let back: T = value_of(rt, alloc, bytes);
+    let same = there.as_slice() == bytes && back == *value;
+    assert_holds(rt, "there and back", same);
 }
 
 #[test]
@@ -99,76 +102,83 @@ fn a_tuple_has_the_layout_of_its_parts(rt: HostRuntime) {
 }
 
 #[test]
-fn a_tuple_is_checked_part_by_part(rt: HostRuntime) -> Result<(), Fail> {
-    let view = access::<Numbers>(rt.alloc(), NUMBERS)?;
+fn a_tuple_is_checked_part_by_part(rt: HostRuntime) {
+    let view = viewed::<Numbers>(&rt, rt.alloc(), NUMBERS);
     assert_same(&rt, "the position", view.pos(), 0);
     let wrong = b"\x18\0\0\0\x02\0\0\0\x10\0\0\0";
-    let found = checked::<Numbers>(rt.alloc(), wrong);
-    assert_same(&rt, "the refusal", found, Err(Error::InvalidBool));
-    Ok(())
+    assert_refused::<Numbers>(&rt, "the refusal", rt.alloc(), wrong, Error::InvalidBool);
 }
 
 #[test]
-fn a_tuple_is_written_viewed_and_read_back(rt: HostRuntime) -> Result<(), Fail> {
+fn a_tuple_is_written_and_read_back(rt: HostRuntime) {
     let value: (i32, bool, u32) = (24, true, 16);
-    assert_written(&rt, rt.alloc(), &value, NUMBERS)?;
-    let view = access::<Numbers>(rt.alloc(), NUMBERS)?;
+    assert_written(&rt, rt.alloc(), &value, NUMBERS);
+    assert_read(&rt, rt.alloc(), NUMBERS, &value);
+}
+
+#[test]
+fn a_tuple_is_viewed(rt: HostRuntime) {
+    let view = viewed::<Numbers>(&rt, rt.alloc(), NUMBERS);
     let number = view.field::<ArchivedI32>(0).get();
     assert_same(&rt, "the number", number, 24);
     assert_holds(&rt, "the bool", view.field::<bool>(1).get());
     let last = view.field::<ArchivedU32>(2).get();
     assert_same(&rt, "the last", last, 16);
-    assert_read(&rt, rt.alloc(), NUMBERS, &value)?;
-    Ok(())
 }
 
 #[test]
-fn a_tuple_of_five_is_written_viewed_and_read_back(rt: HostRuntime) -> Result<(), Fail> {
+fn a_tuple_of_five_is_written_and_read_back(rt: HostRuntime) {
     let five: (u8, u32, bool, u16, u8) = (1, 2, true, 3, 4);
-    assert_written(&rt, rt.alloc(), &five, FIVE)?;
-    assert_read(&rt, rt.alloc(), FIVE, &five)?;
-    let view = access::<Five>(rt.alloc(), FIVE)?;
+    assert_written(&rt, rt.alloc(), &five, FIVE);
+    assert_read(&rt, rt.alloc(), FIVE, &five);
+}
+
+#[test]
+fn a_tuple_of_five_is_viewed(rt: HostRuntime) {
+    let view = viewed::<Five>(&rt, rt.alloc(), FIVE);
     let fourth = view.field::<ArchivedU16>(3).get();
     assert_same(&rt, "the fourth", fourth, 3);
-    Ok(())
 }
 
 #[test]
-fn a_tuple_of_six_is_written(rt: HostRuntime) -> Result<(), Fail> {
+fn a_tuple_of_six_is_written(rt: HostRuntime) {
     let six: (u8, u8, bool, u8, u8, u8) = (1, 2, true, 3, 4, 5);
-    assert_written(&rt, rt.alloc(), &six, b"\x01\x02\x01\x03\x04\x05")?;
-    Ok(())
+    assert_written(&rt, rt.alloc(), &six, b"\x01\x02\x01\x03\x04\x05");
 }
 
 #[test]
-fn a_tuple_of_seven_is_written_viewed_and_read_back(rt: HostRuntime) -> Result<(), Fail> {
+fn a_tuple_of_seven_is_written_and_read_back(rt: HostRuntime) {
     let seven: (u8, u32, bool, u16, u8, u8, u32) = (1, 2, true, 3, 4, 5, 6);
-    let same = goes_there_and_back(rt.alloc(), &seven, SEVEN)?;
-    assert_holds(&rt, "there and back", same);
-    let view = access::<Seven>(rt.alloc(), SEVEN)?;
+    assert_there_and_back(&rt, rt.alloc(), &seven, SEVEN);
+}
+
+#[test]
+fn a_tuple_of_seven_is_viewed(rt: HostRuntime) {
+    let view = viewed::<Seven>(&rt, rt.alloc(), SEVEN);
     let last = view.field::<ArchivedU32>(6).get();
     assert_same(&rt, "the last", last, 6);
-    Ok(())
 }
 
 #[test]
-fn a_tuple_of_eleven_is_written_viewed_and_read_back(rt: HostRuntime) -> Result<(), Fail> {
+fn a_tuple_of_eleven_is_written_and_read_back(rt: HostRuntime) {
     let eleven: (u8, u16, u8, u32, bool, u8, u16, u8, u8, u16, u8) = (
         1, 2, 3, 4, true, 5, 6, 7, 8, 9, 10,
     );
-    let same = goes_there_and_back(rt.alloc(), &eleven, ELEVEN)?;
-    assert_holds(&rt, "there and back", same);
-    let view = access::<Eleven>(rt.alloc(), ELEVEN)?;
-    let tenth = view.field::<ArchivedU16>(9).get();
-    assert_same(&rt, "the tenth", tenth, 9);
-    Ok(())
+    assert_there_and_back(&rt, rt.alloc(), &eleven, ELEVEN);
 }
 
 #[test]
-fn a_tuple_of_thirteen_is_written_viewed_and_read_back(rt: HostRuntime) -> Result<(), Fail> {
+fn a_tuple_of_eleven_is_viewed(rt: HostRuntime) {
+    let view = viewed::<Eleven>(&rt, rt.alloc(), ELEVEN);
+    let tenth = view.field::<ArchivedU16>(9).get();
+    assert_same(&rt, "the tenth", tenth, 9);
+}
+
+#[test]
+fn a_tuple_of_thirteen_is_written_and_read_back(rt: HostRuntime) {
     let thirteen: NativeThirteen = (1, 2, true, 3, 4, 5, 6, 7, 8, 9, 10, false, 11);
-    assert_written(&rt, rt.alloc(), &thirteen, THIRTEEN)?;
-    let back: NativeThirteen = value_of(rt.alloc(), THIRTEEN)?;
+    assert_written(&rt, rt.alloc(), &thirteen, THIRTEEN);
+    let back: NativeThirteen = value_of(&rt, rt.alloc(), THIRTEEN);
     let (a, b, c, d, e, f, g, h, i, j, k, l, m) = back;
     assert_same(
         &rt,
@@ -182,19 +192,22 @@ fn a_tuple_of_thirteen_is_written_viewed_and_read_back(rt: HostRuntime) -> Resul
         (h, i, j, k, l, m),
         (7, 8, 9, 10, false, 11),
     );
-    let view = access::<Thirteen>(rt.alloc(), THIRTEEN)?;
-    let last = view.field::<ArchivedU32>(12).get();
-    assert_same(&rt, "the last", last, 11);
-    Ok(())
 }
 
 #[test]
-fn a_part_of_a_tuple_is_written_over(rt: HostRuntime) -> Result<(), Fail> {
+fn a_tuple_of_thirteen_is_viewed(rt: HostRuntime) {
+    let view = viewed::<Thirteen>(&rt, rt.alloc(), THIRTEEN);
+    let last = view.field::<ArchivedU32>(12).get();
+    assert_same(&rt, "the last", last, 11);
+}
+
+#[test]
+fn a_part_of_a_tuple_is_written_over(rt: HostRuntime) {
     let mut bytes = *b"\x18\0\0\0\x01\0\0\0\x10\0\0\0";
-    access_mut::<Numbers>(rt.alloc(), &mut bytes)?
+    access_mut::<Numbers>(rt.alloc(), &mut bytes)
+        .expect(&rt, "a tuple")
         .field::<ArchivedU32>(2)
         .write(17);
     let right = *b"\x18\0\0\0\x01\0\0\0\x11\0\0\0";
     assert_same(&rt, "the bytes", bytes, right);
-    Ok(())
 }

@@ -3,7 +3,7 @@
 ghost use Rattle.std.specs.Prelude.{◌≢◌, Some};
 
 use crate::archive::HELLO_WORLD;
-use crate::assertions::assert_same;
+use crate::assertions::{assert_error, assert_same, assert_served};
 use archive_core::api::{HighValidator, access_with_context};
 use archive_core::boxed::ArchivedBox;
 use archive_core::error::Error;
@@ -17,6 +17,7 @@ use archive_core::validation::{ArchiveContextExt, ArchiveValidator};
 use archive_core::vec::ArchivedVec;
 use archive_tuple::{ArchivedTuple2, ArchivedTuple3};
 use std::alloc::Global;
+use std::process::Abort;
 
 // How many regions a check of a `T` at the end enters, with a limit of depth.
 fn entered_within<T: Portable>(
@@ -31,9 +32,27 @@ fn entered_within<T: Portable>(
     Ok(context.subtrees())
 }
 
-// The same with no limit.
-fn entered<T: Portable>(alloc: Global, bytes: &[u8]) -> Result<usize, Error> {
-    entered_within::<T>(alloc, bytes, None)
+// With no limit it enters so many.
+fn assert_entered<T: Portable>(
+    rt: &impl Abort,
+    what: &str,
+    alloc: Global,
+    bytes: &[u8],
+    regions: usize,
+) {
+    let found = entered_within::<T>(alloc, bytes, None);
+    assert_served(rt, what, found, regions);
+}
+
+// With three levels it enters two, and with fewer it is refused.
+fn assert_three_levels<T: Portable>(rt: &impl Abort, alloc: Global, bytes: &[u8]) {
+    let too_deep = Error::ExceededMaximumSubtreeDepth;
+    let found = entered_within::<T>(alloc, bytes, Some(1));
+    assert_error(rt, "one level", found, too_deep);
+    let found = entered_within::<T>(alloc, bytes, Some(2));
+    assert_error(rt, "two levels", found, too_deep);
+    let found = entered_within::<T>(alloc, bytes, Some(3));
+    assert_served(rt, "three levels", found, 2);
 }
 
 // A byte, a text and perhaps a list, one behind another.
@@ -41,20 +60,20 @@ type Test = ArchivedTuple3<u8, ArchivedString, ArchivedOption<ArchivedVec<Archiv
 
 #[test]
 fn a_check_enters_each_region_once(rt: HostRuntime) {
-    let regions = entered::<ArchivedString>(rt.alloc(), HELLO_WORLD);
-    assert_same(&rt, "a text", regions, Ok(2));
+    assert_entered::<ArchivedString>(&rt, "a text", rt.alloc(), HELLO_WORLD, 2);
     let empty = b"\0\0\0\0\0\0\0\0";
-    let regions = entered::<ArchivedVec<ArchivedU32>>(rt.alloc(), empty);
-    assert_same(&rt, "an empty vector", regions, Ok(2));
+    assert_entered::<ArchivedVec<ArchivedU32>>(&rt, "an empty vector", rt.alloc(), empty, 2);
     let test =
         b"hello world\0\x01\0\0\0\x02\0\0\0\x03\0\0\0\x04\0\0\0\x2a\0\0\0\x8b\0\0\0\xe0\xff\xff\xff\x01\0\0\0\xe0\xff\xff\xff\x04\0\0\0";
-    let regions = entered::<Test>(rt.alloc(), test);
-    assert_same(&rt, "a text and a list", regions, Ok(3));
+    assert_entered::<Test>(&rt, "a text and a list", rt.alloc(), test, 3);
+}
+
+#[test]
+fn a_check_enters_a_shared_region_once(rt: HostRuntime) {
     let shared = b"\x0a\0\0\0\xfc\xff\xff\xff\xf8\xff\xff\xff";
-    let regions = entered::<
-        ArchivedTuple2<ArchivedRc<ArchivedU32, RcFlavor>, ArchivedRc<ArchivedU32, RcFlavor>>,
-    >(rt.alloc(), shared);
-    assert_same(&rt, "a shared number", regions, Ok(2));
+    type Number = ArchivedRc<ArchivedU32, RcFlavor>;
+    type Pair = ArchivedTuple2<Number, Number>;
+    assert_entered::<Pair>(&rt, "a shared number", rt.alloc(), shared, 2);
 }
 
 // Perhaps a box of bytes.
@@ -63,13 +82,7 @@ type Boxed = ArchivedOption<ArchivedBox<ArchivedSlice<u8>>>;
 #[test]
 fn a_box_in_an_option_takes_three_levels(rt: HostRuntime) {
     let bytes = b"Hello world\0\x01\0\0\0\xf0\xff\xff\xff\x0b\0\0\0";
-    let too_deep = Error::ExceededMaximumSubtreeDepth;
-    let regions = entered_within::<Boxed>(rt.alloc(), bytes, Some(1));
-    assert_same(&rt, "one level", regions, Err(too_deep));
-    let regions = entered_within::<Boxed>(rt.alloc(), bytes, Some(2));
-    assert_same(&rt, "two levels", regions, Err(too_deep));
-    let regions = entered_within::<Boxed>(rt.alloc(), bytes, Some(3));
-    assert_same(&rt, "three levels", regions, Ok(2));
+    assert_three_levels::<Boxed>(&rt, rt.alloc(), bytes);
 }
 
 #[test]
@@ -87,13 +100,13 @@ fn a_call_is_made_within_the_region_of_a_length(rt: HostRuntime) {
         start: 0,
         end: 5,
     };
-    assert_same(&rt, "inside", inside, Ok(too_long));
+    assert_served(&rt, "inside", inside, too_long);
     assert_same(&rt, "regions", range.subtrees(), 1);
     let large = range.in_subtree::<ArchivedSlice<ArchivedU32>, _, _, _>(
         12,
         usize::MAX,
         |_| -> Result<(), Error> { Ok(()) },
     );
-    assert_same(&rt, "too large", large, Err(Error::LayoutTooLarge));
+    assert_error(&rt, "too large", large, Error::LayoutTooLarge);
     assert_same(&rt, "regions still", range.subtrees(), 1);
 }

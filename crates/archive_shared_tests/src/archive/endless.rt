@@ -13,7 +13,7 @@ ghost use Rattle.archive_types.specs.Sources.{Read};
 ghost use Rattle.archive_shared_tests.specs.LoopShape.{loop_name, loop_shape, loop_choice, loop_definitions, loop_layout, loop_has_layout, loop_variants, knows_variants};
 
 use super::rc::Looping;
-use crate::assertions::{assert_same, checked};
+use crate::assertions::{assert_accepted, assert_same};
 use archive_core::api::{access, deserialize};
 use archive_core::error::Error;
 use archive_core::pooling::{Pool, Pooling, PoolingState};
@@ -179,8 +179,7 @@ fn refusal<D: Pooling<Shared<u32>>>(alloc: Global, bytes: &[u8], deserializer: &
 
 // The bytes are accepted, and refused by a pool when they are read back.
 fn assert_endless(rt: &impl Abort, alloc: Global, bytes: &[u8]) {
-    let found = checked::<ArchivedLoop>(alloc, bytes);
-    assert_same(rt, "the check", found, Ok(()));
+    assert_accepted::<ArchivedLoop>(rt, alloc, bytes);
     let mut pool: Pool<Shared<u32>> = Pool::new(alloc);
     let found = refusal(alloc, bytes, &mut pool);
     assert_same(rt, "the reading", found, 13);

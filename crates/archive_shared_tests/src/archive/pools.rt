@@ -1,20 +1,18 @@
 // Shared values are read back, by pools and without one.
 
-use crate::assertions::{assert_holds, assert_same, read};
-use archive_core::api::{HighDeserializer, access, deserialize_using};
+use crate::assertions::{assert_error, assert_holds, assert_same, read, viewed};
+use archive_core::api::{HighDeserializer, deserialize_using, from_bytes};
 use archive_core::error::Error;
-use archive_core::pooling::{Pool, Pooling, PoolingState, Unpool};
-use archive_core::primitive::ArchivedU32;
+use archive_core::pooling::{Pool, Pooled, Pooling, PoolingState, Unpool};
 use archive_core::rc::{ArchivedRc, RcFlavor, Shared, SharedSlice, SharedStr, WeakShared};
+use archive_core::traits::{Archive, Deserialize};
 use archive_core::vec::ArchivedVec;
+use std::alloc::Global;
 use std::process::Abort;
 use std::rc::{Rc, RcStr};
-use std::test::Fail;
 
 // Two pointers to one number, as elements of a vector.
 const TWO_NUMBERS: &[u8] = b"\x0a\0\0\0\xfc\xff\xff\xff\xf8\xff\xff\xff\xf8\xff\xff\xff\x02\0\0\0";
-
-type Numbers = ArchivedVec<ArchivedRc<ArchivedU32, RcFlavor>>;
 
 // An empty shared slice and one of a 100, as elements of a vector.
 const TWO_SLICES: &[u8] =
@@ -36,95 +34,168 @@ fn assert_two(rt: &impl Abort, numbers: &[Shared<u32>], in_one_place: bool) {
     assert_same(rt, "in one place", one, in_one_place);
 }
 
-#[test]
-fn a_pool_gives_one_value_for_a_position(rt: HostRuntime) -> Result<(), Fail> {
-    let mut pool: HighDeserializer<Shared<u32>> = Pool::new(rt.alloc());
-    let numbers: Vec<Shared<u32>> = read(rt.alloc(), TWO_NUMBERS, &mut pool)?;
-    assert_two(&rt, &numbers, true);
-    Ok(())
+// What is read back of a list of pointers.
+fn read_list<T: Archive + Drop, D: Pooling<Shared<T>>>(
+    rt: &impl Abort,
+    alloc: Global,
+    archive: &[u8],
+    deserializer: &mut D,
+) -> Vec<Shared<T>>
+where
+    T::Archived: Deserialize<T, D>,
+{
+    read(rt, alloc, archive, deserializer)
+}
+
+// Such a list is refused.
+fn assert_list_unread<T: Archive + Drop, D: Pooling<Shared<T>>>(
+    rt: &impl Abort,
+    alloc: Global,
+    archive: &[u8],
+    deserializer: &mut D,
+    refusal: Error,
+)
+where
+    T::Archived: Deserialize<T, D>,
+{
+    let found: Result<Vec<Shared<T>>, Error> = from_bytes(alloc, archive, deserializer);
+    assert_error(rt, "the list", found, refusal);
+}
+
+// What is read back of a list of pointers to slices.
+fn read_slices<T: Archive + Drop, D: Pooling<SharedSlice<T>>>(
+    rt: &impl Abort,
+    alloc: Global,
+    archive: &[u8],
+    deserializer: &mut D,
+) -> Vec<SharedSlice<T>>
+where
+    T::Archived: Deserialize<T, D>,
+{
+    read(rt, alloc, archive, deserializer)
+}
+
+// What is read back once more of the first pointer of a list.
+fn read_first<T: Archive + Drop, D: Pooling<Shared<T>>>(
+    rt: &impl Abort,
+    alloc: Global,
+    archive: &[u8],
+    deserializer: &mut D,
+) -> Shared<T>
+where
+    T::Archived: Deserialize<T, D>,
+{
+    let list = viewed::<ArchivedVec<ArchivedRc<T::Archived, RcFlavor>>>(rt, alloc, archive);
+    let Some(view) = list.as_slice().get(0) else {
+        panic!(rt; "no pointer")
+    };
+    deserialize_using(alloc, view, deserializer).expect(rt, "a value")
+}
+
+// A position is started: it was unknown.
+fn assert_started<T: Pooled>(rt: &impl Abort, pool: &mut Pool<T>, pos: usize) {
+    let state = pool.start_pooling(pos).expect(rt, "memory");
+    assert!(rt; matches!(state, PoolingState::Started), "started");
+}
+
+// It is pending.
+fn assert_pending<T: Pooled>(rt: &impl Abort, pool: &mut Pool<T>, pos: usize) {
+    let state = pool.start_pooling(pos).expect(rt, "memory");
+    assert!(rt; matches!(state, PoolingState::Pending), "pending");
 }
 
 #[test]
-fn a_pool_is_used_twice_for_one_buffer(rt: HostRuntime) -> Result<(), Fail> {
+fn a_pool_gives_one_value_for_a_position(rt: HostRuntime) {
+    let mut pool: HighDeserializer<Shared<u32>> = Pool::new(rt.alloc());
+    let numbers = read_list(&rt, rt.alloc(), TWO_NUMBERS, &mut pool);
+    assert_two(&rt, &numbers, true);
+}
+
+#[test]
+fn a_pool_is_used_twice_for_one_buffer(rt: HostRuntime) {
     let mut pool: Pool<Shared<u32>> = Pool::new(rt.alloc());
-    let numbers: Vec<Shared<u32>> = read(rt.alloc(), TWO_NUMBERS, &mut pool)?;
+    let numbers = read_list(&rt, rt.alloc(), TWO_NUMBERS, &mut pool);
     let known = (pool.is_known(0), pool.is_known(4));
     assert_same(&rt, "the number's position", known, (true, false));
-    let Some(view) = access::<Numbers>(rt.alloc(), TWO_NUMBERS)?
-        .as_slice()
-        .get(0)
-    else {
-        panic!(rt; "no number")
-    };
-    let again: Shared<u32> = deserialize_using(rt.alloc(), view, &mut pool)?;
+    let again = read_first(&rt, rt.alloc(), TWO_NUMBERS, &mut pool);
     assert_same(&rt, "the number", number_of(&again), (0, 10));
     for number in numbers {
         let one = Rc::ptr_eq(&number.value, &again.value);
         assert_holds(&rt, "one number", one);
     }
-    Ok(())
 }
 
 #[test]
-fn without_a_pool_each_pointer_has_a_value(rt: HostRuntime) -> Result<(), Fail> {
-    let numbers: Vec<Shared<u32>> = read(rt.alloc(), TWO_NUMBERS, &mut Unpool)?;
+fn without_a_pool_each_pointer_has_a_value(rt: HostRuntime) {
+    let numbers = read_list(&rt, rt.alloc(), TWO_NUMBERS, &mut Unpool);
     assert_two(&rt, &numbers, false);
-    Ok(())
 }
 
 #[test]
-fn slices_are_read_back(rt: HostRuntime) -> Result<(), Fail> {
-    let mut pool: Pool<SharedSlice<u32>> = Pool::with_capacity(rt.alloc(), 2)?;
-    let slices: Vec<SharedSlice<u32>> = read(rt.alloc(), TWO_SLICES, &mut pool)?;
+fn slices_are_read_back(rt: HostRuntime) {
+    let pool = Pool::with_capacity(rt.alloc(), 2);
+    let mut pool: Pool<SharedSlice<u32>> = pool.expect(&rt, "memory");
+    let slices = read_slices(&rt, rt.alloc(), TWO_SLICES, &mut pool);
     let [first, second] = slices.as_slice() else {
-        panic!(rt; "not two")
+        panic!(&rt; "not two")
     };
     let found = (first.key, first.value.len());
     assert_same(&rt, "the first", found, (0, 0));
     assert_same(&rt, "the second's key", second.key, 4);
     assert_same(&rt, "the second", second.value.as_slice(), &[100]);
-    Ok(())
 }
 
 #[test]
-fn texts_and_nulls_are_read_back(rt: HostRuntime) -> Result<(), Fail> {
+fn texts_and_nulls_are_read_back(rt: HostRuntime) {
     let archive = b"hello\0\0\0\xf8\xff\xff\xff\x05\0\0\0";
-    let text: SharedStr = read(rt.alloc(), archive, &mut Unpool)?;
+    let text: SharedStr = read(&rt, rt.alloc(), archive, &mut Unpool);
     assert_same(&rt, "the text", text.value.as_str(), "hello");
-    let null: WeakShared<u32> = read(rt.alloc(), b"\x01\0\0\0", &mut Unpool)?;
+    let null: WeakShared<u32> = read(&rt, rt.alloc(), b"\x01\0\0\0", &mut Unpool);
     assert_holds(&rt, "null", null.value.is_none());
-    Ok(())
 }
 
 #[test]
-fn a_pending_position_is_refused(rt: HostRuntime) -> Result<(), Fail> {
+fn a_pending_position_is_refused(rt: HostRuntime) {
     let mut pool: Pool<Shared<u32>> = Pool::new(rt.alloc());
-    let started = matches!(pool.start_pooling(0)?, PoolingState::Started);
-    assert_holds(&rt, "started", started);
-    let pending = matches!(pool.start_pooling(0)?, PoolingState::Pending);
-    assert_holds(&rt, "pending", pending);
-    let numbers: Result<Vec<Shared<u32>>, Error> = read(rt.alloc(), TWO_NUMBERS, &mut pool);
-    let refusal = numbers.err();
-    assert_same(&rt, "the refusal", refusal, Some(Error::CyclicDeserialize));
-    Ok(())
+    assert_started(&rt, &mut pool, 0);
+    assert_pending(&rt, &mut pool, 0);
+    assert_list_unread(
+        &rt,
+        rt.alloc(),
+        TWO_NUMBERS,
+        &mut pool,
+        Error::CyclicDeserialize,
+    );
 }
 
-#[test]
-fn a_text_is_finished_once(rt: HostRuntime) -> Result<(), Fail> {
-    let mut pool: Pool<SharedStr> = Pool::new(rt.alloc());
-    let value = RcStr::from_str(rt.alloc(), "hello")?;
-    let text = SharedStr { key: 3, value };
-    let early = pool.finish_pooling(3, text.clone()?);
-    assert_same(&rt, "not started", early, Err(Error::NotStarted));
-    let started = matches!(pool.start_pooling(3)?, PoolingState::Started);
-    assert_holds(&rt, "started", started);
-    let finished = pool.finish_pooling(3, text.clone()?);
-    assert_same(&rt, "finished", finished, Ok(()));
-    let again = pool.finish_pooling(3, text);
-    assert_same(&rt, "again", again, Err(Error::AlreadyFinished));
-    let PoolingState::Finished(kept) = pool.start_pooling(3)? else {
+// A text is finished, or refused with this error.
+fn assert_finished(
+    rt: &impl Abort,
+    pool: &mut Pool<SharedStr>,
+    text: &SharedStr,
+    wanted: Result<(), Error>,
+) {
+    let text = text.clone().expect(rt, "memory");
+    assert_same(rt, "finished", pool.finish_pooling(3, text), wanted);
+}
+
+// The text is kept.
+fn assert_kept(rt: &impl Abort, pool: &mut Pool<SharedStr>, text: &str) {
+    let state = pool.start_pooling(3).expect(rt, "memory");
+    let PoolingState::Finished(kept) = state else {
         panic!(rt; "not kept")
     };
-    assert_same(&rt, "the text", kept.value.as_str(), "hello");
-    Ok(())
+    assert_same(rt, "the text", kept.value.as_str(), text);
+}
+
+#[test]
+fn a_text_is_finished_once(rt: HostRuntime) {
+    let mut pool: Pool<SharedStr> = Pool::new(rt.alloc());
+    let value = RcStr::from_str(rt.alloc(), "hello").expect(&rt, "memory");
+    let text = SharedStr { key: 3, value };
+    assert_finished(&rt, &mut pool, &text, Err(Error::NotStarted));
+    assert_started(&rt, &mut pool, 3);
+    assert_finished(&rt, &mut pool, &text, Ok(()));
+    assert_finished(&rt, &mut pool, &text, Err(Error::AlreadyFinished));
+    assert_kept(&rt, &mut pool, "hello");
 }

@@ -2,12 +2,13 @@
 
 ghost use Rattle.std.specs.Prelude.{◌≡◌, IfOk};
 
-use crate::assertions::assert_same;
+use crate::assertions::{assert_error, assert_same, assert_served};
 use archive_core::error::Error;
 use archive_core::ser::{Serializer, Writer};
 use archive_core::sharing::{Share, Sharing, SharingExt};
 use archive_core::string::Text;
-use std::test::Fail;
+use archive_core::traits::SerializeUnsized;
+use std::process::Abort;
 
 // Writes a shared text twice. The contract of `serialize_shared` alone shows that both stand at one position.
 fn write_twice<S: Sharing + Writer>(
@@ -22,23 +23,58 @@ fn write_twice<S: Sharing + Writer>(
     Ok((first, second))
 }
 
+// A value that is shared with this key stands at this position.
+fn assert_shared<T: SerializeUnsized<S>, S: Sharing + Writer>(
+    rt: &impl Abort,
+    what: &str,
+    serializer: &mut S,
+    key: u64,
+    value: &T,
+    pos: usize,
+) {
+    let found = serializer.serialize_shared(key, value);
+    assert_served(rt, what, found, pos);
+}
+
+// A text whose key is pending is refused.
+fn assert_pending<S: Sharing + Writer>(
+    rt: &impl Abort,
+    serializer: &mut S,
+    key: u64,
+    text: &Text<'_>,
+) {
+    serializer.start_sharing(key).expect(rt, "memory");
+    let found = serializer.serialize_shared(key, text);
+    assert_error(rt, "pending", found, Error::CyclicSerialize);
+}
+
+// Two texts are written, each once.
+fn share_texts<S: Sharing + Writer>(rt: &impl Abort, serializer: &mut S) {
+    let (hello, world) = (Text { text: "hello" }, Text { text: "world" });
+    let twice = write_twice(serializer, 1, &hello);
+    assert_served(rt, "twice", twice, (0, 0));
+    assert_shared(rt, "another", serializer, 2, &world, 5);
+    assert_shared(rt, "again", serializer, 1, &hello, 0);
+    assert_pending(rt, serializer, 3, &hello);
+}
+
+// A value is shared first of all, and again: one call of a test at the tuple's type does for both.
+fn share_again<T: SerializeUnsized<S>, S: Sharing + Writer>(
+    rt: &impl Abort,
+    serializer: &mut S,
+    value: &T,
+) {
+    assert_shared(rt, "at first", serializer, 5, value, 0);
+    assert_shared(rt, "again", serializer, 5, value, 0);
+}
+
 #[test]
-fn a_shared_value_is_written_once(rt: HostRuntime) -> Result<(), Fail> {
+fn a_shared_value_is_written_once(rt: HostRuntime) {
     let sharing = Share::new(rt.alloc());
     let mut serializer = Serializer::new(Vec::new(rt.alloc()), rt.alloc(), sharing);
-    let (hello, world) = (Text { text: "hello" }, Text { text: "world" });
-    let twice = write_twice(&mut serializer, 1, &hello);
-    assert_same(&rt, "twice", twice, Ok((0, 0)));
-    let pos = serializer.serialize_shared(2, &world);
-    assert_same(&rt, "another", pos, Ok(5));
-    let pos = serializer.serialize_shared(1, &hello);
-    assert_same(&rt, "again", pos, Ok(0));
-    serializer.start_sharing(3)?;
-    let pos = serializer.serialize_shared(3, &hello);
-    assert_same(&rt, "pending", pos, Err(Error::CyclicSerialize));
+    share_texts(&rt, &mut serializer);
     let bytes = serializer.into_writer();
     assert_same(&rt, "the bytes", bytes.as_slice(), b"helloworld");
-    Ok(())
 }
 
 #[test]
@@ -46,10 +82,7 @@ fn a_tuple_of_four_is_shared(rt: HostRuntime) {
     let sharing = Share::new(rt.alloc());
     let mut serializer = Serializer::new(Vec::new(rt.alloc()), rt.alloc(), sharing);
     let value = (1u32, 2u32, 3u32, 4u32);
-    let pos = serializer.serialize_shared(5, &value);
-    assert_same(&rt, "at first", pos, Ok(0));
-    let pos = serializer.serialize_shared(5, &value);
-    assert_same(&rt, "again", pos, Ok(0));
+    share_again(&rt, &mut serializer, &value);
     let bytes = serializer.into_writer();
     let right = b"\x01\0\0\0\x02\0\0\0\x03\0\0\0\x04\0\0\0";
     assert_same(&rt, "the bytes", bytes.as_slice(), right);

@@ -3,25 +3,24 @@
 ghost use Rattle.std.specs.Prelude.{true, IfOk, ◌≤◌, length};
 ghost use Rattle.std.proofs.Common.{true≢false};
 
-use crate::assertions::{assert_holds, assert_same, read};
+use crate::assertions::{assert_holds, assert_same};
 use archive_check::context::positions::SharedValidator;
 use archive_check::context::range::ArchiveValidator;
 use archive_check::context::validator::Validator;
 use archive_check::context::{ArchiveContext, SharedContext};
-use archive_core::api::{check_pos_with_context, serialize_using};
+use archive_core::api::{check_pos_with_context, from_bytes, serialize_using};
 use archive_core::error::Error;
 use archive_core::pooling::{Pool, Pooling, PoolingState};
 use archive_core::primitive::ArchivedU32;
 use archive_core::rc::{ArchivedRc, RcFlavor, Shared};
 use archive_core::ser::{Serializer, Writer};
 use archive_core::sharing::Share;
-use archive_core::traits::Entries;
+use archive_core::traits::{Archive, Deserialize, Entries};
 use archive_tuple::ArchivedTuple2;
 use linked_list_allocator::LocalHeap;
 use std::alloc::{Allocator, Global};
 use std::process::Abort;
 use std::rc::Rc;
-use std::test::Fail;
 
 // Two pointers to one 10.
 const ONE_NUMBER: &[u8] = b"\x0a\0\0\0\xfc\xff\xff\xff\xf8\xff\xff\xff";
@@ -36,13 +35,11 @@ type ArchivedPair = ArchivedTuple2<
     ArchivedRc<ArchivedU32, RcFlavor>,
 >;
 
-fn pair_of(alloc: Global, number: u32) -> Result<Pair, Error> {
-    let first = Shared {
-        key: 1,
-        value: Rc::new(alloc, number)?,
-    };
-    let second = first.clone()?;
-    Ok((first, second))
+fn pair_of(rt: &impl Abort, alloc: Global, number: u32) -> Pair {
+    let value = Rc::new(alloc, number).expect(rt, "memory");
+    let first = Shared { key: 1, value };
+    let second = first.clone().expect(rt, "memory");
+    (first, second)
 }
 
 // Four bytes and then the pair, with all memory from `alloc`: what was written, and what was answered.
@@ -63,32 +60,45 @@ fn assert_with(rt: &impl Abort, units: usize, what: &str, holds: bool) {
     assert!(rt; holds, "{what}, with {units} units");
 }
 
+// All that stands behind the four bytes is written where all memory is served, and else a beginning of it, with 1: how many bytes, and whether all is served.
+fn assert_written_in<A: Allocator + Copy + Drop>(
+    rt: &impl Abort,
+    units: usize,
+    alloc: A,
+    pair: &Pair,
+) -> (usize, bool) {
+    let (bytes, root) = written_in(alloc, pair);
+    let beginning = BEHIND_OTHERS.starts_with(bytes.as_slice());
+    assert_with(rt, units, "a beginning", beginning);
+    match root {
+        Ok(root) => {
+            assert_same(rt, "the root", root, 8);
+            assert_same(rt, "all", bytes.as_slice(), BEHIND_OTHERS);
+            (bytes.len(), true)
+        }
+        Err(error) => {
+            assert_same(rt, "the refusal", error, Error::OutOfMemory);
+            (bytes.len(), false)
+        }
+    }
+}
+
 #[test]
-fn what_was_written_before_stands(rt: HostRuntime) -> Result<(), Fail> {
-    let pair = pair_of(rt.alloc(), 10)?;
+fn what_was_written_before_stands(rt: HostRuntime) {
+    let pair = pair_of(&rt, rt.alloc(), 10);
     let mut most = 0usize;
     let mut served = false;
     for units in 1..64usize {
-        let heap = LocalHeap::new(rt.alloc(), units * 16)?;
-        let (bytes, root) = written_in(&heap, &pair);
-        let beginning = BEHIND_OTHERS.starts_with(bytes.as_slice());
-        assert_with(&rt, units, "a beginning", beginning);
-        match root {
-            Ok(root) => {
-                assert_same(&rt, "the root", root, 8);
-                assert_same(&rt, "all", bytes.as_slice(), BEHIND_OTHERS);
-                served = true;
-            }
-            Err(error) => {
-                assert_same(&rt, "the refusal", error, Error::OutOfMemory);
-                let more = !served && most <= bytes.len();
-                assert_with(&rt, units, "no less", more);
-                most = bytes.len();
-            }
+        let heap = LocalHeap::new(rt.alloc(), units * 16).expect(&rt, "memory");
+        let (length, all) = assert_written_in(&rt, units, &heap, &pair);
+        if all {
+            served = true;
+        } else {
+            assert_with(&rt, units, "no less", !served && most <= length);
+            most = length;
         }
     }
     assert_holds(&rt, "served, and refused before", served && most >= 4);
-    Ok(())
 }
 
 // The number of the refusal of the pair's bytes in a context of them, or 0 where they are accepted.
@@ -105,15 +115,20 @@ fn refusal_in<C: ArchiveContext + SharedContext>(
     }
 }
 
+// And in one whose memory comes from an allocator.
+fn refusal_with<A: Allocator + Copy + Drop>(alloc: Global, memory: A) -> u32 {
+    let range = ArchiveValidator::new(ONE_NUMBER);
+    let mut context = Validator::new(range, SharedValidator::new(memory));
+    refusal_in(alloc, ONE_NUMBER, &mut context)
+}
+
 #[test]
-fn a_check_is_served_or_refused(rt: HostRuntime) -> Result<(), Fail> {
+fn a_check_is_served_or_refused(rt: HostRuntime) {
     let mut refused = false;
     let mut served = false;
     for units in 1..64usize {
-        let heap = LocalHeap::new(rt.alloc(), units * 32)?;
-        let range = ArchiveValidator::new(ONE_NUMBER);
-        let mut context = Validator::new(range, SharedValidator::new(&heap));
-        match refusal_in(rt.alloc(), ONE_NUMBER, &mut context) {
+        let heap = LocalHeap::new(rt.alloc(), units * 32).expect(&rt, "memory");
+        match refusal_with(rt.alloc(), &heap) {
             0 => served = true,
             number => {
                 assert_with(&rt, units, "refused with 1", number == 1);
@@ -123,7 +138,6 @@ fn a_check_is_served_or_refused(rt: HostRuntime) -> Result<(), Fail> {
         }
     }
     assert_holds(&rt, "refused and served", refused && served);
-    Ok(())
 }
 
 // A pool that serves so many requests and refuses those behind them.
@@ -159,31 +173,59 @@ impl Pooling<Shared<u32>> for Refusing {
     }
 }
 
-// What a reading with so many requests served answers, and what the pool has then at the number's position: nothing, or it is pending, or the number.
-fn read_with(alloc: Global, served: usize) -> Result<(Option<Error>, Option<Option<u32>>), Error> {
-    let pool = Pool::new(alloc);
-    let mut refusing = Refusing { pool, served };
-    let found: Result<Pair, Error> = read(alloc, ONE_NUMBER, &mut refusing);
-    let Refusing { mut pool, .. } = refusing;
+// A pair is read back, or refused with this error.
+fn assert_pair_read<T: Archive + Drop, D: Pooling<Shared<T>>>(
+    rt: &impl Abort,
+    alloc: Global,
+    archive: &[u8],
+    deserializer: &mut D,
+    refusal: Option<Error>,
+)
+where
+    T::Archived: Deserialize<T, D>,
+{
+    let found: Result<(Shared<T>, Shared<T>), Error> = from_bytes(alloc, archive, deserializer);
+    assert_same(rt, "the refusal", found.err(), refusal);
+}
+
+// What a pool has at the number's position: nothing, or it is pending, or the number.
+fn state_of(rt: &impl Abort, pool: &mut Pool<Shared<u32>>) -> Option<Option<u32>> {
     if !pool.is_known(0) {
-        return Ok((found.err(), None));
+        return None;
     }
-    let state = match pool.start_pooling(0)? {
-        PoolingState::Finished(number) => Some(*number.value),
-        PoolingState::Pending | PoolingState::Started => None,
+    match pool.start_pooling(0).expect(rt, "memory") {
+        PoolingState::Finished(number) => Some(Some(*number.value)),
+        PoolingState::Pending | PoolingState::Started => Some(None),
+    }
+}
+
+// What the pool has there behind a reading with so many requests served, which is refused for want of memory or isn't.
+fn read_with(
+    rt: &impl Abort,
+    alloc: Global,
+    served: usize,
+    is_refused: bool,
+) -> Option<Option<u32>> {
+    let pool: Pool<Shared<u32>> = Pool::new(alloc);
+    let mut refusing = Refusing { pool, served };
+    let refusal = if is_refused {
+        Some(Error::OutOfMemory)
+    } else {
+        None
     };
-    Ok((found.err(), Some(state)))
+    assert_pair_read::<u32, _>(rt, alloc, ONE_NUMBER, &mut refusing, refusal);
+    let Refusing { mut pool, .. } = refusing;
+    state_of(rt, &mut pool)
 }
 
 #[test]
 fn what_a_pool_finished_stands(rt: HostRuntime) {
-    let no_memory = Some(Error::OutOfMemory);
-    let found = read_with(rt.alloc(), 0);
-    assert_same(&rt, "none served", found, Ok((no_memory, None)));
-    let found = read_with(rt.alloc(), 1);
-    assert_same(&rt, "one served", found, Ok((no_memory, Some(None))));
-    let found = read_with(rt.alloc(), 2);
-    assert_same(&rt, "two served", found, Ok((no_memory, Some(Some(10)))));
-    let found = read_with(rt.alloc(), 3);
-    assert_same(&rt, "three served", found, Ok((None, Some(Some(10)))));
+    let found = read_with(&rt, rt.alloc(), 0, true);
+    assert_same(&rt, "none served", found, None);
+    let found = read_with(&rt, rt.alloc(), 1, true);
+    assert_same(&rt, "one served", found, Some(None));
+    let found = read_with(&rt, rt.alloc(), 2, true);
+    assert_same(&rt, "two served", found, Some(Some(10)));
+    let found = read_with(&rt, rt.alloc(), 3, false);
+    assert_same(&rt, "three served", found, Some(Some(10)));
 }

@@ -1,18 +1,20 @@
-// Pairs of shared and weak pointers: written, checked and read back.
+// Pairs of shared and weak pointers: written, checked and read back. What is done with a pair is said of any type once, so that a test hands over what the
+// type it is about does, and not what the pair does.
 
-use crate::assertions::{assert_holds, assert_same, assert_written, checked, read};
-use archive_core::api::HighDeserializer;
+use crate::assertions::{
+    assert_accepted, assert_holds, assert_refused, assert_same, assert_written, read,
+};
+use archive_core::api::{HighDeserializer, HighSerializer};
 use archive_core::error::Error;
-use archive_core::pooling::{Pool, Unpool};
+use archive_core::pooling::{Pool, Pooling, Unpool};
 use archive_core::primitive::{ArchivedI32, ArchivedU32};
 use archive_core::rc::{ArchivedRc, ArchivedRcWeak, RcFlavor, Shared, SharedSlice, WeakShared};
 use archive_core::slice::ArchivedSlice;
-use archive_core::traits::{Portable, PortablePointee};
+use archive_core::traits::{Archive, Deserialize, Portable, PortablePointee, Serialize};
 use archive_tuple::ArchivedTuple2;
-use std::alloc::{AllocError, Global};
+use std::alloc::Global;
 use std::process::Abort;
 use std::rc::{Rc, RcSlice};
-use std::test::Fail;
 
 // Two pointers to one 10; the second may be weak.
 const ONE_NUMBER: &[u8] = b"\x0a\0\0\0\xfc\xff\xff\xff\xf8\xff\xff\xff";
@@ -30,21 +32,145 @@ const TWO_SLICES: &[u8] = b"\0\0\0\0\x64\0\0\0\xf8\xff\xff\xff\0\0\0\0\xf4\xff\x
 const ONE_SLICE_OF_TEXTS: &[u8] =
     b"hello\xff\xff\xffworld\xff\xff\xff\xf0\xff\xff\xff\x02\0\0\0\xe8\xff\xff\xff\x02\0\0\0";
 
-fn shared<T: Drop>(alloc: Global, key: u64, value: T) -> Result<Shared<T>, AllocError> {
-    Ok(Shared {
-        key,
-        value: Rc::new(alloc, value)?,
-    })
+fn shared<T: Drop>(rt: &impl Abort, alloc: Global, key: u64, value: T) -> Shared<T> {
+    let value = Rc::new(alloc, value).expect(rt, "memory");
+    Shared { key, value }
 }
 
-// What a check of a pair of these says.
-fn check_pair<A: Portable, B: Portable>(alloc: Global, bytes: &[u8]) -> Result<(), Error> {
-    checked::<ArchivedTuple2<A, B>>(alloc, bytes)
+fn shared_slice<T: Drop>(rt: &impl Abort, key: u64, values: Vec<T>) -> SharedSlice<T> {
+    let value = RcSlice::from_vec(values).expect(rt, "memory");
+    SharedSlice { key, value }
 }
 
-// And of two shared pointers to one type.
-fn check_two<T: PortablePointee>(alloc: Global, bytes: &[u8]) -> Result<(), Error> {
-    check_pair::<ArchivedRc<T, RcFlavor>, ArchivedRc<T, RcFlavor>>(alloc, bytes)
+// The archive of two pointers, each of its own key and value.
+fn assert_two_written<T: Serialize<HighSerializer<Vec<u8>, Global>> + Drop>(
+    rt: &impl Abort,
+    alloc: Global,
+    values: (T, T),
+    archive: &[u8],
+) {
+    let pair = (
+        shared(rt, alloc, 1, values.0),
+        shared(rt, alloc, 2, values.1),
+    );
+    assert_written(rt, alloc, &pair, archive);
+}
+
+// And of two pointers to one value.
+fn assert_twice_written<T: Serialize<HighSerializer<Vec<u8>, Global>> + Drop>(
+    rt: &impl Abort,
+    alloc: Global,
+    value: T,
+    archive: &[u8],
+) {
+    let first = shared(rt, alloc, 1, value);
+    let second = first.clone().expect(rt, "memory");
+    assert_written(rt, alloc, &(first, second), archive);
+}
+
+// And of a pointer to a value with a weak one, to the same value or to none.
+fn assert_weak_written<T: Serialize<HighSerializer<Vec<u8>, Global>> + Drop>(
+    rt: &impl Abort,
+    alloc: Global,
+    value: T,
+    is_null: bool,
+    archive: &[u8],
+) {
+    let first = shared(rt, alloc, 1, value);
+    let value = if is_null {
+        None
+    } else {
+        Some(first.clone().expect(rt, "memory"))
+    };
+    assert_written(rt, alloc, &(first, WeakShared { value }), archive);
+}
+
+// And of two slices.
+fn assert_slices_written<T: Serialize<HighSerializer<Vec<u8>, Global>> + Drop>(
+    rt: &impl Abort,
+    alloc: Global,
+    slices: (SharedSlice<T>, SharedSlice<T>),
+    archive: &[u8],
+) {
+    assert_written(rt, alloc, &slices, archive);
+}
+
+// And of two pointers to one slice.
+fn assert_slice_twice_written<T: Serialize<HighSerializer<Vec<u8>, Global>> + Drop>(
+    rt: &impl Abort,
+    alloc: Global,
+    values: Vec<T>,
+    archive: &[u8],
+) {
+    let first = shared_slice(rt, 1, values);
+    let second = first.clone().expect(rt, "memory");
+    assert_written(rt, alloc, &(first, second), archive);
+}
+
+// What is read back of two pointers.
+fn read_two<T: Archive + Drop, D: Pooling<Shared<T>>>(
+    rt: &impl Abort,
+    alloc: Global,
+    archive: &[u8],
+    deserializer: &mut D,
+) -> (Shared<T>, Shared<T>)
+where
+    T::Archived: Deserialize<T, D>,
+{
+    read(rt, alloc, archive, deserializer)
+}
+
+// Of a pointer and a weak one.
+fn read_weak<T: Archive + Drop, D: Pooling<Shared<T>>>(
+    rt: &impl Abort,
+    alloc: Global,
+    archive: &[u8],
+    deserializer: &mut D,
+) -> (Shared<T>, WeakShared<T>)
+where
+    T::Archived: Deserialize<T, D>,
+{
+    read(rt, alloc, archive, deserializer)
+}
+
+// And of two pointers to slices.
+fn read_slices<T: Archive + Drop, D: Pooling<SharedSlice<T>>>(
+    rt: &impl Abort,
+    alloc: Global,
+    archive: &[u8],
+    deserializer: &mut D,
+) -> (SharedSlice<T>, SharedSlice<T>)
+where
+    T::Archived: Deserialize<T, D>,
+{
+    read(rt, alloc, archive, deserializer)
+}
+
+// A pair of these is accepted.
+fn assert_pair<A: Portable, B: Portable>(rt: &impl Abort, alloc: Global, bytes: &[u8]) {
+    assert_accepted::<ArchivedTuple2<A, B>>(rt, alloc, bytes);
+}
+
+// Two shared pointers to one type are.
+fn assert_two<T: PortablePointee>(rt: &impl Abort, alloc: Global, bytes: &[u8]) {
+    assert_pair::<ArchivedRc<T, RcFlavor>, ArchivedRc<T, RcFlavor>>(rt, alloc, bytes);
+}
+
+// A shared pointer and a weak one to one type are.
+fn assert_weak<T: PortablePointee>(rt: &impl Abort, alloc: Global, bytes: &[u8]) {
+    assert_pair::<ArchivedRc<T, RcFlavor>, ArchivedRcWeak<T, RcFlavor>>(rt, alloc, bytes);
+}
+
+// Shared pointers to these two types are refused.
+fn assert_not_two<T: PortablePointee, U: PortablePointee>(
+    rt: &impl Abort,
+    what: &str,
+    alloc: Global,
+    bytes: &[u8],
+    refusal: Error,
+) {
+    type One<T> = ArchivedRc<T, RcFlavor>;
+    assert_refused::<ArchivedTuple2<One<T>, One<U>>>(rt, what, alloc, bytes, refusal);
 }
 
 // The key and the number of a shared number.
@@ -52,93 +178,69 @@ fn number_of(number: &Shared<u32>) -> (u64, u32) {
     (number.key, *number.value)
 }
 
+// Each of two pointers leads to a 10 and has the key 0, and both to one 10 or to two.
+fn assert_tens(rt: &impl Abort, pair: &(Shared<u32>, Shared<u32>), in_one_place: bool) {
+    assert_same(rt, "the first", number_of(&pair.0), (0, 10));
+    assert_same(rt, "the second", number_of(&pair.1), (0, 10));
+    let one = Rc::ptr_eq(&pair.0.value, &pair.1.value);
+    assert_same(rt, "one number", one, in_one_place);
+}
+
 #[test]
-fn two_pointers_to_one_number(rt: HostRuntime) -> Result<(), Fail> {
-    let first = shared(rt.alloc(), 1, 10u32)?;
-    let second = first.clone()?;
-    assert_written(&rt, rt.alloc(), &(first, second), ONE_NUMBER)?;
-    let found = check_two::<ArchivedU32>(rt.alloc(), ONE_NUMBER);
-    assert_same(&rt, "the check", found, Ok(()));
+fn two_pointers_to_one_number(rt: HostRuntime) {
+    assert_twice_written(&rt, rt.alloc(), 10u32, ONE_NUMBER);
+    assert_two::<ArchivedU32>(&rt, rt.alloc(), ONE_NUMBER);
     let mut pool: HighDeserializer<Shared<u32>> = Pool::new(rt.alloc());
-    let (first, second): (Shared<u32>, Shared<u32>) = read(rt.alloc(), ONE_NUMBER, &mut pool)?;
-    assert_same(&rt, "the first", number_of(&first), (0, 10));
-    assert_same(&rt, "the second", number_of(&second), (0, 10));
-    let one = Rc::ptr_eq(&first.value, &second.value);
-    assert_holds(&rt, "one number", one);
-    Ok(())
+    let pair = read_two(&rt, rt.alloc(), ONE_NUMBER, &mut pool);
+    assert_tens(&rt, &pair, true);
 }
 
 #[test]
-fn two_pointers_to_one_number_without_a_pool(rt: HostRuntime) -> Result<(), Fail> {
-    let (first, second): (Shared<u32>, Shared<u32>) = read(rt.alloc(), ONE_NUMBER, &mut Unpool)?;
-    assert_same(&rt, "the first", number_of(&first), (0, 10));
-    assert_same(&rt, "the second", number_of(&second), (0, 10));
-    let one = Rc::ptr_eq(&first.value, &second.value);
-    assert_holds(&rt, "two numbers", !one);
-    Ok(())
+fn two_pointers_to_one_number_without_a_pool(rt: HostRuntime) {
+    let pair = read_two(&rt, rt.alloc(), ONE_NUMBER, &mut Unpool);
+    assert_tens(&rt, &pair, false);
 }
 
 #[test]
-fn two_pointers_to_two_numbers(rt: HostRuntime) -> Result<(), Fail> {
-    let pair = (shared(rt.alloc(), 1, 10u32)?, shared(rt.alloc(), 2, 20u32)?);
+fn two_pointers_to_two_numbers(rt: HostRuntime) {
     let archive = b"\x0a\0\0\0\x14\0\0\0\xf8\xff\xff\xff\xf8\xff\xff\xff";
-    assert_written(&rt, rt.alloc(), &pair, archive)?;
-    Ok(())
+    assert_two_written(&rt, rt.alloc(), (10u32, 20u32), archive);
 }
 
 #[test]
-fn two_pointers_to_one_unit(rt: HostRuntime) -> Result<(), Fail> {
-    let first = shared(rt.alloc(), 1, ())?;
-    let second = first.clone()?;
-    assert_written(&rt, rt.alloc(), &(first, second), ONE_UNIT)?;
-    let found = check_two::<()>(rt.alloc(), ONE_UNIT);
-    assert_same(&rt, "the check", found, Ok(()));
+fn two_pointers_to_one_unit(rt: HostRuntime) {
+    assert_twice_written(&rt, rt.alloc(), (), ONE_UNIT);
+    assert_two::<()>(&rt, rt.alloc(), ONE_UNIT);
     let mut pool: Pool<Shared<()>> = Pool::new(rt.alloc());
-    let (first, second): (Shared<()>, Shared<()>) = read(rt.alloc(), ONE_UNIT, &mut pool)?;
+    let (first, second): (Shared<()>, Shared<()>) = read_two(&rt, rt.alloc(), ONE_UNIT, &mut pool);
     assert_same(&rt, "the keys", (first.key, second.key), (0, 0));
-    Ok(())
-}
-
-fn shared_slice<T: Drop>(key: u64, values: Vec<T>) -> Result<SharedSlice<T>, AllocError> {
-    Ok(SharedSlice {
-        key,
-        value: RcSlice::from_vec(values)?,
-    })
 }
 
 #[test]
-fn an_empty_slice_and_one_of_a_number(rt: HostRuntime) -> Result<(), Fail> {
-    let empty: SharedSlice<u32> = shared_slice(1, Vec::new(rt.alloc()))?;
-    let numbers = shared_slice(2, vec![in rt.alloc(); 100u32]?)?;
-    assert_written(&rt, rt.alloc(), &(empty, numbers), TWO_SLICES)?;
-    let found = check_two::<ArchivedSlice<ArchivedU32>>(rt.alloc(), TWO_SLICES);
-    assert_same(&rt, "the check", found, Ok(()));
-    Ok(())
+fn an_empty_slice_and_one_of_a_number(rt: HostRuntime) {
+    let empty: SharedSlice<u32> = shared_slice(&rt, 1, Vec::new(rt.alloc()));
+    let numbers = vec![in rt.alloc(); 100u32].expect(&rt, "memory");
+    let slices = (empty, shared_slice(&rt, 2, numbers));
+    assert_slices_written(&rt, rt.alloc(), slices, TWO_SLICES);
+    assert_two::<ArchivedSlice<ArchivedU32>>(&rt, rt.alloc(), TWO_SLICES);
 }
 
 #[test]
-fn an_empty_slice_and_one_of_a_number_are_read_back(rt: HostRuntime) -> Result<(), Fail> {
+fn an_empty_slice_and_one_of_a_number_are_read_back(rt: HostRuntime) {
     let mut pool: Pool<SharedSlice<u32>> = Pool::new(rt.alloc());
-    let (empty, numbers): (SharedSlice<u32>, SharedSlice<u32>) = read(
-        rt.alloc(),
-        TWO_SLICES,
-        &mut pool,
-    )?;
+    let (empty, numbers) = read_slices(&rt, rt.alloc(), TWO_SLICES, &mut pool);
     let length = empty.value.len();
     assert_same(&rt, "the empty one", (empty.key, length), (0, 0));
     assert_same(&rt, "the key", numbers.key, 4);
     assert_same(&rt, "the number", numbers.value.as_slice(), &[100]);
-    Ok(())
 }
 
 #[test]
-fn two_pointers_to_one_slice_of_texts(rt: HostRuntime) -> Result<(), Fail> {
-    let hello = String::from_str(rt.alloc(), "hello")?;
-    let world = String::from_str(rt.alloc(), "world")?;
-    let first = shared_slice(1, vec![in rt.alloc(); hello, world]?)?;
-    let second = first.clone()?;
-    assert_written(&rt, rt.alloc(), &(first, second), ONE_SLICE_OF_TEXTS)?;
-    Ok(())
+fn two_pointers_to_one_slice_of_texts(rt: HostRuntime) {
+    let hello = String::from_str(rt.alloc(), "hello").expect(&rt, "memory");
+    let world = String::from_str(rt.alloc(), "world").expect(&rt, "memory");
+    let texts = vec![in rt.alloc(); hello, world].expect(&rt, "memory");
+    assert_slice_twice_written(&rt, rt.alloc(), texts, ONE_SLICE_OF_TEXTS);
 }
 
 // The key of a slice is 0, and its texts are "hello" and "world".
@@ -152,61 +254,50 @@ fn assert_hello_world(rt: &impl Abort, slice: &SharedSlice<String>) {
 }
 
 #[test]
-fn two_pointers_to_one_slice_of_texts_are_read_back(rt: HostRuntime) -> Result<(), Fail> {
+fn two_pointers_to_one_slice_of_texts_are_read_back(rt: HostRuntime) {
     let mut pool: Pool<SharedSlice<String>> = Pool::new(rt.alloc());
-    let (first, second): (SharedSlice<String>, SharedSlice<String>) = read(
-        rt.alloc(),
-        ONE_SLICE_OF_TEXTS,
-        &mut pool,
-    )?;
+    let (first, second) = read_slices(&rt, rt.alloc(), ONE_SLICE_OF_TEXTS, &mut pool);
     assert_hello_world(&rt, &first);
     assert_hello_world(&rt, &second);
-    Ok(())
 }
 
 #[test]
-fn a_shared_and_a_weak_pointer_to_one_number(rt: HostRuntime) -> Result<(), Fail> {
-    let number = shared(rt.alloc(), 1, 10u32)?;
-    let weak = WeakShared {
-        value: Some(number.clone()?),
-    };
-    assert_written(&rt, rt.alloc(), &(number, weak), ONE_NUMBER)?;
+fn a_shared_and_a_weak_pointer_to_one_number(rt: HostRuntime) {
+    assert_weak_written(&rt, rt.alloc(), 10u32, false, ONE_NUMBER);
     let mut pool: Pool<Shared<u32>> = Pool::new(rt.alloc());
-    let (number, weak): (Shared<u32>, WeakShared<u32>) = read(rt.alloc(), ONE_NUMBER, &mut pool)?;
+    let (number, weak) = read_weak(&rt, rt.alloc(), ONE_NUMBER, &mut pool);
     assert_same(&rt, "the number", number_of(&number), (0, 10));
     let same = weak.value.as_ref().map(|same| number_of(same));
     assert_same(&rt, "the weak one", same, Some((0, 10)));
-    Ok(())
 }
 
 #[test]
-fn a_shared_number_and_a_null(rt: HostRuntime) -> Result<(), Fail> {
-    let number = shared(rt.alloc(), 1, 10u32)?;
-    let null: WeakShared<u32> = WeakShared { value: None };
-    assert_written(&rt, rt.alloc(), &(number, null), NUMBER_AND_NULL)?;
+fn a_shared_number_and_a_null(rt: HostRuntime) {
+    assert_weak_written(&rt, rt.alloc(), 10u32, true, NUMBER_AND_NULL);
     let mut pool: Pool<Shared<u32>> = Pool::new(rt.alloc());
-    let (number, null): (Shared<u32>, WeakShared<u32>) = read(
-        rt.alloc(),
-        NUMBER_AND_NULL,
-        &mut pool,
-    )?;
+    let (number, null) = read_weak(&rt, rt.alloc(), NUMBER_AND_NULL, &mut pool);
     assert_same(&rt, "the number", number_of(&number), (0, 10));
     assert_holds(&rt, "null", null.value.is_none());
-    Ok(())
 }
 
 #[test]
 fn pairs_are_checked_by_position(rt: HostRuntime) {
     let two_lengths = b"\x01\x02\x03\x04\xfc\xff\xff\xff\x04\0\0\0\xf4\xff\xff\xff\x02\0\0\0";
-    let found = check_two::<ArchivedSlice<u8>>(rt.alloc(), two_lengths);
-    assert_same(&rt, "two lengths", found, Err(Error::MetadataMismatch));
-    type Number = ArchivedRc<ArchivedU32, RcFlavor>;
-    type Signed = ArchivedRc<ArchivedI32, RcFlavor>;
-    type Weak = ArchivedRcWeak<ArchivedU32, RcFlavor>;
-    let found = check_pair::<Number, Signed>(rt.alloc(), ONE_NUMBER);
-    assert_same(&rt, "two types", found, Err(Error::TypeMismatch));
-    let found = check_pair::<Number, Weak>(rt.alloc(), ONE_NUMBER);
-    assert_same(&rt, "a weak one", found, Ok(()));
-    let found = check_pair::<Number, Weak>(rt.alloc(), NUMBER_AND_NULL);
-    assert_same(&rt, "a null", found, Ok(()));
+    type Bytes = ArchivedSlice<u8>;
+    assert_not_two::<Bytes, Bytes>(
+        &rt,
+        "two lengths",
+        rt.alloc(),
+        two_lengths,
+        Error::MetadataMismatch,
+    );
+    assert_not_two::<ArchivedU32, ArchivedI32>(
+        &rt,
+        "two types",
+        rt.alloc(),
+        ONE_NUMBER,
+        Error::TypeMismatch,
+    );
+    assert_weak::<ArchivedU32>(&rt, rt.alloc(), ONE_NUMBER);
+    assert_weak::<ArchivedU32>(&rt, rt.alloc(), NUMBER_AND_NULL);
 }

@@ -1,61 +1,90 @@
-// Shared values as sources.
+// Shared values as sources. A list of them is written in functions of any type, which a test hands its type's part alone.
 
-use crate::assertions::{archived, assert_same, assert_written};
+use crate::assertions::{assert_unwritten, assert_written};
+use archive_core::api::HighSerializer;
 use archive_core::error::Error;
 use archive_core::rc::{Shared, SharedSlice, SharedStr, WeakShared};
+use archive_core::traits::Serialize;
+use std::alloc::Global;
+use std::process::Abort;
 use std::rc::{Rc, RcSlice, RcStr};
-use std::test::Fail;
+
+// The archive of a list of shared values.
+fn assert_list_written<T: Serialize<HighSerializer<Vec<u8>, Global>> + Drop>(
+    rt: &impl Abort,
+    alloc: Global,
+    list: &Vec<Shared<T>>,
+    archive: &[u8],
+) {
+    assert_written(rt, alloc, list, archive);
+}
+
+// And of a list of shared slices.
+fn assert_slices_written<T: Serialize<HighSerializer<Vec<u8>, Global>> + Drop>(
+    rt: &impl Abort,
+    alloc: Global,
+    list: &Vec<SharedSlice<T>>,
+    archive: &[u8],
+) {
+    assert_written(rt, alloc, list, archive);
+}
+
+// A value that is shared with its key within itself is refused.
+fn assert_circle_unwritten<T: Serialize<HighSerializer<Vec<u8>, Global>> + Drop>(
+    rt: &impl Abort,
+    alloc: Global,
+    value: T,
+    refusal: Error,
+) {
+    let value = Rc::new(alloc, value).expect(rt, "memory");
+    let inner = Shared { key: 7, value };
+    let value = Rc::new(alloc, inner).expect(rt, "memory");
+    assert_unwritten(rt, alloc, &Shared { key: 7, value }, refusal);
+}
 
 #[test]
-fn a_shared_number_is_written_once(rt: HostRuntime) -> Result<(), Fail> {
+fn a_shared_number_is_written_once(rt: HostRuntime) {
     let mut numbers = Vec::new(rt.alloc());
     for _ in 0..2 {
-        let value = Rc::new(rt.alloc(), 10u32)?;
-        numbers.push(Shared { key: 1, value })?;
+        let value = Rc::new(rt.alloc(), 10u32).expect(&rt, "memory");
+        numbers.push(Shared { key: 1, value }).expect(&rt, "memory");
     }
     let archive = b"\x0a\0\0\0\xfc\xff\xff\xff\xf8\xff\xff\xff\xf8\xff\xff\xff\x02\0\0\0";
-    assert_written(&rt, rt.alloc(), &numbers, archive)?;
-    Ok(())
+    assert_list_written(&rt, rt.alloc(), &numbers, archive);
 }
 
 #[test]
-fn a_key_within_itself_is_refused(rt: HostRuntime) -> Result<(), Fail> {
-    let inner = Rc::new(rt.alloc(), 10u32)?;
-    let value = Rc::new(
-        rt.alloc(),
-        Shared {
-            key: 7,
-            value: inner,
-        },
-    )?;
-    let outer = Shared { key: 7, value };
-    let refusal = archived(rt.alloc(), &outer).err();
-    assert_same(&rt, "the refusal", refusal, Some(Error::CyclicSerialize));
-    Ok(())
+fn a_key_within_itself_is_refused(rt: HostRuntime) {
+    assert_circle_unwritten(&rt, rt.alloc(), 10u32, Error::CyclicSerialize);
+}
+
+// The texts "hello" and "world", shared.
+fn hello_world(rt: &impl Abort, alloc: Global) -> SharedSlice<String> {
+    let hello = String::from_str(alloc, "hello").expect(rt, "memory");
+    let world = String::from_str(alloc, "world").expect(rt, "memory");
+    let texts = vec![in alloc; hello, world].expect(rt, "memory");
+    let value = RcSlice::from_vec(texts).expect(rt, "memory");
+    SharedSlice { key: 1, value }
 }
 
 #[test]
-fn a_shared_slice_of_texts(rt: HostRuntime) -> Result<(), Fail> {
+fn a_shared_slice_of_texts(rt: HostRuntime) {
     let mut pointers = Vec::new(rt.alloc());
     for _ in 0..2 {
-        let hello = String::from_str(rt.alloc(), "hello")?;
-        let world = String::from_str(rt.alloc(), "world")?;
-        let value = RcSlice::from_vec(vec![in rt.alloc(); hello, world]?)?;
-        pointers.push(SharedSlice { key: 1, value })?;
+        let texts = hello_world(&rt, rt.alloc());
+        pointers.push(texts).expect(&rt, "memory");
     }
     let archive =
         b"hello\xff\xff\xffworld\xff\xff\xff\xf0\xff\xff\xff\x02\0\0\0\xe8\xff\xff\xff\x02\0\0\0\xf0\xff\xff\xff\x02\0\0\0";
-    assert_written(&rt, rt.alloc(), &pointers, archive)?;
-    Ok(())
+    assert_slices_written(&rt, rt.alloc(), &pointers, archive);
 }
 
 #[test]
-fn a_shared_text_and_a_null(rt: HostRuntime) -> Result<(), Fail> {
-    let value = RcStr::from_str(rt.alloc(), "hello")?;
+fn a_shared_text_and_a_null(rt: HostRuntime) {
+    let value = RcStr::from_str(rt.alloc(), "hello").expect(&rt, "memory");
     let text = SharedStr { key: 1, value };
     let archive = b"hello\0\0\0\xf8\xff\xff\xff\x05\0\0\0";
-    assert_written(&rt, rt.alloc(), &text, archive)?;
+    assert_written(&rt, rt.alloc(), &text, archive);
     let null: WeakShared<u32> = WeakShared { value: None };
-    assert_written(&rt, rt.alloc(), &null, b"\x01\0\0\0")?;
-    Ok(())
+    assert_written(&rt, rt.alloc(), &null, b"\x01\0\0\0");
 }

@@ -10,7 +10,7 @@ use archive_core::pooling::{Pool, Pooled, Pooling, PoolingState};
 use archive_core::rc::{Shared, SharedStr};
 use archive_core::traits::Entries;
 use std::alloc::Global;
-use std::test::Fail;
+use std::process::Abort;
 
 // A pointer to a 10, and one to the text "hello".
 const NUMBER_AND_TEXT: &[u8] = b"\x0a\0\0\0hello\0\0\0\xf4\xff\xff\xff\xf4\xff\xff\xff\x05\0\0\0";
@@ -85,19 +85,20 @@ impl<P: Telling<Shared<u32>>, Q: Telling<SharedStr>> Pooling<SharedStr> for TwoP
 
 // A pointer to a number and one to a text, read back by both pools.
 fn read_both<P: Telling<Shared<u32>>, Q: Telling<SharedStr>>(
+    rt: &impl Abort,
     alloc: Global,
     pools: &mut TwoPools<P, Q>,
-) -> Result<(Shared<u32>, SharedStr), Error> {
-    read(alloc, NUMBER_AND_TEXT, pools)
+) -> (Shared<u32>, SharedStr) {
+    read(rt, alloc, NUMBER_AND_TEXT, pools)
 }
 
 #[test]
-fn values_of_two_types_are_pooled(rt: HostRuntime) -> Result<(), Fail> {
+fn values_of_two_types_are_pooled(rt: HostRuntime) {
     let mut pools = TwoPools {
         numbers: Pool::new(rt.alloc()),
         texts: Pool::new(rt.alloc()),
     };
-    let (number, text) = read_both(rt.alloc(), &mut pools)?;
+    let (number, text) = read_both(&rt, rt.alloc(), &mut pools);
     let found = (number.key, *number.value);
     assert_same(&rt, "the number", found, (0, 10));
     let found = (text.key, text.value.as_str());
@@ -106,5 +107,4 @@ fn values_of_two_types_are_pooled(rt: HostRuntime) -> Result<(), Fail> {
     assert_same(&rt, "the numbers' pool", found, (true, false));
     let found = (pools.texts.is_known(4), pools.texts.is_known(0));
     assert_same(&rt, "the texts' pool", found, (true, false));
-    Ok(())
 }

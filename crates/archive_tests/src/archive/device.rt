@@ -3,7 +3,7 @@
 ghost use Rattle.std.specs.Prelude.{length, refl, true};
 ghost use Rattle.archive_check.specs.WriterState.{only_bytes};
 
-use crate::assertions::assert_same;
+use crate::assertions::{assert_same, text};
 use archive_check::format::error::Error;
 use archive_check::format::traits::Keys;
 use archive_core::api::to_bytes_in;
@@ -12,7 +12,6 @@ use archive_core::sharing::{Share, SharingExt};
 use archive_core::string::Text;
 use std::alloc::Global;
 use std::process::Abort;
-use std::test::Fail;
 
 // A writer whose device takes `left` more writes, and then fails in the midst of each.
 #[derive(Drop)]
@@ -54,7 +53,7 @@ impl Writer for Failing {
 }
 
 // An archive of a text, and behind it regions: a number, a text that is shared by two, and the first text again.
-fn write_archives(alloc: Global, text: &String, device: &mut Failing) -> Result<(), Error> {
+fn write_archives<W: Writer>(alloc: Global, text: &String, device: &mut W) -> Result<(), Error> {
     to_bytes_in(alloc, text, &mut *device)?;
     let mut serializer = Serializer::new(device, alloc, Share::new(alloc));
     serialize_one(&7u64, &mut serializer)?;
@@ -76,25 +75,33 @@ fn assert_failed_once(rt: &impl Abort, left: u32, device: &Failing, written: Res
     assert!(rt; ARCHIVES.starts_with(bytes), "after {left}");
 }
 
+// How many bytes a device holds that takes so many writes and fails then; none where it takes all archives.
+fn held_after(rt: &impl Abort, alloc: Global, text: &String, left: u32) -> Option<usize> {
+    let mut device = Failing {
+        bytes: Vec::new(alloc),
+        left,
+        failures: 0,
+    };
+    let written = write_archives(alloc, text, &mut device);
+    if device.failures == 0 {
+        assert_same(rt, "the last", written, Ok(()));
+        assert_same(rt, "all bytes", device.bytes.as_slice(), ARCHIVES);
+        return None;
+    }
+    assert_failed_once(rt, left, &device, written);
+    Some(device.pos())
+}
+
 #[test]
-fn each_write_fails_in_turn(rt: HostRuntime) -> Result<(), Fail> {
-    let text = String::from_str(rt.alloc(), "hello world")?;
+fn each_write_fails_in_turn(rt: HostRuntime) {
+    let hello = text(&rt, rt.alloc(), "hello world");
     let mut held = 0;
     for left in 0..100 {
-        let mut device = Failing {
-            bytes: Vec::new(rt.alloc()),
-            left,
-            failures: 0,
+        let Some(pos) = held_after(&rt, rt.alloc(), &hello, left) else {
+            return;
         };
-        let written = write_archives(rt.alloc(), &text, &mut device);
-        if device.failures == 0 {
-            assert_same(&rt, "the last", written, Ok(()));
-            assert_same(&rt, "all bytes", device.bytes.as_slice(), ARCHIVES);
-            return Ok(());
-        }
-        assert_failed_once(&rt, left, &device, written);
-        assert!(rt; device.pos() >= held, "after {left}");
-        held = device.pos();
+        assert!(rt; pos >= held, "after {left}");
+        held = pos;
     }
-    Err(Fail::from("each run failed"))
+    panic!(&rt; "each run failed")
 }

@@ -12,9 +12,8 @@ ghost use Rattle.archive_types.specs.Writing.{ZeroedPlace};
 ghost use Rattle.archive_tests.specs.Repeated.{leaves_planned, numbers_keyed, repeated};
 ghost use Rattle.archive_check.specs.SelfCheck.Laws.{by_schema};
 
-use crate::assertions::{assert_holds, assert_same};
+use crate::assertions::{assert_holds, assert_same, viewed};
 use archive_check::self_check::BySchema;
-use archive_core::api::access;
 use archive_core::error::Error;
 use archive_core::place::Place;
 use archive_core::primitive::ArchivedU32;
@@ -22,7 +21,6 @@ use archive_core::ser::ResolveExt;
 use archive_core::shape::{Defs, Expr};
 use archive_core::traits::{Archive, ArchivePointee, Portable};
 use std::alloc::Global;
-use std::test::Fail;
 
 // A hundred sevens: a value whose region is too large for a local array.
 struct ArchivedSevens;
@@ -110,15 +108,18 @@ impl Archive for Sevens {
 }
 
 #[test]
-fn a_large_region_is_resolved_on_the_heap(rt: HostRuntime) -> Result<(), Fail> {
+fn a_large_region_is_resolved_on_the_heap(rt: HostRuntime) {
     let mut writer = Vec::new(rt.alloc());
-    writer.resolve_aligned(rt.alloc(), &42u32, ())?;
-    let region = writer.resolve_aligned(rt.alloc(), &Sevens, ());
-    assert_same(&rt, "the region", region, Ok(4));
+    writer
+        .resolve_aligned(rt.alloc(), &42u32, ())
+        .expect(&rt, "a number's region");
+    let region = writer
+        .resolve_aligned(rt.alloc(), &Sevens, ())
+        .expect(&rt, "a region");
+    assert_same(&rt, "the region", region, 4);
     assert_same(&rt, "the end", writer.len(), 104);
     let sevens = writer.iter().skip(4).all(|byte| *byte == 7);
     assert_holds(&rt, "sevens alone", sevens);
-    let view = access::<ArchivedSevens>(rt.alloc(), writer.as_slice())?;
+    let view = viewed::<ArchivedSevens>(&rt, rt.alloc(), writer.as_slice());
     assert_same(&rt, "the view", view.pos(), 4);
-    Ok(())
 }

@@ -1,8 +1,11 @@
 // Strings and texts.
 
 use crate::archive::HELLO_WORLD;
-use crate::assertions::{assert_read, assert_same, assert_written};
-use archive_core::api::{access, access_pos, from_bytes};
+use crate::assertions::{
+    assert_err, assert_read, assert_refused, assert_same, assert_unread, assert_written, text,
+    viewed,
+};
+use archive_core::api::access_pos;
 use archive_core::error::Error;
 use archive_core::primitive::ArchivedUsize;
 use archive_core::ser::{Positional, Serializer};
@@ -14,21 +17,21 @@ use std::process::Abort;
 use std::test::Fail;
 
 // In each row a text and its archive, which is written, viewed and read back.
-fn assert_texts(rt: &impl Abort, alloc: Global, rows: &[(&str, &[u8])]) -> Result<(), Error> {
-    for (text, archive) in rows {
-        let value = String::from_str(alloc, text)?;
-        assert_written(rt, alloc, &value, archive)?;
-        assert_read(rt, alloc, archive, &value)?;
-        let view = access::<ArchivedString>(alloc, archive)?;
-        assert_same(rt, text, view.as_str(), *text);
-        assert_same(rt, text, view.len(), text.len());
-        assert_eq!(rt; view.pos().checked_add(8), Some(archive.len()), "of {text}");
+fn assert_texts(rt: &impl Abort, alloc: Global, rows: &[(&str, &[u8])]) {
+    for (words, archive) in rows {
+        let value = text(rt, alloc, words);
+        assert_written(rt, alloc, &value, archive);
+        assert_read(rt, alloc, archive, &value);
+        let view = viewed::<ArchivedString>(rt, alloc, archive);
+        assert_same(rt, words, view.as_str(), *words);
+        assert_same(rt, words, view.len(), words.len());
+        let end = view.pos().checked_add(8);
+        assert_same(rt, words, end, Some(archive.len()));
     }
-    Ok(())
 }
 
 #[test]
-fn texts_and_their_archives(rt: HostRuntime) -> Result<(), Fail> {
+fn texts_and_their_archives(rt: HostRuntime) {
     assert_texts(
         &rt,
         rt.alloc(),
@@ -43,17 +46,14 @@ fn texts_and_their_archives(rt: HostRuntime) -> Result<(), Fail> {
                 b"0123456701234567012345670123456701234567012345670123456701234567\x80\x01\0\0\xc0\xff\xff\xff",
             ),
         ],
-    )?;
-    Ok(())
+    );
 }
 
 // In each row bytes, and why they are no string.
-fn assert_refused(rt: &impl Abort, alloc: Global, rows: &[(&[u8], Error)]) {
+fn assert_no_strings(rt: &impl Abort, alloc: Global, rows: &[(&[u8], Error)]) {
     for (bytes, refusal) in rows {
-        let viewed = access::<ArchivedString>(alloc, bytes).err();
-        assert_eq!(rt; viewed, Some(*refusal), "checking {bytes:?}");
-        let back: Result<String, Error> = from_bytes(alloc, bytes, &mut ());
-        assert_eq!(rt; back.err(), Some(*refusal), "reading {bytes:?}");
+        assert_refused::<ArchivedString>(rt, alloc, "checking", bytes, *refusal);
+        assert_unread::<String>(rt, alloc, bytes, *refusal);
     }
 }
 
@@ -69,7 +69,7 @@ fn strings_that_are_refused(rt: HostRuntime) {
         position: 11,
         align: 4,
     };
-    assert_refused(
+    assert_no_strings(
         &rt,
         rt.alloc(),
         &[
@@ -89,8 +89,10 @@ fn a_text_is_a_region_of_its_own(rt: HostRuntime) {
     assert_eq!(rt; text.archived_metadata(), Ok(metadata));
     let length = ArchivedStr::pointer_metadata(&metadata);
     assert_same(&rt, "the length", length, 6);
-    let pos = text.serialize_unsized(&mut serializer);
-    assert_same(&rt, "the region", pos, Ok(0));
+    let pos = text
+        .serialize_unsized(&mut serializer)
+        .expect(&rt, "a region");
+    assert_same(&rt, "the region", pos, 0);
     assert_same(&rt, "the end", serializer.pos(), 6);
 }
 
@@ -118,15 +120,14 @@ fn a_text_of_its_own_is_read(rt: HostRuntime) -> Result<(), Fail> {
 }
 
 #[test]
-fn eight_bytes_say_where_a_text_stands(rt: HostRuntime) -> Result<(), Fail> {
+fn eight_bytes_say_where_a_text_stands(rt: HostRuntime) {
     let mut bytes = [0; 8];
     repr::emplace_inline("hi", &mut bytes);
     assert_same(&rt, "in place", bytes, *b"hi\xff\xff\xff\xff\xff\xff");
     let text = "0123456789";
     let far = repr::try_emplace_out_of_line(text, 0, 1 << 31, &mut bytes);
-    assert_same(&rt, "too far", far, Err(Error::OffsetOverflow));
+    assert_err(&rt, "too far", far, Error::OffsetOverflow);
     assert_same(&rt, "as before", bytes, *b"hi\xff\xff\xff\xff\xff\xff");
-    repr::try_emplace_out_of_line(text, 12, 0, &mut bytes)?;
+    repr::try_emplace_out_of_line(text, 12, 0, &mut bytes).expect(&rt, "a text elsewhere");
     assert_same(&rt, "elsewhere", bytes, *b"\x8a\0\0\0\xf4\xff\xff\xff");
-    Ok(())
 }

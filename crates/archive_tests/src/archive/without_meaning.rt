@@ -9,9 +9,8 @@ ghost use Rattle.archive_check.specs.Expressions.{shape_of};
 ghost use Rattle.archive_check.specs.SelfCheck.Laws.{by_schema};
 ghost use Rattle.archive_check.specs.NamedLayout.{held_has_layout, name_reached, twice_has_layout, twice_reached, leaves_differ};
 
-use crate::assertions::assert_same;
+use crate::assertions::assert_refused;
 use archive_check::format::expr::Kind;
-use archive_core::api::access;
 use archive_core::error::Error;
 use archive_core::self_check::BySchema;
 use archive_core::shape::{Defs, Expr};
@@ -131,17 +130,12 @@ impl Portable for ArchivedItself {
     }
 }
 
-// Why a type is refused, whatever the bytes.
-fn refusal<T: Portable>(alloc: Global, bytes: &[u8]) -> Option<Error> {
-    access::<T>(alloc, bytes).err()
-}
-
 #[test]
 fn a_type_without_a_meaning_is_refused(rt: HostRuntime) {
     for bytes in [b"".as_slice(), b"\x01".as_slice(), b"12345678".as_slice()] {
-        let twice = refusal::<ArchivedTwice>(rt.alloc(), bytes);
-        assert_same(&rt, "two definitions", twice, Some(Error::ShapeConflict));
-        let itself = refusal::<ArchivedItself>(rt.alloc(), bytes);
-        assert_same(&rt, "itself", itself, Some(Error::RecursiveLayout));
+        let conflict = Error::ShapeConflict;
+        assert_refused::<ArchivedTwice>(&rt, rt.alloc(), "two definitions", bytes, conflict);
+        let recursive = Error::RecursiveLayout;
+        assert_refused::<ArchivedItself>(&rt, rt.alloc(), "itself", bytes, recursive);
     }
 }

@@ -5,17 +5,17 @@ ghost use Rattle.archive_check.specs.declared.format.error.Error.TheVariants.{Ou
 ghost use Rattle.archive_tests.specs.Wholes.{ArchivesText};
 
 use crate::archive::HELLO_WORLD;
-use crate::assertions::{assert_holds, assert_same};
-use archive_core::api::{access, to_bytes, to_bytes_in, to_bytes_into};
+use crate::assertions::{assert_err, assert_holds, assert_same, text, viewed};
+use archive_core::api::{to_bytes, to_bytes_in, to_bytes_into};
 use archive_core::error::Error;
 use archive_core::place::Place;
 use archive_core::primitive::ArchivedU32;
-use archive_core::ser::{Buffer, ResolveExt, Serializer, Writer, serialize_one};
+use archive_core::ser::{Buffer, ResolveExt, ResolverAlloc, Serializer, Writer, serialize_one};
 use archive_core::sharing::Share;
 use archive_core::string::ArchivedString;
 use archive_core::traits::{Archive, Serialize};
 use std::alloc::Global;
-use std::test::Fail;
+use std::process::Abort;
 
 // What the law says of a string: its archive, from the contract of `to_bytes` alone.
 fn archive_of(alloc: Global, text: &String) -> Result<Vec<u8>, Error>
@@ -31,67 +31,99 @@ fn archive_of_number(alloc: Global, number: u32) -> Result<Vec<u8>, Error>
     to_bytes(alloc, &number)
 }
 
-// Where the root of an archive stands that is appended to a writer.
-fn appended<W: Writer, T: Serialize<W>>(
+// The root of an archive that is appended to a writer stands here.
+fn assert_appended<W: Writer, T: Serialize<W>>(
+    rt: &impl Abort,
     alloc: Global,
     value: &T,
     writer: &mut W,
-) -> Result<usize, Error> {
-    to_bytes_into(alloc, value, writer)
+    root: usize,
+) {
+    let pos = to_bytes_into(alloc, value, writer).expect(rt, "an archive");
+    assert_eq!(rt; pos, root, "the root");
+}
+
+// A value whose archive can't be appended to a writer.
+fn assert_not_appended<W: Writer, T: Serialize<W>>(
+    rt: &impl Abort,
+    alloc: Global,
+    value: &T,
+    writer: &mut W,
+    refusal: Error,
+) {
+    let refused = to_bytes_into(alloc, value, writer).err();
+    assert_eq!(rt; refused, Some(refusal), "too large");
+}
+
+// Three bytes that a writer holds already.
+fn three_bytes(rt: &impl Abort, alloc: Global) -> Vec<u8> {
+    let bytes = vec![in alloc; 0xaa, 0xbb, 0xcc];
+    bytes.expect(rt, "memory for three bytes")
 }
 
 #[test]
-fn an_archive_is_appended_to_a_lent_writer(rt: HostRuntime) -> Result<(), Fail> {
-    let value = String::from_str(rt.alloc(), "hello world")?;
-    let mut bytes = vec![in rt.alloc(); 0xaa, 0xbb, 0xcc]?;
-    let root = appended(rt.alloc(), &value, &mut bytes);
-    assert_same(&rt, "the root", root, Ok(16));
+fn an_archive_is_appended_to_a_lent_writer(rt: HostRuntime) {
+    let value = text(&rt, rt.alloc(), "hello world");
+    let mut bytes = three_bytes(&rt, rt.alloc());
+    assert_appended(&rt, rt.alloc(), &value, &mut bytes, 16);
     let right = b"\xaa\xbb\xcchello world\0\0\x8b\0\0\0\xf3\xff\xff\xff";
     assert_same(&rt, "the bytes", bytes.as_slice(), right);
-    let refused = appended(rt.alloc(), &4_294_967_296usize, &mut bytes);
-    assert_same(&rt, "too large", refused, Err(Error::NumberTooLarge));
+    let too_large = Error::NumberTooLarge;
+    assert_not_appended(&rt, rt.alloc(), &4_294_967_296usize, &mut bytes, too_large);
     assert_same(&rt, "as before", bytes.len(), 24);
-    let sharing = Share::new(rt.alloc());
-    let mut serializer = Serializer::new(Vec::new(rt.alloc()), rt.alloc(), sharing);
-    let root = appended(rt.alloc(), &value, &mut serializer);
-    assert_same(&rt, "in a serializer", root, Ok(12));
-    Ok(())
 }
 
 #[test]
-fn a_value_is_laid_out_as_a_region(rt: HostRuntime) -> Result<(), Fail> {
-    let text = String::from_str(rt.alloc(), "hello world")?;
-    let archive = archive_of(rt.alloc(), &text)?;
+fn an_archive_is_appended_to_a_serializer(rt: HostRuntime) {
+    let value = text(&rt, rt.alloc(), "hello world");
+    let sharing = Share::new(rt.alloc());
+    let mut serializer = Serializer::new(Vec::new(rt.alloc()), rt.alloc(), sharing);
+    assert_appended(&rt, rt.alloc(), &value, &mut serializer, 12);
+}
+
+// A value's next region stands here.
+fn assert_region<T: Serialize<S>, S: Writer + ResolverAlloc>(
+    rt: &impl Abort,
+    what: &str,
+    value: &T,
+    serializer: &mut S,
+    region: usize,
+) {
+    let pos = serialize_one(value, serializer).expect(rt, "a region");
+    assert_eq!(rt; pos, region, "{what}");
+}
+
+#[test]
+fn a_value_is_laid_out_as_a_region(rt: HostRuntime) {
+    let value = text(&rt, rt.alloc(), "hello world");
+    let archive = archive_of(rt.alloc(), &value).expect(&rt, "an archive");
     let mut serializer = Serializer::new(Vec::new(rt.alloc()), rt.alloc(), ());
-    let region = serialize_one(&text, &mut serializer);
-    assert_same(&rt, "the text", region, Ok(12));
-    let region = serialize_one(&42u16, &mut serializer);
-    assert_same(&rt, "a number", region, Ok(20));
-    assert!(rt; serialize_one(&7u64, &mut serializer)? == 24);
-    let bytes = serializer.into_writer();
+    assert_region(&rt, "the text", &value, &mut serializer, 12);
+    assert_region(&rt, "a number", &42u16, &mut serializer, 20);
+    assert_region(&rt, "a wide number", &7u64, &mut serializer, 24);
+    let writer = serializer.into_writer();
+    let bytes = writer.as_slice();
+    assert!(rt; bytes.len() == 32);
     let (first, rest) = bytes.split_at(20);
     assert_same(&rt, "its region", first, archive.as_slice());
     assert_same(&rt, "the numbers", rest, b"\x2a\0\0\0\x07\0\0\0\0\0\0\0");
-    Ok(())
 }
 
 #[test]
-fn a_number_is_an_archive(rt: HostRuntime) -> Result<(), Fail> {
-    let bytes = archive_of_number(rt.alloc(), 42)?;
+fn a_number_is_an_archive(rt: HostRuntime) {
+    let bytes = archive_of_number(rt.alloc(), 42).expect(&rt, "an archive");
     assert_same(&rt, "its bytes", bytes.as_slice(), b"\x2a\0\0\0");
-    Ok(())
 }
 
 #[test]
-fn an_archive_follows_what_the_writer_holds(rt: HostRuntime) -> Result<(), Fail> {
-    let value = String::from_str(rt.alloc(), "hello world")?;
-    let held = vec![in rt.alloc(); 0xaa, 0xbb, 0xcc]?;
-    let bytes = to_bytes_in(rt.alloc(), &value, held)?;
+fn an_archive_follows_what_the_writer_holds(rt: HostRuntime) {
+    let value = text(&rt, rt.alloc(), "hello world");
+    let held = three_bytes(&rt, rt.alloc());
+    let bytes = to_bytes_in(rt.alloc(), &value, held).expect(&rt, "an archive");
     let right = b"\xaa\xbb\xcchello world\0\0\x8b\0\0\0\xf3\xff\xff\xff";
     assert_same(&rt, "the bytes", bytes.as_slice(), right);
-    let view = access::<ArchivedString>(rt.alloc(), bytes.as_slice())?;
+    let view = viewed::<ArchivedString>(&rt, rt.alloc(), bytes.as_slice());
     assert_same(&rt, "the text", view.as_str(), "hello world");
-    Ok(())
 }
 
 // An archive of the value, in a borrowed writer.
@@ -101,8 +133,8 @@ fn write_to<W: Writer>(alloc: Global, value: &String, writer: &mut W) -> Result<
 }
 
 #[test]
-fn a_buffer_keeps_what_was_written_before_a_refusal(rt: HostRuntime) -> Result<(), Fail> {
-    let value = String::from_str(rt.alloc(), "hello world")?;
+fn a_buffer_keeps_what_was_written_before_a_refusal(rt: HostRuntime) {
+    let value = text(&rt, rt.alloc(), "hello world");
     let mut bytes = [0xcc; 16];
     let mut buffer = Buffer::from(&mut bytes);
     let refusal = Error::BufferOverflow {
@@ -111,23 +143,22 @@ fn a_buffer_keeps_what_was_written_before_a_refusal(rt: HostRuntime) -> Result<(
         len: 12,
     };
     let written = write_to(rt.alloc(), &value, &mut buffer);
-    assert_same(&rt, "no room", written, Err(refusal));
+    assert_err(&rt, "no room", written, refusal);
     assert_same(&rt, "the text", buffer.as_slice(), b"hello world\0");
     assert_same(&rt, "all bytes", bytes, *b"hello world\0\xcc\xcc\xcc\xcc");
-    Ok(())
 }
 
 #[test]
-fn a_buffer_leaves_the_bytes_beyond(rt: HostRuntime) -> Result<(), Fail> {
-    let value = String::from_str(rt.alloc(), "hello world")?;
+fn a_buffer_leaves_the_bytes_beyond(rt: HostRuntime) {
+    let value = text(&rt, rt.alloc(), "hello world");
     let mut bytes = [0xcc; 256];
-    let buffer = to_bytes_in(rt.alloc(), &value, Buffer::from(&mut bytes))?;
+    let buffer = to_bytes_in(rt.alloc(), &value, Buffer::from(&mut bytes));
+    let buffer = buffer.expect(&rt, "an archive");
     assert_same(&rt, "the archive", buffer.as_slice(), HELLO_WORLD);
     let (written, beyond) = bytes.split_at(20);
     assert_same(&rt, "in the array", written, HELLO_WORLD);
     let untouched = beyond.iter().all(|byte| *byte == 0xcc);
     assert_holds(&rt, "untouched beyond", untouched);
-    Ok(())
 }
 
 #[test]
@@ -135,11 +166,11 @@ fn a_place_is_resolved_and_written(rt: HostRuntime) {
     let mut bytes = [0; 4];
     let place: Place<'_, ArchivedU32> = Place::new(8, &mut bytes);
     assert_same(&rt, "the position", place.pos(), 8);
-    let resolved = 42u32.resolve((), place);
-    assert_same(&rt, "to resolve it", resolved, Ok(()));
+    42u32.resolve((), place).expect(&rt, "a resolved number");
     assert_same(&rt, "the bytes", bytes, [42, 0, 0, 0]);
     let mut writer = Vec::new(rt.alloc());
     let region = writer.resolve_aligned(rt.alloc(), &42u32, ());
-    assert_same(&rt, "the region", region, Ok(0));
+    let region = region.expect(&rt, "a region");
+    assert_same(&rt, "the region", region, 0);
     assert_same(&rt, "what is written", writer.as_slice(), bytes.as_slice());
 }
