@@ -105,3 +105,15 @@ fn each_write_fails_in_turn(rt: HostRuntime) {
     }
     panic!(&rt; "each run failed")
 }
+
+#[test]
+fn a_device_of_ones_own_takes_nothing_at_once(rt: HostRuntime) {
+    let mut device = Failing {
+        bytes: Vec::new(rt.alloc()),
+        left: 1,
+        failures: 0,
+    };
+    let is_taken = device.write_at_once(b"hello");
+    assert_same(&rt, "taken at once", is_taken, false);
+    assert_same(&rt, "how many bytes it holds", device.pos(), 0);
+}
