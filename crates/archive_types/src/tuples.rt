@@ -13,6 +13,7 @@ mod sources;
 mod ten;
 mod thirteen;
 mod twelve;
+mod unsized_sources;
 
 pub use parts::{
     Part0, Part1, Part2, Part3, Part4, Part5, Part6, Part7, Part8, Part9, Part10, Part11, Part12,

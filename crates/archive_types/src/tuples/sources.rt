@@ -1,47 +1,43 @@
-// Tuples of one to three as sources, and as regions of their own.
+// Tuples as sources.
 
-ghost use Rattle.std.specs.Prelude.{◌≡◌, length, OnOk, IfErr, refl};
-ghost use Rattle.std.proofs.Common.{rules};
+ghost use Rattle.std.specs.Prelude.{◌≡◌, length, OnOk, IfErr};
 ghost use Rattle.archive_check.specs.Value.{product};
-ghost use Rattle.archive_types.specs.PartsPlanned.{whole_planned, whole_keyed};
-ghost use Rattle.archive_types.specs.PlannedOwners.{one_planned};
+ghost use Rattle.archive_types.specs.Causes.{HindersAt};
+ghost use Rattle.archive_types.specs.Keyed.{nothing_keyed, part_keyed, record_keyed};
+ghost use Rattle.archive_types.specs.PartsPlanned.{no_part_planned, part_planned, product_planned};
 ghost use Rattle.archive_types.specs.Sources.{ResolvedAs, HinderedAs};
-ghost use Rattle.archive_types.specs.Writing.{ZeroedPlace};
+ghost use Rattle.archive_types.specs.Writing.{ZeroedPlace, Resolves};
 
 use super::parts::{Parts1, Parts2, Parts3};
-use crate::parts::{SerializeParts, SourceParts};
+use crate::parts::SourceParts;
 use crate::place::Place;
 use crate::record::{resolve_record, serialize_record};
-use crate::ser::serialize_one;
-use crate::traits::{Archive, ArchiveUnsized, Keys, Portable, Serialize, SerializeUnsized};
+use crate::traits::{Archive, ArchivePointee, Keys, Portable, Serialize};
 use archive_check::format::error::Error;
-use archive_tuple::ArchivedTuple;
-use archive_write::ser::{ResolverAlloc, Writer};
+use archive_tuple::{ArchivedTuple1, ArchivedTuple2, ArchivedTuple3};
+use archive_write::ser::Writer;
 
-impl<A> Archive for (A,)
-where
-    Parts1: SourceParts<Self>,
-{
-    type Archived = ArchivedTuple<<Parts1 as SourceParts<Self>>::Archived>;
+impl<A: Archive> Archive for (A,) {
+    type Archived = ArchivedTuple1<A::Archived>;
 
-    type Resolver = <Parts1 as SourceParts<Self>>::Resolvers;
+    type Resolver = (A::Resolver, ());
 
-    ghost meaning = { λ v. product (⟦<Parts1 as SourceParts<Self>>⟧.meanings v) };
+    ghost meaning = { λ v. product (⟦<Parts1 as SourceParts<(A,)>>⟧.meanings v) };
 
-    ghost flat = { λ v r. product (⟦<Parts1 as SourceParts<Self>>⟧.flats v r) };
+    ghost flat = { λ v r. product (⟦<Parts1 as SourceParts<(A,)>>⟧.flats v r) };
 
-    ghost keys = { λ v. ⟦<Parts1 as SourceParts<Self>>⟧.keys v };
+    ghost keys = { λ v. ⟦<Parts1 as SourceParts<(A,)>>⟧.keys v };
 
-    ghost belongs = { λ v r. ⟦<Parts1 as SourceParts<Self>>⟧.belongs v r };
+    ghost belongs = { λ v r. ⟦<Parts1 as SourceParts<(A,)>>⟧.belongs v r };
 
-    ghost keyed = { whole_keyed ⟦<Parts1 as SourceParts<Self>>⟧.keys ⟦<Parts1 as SourceParts<Self>>⟧.meanings (Prim.search rules) };
+    ghost keyed = { λ v. record_keyed (part_keyed (A.keyed v.0) nothing_keyed) };
 
-    ghost planned = { whole_planned ⟦<Parts1 as SourceParts<Self>>⟧.keys ⟦<Parts1 as SourceParts<Self>>⟧.meanings (Prim.search rules) };
+    ghost planned = { λ v. product_planned _ _ _ _ (part_planned _ _ _ _ (A.planned v.0) no_part_planned) };
 
     fn resolve(
         &self,
-        resolver: Self::Resolver,
-        place: Place<'_, Self::Archived>,
+        resolver: (A::Resolver, ()),
+        place: Place<'_, ArchivedTuple1<A::Archived>>,
     ) -> Result<(), Error>
         requires zeroed { ZeroedPlace ⟦<Self::Archived as Portable>⟧.layout.size place.pos place.bytes.now }
         requires same_value { ⟦<Self as Archive>⟧.belongs self.now resolver }
@@ -54,72 +50,33 @@ where
     }
 }
 
-impl<A, S: Writer + Keys> Serialize<S> for (A,)
-where
-    Parts1: SerializeParts<Self, S>,
-{
-    fn serialize(&self, serializer: &mut S) -> Result<Self::Resolver, Error> {
+impl<A: Serialize<S>, S: Writer + Keys> Serialize<S> for (A,) {
+    fn serialize(&self, serializer: &mut S) -> Result<(A::Resolver, ()), Error> {
         serialize_record::<Self, Parts1, Self::Archived, S>(self, serializer)
     }
 }
 
-/// As a region of its own: the tuple itself, as one value.
-impl<A> ArchiveUnsized for (A,)
-where
-    Parts1: SourceParts<Self>,
-{
-    type Archived = ArchivedTuple<<Parts1 as SourceParts<Self>>::Archived>;
+impl<A: Archive, B: Archive> Archive for (A, B) {
+    type Archived = ArchivedTuple2<A::Archived, B::Archived>;
 
-    ghost source_length = { λ _. 0 };
+    type Resolver = (A::Resolver, (B::Resolver, ()));
 
-    ghost meaning = { λ v. product (⟦<Parts1 as SourceParts<Self>>⟧.meanings v) };
+    ghost meaning = { λ v. product (⟦<Parts2 as SourceParts<(A, B)>>⟧.meanings v) };
 
-    ghost keys = { λ v. ⟦<Parts1 as SourceParts<Self>>⟧.keys v };
+    ghost flat = { λ v r. product (⟦<Parts2 as SourceParts<(A, B)>>⟧.flats v r) };
 
-    ghost keyed = { whole_keyed ⟦<Parts1 as SourceParts<Self>>⟧.keys ⟦<Parts1 as SourceParts<Self>>⟧.meanings (Prim.search rules) };
+    ghost keys = { λ v. ⟦<Parts2 as SourceParts<(A, B)>>⟧.keys v };
 
-    ghost one_length = { λ _ _. refl };
+    ghost belongs = { λ v r. ⟦<Parts2 as SourceParts<(A, B)>>⟧.belongs v r };
 
-    ghost planned = { λ v. one_planned _ _ _ _ (whole_planned ⟦<Parts1 as SourceParts<Self>>⟧.keys ⟦<Parts1 as SourceParts<Self>>⟧.meanings (Prim.search rules) v) };
+    ghost keyed = { λ v. record_keyed (part_keyed (A.keyed v.0) (part_keyed (B.keyed v.1) nothing_keyed)) };
 
-    fn archived_metadata(&self) -> Result<(), Error> {
-        Ok(())
-    }
-}
-
-impl<A, S: Writer + ResolverAlloc> SerializeUnsized<S> for (A,)
-where
-    Parts1: SerializeParts<Self, S>,
-{
-    fn serialize_unsized(&self, serializer: &mut S) -> Result<usize, Error> {
-        serialize_one(self, serializer)
-    }
-}
-
-impl<A, B> Archive for (A, B)
-where
-    Parts2: SourceParts<Self>,
-{
-    type Archived = ArchivedTuple<<Parts2 as SourceParts<Self>>::Archived>;
-
-    type Resolver = <Parts2 as SourceParts<Self>>::Resolvers;
-
-    ghost meaning = { λ v. product (⟦<Parts2 as SourceParts<Self>>⟧.meanings v) };
-
-    ghost flat = { λ v r. product (⟦<Parts2 as SourceParts<Self>>⟧.flats v r) };
-
-    ghost keys = { λ v. ⟦<Parts2 as SourceParts<Self>>⟧.keys v };
-
-    ghost belongs = { λ v r. ⟦<Parts2 as SourceParts<Self>>⟧.belongs v r };
-
-    ghost keyed = { whole_keyed ⟦<Parts2 as SourceParts<Self>>⟧.keys ⟦<Parts2 as SourceParts<Self>>⟧.meanings (Prim.search rules) };
-
-    ghost planned = { whole_planned ⟦<Parts2 as SourceParts<Self>>⟧.keys ⟦<Parts2 as SourceParts<Self>>⟧.meanings (Prim.search rules) };
+    ghost planned = { λ v. product_planned _ _ _ _ (part_planned _ _ _ _ (A.planned v.0) (part_planned _ _ _ _ (B.planned v.1) no_part_planned)) };
 
     fn resolve(
         &self,
-        resolver: Self::Resolver,
-        place: Place<'_, Self::Archived>,
+        resolver: (A::Resolver, (B::Resolver, ())),
+        place: Place<'_, ArchivedTuple2<A::Archived, B::Archived>>,
     ) -> Result<(), Error>
         requires zeroed { ZeroedPlace ⟦<Self::Archived as Portable>⟧.layout.size place.pos place.bytes.now }
         requires same_value { ⟦<Self as Archive>⟧.belongs self.now resolver }
@@ -132,72 +89,33 @@ where
     }
 }
 
-impl<A, B, S: Writer + Keys> Serialize<S> for (A, B)
-where
-    Parts2: SerializeParts<Self, S>,
-{
-    fn serialize(&self, serializer: &mut S) -> Result<Self::Resolver, Error> {
+impl<A: Serialize<S>, B: Serialize<S>, S: Writer + Keys> Serialize<S> for (A, B) {
+    fn serialize(&self, serializer: &mut S) -> Result<(A::Resolver, (B::Resolver, ())), Error> {
         serialize_record::<Self, Parts2, Self::Archived, S>(self, serializer)
     }
 }
 
-/// As a region of its own: the tuple itself, as one value.
-impl<A, B> ArchiveUnsized for (A, B)
-where
-    Parts2: SourceParts<Self>,
-{
-    type Archived = ArchivedTuple<<Parts2 as SourceParts<Self>>::Archived>;
+impl<A: Archive, B: Archive, C: Archive> Archive for (A, B, C) {
+    type Archived = ArchivedTuple3<A::Archived, B::Archived, C::Archived>;
 
-    ghost source_length = { λ _. 0 };
+    type Resolver = (A::Resolver, (B::Resolver, (C::Resolver, ())));
 
-    ghost meaning = { λ v. product (⟦<Parts2 as SourceParts<Self>>⟧.meanings v) };
+    ghost meaning = { λ v. product (⟦<Parts3 as SourceParts<(A, B, C)>>⟧.meanings v) };
 
-    ghost keys = { λ v. ⟦<Parts2 as SourceParts<Self>>⟧.keys v };
+    ghost flat = { λ v r. product (⟦<Parts3 as SourceParts<(A, B, C)>>⟧.flats v r) };
 
-    ghost keyed = { whole_keyed ⟦<Parts2 as SourceParts<Self>>⟧.keys ⟦<Parts2 as SourceParts<Self>>⟧.meanings (Prim.search rules) };
+    ghost keys = { λ v. ⟦<Parts3 as SourceParts<(A, B, C)>>⟧.keys v };
 
-    ghost one_length = { λ _ _. refl };
+    ghost belongs = { λ v r. ⟦<Parts3 as SourceParts<(A, B, C)>>⟧.belongs v r };
 
-    ghost planned = { λ v. one_planned _ _ _ _ (whole_planned ⟦<Parts2 as SourceParts<Self>>⟧.keys ⟦<Parts2 as SourceParts<Self>>⟧.meanings (Prim.search rules) v) };
+    ghost keyed = { λ v. record_keyed (part_keyed (A.keyed v.0) (part_keyed (B.keyed v.1) (part_keyed (C.keyed v.2) nothing_keyed))) };
 
-    fn archived_metadata(&self) -> Result<(), Error> {
-        Ok(())
-    }
-}
-
-impl<A, B, S: Writer + ResolverAlloc> SerializeUnsized<S> for (A, B)
-where
-    Parts2: SerializeParts<Self, S>,
-{
-    fn serialize_unsized(&self, serializer: &mut S) -> Result<usize, Error> {
-        serialize_one(self, serializer)
-    }
-}
-
-impl<A, B, C> Archive for (A, B, C)
-where
-    Parts3: SourceParts<Self>,
-{
-    type Archived = ArchivedTuple<<Parts3 as SourceParts<Self>>::Archived>;
-
-    type Resolver = <Parts3 as SourceParts<Self>>::Resolvers;
-
-    ghost meaning = { λ v. product (⟦<Parts3 as SourceParts<Self>>⟧.meanings v) };
-
-    ghost flat = { λ v r. product (⟦<Parts3 as SourceParts<Self>>⟧.flats v r) };
-
-    ghost keys = { λ v. ⟦<Parts3 as SourceParts<Self>>⟧.keys v };
-
-    ghost belongs = { λ v r. ⟦<Parts3 as SourceParts<Self>>⟧.belongs v r };
-
-    ghost keyed = { whole_keyed ⟦<Parts3 as SourceParts<Self>>⟧.keys ⟦<Parts3 as SourceParts<Self>>⟧.meanings (Prim.search rules) };
-
-    ghost planned = { whole_planned ⟦<Parts3 as SourceParts<Self>>⟧.keys ⟦<Parts3 as SourceParts<Self>>⟧.meanings (Prim.search rules) };
+    ghost planned = { λ v. product_planned _ _ _ _ (part_planned _ _ _ _ (A.planned v.0) (part_planned _ _ _ _ (B.planned v.1) (part_planned _ _ _ _ (C.planned v.2) no_part_planned))) };
 
     fn resolve(
         &self,
-        resolver: Self::Resolver,
-        place: Place<'_, Self::Archived>,
+        resolver: (A::Resolver, (B::Resolver, (C::Resolver, ()))),
+        place: Place<'_, ArchivedTuple3<A::Archived, B::Archived, C::Archived>>,
     ) -> Result<(), Error>
         requires zeroed { ZeroedPlace ⟦<Self::Archived as Portable>⟧.layout.size place.pos place.bytes.now }
         requires same_value { ⟦<Self as Archive>⟧.belongs self.now resolver }
@@ -210,44 +128,12 @@ where
     }
 }
 
-impl<A, B, C, S: Writer + Keys> Serialize<S> for (A, B, C)
-where
-    Parts3: SerializeParts<Self, S>,
-{
-    fn serialize(&self, serializer: &mut S) -> Result<Self::Resolver, Error> {
+impl<A: Serialize<S>, B: Serialize<S>, C: Serialize<S>, S: Writer + Keys> Serialize<S>
+    for (A, B, C) {
+    fn serialize(
+        &self,
+        serializer: &mut S,
+    ) -> Result<(A::Resolver, (B::Resolver, (C::Resolver, ()))), Error> {
         serialize_record::<Self, Parts3, Self::Archived, S>(self, serializer)
-    }
-}
-
-/// As a region of its own: the tuple itself, as one value.
-impl<A, B, C> ArchiveUnsized for (A, B, C)
-where
-    Parts3: SourceParts<Self>,
-{
-    type Archived = ArchivedTuple<<Parts3 as SourceParts<Self>>::Archived>;
-
-    ghost source_length = { λ _. 0 };
-
-    ghost meaning = { λ v. product (⟦<Parts3 as SourceParts<Self>>⟧.meanings v) };
-
-    ghost keys = { λ v. ⟦<Parts3 as SourceParts<Self>>⟧.keys v };
-
-    ghost keyed = { whole_keyed ⟦<Parts3 as SourceParts<Self>>⟧.keys ⟦<Parts3 as SourceParts<Self>>⟧.meanings (Prim.search rules) };
-
-    ghost one_length = { λ _ _. refl };
-
-    ghost planned = { λ v. one_planned _ _ _ _ (whole_planned ⟦<Parts3 as SourceParts<Self>>⟧.keys ⟦<Parts3 as SourceParts<Self>>⟧.meanings (Prim.search rules) v) };
-
-    fn archived_metadata(&self) -> Result<(), Error> {
-        Ok(())
-    }
-}
-
-impl<A, B, C, S: Writer + ResolverAlloc> SerializeUnsized<S> for (A, B, C)
-where
-    Parts3: SerializeParts<Self, S>,
-{
-    fn serialize_unsized(&self, serializer: &mut S) -> Result<usize, Error> {
-        serialize_one(self, serializer)
     }
 }
