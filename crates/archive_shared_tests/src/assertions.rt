@@ -40,7 +40,7 @@ pub(crate) fn assert_served<T: PartialEq + Debug + Drop>(
 }
 
 // What `what` names is refused, with this error.
-pub(crate) fn assert_error<T: Drop>(
+pub(crate) fn assert_refusal<T: Drop>(
     rt: &impl Abort,
     what: &str,
     found: Result<T, Error>,

@@ -26,7 +26,7 @@ pub(crate) fn assert_holds(rt: &impl Abort, what: &str, holds: bool) {
 }
 
 // A call was refused, and for this reason.
-pub(crate) fn assert_err<T: PartialEq + Debug + Drop>(
+pub(crate) fn assert_refusal<T: PartialEq + Debug + Drop>(
     rt: &impl Abort,
     what: &str,
     found: Result<T, Error>,
@@ -54,8 +54,8 @@ pub(crate) fn assert_written<T: Serialize<HighSerializer<Vec<u8>, Global>>>(
 // A value has no archive, for this reason.
 pub(crate) fn assert_unwritten<T: Serialize<HighSerializer<Vec<u8>, Global>>>(
     rt: &impl Abort,
-    alloc: Global,
     what: &str,
+    alloc: Global,
     value: &T,
     refusal: Error,
 ) {
@@ -113,8 +113,8 @@ pub(crate) fn viewed_at<'a, T: Portable>(
 // No `T` lies at the end of the bytes, for this reason.
 pub(crate) fn assert_refused<T: Portable>(
     rt: &impl Abort,
-    alloc: Global,
     what: &str,
+    alloc: Global,
     bytes: &[u8],
     refusal: Error,
 ) {
@@ -125,8 +125,8 @@ pub(crate) fn assert_refused<T: Portable>(
 // No `T` lies at a position, for this reason.
 pub(crate) fn assert_refused_at<T: Portable>(
     rt: &impl Abort,
-    alloc: Global,
     what: &str,
+    alloc: Global,
     bytes: &[u8],
     pos: usize,
     refusal: Error,

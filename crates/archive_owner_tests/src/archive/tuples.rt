@@ -2,18 +2,15 @@
 
 use crate::assertions::{
     assert_holds, assert_read, assert_refused, assert_same, assert_written, value_of, viewed,
-    written,
 };
-use archive_core::api::{HighSerializer, access_mut};
+use archive_core::api::access_mut;
 use archive_core::error::Error;
 use archive_core::primitive::{ArchivedI32, ArchivedU16, ArchivedU32};
-use archive_core::traits::{Deserialize, Portable, Record, Serialize};
+use archive_core::traits::{Portable, Record};
 use archive_tuple::{
     ArchivedTuple1, ArchivedTuple3, ArchivedTuple5, ArchivedTuple7, ArchivedTuple11,
     ArchivedTuple13,
 };
-use std::alloc::Global;
-use std::process::Abort;
 
 // The tuple (24, true, 16) of an `i32`, a `bool` and a `u32`.
 const NUMBERS: &[u8] = b"\x18\0\0\0\x01\0\0\0\x10\0\0\0";
@@ -33,6 +30,8 @@ type Seven = ArchivedTuple7<u8, ArchivedU32, bool, ArchivedU16, u8, u8, Archived
 // The tuple (1, 2, 3, 4, true, 5, 6, 7, 8, 9, 10): a `u8`, a `u16` at 2, a `u8` at 4, a `u32` at 8, a `bool` at 12, a `u8` at 13, a `u16` at 14, a `u8` at
 // 16, one at 17, a `u16` at 18 and a `u8` at 20, and zeros up to a multiple of 4.
 const ELEVEN: &[u8] = b"\x01\0\x02\0\x03\0\0\0\x04\0\0\0\x01\x05\x06\0\x07\x08\x09\0\x0a\0\0\0";
+
+type NativeEleven = (u8, u16, u8, u32, bool, u8, u16, u8, u8, u16, u8);
 
 type Eleven = ArchivedTuple11<
     u8,
@@ -70,22 +69,6 @@ type Thirteen = ArchivedTuple13<
     ArchivedU32,
 >;
 
-// A value is written as these bytes, and read back from them.
-fn assert_there_and_back<T: Serialize<HighSerializer<Vec<u8>, Global>> + PartialEq + Drop>(
-    rt: &impl Abort,
-    alloc: Global,
-    value: &T,
-    bytes: &[u8],
-)
-where
-    T::Archived: Deserialize<T, ()>,
-{
-    let there = written(rt, alloc, value);
-    let back: T = value_of(rt, alloc, bytes);
-    let same = there.as_slice() == bytes && back == *value;
-    assert_holds(rt, "there and back", same);
-}
-
 #[test]
 fn a_tuple_has_the_layout_of_its_parts(rt: HostRuntime) {
     assert_same(&rt, "the size", <Numbers as Portable>::size(), 12);
@@ -110,9 +93,14 @@ fn a_tuple_is_checked_part_by_part(rt: HostRuntime) {
 }
 
 #[test]
-fn a_tuple_is_written_and_read_back(rt: HostRuntime) {
+fn a_tuple_is_written(rt: HostRuntime) {
     let value: (i32, bool, u32) = (24, true, 16);
     assert_written(&rt, rt.alloc(), &value, NUMBERS);
+}
+
+#[test]
+fn a_tuple_is_read_back(rt: HostRuntime) {
+    let value: (i32, bool, u32) = (24, true, 16);
     assert_read(&rt, rt.alloc(), NUMBERS, &value);
 }
 
@@ -127,9 +115,14 @@ fn a_tuple_is_viewed(rt: HostRuntime) {
 }
 
 #[test]
-fn a_tuple_of_five_is_written_and_read_back(rt: HostRuntime) {
+fn a_tuple_of_five_is_written(rt: HostRuntime) {
     let five: (u8, u32, bool, u16, u8) = (1, 2, true, 3, 4);
     assert_written(&rt, rt.alloc(), &five, FIVE);
+}
+
+#[test]
+fn a_tuple_of_five_is_read_back(rt: HostRuntime) {
+    let five: (u8, u32, bool, u16, u8) = (1, 2, true, 3, 4);
     assert_read(&rt, rt.alloc(), FIVE, &five);
 }
 
@@ -147,9 +140,15 @@ fn a_tuple_of_six_is_written(rt: HostRuntime) {
 }
 
 #[test]
-fn a_tuple_of_seven_is_written_and_read_back(rt: HostRuntime) {
+fn a_tuple_of_seven_is_written(rt: HostRuntime) {
     let seven: (u8, u32, bool, u16, u8, u8, u32) = (1, 2, true, 3, 4, 5, 6);
-    assert_there_and_back(&rt, rt.alloc(), &seven, SEVEN);
+    assert_written(&rt, rt.alloc(), &seven, SEVEN);
+}
+
+#[test]
+fn a_tuple_of_seven_is_read_back(rt: HostRuntime) {
+    let seven: (u8, u32, bool, u16, u8, u8, u32) = (1, 2, true, 3, 4, 5, 6);
+    assert_read(&rt, rt.alloc(), SEVEN, &seven);
 }
 
 #[test]
@@ -160,11 +159,15 @@ fn a_tuple_of_seven_is_viewed(rt: HostRuntime) {
 }
 
 #[test]
-fn a_tuple_of_eleven_is_written_and_read_back(rt: HostRuntime) {
-    let eleven: (u8, u16, u8, u32, bool, u8, u16, u8, u8, u16, u8) = (
-        1, 2, 3, 4, true, 5, 6, 7, 8, 9, 10,
-    );
-    assert_there_and_back(&rt, rt.alloc(), &eleven, ELEVEN);
+fn a_tuple_of_eleven_is_written(rt: HostRuntime) {
+    let eleven: NativeEleven = (1, 2, 3, 4, true, 5, 6, 7, 8, 9, 10);
+    assert_written(&rt, rt.alloc(), &eleven, ELEVEN);
+}
+
+#[test]
+fn a_tuple_of_eleven_is_read_back(rt: HostRuntime) {
+    let eleven: NativeEleven = (1, 2, 3, 4, true, 5, 6, 7, 8, 9, 10);
+    assert_read(&rt, rt.alloc(), ELEVEN, &eleven);
 }
 
 #[test]
@@ -175,9 +178,13 @@ fn a_tuple_of_eleven_is_viewed(rt: HostRuntime) {
 }
 
 #[test]
-fn a_tuple_of_thirteen_is_written_and_read_back(rt: HostRuntime) {
+fn a_tuple_of_thirteen_is_written(rt: HostRuntime) {
     let thirteen: NativeThirteen = (1, 2, true, 3, 4, 5, 6, 7, 8, 9, 10, false, 11);
     assert_written(&rt, rt.alloc(), &thirteen, THIRTEEN);
+}
+
+#[test]
+fn a_tuple_of_thirteen_is_read_back(rt: HostRuntime) {
     let back: NativeThirteen = value_of(&rt, rt.alloc(), THIRTEEN);
     let (a, b, c, d, e, f, g, h, i, j, k, l, m) = back;
     assert_same(

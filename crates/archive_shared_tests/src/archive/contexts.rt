@@ -3,7 +3,7 @@
 ghost use Rattle.std.specs.Prelude.{◌≢◌, Some};
 
 use crate::archive::HELLO_WORLD;
-use crate::assertions::{assert_error, assert_same, assert_served};
+use crate::assertions::{assert_refusal, assert_same, assert_served};
 use archive_core::api::{HighValidator, access_with_context};
 use archive_core::boxed::ArchivedBox;
 use archive_core::error::Error;
@@ -48,9 +48,9 @@ fn assert_entered<T: Portable>(
 fn assert_three_levels<T: Portable>(rt: &impl Abort, alloc: Global, bytes: &[u8]) {
     let too_deep = Error::ExceededMaximumSubtreeDepth;
     let found = entered_within::<T>(alloc, bytes, Some(1));
-    assert_error(rt, "one level", found, too_deep);
+    assert_refusal(rt, "one level", found, too_deep);
     let found = entered_within::<T>(alloc, bytes, Some(2));
-    assert_error(rt, "two levels", found, too_deep);
+    assert_refusal(rt, "two levels", found, too_deep);
     let found = entered_within::<T>(alloc, bytes, Some(3));
     assert_served(rt, "three levels", found, 2);
 }
@@ -107,6 +107,6 @@ fn a_call_is_made_within_the_region_of_a_length(rt: HostRuntime) {
         usize::MAX,
         |_| -> Result<(), Error> { Ok(()) },
     );
-    assert_error(&rt, "too large", large, Error::LayoutTooLarge);
+    assert_refusal(&rt, "too large", large, Error::LayoutTooLarge);
     assert_same(&rt, "regions still", range.subtrees(), 1);
 }

@@ -1,6 +1,6 @@
 // Shared values are read back, by pools and without one.
 
-use crate::assertions::{assert_error, assert_holds, assert_same, read, viewed};
+use crate::assertions::{assert_holds, assert_refusal, assert_same, read, viewed};
 use archive_core::api::{HighDeserializer, deserialize_using, from_bytes};
 use archive_core::error::Error;
 use archive_core::pooling::{Pool, Pooled, Pooling, PoolingState, Unpool};
@@ -59,7 +59,7 @@ where
     T::Archived: Deserialize<T, D>,
 {
     let found: Result<Vec<Shared<T>>, Error> = from_bytes(alloc, archive, deserializer);
-    assert_error(rt, "the list", found, refusal);
+    assert_refusal(rt, "the list", found, refusal);
 }
 
 // What is read back of a list of pointers to slices.

@@ -2,7 +2,7 @@
 
 ghost use Rattle.std.specs.Prelude.{true, refl, codes};
 
-use crate::assertions::{assert_error, assert_holds, assert_same, viewed};
+use crate::assertions::{assert_holds, assert_refusal, assert_same, viewed};
 use archive_core::api::HighSerializer;
 use archive_core::error::Error;
 use archive_core::place::Place;
@@ -187,7 +187,7 @@ fn a_weak_pointer_to_the_next_byte_is_refused(rt: HostRuntime) {
     let next = Some(RcResolver::from_pos(9));
     let place = Place::new(8, &mut bytes);
     let resolved = WeakText::resolve_from_ref(Some(&hello), next, place);
-    assert_error(&rt, "the refusal", resolved, Error::OffsetOverflow);
+    assert_refusal(&rt, "the refusal", resolved, Error::OffsetOverflow);
 }
 
 fn expression<T: Portable>(rt: &impl Abort, alloc: Global) -> Expr {

@@ -6,7 +6,7 @@ ghost use Rattle.archive_check.specs.Leaves.{edit};
 ghost use Rattle.archive_check.specs.PartsLayout.{part_at, definitions_at};
 
 use crate::assertions::{
-    assert_accepted, assert_error, assert_holds, assert_same, assert_served, sealed, sealed_at,
+    assert_accepted, assert_holds, assert_refusal, assert_same, assert_served, sealed, sealed_at,
     viewed,
 };
 use archive_core::api::{access, access_pos};
@@ -348,7 +348,7 @@ fn a_part_is_written_over_by_its_spot(rt: HostRuntime) {
 fn a_part_of_no_record_is_not_written_over(rt: HostRuntime) {
     let mut wrong = *b"\x18\0\0\0\x02\0\0\0\x10\0\0\0";
     let refused = write_part::<Numbers>(rt.alloc(), &mut wrong, 2, 258);
-    assert_error(&rt, "the refusal", refused, Error::InvalidBool);
+    assert_refusal(&rt, "the refusal", refused, Error::InvalidBool);
     assert_same(&rt, "as before", wrong, *b"\x18\0\0\0\x02\0\0\0\x10\0\0\0");
 }
 

@@ -2,7 +2,7 @@
 
 ghost use Rattle.std.specs.Prelude.{◌≡◌, IfOk};
 
-use crate::assertions::{assert_error, assert_same, assert_served};
+use crate::assertions::{assert_refusal, assert_same, assert_served};
 use archive_core::error::Error;
 use archive_core::ser::{Serializer, Writer};
 use archive_core::sharing::{Share, Sharing, SharingExt};
@@ -45,7 +45,7 @@ fn assert_pending<S: Sharing + Writer>(
 ) {
     serializer.start_sharing(key).expect(rt, "memory");
     let found = serializer.serialize_shared(key, text);
-    assert_error(rt, "pending", found, Error::CyclicSerialize);
+    assert_refusal(rt, "pending", found, Error::CyclicSerialize);
 }
 
 // Two texts are written, each once.

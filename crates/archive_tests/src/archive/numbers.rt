@@ -102,9 +102,9 @@ fn leaves_are_read_back(rt: HostRuntime) {
 #[test]
 fn bytes_that_are_no_leaf_are_refused(rt: HostRuntime) {
     let alloc = rt.alloc();
-    assert_refused::<bool>(&rt, alloc, "a bool", b"\x02", Error::InvalidBool);
-    assert_refused::<ArchivedChar>(&rt, alloc, "a char", b"\0\xd8\0\0", Error::InvalidChar);
-    assert_refused::<ArchivedNonZeroU16>(&rt, alloc, "zero", b"\0\0", Error::ZeroNumber);
+    assert_refused::<bool>(&rt, "a bool", alloc, b"\x02", Error::InvalidBool);
+    assert_refused::<ArchivedChar>(&rt, "a char", alloc, b"\0\xd8\0\0", Error::InvalidChar);
+    assert_refused::<ArchivedNonZeroU16>(&rt, "zero", alloc, b"\0\0", Error::ZeroNumber);
 }
 
 #[test]
@@ -112,9 +112,9 @@ fn lengths_and_offsets_have_32_bits(rt: HostRuntime) {
     let alloc = rt.alloc();
     let too_large = Error::NumberTooLarge;
     assert_written(&rt, alloc, &4_294_967_295usize, b"\xff\xff\xff\xff");
-    assert_unwritten(&rt, alloc, "a length", &4_294_967_296usize, too_large);
+    assert_unwritten(&rt, "a length", alloc, &4_294_967_296usize, too_large);
     assert_written(&rt, alloc, &-2isize, b"\xfe\xff\xff\xff");
-    assert_unwritten(&rt, alloc, "an offset", &2_147_483_648isize, too_large);
+    assert_unwritten(&rt, "an offset", alloc, &2_147_483_648isize, too_large);
 }
 
 #[test]

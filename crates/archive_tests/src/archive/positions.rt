@@ -17,7 +17,7 @@ fn assert_outside(rt: &impl Abort, alloc: Global, what: &str, pos: usize) {
         start: 0,
         end: 5,
     };
-    assert_refused_at::<ArchivedU32>(rt, alloc, what, BYTES, pos, outside);
+    assert_refused_at::<ArchivedU32>(rt, what, alloc, BYTES, pos, outside);
 }
 
 #[test]
@@ -28,7 +28,7 @@ fn a_root_lies_where_it_is_said_to(rt: HostRuntime) {
         position: 1,
         align: 4,
     };
-    assert_refused_at::<ArchivedU32>(&rt, rt.alloc(), "at 1", BYTES, 1, unaligned);
+    assert_refused_at::<ArchivedU32>(&rt, "at 1", rt.alloc(), BYTES, 1, unaligned);
     let number = viewed_at::<ArchivedU32>(&rt, rt.alloc(), BYTES, 0).get();
     assert_same(&rt, "at 0", number, 0x03020100);
     for (len, root) in [(3, 0), (4, 0), (5, 1)] {

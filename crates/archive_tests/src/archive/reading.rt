@@ -4,7 +4,7 @@ ghost use Rattle.std.specs.Prelude.{◌<◌, IfOk};
 ghost use Rattle.archive_tests.specs.Wholes.{DenotesNumber};
 
 use crate::archive::HELLO_WORLD;
-use crate::assertions::{assert_err, assert_same, viewed};
+use crate::assertions::{assert_refusal, assert_same, viewed};
 use archive_core::api::{
     HighValidator, access, access_pos_with_context, access_with_context, check_pos_with_context,
     deserialize, deserialize_using,
@@ -63,7 +63,7 @@ fn assert_too_deep(rt: &impl Abort, alloc: Global, what: &str, depth: usize)
         12,
         &mut context,
     );
-    assert_err(rt, what, checked, Error::ExceededMaximumSubtreeDepth);
+    assert_refusal(rt, what, checked, Error::ExceededMaximumSubtreeDepth);
 }
 
 #[test]

@@ -3,7 +3,7 @@
 ghost use Rattle.std.specs.Prelude.{◌≡◌};
 ghost use Rattle.std.specs.Int.{byte_len};
 
-use crate::assertions::{assert_err, assert_holds, assert_same, viewed};
+use crate::assertions::{assert_holds, assert_refusal, assert_same, viewed};
 use archive_core::RelPtr;
 use archive_core::error::Error;
 use archive_core::place::Place;
@@ -82,7 +82,7 @@ fn assert_not_emplaced<const N: usize, O: Offset>(
     let mut bytes = [0xee; N];
     let place: Place<'_, RawRelPtr<O>> = Place::new(pos, &mut bytes);
     let answer = RawRelPtr::try_emplace(to, place);
-    assert_err(rt, what, answer, refusal);
+    assert_refusal(rt, what, answer, refusal);
     assert_eq!(rt; bytes, [0xee; N], "{what}");
 }
 
@@ -204,7 +204,7 @@ fn pointers_to_one_value(rt: HostRuntime) {
     let mut bytes = [0xee; 4];
     let place: Place<'_, RelPtr<ArchivedU32>> = Place::new(4, &mut bytes);
     let far = RelPtr::try_emplace(1 << 32, place);
-    assert_err(&rt, "too far", far, Error::OffsetOverflow);
+    assert_refusal(&rt, "too far", far, Error::OffsetOverflow);
     assert_same(&rt, "as before", bytes, [0xee; 4]);
     let place: Place<'_, RelPtr<ArchivedU32>> = Place::new(4, &mut bytes);
     RelPtr::try_emplace(0, place).expect(&rt, "a pointer");

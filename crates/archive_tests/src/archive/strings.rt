@@ -2,7 +2,7 @@
 
 use crate::archive::HELLO_WORLD;
 use crate::assertions::{
-    assert_err, assert_read, assert_refused, assert_same, assert_unread, assert_written, text,
+    assert_read, assert_refusal, assert_refused, assert_same, assert_unread, assert_written, text,
     viewed,
 };
 use archive_core::api::access_pos;
@@ -52,7 +52,7 @@ fn texts_and_their_archives(rt: HostRuntime) {
 // In each row bytes, and why they are no string.
 fn assert_no_strings(rt: &impl Abort, alloc: Global, rows: &[(&[u8], Error)]) {
     for (bytes, refusal) in rows {
-        assert_refused::<ArchivedString>(rt, alloc, "checking", bytes, *refusal);
+        assert_refused::<ArchivedString>(rt, "checking", alloc, bytes, *refusal);
         assert_unread::<String>(rt, alloc, bytes, *refusal);
     }
 }
@@ -126,7 +126,7 @@ fn eight_bytes_say_where_a_text_stands(rt: HostRuntime) {
     assert_same(&rt, "in place", bytes, *b"hi\xff\xff\xff\xff\xff\xff");
     let text = "0123456789";
     let far = repr::try_emplace_out_of_line(text, 0, 1 << 31, &mut bytes);
-    assert_err(&rt, "too far", far, Error::OffsetOverflow);
+    assert_refusal(&rt, "too far", far, Error::OffsetOverflow);
     assert_same(&rt, "as before", bytes, *b"hi\xff\xff\xff\xff\xff\xff");
     repr::try_emplace_out_of_line(text, 12, 0, &mut bytes).expect(&rt, "a text elsewhere");
     assert_same(&rt, "elsewhere", bytes, *b"\x8a\0\0\0\xf4\xff\xff\xff");

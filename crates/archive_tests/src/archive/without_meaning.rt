@@ -134,8 +134,8 @@ impl Portable for ArchivedItself {
 fn a_type_without_a_meaning_is_refused(rt: HostRuntime) {
     for bytes in [b"".as_slice(), b"\x01".as_slice(), b"12345678".as_slice()] {
         let conflict = Error::ShapeConflict;
-        assert_refused::<ArchivedTwice>(&rt, rt.alloc(), "two definitions", bytes, conflict);
+        assert_refused::<ArchivedTwice>(&rt, "two definitions", rt.alloc(), bytes, conflict);
         let recursive = Error::RecursiveLayout;
-        assert_refused::<ArchivedItself>(&rt, rt.alloc(), "itself", bytes, recursive);
+        assert_refused::<ArchivedItself>(&rt, "itself", rt.alloc(), bytes, recursive);
     }
 }

@@ -5,7 +5,7 @@ ghost use Rattle.archive_check.specs.declared.format.error.Error.TheVariants.{Ou
 ghost use Rattle.archive_tests.specs.Wholes.{ArchivesText};
 
 use crate::archive::HELLO_WORLD;
-use crate::assertions::{assert_err, assert_holds, assert_same, text, viewed};
+use crate::assertions::{assert_holds, assert_refusal, assert_same, text, viewed};
 use archive_core::api::{to_bytes, to_bytes_in, to_bytes_into};
 use archive_core::error::Error;
 use archive_core::place::Place;
@@ -143,7 +143,7 @@ fn a_buffer_keeps_what_was_written_before_a_refusal(rt: HostRuntime) {
         len: 12,
     };
     let written = write_to(rt.alloc(), &value, &mut buffer);
-    assert_err(&rt, "no room", written, refusal);
+    assert_refusal(&rt, "no room", written, refusal);
     assert_same(&rt, "the text", buffer.as_slice(), b"hello world\0");
     assert_same(&rt, "all bytes", bytes, *b"hello world\0\xcc\xcc\xcc\xcc");
 }
