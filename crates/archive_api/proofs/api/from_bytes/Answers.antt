@@ -2,7 +2,7 @@ use Rattle.std.proofs.Common.{inl, inr, ⊎_elim}
 use Rattle.std.proofs.lemmas.Result.{IfOk-weaker, IfErr-weaker}
 use Rattle.archive_check.proofs.Archives.{root_read}
 use Rattle.archive_check.proofs.Unshared.{never_cyclic}
-use Rattle.archive_core.proofs.api.from_bytes.Goals as goal
+use Rattle.archive_api.proofs.api.from_bytes.Goals as goal
 
 pub returns-clause-read : goal.returns-clause-read
 returns-clause-read g c =

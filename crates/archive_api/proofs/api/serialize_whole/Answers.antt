@@ -1,7 +1,7 @@
 use Rattle.std.proofs.lemmas.Result.{IfErr-weaker}
-use Rattle.archive_core.proofs.OwnKeys.{goes_on, refused}
-use Rattle.archive_core.proofs.Whole.{archives_of}
-use Rattle.archive_core.proofs.api.serialize_whole.Goals as goal
+use Rattle.archive_api.proofs.OwnKeys.{goes_on, refused}
+use Rattle.archive_api.proofs.Whole.{archives_of}
+use Rattle.archive_api.proofs.api.serialize_whole.Goals as goal
 
 pub returns-clause-archived : goal.returns-clause-archived
 returns-clause-archived g c = rw (c.into_writer.ensures, ← c.new-serializer.ensures.writer)

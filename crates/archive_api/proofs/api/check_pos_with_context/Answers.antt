@@ -3,7 +3,7 @@ use Rattle.archive_check.specs.declared.format.error.Error.{Error}
 use Rattle.std.proofs.lemmas.Result.{on_ok_weaker, IfErr-weaker}
 use Rattle.archive_schema.proofs.Archives.{answers_type}
 use Rattle.archive_check.proofs.Archives.{answers_unmeant}
-use Rattle.archive_core.proofs.api.check_pos_with_context.Goals as goal
+use Rattle.archive_api.proofs.api.check_pos_with_context.Goals as goal
 
 -- a type that checks itself
 

@@ -2,7 +2,7 @@ use Rattle.std.proofs.Common.{arith}
 use Rattle.std.proofs.lemmas.Result.{on_ok_weaker, IfErr-weaker}
 use Rattle.archive_schema.specs.Schemas.{IsSchemaOf}
 use Rattle.archive_schema.proofs.Archives.{answers_type}
-use Rattle.archive_core.proofs.api.kept.Access.check_pos_with_context.Goals as goal
+use Rattle.archive_api.proofs.api.kept.Access.check_pos_with_context.Goals as goal
 
 pub returns-in-None-clause-answer : goal.returns-in-None-clause-answer
 returns-in-None-clause-answer g c whole =

@@ -1,6 +1,6 @@
 use Rattle.std.proofs.Common.{◌∙◌, sym}
 use Rattle.archive_check.proofs.SelfCheck.Orders.{ordered_well}
-use Rattle.archive_core.proofs.api.kept.Access.new.Goals as goal
+use Rattle.archive_api.proofs.api.kept.Access.new.Goals as goal
 
 pub returns-then-is_direct-clause-meaning : goal.returns-then-is_direct-clause-meaning
 returns-then-is_direct-clause-meaning g c =

@@ -4,7 +4,7 @@ use Rattle.archive_check.specs.WriterState.{only_bytes}
 use Rattle.archive_types.specs.Plans.{at_start}
 use Rattle.archive_types.specs.Causes.{HindersRegion, RegionReaches}
 use Rattle.archive_types.proofs.Causes.{err_by, err_at, explains_unlimited}
-use Rattle.archive_core.proofs.api.using.to_bytes_with_alloc.Goals as goal
+use Rattle.archive_api.proofs.api.using.to_bytes_with_alloc.Goals as goal
 
 pub returns-in_err-root-clause-refused : goal.returns-in_err-root-clause-refused
 returns-in_err-root-clause-refused g c = err_by c.from_residual-in_err-root.result c.in_err-root.field-0.0 _ c.from_residual-in_err-root.ensures.1

@@ -1,5 +1,5 @@
 use Rattle.archive_check.proofs.Archives.{archive_viewed}
-use Rattle.archive_core.proofs.api.kept.Access.access_pos.Goals as goal
+use Rattle.archive_api.proofs.api.access_pos.Goals as goal
 
 pub returns-in-Err-clause-answer : goal.returns-in-Err-clause-answer
 returns-in-Err-clause-answer g c =
