@@ -10,7 +10,7 @@ use super::marks::{
     Array, Named, Plain,
 };
 use super::names::{Endless, Tagged};
-use crate::assertions::assert_same;
+use crate::assertions::{assert_refusal, assert_same};
 use archive_check::format::error::Error;
 use archive_check::format::layout::Layout;
 use archive_check::format::traits::{LayoutRaw, Portable, layout_of_run};
@@ -37,7 +37,12 @@ fn layout_of<T: Portable>(alloc: Global) -> Result<(usize, usize), Error> {
 
 fn assert_layout<T: Portable>(rt: &impl Abort, alloc: Global, size: usize, align: usize) {
     let layout = layout_of::<T>(alloc);
-    assert_eq!(rt; layout, Ok((size, align)), "{size} at {align}");
+    assert_same(rt, "size and alignment", layout, Ok((size, align)));
+}
+
+// A type's schema has no layout, for this reason.
+fn assert_no_layout<T: Portable>(rt: &impl Abort, alloc: Global, what: &str, refusal: Error) {
+    assert_refusal(rt, what, layout_of::<T>(alloc), refusal);
 }
 
 #[test]
@@ -74,10 +79,9 @@ fn arrays_are_as_large_as_a_size_can_be(rt: HostRuntime) {
     assert_layout::<Array<ArchivedU64, 4_294_967_296>>(&rt, alloc, 34_359_738_368, 8);
     assert_layout::<Array<u8, { usize::MAX }>>(&rt, alloc, usize::MAX, 1);
     assert_layout::<Array<Array<ArchivedU64, MANY>, 0>>(&rt, alloc, 0, 8);
-    let too_large = layout_of::<Array<ArchivedU64, MANY>>(alloc);
-    assert_same(&rt, "too large", too_large, Err(Error::LayoutTooLarge));
-    let rounded = layout_of::<Plain<Rounded>>(alloc);
-    assert_same(&rt, "rounded up", rounded, Err(Error::LayoutTooLarge));
+    let refusal = Error::LayoutTooLarge;
+    assert_no_layout::<Array<ArchivedU64, MANY>>(&rt, alloc, "too large", refusal);
+    assert_no_layout::<Plain<Rounded>>(&rt, alloc, "rounded up", refusal);
 }
 
 #[test]
@@ -93,33 +97,31 @@ fn names_have_the_layouts_of_their_definitions(rt: HostRuntime) {
 
 #[test]
 fn a_name_is_defined_and_does_not_hold_itself(rt: HostRuntime) {
-    let undefined = layout_of::<Plain<Undefined>>(rt.alloc());
-    assert_same(&rt, "undefined", undefined, Err(Error::ShapeConflict));
-    let endless = layout_of::<Endless>(rt.alloc());
-    assert_same(&rt, "endless", endless, Err(Error::RecursiveLayout));
+    let alloc = rt.alloc();
+    assert_no_layout::<Plain<Undefined>>(&rt, alloc, "undefined", Error::ShapeConflict);
+    assert_no_layout::<Endless>(&rt, alloc, "endless", Error::RecursiveLayout);
 }
 
-// The layouts of regions of so many elements.
-fn assert_runs<T: Portable>(rt: &impl Abort, rows: &[(usize, Result<(usize, usize), Error>)]) {
+// The layouts of regions of so many elements; none where such a layout is too large.
+fn assert_runs<T: Portable>(rt: &impl Abort, rows: &[(usize, Option<(usize, usize)>)]) {
     for (count, layout) in rows {
-        assert_eq!(rt; &numbers(layout_of_run::<T>(*count)), layout, "of {count}");
+        let found = (*count, numbers(layout_of_run::<T>(*count)));
+        let right = (*count, layout.ok_or(Error::LayoutTooLarge));
+        assert_same(rt, "elements and their layout", found, right);
     }
+}
+
+// The layout of a region of one value.
+fn assert_one<T: LayoutRaw>(rt: &impl Abort, size: usize, align: usize) {
+    let found = numbers(T::layout_raw(0));
+    assert_same(rt, "a region of one value", found, Ok((size, align)));
 }
 
 #[test]
 fn regions_have_layouts(rt: HostRuntime) {
-    let one = numbers(<Named<Id>>::layout_raw(0));
-    assert_same(&rt, "a region of one value", one, Ok((8, 8)));
-    let unit = numbers(<()>::layout_raw(0));
-    assert_same(&rt, "a region of a unit", unit, Ok((0, 1)));
-    assert_runs::<Named<Id>>(
-        &rt,
-        &[
-            (0, Ok((0, 8))),
-            (3, Ok((24, 8))),
-            (MANY, Err(Error::LayoutTooLarge)),
-        ],
-    );
-    assert_runs::<u8>(&rt, &[(usize::MAX, Ok((usize::MAX, 1)))]);
-    assert_runs::<()>(&rt, &[(usize::MAX, Ok((0, 1)))]);
+    assert_one::<Named<Id>>(&rt, 8, 8);
+    assert_one::<()>(&rt, 0, 1);
+    assert_runs::<Named<Id>>(&rt, &[(0, Some((0, 8))), (3, Some((24, 8))), (MANY, None)]);
+    assert_runs::<u8>(&rt, &[(usize::MAX, Some((usize::MAX, 1)))]);
+    assert_runs::<()>(&rt, &[(usize::MAX, Some((0, 1)))]);
 }
