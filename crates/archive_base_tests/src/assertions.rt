@@ -6,7 +6,7 @@ use archive_check::format::error::Error;
 use archive_check::format::expr::{Defs, Expr, Kind};
 use archive_check::format::traits::{ArchivePointee, Portable};
 use std::alloc::Global;
-use std::fmt::Debug;
+use std::fmt::{Debug, Display};
 use std::process::Abort;
 
 // Two values are equal; `what` names them where they aren't.
@@ -34,9 +34,10 @@ pub(crate) fn assert_refusal<T: Drop>(
     assert_same(rt, what, found.err(), Some(refusal));
 }
 
-// What a type's bytes are read as.
-pub(crate) fn expression_of<T: Portable>(rt: &impl Abort, alloc: Global) -> Expr {
-    T::expr(alloc).expect(rt, "memory for an expression")
+// A value is shown as this text.
+pub(crate) fn assert_shown<T: Display>(rt: &impl Abort, alloc: Global, value: &T, text: &str) {
+    let found = value.to_string(alloc).expect(rt, "memory for a text");
+    assert_same(rt, "the text", found.as_str(), text);
 }
 
 // A type is a leaf of this kind, size and alignment, brings no definition, and a pointer to it has no length.
@@ -49,7 +50,7 @@ pub(crate) fn assert_leaf<T: Portable + ArchivePointee<ArchivedMetadata = ()>>(
 ) {
     let found = (kind, T::size(), T::align(), T::pointer_metadata(&()));
     assert_same(rt, "a leaf and its numbers", found, (kind, size, align, 0));
-    let expr = expression_of::<T>(rt, alloc);
+    let expr = T::expr(alloc).expect(rt, "memory for an expression");
     assert_same(rt, "the expression", expr, Expr::Leaf(kind));
     T::define(alloc, &mut Defs::new(alloc)).expect(rt, "no definition");
 }

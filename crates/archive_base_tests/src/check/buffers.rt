@@ -16,8 +16,9 @@ use archive_schema::shape::Schema;
 use std::alloc::Global;
 use std::process::Abort;
 
-// How many regions a check of a `T` at a position enters, with a limit of depth.
-fn entered<T: Portable>(
+// How many regions a check by a schema enters at a position, with a limit of depth.
+fn entered_by(
+    schema: &Schema,
     alloc: Global,
     bytes: &[u8],
     at: usize,
@@ -26,9 +27,23 @@ fn entered<T: Portable>(
     requires { levels ≢ Some 0 }
 {
     let mut context = HighValidator::with_max_depth(alloc, bytes, levels);
-    let schema = Schema::of::<T>(alloc)?;
     schema.check(bytes, at, &mut context)?;
     Ok(context.subtrees())
+}
+
+// The same of a check of a `T`.
+fn entered<T: Portable>(
+    alloc: Global,
+    bytes: &[u8],
+    at: usize,
+    levels: Option<usize>,
+) -> Result<usize, Error>
+    requires { levels ≢ Some 0 }
+{
+    match Schema::of::<T>(alloc) {
+        Ok(schema) => entered_by(&schema, alloc, bytes, at, levels),
+        Err(error) => Err(error),
+    }
 }
 
 // Why a check refuses. It holds no text, as an `Error` may: rows of it take the check a third of the time.

@@ -1,5 +1,7 @@
 // The calls on shared positions, and calls within a region.
 
+ghost use Rattle.std.specs.Prelude.{◌≡◌, ◌≤◌};
+
 use crate::assertions::{assert_refusal, assert_same};
 use archive_check::context::positions::SharedValidator;
 use archive_check::context::subtree::ArchiveContextExt;
@@ -8,6 +10,7 @@ use archive_check::context::{ArchiveContext, ArchiveValidator, SharedContext, Va
 use archive_check::format::error::Error;
 use archive_check::format::expr::{Expr, FlavorInfo, Kind, Pointee};
 use archive_check::format::layout::Layout;
+use std::ops::Range;
 use std::process::Abort;
 
 const RC: FlavorInfo = FlavorInfo {
@@ -79,6 +82,22 @@ fn finish<S: SharedContext>(
     }
 }
 
+// Starts a position with this length, or finishes it where there is none; it answers so.
+fn assert_call<S: SharedContext>(
+    rt: &impl Abort,
+    shared: &mut S,
+    flavor: &FlavorInfo,
+    pointee: &Pointee,
+    call: (i128, Option<usize>),
+    answer: &Answer,
+) {
+    let found = match call.1 {
+        Some(length) => start(rt, shared, flavor, pointee, call.0, length),
+        None => finish(shared, flavor, pointee, call.0),
+    };
+    assert_same(rt, "a call", (call, found), (call, result_of(answer)));
+}
+
 // Makes the calls in turn.
 fn assert_calls<S: SharedContext>(rt: &impl Abort, shared: &mut S, calls: &[Call]) {
     let text = Pointee::Text;
@@ -86,12 +105,8 @@ fn assert_calls<S: SharedContext>(rt: &impl Abort, shared: &mut S, calls: &[Call
     for (is_other, is_text, position, length, answer) in calls {
         let flavor = if *is_other { &OTHER } else { &RC };
         let pointee = if *is_text { &text } else { &unit };
-        let found = match length {
-            Some(length) => start(rt, shared, flavor, pointee, *position, *length),
-            None => finish(shared, flavor, pointee, *position),
-        };
         let call = (*position, *length);
-        assert_same(rt, "a call", (call, found), (call, result_of(answer)));
+        assert_call(rt, shared, flavor, pointee, call, answer);
     }
 }
 
@@ -165,7 +180,9 @@ fn a_position_is_finished_once(rt: HostRuntime) {
 }
 
 // A text of four bytes at 8 is started, and was this before.
-fn assert_state<S: SharedContext>(rt: &impl Abort, shared: &mut S, state: ValidationState) {
+fn assert_state<S: SharedContext>(rt: &impl Abort, shared: &mut S, state: ValidationState)
+    ensures { S.state shared.new ≡ S.state shared.old }
+{
     let found = shared.start_shared(&RC, &Pointee::Text, 8, 4);
     let found = found.expect(rt, "a state");
     assert_same(rt, "the text's state", found, state);
@@ -177,23 +194,46 @@ fn finish_text<S: SharedContext>(rt: &impl Abort, shared: &mut S) {
     finished.expect(rt, "a finished text");
 }
 
+// Four bytes at 8 are in the range.
+fn assert_in_range<C: ArchiveContext>(rt: &impl Abort, context: &mut C)
+    ensures { C.state context.new ≡ C.state context.old }
+{
+    let layout = Layout { size: 4, align: 4 };
+    let found = context.check_subtree_ptr(8, &layout);
+    found.expect(rt, "a region in the range");
+}
+
+// The region from 8 to 12 is entered, and answered is what is left then. One before it would be too deep.
+fn enter_last<C: ArchiveContext>(rt: &impl Abort, context: &mut C) -> Range<usize>
+    requires begins { (C.state context.old).start ≤ 4 }
+    requires ends { 12 ≤ (C.state context.old).end }
+{
+    let outer = context.push_subtree_range(8, 12).expect(rt, "a region");
+    let deeper = context.push_subtree_range(4, 8);
+    let refusal = Error::ExceededMaximumSubtreeDepth;
+    assert_refusal(rt, "deeper", deeper, refusal);
+    outer
+}
+
+// The text at 8 is started before its region is entered, and finished behind it.
+fn check_text<C: ArchiveContext + SharedContext>(rt: &impl Abort, context: &mut C)
+    requires begins { (C.state context.old).start ≤ 4 }
+    requires ends { 12 ≤ (C.state context.old).end }
+{
+    assert_in_range(rt, context);
+    assert_state(rt, context, ValidationState::Started);
+    let outer = enter_last(rt, context);
+    context.pop_subtree_range(outer).expect(rt, "to leave it");
+    finish_text(rt, context);
+    assert_state(rt, context, ValidationState::Finished);
+}
+
 #[test]
 fn a_validator_asks_both(rt: HostRuntime) {
     let archive = ArchiveValidator::with_max_depth(&[0; 12], Some(2));
     let shared = SharedValidator::with_capacity(rt.alloc(), 2);
     let mut both = Validator::new(archive, shared.expect(&rt, "memory"));
-    let layout = Layout { size: 4, align: 4 };
-    let checked = both.check_subtree_ptr(8, &layout);
-    checked.expect(&rt, "a region in the range");
-    let state = both.start_shared(&RC, &Pointee::Text, 8, 4);
-    assert_same(&rt, "at first", state, Ok(ValidationState::Started));
-    let outer = both.push_subtree_range(8, 12).expect(&rt, "a region");
-    let deeper = both.push_subtree_range(4, 8);
-    let refusal = Error::ExceededMaximumSubtreeDepth;
-    assert_refusal(&rt, "deeper", deeper, refusal);
-    both.pop_subtree_range(outer).expect(&rt, "to leave it");
-    finish_text(&rt, &mut both);
-    assert_state(&rt, &mut both, ValidationState::Finished);
+    check_text(&rt, &mut both);
     assert_same(&rt, "regions", both.subtrees(), 1);
 }
 
@@ -212,12 +252,10 @@ fn call_inside(range: &mut ArchiveValidator<'_>) -> Result<Error, Error> {
     range.in_subtree_raw(4, &layout, |inner| -> Result<Error, Error> {
         let layout = Layout { size: 4, align: 4 };
         inner.check_subtree_ptr(0, &layout)?;
-        Ok(
-            inner
-                .check_subtree_ptr(4, &layout)
-                .err()
-                .unwrap_or(Error::OutOfMemory),
-        )
+        match inner.check_subtree_ptr(4, &layout) {
+            Ok(()) => Ok(Error::OutOfMemory),
+            Err(error) => Ok(error),
+        }
     })
 }
 

@@ -4,6 +4,7 @@ use crate::assertions::assert_same;
 use archive_check::format::error::Error;
 use archive_check::format::expr::{Defs, Expr, FlavorInfo, IntegerKind, Kind, Pointee};
 use std::alloc::Global;
+use std::fmt::Debug;
 use std::process::Abort;
 
 const RC: FlavorInfo = FlavorInfo {
@@ -25,13 +26,27 @@ fn number() -> Expr {
     Expr::Leaf(Kind::Number(IntegerKind::I32))
 }
 
-// A value in a box of its own. All that is made here ends the process where memory is refused: a `?` would drop what was made before it, and each drop of an
-// expression is a call for the check.
+// A value in a box of its own. What is made here ends the process where memory is refused: a `?` would drop what was made before it, and each drop of an
+// expression is a call for the check. It is generic, as are the lists below, since the type of an expression is long.
 fn boxed<T>(rt: &impl Abort, alloc: Global, value: T) -> Box<T> {
-    match Box::new(alloc, value) {
-        Ok(boxed) => boxed,
-        Err(_) => panic!(rt; "no memory for a box"),
-    }
+    Box::new(alloc, value).expect(rt, "memory for a box")
+}
+
+// Puts a value at the end of a list.
+fn push<T>(rt: &impl Abort, list: &mut Vec<T>, value: T) {
+    list.push(value).expect(rt, "memory for a list");
+}
+
+fn list_of_one<T>(rt: &impl Abort, alloc: Global, value: T) -> Vec<T> {
+    let mut list = Vec::new(alloc);
+    push(rt, &mut list, value);
+    list
+}
+
+fn list_of_two<T>(rt: &impl Abort, alloc: Global, first: T, second: T) -> Vec<T> {
+    let mut list = list_of_one(rt, alloc, first);
+    push(rt, &mut list, second);
+    list
 }
 
 fn array_of(rt: &impl Abort, alloc: Global, count: usize, element: Expr) -> Expr {
@@ -42,79 +57,36 @@ fn box_of(rt: &impl Abort, alloc: Global, pointee: Pointee) -> Expr {
     Expr::Box(boxed(rt, alloc, pointee))
 }
 
-fn vec_of(rt: &impl Abort, alloc: Global, element: Expr) -> Expr {
-    Expr::Vec(boxed(rt, alloc, element))
-}
-
 fn shared_of(rt: &impl Abort, alloc: Global, flavor: FlavorInfo, pointee: Pointee) -> Expr {
     Expr::Shared(flavor, boxed(rt, alloc, pointee))
 }
 
-fn weak_of(rt: &impl Abort, alloc: Global, flavor: FlavorInfo, pointee: Pointee) -> Expr {
-    Expr::Weak(flavor, boxed(rt, alloc, pointee))
-}
-
-// Puts an expression at the end of a list.
-fn push(rt: &impl Abort, list: &mut Vec<Expr>, expr: Expr) {
-    list.push(expr).expect(rt, "memory for an expression");
-}
-
-// Two parts at most.
-fn parts_of(
-    rt: &impl Abort,
-    alloc: Global,
-    first: Option<Expr>,
-    second: Option<Expr>,
-) -> Vec<Expr> {
-    let mut parts = Vec::new(alloc);
-    if let Some(first) = first {
-        push(rt, &mut parts, first);
-    }
-    if let Some(second) = second {
-        push(rt, &mut parts, second);
-    }
-    parts
-}
-
-fn record_of(rt: &impl Abort, alloc: Global, first: Option<Expr>, second: Option<Expr>) -> Expr {
-    Expr::Record(parts_of(rt, alloc, first, second))
-}
-
-// A choice of one variant with this part, or with none.
-fn choice_of_one(rt: &impl Abort, alloc: Global, part: Option<Expr>) -> Expr {
-    let mut variants = Vec::new(alloc);
-    let parts = parts_of(rt, alloc, part, None);
-    variants.push(parts).expect(rt, "memory for a variant");
-    Expr::Choice("A", variants)
-}
-
 // Nothing, or a number.
 fn option_of_number(rt: &impl Abort, alloc: Global) -> Expr {
-    let none = Vec::new(alloc);
-    let some = parts_of(rt, alloc, Some(number()), None);
-    let option = Expr::choice_of_two(alloc, "ArchivedOption", none, some);
+    let some = list_of_one(rt, alloc, number());
+    let option = Expr::choice_of_two(alloc, "ArchivedOption", Vec::new(alloc), some);
     option.expect(rt, "memory for a choice")
 }
 
 // A record with a part of each form.
 fn every_form(rt: &impl Abort, alloc: Global) -> Expr {
-    let mut parts = Vec::new(alloc);
-    let list = &mut parts;
-    push(rt, list, Expr::Leaf(Kind::Char));
-    push(
-        rt,
-        list,
-        record_of(rt, alloc, Some(Expr::Leaf(Kind::Unit)), None),
-    );
-    push(rt, list, option_of_number(rt, alloc));
-    push(rt, list, array_of(rt, alloc, 3, number()));
-    push(rt, list, box_of(rt, alloc, Pointee::Text));
-    push(rt, list, vec_of(rt, alloc, number()));
+    let unit = Expr::Leaf(Kind::Unit);
+    let mut parts = list_of_one(rt, alloc, Expr::Leaf(Kind::Char));
+    push(rt, &mut parts, Expr::Record(list_of_one(rt, alloc, unit)));
+    push(rt, &mut parts, option_of_number(rt, alloc));
+    push(rt, &mut parts, array_of(rt, alloc, 3, number()));
+    push(rt, &mut parts, box_of(rt, alloc, Pointee::Text));
+    push_other_forms(rt, alloc, &mut parts);
+    Expr::Record(parts)
+}
+
+fn push_other_forms(rt: &impl Abort, alloc: Global, list: &mut Vec<Expr>) {
+    push(rt, list, Expr::Vec(boxed(rt, alloc, number())));
     push(rt, list, Expr::Str);
     push(rt, list, shared_of(rt, alloc, RC, Pointee::One(number())));
-    push(rt, list, weak_of(rt, alloc, RC, Pointee::Run(number())));
+    let run = boxed(rt, alloc, Pointee::Run(number()));
+    push(rt, list, Expr::Weak(RC, run));
     push(rt, list, Expr::Named("ArchivedNode"));
-    Expr::Record(parts)
 }
 
 // Those that own nothing.
@@ -135,23 +107,24 @@ fn push_plain(rt: &impl Abort, list: &mut Vec<Expr>) {
     push(rt, list, Expr::Named("B"));
 }
 
-fn push_records_and_choices(rt: &impl Abort, alloc: Global, list: &mut Vec<Expr>) {
-    push(rt, list, record_of(rt, alloc, None, None));
-    push(rt, list, record_of(rt, alloc, Some(number()), None));
-    push(
-        rt,
-        list,
-        record_of(rt, alloc, Some(number()), Some(Expr::Str)),
-    );
-    push(
-        rt,
-        list,
-        record_of(rt, alloc, Some(Expr::Str), Some(number())),
-    );
+fn push_records(rt: &impl Abort, alloc: Global, list: &mut Vec<Expr>) {
+    push(rt, list, Expr::Record(Vec::new(alloc)));
+    push(rt, list, Expr::Record(list_of_one(rt, alloc, number())));
+    let number_first = list_of_two(rt, alloc, number(), Expr::Str);
+    push(rt, list, Expr::Record(number_first));
+    let text_first = list_of_two(rt, alloc, Expr::Str, number());
+    push(rt, list, Expr::Record(text_first));
+}
+
+// Of no variant, and of one.
+fn push_choices(rt: &impl Abort, alloc: Global, list: &mut Vec<Expr>) {
     push(rt, list, Expr::Choice("A", Vec::new(alloc)));
     push(rt, list, Expr::Choice("B", Vec::new(alloc)));
-    push(rt, list, choice_of_one(rt, alloc, None));
-    push(rt, list, choice_of_one(rt, alloc, Some(Expr::Str)));
+    let nothing = list_of_one(rt, alloc, Vec::new(alloc));
+    push(rt, list, Expr::Choice("A", nothing));
+    let text = list_of_one(rt, alloc, Expr::Str);
+    let text = list_of_one(rt, alloc, text);
+    push(rt, list, Expr::Choice("A", text));
 }
 
 fn push_owners(rt: &impl Abort, alloc: Global, list: &mut Vec<Expr>) {
@@ -161,21 +134,23 @@ fn push_owners(rt: &impl Abort, alloc: Global, list: &mut Vec<Expr>) {
     push(rt, list, box_of(rt, alloc, Pointee::One(number())));
     push(rt, list, box_of(rt, alloc, Pointee::Run(number())));
     push(rt, list, box_of(rt, alloc, Pointee::Text));
-    push(rt, list, vec_of(rt, alloc, number()));
+    push(rt, list, Expr::Vec(boxed(rt, alloc, number())));
 }
 
 fn push_pointers(rt: &impl Abort, alloc: Global, list: &mut Vec<Expr>) {
-    for flavor in [RC, CYCLIC, OTHER] {
-        push(rt, list, shared_of(rt, alloc, flavor, Pointee::Text));
-    }
-    push(rt, list, weak_of(rt, alloc, RC, Pointee::Text));
+    push(rt, list, shared_of(rt, alloc, RC, Pointee::Text));
+    push(rt, list, shared_of(rt, alloc, CYCLIC, Pointee::Text));
+    push(rt, list, shared_of(rt, alloc, OTHER, Pointee::Text));
+    let text = boxed(rt, alloc, Pointee::Text);
+    push(rt, list, Expr::Weak(RC, text));
 }
 
 // Expressions of which no two are written alike.
 fn all_different(rt: &impl Abort, alloc: Global) -> Vec<Expr> {
     let mut list = Vec::new(alloc);
     push_plain(rt, &mut list);
-    push_records_and_choices(rt, alloc, &mut list);
+    push_records(rt, alloc, &mut list);
+    push_choices(rt, alloc, &mut list);
     push_owners(rt, alloc, &mut list);
     push_pointers(rt, alloc, &mut list);
     list
@@ -187,7 +162,7 @@ fn assert_every_form(rt: &impl Abort, alloc: Global, expr: &Expr) {
 }
 
 // Two of them are equal where they stand at one place.
-fn assert_all_different(rt: &impl Abort, left: &[Expr], right: &[Expr]) {
+fn assert_all_different<T: PartialEq>(rt: &impl Abort, left: &[T], right: &[T]) {
     assert_same(rt, "how many", (left.len(), right.len()), (28, 28));
     for (i, a) in left.iter().enumerate() {
         for (j, b) in right.iter().enumerate() {
@@ -202,18 +177,25 @@ fn expressions_are_compared_as_written(rt: HostRuntime) {
     let left = all_different(&rt, rt.alloc());
     let right = all_different(&rt, rt.alloc());
     assert_all_different(&rt, &left, &right);
+}
+
+#[test]
+fn an_expression_of_every_form_equals_another(rt: HostRuntime) {
     let whole = every_form(&rt, rt.alloc());
     assert_every_form(&rt, rt.alloc(), &whole);
 }
 
-// A copy, whose original is gone.
-fn copy_of(rt: &impl Abort, whole: Expr) -> Expr {
-    whole.clone().expect(rt, "memory for a copy")
+fn copied<T: Clone>(rt: &impl Abort, value: &T) -> T {
+    value.clone().expect(rt, "memory for a copy")
 }
 
-fn assert_copied(rt: &impl Abort, pointee: &Pointee) {
-    let copy = pointee.clone().expect(rt, "memory for a copy");
-    assert_same(rt, "a copy", &copy, pointee);
+// A copy, whose original is gone.
+fn copy_of<T: Clone + Drop>(rt: &impl Abort, value: T) -> T {
+    copied(rt, &value)
+}
+
+fn assert_copied<T: Clone + PartialEq + Debug + Drop>(rt: &impl Abort, value: &T) {
+    assert_same(rt, "a copy", &copied(rt, value), value);
 }
 
 #[test]

@@ -1,5 +1,11 @@
 // The layouts of shapes, and which have none.
 
+ghost use Rattle.std.specs.Prelude.{◌≡◌, None, false};
+ghost use Rattle.archive_check.specs.Definitions.{listed};
+ghost use Rattle.archive_check.specs.Expressions.{shape_of};
+ghost use Rattle.archive_check.specs.MissingNames.{missing};
+ghost use Rattle.archive_schema.specs.Schemas.{definitions_in};
+
 use super::definitions::{Flags, Id, Inner, Node, Tree};
 use super::forms::{
     BoxedText, Either, Mixed, Nothing, OptionalBytes, OptionalNumber, Padded, Rounded, Text,
@@ -12,6 +18,7 @@ use super::marks::{
 use super::names::{Endless, Tagged};
 use crate::assertions::{assert_refusal, assert_same};
 use archive_check::format::error::Error;
+use archive_check::format::expr::Expr;
 use archive_check::format::layout::Layout;
 use archive_check::format::traits::{LayoutRaw, Portable, layout_of_run};
 use archive_num::ArchivedU64;
@@ -29,20 +36,37 @@ fn numbers(layout: Result<Layout, Error>) -> Result<(usize, usize), Error> {
     }
 }
 
+// What a type's bytes are read as.
+fn expression_of<T: Portable>(rt: &impl Abort, alloc: Global) -> Expr
+    ensures { shape_of result ≡ T.shape }
+{
+    T::expr(alloc).expect(rt, "memory for an expression")
+}
+
+// The size and the alignment of an expression, of which a schema defines each name.
+fn layout_in(schema: &Schema, expr: &Expr) -> Result<(usize, usize), Error>
+    requires { missing false (listed (definitions_in schema.now)) (shape_of expr.now) ≡ None }
+{
+    numbers(schema.layout(expr))
+}
+
 // The size and the alignment of a type, as its schema has them.
-fn layout_of<T: Portable>(alloc: Global) -> Result<(usize, usize), Error> {
-    let schema = Schema::of::<T>(alloc)?;
-    numbers(schema.layout(&T::expr(alloc)?))
+fn layout_of<T: Portable>(rt: &impl Abort, alloc: Global) -> Result<(usize, usize), Error> {
+    let expr = expression_of::<T>(rt, alloc);
+    match Schema::of::<T>(alloc) {
+        Ok(schema) => layout_in(&schema, &expr),
+        Err(error) => Err(error),
+    }
 }
 
 fn assert_layout<T: Portable>(rt: &impl Abort, alloc: Global, size: usize, align: usize) {
-    let layout = layout_of::<T>(alloc);
+    let layout = layout_of::<T>(rt, alloc);
     assert_same(rt, "size and alignment", layout, Ok((size, align)));
 }
 
 // A type's schema has no layout, for this reason.
 fn assert_no_layout<T: Portable>(rt: &impl Abort, alloc: Global, what: &str, refusal: Error) {
-    assert_refusal(rt, what, layout_of::<T>(alloc), refusal);
+    assert_refusal(rt, what, layout_of::<T>(rt, alloc), refusal);
 }
 
 #[test]

@@ -17,14 +17,23 @@ const RC: FlavorInfo = FlavorInfo {
     cycles: false,
 };
 
-// Starts a position, and answers why it is refused; none where it isn't. The first three lead to texts, the others to units.
+// Starts a position, and answers why it is refused; none where it isn't.
+fn start_as<S: SharedContext>(
+    shared: &mut S,
+    position: i128,
+    pointee: &Pointee,
+    length: usize,
+) -> Option<Error> {
+    shared.start_shared(&RC, pointee, position, length).err()
+}
+
+// The same, of one that leads to a text for the first three, and to a unit for the others.
 fn start<S: SharedContext>(shared: &mut S, position: i128) -> Option<Error> {
-    let (pointee, length) = if position < 3 {
-        (Pointee::Text, 1)
-    } else {
-        (Pointee::One(Expr::Leaf(Kind::Unit)), 0)
-    };
-    shared.start_shared(&RC, &pointee, position, length).err()
+    if position < 3 {
+        return start_as(shared, position, &Pointee::Text, 1);
+    }
+    let unit = Pointee::One(Expr::Leaf(Kind::Unit));
+    start_as(shared, position, &unit, 0)
 }
 
 // Starts eight positions of two types, and answers how many were started before the first refusal.

@@ -1,6 +1,6 @@
 // The calls on a range, and the refusals' texts.
 
-use crate::assertions::{assert_refusal, assert_same};
+use crate::assertions::{assert_refusal, assert_same, assert_shown};
 use archive_check::context::{ArchiveContext, ArchiveValidator};
 use archive_check::format::error::Error;
 use archive_check::format::layout::Layout;
@@ -18,8 +18,7 @@ fn assert_described(
 ) {
     let found = (error.number(), error.name());
     assert_same(rt, name, found, (number, name));
-    let found = error.to_string(alloc).expect(rt, "memory for a text");
-    assert_same(rt, name, found.as_str(), text);
+    assert_shown(rt, alloc, &error, text);
 }
 
 #[test]

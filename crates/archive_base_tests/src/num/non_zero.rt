@@ -1,6 +1,6 @@
 // Numbers that aren't 0.
 
-use crate::assertions::{assert_holds, assert_leaf, assert_same};
+use crate::assertions::{assert_holds, assert_leaf, assert_same, assert_shown};
 use archive_check::format::expr::{IntegerKind, Kind};
 use archive_nonzero::{
     ArchivedNonZeroI8, ArchivedNonZeroI16, ArchivedNonZeroI32, ArchivedNonZeroI64,
@@ -43,8 +43,7 @@ fn formats_behave_as_their_numbers(rt: HostRuntime) {
     let copy = three.clone().expect(&rt, "memory");
     assert_same(&rt, "a copy", copy, three);
     assert_holds(&rt, "-3 below 1", three < ArchivedNonZeroI8::from_native(1));
-    let text = three.to_string(rt.alloc()).expect(&rt, "memory");
-    assert_same(&rt, "the text", text.as_str(), "-3");
+    assert_shown(&rt, rt.alloc(), &three, "-3");
     let zeros = (0u16.is_zero(), 1u16.is_zero(), 0i16.is_zero());
     assert_same(&rt, "which are 0", zeros, (true, false, true));
     assert_holds(&rt, "-1 isn't 0", !(-1i16).is_zero());

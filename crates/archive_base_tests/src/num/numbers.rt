@@ -2,7 +2,7 @@
 
 ghost use Rattle.std.specs.Prelude.{◌≡◌, ◌↔◌, ◌<◌, length, IsTrue};
 
-use crate::assertions::{assert_holds, assert_leaf, assert_same};
+use crate::assertions::{assert_holds, assert_leaf, assert_same, assert_shown};
 use archive_check::format::expr::{IntegerKind, Kind};
 use archive_num::{
     ArchivedChar, ArchivedI16, ArchivedI32, ArchivedI64, ArchivedI128, ArchivedIsize, ArchivedU16,
@@ -113,12 +113,8 @@ fn formats_without_a_sign_behave_as_their_numbers(rt: HostRuntime) {
 
 #[test]
 fn formats_are_shown_as_their_numbers(rt: HostRuntime) {
-    let number = ArchivedI32::from_native(-5).to_string(rt.alloc());
-    let number = number.expect(&rt, "memory");
-    assert_same(&rt, "a number", number.as_str(), "-5");
-    let letter = ArchivedChar::from_native('x').to_string(rt.alloc());
-    let letter = letter.expect(&rt, "memory");
-    assert_same(&rt, "a letter", letter.as_str(), "x");
+    assert_shown(&rt, rt.alloc(), &ArchivedI32::from_native(-5), "-5");
+    assert_shown(&rt, rt.alloc(), &ArchivedChar::from_native('x'), "x");
 }
 
 #[test]

@@ -11,13 +11,19 @@ use linked_list_allocator::LocalHeap;
 use std::alloc::{Allocator, Global};
 use std::process::Abort;
 
-// One string for each key below 20; a key's second string isn't written.
+// A string for a key; its second string isn't written.
+fn write_once<S: Writer + Sharing>(serializer: &mut S, key: u64) -> Result<(), Error> {
+    if serializer.start_sharing(key)? != SharingState::Started {
+        return Ok(());
+    }
+    let pos = write_string(serializer)?;
+    serializer.finish_sharing(key, pos)
+}
+
+// One string for each key below 20.
 fn write_strings<S: Writer + Sharing>(serializer: &mut S) -> Result<(), Error> {
     for key in 0..40 {
-        if serializer.start_sharing(key % 20)? == SharingState::Started {
-            let pos = write_string(serializer)?;
-            serializer.finish_sharing(key % 20, pos)?;
-        }
+        write_once(serializer, key % 20)?;
     }
     Ok(())
 }
@@ -25,8 +31,10 @@ fn write_strings<S: Writer + Sharing>(serializer: &mut S) -> Result<(), Error> {
 // All of them in memory from `alloc`, and how many bytes they take.
 fn length_of_strings<A: Allocator + Copy + Drop>(alloc: A) -> Result<usize, Error> {
     let mut serializer = Serializer::new(Vec::new(alloc), alloc, Share::new(alloc));
-    write_strings(&mut serializer)?;
-    Ok(serializer.pos())
+    match write_strings(&mut serializer) {
+        Ok(()) => Ok(serializer.pos()),
+        Err(error) => Err(error),
+    }
 }
 
 // Whether memory of so many units of 32 bytes serves; where it doesn't, that is the refusal.
@@ -58,14 +66,18 @@ fn each_budget_serves_or_is_refused(rt: HostRuntime) {
     assert_same(&rt, "refused, and served", (refused, served), (true, true));
 }
 
+// A start is refused, and its key is then still unknown.
+fn assert_unstarted<S: Sharing>(rt: &impl Abort, sharing: &mut S) {
+    let started = sharing.start_sharing(7);
+    assert_refusal(rt, "to start", started, Error::OutOfMemory);
+    let finished = sharing.finish_sharing(7, 0);
+    assert_refusal(rt, "to finish", finished, Error::NotStarted);
+}
+
 #[test]
 fn a_refused_start_changes_nothing(rt: HostRuntime) {
     let heap = LocalHeap::new(rt.alloc(), 16).expect(&rt, "a heap");
     let no_room = Share::with_capacity(&heap, 100).is_err();
     assert_holds(&rt, "no room", no_room);
-    let mut share = Share::new(&heap);
-    let started = share.start_sharing(7);
-    assert_refusal(&rt, "to start", started, Error::OutOfMemory);
-    let finished = share.finish_sharing(7, 0);
-    assert_refusal(&rt, "to finish", finished, Error::NotStarted);
+    assert_unstarted(&rt, &mut Share::new(&heap));
 }
