@@ -16,9 +16,9 @@ use archive_schema::shape::Schema;
 use std::alloc::Global;
 use std::process::Abort;
 
-// How many regions a check by a schema enters at a position, with a limit of depth.
+// How many regions a check by a schema enters at a position, with a limit of depth. The schema ends here, so that its caller has no drop of it for the check.
 fn entered_by(
-    schema: &Schema,
+    schema: Schema,
     alloc: Global,
     bytes: &[u8],
     at: usize,
@@ -41,7 +41,7 @@ fn entered<T: Portable>(
     requires { levels ≢ Some 0 }
 {
     match Schema::of::<T>(alloc) {
-        Ok(schema) => entered_by(&schema, alloc, bytes, at, levels),
+        Ok(schema) => entered_by(schema, alloc, bytes, at, levels),
         Err(error) => Err(error),
     }
 }

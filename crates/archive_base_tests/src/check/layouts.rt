@@ -43,18 +43,17 @@ fn expression_of<T: Portable>(rt: &impl Abort, alloc: Global) -> Expr
     T::expr(alloc).expect(rt, "memory for an expression")
 }
 
-// The size and the alignment of an expression, of which a schema defines each name.
-fn layout_in(schema: &Schema, expr: &Expr) -> Result<(usize, usize), Error>
-    requires { missing false (listed (definitions_in schema.now)) (shape_of expr.now) ≡ None }
+// The size and the alignment of an expression, of which a schema defines each name. Both end here, so that its caller has no drop of them for the check.
+fn layout_by(schema: Schema, expr: Expr) -> Result<(usize, usize), Error>
+    requires { missing false (listed (definitions_in schema)) (shape_of expr) ≡ None }
 {
-    numbers(schema.layout(expr))
+    numbers(schema.layout(&expr))
 }
 
 // The size and the alignment of a type, as its schema has them.
 fn layout_of<T: Portable>(rt: &impl Abort, alloc: Global) -> Result<(usize, usize), Error> {
-    let expr = expression_of::<T>(rt, alloc);
     match Schema::of::<T>(alloc) {
-        Ok(schema) => layout_in(&schema, &expr),
+        Ok(schema) => layout_by(schema, expression_of::<T>(rt, alloc)),
         Err(error) => Err(error),
     }
 }
