@@ -26,9 +26,17 @@ u128 = leaf (number unsigned w128)
 abbrev pub i32 : Shape
 i32 = leaf (number signed w32)
 
+-- nothing, or a value, under a name
+abbrev pub nothing_or_one : Name → Shape → Shape
+nothing_or_one name X = choice name (variant no_part (variant (part X no_part) no_variant))
+
+-- nothing, or two values, under a name
+abbrev pub nothing_or_two : Name → Shape → Shape → Shape
+nothing_or_two name X Y = choice name (variant no_part (variant (part X (part Y no_part)) no_variant))
+
 -- nothing, or a value
 abbrev pub optional : Shape → Shape
-optional X = choice (codes "ArchivedOption") (variant no_part (variant (part X no_part) no_variant))
+optional X = nothing_or_one (codes "ArchivedOption") X
 
 -- a u8 or a u32
 abbrev pub either : Shape
@@ -56,11 +64,11 @@ inner = parts (part (weak rc (one (named (codes "Inner")))) no_part)
 
 -- nothing, or a box with the next one
 abbrev pub chain : Shape
-chain = choice (codes "ArchivedNode") (variant no_part (variant (part (boxed (one (named (codes "ArchivedNode")))) no_part) no_variant))
+chain = nothing_or_one (codes "ArchivedNode") (boxed (one (named (codes "ArchivedNode"))))
 
 -- nothing, or a bool and a box with the rest
 abbrev pub flags : Shape
-flags = choice (codes "Flags") (variant no_part (variant (part (leaf bool) (part (boxed (one (named (codes "Flags")))) no_part)) no_variant))
+flags = nothing_or_two (codes "Flags") (leaf bool) (boxed (one (named (codes "Flags"))))
 
 -- a record of a vector of pairs, each of one of its own and a u32
 abbrev pub tree : Shape

@@ -6,14 +6,12 @@ ghost use Rattle.archive_check.specs.Shape.{leaf, bool, unit, parts, no_part, ch
 ghost use Rattle.archive_check.specs.Expressions.{shape_of, shapes_in};
 ghost use Rattle.archive_base_tests.specs.Forms.{rc, u64 as number64, pair, inner, chain, flags, tree};
 
-use super::forms::pair_of;
-use super::marks::{Definition, Form, RC};
-use archive_check::format::error::Error;
-use archive_check::format::expr::{Expr, Pointee};
+use super::forms::{boxed_name, expr_of, nothing_or, nothing_or_both, pair_of, record_of_vec};
+use super::marks::{Definition, Form, weak_of};
+use archive_check::format::expr::{Expr, Kind, Pointee};
 use archive_check::format::layout::Layout;
-use archive_check::format::traits::Portable;
 use archive_num::{ArchivedU32, ArchivedU64};
-use std::alloc::Global;
+use std::alloc::{AllocError, Global};
 
 /// A `u64`, named `ArchivedId`.
 pub(crate) struct Id;
@@ -27,8 +25,8 @@ impl Form for Id {
         Layout { size: 8, align: 8 }
     }
 
-    fn expr(alloc: Global) -> Result<Expr, Error> {
-        ArchivedU64::expr(alloc)
+    fn expr(alloc: Global) -> Result<Expr, AllocError> {
+        expr_of::<ArchivedU64>(alloc)
     }
 
     ghost is_align = { inr (inr (inr (inl refl))) };
@@ -57,9 +55,8 @@ impl Form for Inner {
     }
 
     #[tactic(auto, using(archive_check::proofs::format::Views::views))]
-    fn expr(alloc: Global) -> Result<Expr, Error> {
-        let pointee = Pointee::One(Expr::Named("Inner"));
-        let pointer = Expr::Weak(RC, Box::new(alloc, pointee)?);
+    fn expr(alloc: Global) -> Result<Expr, AllocError> {
+        let pointer = weak_of(alloc, Pointee::One(Expr::Named("Inner")))?;
         Ok(Expr::Record(vec![in alloc; pointer]?))
     }
 
@@ -88,12 +85,9 @@ impl Form for Node {
         Layout { size: 8, align: 4 }
     }
 
-    #[tactic(auto, using(archive_check::proofs::format::Views::views))]
-    fn expr(alloc: Global) -> Result<Expr, Error> {
-        let next = Pointee::One(Expr::Named("ArchivedNode"));
-        let end = vec![in alloc]?;
-        let more = vec![in alloc; Expr::Box(Box::new(alloc, next)?)]?;
-        Ok(Expr::choice_of_two(alloc, "ArchivedNode", end, more)?)
+    fn expr(alloc: Global) -> Result<Expr, AllocError> {
+        let next = boxed_name(alloc, "ArchivedNode")?;
+        nothing_or(alloc, "ArchivedNode", next)
     }
 
     ghost is_align = { inr (inr (inl refl)) };
@@ -121,12 +115,9 @@ impl Form for Flags {
         Layout { size: 8, align: 4 }
     }
 
-    #[tactic(auto, using(archive_check::proofs::format::Views::views))]
-    fn expr(alloc: Global) -> Result<Expr, Error> {
-        let rest = Pointee::One(Expr::Named("Flags"));
-        let end = vec![in alloc]?;
-        let item = vec![in alloc; bool::expr(alloc)?, Expr::Box(Box::new(alloc, rest)?)]?;
-        Ok(Expr::choice_of_two(alloc, "Flags", end, item)?)
+    fn expr(alloc: Global) -> Result<Expr, AllocError> {
+        let rest = boxed_name(alloc, "Flags")?;
+        nothing_or_both(alloc, "Flags", Expr::Leaf(Kind::Bool), rest)
     }
 
     ghost is_align = { inr (inr (inl refl)) };
@@ -154,10 +145,9 @@ impl Form for Tree {
         Layout { size: 8, align: 4 }
     }
 
-    #[tactic(auto, using(archive_check::proofs::format::Views::views))]
-    fn expr(alloc: Global) -> Result<Expr, Error> {
-        let child = pair_of(alloc, Expr::Named("Tree"), ArchivedU32::expr(alloc)?)?;
-        Ok(Expr::Record(vec![in alloc; Expr::Vec(Box::new(alloc, child)?)]?))
+    fn expr(alloc: Global) -> Result<Expr, AllocError> {
+        let number = expr_of::<ArchivedU32>(alloc)?;
+        record_of_vec(alloc, pair_of(alloc, Expr::Named("Tree"), number)?)
     }
 
     ghost is_align = { inr (inr (inl refl)) };

@@ -3,9 +3,9 @@
 use crate::assertions::assert_same;
 use archive_check::format::error::Error;
 use archive_check::format::expr::{Defs, Expr, FlavorInfo, IntegerKind, Kind, Pointee};
-use std::alloc::{AllocError, Global};
+use std::alloc::Global;
+use std::fmt::Debug;
 use std::process::Abort;
-use std::test::Fail;
 
 const RC: FlavorInfo = FlavorInfo {
     name: "RcFlavor",
@@ -26,93 +26,71 @@ fn number() -> Expr {
     Expr::Leaf(Kind::Number(IntegerKind::I32))
 }
 
-fn array_of(alloc: Global, count: usize, element: Expr) -> Result<Expr, AllocError> {
-    Ok(Expr::Array(count, Box::new(alloc, element)?))
+// A value in a box of its own. What is made here ends the process where memory is refused: a `?` would drop what was made before it, and each drop of an
+// expression is a call for the check. It is generic, as are the lists below, since the type of an expression is long.
+fn boxed<T>(rt: &impl Abort, alloc: Global, value: T) -> Box<T> {
+    Box::new(alloc, value).expect(rt, "memory for a box")
 }
 
-fn box_of(alloc: Global, pointee: Pointee) -> Result<Expr, AllocError> {
-    Ok(Expr::Box(Box::new(alloc, pointee)?))
+// Puts a value at the end of a list.
+fn push<T>(rt: &impl Abort, list: &mut Vec<T>, value: T) {
+    list.push(value).expect(rt, "memory for a list");
 }
 
-fn vec_of(alloc: Global, element: Expr) -> Result<Expr, AllocError> {
-    Ok(Expr::Vec(Box::new(alloc, element)?))
+fn list_of_one<T>(rt: &impl Abort, alloc: Global, value: T) -> Vec<T> {
+    let mut list = Vec::new(alloc);
+    push(rt, &mut list, value);
+    list
 }
 
-fn shared_of(alloc: Global, flavor: FlavorInfo, pointee: Pointee) -> Result<Expr, AllocError> {
-    Ok(Expr::Shared(flavor, Box::new(alloc, pointee)?))
+fn list_of_two<T>(rt: &impl Abort, alloc: Global, first: T, second: T) -> Vec<T> {
+    let mut list = list_of_one(rt, alloc, first);
+    push(rt, &mut list, second);
+    list
 }
 
-fn weak_of(alloc: Global, flavor: FlavorInfo, pointee: Pointee) -> Result<Expr, AllocError> {
-    Ok(Expr::Weak(flavor, Box::new(alloc, pointee)?))
+fn array_of(rt: &impl Abort, alloc: Global, count: usize, element: Expr) -> Expr {
+    Expr::Array(count, boxed(rt, alloc, element))
 }
 
-// Two parts at most.
-fn parts_of(
-    alloc: Global,
-    first: Option<Expr>,
-    second: Option<Expr>,
-) -> Result<Vec<Expr>, AllocError> {
-    let mut parts = Vec::new(alloc);
-    if let Some(first) = first {
-        parts.push(first)?;
-    }
-    if let Some(second) = second {
-        parts.push(second)?;
-    }
-    Ok(parts)
+fn box_of(rt: &impl Abort, alloc: Global, pointee: Pointee) -> Expr {
+    Expr::Box(boxed(rt, alloc, pointee))
 }
 
-fn record_of(alloc: Global, first: Option<Expr>, second: Option<Expr>) -> Result<Expr, AllocError> {
-    Ok(Expr::Record(parts_of(alloc, first, second)?))
-}
-
-// A choice of one variant with this part, or with none.
-fn choice_of_one(alloc: Global, part: Option<Expr>) -> Result<Expr, AllocError> {
-    let parts = parts_of(alloc, part, None)?;
-    Ok(Expr::Choice("A", vec![in alloc; parts]?))
-}
-
-// A choice of no variant.
-fn choice_of_none(alloc: Global, name: &'static str) -> Result<Expr, AllocError> {
-    Ok(Expr::Choice(name, vec![in alloc]?))
+fn shared_of(rt: &impl Abort, alloc: Global, flavor: FlavorInfo, pointee: Pointee) -> Expr {
+    Expr::Shared(flavor, boxed(rt, alloc, pointee))
 }
 
 // Nothing, or a number.
-fn option_of_number(alloc: Global) -> Result<Expr, AllocError> {
-    let none = vec![in alloc]?;
-    let some = vec![in alloc; number()]?;
-    Expr::choice_of_two(alloc, "ArchivedOption", none, some)
-}
-
-// Puts an expression at the end of a list, where it was made. One `?` for both leaves the callers with less to drop.
-fn push(list: &mut Vec<Expr>, expr: Result<Expr, AllocError>) -> Result<(), AllocError> {
-    list.push(expr?)?;
-    Ok(())
-}
-
-// An expression of each form.
-fn push_every_form(alloc: Global, list: &mut Vec<Expr>) -> Result<(), AllocError> {
-    push(list, Ok(Expr::Leaf(Kind::Char)))?;
-    push(list, record_of(alloc, Some(Expr::Leaf(Kind::Unit)), None))?;
-    push(list, option_of_number(alloc))?;
-    push(list, array_of(alloc, 3, number()))?;
-    push(list, box_of(alloc, Pointee::Text))?;
-    push(list, vec_of(alloc, number()))?;
-    push(list, Ok(Expr::Str))?;
-    push(list, shared_of(alloc, RC, Pointee::One(number())))?;
-    push(list, weak_of(alloc, RC, Pointee::Run(number())))?;
-    push(list, Ok(Expr::Named("ArchivedNode")))
+fn option_of_number(rt: &impl Abort, alloc: Global) -> Expr {
+    let some = list_of_one(rt, alloc, number());
+    let option = Expr::choice_of_two(alloc, "ArchivedOption", Vec::new(alloc), some);
+    option.expect(rt, "memory for a choice")
 }
 
 // A record with a part of each form.
-fn every_form(alloc: Global) -> Result<Expr, AllocError> {
-    let mut parts = Vec::new(alloc);
-    push_every_form(alloc, &mut parts)?;
-    Ok(Expr::Record(parts))
+fn every_form(rt: &impl Abort, alloc: Global) -> Expr {
+    let unit = Expr::Leaf(Kind::Unit);
+    let mut parts = list_of_one(rt, alloc, Expr::Leaf(Kind::Char));
+    push(rt, &mut parts, Expr::Record(list_of_one(rt, alloc, unit)));
+    push(rt, &mut parts, option_of_number(rt, alloc));
+    push(rt, &mut parts, array_of(rt, alloc, 3, number()));
+    push(rt, &mut parts, box_of(rt, alloc, Pointee::Text));
+    push_other_forms(rt, alloc, &mut parts);
+    Expr::Record(parts)
+}
+
+fn push_other_forms(rt: &impl Abort, alloc: Global, list: &mut Vec<Expr>) {
+    push(rt, list, Expr::Vec(boxed(rt, alloc, number())));
+    push(rt, list, Expr::Str);
+    push(rt, list, shared_of(rt, alloc, RC, Pointee::One(number())));
+    let run = boxed(rt, alloc, Pointee::Run(number()));
+    push(rt, list, Expr::Weak(RC, run));
+    push(rt, list, Expr::Named("ArchivedNode"));
 }
 
 // Those that own nothing.
-fn push_plain(list: &mut Vec<Expr>) -> Result<(), AllocError> {
+fn push_plain(rt: &impl Abort, list: &mut Vec<Expr>) {
     let kinds = [
         Kind::Unit,
         Kind::Bool,
@@ -122,96 +100,109 @@ fn push_plain(list: &mut Vec<Expr>) -> Result<(), AllocError> {
         Kind::RawRel(IntegerKind::I32),
     ];
     for kind in kinds {
-        list.push(Expr::Leaf(kind))?;
+        push(rt, list, Expr::Leaf(kind));
     }
-    for expr in [Expr::Str, Expr::Named("A"), Expr::Named("B")] {
-        list.push(expr)?;
-    }
-    Ok(())
+    push(rt, list, Expr::Str);
+    push(rt, list, Expr::Named("A"));
+    push(rt, list, Expr::Named("B"));
 }
 
-fn push_records_and_choices(alloc: Global, list: &mut Vec<Expr>) -> Result<(), AllocError> {
-    push(list, record_of(alloc, None, None))?;
-    push(list, record_of(alloc, Some(number()), None))?;
-    push(list, record_of(alloc, Some(number()), Some(Expr::Str)))?;
-    push(list, record_of(alloc, Some(Expr::Str), Some(number())))?;
-    push(list, choice_of_none(alloc, "A"))?;
-    push(list, choice_of_none(alloc, "B"))?;
-    push(list, choice_of_one(alloc, None))?;
-    push(list, choice_of_one(alloc, Some(Expr::Str)))
+fn push_records(rt: &impl Abort, alloc: Global, list: &mut Vec<Expr>) {
+    push(rt, list, Expr::Record(Vec::new(alloc)));
+    push(rt, list, Expr::Record(list_of_one(rt, alloc, number())));
+    let number_first = list_of_two(rt, alloc, number(), Expr::Str);
+    push(rt, list, Expr::Record(number_first));
+    let text_first = list_of_two(rt, alloc, Expr::Str, number());
+    push(rt, list, Expr::Record(text_first));
 }
 
-fn push_owners(alloc: Global, list: &mut Vec<Expr>) -> Result<(), AllocError> {
-    push(list, array_of(alloc, 1, number()))?;
-    push(list, array_of(alloc, 2, number()))?;
-    push(list, array_of(alloc, 2, Expr::Str))?;
-    push(list, box_of(alloc, Pointee::One(number())))?;
-    push(list, box_of(alloc, Pointee::Run(number())))?;
-    push(list, box_of(alloc, Pointee::Text))?;
-    push(list, vec_of(alloc, number()))
+// Of no variant, and of one.
+fn push_choices(rt: &impl Abort, alloc: Global, list: &mut Vec<Expr>) {
+    push(rt, list, Expr::Choice("A", Vec::new(alloc)));
+    push(rt, list, Expr::Choice("B", Vec::new(alloc)));
+    let nothing = list_of_one(rt, alloc, Vec::new(alloc));
+    push(rt, list, Expr::Choice("A", nothing));
+    let text = list_of_one(rt, alloc, Expr::Str);
+    let text = list_of_one(rt, alloc, text);
+    push(rt, list, Expr::Choice("A", text));
 }
 
-fn push_pointers(alloc: Global, list: &mut Vec<Expr>) -> Result<(), AllocError> {
-    for flavor in [RC, CYCLIC, OTHER] {
-        push(list, shared_of(alloc, flavor, Pointee::Text))?;
-    }
-    push(list, weak_of(alloc, RC, Pointee::Text))
+fn push_owners(rt: &impl Abort, alloc: Global, list: &mut Vec<Expr>) {
+    push(rt, list, array_of(rt, alloc, 1, number()));
+    push(rt, list, array_of(rt, alloc, 2, number()));
+    push(rt, list, array_of(rt, alloc, 2, Expr::Str));
+    push(rt, list, box_of(rt, alloc, Pointee::One(number())));
+    push(rt, list, box_of(rt, alloc, Pointee::Run(number())));
+    push(rt, list, box_of(rt, alloc, Pointee::Text));
+    push(rt, list, Expr::Vec(boxed(rt, alloc, number())));
+}
+
+fn push_pointers(rt: &impl Abort, alloc: Global, list: &mut Vec<Expr>) {
+    push(rt, list, shared_of(rt, alloc, RC, Pointee::Text));
+    push(rt, list, shared_of(rt, alloc, CYCLIC, Pointee::Text));
+    push(rt, list, shared_of(rt, alloc, OTHER, Pointee::Text));
+    let text = boxed(rt, alloc, Pointee::Text);
+    push(rt, list, Expr::Weak(RC, text));
 }
 
 // Expressions of which no two are written alike.
-fn all_different(alloc: Global) -> Result<Vec<Expr>, AllocError> {
+fn all_different(rt: &impl Abort, alloc: Global) -> Vec<Expr> {
     let mut list = Vec::new(alloc);
-    push_plain(&mut list)?;
-    push_records_and_choices(alloc, &mut list)?;
-    push_owners(alloc, &mut list)?;
-    push_pointers(alloc, &mut list)?;
-    Ok(list)
+    push_plain(rt, &mut list);
+    push_records(rt, alloc, &mut list);
+    push_choices(rt, alloc, &mut list);
+    push_owners(rt, alloc, &mut list);
+    push_pointers(rt, alloc, &mut list);
+    list
 }
 
 // An expression is the one with every form.
-fn assert_every_form(rt: &impl Abort, alloc: Global, expr: &Expr) -> Result<(), AllocError> {
-    let whole = every_form(alloc)?;
-    assert_same(rt, "every form", expr, &whole);
-    Ok(())
+fn assert_every_form(rt: &impl Abort, alloc: Global, expr: &Expr) {
+    assert_same(rt, "every form", expr, &every_form(rt, alloc));
 }
 
 // Two of them are equal where they stand at one place.
-fn assert_all_different(rt: &impl Abort, left: &[Expr], right: &[Expr]) {
-    assert_eq!(rt; (left.len(), right.len()), (28, 28));
+fn assert_all_different<T: PartialEq>(rt: &impl Abort, left: &[T], right: &[T]) {
+    assert_same(rt, "how many", (left.len(), right.len()), (28, 28));
     for (i, a) in left.iter().enumerate() {
         for (j, b) in right.iter().enumerate() {
-            assert_eq!(rt; a == b, i == j, "{a:?} and {b:?}");
+            let found = (i, j, a == b);
+            assert_same(rt, "places, and what is equal", found, (i, j, i == j));
         }
     }
 }
 
 #[test]
-fn expressions_are_compared_as_written(rt: HostRuntime) -> Result<(), Fail> {
-    let left = all_different(rt.alloc())?;
-    let right = all_different(rt.alloc())?;
+fn expressions_are_compared_as_written(rt: HostRuntime) {
+    let left = all_different(&rt, rt.alloc());
+    let right = all_different(&rt, rt.alloc());
     assert_all_different(&rt, &left, &right);
-    let whole = every_form(rt.alloc())?;
-    assert_every_form(&rt, rt.alloc(), &whole)?;
-    Ok(())
-}
-
-// A copy, whose original is gone.
-fn copy_of(whole: Expr) -> Result<Expr, AllocError> {
-    whole.clone()
-}
-
-fn assert_copied(rt: &impl Abort, pointee: &Pointee) -> Result<(), AllocError> {
-    let copy = pointee.clone()?;
-    assert_same(rt, "a copy", &copy, pointee);
-    Ok(())
 }
 
 #[test]
-fn copies_are_written_alike(rt: HostRuntime) -> Result<(), Fail> {
-    let copy = copy_of(every_form(rt.alloc())?)?;
-    assert_every_form(&rt, rt.alloc(), &copy)?;
-    assert_copied(&rt, &Pointee::Run(copy))?;
-    Ok(())
+fn an_expression_of_every_form_equals_another(rt: HostRuntime) {
+    let whole = every_form(&rt, rt.alloc());
+    assert_every_form(&rt, rt.alloc(), &whole);
+}
+
+fn copied<T: Clone>(rt: &impl Abort, value: &T) -> T {
+    value.clone().expect(rt, "memory for a copy")
+}
+
+// A copy, whose original is gone.
+fn copy_of<T: Clone + Drop>(rt: &impl Abort, value: T) -> T {
+    copied(rt, &value)
+}
+
+fn assert_copied<T: Clone + PartialEq + Debug + Drop>(rt: &impl Abort, value: &T) {
+    assert_same(rt, "a copy", &copied(rt, value), value);
+}
+
+#[test]
+fn copies_are_written_alike(rt: HostRuntime) {
+    let copy = copy_of(&rt, every_form(&rt, rt.alloc()));
+    assert_every_form(&rt, rt.alloc(), &copy);
+    assert_copied(&rt, &Pointee::Run(copy));
 }
 
 // What a name is defined as: a record of every form, a text, or the name `A`.
@@ -222,42 +213,37 @@ enum Definition {
     Name,
 }
 
-fn expression_of(alloc: Global, what: &Definition) -> Result<Expr, AllocError> {
+fn expression_of(rt: &impl Abort, alloc: Global, what: &Definition) -> Expr {
     match what {
-        Definition::EveryForm => every_form(alloc),
-        Definition::Text => Ok(Expr::Str),
-        Definition::Name => Ok(Expr::Named("A")),
+        Definition::EveryForm => every_form(rt, alloc),
+        Definition::Text => Expr::Str,
+        Definition::Name => Expr::Named("A"),
     }
 }
 
-// Defines names in turn.
-fn assert_added(
-    rt: &impl Abort,
-    alloc: Global,
-    rows: &[(&'static str, Definition, Result<bool, Error>)],
-) -> Result<(), AllocError> {
+// Defines names in turn. In each row a name, what it is defined as, and whether it had no definition; none where it had another one.
+fn assert_added(rt: &impl Abort, alloc: Global, rows: &[(&'static str, Definition, Option<bool>)]) {
     let mut defs = Defs::new(alloc);
     for (name, what, answer) in rows {
-        let expr = expression_of(alloc, what)?;
-        assert_eq!(rt; &defs.add(name, expr), answer, "defining {name}");
+        let found = defs.add(name, expression_of(rt, alloc, what));
+        let right = answer.ok_or(Error::ShapeConflict);
+        assert_same(rt, name, found, right);
     }
-    Ok(())
 }
 
 #[test]
-fn a_name_is_defined_once(rt: HostRuntime) -> Result<(), Fail> {
+fn a_name_is_defined_once(rt: HostRuntime) {
     assert_added(
         &rt,
         rt.alloc(),
         &[
-            ("A", Definition::EveryForm, Ok(true)),
-            ("B", Definition::Text, Ok(true)),
-            ("A", Definition::EveryForm, Ok(false)),
-            ("A", Definition::Text, Err(Error::ShapeConflict)),
-            ("A", Definition::EveryForm, Ok(false)),
-            ("B", Definition::Name, Err(Error::ShapeConflict)),
-            ("B", Definition::Text, Ok(false)),
+            ("A", Definition::EveryForm, Some(true)),
+            ("B", Definition::Text, Some(true)),
+            ("A", Definition::EveryForm, Some(false)),
+            ("A", Definition::Text, None),
+            ("A", Definition::EveryForm, Some(false)),
+            ("B", Definition::Name, None),
+            ("B", Definition::Text, Some(false)),
         ],
-    )?;
-    Ok(())
+    );
 }

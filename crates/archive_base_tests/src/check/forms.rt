@@ -1,27 +1,63 @@
 // The shapes that marks stand for.
 
-ghost use Rattle.std.specs.Prelude.{◌≡◌, IfErr, IfOk, refl, codes};
-ghost use Rattle.archive_check.specs.declared.format.error.Error.TheVariants.{OutOfMemory};
+ghost use Rattle.std.specs.Prelude.{◌≡◌, IfOk, refl, codes};
 ghost use Rattle.std.proofs.Common.{inl, inr};
-ghost use Rattle.archive_check.specs.Shape.{leaf, bool, unit, parts, no_part, choice, variant, no_variant, array, boxed, vec, str, shared, weak, named, one, run, text};
-ghost use Rattle.archive_check.specs.Expressions.{shape_of, shapes_in};
-ghost use Rattle.archive_base_tests.specs.Forms.{rc, u8 as byte, u16 as number16, u32 as number32, u64 as number64, i32 as signed32, optional, either, padded, wide, pair, mixed};
+ghost use Rattle.archive_check.specs.Shape.{leaf, bool, number, unit, parts, part, no_part, choice, variant, no_variant, array, boxed, vec, str, shared, weak, named, one, run, text};
+ghost use Rattle.archive_check.specs.Expressions.{integer_of, shape_of, shapes_in};
+ghost use Rattle.archive_base_tests.specs.Forms.{rc, u8 as byte, u16 as number16, u32 as number32, u64 as number64, i32 as signed32, nothing_or_one, nothing_or_two, optional, either, padded, wide, pair, mixed};
 
-use super::marks::{ArchivedBoxedSlice, ArchivedRc, ArchivedVec, Array, Form, Plain, RC};
-use archive_check::format::error::Error;
-use archive_check::format::expr::{Expr, Pointee};
+use super::marks::{
+    ArchivedBoxedSlice, ArchivedRc, ArchivedVec, Array, Form, Plain, box_of, weak_of,
+};
+use archive_check::format::expr::{Expr, IntegerKind, Kind, Pointee};
 use archive_check::format::layout::Layout;
 use archive_check::format::traits::Portable;
-use archive_num::{ArchivedI32, ArchivedU16, ArchivedU32, ArchivedU64, ArchivedU128};
+use archive_num::{ArchivedI32, ArchivedU16, ArchivedU32, ArchivedU128};
 use std::alloc::{AllocError, Global};
 
-// Nothing, or a value.
-fn option_of(alloc: Global, value: Expr) -> Result<Expr, AllocError>
-    ensures { IfOk result (λ e. shape_of e ≡ optional (shape_of value)) }
+// A number of this sign and width.
+fn integer(kind: IntegerKind) -> Expr
+    ensures { shape_of result ≡ leaf (number (integer_of kind).0 (integer_of kind).1) }
 {
-    let none = vec![in alloc]?;
+    Expr::Leaf(Kind::Number(kind))
+}
+
+// Nothing, or a value, under this name.
+pub(crate) fn nothing_or(alloc: Global, name: &'static str, value: Expr) -> Result<Expr, AllocError>
+    ensures { IfOk result (λ e. shape_of e ≡ nothing_or_one name.now (shape_of value)) }
+{
     let some = vec![in alloc; value]?;
-    Expr::choice_of_two(alloc, "ArchivedOption", none, some)
+    Expr::choice_of_two(alloc, name, Vec::new(alloc), some)
+}
+
+// Nothing, or two values, under this name.
+#[tactic(auto, using(archive_check::proofs::format::Views::views))]
+pub(crate) fn nothing_or_both(
+    alloc: Global,
+    name: &'static str,
+    first: Expr,
+    second: Expr,
+) -> Result<Expr, AllocError>
+    ensures { IfOk result (λ e. shape_of e ≡ nothing_or_two name.now (shape_of first) (shape_of second)) }
+{
+    let both = vec![in alloc; first, second]?;
+    Expr::choice_of_two(alloc, name, Vec::new(alloc), both)
+}
+
+// A box of a name.
+pub(crate) fn boxed_name(alloc: Global, name: &'static str) -> Result<Expr, AllocError>
+    ensures { IfOk result (λ e. shape_of e ≡ boxed (one (named name.now))) }
+{
+    box_of(alloc, Pointee::One(Expr::Named(name)))
+}
+
+// A record of a vector of such elements.
+#[tactic(auto, using(archive_check::proofs::format::Views::views))]
+pub(crate) fn record_of_vec(alloc: Global, element: Expr) -> Result<Expr, AllocError>
+    ensures { IfOk result (λ e. shape_of e ≡ parts (part (vec (shape_of element)) no_part)) }
+{
+    let elements = Expr::Vec(Box::new(alloc, element)?);
+    Ok(Expr::Record(vec![in alloc; elements]?))
 }
 
 // Two values, one behind the other.
@@ -32,20 +68,28 @@ pub(crate) fn pair_of(alloc: Global, first: Expr, second: Expr) -> Result<Expr, 
     Ok(Expr::Record(vec![in alloc; first, second]?))
 }
 
-// Two values of these types, one behind the other. One call of it takes an impl's check a second, where its parts take four.
-pub(crate) fn pair_of_types<A: Portable, B: Portable>(alloc: Global) -> Result<Expr, Error>
-    ensures shape { IfOk result (λ e. shape_of e ≡ pair A.shape B.shape) }
-    ensures refused { IfErr result (λ e. e ≡ OutOfMemory) }
+// What a type's bytes are read as. It is refused for want of memory alone.
+pub(crate) fn expr_of<T: Portable>(alloc: Global) -> Result<Expr, AllocError>
+    ensures { IfOk result (λ e. shape_of e ≡ T.shape) }
 {
-    Ok(pair_of(alloc, A::expr(alloc)?, B::expr(alloc)?)?)
+    match T::expr(alloc) {
+        Ok(expr) => Ok(expr),
+        Err(_) => Err(AllocError),
+    }
+}
+
+// Two values of these types, one behind the other. One call of it takes an impl's check a second, where its parts take four.
+pub(crate) fn pair_of_types<A: Portable, B: Portable>(alloc: Global) -> Result<Expr, AllocError>
+    ensures { IfOk result (λ e. shape_of e ≡ pair A.shape B.shape) }
+{
+    pair_of(alloc, expr_of::<A>(alloc)?, expr_of::<B>(alloc)?)
 }
 
 // Nothing, or a value of this type.
-fn option_of_type<T: Portable>(alloc: Global) -> Result<Expr, Error>
-    ensures shape { IfOk result (λ e. shape_of e ≡ optional T.shape) }
-    ensures refused { IfErr result (λ e. e ≡ OutOfMemory) }
+fn option_of_type<T: Portable>(alloc: Global) -> Result<Expr, AllocError>
+    ensures { IfOk result (λ e. shape_of e ≡ optional T.shape) }
 {
-    Ok(option_of(alloc, T::expr(alloc)?)?)
+    nothing_or(alloc, "ArchivedOption", expr_of::<T>(alloc)?)
 }
 
 /// A string.
@@ -60,7 +104,7 @@ impl Form for Text {
         Layout { size: 8, align: 4 }
     }
 
-    fn expr(_alloc: Global) -> Result<Expr, Error> {
+    fn expr(_alloc: Global) -> Result<Expr, AllocError> {
         Ok(Expr::Str)
     }
 
@@ -81,8 +125,8 @@ impl Form for BoxedText {
         Layout { size: 8, align: 4 }
     }
 
-    fn expr(alloc: Global) -> Result<Expr, Error> {
-        Ok(Expr::Box(Box::new(alloc, Pointee::Text)?))
+    fn expr(alloc: Global) -> Result<Expr, AllocError> {
+        box_of(alloc, Pointee::Text)
     }
 
     ghost is_align = { inr (inr (inl refl)) };
@@ -102,8 +146,8 @@ impl Form for WeakText {
         Layout { size: 8, align: 4 }
     }
 
-    fn expr(alloc: Global) -> Result<Expr, Error> {
-        Ok(Expr::Weak(RC, Box::new(alloc, Pointee::Text)?))
+    fn expr(alloc: Global) -> Result<Expr, AllocError> {
+        weak_of(alloc, Pointee::Text)
     }
 
     ghost is_align = { inr (inr (inl refl)) };
@@ -124,8 +168,8 @@ impl Form for Nothing {
     }
 
     #[tactic(auto, using(archive_check::proofs::format::Views::views))]
-    fn expr(alloc: Global) -> Result<Expr, Error> {
-        Ok(Expr::Record(vec![in alloc]?))
+    fn expr(alloc: Global) -> Result<Expr, AllocError> {
+        Ok(Expr::Record(Vec::new(alloc)))
     }
 
     ghost is_align = { inl refl };
@@ -145,7 +189,7 @@ impl Form for OptionalNumber {
         Layout { size: 8, align: 4 }
     }
 
-    fn expr(alloc: Global) -> Result<Expr, Error> {
+    fn expr(alloc: Global) -> Result<Expr, AllocError> {
         option_of_type::<ArchivedU32>(alloc)
     }
 
@@ -166,7 +210,7 @@ impl Form for OptionalBytes {
         Layout { size: 12, align: 4 }
     }
 
-    fn expr(alloc: Global) -> Result<Expr, Error> {
+    fn expr(alloc: Global) -> Result<Expr, AllocError> {
         option_of_type::<ArchivedBoxedSlice<u8>>(alloc)
     }
 
@@ -187,7 +231,7 @@ impl Form for OptionalNumbers {
         Layout { size: 12, align: 4 }
     }
 
-    fn expr(alloc: Global) -> Result<Expr, Error> {
+    fn expr(alloc: Global) -> Result<Expr, AllocError> {
         option_of_type::<ArchivedVec<ArchivedU32>>(alloc)
     }
 
@@ -208,7 +252,7 @@ impl Form for OptionalTexts {
         Layout { size: 12, align: 4 }
     }
 
-    fn expr(alloc: Global) -> Result<Expr, Error> {
+    fn expr(alloc: Global) -> Result<Expr, AllocError> {
         option_of_type::<ArchivedVec<Plain<Text>>>(alloc)
     }
 
@@ -230,10 +274,10 @@ impl Form for Either {
     }
 
     #[tactic(auto, using(archive_check::proofs::format::Views::views))]
-    fn expr(alloc: Global) -> Result<Expr, Error> {
-        let small = vec![in alloc; u8::expr(alloc)?]?;
-        let large = vec![in alloc; ArchivedU32::expr(alloc)?]?;
-        Ok(Expr::choice_of_two(alloc, "ArchivedResult", small, large)?)
+    fn expr(alloc: Global) -> Result<Expr, AllocError> {
+        let small = vec![in alloc; integer(IntegerKind::U8)]?;
+        let large = vec![in alloc; integer(IntegerKind::U32)]?;
+        Expr::choice_of_two(alloc, "ArchivedResult", small, large)
     }
 
     ghost is_align = { inr (inr (inl refl)) };
@@ -254,9 +298,10 @@ impl Form for Padded {
     }
 
     #[tactic(auto, using(archive_check::proofs::format::Views::views))]
-    fn expr(alloc: Global) -> Result<Expr, Error> {
-        let number = ArchivedU64::expr(alloc)?;
-        let parts = vec![in alloc; u8::expr(alloc)?, number, u8::expr(alloc)?, Expr::Str]?;
+    fn expr(alloc: Global) -> Result<Expr, AllocError> {
+        let (first, third) = (integer(IntegerKind::U8), integer(IntegerKind::U8));
+        let second = integer(IntegerKind::U64);
+        let parts = vec![in alloc; first, second, third, Expr::Str]?;
         Ok(Expr::Record(parts))
     }
 
@@ -280,7 +325,7 @@ impl Form for Wide {
         }
     }
 
-    fn expr(alloc: Global) -> Result<Expr, Error> {
+    fn expr(alloc: Global) -> Result<Expr, AllocError> {
         pair_of_types::<ArchivedU128, u8>(alloc)
     }
 
@@ -301,7 +346,7 @@ impl Form for Pair {
         Layout { size: 8, align: 4 }
     }
 
-    fn expr(alloc: Global) -> Result<Expr, Error> {
+    fn expr(alloc: Global) -> Result<Expr, AllocError> {
         pair_of_types::<ArchivedU32, ArchivedU32>(alloc)
     }
 
@@ -322,7 +367,7 @@ impl Form for Unmarked {
         Layout { size: 4, align: 4 }
     }
 
-    fn expr(alloc: Global) -> Result<Expr, Error> {
+    fn expr(alloc: Global) -> Result<Expr, AllocError> {
         pair_of_types::<ArchivedU32, ()>(alloc)
     }
 
@@ -344,9 +389,9 @@ impl Form for Mixed {
     }
 
     #[tactic(auto, using(archive_check::proofs::format::Views::views))]
-    fn expr(alloc: Global) -> Result<Expr, Error> {
-        let numbers = ArchivedVec::<ArchivedU32>::expr(alloc)?;
-        let parts = vec![in alloc; bool::expr(alloc)?, Expr::Str, numbers]?;
+    fn expr(alloc: Global) -> Result<Expr, AllocError> {
+        let numbers = expr_of::<ArchivedVec<ArchivedU32>>(alloc)?;
+        let parts = vec![in alloc; Expr::Leaf(Kind::Bool), Expr::Str, numbers]?;
         Ok(Expr::Record(parts))
     }
 
@@ -367,7 +412,7 @@ impl Form for Titled {
         Layout { size: 16, align: 4 }
     }
 
-    fn expr(alloc: Global) -> Result<Expr, Error> {
+    fn expr(alloc: Global) -> Result<Expr, AllocError> {
         pair_of_types::<Plain<Text>, ArchivedVec<Plain<Text>>>(alloc)
     }
 
@@ -388,7 +433,7 @@ impl Form for TwoTypes {
         Layout { size: 8, align: 4 }
     }
 
-    fn expr(alloc: Global) -> Result<Expr, Error> {
+    fn expr(alloc: Global) -> Result<Expr, AllocError> {
         pair_of_types::<ArchivedRc<ArchivedU32>, ArchivedRc<ArchivedI32>>(alloc)
     }
 
@@ -412,7 +457,7 @@ impl Form for Rounded {
         }
     }
 
-    fn expr(alloc: Global) -> Result<Expr, Error> {
+    fn expr(alloc: Global) -> Result<Expr, AllocError> {
         pair_of_types::<ArchivedU16, Array<u8, 18446744073709551615>>(alloc)
     }
 
@@ -433,9 +478,8 @@ impl Form for Undefined {
         Layout { size: 4, align: 4 }
     }
 
-    fn expr(alloc: Global) -> Result<Expr, Error> {
-        let unknown = Pointee::One(Expr::Named("Unknown"));
-        Ok(Expr::Box(Box::new(alloc, unknown)?))
+    fn expr(alloc: Global) -> Result<Expr, AllocError> {
+        boxed_name(alloc, "Unknown")
     }
 
     ghost is_align = { inr (inr (inl refl)) };

@@ -6,29 +6,36 @@ use archive_check::format::error::Error;
 use archive_check::format::expr::{IntegerKind, Kind};
 use archive_check::format::leaf::{illegal, is_legal};
 use std::process::Abort;
-use std::test::Fail;
+
+// A text of eleven bytes elsewhere, and one of two in place.
+const TWO_TEXTS: &[u8; 28] = b"hello world\0\x8b\0\0\0\xf4\xff\xff\xffhi\xff\xff\xff\xff\xff\xff";
 
 #[test]
 fn bytes_are_read(rt: HostRuntime) {
-    let bytes = b"hello world\0\x8b\0\0\0\xf4\xff\xff\xffhi\xff\xff\xff\xff\xff\xff";
-    assert_same(&rt, "a number", bytes::read_u32(bytes, 12), 0x8b);
-    assert!(rt; bytes::read_i32(bytes, 16) == -12);
-    assert!(rt; bytes::read_position(bytes, 12, 16) == 0);
-    assert_same(&rt, "a target", bytes::read_target(bytes, 12, 16), 0);
-    assert_same(
-        &rt,
-        "a coded length",
-        bytes::read_coded_length(bytes, 12),
-        11,
+    let numbers = (
+        bytes::read_u32(TWO_TEXTS, 12),
+        bytes::read_coded_length(TWO_TEXTS, 12),
+        bytes::inline_length(TWO_TEXTS, 20),
     );
-    assert_same(&rt, "a length in place", bytes::inline_length(bytes, 20), 2);
-    let (long, short) = (
-        bytes::is_out_of_line(bytes, 12),
-        bytes::is_out_of_line(bytes, 20),
+    assert_same(&rt, "a number and two lengths", numbers, (0x8b, 11, 2));
+    let elsewhere = (
+        bytes::is_out_of_line(TWO_TEXTS, 12),
+        bytes::is_out_of_line(TWO_TEXTS, 20),
     );
-    assert_same(&rt, "what stands elsewhere", (long, short), (true, false));
-    let (text, other) = (bytes::is_text(bytes, 0, 11), bytes::is_text(bytes, 12, 4));
-    assert_same(&rt, "what is a text", (text, other), (true, false));
+    assert_same(&rt, "what stands elsewhere", elsewhere, (true, false));
+    let texts = (
+        bytes::is_text(TWO_TEXTS, 0, 11),
+        bytes::is_text(TWO_TEXTS, 12, 4),
+    );
+    assert_same(&rt, "what is a text", texts, (true, false));
+}
+
+#[test]
+fn an_offset_leads_to_its_target(rt: HostRuntime) {
+    assert!(rt; bytes::read_i32(TWO_TEXTS, 16) == -12);
+    assert!(rt; bytes::read_position(TWO_TEXTS, 12, 16) == 0);
+    let target = bytes::read_target(TWO_TEXTS, 12, 16);
+    assert_same(&rt, "a target", target, 0);
 }
 
 #[test]
@@ -43,8 +50,9 @@ fn leaves_have_sizes(rt: HostRuntime) {
         (Kind::NonZero(IntegerKind::U64), 8, 8),
         (Kind::RawRel(IntegerKind::I128), 16, 16),
     ];
-    for (kind, size, align) in rows {
-        assert_eq!(rt; (kind.size(), kind.align()), (size, align), "{kind:?}");
+    for row in rows {
+        let kind = row.0;
+        assert_same(&rt, "a leaf", (kind, kind.size(), kind.align()), row);
     }
 }
 
@@ -56,32 +64,34 @@ fn leaf_of(kind: Kind, bytes: &[u8]) -> Result<(), Error> {
     Err(illegal(kind))
 }
 
-// In each row a kind, its bytes, and whether they are a leaf or the refusal.
-fn assert_leaves(rt: &impl Abort, rows: &[(Kind, &[u8], Result<(), Error>)]) {
-    for (kind, bytes, answer) in rows {
-        assert_eq!(rt; &leaf_of(*kind, bytes), answer, "{kind:?} of {bytes:?}");
+// In each row a kind, and bytes that are such a leaf.
+fn assert_legal(rt: &impl Abort, rows: &[(Kind, &[u8])]) {
+    for (kind, bytes) in rows {
+        let found = (*kind, *bytes, leaf_of(*kind, bytes));
+        assert_same(rt, "a leaf", found, (*kind, *bytes, Ok(())));
+    }
+}
+
+// In each row a kind, and bytes that are no such leaf, for this reason.
+fn assert_illegal(rt: &impl Abort, rows: &[(Kind, &[u8])], refusal: Error) {
+    for (kind, bytes) in rows {
+        let found = (*kind, *bytes, leaf_of(*kind, bytes));
+        assert_same(rt, "no leaf", found, (*kind, *bytes, Err(refusal)));
     }
 }
 
 #[test]
 fn leaves_are_told_by_their_bytes(rt: HostRuntime) {
-    let short = Kind::NonZero(IntegerKind::U16);
-    let long = Kind::NonZero(IntegerKind::I32);
-    assert_leaves(
+    assert_legal(
         &rt,
         &[
-            (Kind::Unit, b"", Ok(())),
-            (Kind::Bool, b"\x01", Ok(())),
-            (Kind::Bool, b"\x02", Err(Error::InvalidBool)),
-            (Kind::Char, b"\0\0\x10\0", Ok(())),
-            (Kind::Char, b"\xff\xff\x10\0", Ok(())),
-            (Kind::Char, b"\0\0\x11\0", Err(Error::InvalidChar)),
-            (Kind::Char, b"\0\xd8\0\0", Err(Error::InvalidChar)),
-            (short, b"\0\x01", Ok(())),
-            (short, b"\0\0", Err(Error::ZeroNumber)),
-            (long, b"\0\0\0\0", Err(Error::ZeroNumber)),
-            (Kind::Number(IntegerKind::U16), b"\0\0", Ok(())),
-            (Kind::Number(IntegerKind::I32), b"\0\0\0\0", Ok(())),
+            (Kind::Unit, b""),
+            (Kind::Bool, b"\x01"),
+            (Kind::Char, b"\0\0\x10\0"),
+            (Kind::Char, b"\xff\xff\x10\0"),
+            (Kind::NonZero(IntegerKind::U16), b"\0\x01"),
+            (Kind::Number(IntegerKind::U16), b"\0\0"),
+            (Kind::Number(IntegerKind::I32), b"\0\0\0\0"),
         ],
     );
     let behind_a_byte = is_legal(Kind::Char, b"\0\xff\xff\x10\0", 1);
@@ -89,11 +99,23 @@ fn leaves_are_told_by_their_bytes(rt: HostRuntime) {
 }
 
 #[test]
-fn types_of_the_machine_are_leaves(rt: HostRuntime) -> Result<(), Fail> {
+fn other_bytes_are_no_leaves(rt: HostRuntime) {
+    let bools: [(Kind, &[u8]); 1] = [(Kind::Bool, b"\x02")];
+    assert_illegal(&rt, &bools, Error::InvalidBool);
+    let chars: [(Kind, &[u8]); 2] = [(Kind::Char, b"\0\0\x11\0"), (Kind::Char, b"\0\xd8\0\0")];
+    assert_illegal(&rt, &chars, Error::InvalidChar);
+    let zeros: [(Kind, &[u8]); 2] = [
+        (Kind::NonZero(IntegerKind::U16), b"\0\0"),
+        (Kind::NonZero(IntegerKind::I32), b"\0\0\0\0"),
+    ];
+    assert_illegal(&rt, &zeros, Error::ZeroNumber);
+}
+
+#[test]
+fn types_of_the_machine_are_leaves(rt: HostRuntime) {
     let alloc = rt.alloc();
-    assert_leaf::<()>(&rt, alloc, Kind::Unit, 0, 1)?;
-    assert_leaf::<bool>(&rt, alloc, Kind::Bool, 1, 1)?;
-    assert_leaf::<u8>(&rt, alloc, Kind::Number(IntegerKind::U8), 1, 1)?;
-    assert_leaf::<i8>(&rt, alloc, Kind::Number(IntegerKind::I8), 1, 1)?;
-    Ok(())
+    assert_leaf::<()>(&rt, alloc, Kind::Unit, 0, 1);
+    assert_leaf::<bool>(&rt, alloc, Kind::Bool, 1, 1);
+    assert_leaf::<u8>(&rt, alloc, Kind::Number(IntegerKind::U8), 1, 1);
+    assert_leaf::<i8>(&rt, alloc, Kind::Number(IntegerKind::I8), 1, 1);
 }

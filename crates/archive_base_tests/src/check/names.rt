@@ -12,10 +12,10 @@ ghost use Rattle.archive_base_tests.specs.Forms.{u64 as number64, tagged, itself
 ghost use Rattle.archive_check.specs.SelfCheck.Laws.{by_schema};
 
 use super::definitions::Id;
-use super::forms::pair_of_types;
+use super::forms::{boxed_name, pair_of_types};
 use super::marks::Named;
 use archive_check::format::error::Error;
-use archive_check::format::expr::{Defs, Expr, Pointee};
+use archive_check::format::expr::{Defs, Expr};
 use archive_check::format::traits::{ArchivePointee, Portable};
 use archive_check::self_check::BySchema;
 use std::alloc::Global;
@@ -63,7 +63,7 @@ impl Portable for Tagged {
     }
 
     fn expr(alloc: Global) -> Result<Expr, Error> {
-        pair_of_types::<u8, Named<Id>>(alloc)
+        Ok(pair_of_types::<u8, Named<Id>>(alloc)?)
     }
 
     fn define(alloc: Global, defs: &mut Defs) -> Result<(), Error> {
@@ -114,8 +114,7 @@ impl Portable for Endless {
     }
 
     fn expr(alloc: Global) -> Result<Expr, Error> {
-        let itself = Pointee::One(Expr::Named("Itself"));
-        Ok(Expr::Box(Box::new(alloc, itself)?))
+        Ok(boxed_name(alloc, "Itself")?)
     }
 
     #[tactic(auto, using(archive_check::proofs::format::AddedDefinitions::not_extended))]

@@ -1,12 +1,11 @@
 // What is looked at in the parts of a value and behind its pointers, and what may be any bytes.
 
-use super::buffers::{assert_rows, outside};
+use super::buffers::{Fault, assert_rows, outside};
 use super::definitions::{Flags, Tree};
 use super::forms::{
     BoxedText, Mixed, OptionalNumbers, OptionalTexts, Pair, Text, Titled, Unmarked, WeakText,
 };
 use super::marks::{ArchivedBox, ArchivedRc, ArchivedRcWeak, ArchivedVec, Array, Named, Plain};
-use archive_check::format::error::Error;
 use archive_num::{ArchivedChar, ArchivedU32};
 
 #[test]
@@ -18,18 +17,18 @@ fn leaves_and_texts_are_looked_at(rt: HostRuntime) {
         alloc,
         &[(any, 0, Ok(1)), (any, 4, outside(4, 4, 0, 4))],
     );
-    assert_rows::<ArchivedChar>(&rt, alloc, &[(any, 0, Err(Error::InvalidChar))]);
+    assert_rows::<ArchivedChar>(&rt, alloc, &[(any, 0, Err(Fault::InvalidChar))]);
     assert_rows::<bool>(
         &rt,
         alloc,
-        &[(b"\x01", 0, Ok(1)), (b"\x02", 0, Err(Error::InvalidBool))],
+        &[(b"\x01", 0, Ok(1)), (b"\x02", 0, Err(Fault::InvalidBool))],
     );
     assert_rows::<Plain<Text>>(
         &rt,
         alloc,
         &[
             (b"hi\xff\xff\xff\xff\xff\xff", 0, Ok(1)),
-            (b"h\xfe\xff\xff\xff\xff\xff\xff", 0, Err(Error::InvalidUtf8)),
+            (b"h\xfe\xff\xff\xff\xff\xff\xff", 0, Err(Fault::InvalidUtf8)),
         ],
     );
     assert_rows::<Plain<BoxedText>>(
@@ -40,7 +39,7 @@ fn leaves_and_texts_are_looked_at(rt: HostRuntime) {
             (
                 b"h\xfe\0\0\xfc\xff\xff\xff\x02\0\0\0",
                 4,
-                Err(Error::InvalidUtf8),
+                Err(Fault::InvalidUtf8),
             ),
         ],
     );
@@ -72,7 +71,7 @@ fn each_element_is_looked_at(rt: HostRuntime) {
             (
                 b"\x01\0\x02\0\xfc\xff\xff\xff\x03\0\0\0",
                 4,
-                Err(Error::InvalidBool),
+                Err(Fault::InvalidBool),
             ),
         ],
     );
@@ -83,7 +82,7 @@ fn each_element_is_looked_at(rt: HostRuntime) {
     assert_rows::<ArchivedVec<Plain<Text>>>(
         &rt,
         alloc,
-        &[(texts, 28, Ok(3)), (faulty, 28, Err(Error::InvalidUtf8))],
+        &[(texts, 28, Ok(3)), (faulty, 28, Err(Fault::InvalidUtf8))],
     );
     let rising =
         b"\x01\0\0\0\x02\0\0\0\xf8\xff\xff\xff\x01\0\0\0\xf4\xff\xff\xff\x01\0\0\0\xf0\xff\xff\xff\x02\0\0\0";
@@ -112,8 +111,8 @@ fn each_part_is_looked_at(rt: HostRuntime) {
         alloc,
         &[
             (mixed, 8, Ok(2)),
-            (no_bool, 8, Err(Error::InvalidBool)),
-            (no_text, 8, Err(Error::InvalidUtf8)),
+            (no_bool, 8, Err(Fault::InvalidBool)),
+            (no_text, 8, Err(Fault::InvalidUtf8)),
             (three, 8, outside(0, 12, 0, 8)),
         ],
     );
@@ -124,7 +123,7 @@ fn each_part_is_looked_at(rt: HostRuntime) {
     assert_rows::<Array<Plain<Text>, 3>>(
         &rt,
         alloc,
-        &[(texts, 0, Ok(1)), (faulty, 0, Err(Error::InvalidUtf8))],
+        &[(texts, 0, Ok(1)), (faulty, 0, Err(Fault::InvalidUtf8))],
     );
 }
 
@@ -148,7 +147,7 @@ fn what_an_option_holds_is_looked_at(rt: HostRuntime) {
     assert_rows::<Plain<OptionalTexts>>(
         &rt,
         alloc,
-        &[(texts, 8, Ok(2)), (faulty, 8, Err(Error::InvalidUtf8))],
+        &[(texts, 8, Ok(2)), (faulty, 8, Err(Fault::InvalidUtf8))],
     );
 }
 
@@ -161,7 +160,7 @@ fn vectors_in_records_and_arrays_are_followed(rt: HostRuntime) {
     assert_rows::<Plain<Titled>>(
         &rt,
         alloc,
-        &[(titled, 8, Ok(2)), (faulty, 8, Err(Error::InvalidUtf8))],
+        &[(titled, 8, Ok(2)), (faulty, 8, Err(Fault::InvalidUtf8))],
     );
     let two =
         b"hi\xff\xff\xff\xff\xff\xffyo\xff\xff\xff\xff\xff\xff\xf0\xff\xff\xff\x01\0\0\0\xf0\xff\xff\xff\x01\0\0\0";
@@ -170,7 +169,7 @@ fn vectors_in_records_and_arrays_are_followed(rt: HostRuntime) {
     assert_rows::<Array<ArchivedVec<Plain<Text>>, 2>>(
         &rt,
         alloc,
-        &[(two, 16, Ok(3)), (faulty, 16, Err(Error::InvalidUtf8))],
+        &[(two, 16, Ok(3)), (faulty, 16, Err(Fault::InvalidUtf8))],
     );
 }
 
@@ -181,17 +180,13 @@ fn lists_and_trees_are_followed(rt: HostRuntime) {
     let no_bool = b"\0\0\0\0\0\0\0\0\x01\x02\0\0\xf4\xff\xff\xff\x01\0\0\0\xf4\xff\xff\xff";
     let other = b"\x02\0\0\0\0\0\0\0\x01\x01\0\0\xf4\xff\xff\xff\x01\0\0\0\xf4\xff\xff\xff";
     let itself = b"\0\0\0\0\0\0\0\0\x01\x01\0\0\xf4\xff\xff\xff\x01\0\0\0\xfc\xff\xff\xff";
-    let unknown = Error::InvalidDiscriminant {
-        name: "Flags",
-        value: 2,
-    };
     assert_rows::<Named<Flags>>(
         &rt,
         alloc,
         &[
             (two, 16, Ok(3)),
-            (no_bool, 16, Err(Error::InvalidBool)),
-            (other, 16, Err(unknown)),
+            (no_bool, 16, Err(Fault::InvalidBool)),
+            (other, 16, Err(Fault::OtherFlags(2))),
             (itself, 16, outside(16, 8, 0, 16)),
         ],
     );
@@ -237,7 +232,7 @@ fn what_is_shared_is_followed(rt: HostRuntime) {
             (
                 b"h\xfe\0\0\xfc\xff\xff\xff\x02\0\0\0",
                 4,
-                Err(Error::InvalidUtf8),
+                Err(Fault::InvalidUtf8),
             ),
             (b"h\xfe\0\0\x01\0\0\0\xff\xff\xff\xff", 4, Ok(1)),
         ],

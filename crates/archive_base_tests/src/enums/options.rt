@@ -4,36 +4,48 @@ use super::hash_of;
 use crate::assertions::{assert_holds, assert_same};
 use archive_enum::option::{ArchivedOption, Iter};
 use std::cmp::Ordering;
-use std::test::Fail;
 
 #[test]
-fn an_option_answers_as_rusts(rt: HostRuntime) -> Result<(), Fail> {
+fn an_option_answers_as_rusts(rt: HostRuntime) {
     let some = ArchivedOption::Some(1u32);
     let none = ArchivedOption::<u32>::None;
-    assert_same(&rt, "some", (some.is_some(), some.is_none()), (true, false));
-    assert_same(&rt, "none", (none.is_some(), none.is_none()), (false, true));
-    assert_same(&rt, "some or 5", some.ok_or(5u8), Ok(1));
-    assert_same(&rt, "none or 5", none.ok_or(5u8), Err(5));
-    assert_same(&rt, "the value", some.unwrap(), 1);
+    let some_is = (some.is_some(), some.is_none());
+    let none_is = (none.is_some(), none.is_none());
+    assert_same(
+        &rt,
+        "some, and none",
+        (some_is, none_is),
+        ((true, false), (false, true)),
+    );
+    let answers = (some.ok_or(5u8), none.ok_or(5u8));
+    assert_same(&rt, "the value or 5", answers, (Ok(1), Err(5)));
+    let lent = (some.as_ref().copied(), none.as_ref().copied());
+    assert_same(&rt, "lent", lent, (Some(1), None));
+}
+
+#[test]
+fn the_value_of_an_option_is_taken(rt: HostRuntime) {
+    let some = ArchivedOption::Some(1u32);
+    let none = ArchivedOption::<u32>::None;
     let values = (some.unwrap_or(2), none.unwrap_or(2));
     assert_same(&rt, "the value or 2", values, (1, 2));
     let values = (some.unwrap_or_else(|| 3), none.unwrap_or_else(|| 3));
     assert_same(&rt, "the value or 3", values, (1, 3));
-    let values = (some.as_ref().copied(), none.as_ref().copied());
-    assert_same(&rt, "lent", values, (Some(1), None));
-    let seven = ArchivedOption::from(7u32).clone()?;
-    assert_same(&rt, "a copy", seven.unwrap(), 7);
-    Ok(())
+    let seven = ArchivedOption::from(7u32).clone().expect(&rt, "memory");
+    assert_same(
+        &rt,
+        "the value, and a copy's",
+        (some.unwrap(), seven.unwrap()),
+        (1, 7),
+    );
 }
 
 #[test]
-fn an_option_is_changed_where_it_lies(rt: HostRuntime) {
+fn the_value_of_an_option_is_changed_where_it_lies(rt: HostRuntime) {
     let mut some = ArchivedOption::Some(1u32);
-    let mut none = ArchivedOption::<u32>::None;
     if let Some(value) = some.as_mut() {
         *value = 4;
     }
-    assert_holds(&rt, "none", none.as_mut().is_none());
     for value in some.iter_mut() {
         *value = 5;
     }
@@ -43,6 +55,12 @@ fn an_option_is_changed_where_it_lies(rt: HostRuntime) {
     }
     assert_same(&rt, "by a loop", some.unwrap_or(0), 6);
     assert_same(&rt, "as before", *some.get_or_insert(9), 6);
+}
+
+#[test]
+fn a_value_is_put_into_an_option(rt: HostRuntime) {
+    let mut none = ArchivedOption::<u32>::None;
+    assert_holds(&rt, "none", none.as_mut().is_none());
     assert_same(&rt, "put there", *none.get_or_insert(9), 9);
     *none.get_or_insert_with(|| 8) = 7;
     assert_same(&rt, "changed", none.unwrap_or(0), 7);
@@ -51,20 +69,30 @@ fn an_option_is_changed_where_it_lies(rt: HostRuntime) {
 }
 
 #[test]
-fn an_item_comes_once_from_either_end(rt: HostRuntime) {
+fn an_item_comes_once_at_the_front(rt: HostRuntime) {
     let some = ArchivedOption::Some(1u32);
     let mut front = some.iter();
     let room = (front.len(), front.size_hint());
     assert_same(&rt, "at first", room, (1, (1, Some(1))));
-    assert_same(&rt, "the first", front.next().copied(), Some(1));
-    assert_same(&rt, "afterwards", front.len(), 0);
+    let first = (front.next().copied(), front.len());
+    assert_same(&rt, "the first, and what is left", first, (Some(1), 0));
     let (second, third) = (front.next().copied(), front.next().copied());
-    assert_same(&rt, "at the front", (second, third), (None, None));
-    assert_same(&rt, "at its end", front.next_back().copied(), None);
+    let last = front.next_back().copied();
+    assert_same(&rt, "afterwards", (second, third, last), (None, None, None));
+}
+
+#[test]
+fn an_item_comes_once_at_the_end(rt: HostRuntime) {
+    let some = ArchivedOption::Some(1u32);
     let mut back = (&some).into_iter();
-    assert_same(&rt, "the last", back.next_back().copied(), Some(1));
+    let last = back.next_back().copied();
     let (second, third) = (back.next_back().copied(), back.next().copied());
-    assert_same(&rt, "at the end", (second, third), (None, None));
+    assert_same(
+        &rt,
+        "at the end",
+        (last, second, third),
+        (Some(1), None, None),
+    );
     let none = ArchivedOption::<u32>::None;
     assert_same(&rt, "of none", none.iter().count(), 0);
     let mut last = 0;
@@ -83,6 +111,7 @@ fn options_are_compared_as_rusts(rt: HostRuntime) {
     assert_holds(&rt, "none below some", none < less && less < more);
     assert_holds(&rt, "equal or not", none == none && less != more);
     assert_same(&rt, "the order", more.cmp(&none), Ordering::Greater);
-    assert_same(&rt, "none's hash", hash_of(&none), hash_of(&None::<i32>));
-    assert_same(&rt, "some's hash", hash_of(&more), hash_of(&Some(1)));
+    let hashes = (hash_of(&none), hash_of(&more));
+    let right = (hash_of(&None::<i32>), hash_of(&Some(1)));
+    assert_same(&rt, "the hashes of none and some", hashes, right);
 }

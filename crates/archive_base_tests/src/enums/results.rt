@@ -15,16 +15,26 @@ fn err() -> ArchivedResult<u32, u8> {
 
 #[test]
 fn a_result_answers_as_rusts(rt: HostRuntime) {
-    assert_same(&rt, "ok", (ok().is_ok(), ok().is_err()), (true, false));
-    assert_same(&rt, "err", (err().is_ok(), err().is_err()), (false, true));
+    let ok_is = (ok().is_ok(), ok().is_err());
+    let err_is = (err().is_ok(), err().is_err());
+    assert_same(
+        &rt,
+        "ok, and err",
+        (ok_is, err_is),
+        ((true, false), (false, true)),
+    );
     assert_same(&rt, "the values", (ok().ok(), err().ok()), (Some(1), None));
-    let value = ArchivedResult::<u32, u8>::Ok(1).unwrap();
-    assert_same(&rt, "the value", value, 1);
-    let value = ok().unwrap_or_else(|error| error as u32);
-    assert_same(&rt, "ok's value", value, 1);
-    let value = err().unwrap_or_else(|error| error as u32);
-    assert_same(&rt, "err's value", value, 5);
     assert_same(&rt, "lent", ok().as_ref().copied(), Ok(&1).copied());
+}
+
+#[test]
+fn the_value_of_a_result_is_taken(rt: HostRuntime) {
+    let values = (
+        ArchivedResult::<u32, u8>::Ok(1).unwrap(),
+        ok().unwrap_or_else(|error| error as u32),
+        err().unwrap_or_else(|error| error as u32),
+    );
+    assert_same(&rt, "ok's value twice, and err's", values, (1, 1, 5));
 }
 
 #[test]
@@ -42,6 +52,10 @@ fn a_result_is_changed_where_it_lies(rt: HostRuntime) {
         *at = 7;
     }
     assert_same(&rt, "by a loop", value.ok(), Some(7));
+}
+
+#[test]
+fn the_error_of_a_result_is_changed_where_it_lies(rt: HostRuntime) {
     let mut error = err();
     if let Err(at) = error.as_mut() {
         *at = 6;
@@ -55,10 +69,20 @@ fn a_result_is_changed_where_it_lies(rt: HostRuntime) {
 fn the_value_of_an_ok_comes_once(rt: HostRuntime) {
     let value = ok();
     let mut items: Iter<&u32> = value.iter();
-    assert_same(&rt, "the first", items.next().copied(), Some(1));
+    let first = items.next().copied();
     let (second, last) = (items.next().copied(), items.next_back().copied());
-    assert_same(&rt, "afterwards", (second, last), (None, None));
+    assert_same(
+        &rt,
+        "the items",
+        (first, second, last),
+        (Some(1), None, None),
+    );
     assert_same(&rt, "of an error", err().iter().count(), 0);
+}
+
+#[test]
+fn a_loop_meets_the_value_of_an_ok_alone(rt: HostRuntime) {
+    let value = ok();
     let mut last = 0;
     for at in &value {
         last = *at;
@@ -75,20 +99,15 @@ fn results_are_compared_as_rusts(rt: HostRuntime) {
     assert_holds(&rt, "ok below err", value < error);
     assert_holds(&rt, "equal", value == ok() && error == err());
     assert_holds(&rt, "not equal", value != error);
-    let order = error.cmp(&ArchivedResult::Err(4));
-    assert_same(&rt, "errors", order, Ordering::Greater);
-    let order = value.cmp(&ArchivedResult::Ok(2));
-    assert_same(&rt, "values", order, Ordering::Less);
+    let errors = error.cmp(&ArchivedResult::Err(4));
+    let values = value.cmp(&ArchivedResult::Ok(2));
     assert_same(
         &rt,
-        "ok's hash",
-        hash_of(&value),
-        hash_of(&Ok::<u32, u8>(1)),
+        "errors, and values",
+        (errors, values),
+        (Ordering::Greater, Ordering::Less),
     );
-    assert_same(
-        &rt,
-        "err's hash",
-        hash_of(&error),
-        hash_of(&Err::<u32, u8>(5)),
-    );
+    let hashes = (hash_of(&value), hash_of(&error));
+    let right = (hash_of(&Ok::<u32, u8>(1)), hash_of(&Err::<u32, u8>(5)));
+    assert_same(&rt, "the hashes of ok and err", hashes, right);
 }

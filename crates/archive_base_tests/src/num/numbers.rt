@@ -2,7 +2,7 @@
 
 ghost use Rattle.std.specs.Prelude.{◌≡◌, ◌↔◌, ◌<◌, length, IsTrue};
 
-use crate::assertions::{assert_holds, assert_leaf, assert_same};
+use crate::assertions::{assert_holds, assert_leaf, assert_same, assert_shown};
 use archive_check::format::expr::{IntegerKind, Kind};
 use archive_num::{
     ArchivedChar, ArchivedI16, ArchivedI32, ArchivedI64, ArchivedI128, ArchivedIsize, ArchivedU16,
@@ -10,7 +10,6 @@ use archive_num::{
 };
 use std::fmt::Debug;
 use std::process::Abort;
-use std::test::Fail;
 
 // What is written is read back, whatever it is.
 fn again<N: Native>(value: N, out: &mut [u8]) -> N
@@ -34,8 +33,8 @@ fn assert_bytes<N: Native + Debug, const SIZE: usize>(rt: &impl Abort, rows: &[(
 {
     for (value, bytes) in rows {
         let mut out = [7; SIZE];
-        assert_eq!(rt; again(*value, &mut out), *value);
-        assert_eq!(rt; &out, bytes, "the bytes of {value:?}");
+        assert_same(rt, "read back", again(*value, &mut out), *value);
+        assert_same(rt, "a value's bytes", (*value, out), (*value, *bytes));
     }
 }
 
@@ -58,7 +57,7 @@ fn assert_come_back<N: Native + Debug, const SIZE: usize>(rt: &impl Abort, value
     requires { SIZE ≡ N.byte_count }
 {
     for value in values {
-        assert_eq!(rt; again(*value, &mut [7; SIZE]), *value);
+        assert_same(rt, "read back", again(*value, &mut [7; SIZE]), *value);
     }
 }
 
@@ -82,43 +81,49 @@ fn the_least_and_the_greatest_without_a_sign_come_back(rt: HostRuntime) {
 }
 
 #[test]
-fn formats_behave_as_their_numbers(rt: HostRuntime) {
-    assert_same(&rt, "i16", ArchivedI16::from_native(-2).to_native(), -2);
-    assert_same(&rt, "i32", ArchivedI32::from_native(-3).to_native(), -3);
-    assert_same(&rt, "i64", ArchivedI64::from_native(-4).to_native(), -4);
-    assert_same(&rt, "i128", ArchivedI128::from_native(-5).to_native(), -5);
-    assert_same(&rt, "u16", ArchivedU16::from_native(2).to_native(), 2);
-    assert_same(&rt, "u32", ArchivedU32::from_native(3).to_native(), 3);
-    assert_same(&rt, "u64", ArchivedU64::from_native(4).to_native(), 4);
-    assert_same(&rt, "u128", ArchivedU128::from_native(5).to_native(), 5);
-    assert_same(&rt, "char", ArchivedChar::from_native('é').to_native(), 'é');
-    let size = ArchivedUsize::from_native(6);
-    assert_same(&rt, "usize", size, ArchivedU32::from_native(6));
+fn formats_with_a_sign_behave_as_their_numbers(rt: HostRuntime) {
+    let found = (
+        ArchivedI16::from_native(-2).to_native(),
+        ArchivedI32::from_native(-3).to_native(),
+        ArchivedI64::from_native(-4).to_native(),
+        ArchivedI128::from_native(-5).to_native(),
+    );
+    assert_same(&rt, "i16 to i128", found, (-2, -3, -4, -5));
     let offset = ArchivedIsize::from_native(-6);
     assert_same(&rt, "isize", offset, ArchivedI32::from_native(-6));
-    let (one, more) = (ArchivedU32::from_native(1), ArchivedU32::from_native(256));
-    assert_holds(&rt, "1 below 256", is_less(one, more));
     let (less, five) = (ArchivedI32::from_native(-5), ArchivedI32::from_native(5));
     assert_holds(&rt, "-5 below 5", less < five);
 }
 
 #[test]
-fn formats_are_shown_as_their_numbers(rt: HostRuntime) -> Result<(), Fail> {
-    let number = ArchivedI32::from_native(-5).to_string(rt.alloc())?;
-    assert_same(&rt, "a number", number.as_str(), "-5");
-    let letter = ArchivedChar::from_native('x').to_string(rt.alloc())?;
-    assert_same(&rt, "a letter", letter.as_str(), "x");
-    Ok(())
+fn formats_without_a_sign_behave_as_their_numbers(rt: HostRuntime) {
+    let found = (
+        ArchivedU16::from_native(2).to_native(),
+        ArchivedU32::from_native(3).to_native(),
+        ArchivedU64::from_native(4).to_native(),
+        ArchivedU128::from_native(5).to_native(),
+        ArchivedChar::from_native('é').to_native(),
+    );
+    assert_same(&rt, "u16 to u128, and char", found, (2, 3, 4, 5, 'é'));
+    let size = ArchivedUsize::from_native(6);
+    assert_same(&rt, "usize", size, ArchivedU32::from_native(6));
+    let (one, more) = (ArchivedU32::from_native(1), ArchivedU32::from_native(256));
+    assert_holds(&rt, "1 below 256", is_less(one, more));
 }
 
 #[test]
-fn a_number_is_a_leaf_of_its_size(rt: HostRuntime) -> Result<(), Fail> {
+fn formats_are_shown_as_their_numbers(rt: HostRuntime) {
+    assert_shown(&rt, rt.alloc(), &ArchivedI32::from_native(-5), "-5");
+    assert_shown(&rt, rt.alloc(), &ArchivedChar::from_native('x'), "x");
+}
+
+#[test]
+fn a_number_is_a_leaf_of_its_size(rt: HostRuntime) {
     let alloc = rt.alloc();
-    assert_leaf::<ArchivedU16>(&rt, alloc, Kind::Number(IntegerKind::U16), 2, 2)?;
-    assert_leaf::<ArchivedI16>(&rt, alloc, Kind::Number(IntegerKind::I16), 2, 2)?;
-    assert_leaf::<ArchivedU32>(&rt, alloc, Kind::Number(IntegerKind::U32), 4, 4)?;
-    assert_leaf::<ArchivedI64>(&rt, alloc, Kind::Number(IntegerKind::I64), 8, 8)?;
-    assert_leaf::<ArchivedI128>(&rt, alloc, Kind::Number(IntegerKind::I128), 16, 16)?;
-    assert_leaf::<ArchivedChar>(&rt, alloc, Kind::Char, 4, 4)?;
-    Ok(())
+    assert_leaf::<ArchivedU16>(&rt, alloc, Kind::Number(IntegerKind::U16), 2, 2);
+    assert_leaf::<ArchivedI16>(&rt, alloc, Kind::Number(IntegerKind::I16), 2, 2);
+    assert_leaf::<ArchivedU32>(&rt, alloc, Kind::Number(IntegerKind::U32), 4, 4);
+    assert_leaf::<ArchivedI64>(&rt, alloc, Kind::Number(IntegerKind::I64), 8, 8);
+    assert_leaf::<ArchivedI128>(&rt, alloc, Kind::Number(IntegerKind::I128), 16, 16);
+    assert_leaf::<ArchivedChar>(&rt, alloc, Kind::Char, 4, 4);
 }
