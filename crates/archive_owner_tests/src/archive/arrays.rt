@@ -123,10 +123,24 @@ fn an_array_of_none_comes_back(rt: HostRuntime) {
     assert_holds(&rt, "no element", none.as_slice().is_empty());
 }
 
+type Pair = (u8, OwnedArray<u16, 2>);
+
+// A number and an array, that are read back.
+fn read_pair(rt: &impl Abort, alloc: Global, bytes: &[u8]) -> Pair {
+    value_of(rt, alloc, bytes)
+}
+
+// The archive of a number and an array.
+fn written_pair(rt: &impl Abort, alloc: Global, pair: &Pair) -> Vec<u8> {
+    written(rt, alloc, pair)
+}
+
 #[test]
 fn an_array_in_a_tuple_comes_back(rt: HostRuntime) {
     let bytes = b"\x07\0\x01\0\x02\0".as_slice();
-    let pair = read_and_written::<(u8, OwnedArray<u16, 2>)>(&rt, rt.alloc(), bytes);
+    let pair = read_pair(&rt, rt.alloc(), bytes);
+    let again = written_pair(&rt, rt.alloc(), &pair);
+    assert_same(&rt, "the bytes", again.as_slice(), bytes);
     assert_same(&rt, "the number", pair.0, 7);
     assert_same(&rt, "the array", pair.1.as_slice(), [1, 2].as_slice());
 }

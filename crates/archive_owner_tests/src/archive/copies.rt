@@ -1,6 +1,8 @@
 // Slices of numbers are written in bulk.
 
-use crate::assertions::{assert_full, assert_holds, assert_read, assert_same, written};
+use super::owner_reading::assert_numbers_read;
+use super::owners::written_numbers;
+use crate::assertions::{assert_full, assert_holds, assert_same};
 use archive_core::error::Error;
 use archive_core::primitive::{ArchivedNonZeroU16, ArchivedU32};
 use archive_core::ser::{Buffer, ResolverAlloc, Serializer, Writer};
@@ -65,8 +67,8 @@ fn assert_copied(rt: &impl Abort, alloc: Global, count: u32) {
     assert_same(rt, "a slice", bytes.as_slice(), right.as_slice());
     let bytes = behind_one_byte_by_iter(rt, alloc, &numbers);
     assert_same(rt, "an iterator", bytes.as_slice(), right.as_slice());
-    let archive = written(rt, alloc, &numbers);
-    assert_read(rt, alloc, &archive, &numbers);
+    let archive = written_numbers(rt, alloc, &numbers);
+    assert_numbers_read(rt, alloc, &archive, &numbers);
 }
 
 #[test]

@@ -1,7 +1,7 @@
 // Tuples: their layouts, and what a check says of their bytes.
 
 use crate::assertions::{
-    assert_holds, assert_read, assert_refused, assert_same, assert_written, value_of, viewed,
+    assert_holds, assert_refused, assert_same, assert_written, value_of, viewed,
 };
 use archive_core::api::access_mut;
 use archive_core::error::Error;
@@ -11,6 +11,8 @@ use archive_tuple::{
     ArchivedTuple1, ArchivedTuple3, ArchivedTuple5, ArchivedTuple7, ArchivedTuple11,
     ArchivedTuple13,
 };
+use std::alloc::Global;
+use std::process::Abort;
 
 // The tuple (24, true, 16) of an `i32`, a `bool` and a `u32`.
 const NUMBERS: &[u8] = b"\x18\0\0\0\x01\0\0\0\x10\0\0\0";
@@ -19,6 +21,8 @@ type Numbers = ArchivedTuple3<ArchivedI32, bool, ArchivedU32>;
 
 // The tuple (1, 2, true, 3, 4) of a `u8`, a `u32` at 4, a `bool` at 8, a `u16` at 10 and a `u8` at 12, and zeros up to a multiple of 4.
 const FIVE: &[u8] = b"\x01\0\0\0\x02\0\0\0\x01\0\x03\0\x04\0\0\0";
+
+type NativeFive = (u8, u32, bool, u16, u8);
 
 type Five = ArchivedTuple5<u8, ArchivedU32, bool, ArchivedU16, u8>;
 
@@ -98,10 +102,16 @@ fn a_tuple_is_written(rt: HostRuntime) {
     assert_written(&rt, rt.alloc(), &value, NUMBERS);
 }
 
+// What is read back of an archive of three.
+fn read_three(rt: &impl Abort, alloc: Global) -> (i32, bool, u32) {
+    value_of(rt, alloc, NUMBERS)
+}
+
 #[test]
 fn a_tuple_is_read_back(rt: HostRuntime) {
-    let value: (i32, bool, u32) = (24, true, 16);
-    assert_read(&rt, rt.alloc(), NUMBERS, &value);
+    let (number, holds, last) = read_three(&rt, rt.alloc());
+    assert_same(&rt, "the numbers", (number, last), (24, 16));
+    assert_holds(&rt, "the bool", holds);
 }
 
 #[test]
@@ -116,14 +126,21 @@ fn a_tuple_is_viewed(rt: HostRuntime) {
 
 #[test]
 fn a_tuple_of_five_is_written(rt: HostRuntime) {
-    let five: (u8, u32, bool, u16, u8) = (1, 2, true, 3, 4);
+    let five: NativeFive = (1, 2, true, 3, 4);
     assert_written(&rt, rt.alloc(), &five, FIVE);
+}
+
+// What is read back of the archive of five.
+fn read_five(rt: &impl Abort, alloc: Global) -> NativeFive {
+    value_of(rt, alloc, FIVE)
 }
 
 #[test]
 fn a_tuple_of_five_is_read_back(rt: HostRuntime) {
-    let five: (u8, u32, bool, u16, u8) = (1, 2, true, 3, 4);
-    assert_read(&rt, rt.alloc(), FIVE, &five);
+    let (first, second, third, fourth, fifth) = read_five(&rt, rt.alloc());
+    let numbers = [first as u32, second, fourth as u32, fifth as u32];
+    assert_same(&rt, "the numbers", numbers, [1, 2, 3, 4]);
+    assert_holds(&rt, "the third", third);
 }
 
 #[test]
@@ -146,28 +163,39 @@ fn a_tuple_of_seven_is_written(rt: HostRuntime) {
 }
 
 #[test]
-fn a_tuple_of_seven_is_read_back(rt: HostRuntime) {
-    let seven: (u8, u32, bool, u16, u8, u8, u32) = (1, 2, true, 3, 4, 5, 6);
-    assert_read(&rt, rt.alloc(), SEVEN, &seven);
-}
-
-#[test]
 fn a_tuple_of_seven_is_viewed(rt: HostRuntime) {
     let view = viewed::<Seven>(&rt, rt.alloc(), SEVEN);
     let last = view.field::<ArchivedU32>(6).get();
     assert_same(&rt, "the last", last, 6);
 }
 
-#[test]
-fn a_tuple_of_eleven_is_written(rt: HostRuntime) {
-    let eleven: NativeEleven = (1, 2, 3, 4, true, 5, 6, 7, 8, 9, 10);
-    assert_written(&rt, rt.alloc(), &eleven, ELEVEN);
+// What is read back of the archive of eleven.
+fn read_eleven(rt: &impl Abort, alloc: Global) -> NativeEleven {
+    value_of(rt, alloc, ELEVEN)
 }
 
 #[test]
 fn a_tuple_of_eleven_is_read_back(rt: HostRuntime) {
-    let eleven: NativeEleven = (1, 2, 3, 4, true, 5, 6, 7, 8, 9, 10);
-    assert_read(&rt, rt.alloc(), ELEVEN, &eleven);
+    let back = read_eleven(&rt, rt.alloc());
+    let numbers = [
+        back.0 as u32,
+        back.1 as u32,
+        back.2 as u32,
+        back.3,
+        back.4 as u32,
+        back.5 as u32,
+        back.6 as u32,
+        back.7 as u32,
+        back.8 as u32,
+        back.9 as u32,
+        back.10 as u32,
+    ];
+    assert_same(
+        &rt,
+        "the numbers",
+        numbers,
+        [1, 2, 3, 4, 1, 5, 6, 7, 8, 9, 10],
+    );
 }
 
 #[test]
@@ -183,22 +211,31 @@ fn a_tuple_of_thirteen_is_written(rt: HostRuntime) {
     assert_written(&rt, rt.alloc(), &thirteen, THIRTEEN);
 }
 
+// What is read back of the archive of thirteen.
+fn read_thirteen(rt: &impl Abort, alloc: Global) -> NativeThirteen {
+    value_of(rt, alloc, THIRTEEN)
+}
+
 #[test]
 fn a_tuple_of_thirteen_is_read_back(rt: HostRuntime) {
-    let back: NativeThirteen = value_of(&rt, rt.alloc(), THIRTEEN);
-    let (a, b, c, d, e, f, g, h, i, j, k, l, m) = back;
-    assert_same(
-        &rt,
-        "the first",
-        (a, b, c, d, e, f, g),
-        (1, 2, true, 3, 4, 5, 6),
-    );
-    assert_same(
-        &rt,
-        "the others",
-        (h, i, j, k, l, m),
-        (7, 8, 9, 10, false, 11),
-    );
+    let back = read_thirteen(&rt, rt.alloc());
+    let numbers = [
+        back.0 as u32,
+        back.1 as u32,
+        back.2 as u32,
+        back.3 as u32,
+        back.4,
+        back.5 as u32,
+        back.6 as u32,
+        back.7 as u32,
+        back.8 as u32,
+        back.9 as u32,
+        back.10 as u32,
+        back.11 as u32,
+        back.12,
+    ];
+    let right = [1, 2, 1, 3, 4, 5, 6, 7, 8, 9, 10, 0, 11];
+    assert_same(&rt, "the numbers", numbers, right);
 }
 
 #[test]
