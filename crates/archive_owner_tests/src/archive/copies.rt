@@ -158,6 +158,16 @@ fn the_pieces_before_are_kept(rt: HostRuntime) {
     assert_same(&rt, "the first", buffer.as_slice().len(), 1024);
 }
 
+// Where arrays are written to this writer as one region, and why they aren't.
+fn arrays_written<W: Writer>(
+    alloc: Global,
+    arrays: &[[u16; 3]],
+    writer: &mut W,
+) -> Result<usize, Error> {
+    let elements = Slice { slice: arrays };
+    elements.serialize_unsized(&mut Serializer::new(writer, alloc, ()))
+}
+
 // Arrays are written as one region to this writer.
 fn assert_arrays_copied<W: Writer>(
     rt: &impl Abort,
@@ -165,7 +175,7 @@ fn assert_arrays_copied<W: Writer>(
     arrays: &[[u16; 3]],
     writer: &mut W,
 ) {
-    region_of(rt, arrays, &mut Serializer::new(writer, alloc, ()));
+    arrays_written(alloc, arrays, writer).expect(rt, "written");
 }
 
 // And they aren't; `full` tells the writer's room.
@@ -176,10 +186,7 @@ fn assert_arrays_refused<W: Writer>(
     writer: &mut W,
     full: (usize, usize, usize),
 ) {
-    let mut serializer = Serializer::new(writer, alloc, ());
-    let elements = Slice { slice: arrays };
-    let written = elements.serialize_unsized(&mut serializer);
-    assert_full(rt, "too many", written, full);
+    assert_full(rt, "too many", arrays_written(alloc, arrays, writer), full);
 }
 
 #[test]
