@@ -1,8 +1,8 @@
 // Arrays.
 
 use crate::assertions::{
-    assert_accepted_by_schema, assert_holds, assert_same, assert_written, is_refused, value_of,
-    viewed, written,
+    assert_accepted_by_schema, assert_holds, assert_same, assert_written, found, is_refused,
+    value_of, viewed, written,
 };
 use archive_core::api::{HighSerializer, access_mut};
 use archive_core::array::OwnedArray;
@@ -123,10 +123,24 @@ fn an_array_of_none_comes_back(rt: HostRuntime) {
     assert_holds(&rt, "no element", none.as_slice().is_empty());
 }
 
+type Pair = (u8, OwnedArray<u16, 2>);
+
+// A number and an array, that are read back.
+fn read_pair(alloc: Global, bytes: &[u8]) -> Option<Pair> {
+    found(alloc, bytes)
+}
+
+// The archive of a number and an array.
+fn written_pair(rt: &impl Abort, alloc: Global, pair: &Pair) -> Vec<u8> {
+    written(rt, alloc, pair)
+}
+
 #[test]
 fn an_array_in_a_tuple_comes_back(rt: HostRuntime) {
     let bytes = b"\x07\0\x01\0\x02\0".as_slice();
-    let pair = read_and_written::<(u8, OwnedArray<u16, 2>)>(&rt, rt.alloc(), bytes);
+    let pair = read_pair(rt.alloc(), bytes).expect(&rt, "a tuple");
+    let again = written_pair(&rt, rt.alloc(), &pair);
+    assert_same(&rt, "the bytes", again.as_slice(), bytes);
     assert_same(&rt, "the number", pair.0, 7);
     assert_same(&rt, "the array", pair.1.as_slice(), [1, 2].as_slice());
 }

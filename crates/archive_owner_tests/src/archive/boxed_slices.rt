@@ -14,17 +14,25 @@ const ONE_AND_TWO: &[u8] = b"\x01\0\x02\0\xfc\xff\xff\xff\x02\0\0\0";
 const HELLO_WORLD: &[u8] = b"hello world\0\xf4\xff\xff\xff\x0b\0\0\0";
 
 #[test]
-fn boxed_slices(rt: HostRuntime) {
+fn boxed_slices_are_written(rt: HostRuntime) {
     let items = vec![in rt.alloc(); 1u16, 2].expect(&rt, "memory");
     assert_written(&rt, rt.alloc(), &BoxSlice { items }, ONE_AND_TWO);
+}
+
+#[test]
+fn boxed_slices_are_read_back(rt: HostRuntime) {
     let back: BoxSlice<u16> = value_of(&rt, rt.alloc(), ONE_AND_TWO);
     assert_same(&rt, "the items", back.items.as_slice(), &[1, 2]);
 }
 
 #[test]
-fn boxed_texts(rt: HostRuntime) {
+fn boxed_texts_are_written(rt: HostRuntime) {
     let text = String::from_str(rt.alloc(), "hello world").expect(&rt, "memory");
     assert_written(&rt, rt.alloc(), &BoxStr { text }, HELLO_WORLD);
+}
+
+#[test]
+fn boxed_texts_are_read_back(rt: HostRuntime) {
     let back: BoxStr = value_of(&rt, rt.alloc(), HELLO_WORLD);
     assert_same(&rt, "the text", back.text.as_str(), "hello world");
 }
@@ -63,6 +71,11 @@ fn resolvers_have_an_allocator_of_their_own(rt: HostRuntime) {
     let numbers = vec![in rt.alloc(); 1u32, 2].expect(&rt, "memory");
     let bytes = to_bytes_with_alloc(rt.alloc(), &numbers, rt.alloc()).expect(&rt, "an archive");
     assert_same(&rt, "the archive", bytes.as_slice(), LISTED);
+}
+
+#[test]
+fn resolvers_have_an_allocator_of_their_own_behind_what_is_there(rt: HostRuntime) {
+    let numbers = vec![in rt.alloc(); 1u32, 2].expect(&rt, "memory");
     let writer = Vec::new(rt.alloc());
     let bytes = to_bytes_in_with_alloc(rt.alloc(), &numbers, writer, rt.alloc()).expect(
         &rt,

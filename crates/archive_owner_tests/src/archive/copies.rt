@@ -1,6 +1,8 @@
 // Slices of numbers are written in bulk.
 
-use crate::assertions::{assert_full, assert_holds, assert_read, assert_same, written};
+use super::owner_reading::assert_numbers_read;
+use super::owners::written_numbers;
+use crate::assertions::{assert_full, assert_holds, assert_same};
 use archive_core::error::Error;
 use archive_core::primitive::{ArchivedNonZeroU16, ArchivedU32};
 use archive_core::ser::{Buffer, ResolverAlloc, Serializer, Writer};
@@ -65,8 +67,8 @@ fn assert_copied(rt: &impl Abort, alloc: Global, count: u32) {
     assert_same(rt, "a slice", bytes.as_slice(), right.as_slice());
     let bytes = behind_one_byte_by_iter(rt, alloc, &numbers);
     assert_same(rt, "an iterator", bytes.as_slice(), right.as_slice());
-    let archive = written(rt, alloc, &numbers);
-    assert_read(rt, alloc, &archive, &numbers);
+    let archive = written_numbers(rt, alloc, &numbers);
+    assert_numbers_read(rt, alloc, &archive, &numbers);
 }
 
 #[test]
@@ -156,6 +158,16 @@ fn the_pieces_before_are_kept(rt: HostRuntime) {
     assert_same(&rt, "the first", buffer.as_slice().len(), 1024);
 }
 
+// Where arrays are written to this writer as one region, and why they aren't.
+fn arrays_written<W: Writer>(
+    alloc: Global,
+    arrays: &[[u16; 3]],
+    writer: &mut W,
+) -> Result<usize, Error> {
+    let elements = Slice { slice: arrays };
+    elements.serialize_unsized(&mut Serializer::new(writer, alloc, ()))
+}
+
 // Arrays are written as one region to this writer.
 fn assert_arrays_copied<W: Writer>(
     rt: &impl Abort,
@@ -163,7 +175,7 @@ fn assert_arrays_copied<W: Writer>(
     arrays: &[[u16; 3]],
     writer: &mut W,
 ) {
-    region_of(rt, arrays, &mut Serializer::new(writer, alloc, ()));
+    arrays_written(alloc, arrays, writer).expect(rt, "written");
 }
 
 // And they aren't; `full` tells the writer's room.
@@ -174,10 +186,7 @@ fn assert_arrays_refused<W: Writer>(
     writer: &mut W,
     full: (usize, usize, usize),
 ) {
-    let mut serializer = Serializer::new(writer, alloc, ());
-    let elements = Slice { slice: arrays };
-    let written = elements.serialize_unsized(&mut serializer);
-    assert_full(rt, "too many", written, full);
+    assert_full(rt, "too many", arrays_written(alloc, arrays, writer), full);
 }
 
 #[test]

@@ -7,21 +7,39 @@ use crate::assertions::{
 use archive_core::option::ArchivedOption;
 use archive_core::primitive::{ArchivedU32, ArchivedU128};
 use archive_core::string::ArchivedString;
+use archive_core::view::Ref;
 use std::alloc::Global;
 use std::marker::PhantomData;
 use std::process::Abort;
 
-// The option has this archive, which shows it, goes through its one value, and is read back.
-fn assert_archived(rt: &impl Abort, alloc: Global, value: Option<u32>, archive: &[u8]) {
-    assert_written(rt, alloc, &value, archive);
-    let view = viewed::<ArchivedOption<ArchivedU32>>(rt, alloc, archive);
+type Number = ArchivedOption<ArchivedU32>;
+
+// The view shows the option.
+fn assert_shown(rt: &impl Abort, view: Ref<'_, Number>, value: Option<u32>) {
     let shown = view.as_ref().map(|number| number.get());
     assert_same(rt, "the view", shown, value);
+}
+
+// The view goes through the option's one value.
+fn assert_gone_through(rt: &impl Abort, view: Ref<'_, Number>, value: Option<u32>) {
     let mut items = view.iter();
     let item = items.next().map(|number| number.get());
     assert_same(rt, "the item", item, value);
     assert_holds(rt, "one item at most", items.next().is_none());
-    assert_read(rt, alloc, archive, &value);
+}
+
+// What is read back of an option's archive.
+fn read(rt: &impl Abort, alloc: Global, archive: &[u8]) -> Option<u32> {
+    value_of(rt, alloc, archive)
+}
+
+// The option has this archive, which shows it, goes through its one value, and is read back.
+fn assert_archived(rt: &impl Abort, alloc: Global, value: Option<u32>, archive: &[u8]) {
+    assert_written(rt, alloc, &value, archive);
+    let view = viewed::<Number>(rt, alloc, archive);
+    assert_shown(rt, view, value);
+    assert_gone_through(rt, view, value);
+    assert_same(rt, "the value", read(rt, alloc, archive), value);
 }
 
 #[test]
@@ -30,20 +48,35 @@ fn options_and_their_archives(rt: HostRuntime) {
     assert_archived(&rt, rt.alloc(), Some(42), b"\x01\0\0\0\x2a\0\0\0");
 }
 
+// An option of the text "hello world".
+const SOME_TEXT: &[u8] = b"hello world\0\x01\0\0\0\x8b\0\0\0\xf0\xff\xff\xff";
+
+// These bytes are the archive of an option of a text.
+fn assert_text_written(rt: &impl Abort, alloc: Global, value: &Option<String>, archive: &[u8]) {
+    assert_written(rt, alloc, value, archive);
+}
+
+// The text "hello world".
+fn hello_world(rt: &impl Abort, alloc: Global) -> String {
+    String::from_str(alloc, "hello world").expect(rt, "memory")
+}
+
 #[test]
 fn a_value_that_owns_a_text_is_an_option(rt: HostRuntime) {
-    let archive = b"hello world\0\x01\0\0\0\x8b\0\0\0\xf0\xff\xff\xff";
-    let value = Some(String::from_str(rt.alloc(), "hello world").expect(&rt, "memory"));
-    assert_written(&rt, rt.alloc(), &value, archive);
-    assert_read(&rt, rt.alloc(), archive, &value);
-    let none: Option<String> = None;
-    assert_written(&rt, rt.alloc(), &none, &[0; 12]);
+    let value = Some(hello_world(&rt, rt.alloc()));
+    assert_text_written(&rt, rt.alloc(), &value, SOME_TEXT);
+    assert_text_written(&rt, rt.alloc(), &None, &[0; 12]);
+}
+
+#[test]
+fn an_option_of_a_text_is_read_back(rt: HostRuntime) {
+    let value = Some(hello_world(&rt, rt.alloc()));
+    assert_read(&rt, rt.alloc(), SOME_TEXT, &value);
 }
 
 #[test]
 fn an_option_shows_the_text_that_its_value_owns(rt: HostRuntime) {
-    let archive = b"hello world\0\x01\0\0\0\x8b\0\0\0\xf0\xff\xff\xff";
-    let view = viewed::<ArchivedOption<ArchivedString>>(&rt, rt.alloc(), archive);
+    let view = viewed::<ArchivedOption<ArchivedString>>(&rt, rt.alloc(), SOME_TEXT);
     let text = view.as_ref().map(|text| text.as_str());
     assert_same(&rt, "the view", text, Some("hello world"));
 }
@@ -64,14 +97,13 @@ fn a_part_behind_a_tag_is_aligned(rt: HostRuntime) {
 #[test]
 fn a_tag_names_a_variant(rt: HostRuntime) {
     let none = b"\0\xaa\xbb\xcc\x01\x02\x03\x04";
-    let view = viewed::<ArchivedOption<ArchivedU32>>(&rt, rt.alloc(), none);
+    let view = viewed::<Number>(&rt, rt.alloc(), none);
     assert_holds(&rt, "none", view.as_ref().is_none());
-    assert_accepted_by_schema::<ArchivedOption<ArchivedU32>>(&rt, rt.alloc(), none);
+    assert_accepted_by_schema::<Number>(&rt, rt.alloc(), none);
 }
 
 #[test]
 fn an_unknown_tag_is_refused(rt: HostRuntime) {
-    type Number = ArchivedOption<ArchivedU32>;
     let refusal = ("ArchivedOption", 2);
     let unknown = b"\x02\0\0\0\x01\x02\x03\x04";
     assert_no_variant::<Number>(&rt, "in a view", rt.alloc(), unknown, refusal);

@@ -5,16 +5,28 @@ use archive_core::primitive::ArchivedU32;
 use archive_core::slice::ArchivedSlice;
 use archive_core::traits::DeserializeUnsized;
 use archive_core::vec::ArchivedVec;
+use std::alloc::Global;
+use std::process::Abort;
 
 // The numbers 1 and 2, and at 8 the vector that points back at them.
 const ONE_AND_TWO: &[u8] = b"\x01\0\0\0\x02\0\0\0\xf8\xff\xff\xff\x02\0\0\0";
 
+// An archive is read back as these numbers.
+pub(super) fn assert_numbers_read(
+    rt: &impl Abort,
+    alloc: Global,
+    archive: &[u8],
+    numbers: &Vec<u32>,
+) {
+    assert_read(rt, alloc, archive, numbers);
+}
+
 #[test]
 fn vectors_come_back(rt: HostRuntime) {
     let numbers = vec![in rt.alloc(); 1u32, 2].expect(&rt, "memory");
-    assert_read(&rt, rt.alloc(), ONE_AND_TWO, &numbers);
-    let empty: Vec<u32> = Vec::new(rt.alloc());
-    assert_read(&rt, rt.alloc(), b"\0\0\0\0\0\0\0\0", &empty);
+    assert_numbers_read(&rt, rt.alloc(), ONE_AND_TWO, &numbers);
+    let empty = Vec::new(rt.alloc());
+    assert_numbers_read(&rt, rt.alloc(), b"\0\0\0\0\0\0\0\0", &empty);
 }
 
 #[test]

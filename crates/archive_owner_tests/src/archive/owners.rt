@@ -1,7 +1,7 @@
 // Boxes, slices and vectors: what is written of them.
 
 use crate::assertions::{
-    assert_accepted, assert_full, assert_same, assert_too_far, assert_written,
+    assert_accepted, assert_full, assert_same, assert_too_far, assert_written, written,
 };
 use archive_core::api::to_bytes_in;
 use archive_core::boxed::{ArchivedBox, BoxResolver};
@@ -15,16 +15,25 @@ use archive_core::vec::{ArchivedVec, VecResolver};
 use std::alloc::Global;
 use std::process::Abort;
 
+// The archive of these numbers.
+pub(super) fn written_numbers(rt: &impl Abort, alloc: Global, numbers: &Vec<u32>) -> Vec<u8> {
+    written(rt, alloc, numbers)
+}
+
+// These bytes are the archive of the numbers, and are accepted.
+fn assert_numbers_archived(rt: &impl Abort, alloc: Global, numbers: &Vec<u32>, archive: &[u8]) {
+    let bytes = written_numbers(rt, alloc, numbers);
+    assert_same(rt, "the bytes", bytes.as_slice(), archive);
+    assert_accepted::<ArchivedVec<ArchivedU32>>(rt, alloc, archive);
+}
+
 #[test]
 fn vectors_and_their_archives(rt: HostRuntime) {
     let two = b"\x01\0\0\0\x02\0\0\0\xf8\xff\xff\xff\x02\0\0\0";
     let numbers = vec![in rt.alloc(); 1u32, 2].expect(&rt, "memory");
-    assert_written(&rt, rt.alloc(), &numbers, two);
-    assert_accepted::<ArchivedVec<ArchivedU32>>(&rt, rt.alloc(), two);
-    let none = b"\0\0\0\0\0\0\0\0";
-    let numbers: Vec<u32> = Vec::new(rt.alloc());
-    assert_written(&rt, rt.alloc(), &numbers, none);
-    assert_accepted::<ArchivedVec<ArchivedU32>>(&rt, rt.alloc(), none);
+    assert_numbers_archived(&rt, rt.alloc(), &numbers, two);
+    let empty = Vec::new(rt.alloc());
+    assert_numbers_archived(&rt, rt.alloc(), &empty, b"\0\0\0\0\0\0\0\0");
 }
 
 #[test]
@@ -42,6 +51,11 @@ fn what_elements_own_comes_first(rt: HostRuntime) {
 fn boxes_and_their_archives(rt: HostRuntime) {
     let one = Box::new(rt.alloc(), 1u32).expect(&rt, "memory");
     assert_written(&rt, rt.alloc(), &one, b"\x01\0\0\0\xfc\xff\xff\xff");
+}
+
+#[test]
+fn boxes_in_a_vector_come_first(rt: HostRuntime) {
+    let one = Box::new(rt.alloc(), 1u32).expect(&rt, "memory");
     let two = Box::new(rt.alloc(), 2u32).expect(&rt, "memory");
     let boxes = vec![in rt.alloc(); one, two].expect(&rt, "memory");
     let archive = b"\x01\0\0\0\x02\0\0\0\xf8\xff\xff\xff\xf8\xff\xff\xff\xf8\xff\xff\xff\x02\0\0\0";
@@ -68,8 +82,8 @@ fn a_slice_is_a_region_behind_what_is_there(rt: HostRuntime) {
         .serialize_unsized(&mut serializer)
         .expect(&rt, "written");
     assert_same(&rt, "the region", region, 2);
-    let written = ArchivedVec::<ArchivedU16>::serialize_from_slice(&[1u16], &mut serializer);
-    let Ok(resolver) = written else {
+    let resolver = ArchivedVec::<ArchivedU16>::serialize_from_slice(&[1u16], &mut serializer);
+    let Ok(resolver) = resolver else {
         panic!(rt; "not written")
     };
     assert_same(&rt, "the end", serializer.pos(), 8);

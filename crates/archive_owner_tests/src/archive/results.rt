@@ -1,30 +1,48 @@
 // Results.
 
 use crate::assertions::{
-    assert_holds, assert_no_variant, assert_no_variant_by_schema, assert_read,
-    assert_refused_by_schema, assert_same, assert_written, viewed,
+    assert_holds, assert_no_variant, assert_read, assert_refused_by_schema, assert_same,
+    assert_written, value_of, viewed,
 };
 use archive_core::error::Error;
 use archive_core::primitive::{ArchivedU16, ArchivedU32};
 use archive_core::result::ArchivedResult;
 use archive_core::string::ArchivedString;
+use archive_core::view::Ref;
 use std::alloc::Global;
 use std::process::Abort;
 
-// The result has this archive, which shows it, goes through its one value, and is read back.
-fn assert_archived(rt: &impl Abort, alloc: Global, value: Result<u8, u32>, archive: &[u8]) {
-    assert_written(rt, alloc, &value, archive);
-    let view = viewed::<ArchivedResult<u8, ArchivedU32>>(rt, alloc, archive);
+type Numbers = ArchivedResult<u8, ArchivedU32>;
+
+// The view shows the result.
+fn assert_shown(rt: &impl Abort, view: Ref<'_, Numbers>, value: Result<u8, u32>) {
     let shown = match view.as_ref() {
         Ok(number) => Ok(number.get()),
         Err(number) => Err(number.get()),
     };
     assert_same(rt, "the view", shown, value);
+}
+
+// The view goes through the result's one value, if it is no error.
+fn assert_gone_through(rt: &impl Abort, view: Ref<'_, Numbers>, value: Option<u8>) {
     let mut items = view.iter();
     let item = items.next().map(|number| number.get());
-    assert_same(rt, "the item", item, value.ok());
+    assert_same(rt, "the item", item, value);
     assert_holds(rt, "one item at most", items.next().is_none());
-    assert_read(rt, alloc, archive, &value);
+}
+
+// What is read back of a result's archive.
+fn read(rt: &impl Abort, alloc: Global, archive: &[u8]) -> Result<u8, u32> {
+    value_of(rt, alloc, archive)
+}
+
+// The result has this archive, which shows it, goes through its one value, and is read back.
+fn assert_archived(rt: &impl Abort, alloc: Global, value: Result<u8, u32>, archive: &[u8]) {
+    assert_written(rt, alloc, &value, archive);
+    let view = viewed::<Numbers>(rt, alloc, archive);
+    assert_shown(rt, view, value);
+    assert_gone_through(rt, view, value.ok());
+    assert_same(rt, "the value", read(rt, alloc, archive), value);
 }
 
 #[test]
@@ -33,15 +51,30 @@ fn results_and_their_archives(rt: HostRuntime) {
     assert_archived(&rt, rt.alloc(), Err(9), b"\x01\0\0\0\x09\0\0\0");
 }
 
+// The text "hello world", as a value that is no error.
+const OK_TEXT: &[u8] = b"hello world\0\0\0\0\0\x8b\0\0\0\xf0\xff\xff\xff";
+
+// A text, or an error's number.
+type Outcome = Result<String, u16>;
+
+// These bytes are the archive of a text or an error.
+fn assert_outcome_written(rt: &impl Abort, alloc: Global, value: &Outcome, archive: &[u8]) {
+    assert_written(rt, alloc, value, archive);
+}
+
 #[test]
 fn a_result_owns_what_its_value_owns(rt: HostRuntime) {
-    let archive = b"hello world\0\0\0\0\0\x8b\0\0\0\xf0\xff\xff\xff";
     let text = String::from_str(rt.alloc(), "hello world").expect(&rt, "memory");
-    let value: Result<String, u16> = Ok(text);
-    assert_written(&rt, rt.alloc(), &value, archive);
-    assert_read(&rt, rt.alloc(), archive, &value);
-    let error: Result<String, u16> = Err(513);
-    assert_written(&rt, rt.alloc(), &error, b"\x01\0\x01\x02\0\0\0\0\0\0\0\0");
+    assert_outcome_written(&rt, rt.alloc(), &Ok(text), OK_TEXT);
+    let archive = b"\x01\0\x01\x02\0\0\0\0\0\0\0\0";
+    assert_outcome_written(&rt, rt.alloc(), &Err(513), archive);
+}
+
+#[test]
+fn a_result_that_owns_a_text_is_read_back(rt: HostRuntime) {
+    let text = String::from_str(rt.alloc(), "hello world").expect(&rt, "memory");
+    let value: Outcome = Ok(text);
+    assert_read(&rt, rt.alloc(), OK_TEXT, &value);
 }
 
 #[test]
@@ -55,14 +88,31 @@ fn a_tag_above_1_names_no_variant(rt: HostRuntime) {
         unknown,
         refusal,
     );
-    type Outcome = ArchivedResult<ArchivedString, ArchivedU16>;
+}
+
+// A check by its schema refuses an archived text or error, for this reason.
+fn assert_outcome_refused(rt: &impl Abort, alloc: Global, bytes: &[u8], refusal: Error) {
+    type ArchivedOutcome = ArchivedResult<ArchivedString, ArchivedU16>;
+    assert_refused_by_schema::<ArchivedOutcome>(rt, "by the schema", alloc, bytes, refusal);
+}
+
+#[test]
+fn a_tag_above_1_is_refused_by_the_schema(rt: HostRuntime) {
+    let unknown = Error::InvalidDiscriminant {
+        name: "ArchivedResult",
+        value: 2,
+    };
     let whole = b"\x02\0\0\0\0\0\0\0\0\0\0\0";
-    assert_no_variant_by_schema::<Outcome>(&rt, "by the schema", rt.alloc(), whole, refusal);
+    assert_outcome_refused(&rt, rt.alloc(), whole, unknown);
+}
+
+#[test]
+fn too_few_bytes_are_refused_by_the_schema(rt: HostRuntime) {
     let outside = Error::InvalidSubtreePointer {
         position: 0,
         size: 12,
         start: 0,
         end: 4,
     };
-    assert_refused_by_schema::<Outcome>(&rt, "too few bytes", rt.alloc(), unknown, outside);
+    assert_outcome_refused(&rt, rt.alloc(), b"\x02\0\0\0", outside);
 }

@@ -1,16 +1,14 @@
 // Tuples: their layouts, and what a check says of their bytes.
 
 use crate::assertions::{
-    assert_holds, assert_read, assert_refused, assert_same, assert_written, value_of, viewed,
+    assert_holds, assert_refused, assert_same, assert_written, bytes_of, found, viewed,
 };
 use archive_core::api::access_mut;
 use archive_core::error::Error;
 use archive_core::primitive::{ArchivedI32, ArchivedU16, ArchivedU32};
 use archive_core::traits::{Portable, Record};
-use archive_tuple::{
-    ArchivedTuple1, ArchivedTuple3, ArchivedTuple5, ArchivedTuple7, ArchivedTuple11,
-    ArchivedTuple13,
-};
+use archive_tuple::{ArchivedTuple1, ArchivedTuple3, ArchivedTuple5, ArchivedTuple13};
+use std::alloc::Global;
 
 // The tuple (24, true, 16) of an `i32`, a `bool` and a `u32`.
 const NUMBERS: &[u8] = b"\x18\0\0\0\x01\0\0\0\x10\0\0\0";
@@ -20,32 +18,18 @@ type Numbers = ArchivedTuple3<ArchivedI32, bool, ArchivedU32>;
 // The tuple (1, 2, true, 3, 4) of a `u8`, a `u32` at 4, a `bool` at 8, a `u16` at 10 and a `u8` at 12, and zeros up to a multiple of 4.
 const FIVE: &[u8] = b"\x01\0\0\0\x02\0\0\0\x01\0\x03\0\x04\0\0\0";
 
+type NativeFive = (u8, u32, bool, u16, u8);
+
 type Five = ArchivedTuple5<u8, ArchivedU32, bool, ArchivedU16, u8>;
 
 // The tuple (1, 2, true, 3, 4, 5, 6): a `u8`, a `u32` at 4, a `bool` at 8, a `u16` at 10, a `u8` at 12, one at 13 and a `u32` at 16.
 const SEVEN: &[u8] = b"\x01\0\0\0\x02\0\0\0\x01\0\x03\0\x04\x05\0\0\x06\0\0\0";
-
-type Seven = ArchivedTuple7<u8, ArchivedU32, bool, ArchivedU16, u8, u8, ArchivedU32>;
 
 // The tuple (1, 2, 3, 4, true, 5, 6, 7, 8, 9, 10): a `u8`, a `u16` at 2, a `u8` at 4, a `u32` at 8, a `bool` at 12, a `u8` at 13, a `u16` at 14, a `u8` at
 // 16, one at 17, a `u16` at 18 and a `u8` at 20, and zeros up to a multiple of 4.
 const ELEVEN: &[u8] = b"\x01\0\x02\0\x03\0\0\0\x04\0\0\0\x01\x05\x06\0\x07\x08\x09\0\x0a\0\0\0";
 
 type NativeEleven = (u8, u16, u8, u32, bool, u8, u16, u8, u8, u16, u8);
-
-type Eleven = ArchivedTuple11<
-    u8,
-    ArchivedU16,
-    u8,
-    ArchivedU32,
-    bool,
-    u8,
-    ArchivedU16,
-    u8,
-    u8,
-    ArchivedU16,
-    u8,
->;
 
 // The tuple (1, 2, true, 3, 4, 5, 6, 7, 8, 9, 10, false, 11): a `u8`, one at 1, a `bool` at 2, a `u8` at 3, a `u32` at 4, a `u8` at 8, one at 9, a `u16` at
 // 10, a `u8` at 12, a `u16` at 14, a `u8` at 16, a `bool` at 17 and a `u32` at 20.
@@ -98,10 +82,16 @@ fn a_tuple_is_written(rt: HostRuntime) {
     assert_written(&rt, rt.alloc(), &value, NUMBERS);
 }
 
+// What is read back of an archive of three.
+fn read_three(alloc: Global) -> Option<(i32, bool, u32)> {
+    found(alloc, NUMBERS)
+}
+
 #[test]
 fn a_tuple_is_read_back(rt: HostRuntime) {
-    let value: (i32, bool, u32) = (24, true, 16);
-    assert_read(&rt, rt.alloc(), NUMBERS, &value);
+    let (number, holds, last) = read_three(rt.alloc()).expect(&rt, "a tuple");
+    assert_same(&rt, "the numbers", (number, last), (24, 16));
+    assert_holds(&rt, "the bool", holds);
 }
 
 #[test]
@@ -114,16 +104,29 @@ fn a_tuple_is_viewed(rt: HostRuntime) {
     assert_same(&rt, "the last", last, 16);
 }
 
+// The bytes of a tuple of five.
+fn written_five(alloc: Global) -> Option<Vec<u8>> {
+    let five: NativeFive = (1, 2, true, 3, 4);
+    bytes_of(alloc, &five)
+}
+
 #[test]
 fn a_tuple_of_five_is_written(rt: HostRuntime) {
-    let five: (u8, u32, bool, u16, u8) = (1, 2, true, 3, 4);
-    assert_written(&rt, rt.alloc(), &five, FIVE);
+    let bytes = written_five(rt.alloc()).expect(&rt, "an archive");
+    assert_same(&rt, "the bytes", bytes.as_slice(), FIVE);
+}
+
+// What is read back of the archive of five.
+fn read_five(alloc: Global) -> Option<NativeFive> {
+    found(alloc, FIVE)
 }
 
 #[test]
 fn a_tuple_of_five_is_read_back(rt: HostRuntime) {
-    let five: (u8, u32, bool, u16, u8) = (1, 2, true, 3, 4);
-    assert_read(&rt, rt.alloc(), FIVE, &five);
+    let (first, second, third, fourth, fifth) = read_five(rt.alloc()).expect(&rt, "a tuple");
+    let numbers = [first as u32, second, fourth as u32, fifth as u32];
+    assert_same(&rt, "the numbers", numbers, [1, 2, 3, 4]);
+    assert_holds(&rt, "the third", third);
 }
 
 #[test]
@@ -133,72 +136,104 @@ fn a_tuple_of_five_is_viewed(rt: HostRuntime) {
     assert_same(&rt, "the fourth", fourth, 3);
 }
 
-#[test]
-fn a_tuple_of_six_is_written(rt: HostRuntime) {
-    let six: (u8, u8, bool, u8, u8, u8) = (1, 2, true, 3, 4, 5);
-    assert_written(&rt, rt.alloc(), &six, b"\x01\x02\x01\x03\x04\x05");
+// What is read back of the archive of six.
+fn read_six(alloc: Global) -> Option<(u8, u8, bool, u8, u8, u8)> {
+    found(alloc, b"\x01\x02\x01\x03\x04\x05")
 }
 
 #[test]
-fn a_tuple_of_seven_is_written(rt: HostRuntime) {
-    let seven: (u8, u32, bool, u16, u8, u8, u32) = (1, 2, true, 3, 4, 5, 6);
-    assert_written(&rt, rt.alloc(), &seven, SEVEN);
+fn a_tuple_of_six_is_read_back(rt: HostRuntime) {
+    let back = read_six(rt.alloc()).expect(&rt, "a tuple");
+    let numbers = [back.0, back.1, back.2 as u8, back.3, back.4, back.5];
+    assert_same(&rt, "the numbers", numbers, [1, 2, 1, 3, 4, 5]);
+}
+
+// What is read back of the archive of seven.
+fn read_seven(alloc: Global) -> Option<(u8, u32, bool, u16, u8, u8, u32)> {
+    found(alloc, SEVEN)
 }
 
 #[test]
 fn a_tuple_of_seven_is_read_back(rt: HostRuntime) {
-    let seven: (u8, u32, bool, u16, u8, u8, u32) = (1, 2, true, 3, 4, 5, 6);
-    assert_read(&rt, rt.alloc(), SEVEN, &seven);
+    let back = read_seven(rt.alloc()).expect(&rt, "a tuple");
+    let numbers = [
+        back.0 as u32,
+        back.1,
+        back.2 as u32,
+        back.3 as u32,
+        back.4 as u32,
+        back.5 as u32,
+        back.6,
+    ];
+    assert_same(&rt, "the numbers", numbers, [1, 2, 1, 3, 4, 5, 6]);
 }
 
-#[test]
-fn a_tuple_of_seven_is_viewed(rt: HostRuntime) {
-    let view = viewed::<Seven>(&rt, rt.alloc(), SEVEN);
-    let last = view.field::<ArchivedU32>(6).get();
-    assert_same(&rt, "the last", last, 6);
-}
-
-#[test]
-fn a_tuple_of_eleven_is_written(rt: HostRuntime) {
-    let eleven: NativeEleven = (1, 2, 3, 4, true, 5, 6, 7, 8, 9, 10);
-    assert_written(&rt, rt.alloc(), &eleven, ELEVEN);
+// What is read back of the archive of eleven.
+fn read_eleven(alloc: Global) -> Option<NativeEleven> {
+    found(alloc, ELEVEN)
 }
 
 #[test]
 fn a_tuple_of_eleven_is_read_back(rt: HostRuntime) {
-    let eleven: NativeEleven = (1, 2, 3, 4, true, 5, 6, 7, 8, 9, 10);
-    assert_read(&rt, rt.alloc(), ELEVEN, &eleven);
+    let back = read_eleven(rt.alloc()).expect(&rt, "a tuple");
+    let numbers = [
+        back.0 as u32,
+        back.1 as u32,
+        back.2 as u32,
+        back.3,
+        back.4 as u32,
+        back.5 as u32,
+        back.6 as u32,
+        back.7 as u32,
+        back.8 as u32,
+        back.9 as u32,
+        back.10 as u32,
+    ];
+    assert_same(
+        &rt,
+        "the numbers",
+        numbers,
+        [1, 2, 3, 4, 1, 5, 6, 7, 8, 9, 10],
+    );
 }
 
-#[test]
-fn a_tuple_of_eleven_is_viewed(rt: HostRuntime) {
-    let view = viewed::<Eleven>(&rt, rt.alloc(), ELEVEN);
-    let tenth = view.field::<ArchivedU16>(9).get();
-    assert_same(&rt, "the tenth", tenth, 9);
+// The bytes of a tuple of thirteen.
+fn written_thirteen(alloc: Global) -> Option<Vec<u8>> {
+    let thirteen: NativeThirteen = (1, 2, true, 3, 4, 5, 6, 7, 8, 9, 10, false, 11);
+    bytes_of(alloc, &thirteen)
 }
 
 #[test]
 fn a_tuple_of_thirteen_is_written(rt: HostRuntime) {
-    let thirteen: NativeThirteen = (1, 2, true, 3, 4, 5, 6, 7, 8, 9, 10, false, 11);
-    assert_written(&rt, rt.alloc(), &thirteen, THIRTEEN);
+    let bytes = written_thirteen(rt.alloc()).expect(&rt, "an archive");
+    assert_same(&rt, "the bytes", bytes.as_slice(), THIRTEEN);
+}
+
+// What is read back of the archive of thirteen.
+fn read_thirteen(alloc: Global) -> Option<NativeThirteen> {
+    found(alloc, THIRTEEN)
 }
 
 #[test]
 fn a_tuple_of_thirteen_is_read_back(rt: HostRuntime) {
-    let back: NativeThirteen = value_of(&rt, rt.alloc(), THIRTEEN);
-    let (a, b, c, d, e, f, g, h, i, j, k, l, m) = back;
-    assert_same(
-        &rt,
-        "the first",
-        (a, b, c, d, e, f, g),
-        (1, 2, true, 3, 4, 5, 6),
-    );
-    assert_same(
-        &rt,
-        "the others",
-        (h, i, j, k, l, m),
-        (7, 8, 9, 10, false, 11),
-    );
+    let back = read_thirteen(rt.alloc()).expect(&rt, "a tuple");
+    let numbers = [
+        back.0 as u32,
+        back.1 as u32,
+        back.2 as u32,
+        back.3 as u32,
+        back.4,
+        back.5 as u32,
+        back.6 as u32,
+        back.7 as u32,
+        back.8 as u32,
+        back.9 as u32,
+        back.10 as u32,
+        back.11 as u32,
+        back.12,
+    ];
+    let right = [1, 2, 1, 3, 4, 5, 6, 7, 8, 9, 10, 0, 11];
+    assert_same(&rt, "the numbers", numbers, right);
 }
 
 #[test]
