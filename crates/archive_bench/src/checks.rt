@@ -50,6 +50,68 @@ fn accessed<T: Portable>(alloc: Global, bytes: &[u8], step: usize, count: usize)
     accepted
 }
 
+// How many of `count` checks accept, by one `Access` that is kept, or by accesses. Below it stands once for each type that is no leaf, for both its
+// exports: what the check needs of a type is made for each call.
+fn accepted<T: Portable>(
+    alloc: Global,
+    bytes: &[u8],
+    step: usize,
+    count: usize,
+    is_kept: bool,
+) -> usize
+    ensures { result ≤ count }
+{
+    if is_kept {
+        checked::<T>(alloc, bytes, step, count).unwrap_or(0)
+    } else {
+        accessed::<T>(alloc, bytes, step, count)
+    }
+}
+
+// How many of `count` small records are accepted.
+fn record_accepted(alloc: Global, bytes: &[u8], step: usize, count: usize, is_kept: bool) -> usize
+    ensures { result ≤ count }
+{
+    accepted::<ArchivedSmall>(alloc, bytes, step, count, is_kept)
+}
+
+// How many of `count` small records without their option are accepted.
+fn plain_accepted(alloc: Global, bytes: &[u8], step: usize, count: usize, is_kept: bool) -> usize
+    ensures { result ≤ count }
+{
+    accepted::<ArchivedPlain>(alloc, bytes, step, count, is_kept)
+}
+
+// How many of `count` lists of numbers are accepted.
+fn numbers_accepted(alloc: Global, bytes: &[u8], step: usize, count: usize, is_kept: bool) -> usize
+    ensures { result ≤ count }
+{
+    accepted::<ArchivedVec<ArchivedU32>>(alloc, bytes, step, count, is_kept)
+}
+
+// How many of `count` lists of rows are accepted.
+fn rows_accepted(alloc: Global, bytes: &[u8], step: usize, count: usize, is_kept: bool) -> usize
+    ensures { result ≤ count }
+{
+    accepted::<ArchivedVec<ArchivedRow>>(alloc, bytes, step, count, is_kept)
+}
+
+// How many of `count` chains of boxes are accepted.
+fn list_accepted(alloc: Global, bytes: &[u8], step: usize, count: usize, is_kept: bool) -> usize
+    ensures { result ≤ count }
+{
+    accepted::<ArchivedNode>(alloc, bytes, step, count, is_kept)
+}
+
+// How many of `count` lists of shared pointers are accepted.
+fn shared_accepted(alloc: Global, bytes: &[u8], step: usize, count: usize, is_kept: bool) -> usize
+    ensures { result ≤ count }
+{
+    accepted::<ArchivedVec<ArchivedRc<ArchivedString, RcFlavor>>>(
+        alloc, bytes, step, count, is_kept,
+    )
+}
+
 /// How many of `count` archived numbers a kept `Access` accepts. They stand one after another in `bytes`.
 #[unsafe(no_mangle)]
 pub extern "C" fn archive_bench_check_u32(
@@ -86,7 +148,7 @@ pub extern "C" fn archive_bench_check_record(
 ) -> usize
     ensures { result ≤ count }
 {
-    checked::<ArchivedSmall>(alloc, bytes, step, count).unwrap_or(0)
+    record_accepted(alloc, bytes, step, count, true)
 }
 
 /// How many of `count` archived small records without their option a kept `Access` accepts. They have `step` bytes each and stand one after another in `bytes`.
@@ -99,7 +161,7 @@ pub extern "C" fn archive_bench_check_plain(
 ) -> usize
     ensures { result ≤ count }
 {
-    checked::<ArchivedPlain>(alloc, bytes, step, count).unwrap_or(0)
+    plain_accepted(alloc, bytes, step, count, true)
 }
 
 /// How many of `count` archived lists of numbers a kept `Access` accepts. They have `step` bytes each and stand one after another in `bytes`.
@@ -112,7 +174,7 @@ pub extern "C" fn archive_bench_check_numbers(
 ) -> usize
     ensures { result ≤ count }
 {
-    checked::<ArchivedVec<ArchivedU32>>(alloc, bytes, step, count).unwrap_or(0)
+    numbers_accepted(alloc, bytes, step, count, true)
 }
 
 /// How many of `count` archived lists of rows a kept `Access` accepts. They have `step` bytes each and stand one after another in `bytes`.
@@ -125,7 +187,7 @@ pub extern "C" fn archive_bench_check_rows(
 ) -> usize
     ensures { result ≤ count }
 {
-    checked::<ArchivedVec<ArchivedRow>>(alloc, bytes, step, count).unwrap_or(0)
+    rows_accepted(alloc, bytes, step, count, true)
 }
 
 /// How many of `count` archived chains of boxes a kept `Access` accepts. They have `step` bytes each and stand one after another in `bytes`.
@@ -138,7 +200,7 @@ pub extern "C" fn archive_bench_check_list(
 ) -> usize
     ensures { result ≤ count }
 {
-    checked::<ArchivedNode>(alloc, bytes, step, count).unwrap_or(0)
+    list_accepted(alloc, bytes, step, count, true)
 }
 
 /// How many of `count` archived lists of shared pointers a kept `Access` accepts. They have `step` bytes each and stand one after another in `bytes`.
@@ -151,9 +213,7 @@ pub extern "C" fn archive_bench_check_shared(
 ) -> usize
     ensures { result ≤ count }
 {
-    checked::<ArchivedVec<ArchivedRc<ArchivedString, RcFlavor>>>(
-        alloc, bytes, step, count,
-    ).unwrap_or(0)
+    shared_accepted(alloc, bytes, step, count, true)
 }
 
 /// How many of `count` archived numbers `access` accepts. They stand one after another in `bytes`.
@@ -192,7 +252,7 @@ pub extern "C" fn archive_bench_access_record(
 ) -> usize
     ensures { result ≤ count }
 {
-    accessed::<ArchivedSmall>(alloc, bytes, step, count)
+    record_accepted(alloc, bytes, step, count, false)
 }
 
 /// How many of `count` archived small records without their option `access` accepts. They have `step` bytes each and stand one after another in `bytes`.
@@ -205,7 +265,7 @@ pub extern "C" fn archive_bench_access_plain(
 ) -> usize
     ensures { result ≤ count }
 {
-    accessed::<ArchivedPlain>(alloc, bytes, step, count)
+    plain_accepted(alloc, bytes, step, count, false)
 }
 
 /// How many of `count` archived lists of numbers `access` accepts. They have `step` bytes each and stand one after another in `bytes`.
@@ -218,7 +278,7 @@ pub extern "C" fn archive_bench_access_numbers(
 ) -> usize
     ensures { result ≤ count }
 {
-    accessed::<ArchivedVec<ArchivedU32>>(alloc, bytes, step, count)
+    numbers_accepted(alloc, bytes, step, count, false)
 }
 
 /// How many of `count` archived lists of rows `access` accepts. They have `step` bytes each and stand one after another in `bytes`.
@@ -231,7 +291,7 @@ pub extern "C" fn archive_bench_access_rows(
 ) -> usize
     ensures { result ≤ count }
 {
-    accessed::<ArchivedVec<ArchivedRow>>(alloc, bytes, step, count)
+    rows_accepted(alloc, bytes, step, count, false)
 }
 
 /// How many of `count` archived chains of boxes `access` accepts. They have `step` bytes each and stand one after another in `bytes`.
@@ -244,7 +304,7 @@ pub extern "C" fn archive_bench_access_list(
 ) -> usize
     ensures { result ≤ count }
 {
-    accessed::<ArchivedNode>(alloc, bytes, step, count)
+    list_accepted(alloc, bytes, step, count, false)
 }
 
 /// How many of `count` archived lists of shared pointers `access` accepts. They have `step` bytes each and stand one after another in `bytes`.
@@ -257,5 +317,5 @@ pub extern "C" fn archive_bench_access_shared(
 ) -> usize
     ensures { result ≤ count }
 {
-    accessed::<ArchivedVec<ArchivedRc<ArchivedString, RcFlavor>>>(alloc, bytes, step, count)
+    shared_accepted(alloc, bytes, step, count, false)
 }

@@ -4,7 +4,6 @@ ghost use Rattle.std.specs.Prelude.{◌≡◌, codes, refl};
 ghost use Rattle.archive_own.specs.OwnRecords.{named_check};
 
 use crate::records::RecordOf;
-use archive_core::error::Error;
 use archive_core::option::ArchivedOption;
 use archive_core::own::{ArchivedRecord, NamedRecord};
 use archive_core::primitive::{ArchivedI32, ArchivedU32, ArchivedU64};
@@ -12,7 +11,7 @@ use archive_core::rc::Shared;
 use archive_core::self_check::RecordCheck;
 use archive_core::string::ArchivedString;
 use archive_core::vec::ArchivedVec;
-use std::alloc::Global;
+use std::alloc::{AllocError, Global};
 use std::rc::Rc;
 
 /// The numbers of the small record, archived.
@@ -91,32 +90,32 @@ pub type Row = RecordOf<RowFormat, u64, String, Vec<u32>>;
 pub type ArchivedRow = ArchivedRecord<RowFormat>;
 
 /// The four numbers of the small records.
-pub fn integers(alloc: Global) -> Result<Vec<i32>, Error> {
+pub fn integers(alloc: Global) -> Result<Vec<i32>, AllocError> {
     Ok(vec![in alloc; 1, 2, 3, 4]?)
 }
 
 /// The text of the small records.
-pub fn hello(alloc: Global) -> Result<String, Error> {
-    Ok(String::from_str(alloc, "hello world")?)
+pub fn hello(alloc: Global) -> Result<String, AllocError> {
+    String::from_str(alloc, "hello world")
 }
 
 /// A name of 20 bytes, where the number has at most eight digits.
-pub fn name(alloc: Global, number: usize) -> Result<String, Error> {
-    Ok(format!(in alloc; "record-name-{number:08}")?)
+pub fn name(alloc: Global, number: usize) -> Result<String, AllocError> {
+    format!(in alloc; "record-name-{number:08}")
 }
 
 /// The small record.
-pub fn small(alloc: Global) -> Result<Small, Error> {
+pub fn small(alloc: Global) -> Result<Small, AllocError> {
     Ok(RecordOf::new(42, hello(alloc)?, Some(integers(alloc)?)))
 }
 
 /// The small record without its option.
-pub fn plain(alloc: Global) -> Result<Plain, Error> {
+pub fn plain(alloc: Global) -> Result<Plain, AllocError> {
     Ok(RecordOf::new(42, hello(alloc)?, integers(alloc)?))
 }
 
 // The eight numbers of a row.
-fn row_numbers(alloc: Global, index: usize) -> Result<Vec<u32>, Error> {
+fn row_numbers(alloc: Global, index: usize) -> Result<Vec<u32>, AllocError> {
     let index = (index & 0xffff_ffff) as u32;
     let mut numbers = Vec::new(alloc);
     for k in 0..8u32 {
@@ -126,13 +125,13 @@ fn row_numbers(alloc: Global, index: usize) -> Result<Vec<u32>, Error> {
 }
 
 // The row with this index.
-fn row(alloc: Global, index: usize) -> Result<Row, Error> {
+fn row(alloc: Global, index: usize) -> Result<Row, AllocError> {
     let id = (index as u64).wrapping_mul(7919);
     Ok(RecordOf::new(id, name(alloc, index)?, row_numbers(alloc, index)?))
 }
 
 /// So many rows.
-pub fn rows(alloc: Global, count: usize) -> Result<Vec<Row>, Error> {
+pub fn rows(alloc: Global, count: usize) -> Result<Vec<Row>, AllocError> {
     let mut rows = Vec::new(alloc);
     for index in 0..count {
         rows.push(row(alloc, index)?)?;
@@ -141,7 +140,7 @@ pub fn rows(alloc: Global, count: usize) -> Result<Vec<Row>, Error> {
 }
 
 /// So many pointers, in turns, to a hundredth as many strings, at least one.
-pub fn pointers(alloc: Global, count: usize) -> Result<Vec<Shared<String>>, Error> {
+pub fn pointers(alloc: Global, count: usize) -> Result<Vec<Shared<String>>, AllocError> {
     let strings = (count / 100).max(1);
     let mut pointers: Vec<Shared<String>> = Vec::new(alloc);
     for _ in 0..count {
@@ -156,11 +155,11 @@ fn next_pointer(
     alloc: Global,
     pointers: &[Shared<String>],
     strings: usize,
-) -> Result<Shared<String>, Error> {
+) -> Result<Shared<String>, AllocError> {
     let index = pointers.len();
     if let Some(earlier) = index.checked_sub(strings) {
         if let Some(pointer) = pointers.get(earlier) {
-            return Ok(pointer.clone()?);
+            return pointer.clone();
         }
     }
     let value = Rc::new(alloc, name(alloc, index)?)?;

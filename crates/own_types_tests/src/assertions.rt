@@ -22,6 +22,21 @@ pub(crate) fn assert_same<T: PartialEq + Debug + Drop>(
     assert_eq!(rt; found, wanted, "{what}");
 }
 
+// What `what` names holds.
+pub(crate) fn assert_holds(rt: &impl Abort, what: &str, holds: bool) {
+    assert!(rt; holds, "{what}");
+}
+
+// What a call answered that wasn't refused.
+pub(crate) fn made<T>(rt: &impl Abort, what: &str, found: Result<T, Error>) -> T {
+    found.expect(rt, what)
+}
+
+// Two buffers have the same bytes; `what` names them where they haven't.
+pub(crate) fn assert_bytes(rt: &impl Abort, what: &str, found: &[u8], wanted: &[u8]) {
+    assert_eq!(rt; found, wanted, "{what}");
+}
+
 // These bytes are the archive of a value.
 pub(crate) fn assert_written<T: Serialize<HighSerializer<Vec<u8>, Global>>>(
     rt: &impl Abort,

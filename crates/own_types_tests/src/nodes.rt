@@ -1,29 +1,17 @@
-// Lists of boxes in boxes: checked, viewed and read back.
+// Lists of boxes in boxes: checked, viewed and read back. What is checked is generic in the node, so that a call at the type is made once.
 
 ghost use Rattle.std.specs.Prelude.{◌≢◌, Some};
 
 use crate::assertions::{assert_refused, assert_same, value_of, viewed};
 use archive_core::api::{HighValidator, access_with_context};
 use archive_core::error::Error;
-use archive_core::traits::Portable;
+use archive_core::traits::{Choice, Portable};
 use own_types::node::{ArchivedNode, Node, boxes};
 use std::alloc::Global;
 use std::process::Abort;
 
 // One box: nothing at 0, and at 8 the box that points back at it.
 const ONE: &[u8] = b"\0\0\0\0\0\0\0\0\x01\0\0\0\xf4\xff\xff\xff";
-
-#[test]
-fn a_box_behind_its_own_node_is_refused(rt: HostRuntime) {
-    let refusal = Error::InvalidSubtreePointer {
-        position: 8,
-        size: 8,
-        start: 0,
-        end: 0,
-    };
-    let bytes = b"\x01\0\0\0\x04\0\0\0\x01\0\0\0\xf4\xff\xff\xff";
-    assert_refused::<ArchivedNode>(&rt, rt.alloc(), bytes, refusal);
-}
 
 // How many boxes a node has that is read back, counted up to two.
 fn boxes_of(rt: &impl Abort, alloc: Global, bytes: &[u8]) -> usize {
@@ -32,13 +20,29 @@ fn boxes_of(rt: &impl Abort, alloc: Global, bytes: &[u8]) -> usize {
 }
 
 #[test]
-fn nodes_are_viewed_and_come_back(rt: HostRuntime) {
-    let view = viewed::<ArchivedNode>(&rt, rt.alloc(), ONE);
-    assert_same(&rt, "the tag", view.tag(), 1);
+fn nodes_come_back(rt: HostRuntime) {
     let one = boxes_of(&rt, rt.alloc(), ONE);
     assert_same(&rt, "one", one, 1);
     let none = boxes_of(&rt, rt.alloc(), b"\0\0\0\0\0\0\0\0");
     assert_same(&rt, "none", none, 0);
+}
+
+// A box behind its own node is refused.
+fn assert_behind_refused<T: Portable>(rt: &impl Abort, alloc: Global) {
+    let refusal = Error::InvalidSubtreePointer {
+        position: 8,
+        size: 8,
+        start: 0,
+        end: 0,
+    };
+    let bytes = b"\x01\0\0\0\x04\0\0\0\x01\0\0\0\xf4\xff\xff\xff";
+    assert_refused::<T>(rt, alloc, bytes, refusal);
+}
+
+// A node that is viewed holds a box.
+fn assert_box<X: Choice>(rt: &impl Abort, alloc: Global, bytes: &[u8]) {
+    let tag = viewed::<X>(rt, alloc, bytes).tag();
+    assert_same(rt, "the tag", tag, 1);
 }
 
 // The archive of so many boxes, one in another, with its root at the end.
@@ -72,32 +76,47 @@ fn assert_entered<T: Portable>(
 )
     requires { levels ≢ Some 0 }
 {
-    let found = entered::<T>(alloc, bytes, levels);
-    assert_same(rt, "regions", found, Ok(regions));
+    let found = entered::<T>(alloc, bytes, levels).expect(rt, "an archive");
+    assert_same(rt, "regions", found, regions);
 }
 
 // A check with a limit of depth is refused for it.
 fn assert_too_deep<T: Portable>(rt: &impl Abort, alloc: Global, bytes: &[u8], levels: Option<usize>)
     requires { levels ≢ Some 0 }
 {
-    let found = entered::<T>(alloc, bytes, levels);
-    let too_deep = Error::ExceededMaximumSubtreeDepth;
-    assert_same(rt, "with few levels", found, Err(too_deep));
+    let refused = entered::<T>(alloc, bytes, levels).err();
+    assert_eq!(rt;
+        refused,
+        Some(Error::ExceededMaximumSubtreeDepth),
+        "with few levels"
+    );
 }
 
-#[test]
-fn a_node_is_as_deep_as_its_boxes(rt: HostRuntime) {
-    let bytes = chain(&rt, rt.alloc(), 3);
+// A node is as deep as its boxes.
+fn assert_depth<T: Portable>(rt: &impl Abort, alloc: Global) {
+    let bytes = chain(rt, alloc, 3);
     for levels in [1, 2, 3, 4] {
-        assert_too_deep::<ArchivedNode>(&rt, rt.alloc(), &bytes, Some(levels));
+        assert_too_deep::<T>(rt, alloc, &bytes, Some(levels));
     }
-    assert_entered::<ArchivedNode>(&rt, rt.alloc(), &bytes, Some(5), 4);
+    assert_entered::<T>(rt, alloc, &bytes, Some(5), 4);
+}
+
+// A long chain is checked.
+fn assert_long_chain<X: Choice>(rt: &impl Abort, alloc: Global) {
+    let bytes = chain(rt, alloc, 200_000);
+    assert_box::<X>(rt, alloc, &bytes);
+    assert_entered::<X>(rt, alloc, &bytes, None, 200_001);
+}
+
+// Archives of nodes are viewed, refused, and checked to any depth.
+fn assert_nodes<X: Choice>(rt: &impl Abort, alloc: Global) {
+    assert_behind_refused::<X>(rt, alloc);
+    assert_box::<X>(rt, alloc, ONE);
+    assert_depth::<X>(rt, alloc);
+    assert_long_chain::<X>(rt, alloc);
 }
 
 #[test]
-fn a_long_chain_is_checked(rt: HostRuntime) {
-    let bytes = chain(&rt, rt.alloc(), 200_000);
-    let view = viewed::<ArchivedNode>(&rt, rt.alloc(), &bytes);
-    assert_same(&rt, "the tag", view.tag(), 1);
-    assert_entered::<ArchivedNode>(&rt, rt.alloc(), &bytes, None, 200_001);
+fn archived_nodes_are_checked_and_viewed(rt: HostRuntime) {
+    assert_nodes::<ArchivedNode>(&rt, rt.alloc());
 }

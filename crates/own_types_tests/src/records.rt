@@ -1,9 +1,23 @@
-// A record of an own type: written, viewed, read back, and edited in place.
+// A record of an own type: written and read back by the calls of the program in readme.rt, and viewed and edited in place. What is shown of its archives is
+// generic in the record, so that a call at the type is made once.
 
-use crate::assertions::{assert_read, assert_refused, assert_same, assert_written, sealed, viewed};
+ghost use Rattle.std.specs.Prelude.{◌≡◌, Some};
+ghost use Rattle.archive_check.specs.PartsLayout.{part_at, definitions_at};
+ghost use Rattle.archive_check.specs.Shape.{one, vec as vec_shape};
+ghost use Rattle.archive_check.specs.Viewed.{Viewed};
+
+use crate::assertions::{
+    assert_bytes, assert_holds, assert_refused, assert_same, made, sealed, viewed,
+};
+use crate::readme::{archived, record, value_of};
 use archive_core::error::Error;
+use archive_core::primitive::ArchivedI32;
+use archive_core::seal::Seal;
 use archive_core::string::ArchivedString;
-use own_types::test_record::{ArchivedTest, Numbers, Test, TestOf};
+use archive_core::traits::{ArchivePointee, Portable, Record};
+use archive_core::vec::ArchivedVec;
+use archive_core::view::Ref;
+use own_types::test_record::{ArchivedTest, Numbers};
 use std::alloc::Global;
 use std::process::Abort;
 
@@ -11,75 +25,111 @@ use std::process::Abort;
 const RECORD: &[u8; 52] =
     b"hello world\0\x01\0\0\0\x02\0\0\0\x03\0\0\0\x04\0\0\0*\0\0\0\x8b\0\0\0\xe0\xff\xff\xff\x01\0\0\0\xe0\xff\xff\xff\x04\0\0\0";
 
-// The record.
-fn record(rt: &impl Abort, alloc: Global) -> Test {
-    let list = vec![in alloc; 1, 2, 3, 4];
-    TestOf {
-        number: 42,
-        text: String::from_str(alloc, "hello world").expect(rt, "memory for a text"),
-        list: Some(list.expect(rt, "memory for a list")),
-    }
-}
-
 #[test]
 fn a_record_is_written(rt: HostRuntime) {
-    let value = record(&rt, rt.alloc());
-    assert_written(&rt, rt.alloc(), &value, RECORD);
+    let bytes = made(&rt, "an archive", archived(rt.alloc()));
+    assert_bytes(&rt, "the archive", &bytes, RECORD);
 }
 
 #[test]
 fn a_record_comes_back(rt: HostRuntime) {
-    let value = record(&rt, rt.alloc());
-    assert_read(&rt, rt.alloc(), RECORD, &value);
+    let back = made(&rt, "a record", value_of(rt.alloc(), RECORD));
+    let value = record(rt.alloc()).expect(&rt, "memory for a record");
+    assert_holds(&rt, "the record comes back", back == value);
 }
 
-#[test]
-fn a_records_fields_are_viewed(rt: HostRuntime) {
-    let view = viewed::<ArchivedTest>(&rt, rt.alloc(), RECORD);
-    assert_same(&rt, "the position", view.pos(), 28);
-    assert_same(&rt, "the number", view.field::<u8>(0).get(), 42);
+// How many numbers a list has; 0 where there is none.
+fn count(list: Ref<'_, Numbers>) -> usize {
+    match list.as_ref() {
+        None => 0,
+        Some(list) => list.len(),
+    }
+}
+
+// A number, a text and a list are viewed.
+fn assert_fields<R: Record>(rt: &impl Abort, alloc: Global)
+    requires number { part_at R.Parts.parts 0 ≡ Some ⟦<u8 as Portable>⟧.shape }
+    requires number_names { definitions_at R.Parts.definitions 0 ≡ ⟦<u8 as ArchivePointee>⟧.definitions }
+    requires text { part_at R.Parts.parts 1 ≡ Some ⟦<ArchivedString as Portable>⟧.shape }
+    requires text_names { definitions_at R.Parts.definitions 1 ≡ ⟦<ArchivedString as ArchivePointee>⟧.definitions }
+    requires list { part_at R.Parts.parts 2 ≡ Some ⟦<Numbers as Portable>⟧.shape }
+    requires list_names { definitions_at R.Parts.definitions 2 ≡ ⟦<Numbers as ArchivePointee>⟧.definitions }
+{
+    let view = viewed::<R>(rt, alloc, RECORD);
+    assert_same(rt, "the position", view.pos(), 28);
+    assert_same(rt, "the number", view.field::<u8>(0).get(), 42);
     let text = view.field::<ArchivedString>(1).as_str();
-    assert_same(&rt, "the text", text, "hello world");
-    let numbers = view.field::<Numbers>(2).as_ref().map(|list| list.len());
-    assert_same(&rt, "the list", numbers, Some(4));
+    assert_same(rt, "the text", text, "hello world");
+    assert_same(rt, "the list", count(view.field::<Numbers>(2)), 4);
 }
 
-#[test]
-fn a_list_with_another_tag_is_refused(rt: HostRuntime) {
+// A list with another tag is refused.
+fn assert_tag_refused<T: Portable>(rt: &impl Abort, alloc: Global) {
     let refusal = Error::InvalidDiscriminant {
         name: "ArchivedOption",
         value: 2,
     };
     let mut bytes = *RECORD;
     bytes[40] = 2;
-    assert_refused::<ArchivedTest>(&rt, rt.alloc(), &bytes, refusal);
+    assert_refused::<T>(rt, alloc, &bytes, refusal);
 }
 
-#[test]
-fn a_records_number_is_written_over(rt: HostRuntime) {
+// The number is written over, and no other byte.
+fn assert_number_written_over<R: Record>(rt: &impl Abort, alloc: Global)
+    requires number { part_at R.Parts.parts 0 ≡ Some ⟦<u8 as Portable>⟧.shape }
+    requires number_names { definitions_at R.Parts.definitions 0 ≡ ⟦<u8 as ArchivePointee>⟧.definitions }
+{
     let mut bytes = *RECORD;
-    sealed::<ArchivedTest>(&rt, rt.alloc(), &mut bytes)
-        .field::<u8>(0)
-        .write(7);
+    sealed::<R>(rt, alloc, &mut bytes).field::<u8>(0).write(7);
     let mut wanted = *RECORD;
     wanted[28] = 7;
-    assert_same(&rt, "the bytes", bytes, wanted);
+    assert_bytes(rt, "with another number", &bytes, &wanted);
 }
 
-#[test]
-fn an_element_of_a_records_list_is_written_over(rt: HostRuntime) {
+// Writes over the third of some numbers, if there is one.
+fn write_third(list: Seal<'_, ArchivedVec<ArchivedI32>>)
+    requires viewed { Viewed ⟦<ArchivedI32 as ArchivePointee>⟧.definitions list.bytes.now list.pos (one (vec_shape ⟦<ArchivedI32 as Portable>⟧.shape)) list.len }
+{
+    if list.as_ref().len() > 2 {
+        list.index(2).write(-1);
+    }
+}
+
+// An element of the list is written over, and no other byte.
+fn assert_element_written_over<R: Record>(rt: &impl Abort, alloc: Global)
+    requires list { part_at R.Parts.parts 2 ≡ Some ⟦<Numbers as Portable>⟧.shape }
+    requires list_names { definitions_at R.Parts.definitions 2 ≡ ⟦<Numbers as ArchivePointee>⟧.definitions }
+{
     let mut bytes = *RECORD;
-    let list = sealed::<ArchivedTest>(&rt, rt.alloc(), &mut bytes)
+    let list = sealed::<R>(rt, alloc, &mut bytes)
         .field::<Numbers>(2)
         .as_seal();
     if let Some(list) = list {
-        if list.as_ref().len() > 2 {
-            list.index(2).write(-1);
-        }
+        write_third(list);
     }
     let mut wanted = *RECORD;
     for at in 20..24 {
         wanted[at] = 0xff;
     }
-    assert_same(&rt, "the bytes", bytes, wanted);
+    assert_bytes(rt, "with another element", &bytes, &wanted);
+}
+
+// Archives of a record of a number, a text and a list are viewed, refused, and edited in place.
+fn assert_archives<R: Record>(rt: &impl Abort, alloc: Global)
+    requires number { part_at R.Parts.parts 0 ≡ Some ⟦<u8 as Portable>⟧.shape }
+    requires number_names { definitions_at R.Parts.definitions 0 ≡ ⟦<u8 as ArchivePointee>⟧.definitions }
+    requires text { part_at R.Parts.parts 1 ≡ Some ⟦<ArchivedString as Portable>⟧.shape }
+    requires text_names { definitions_at R.Parts.definitions 1 ≡ ⟦<ArchivedString as ArchivePointee>⟧.definitions }
+    requires list { part_at R.Parts.parts 2 ≡ Some ⟦<Numbers as Portable>⟧.shape }
+    requires list_names { definitions_at R.Parts.definitions 2 ≡ ⟦<Numbers as ArchivePointee>⟧.definitions }
+{
+    assert_fields::<R>(rt, alloc);
+    assert_tag_refused::<R>(rt, alloc);
+    assert_number_written_over::<R>(rt, alloc);
+    assert_element_written_over::<R>(rt, alloc);
+}
+
+#[test]
+fn an_archived_record_is_viewed_and_edited(rt: HostRuntime) {
+    assert_archives::<ArchivedTest>(&rt, rt.alloc());
 }
