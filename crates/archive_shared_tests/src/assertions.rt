@@ -24,6 +24,11 @@ pub(crate) fn assert_same<T: PartialEq + Debug + Drop>(
     assert_eq!(rt; found, wanted, "{what}");
 }
 
+// These bytes are the same.
+pub(crate) fn assert_bytes(rt: &impl Abort, what: &str, found: &[u8], wanted: &[u8]) {
+    assert_eq!(rt; found, wanted, "{what}");
+}
+
 // What `what` names holds.
 pub(crate) fn assert_holds(rt: &impl Abort, what: &str, holds: bool) {
     assert!(rt; holds, "{what}");
@@ -90,6 +95,26 @@ where
     T::Archived: Deserialize<T, D>,
 {
     from_bytes(alloc, archive, deserializer).expect(rt, "a value")
+}
+
+// What is read back of an archive, or nothing where that is refused with this error.
+pub(crate) fn read_unless<T: Archive, D: Entries>(
+    rt: &impl Abort,
+    alloc: Global,
+    archive: &[u8],
+    deserializer: &mut D,
+    refusal: Error,
+) -> Option<T>
+where
+    T::Archived: Deserialize<T, D>,
+{
+    match from_bytes(alloc, archive, deserializer) {
+        Ok(value) => Some(value),
+        Err(error) => {
+            assert_same(rt, "the refusal", error, refusal);
+            None
+        }
+    }
 }
 
 // A `T` lies at the end of the bytes.
