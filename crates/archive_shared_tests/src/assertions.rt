@@ -26,7 +26,7 @@ pub(crate) fn assert_same<T: PartialEq + Debug + Drop>(
 
 // These bytes are the same.
 pub(crate) fn assert_bytes(rt: &impl Abort, what: &str, found: &[u8], wanted: &[u8]) {
-    assert_eq!(rt; found, wanted, "{what}");
+    assert_same(rt, what, found, wanted);
 }
 
 // What `what` names holds.
@@ -41,7 +41,8 @@ pub(crate) fn assert_served<T: PartialEq + Debug + Drop>(
     found: Result<T, Error>,
     wanted: T,
 ) {
-    assert_eq!(rt; found, Ok(wanted), "{what}");
+    let value = found.expect(rt, what);
+    assert_same(rt, what, value, wanted);
 }
 
 // What `what` names is refused, with this error.
@@ -51,7 +52,7 @@ pub(crate) fn assert_refusal<T: Drop>(
     found: Result<T, Error>,
     refusal: Error,
 ) {
-    assert_eq!(rt; found.err(), Some(refusal), "{what}");
+    assert_same(rt, what, found.err(), Some(refusal));
 }
 
 // These bytes are the archive of a value.
@@ -61,8 +62,8 @@ pub(crate) fn assert_written<T: Serialize<HighSerializer<Vec<u8>, Global>>>(
     value: &T,
     archive: &[u8],
 ) {
-    let bytes = to_bytes(alloc, value).expect(rt, "an archive");
-    assert_eq!(rt; bytes.as_slice(), archive);
+    let bytes = archived(rt, alloc, value);
+    assert_bytes(rt, "the archive", bytes.as_slice(), archive);
 }
 
 // No archive of a value is made.
@@ -72,7 +73,7 @@ pub(crate) fn assert_unwritten<T: Serialize<HighSerializer<Vec<u8>, Global>>>(
     value: &T,
     refusal: Error,
 ) {
-    assert_eq!(rt; to_bytes(alloc, value).err(), Some(refusal));
+    assert_refusal(rt, "an archive", to_bytes(alloc, value), refusal);
 }
 
 // The archive of a value.
@@ -130,10 +131,8 @@ pub(crate) fn assert_refused<T: Portable>(
     bytes: &[u8],
     refusal: Error,
 ) {
-    let Err(error) = access::<T>(alloc, bytes) else {
-        panic!(rt; "{what} is accepted")
-    };
-    assert_eq!(rt; error, refusal, "{what}");
+    let error = access::<T>(alloc, bytes).err();
+    assert_same(rt, what, error, Some(refusal));
 }
 
 // The view of a `T` at the end of the bytes.

@@ -11,6 +11,7 @@ use archive_core::result::ArchivedResult;
 use archive_core::string::{ArchivedStr, ArchivedString};
 use archive_core::traits::{Archive, Portable};
 use archive_core::vec::ArchivedVec;
+use archive_core::view::Ref;
 use std::alloc::Global;
 use std::cmp::Ordering;
 use std::hash::{DefaultHasher, Hash, Hasher};
@@ -23,6 +24,56 @@ fn hash_of<T: Hash>(value: &T) -> u64 {
     state.finish()
 }
 
+// The order of two views, as it is and as it is said.
+fn assert_ordered<T: Ordered>(
+    rt: &impl Abort,
+    what: &str,
+    one: Ref<'_, T>,
+    other: Ref<'_, T>,
+    order: Ordering,
+) {
+    let found = (one.cmp(&other), one.compare_said(other));
+    assert_same(rt, what, found, (order, order));
+}
+
+// Whether one is less than the other.
+fn assert_less<T: Ordered>(
+    rt: &impl Abort,
+    what: &str,
+    one: Ref<'_, T>,
+    other: Ref<'_, T>,
+    is_less: bool,
+) {
+    assert_same(rt, what, one < other, is_less);
+}
+
+// Whether they are equal.
+fn assert_equal<T: Ordered>(
+    rt: &impl Abort,
+    what: &str,
+    one: Ref<'_, T>,
+    other: Ref<'_, T>,
+    is_equal: bool,
+) {
+    assert_same(
+        rt,
+        what,
+        (one == other, one != other),
+        (is_equal, !is_equal),
+    );
+}
+
+// Whether they feed a hasher alike.
+fn assert_hashes<T: Ordered>(
+    rt: &impl Abort,
+    what: &str,
+    one: Ref<'_, T>,
+    other: Ref<'_, T>,
+    are_same: bool,
+) {
+    assert_same(rt, what, hash_of(&one) == hash_of(&other), are_same);
+}
+
 // Two views of any type are compared in each way that there is, and so are the hashes of both. What is written out for the type is so in one place.
 fn assert_order<T: Portable + Ordered>(
     rt: &impl Abort,
@@ -33,17 +84,11 @@ fn assert_order<T: Portable + Ordered>(
 ) {
     let one = viewed::<T>(rt, alloc, one);
     let other = viewed::<T>(rt, alloc, other);
-    let orders = (one.cmp(&other), one.compare_said(other), other.cmp(&one));
-    assert_same(rt, what, orders, (order, order, order.reverse()));
-    let same_hash = hash_of(&one) == hash_of(&other);
-    let found = (one == other, one != other, one < other, same_hash);
-    let is_equal = order.is_eq();
-    assert_same(
-        rt,
-        what,
-        found,
-        (is_equal, !is_equal, order.is_lt(), is_equal),
-    );
+    assert_ordered(rt, what, one, other, order);
+    assert_ordered(rt, what, other, one, order.reverse());
+    assert_less(rt, what, one, other, order.is_lt());
+    assert_equal(rt, what, one, other, order.is_eq());
+    assert_hashes(rt, what, one, other, order.is_eq());
 }
 
 // A view feeds a hasher as a value of the machine does.
