@@ -372,10 +372,9 @@ fn results_are_compared_with_those_of_the_machine(rt: HostRuntime) {
 
 // The archive of a list of ones but for the number at `at`.
 fn archived_ones(rt: &impl Abort, alloc: Global, count: usize, at: usize, value: i16) -> Vec<u8> {
-    let mut numbers: Vec<i16> = Vec::new(alloc);
-    for index in 0..count {
-        let number = if index == at { value } else { 1 };
-        numbers.push(number).expect(rt, "memory");
+    let mut numbers = vec![in alloc; 1i16; count].expect(rt, "memory");
+    if let Some(number) = numbers.get_mut(at) {
+        *number = value;
     }
     archived(rt, alloc, &numbers)
 }

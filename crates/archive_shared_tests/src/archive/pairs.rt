@@ -1,8 +1,6 @@
 // Pairs of any two types. What a call at a pair takes is written out here once, and who calls with certain types hands over what these do alone.
 
-use crate::assertions::{
-    assert_accepted, assert_refused, assert_written, read, read_unless, viewed,
-};
+use crate::assertions::{assert_accepted, assert_refused, assert_written, read_unless, viewed};
 use archive_core::api::HighSerializer;
 use archive_core::error::Error;
 use archive_core::traits::{Archive, Deserialize, Entries, Portable, Serialize};
@@ -19,43 +17,28 @@ pub(super) fn assert_pair_written<
     assert_written(rt, alloc, pair, archive);
 }
 
-// What is read back of a pair.
+// What is read back of a pair, or nothing where that is refused for want of memory.
 pub(super) fn read_pair<A: Archive + Drop, B: Archive + Drop, D: Entries>(
     rt: &impl Abort,
     alloc: Global,
     archive: &[u8],
     deserializer: &mut D,
-) -> (A, B)
+) -> Option<(A, B)>
 where
     A::Archived: Deserialize<A, D>,
     B::Archived: Deserialize<B, D>,
 {
-    read(rt, alloc, archive, deserializer)
+    read_unless(rt, alloc, archive, deserializer, Error::OutOfMemory)
 }
 
-// Whether a pair is read back, and not refused with this error.
-pub(super) fn is_pair_read<A: Archive + Drop, B: Archive + Drop, D: Entries>(
-    rt: &impl Abort,
-    alloc: Global,
-    archive: &[u8],
-    deserializer: &mut D,
-    refusal: Error,
-) -> bool
-where
-    A::Archived: Deserialize<A, D>,
-    B::Archived: Deserialize<B, D>,
-{
-    let pair: Option<(A, B)> = read_unless(rt, alloc, archive, deserializer, refusal);
-    pair.is_some()
-}
-
-// The view of a pair of these at the end of the bytes.
-pub(super) fn viewed_pair<'a, A: Portable, B: Portable>(
+// The views of the parts of a pair of these at the end of the bytes.
+pub(super) fn parts_of_pair<'a, A: Portable, B: Portable>(
     rt: &impl Abort,
     alloc: Global,
     bytes: &'a [u8],
-) -> Ref<'a, ArchivedTuple2<A, B>> {
-    viewed(rt, alloc, bytes)
+) -> (Ref<'a, A>, Ref<'a, B>) {
+    let pair = viewed::<ArchivedTuple2<A, B>>(rt, alloc, bytes);
+    (pair.field::<A>(0), pair.field::<B>(1))
 }
 
 // A pair of these is accepted.

@@ -40,15 +40,18 @@ fn read_numbers<D: Pooling<Shared<u32>>>(
     read_list(rt, alloc, TWO_NUMBERS, deserializer)
 }
 
-// There are two numbers, each a 10 with the key 0, in one place or in two.
-fn assert_two<D: Pooling<Shared<u32>>>(
+// And by a pool.
+fn read_pooled(
     rt: &impl Abort,
     alloc: Global,
-    deserializer: &mut D,
-    in_one_place: bool,
-) {
-    let numbers = read_numbers(rt, alloc, deserializer).expect(rt, "a list");
-    let [first, second] = numbers.as_slice() else {
+    pool: &mut HighDeserializer<Shared<u32>>,
+) -> Option<Vec<Shared<u32>>> {
+    read_numbers(rt, alloc, pool)
+}
+
+// There are two numbers, each a 10 with the key 0, in one place or in two.
+fn assert_two(rt: &impl Abort, numbers: &[Shared<u32>], in_one_place: bool) {
+    let [first, second] = numbers else {
         panic!(rt; "not two")
     };
     let one = Rc::ptr_eq(&first.value, &second.value);
@@ -74,53 +77,85 @@ where
     deserialize_using(alloc, view, deserializer).expect(rt, "a value")
 }
 
-// A position is started: it was unknown.
-fn assert_started<T: Pooled>(rt: &impl Abort, pool: &mut Pool<T>, pos: usize) {
-    let state = pool.start_pooling(pos).expect(rt, "memory");
-    assert!(rt; matches!(state, PoolingState::Started), "started");
+// A position is started, where it was unknown, or else is pending.
+fn assert_open<T: Pooled>(rt: &impl Abort, pool: &mut Pool<T>, pos: usize, was_known: bool) {
+    let is_pending = match pool.start_pooling(pos).expect(rt, "memory") {
+        PoolingState::Started => false,
+        PoolingState::Pending => true,
+        PoolingState::Finished(_) => panic!(rt; "finished"),
+    };
+    assert_same(rt, "pending", is_pending, was_known);
 }
 
-// It is pending.
+// A position is started, and pending then.
 fn assert_pending<T: Pooled>(rt: &impl Abort, pool: &mut Pool<T>, pos: usize) {
-    let state = pool.start_pooling(pos).expect(rt, "memory");
-    assert!(rt; matches!(state, PoolingState::Pending), "pending");
+    assert_open(rt, pool, pos, false);
+    assert_open(rt, pool, pos, true);
 }
 
 #[test]
 fn a_pool_gives_one_value_for_a_position(rt: HostRuntime) {
     let mut pool: HighDeserializer<Shared<u32>> = Pool::new(rt.alloc());
-    assert_two(&rt, rt.alloc(), &mut pool, true);
+    let numbers = read_pooled(&rt, rt.alloc(), &mut pool).expect(&rt, "a list");
+    assert_two(&rt, &numbers, true);
+}
+
+// The first number of the list is read back once more, with the key 0, and is the very number of both pointers.
+fn assert_again(
+    rt: &impl Abort,
+    alloc: Global,
+    pool: &mut HighDeserializer<Shared<u32>>,
+    numbers: &[Shared<u32>],
+) {
+    let again: Shared<u32> = read_first(rt, alloc, TWO_NUMBERS, pool);
+    assert_same(rt, "the number", (again.key, *again.value), (0, 10));
+    let [first, second] = numbers else {
+        panic!(rt; "not two")
+    };
+    let found = (
+        Rc::ptr_eq(&first.value, &again.value),
+        Rc::ptr_eq(&second.value, &again.value),
+    );
+    assert_same(rt, "one number", found, (true, true));
 }
 
 #[test]
 fn a_pool_is_used_twice_for_one_buffer(rt: HostRuntime) {
-    let mut pool: Pool<Shared<u32>> = Pool::new(rt.alloc());
-    let numbers = read_numbers(&rt, rt.alloc(), &mut pool).expect(&rt, "a list");
+    let mut pool: HighDeserializer<Shared<u32>> = Pool::new(rt.alloc());
+    let numbers = read_pooled(&rt, rt.alloc(), &mut pool).expect(&rt, "a list");
     let known = (pool.is_known(0), pool.is_known(4));
     assert_same(&rt, "the number's position", known, (true, false));
-    let again: Shared<u32> = read_first(&rt, rt.alloc(), TWO_NUMBERS, &mut pool);
-    assert_same(&rt, "the number", (again.key, *again.value), (0, 10));
-    for number in numbers {
-        let one = Rc::ptr_eq(&number.value, &again.value);
-        assert_holds(&rt, "one number", one);
-    }
+    assert_again(&rt, rt.alloc(), &mut pool, &numbers);
 }
 
 #[test]
 fn without_a_pool_each_pointer_has_a_value(rt: HostRuntime) {
-    assert_two(&rt, rt.alloc(), &mut Unpool, false);
+    let numbers = read_numbers(&rt, rt.alloc(), &mut Unpool).expect(&rt, "a list");
+    assert_two(&rt, &numbers, false);
 }
 
-// What is read back of the list of slices, by a pool with room.
-fn read_slices(rt: &impl Abort, alloc: Global) -> Option<Vec<SharedSlice<u32>>> {
-    let pool = Pool::with_capacity(alloc, 2);
-    let mut pool: Pool<SharedSlice<u32>> = pool.expect(rt, "memory");
-    read_list(rt, alloc, TWO_SLICES, &mut pool)
+// What is read back of a list of slices.
+fn read_slices<T: Archive + Drop, D: Pooling<SharedSlice<T>>>(
+    rt: &impl Abort,
+    alloc: Global,
+    archive: &[u8],
+    deserializer: &mut D,
+) -> Vec<SharedSlice<T>>
+where
+    T::Archived: Deserialize<T, D>,
+{
+    read_list(rt, alloc, archive, deserializer).expect(rt, "a list")
+}
+
+// A pool with room for two values.
+fn pool_with_room<T: Pooled>(rt: &impl Abort, alloc: Global) -> Pool<T> {
+    Pool::with_capacity(alloc, 2).expect(rt, "memory")
 }
 
 #[test]
 fn slices_are_read_back(rt: HostRuntime) {
-    let slices = read_slices(&rt, rt.alloc()).expect(&rt, "a list");
+    let mut pool: Pool<SharedSlice<u32>> = pool_with_room(&rt, rt.alloc());
+    let slices = read_slices(&rt, rt.alloc(), TWO_SLICES, &mut pool);
     let [first, second] = slices.as_slice() else {
         panic!(&rt; "not two")
     };
@@ -141,21 +176,26 @@ fn texts_and_nulls_are_read_back(rt: HostRuntime) {
 #[test]
 fn a_pending_position_is_refused(rt: HostRuntime) {
     let mut pool: Pool<Shared<u32>> = Pool::new(rt.alloc());
-    assert_started(&rt, &mut pool, 0);
     assert_pending(&rt, &mut pool, 0);
-    let numbers = read_numbers(&rt, rt.alloc(), &mut pool);
+    let numbers = read_pooled(&rt, rt.alloc(), &mut pool);
     assert_holds(&rt, "refused", numbers.is_none());
 }
 
-// A text is finished, or refused with this error.
-fn assert_finished(
-    rt: &impl Abort,
-    pool: &mut Pool<SharedStr>,
-    text: &SharedStr,
-    wanted: Result<(), Error>,
-) {
+// The numbers of `NotStarted` and `AlreadyFinished`, and that of no refusal.
+const NOT_STARTED: u32 = 14;
+
+const ALREADY_FINISHED: u32 = 15;
+
+const FINISHED: u32 = 0;
+
+// A text is finished, or refused with the error of this number.
+fn assert_finished(rt: &impl Abort, pool: &mut Pool<SharedStr>, text: &SharedStr, number: u32) {
     let text = text.clone().expect(rt, "memory");
-    assert_same(rt, "finished", pool.finish_pooling(3, text), wanted);
+    let found = match pool.finish_pooling(3, text) {
+        Ok(()) => 0,
+        Err(error) => error.number(),
+    };
+    assert_same(rt, "finished", found, number);
 }
 
 // The text is kept.
@@ -172,9 +212,9 @@ fn a_text_is_finished_once(rt: HostRuntime) {
     let mut pool: Pool<SharedStr> = Pool::new(rt.alloc());
     let value = RcStr::from_str(rt.alloc(), "hello").expect(&rt, "memory");
     let text = SharedStr { key: 3, value };
-    assert_finished(&rt, &mut pool, &text, Err(Error::NotStarted));
-    assert_started(&rt, &mut pool, 3);
-    assert_finished(&rt, &mut pool, &text, Ok(()));
-    assert_finished(&rt, &mut pool, &text, Err(Error::AlreadyFinished));
+    assert_finished(&rt, &mut pool, &text, NOT_STARTED);
+    assert_open(&rt, &mut pool, 3, false);
+    assert_finished(&rt, &mut pool, &text, FINISHED);
+    assert_finished(&rt, &mut pool, &text, ALREADY_FINISHED);
     assert_kept(&rt, &mut pool, "hello");
 }

@@ -5,10 +5,9 @@ ghost use Rattle.archive_check.specs.Archives.{root_in};
 ghost use Rattle.archive_check.specs.Leaves.{edit};
 ghost use Rattle.archive_check.specs.PartsLayout.{part_at, definitions_at};
 
-use crate::archive::pairs::{assert_pair, viewed_pair};
+use crate::archive::pairs::{assert_pair, parts_of_pair};
 use crate::assertions::{
-    assert_bytes, assert_holds, assert_refusal, assert_same, assert_served, sealed, sealed_at,
-    viewed,
+    assert_bytes, assert_holds, assert_refusal, assert_same, sealed, sealed_at, viewed,
 };
 use archive_core::api::{access, access_pos};
 use archive_core::boxed::ArchivedBox;
@@ -181,18 +180,22 @@ fn boxed_texts_written_over(rt: HostRuntime) {
     assert_bytes(&rt, "the bytes", &bytes, right);
 }
 
-// The number that a shared pointer at a position leads to.
-fn shared_at(rt: &impl Abort, alloc: Global, bytes: &[u8], pos: usize) -> u32 {
-    access_pos::<SharedNumber>(alloc, bytes, pos)
-        .expect(rt, "a pointer")
-        .get()
-        .get()
+// The number that a shared pointer leads to.
+fn number_of(pointer: Ref<'_, SharedNumber>) -> u32 {
+    pointer.get().get()
 }
 
-// And that of a weak one at the end; none where it is null.
-fn weak_number(rt: &impl Abort, alloc: Global, bytes: &[u8]) -> Option<u32> {
-    let number = viewed::<WeakNumber>(rt, alloc, bytes).upgrade();
-    number.map(|number| number.get())
+// And that of a shared pointer at a position.
+fn shared_at(rt: &impl Abort, alloc: Global, bytes: &[u8], pos: usize) -> u32 {
+    number_of(access_pos::<SharedNumber>(alloc, bytes, pos).expect(rt, "a pointer"))
+}
+
+// And that of a weak one; none where it is null.
+fn weak_number_of(pointer: Ref<'_, WeakNumber>) -> Option<u32> {
+    let Some(number) = pointer.upgrade() else {
+        return None;
+    };
+    Some(number.get())
 }
 
 // Writes over the value of a shared pointer at a position.
@@ -253,7 +256,7 @@ fn a_weak_pointers_value_written_over(rt: HostRuntime) {
     assert_pair::<SharedNumber, WeakNumber>(&rt, alloc, &bytes);
     let found = (
         shared_at(&rt, alloc, &bytes, 4),
-        weak_number(&rt, alloc, &bytes),
+        weak_number_of(viewed::<WeakNumber>(&rt, alloc, &bytes)),
     );
     assert_same(&rt, "both", found, (17, Some(17)));
 }
@@ -298,15 +301,6 @@ fn write_second<T: Portable + SealedLeaf, A: Portable>(
     true
 }
 
-// The numbers that the pointers of a record lead to.
-fn numbers_of(pair: Ref<'_, ArchivedTuple2<SharedNumber, WeakNumber>>) -> (u32, Option<u32>) {
-    let number = pair.field::<SharedNumber>(0).get().get();
-    let Some(same) = pair.field::<WeakNumber>(1).upgrade() else {
-        return (number, None);
-    };
-    (number, Some(same.get()))
-}
-
 // A record of a shared pointer and a weak one to one number: written through each of them, and read through both.
 #[test]
 fn a_records_shared_value_written_over(rt: HostRuntime) {
@@ -319,8 +313,9 @@ fn a_records_shared_value_written_over(rt: HostRuntime) {
     assert_holds(&rt, "written", written);
     let right = b"\x11\0\0\0\xfc\xff\xff\xff\xf8\xff\xff\xff";
     assert_bytes(&rt, "through the weak one", &bytes, right);
-    let numbers = numbers_of(viewed_pair(&rt, alloc, &bytes));
-    assert_same(&rt, "both", numbers, (17, Some(17)));
+    let (first, second) = parts_of_pair::<SharedNumber, WeakNumber>(&rt, alloc, &bytes);
+    let found = (number_of(first), weak_number_of(second));
+    assert_same(&rt, "both", found, (17, Some(17)));
 }
 
 // Writes over an element of a list, where it has so many.
@@ -495,12 +490,23 @@ fn what_an_error_holds_is_written_over(rt: HostRuntime) {
     assert_bytes(&rt, "an option", &bytes, &[1, 0, 0, 0, 6, 0, 0, 0]);
 }
 
-// The tuple (24, true, 16) of an `i32`, a `bool` and a `u32`.
+// Writes 258 over the number of the tuple of an `i32`, a `bool` and a `u32`, by its spot, and reads it; nothing where there is no bool.
+fn written_part(rt: &impl Abort, alloc: Global, bytes: &mut [u8]) -> Option<u32> {
+    match write_part::<Numbers>(alloc, bytes, 2, 258) {
+        Ok(number) => Some(number),
+        Err(error) => {
+            assert_same(rt, "the refusal", error, Error::InvalidBool);
+            None
+        }
+    }
+}
+
+// The tuple (24, true, 16).
 #[test]
 fn a_part_is_written_over_by_its_spot(rt: HostRuntime) {
     let mut bytes = *b"\x18\0\0\0\x01\0\0\0\x10\0\0\0";
-    let written = write_part::<Numbers>(rt.alloc(), &mut bytes, 2, 258);
-    assert_served(&rt, "the part", written, 258);
+    let number = written_part(&rt, rt.alloc(), &mut bytes);
+    assert_same(&rt, "the part", number, Some(258));
     let right = b"\x18\0\0\0\x01\0\0\0\x02\x01\0\0";
     assert_bytes(&rt, "the bytes", &bytes, right);
 }
@@ -508,8 +514,8 @@ fn a_part_is_written_over_by_its_spot(rt: HostRuntime) {
 #[test]
 fn a_part_of_no_record_is_not_written_over(rt: HostRuntime) {
     let mut wrong = *b"\x18\0\0\0\x02\0\0\0\x10\0\0\0";
-    let refused = write_part::<Numbers>(rt.alloc(), &mut wrong, 2, 258);
-    assert_refusal(&rt, "the refusal", refused, Error::InvalidBool);
+    let number = written_part(&rt, rt.alloc(), &mut wrong);
+    assert_same(&rt, "refused", number, None);
     let right = b"\x18\0\0\0\x02\0\0\0\x10\0\0\0";
     assert_bytes(&rt, "as before", &wrong, right);
 }

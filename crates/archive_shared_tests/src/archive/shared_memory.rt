@@ -3,7 +3,7 @@
 ghost use Rattle.std.specs.Prelude.{true, IfOk, ◌≤◌, length};
 ghost use Rattle.std.proofs.Common.{true≢false};
 
-use crate::archive::pairs::is_pair_read;
+use crate::archive::pairs::read_pair;
 use crate::assertions::{assert_holds, assert_same};
 use archive_check::context::positions::SharedValidator;
 use archive_check::context::range::ArchiveValidator;
@@ -14,9 +14,9 @@ use archive_core::error::Error;
 use archive_core::pooling::{Pool, Pooling, PoolingState};
 use archive_core::primitive::ArchivedU32;
 use archive_core::rc::{ArchivedRc, RcFlavor, Shared};
-use archive_core::ser::{Serializer, Writer};
+use archive_core::ser::{ResolverAlloc, Serializer, Writer};
 use archive_core::sharing::Share;
-use archive_core::traits::{Entries, Portable, Serialize};
+use archive_core::traits::{Entries, Keys, Portable, Serialize};
 use archive_tuple::ArchivedTuple2;
 use linked_list_allocator::LocalHeap;
 use std::alloc::{Allocator, Global};
@@ -43,6 +43,14 @@ fn pair_of(rt: &impl Abort, alloc: Global, number: u32) -> Pair {
 // A serializer whose memory comes from an allocator.
 type Memory<M> = Serializer<Vec<u8, M>, M, Share<M>>;
 
+// Writes a pair behind what a serializer wrote, and answers its position.
+fn write_pair<S: Writer + ResolverAlloc + Keys, A: Serialize<S>, B: Serialize<S>>(
+    pair: &(A, B),
+    serializer: &mut S,
+) -> Result<usize, Error> {
+    serialize_using(pair, serializer)
+}
+
 // Four bytes and then a pair, with all memory from `alloc`: what was written, and what was answered.
 fn written_in<M: Allocator + Copy + Drop, A: Serialize<Memory<M>>, B: Serialize<Memory<M>>>(
     alloc: M,
@@ -52,7 +60,7 @@ fn written_in<M: Allocator + Copy + Drop, A: Serialize<Memory<M>>, B: Serialize<
     if let Err(error) = serializer.write(b"\xaa\xbb\xcc\xdd") {
         return (serializer.into_writer(), Err(error));
     }
-    let root = serialize_using(pair, &mut serializer);
+    let root = write_pair(pair, &mut serializer);
     (serializer.into_writer(), root)
 }
 
@@ -195,15 +203,9 @@ fn assert_state(
 ) {
     let pool: Pool<Shared<u32>> = Pool::new(alloc);
     let mut refusing = Refusing { pool, served };
-    let is_read = is_pair_read::<Shared<u32>, Shared<u32>, _>(
-        rt,
-        alloc,
-        ONE_NUMBER,
-        &mut refusing,
-        Error::OutOfMemory,
-    );
+    let pair: Option<Pair> = read_pair(rt, alloc, ONE_NUMBER, &mut refusing);
     let Refusing { mut pool, .. } = refusing;
-    let found = (served, is_read, state_of(rt, &mut pool));
+    let found = (served, pair.is_some(), state_of(rt, &mut pool));
     assert_same(rt, "so many served", found, (served, !is_refused, state));
 }
 

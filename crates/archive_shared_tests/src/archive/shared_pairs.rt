@@ -103,7 +103,7 @@ fn read_two<T: Archive + Drop, D: Pooling<Shared<T>>>(
 where
     T::Archived: Deserialize<T, D>,
 {
-    read_pair(rt, alloc, archive, deserializer)
+    read_pair(rt, alloc, archive, deserializer).expect(rt, "a pair")
 }
 
 // And of two pointers to slices.
@@ -116,13 +116,13 @@ fn read_slices<T: Archive + Drop, D: Pooling<SharedSlice<T>>>(
 where
     T::Archived: Deserialize<T, D>,
 {
-    read_pair(rt, alloc, archive, deserializer)
+    read_pair(rt, alloc, archive, deserializer).expect(rt, "a pair")
 }
 
 // And of a pointer to a number with a weak one, by a pool.
 fn read_weak(rt: &impl Abort, alloc: Global, archive: &[u8]) -> (Shared<u32>, WeakShared<u32>) {
     let mut pool: Pool<Shared<u32>> = Pool::new(alloc);
-    read_pair(rt, alloc, archive, &mut pool)
+    read_pair(rt, alloc, archive, &mut pool).expect(rt, "a pair")
 }
 
 // Two shared pointers to one type are accepted.

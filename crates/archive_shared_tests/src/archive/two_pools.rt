@@ -90,7 +90,7 @@ fn read_both<P: Telling<Shared<u32>>, Q: Telling<SharedStr>>(
     alloc: Global,
     pools: &mut TwoPools<P, Q>,
 ) -> (Shared<u32>, SharedStr) {
-    read_pair(rt, alloc, NUMBER_AND_TEXT, pools)
+    read_pair(rt, alloc, NUMBER_AND_TEXT, pools).expect(rt, "a pair")
 }
 
 #[test]
