@@ -4,6 +4,7 @@ mod comparisons;
 mod contexts;
 mod cycles;
 mod endless;
+mod pairs;
 mod pools;
 mod rc;
 mod seals;

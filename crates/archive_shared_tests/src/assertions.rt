@@ -24,6 +24,11 @@ pub(crate) fn assert_same<T: PartialEq + Debug + Drop>(
     assert_eq!(rt; found, wanted, "{what}");
 }
 
+// These bytes are the same.
+pub(crate) fn assert_bytes(rt: &impl Abort, what: &str, found: &[u8], wanted: &[u8]) {
+    assert_same(rt, what, found, wanted);
+}
+
 // What `what` names holds.
 pub(crate) fn assert_holds(rt: &impl Abort, what: &str, holds: bool) {
     assert!(rt; holds, "{what}");
@@ -36,7 +41,8 @@ pub(crate) fn assert_served<T: PartialEq + Debug + Drop>(
     found: Result<T, Error>,
     wanted: T,
 ) {
-    assert_eq!(rt; found, Ok(wanted), "{what}");
+    let value = found.expect(rt, what);
+    assert_same(rt, what, value, wanted);
 }
 
 // What `what` names is refused, with this error.
@@ -46,7 +52,7 @@ pub(crate) fn assert_refusal<T: Drop>(
     found: Result<T, Error>,
     refusal: Error,
 ) {
-    assert_eq!(rt; found.err(), Some(refusal), "{what}");
+    assert_same(rt, what, found.err(), Some(refusal));
 }
 
 // These bytes are the archive of a value.
@@ -56,8 +62,8 @@ pub(crate) fn assert_written<T: Serialize<HighSerializer<Vec<u8>, Global>>>(
     value: &T,
     archive: &[u8],
 ) {
-    let bytes = to_bytes(alloc, value).expect(rt, "an archive");
-    assert_eq!(rt; bytes.as_slice(), archive);
+    let bytes = archived(rt, alloc, value);
+    assert_bytes(rt, "the archive", bytes.as_slice(), archive);
 }
 
 // No archive of a value is made.
@@ -67,7 +73,7 @@ pub(crate) fn assert_unwritten<T: Serialize<HighSerializer<Vec<u8>, Global>>>(
     value: &T,
     refusal: Error,
 ) {
-    assert_eq!(rt; to_bytes(alloc, value).err(), Some(refusal));
+    assert_refusal(rt, "an archive", to_bytes(alloc, value), refusal);
 }
 
 // The archive of a value.
@@ -92,6 +98,26 @@ where
     from_bytes(alloc, archive, deserializer).expect(rt, "a value")
 }
 
+// What is read back of an archive, or nothing where that is refused with this error.
+pub(crate) fn read_unless<T: Archive, D: Entries>(
+    rt: &impl Abort,
+    alloc: Global,
+    archive: &[u8],
+    deserializer: &mut D,
+    refusal: Error,
+) -> Option<T>
+where
+    T::Archived: Deserialize<T, D>,
+{
+    match from_bytes(alloc, archive, deserializer) {
+        Ok(value) => Some(value),
+        Err(error) => {
+            assert_same(rt, "the refusal", error, refusal);
+            None
+        }
+    }
+}
+
 // A `T` lies at the end of the bytes.
 pub(crate) fn assert_accepted<T: Portable>(rt: &impl Abort, alloc: Global, bytes: &[u8]) {
     let _ = viewed::<T>(rt, alloc, bytes);
@@ -105,10 +131,8 @@ pub(crate) fn assert_refused<T: Portable>(
     bytes: &[u8],
     refusal: Error,
 ) {
-    let Err(error) = access::<T>(alloc, bytes) else {
-        panic!(rt; "{what} is accepted")
-    };
-    assert_eq!(rt; error, refusal, "{what}");
+    let error = access::<T>(alloc, bytes).err();
+    assert_same(rt, what, error, Some(refusal));
 }
 
 // The view of a `T` at the end of the bytes.

@@ -55,25 +55,50 @@ fn assert_three_levels<T: Portable>(rt: &impl Abort, alloc: Global, bytes: &[u8]
     assert_served(rt, "three levels", found, 2);
 }
 
-// A byte, a text and perhaps a list, one behind another.
-type Test = ArchivedTuple3<u8, ArchivedString, ArchivedOption<ArchivedVec<ArchivedI32>>>;
+// A check of two of these, one behind the other, enters so many.
+fn assert_two_entered<A: Portable, B: Portable>(
+    rt: &impl Abort,
+    what: &str,
+    alloc: Global,
+    bytes: &[u8],
+    regions: usize,
+) {
+    assert_entered::<ArchivedTuple2<A, B>>(rt, what, alloc, bytes, regions);
+}
+
+// And one of three.
+fn assert_three_entered<A: Portable, B: Portable, C: Portable>(
+    rt: &impl Abort,
+    what: &str,
+    alloc: Global,
+    bytes: &[u8],
+    regions: usize,
+) {
+    assert_entered::<ArchivedTuple3<A, B, C>>(rt, what, alloc, bytes, regions);
+}
+
+// Perhaps a list.
+type Optional = ArchivedOption<ArchivedVec<ArchivedI32>>;
 
 #[test]
 fn a_check_enters_each_region_once(rt: HostRuntime) {
     assert_entered::<ArchivedString>(&rt, "a text", rt.alloc(), HELLO_WORLD, 2);
     let empty = b"\0\0\0\0\0\0\0\0";
     assert_entered::<ArchivedVec<ArchivedU32>>(&rt, "an empty vector", rt.alloc(), empty, 2);
-    let test =
+}
+
+#[test]
+fn a_check_enters_each_region_of_a_record_once(rt: HostRuntime) {
+    let record =
         b"hello world\0\x01\0\0\0\x02\0\0\0\x03\0\0\0\x04\0\0\0\x2a\0\0\0\x8b\0\0\0\xe0\xff\xff\xff\x01\0\0\0\xe0\xff\xff\xff\x04\0\0\0";
-    assert_entered::<Test>(&rt, "a text and a list", rt.alloc(), test, 3);
+    assert_three_entered::<u8, ArchivedString, Optional>(&rt, "three", rt.alloc(), record, 3);
 }
 
 #[test]
 fn a_check_enters_a_shared_region_once(rt: HostRuntime) {
     let shared = b"\x0a\0\0\0\xfc\xff\xff\xff\xf8\xff\xff\xff";
     type Number = ArchivedRc<ArchivedU32, RcFlavor>;
-    type Pair = ArchivedTuple2<Number, Number>;
-    assert_entered::<Pair>(&rt, "a shared number", rt.alloc(), shared, 2);
+    assert_two_entered::<Number, Number>(&rt, "a shared number", rt.alloc(), shared, 2);
 }
 
 // Perhaps a box of bytes.

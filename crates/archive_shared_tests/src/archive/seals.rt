@@ -5,9 +5,9 @@ ghost use Rattle.archive_check.specs.Archives.{root_in};
 ghost use Rattle.archive_check.specs.Leaves.{edit};
 ghost use Rattle.archive_check.specs.PartsLayout.{part_at, definitions_at};
 
+use crate::archive::pairs::{assert_pair, parts_of_pair};
 use crate::assertions::{
-    assert_accepted, assert_holds, assert_refusal, assert_same, assert_served, sealed, sealed_at,
-    viewed,
+    assert_bytes, assert_holds, assert_refusal, assert_same, sealed, sealed_at, viewed,
 };
 use archive_core::api::{access, access_pos};
 use archive_core::boxed::ArchivedBox;
@@ -20,6 +20,7 @@ use archive_core::seal::{SealedLeaf, Spot};
 use archive_core::string::{ArchivedStr, ArchivedString};
 use archive_core::traits::{ArchivePointee, Portable, Record};
 use archive_core::vec::ArchivedVec;
+use archive_core::view::Ref;
 use archive_num::Native;
 use archive_tuple::{ArchivedTuple2, ArchivedTuple3};
 use std::alloc::Global;
@@ -30,8 +31,6 @@ type SharedNumber = ArchivedRc<ArchivedU32, RcFlavor>;
 type Outcome = ArchivedResult<ArchivedU32, ArchivedU32>;
 
 type WeakNumber = ArchivedRcWeak<ArchivedU32, RcFlavor>;
-
-type Pair = ArchivedTuple2<SharedNumber, WeakNumber>;
 
 type Numbers = ArchivedTuple3<ArchivedI32, bool, ArchivedU32>;
 
@@ -79,54 +78,47 @@ fn write_part<R: Record>(
 }
 
 // The root is written over, and these are the bytes then; `what` names it.
-fn assert_edited<const N: usize, T: Portable + SealedLeaf>(
+fn assert_edited<T: Portable + SealedLeaf>(
     rt: &impl Abort,
     what: &str,
     alloc: Global,
-    archive: [u8; N],
+    bytes: &mut [u8],
     value: T::Written,
-    right: [u8; N],
+    right: &[u8],
 )
     requires { T.can_hold value }
 {
-    let mut bytes = archive;
-    write_root::<T>(alloc, &mut bytes, value).expect(rt, what);
-    assert_eq!(rt; bytes, right, "{what}");
-}
-
-// It is refused with this error, and the bytes are as before.
-fn assert_not_edited<const N: usize, T: Portable + SealedLeaf>(
-    rt: &impl Abort,
-    what: &str,
-    alloc: Global,
-    archive: [u8; N],
-    value: T::Written,
-    refusal: Error,
-)
-    requires { T.can_hold value }
-{
-    let mut bytes = archive;
-    let answer = write_root::<T>(alloc, &mut bytes, value);
-    assert_eq!(rt; answer.err(), Some(refusal), "{what}");
-    assert_eq!(rt; bytes, archive, "{what}");
+    write_root::<T>(alloc, bytes, value).expect(rt, what);
+    assert_bytes(rt, what, bytes, right);
 }
 
 #[test]
-fn leaves_written_over(rt: HostRuntime) {
-    let alloc = rt.alloc();
-    assert_edited::<4, ArchivedU32>(
-        &rt,
-        "a number",
-        alloc,
-        [42, 0, 0, 0],
-        4294967040,
-        [0, 255, 255, 255],
-    );
-    assert_edited::<2, i8>(&rt, "a sign", alloc, [0xaa, 1], -1, [0xaa, 0xff]);
-    assert_edited::<2, bool>(&rt, "a bool", alloc, [0xaa, 1], false, [0xaa, 0]);
-    assert_edited::<4, ArchivedChar>(&rt, "a char", alloc, [0x41, 0, 0, 0], 'é', [0xe9, 0, 0, 0]);
-    assert_edited::<2, ArchivedNonZeroU16>(&rt, "not 0", alloc, [1, 0], 1337, [0x39, 0x05]);
-    assert_not_edited::<1, bool>(&rt, "no bool", alloc, [2], true, Error::InvalidBool);
+fn numbers_written_over(rt: HostRuntime) {
+    let mut number = [42, 0, 0, 0];
+    let right = &[0, 255, 255, 255];
+    assert_edited::<ArchivedU32>(&rt, "a number", rt.alloc(), &mut number, 4294967040, right);
+    let mut sign = [0xaa, 1];
+    assert_edited::<i8>(&rt, "a sign", rt.alloc(), &mut sign, -1, &[0xaa, 0xff]);
+    let mut number = [1, 0];
+    let right = &[0x39, 0x05];
+    assert_edited::<ArchivedNonZeroU16>(&rt, "not 0", rt.alloc(), &mut number, 1337, right);
+}
+
+#[test]
+fn other_leaves_written_over(rt: HostRuntime) {
+    let mut answer = [0xaa, 1];
+    assert_edited::<bool>(&rt, "a bool", rt.alloc(), &mut answer, false, &[0xaa, 0]);
+    let mut char = [0x41, 0, 0, 0];
+    let right = &[0xe9, 0, 0, 0];
+    assert_edited::<ArchivedChar>(&rt, "a char", rt.alloc(), &mut char, 'é', right);
+}
+
+#[test]
+fn what_is_no_bool_is_not_written_over(rt: HostRuntime) {
+    let mut wrong = [2];
+    let answer = write_root::<bool>(rt.alloc(), &mut wrong, true);
+    assert_refusal(&rt, "no bool", answer, Error::InvalidBool);
+    assert_bytes(&rt, "as before", &wrong, &[2]);
 }
 
 #[test]
@@ -138,53 +130,103 @@ fn a_number_written_over_is_viewed(rt: HostRuntime) {
     assert_same(&rt, "the number", view.get(), 4294967040);
 }
 
+// Writes over a text that stands elsewhere, where it is as long.
+fn write_text(rt: &impl Abort, alloc: Global, bytes: &mut [u8], text: &str) {
+    let seal = sealed::<ArchivedString>(rt, alloc, bytes).as_str_seal();
+    if seal.as_ref().len() == text.len() {
+        seal.write_str(text);
+    }
+}
+
 #[test]
 fn texts_written_over(rt: HostRuntime) {
     let mut bytes = *b"hello world\0\x8b\0\0\0\xf4\xff\xff\xff";
-    let text = sealed::<ArchivedString>(&rt, rt.alloc(), &mut bytes).as_str_seal();
-    if text.as_ref().len() == 11 {
-        text.write_str("HELLO WORLD");
+    write_text(&rt, rt.alloc(), &mut bytes, "HELLO WORLD");
+    let right = b"HELLO WORLD\0\x8b\0\0\0\xf4\xff\xff\xff";
+    assert_bytes(&rt, "a text elsewhere", &bytes, right);
+}
+
+// Writes over a text by the seal of its string, where it is as long.
+fn write_string(rt: &impl Abort, alloc: Global, bytes: &mut [u8], text: &str) {
+    let string = sealed::<ArchivedString>(rt, alloc, bytes);
+    if string.as_ref().as_str().len() == text.len() {
+        string.write_str(text);
     }
-    let right = *b"HELLO WORLD\0\x8b\0\0\0\xf4\xff\xff\xff";
-    assert_same(&rt, "a text elsewhere", bytes, right);
 }
 
 #[test]
 fn texts_written_over_in_place(rt: HostRuntime) {
     let mut bytes = *b"hi\xff\xff\xff\xff\xff\xff";
-    let string = sealed::<ArchivedString>(&rt, rt.alloc(), &mut bytes);
-    if string.as_ref().as_str().len() == 2 {
-        string.write_str("é");
-    }
-    let right = *b"\xc3\xa9\xff\xff\xff\xff\xff\xff";
-    assert_same(&rt, "the bytes", bytes, right);
+    write_string(&rt, rt.alloc(), &mut bytes, "é");
+    let right = b"\xc3\xa9\xff\xff\xff\xff\xff\xff";
+    assert_bytes(&rt, "the bytes", &bytes, right);
     let view = viewed::<ArchivedString>(&rt, rt.alloc(), &bytes);
     assert_same(&rt, "the text", view.as_str(), "é");
+}
+
+// Writes over a text in a box, where it is as long.
+fn write_boxed_text(rt: &impl Abort, alloc: Global, bytes: &mut [u8], text: &str) {
+    let seal = sealed::<ArchivedBox<ArchivedStr>>(rt, alloc, bytes).as_str_seal();
+    if seal.as_ref().len() == text.len() {
+        seal.write_str(text);
+    }
 }
 
 #[test]
 fn boxed_texts_written_over(rt: HostRuntime) {
     let mut bytes = *b"hi\0\0\xfc\xff\xff\xff\x02\0\0\0";
-    let text = sealed::<ArchivedBox<ArchivedStr>>(&rt, rt.alloc(), &mut bytes).as_str_seal();
-    if text.as_ref().len() == 2 {
-        text.write_str("ho");
-    }
-    let right = *b"ho\0\0\xfc\xff\xff\xff\x02\0\0\0";
-    assert_same(&rt, "the bytes", bytes, right);
+    write_boxed_text(&rt, rt.alloc(), &mut bytes, "ho");
+    let right = b"ho\0\0\xfc\xff\xff\xff\x02\0\0\0";
+    assert_bytes(&rt, "the bytes", &bytes, right);
 }
 
-// The number that a shared pointer at a position leads to.
+// The number that a shared pointer leads to.
+fn number_of(pointer: Ref<'_, SharedNumber>) -> u32 {
+    pointer.get().get()
+}
+
+// And that of a shared pointer at a position.
 fn shared_at(rt: &impl Abort, alloc: Global, bytes: &[u8], pos: usize) -> u32 {
-    access_pos::<SharedNumber>(alloc, bytes, pos)
-        .expect(rt, "a pointer")
-        .get()
-        .get()
+    number_of(access_pos::<SharedNumber>(alloc, bytes, pos).expect(rt, "a pointer"))
 }
 
-// And that of a weak one at the end; none where it is null.
-fn weak_number(rt: &impl Abort, alloc: Global, bytes: &[u8]) -> Option<u32> {
-    let number = viewed::<WeakNumber>(rt, alloc, bytes).upgrade();
-    number.map(|number| number.get())
+// And that of a weak one; none where it is null.
+fn weak_number_of(pointer: Ref<'_, WeakNumber>) -> Option<u32> {
+    let Some(number) = pointer.upgrade() else {
+        return None;
+    };
+    Some(number.get())
+}
+
+// Writes over the value of a shared pointer at a position.
+fn write_shared<T: Portable + SealedLeaf>(
+    rt: &impl Abort,
+    alloc: Global,
+    bytes: &mut [u8],
+    pos: usize,
+    value: T::Written,
+)
+    requires { T.can_hold value }
+{
+    sealed_at::<ArchivedRc<T, RcFlavor>>(rt, alloc, bytes, pos)
+        .get_seal()
+        .write(value);
+}
+
+// And over that of a weak one at the end. Whether there is one.
+fn write_weak<T: Portable + SealedLeaf>(
+    rt: &impl Abort,
+    alloc: Global,
+    bytes: &mut [u8],
+    value: T::Written,
+) -> bool
+    requires { T.can_hold value }
+{
+    let Some(seal) = sealed::<ArchivedRcWeak<T, RcFlavor>>(rt, alloc, bytes).upgrade_seal() else {
+        return false;
+    };
+    seal.write(value);
+    true
 }
 
 // Two pointers to one number: written through the first, and read through both.
@@ -192,46 +234,71 @@ fn weak_number(rt: &impl Abort, alloc: Global, bytes: &[u8]) -> Option<u32> {
 fn a_shared_value_written_over(rt: HostRuntime) {
     let alloc = rt.alloc();
     let mut bytes = *b"\x0a\0\0\0\xfc\xff\xff\xff\xf8\xff\xff\xff";
-    sealed_at::<SharedNumber>(&rt, alloc, &mut bytes, 4)
-        .get_seal()
-        .write(42);
-    let right = *b"\x2a\0\0\0\xfc\xff\xff\xff\xf8\xff\xff\xff";
-    assert_same(&rt, "the bytes", bytes, right);
-    assert_accepted::<ArchivedTuple2<SharedNumber, SharedNumber>>(&rt, alloc, &bytes);
-    assert_same(&rt, "the first", shared_at(&rt, alloc, &bytes, 4), 42);
-    assert_same(&rt, "the second", shared_at(&rt, alloc, &bytes, 8), 42);
+    write_shared::<ArchivedU32>(&rt, alloc, &mut bytes, 4, 42);
+    let right = b"\x2a\0\0\0\xfc\xff\xff\xff\xf8\xff\xff\xff";
+    assert_bytes(&rt, "the bytes", &bytes, right);
+    assert_pair::<SharedNumber, SharedNumber>(&rt, alloc, &bytes);
+    let found = (
+        shared_at(&rt, alloc, &bytes, 4),
+        shared_at(&rt, alloc, &bytes, 8),
+    );
+    assert_same(&rt, "both", found, (42, 42));
 }
 
 #[test]
 fn a_weak_pointers_value_written_over(rt: HostRuntime) {
     let alloc = rt.alloc();
     let mut bytes = *b"\x0a\0\0\0\xfc\xff\xff\xff\xf8\xff\xff\xff";
-    if let Some(number) = sealed::<WeakNumber>(&rt, alloc, &mut bytes).upgrade_seal() {
-        number.write(17);
-    }
-    let right = *b"\x11\0\0\0\xfc\xff\xff\xff\xf8\xff\xff\xff";
-    assert_same(&rt, "the bytes", bytes, right);
-    assert_accepted::<Pair>(&rt, alloc, &bytes);
-    assert_same(&rt, "the shared one", shared_at(&rt, alloc, &bytes, 4), 17);
-    let number = weak_number(&rt, alloc, &bytes);
-    assert_same(&rt, "the weak one", number, Some(17));
+    let written = write_weak::<ArchivedU32>(&rt, alloc, &mut bytes, 17);
+    assert_holds(&rt, "written", written);
+    let right = b"\x11\0\0\0\xfc\xff\xff\xff\xf8\xff\xff\xff";
+    assert_bytes(&rt, "the bytes", &bytes, right);
+    assert_pair::<SharedNumber, WeakNumber>(&rt, alloc, &bytes);
+    let found = (
+        shared_at(&rt, alloc, &bytes, 4),
+        weak_number_of(viewed::<WeakNumber>(&rt, alloc, &bytes)),
+    );
+    assert_same(&rt, "both", found, (17, Some(17)));
 }
 
 #[test]
 fn a_null_has_nothing_to_write_over(rt: HostRuntime) {
     let mut null = [1, 0, 0, 0];
-    let number = sealed::<WeakNumber>(&rt, rt.alloc(), &mut null).upgrade_seal();
-    assert_holds(&rt, "nothing", number.is_none());
+    let written = write_weak::<ArchivedU32>(&rt, rt.alloc(), &mut null, 17);
+    assert_holds(&rt, "nothing", !written);
+    assert_bytes(&rt, "as before", &null, &[1, 0, 0, 0]);
 }
 
-// The pointers of a record both lead to this number.
-fn assert_pair(rt: &impl Abort, alloc: Global, bytes: &[u8], wanted: u32) {
-    let pair = viewed::<Pair>(rt, alloc, bytes);
-    let number = pair.field::<SharedNumber>(0).get().get();
-    assert_same(rt, "the shared one", number, wanted);
-    let number = pair.field::<WeakNumber>(1).upgrade();
-    let number = number.map(|number| number.get());
-    assert_same(rt, "the weak one", number, Some(wanted));
+// Writes over the value of the shared pointer that is the first part of a pair.
+fn write_first<T: Portable + SealedLeaf, B: Portable>(
+    rt: &impl Abort,
+    alloc: Global,
+    bytes: &mut [u8],
+    value: T::Written,
+)
+    requires { T.can_hold value }
+{
+    let pair = sealed::<ArchivedTuple2<ArchivedRc<T, RcFlavor>, B>>(rt, alloc, bytes);
+    pair.field::<ArchivedRc<T, RcFlavor>>(0)
+        .get_seal()
+        .write(value);
+}
+
+// And over that of the weak one that is the second. Whether there is one.
+fn write_second<T: Portable + SealedLeaf, A: Portable>(
+    rt: &impl Abort,
+    alloc: Global,
+    bytes: &mut [u8],
+    value: T::Written,
+) -> bool
+    requires { T.can_hold value }
+{
+    let pair = sealed::<ArchivedTuple2<A, ArchivedRcWeak<T, RcFlavor>>>(rt, alloc, bytes);
+    let Some(seal) = pair.field::<ArchivedRcWeak<T, RcFlavor>>(1).upgrade_seal() else {
+        return false;
+    };
+    seal.write(value);
+    true
 }
 
 // A record of a shared pointer and a weak one to one number: written through each of them, and read through both.
@@ -239,117 +306,218 @@ fn assert_pair(rt: &impl Abort, alloc: Global, bytes: &[u8], wanted: u32) {
 fn a_records_shared_value_written_over(rt: HostRuntime) {
     let alloc = rt.alloc();
     let mut bytes = *b"\x0a\0\0\0\xfc\xff\xff\xff\xf8\xff\xff\xff";
-    let pair = sealed::<Pair>(&rt, alloc, &mut bytes);
-    pair.field::<SharedNumber>(0).get_seal().write(42);
-    let right = *b"\x2a\0\0\0\xfc\xff\xff\xff\xf8\xff\xff\xff";
-    assert_same(&rt, "through the shared one", bytes, right);
-    let pair = sealed::<Pair>(&rt, alloc, &mut bytes);
-    if let Some(number) = pair.field::<WeakNumber>(1).upgrade_seal() {
-        number.write(17);
+    write_first::<ArchivedU32, WeakNumber>(&rt, alloc, &mut bytes, 42);
+    let right = b"\x2a\0\0\0\xfc\xff\xff\xff\xf8\xff\xff\xff";
+    assert_bytes(&rt, "through the shared one", &bytes, right);
+    let written = write_second::<ArchivedU32, SharedNumber>(&rt, alloc, &mut bytes, 17);
+    assert_holds(&rt, "written", written);
+    let right = b"\x11\0\0\0\xfc\xff\xff\xff\xf8\xff\xff\xff";
+    assert_bytes(&rt, "through the weak one", &bytes, right);
+    let (first, second) = parts_of_pair::<SharedNumber, WeakNumber>(&rt, alloc, &bytes);
+    let found = (number_of(first), weak_number_of(second));
+    assert_same(&rt, "both", found, (17, Some(17)));
+}
+
+// Writes over an element of a list, where it has so many.
+fn write_element<T: Portable + SealedLeaf>(
+    rt: &impl Abort,
+    alloc: Global,
+    bytes: &mut [u8],
+    index: usize,
+    value: T::Written,
+)
+    requires { T.can_hold value }
+{
+    let list = sealed::<ArchivedVec<T>>(rt, alloc, bytes);
+    if list.as_ref().len() > index {
+        list.index(index).write(value);
     }
-    let right = *b"\x11\0\0\0\xfc\xff\xff\xff\xf8\xff\xff\xff";
-    assert_same(&rt, "through the weak one", bytes, right);
-    assert_pair(&rt, alloc, &bytes, 17);
+}
+
+// And over one by the seal of the list's slice.
+fn write_in_slice<T: Portable + SealedLeaf>(
+    rt: &impl Abort,
+    alloc: Global,
+    bytes: &mut [u8],
+    index: usize,
+    value: T::Written,
+)
+    requires { T.can_hold value }
+{
+    let slice = sealed::<ArchivedVec<T>>(rt, alloc, bytes).as_slice_seal();
+    if slice.len() > index {
+        slice.index(index).write(value);
+    }
 }
 
 #[test]
 fn elements_written_over(rt: HostRuntime) {
-    let alloc = rt.alloc();
     let mut bytes = *b"\x01\0\0\0\x02\0\0\0\x03\0\0\0\x04\0\0\0\xf0\xff\xff\xff\x04\0\0\0";
-    let list = sealed::<ArchivedVec<ArchivedI32>>(&rt, alloc, &mut bytes);
-    if list.as_ref().len() > 2 {
-        list.index(2).write(-1);
-    }
-    let list = sealed::<ArchivedVec<ArchivedI32>>(&rt, alloc, &mut bytes).as_slice_seal();
-    if list.len() > 0 {
-        list.index(0).write(7);
-    }
-    let right = *b"\x07\0\0\0\x02\0\0\0\xff\xff\xff\xff\x04\0\0\0\xf0\xff\xff\xff\x04\0\0\0";
-    assert_same(&rt, "the bytes", bytes, right);
+    write_element::<ArchivedI32>(&rt, rt.alloc(), &mut bytes, 2, -1);
+    write_in_slice::<ArchivedI32>(&rt, rt.alloc(), &mut bytes, 0, 7);
+    let right = b"\x07\0\0\0\x02\0\0\0\xff\xff\xff\xff\x04\0\0\0\xf0\xff\xff\xff\x04\0\0\0";
+    assert_bytes(&rt, "the bytes", &bytes, right);
+}
+
+// Writes over what a box holds.
+fn write_boxed<T: Portable + SealedLeaf>(
+    rt: &impl Abort,
+    alloc: Global,
+    bytes: &mut [u8],
+    value: T::Written,
+)
+    requires { T.can_hold value }
+{
+    sealed::<ArchivedBox<T>>(rt, alloc, bytes)
+        .get_seal()
+        .write(value);
 }
 
 #[test]
 fn owned_values_written_over(rt: HostRuntime) {
     let mut bytes = *b"\x07\0\0\0\xfc\xff\xff\xff";
-    sealed::<ArchivedBox<ArchivedU32>>(&rt, rt.alloc(), &mut bytes)
-        .get_seal()
-        .write(9);
-    assert_same(&rt, "the bytes", bytes, *b"\x09\0\0\0\xfc\xff\xff\xff");
+    write_boxed::<ArchivedU32>(&rt, rt.alloc(), &mut bytes, 9);
+    assert_bytes(&rt, "the bytes", &bytes, b"\x09\0\0\0\xfc\xff\xff\xff");
+}
+
+// Writes over an option's value. Whether there is one.
+fn write_some<T: Portable + SealedLeaf>(
+    rt: &impl Abort,
+    alloc: Global,
+    bytes: &mut [u8],
+    value: T::Written,
+) -> bool
+    requires { T.can_hold value }
+{
+    let Some(seal) = sealed::<ArchivedOption<T>>(rt, alloc, bytes).as_seal() else {
+        return false;
+    };
+    seal.write(value);
+    true
+}
+
+// And over the one item of an iterator over it.
+fn write_item<T: Portable + SealedLeaf>(
+    rt: &impl Abort,
+    alloc: Global,
+    bytes: &mut [u8],
+    value: T::Written,
+)
+    requires { T.can_hold value }
+{
+    let mut items = sealed::<ArchivedOption<T>>(rt, alloc, bytes).iter_seal();
+    if let Some(seal) = items.next() {
+        seal.write(value);
+    }
+}
+
+// And over that of the seal's own iterator.
+fn write_own_item<T: Portable + SealedLeaf>(
+    rt: &impl Abort,
+    alloc: Global,
+    bytes: &mut [u8],
+    value: T::Written,
+)
+    requires { T.can_hold value }
+{
+    let mut items = sealed::<ArchivedOption<T>>(rt, alloc, bytes).into_iter();
+    if let Some(seal) = items.next() {
+        seal.write(value);
+    }
 }
 
 #[test]
 fn optional_values_written_over(rt: HostRuntime) {
-    let alloc = rt.alloc();
     let mut bytes = [1, 0, 0, 0, 7, 0, 0, 0];
-    if let Some(number) = sealed::<ArchivedOption<ArchivedU32>>(&rt, alloc, &mut bytes).as_seal() {
-        number.write(9);
-    }
-    assert_same(&rt, "the value", bytes, [1, 0, 0, 0, 9, 0, 0, 0]);
-    let mut items = sealed::<ArchivedOption<ArchivedU32>>(&rt, alloc, &mut bytes).iter_seal();
-    if let Some(number) = items.next() {
-        number.write(11);
-    }
-    assert_same(&rt, "the item", bytes, [1, 0, 0, 0, 11, 0, 0, 0]);
+    let written = write_some::<ArchivedU32>(&rt, rt.alloc(), &mut bytes, 9);
+    assert_holds(&rt, "written", written);
+    assert_bytes(&rt, "the value", &bytes, &[1, 0, 0, 0, 9, 0, 0, 0]);
+    write_item::<ArchivedU32>(&rt, rt.alloc(), &mut bytes, 11);
+    assert_bytes(&rt, "the item", &bytes, &[1, 0, 0, 0, 11, 0, 0, 0]);
 }
 
 #[test]
 fn no_value_is_written_over(rt: HostRuntime) {
     let mut none = [0, 0, 0, 0, 7, 0, 0, 0];
-    let nothing = sealed::<ArchivedOption<ArchivedU32>>(&rt, rt.alloc(), &mut none).as_seal();
-    assert_holds(&rt, "nothing", nothing.is_none());
+    let written = write_some::<ArchivedU32>(&rt, rt.alloc(), &mut none, 9);
+    assert_holds(&rt, "nothing", !written);
+    assert_bytes(&rt, "as before", &none, &[0, 0, 0, 0, 7, 0, 0, 0]);
+}
+
+// Writes over what a result holds. Whether that is its value.
+fn write_outcome<T: Portable + SealedLeaf>(
+    rt: &impl Abort,
+    alloc: Global,
+    bytes: &mut [u8],
+    value: T::Written,
+) -> bool
+    requires { T.can_hold value }
+{
+    match sealed::<ArchivedResult<T, T>>(rt, alloc, bytes).as_seal() {
+        Ok(seal) => {
+            seal.write(value);
+            true
+        }
+        Err(seal) => {
+            seal.write(value);
+            false
+        }
+    }
 }
 
 #[test]
 fn what_a_result_holds_is_written_over(rt: HostRuntime) {
     let alloc = rt.alloc();
     let mut bytes = [0, 0, 0, 0, 9, 0, 0, 0];
-    if let Ok(value) = sealed::<Outcome>(&rt, alloc, &mut bytes).as_seal() {
-        value.write(7);
-    }
+    let is_value = write_outcome::<ArchivedU32>(&rt, alloc, &mut bytes, 7);
+    assert_holds(&rt, "a value", is_value);
     let mut items = sealed::<Outcome>(&rt, alloc, &mut bytes).iter_seal();
     assert_same(&rt, "items", items.len(), 1);
     if let Some(value) = items.next() {
         assert_same(&rt, "the value", value.as_ref().get(), 7);
         value.write(8);
     }
-    assert_same(&rt, "the item", bytes, [0, 0, 0, 0, 8, 0, 0, 0]);
+    assert_bytes(&rt, "the item", &bytes, &[0, 0, 0, 0, 8, 0, 0, 0]);
 }
 
 #[test]
 fn what_an_error_holds_is_written_over(rt: HostRuntime) {
-    let alloc = rt.alloc();
     let mut bytes = [1, 0, 0, 0, 7, 0, 0, 0];
-    if let Err(error) = sealed::<Outcome>(&rt, alloc, &mut bytes).as_seal() {
-        error.write(5);
-    }
-    assert_same(&rt, "the error", bytes, [1, 0, 0, 0, 5, 0, 0, 0]);
-    let mut items = sealed::<ArchivedOption<ArchivedU32>>(&rt, alloc, &mut bytes).into_iter();
-    if let Some(value) = items.next() {
-        value.write(6);
-    }
-    assert_same(&rt, "an option", bytes, [1, 0, 0, 0, 6, 0, 0, 0]);
+    let is_value = write_outcome::<ArchivedU32>(&rt, rt.alloc(), &mut bytes, 5);
+    assert_holds(&rt, "an error", !is_value);
+    assert_bytes(&rt, "the error", &bytes, &[1, 0, 0, 0, 5, 0, 0, 0]);
+    write_own_item::<ArchivedU32>(&rt, rt.alloc(), &mut bytes, 6);
+    assert_bytes(&rt, "an option", &bytes, &[1, 0, 0, 0, 6, 0, 0, 0]);
 }
 
-// The tuple (24, true, 16) of an `i32`, a `bool` and a `u32`.
+// Writes 258 over the number of the tuple of an `i32`, a `bool` and a `u32`, by its spot, and reads it; nothing where there is no bool.
+fn written_part(rt: &impl Abort, alloc: Global, bytes: &mut [u8]) -> Option<u32> {
+    match write_part::<Numbers>(alloc, bytes, 2, 258) {
+        Ok(number) => Some(number),
+        Err(error) => {
+            assert_same(rt, "the refusal", error, Error::InvalidBool);
+            None
+        }
+    }
+}
+
+// The tuple (24, true, 16).
 #[test]
 fn a_part_is_written_over_by_its_spot(rt: HostRuntime) {
     let mut bytes = *b"\x18\0\0\0\x01\0\0\0\x10\0\0\0";
-    let written = write_part::<Numbers>(rt.alloc(), &mut bytes, 2, 258);
-    assert_served(&rt, "the part", written, 258);
-    assert_same(
-        &rt,
-        "the bytes",
-        bytes,
-        *b"\x18\0\0\0\x01\0\0\0\x02\x01\0\0",
-    );
+    let number = written_part(&rt, rt.alloc(), &mut bytes);
+    assert_same(&rt, "the part", number, Some(258));
+    let right = b"\x18\0\0\0\x01\0\0\0\x02\x01\0\0";
+    assert_bytes(&rt, "the bytes", &bytes, right);
 }
 
 #[test]
 fn a_part_of_no_record_is_not_written_over(rt: HostRuntime) {
     let mut wrong = *b"\x18\0\0\0\x02\0\0\0\x10\0\0\0";
-    let refused = write_part::<Numbers>(rt.alloc(), &mut wrong, 2, 258);
-    assert_refusal(&rt, "the refusal", refused, Error::InvalidBool);
-    assert_same(&rt, "as before", wrong, *b"\x18\0\0\0\x02\0\0\0\x10\0\0\0");
+    let number = written_part(&rt, rt.alloc(), &mut wrong);
+    assert_same(&rt, "refused", number, None);
+    let right = b"\x18\0\0\0\x02\0\0\0\x10\0\0\0";
+    assert_bytes(&rt, "as before", &wrong, right);
 }
 
 #[test]
@@ -359,7 +527,7 @@ fn a_lent_seal_writes(rt: HostRuntime) {
     let mut number = sealed::<ArchivedU32>(&rt, alloc, &mut bytes);
     number.reborrow().write(258);
     assert_same(&rt, "the position", number.pos(), 4);
-    assert_same(&rt, "the bytes", bytes, [0xaa, 0, 0, 0, 2, 1, 0, 0]);
+    assert_bytes(&rt, "the bytes", &bytes, &[0xaa, 0, 0, 0, 2, 1, 0, 0]);
     let view = viewed::<ArchivedU32>(&rt, alloc, &bytes);
     assert_same(&rt, "the number", view.get(), 258);
     assert_same(&rt, "the spot", Spot::of(view).pos(), 4);

@@ -3,19 +3,20 @@
 ghost use Rattle.std.specs.Prelude.{true, IfOk, ◌≤◌, length};
 ghost use Rattle.std.proofs.Common.{true≢false};
 
+use crate::archive::pairs::read_pair;
 use crate::assertions::{assert_holds, assert_same};
 use archive_check::context::positions::SharedValidator;
 use archive_check::context::range::ArchiveValidator;
 use archive_check::context::validator::Validator;
 use archive_check::context::{ArchiveContext, SharedContext};
-use archive_core::api::{check_pos_with_context, from_bytes, serialize_using};
+use archive_core::api::{check_pos_with_context, serialize_using};
 use archive_core::error::Error;
 use archive_core::pooling::{Pool, Pooling, PoolingState};
 use archive_core::primitive::ArchivedU32;
 use archive_core::rc::{ArchivedRc, RcFlavor, Shared};
-use archive_core::ser::{Serializer, Writer};
+use archive_core::ser::{ResolverAlloc, Serializer, Writer};
 use archive_core::sharing::Share;
-use archive_core::traits::{Archive, Deserialize, Entries};
+use archive_core::traits::{Entries, Keys, Portable, Serialize};
 use archive_tuple::ArchivedTuple2;
 use linked_list_allocator::LocalHeap;
 use std::alloc::{Allocator, Global};
@@ -30,10 +31,7 @@ const BEHIND_OTHERS: &[u8] = b"\xaa\xbb\xcc\xdd\x0a\0\0\0\xfc\xff\xff\xff\xf8\xf
 
 type Pair = (Shared<u32>, Shared<u32>);
 
-type ArchivedPair = ArchivedTuple2<
-    ArchivedRc<ArchivedU32, RcFlavor>,
-    ArchivedRc<ArchivedU32, RcFlavor>,
->;
+type Pointer = ArchivedRc<ArchivedU32, RcFlavor>;
 
 fn pair_of(rt: &impl Abort, alloc: Global, number: u32) -> Pair {
     let value = Rc::new(alloc, number).expect(rt, "memory");
@@ -42,16 +40,27 @@ fn pair_of(rt: &impl Abort, alloc: Global, number: u32) -> Pair {
     (first, second)
 }
 
-// Four bytes and then the pair, with all memory from `alloc`: what was written, and what was answered.
-fn written_in<A: Allocator + Copy + Drop>(
-    alloc: A,
-    pair: &Pair,
-) -> (Vec<u8, A>, Result<usize, Error>) {
+// A serializer whose memory comes from an allocator.
+type Memory<M> = Serializer<Vec<u8, M>, M, Share<M>>;
+
+// Writes a pair behind what a serializer wrote, and answers its position.
+fn write_pair<S: Writer + ResolverAlloc + Keys, A: Serialize<S>, B: Serialize<S>>(
+    pair: &(A, B),
+    serializer: &mut S,
+) -> Result<usize, Error> {
+    serialize_using(pair, serializer)
+}
+
+// Four bytes and then a pair, with all memory from `alloc`: what was written, and what was answered.
+fn written_in<M: Allocator + Copy + Drop, A: Serialize<Memory<M>>, B: Serialize<Memory<M>>>(
+    alloc: M,
+    pair: &(A, B),
+) -> (Vec<u8, M>, Result<usize, Error>) {
     let mut serializer = Serializer::new(Vec::new(alloc), alloc, Share::new(alloc));
     if let Err(error) = serializer.write(b"\xaa\xbb\xcc\xdd") {
         return (serializer.into_writer(), Err(error));
     }
-    let root = serialize_using(pair, &mut serializer);
+    let root = write_pair(pair, &mut serializer);
     (serializer.into_writer(), root)
 }
 
@@ -101,15 +110,15 @@ fn what_was_written_before_stands(rt: HostRuntime) {
     assert_holds(&rt, "served, and refused before", served && most >= 4);
 }
 
-// The number of the refusal of the pair's bytes in a context of them, or 0 where they are accepted.
-fn refusal_in<C: ArchiveContext + SharedContext>(
+// The number of the refusal of a pair's bytes in a context of them, or 0 where they are accepted.
+fn refusal_in<A: Portable, B: Portable, C: ArchiveContext + SharedContext>(
     alloc: Global,
     bytes: &[u8],
     context: &mut C,
 ) -> u32
     requires { (C.state context.old).end ≤ length bytes.now }
 {
-    match check_pos_with_context::<ArchivedPair, C>(alloc, bytes, 4, context) {
+    match check_pos_with_context::<ArchivedTuple2<A, B>, C>(alloc, bytes, 4, context) {
         Ok(()) => 0,
         Err(error) => error.number(),
     }
@@ -119,7 +128,7 @@ fn refusal_in<C: ArchiveContext + SharedContext>(
 fn refusal_with<A: Allocator + Copy + Drop>(alloc: Global, memory: A) -> u32 {
     let range = ArchiveValidator::new(ONE_NUMBER);
     let mut context = Validator::new(range, SharedValidator::new(memory));
-    refusal_in(alloc, ONE_NUMBER, &mut context)
+    refusal_in::<Pointer, Pointer, _>(alloc, ONE_NUMBER, &mut context)
 }
 
 #[test]
@@ -173,21 +182,6 @@ impl Pooling<Shared<u32>> for Refusing {
     }
 }
 
-// A pair is read back, or refused with this error.
-fn assert_pair_read<T: Archive + Drop, D: Pooling<Shared<T>>>(
-    rt: &impl Abort,
-    alloc: Global,
-    archive: &[u8],
-    deserializer: &mut D,
-    refusal: Option<Error>,
-)
-where
-    T::Archived: Deserialize<T, D>,
-{
-    let found: Result<(Shared<T>, Shared<T>), Error> = from_bytes(alloc, archive, deserializer);
-    assert_same(rt, "the refusal", found.err(), refusal);
-}
-
 // What a pool has at the number's position: nothing, or it is pending, or the number.
 fn state_of(rt: &impl Abort, pool: &mut Pool<Shared<u32>>) -> Option<Option<u32>> {
     if !pool.is_known(0) {
@@ -200,32 +194,25 @@ fn state_of(rt: &impl Abort, pool: &mut Pool<Shared<u32>>) -> Option<Option<u32>
 }
 
 // What the pool has there behind a reading with so many requests served, which is refused for want of memory or isn't.
-fn read_with(
+fn assert_state(
     rt: &impl Abort,
     alloc: Global,
     served: usize,
     is_refused: bool,
-) -> Option<Option<u32>> {
+    state: Option<Option<u32>>,
+) {
     let pool: Pool<Shared<u32>> = Pool::new(alloc);
     let mut refusing = Refusing { pool, served };
-    let refusal = if is_refused {
-        Some(Error::OutOfMemory)
-    } else {
-        None
-    };
-    assert_pair_read::<u32, _>(rt, alloc, ONE_NUMBER, &mut refusing, refusal);
+    let pair: Option<Pair> = read_pair(rt, alloc, ONE_NUMBER, &mut refusing);
     let Refusing { mut pool, .. } = refusing;
-    state_of(rt, &mut pool)
+    let found = (served, pair.is_some(), state_of(rt, &mut pool));
+    assert_same(rt, "so many served", found, (served, !is_refused, state));
 }
 
 #[test]
 fn what_a_pool_finished_stands(rt: HostRuntime) {
-    let found = read_with(&rt, rt.alloc(), 0, true);
-    assert_same(&rt, "none served", found, None);
-    let found = read_with(&rt, rt.alloc(), 1, true);
-    assert_same(&rt, "one served", found, Some(None));
-    let found = read_with(&rt, rt.alloc(), 2, true);
-    assert_same(&rt, "two served", found, Some(Some(10)));
-    let found = read_with(&rt, rt.alloc(), 3, false);
-    assert_same(&rt, "three served", found, Some(Some(10)));
+    assert_state(&rt, rt.alloc(), 0, true, None);
+    assert_state(&rt, rt.alloc(), 1, true, Some(None));
+    assert_state(&rt, rt.alloc(), 2, true, Some(Some(10)));
+    assert_state(&rt, rt.alloc(), 3, false, Some(Some(10)));
 }

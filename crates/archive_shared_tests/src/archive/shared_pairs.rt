@@ -1,17 +1,15 @@
-// Pairs of shared and weak pointers: written, checked and read back. What is done with a pair is said of any type once, so that a test hands over what the
-// type it is about does, and not what the pair does.
+// Pairs of shared and weak pointers: written, checked and read back. What is done with a pair is said of any two types once, and what with two pointers of any
+// type, so that a test hands over what the type it is about does, and not what the pair or the pointers do.
 
-use crate::assertions::{
-    assert_accepted, assert_holds, assert_refused, assert_same, assert_written, read,
-};
+use crate::archive::pairs::{assert_pair, assert_pair_refused, assert_pair_written, read_pair};
+use crate::assertions::{assert_holds, assert_same};
 use archive_core::api::{HighDeserializer, HighSerializer};
 use archive_core::error::Error;
 use archive_core::pooling::{Pool, Pooling, Unpool};
 use archive_core::primitive::{ArchivedI32, ArchivedU32};
 use archive_core::rc::{ArchivedRc, ArchivedRcWeak, RcFlavor, Shared, SharedSlice, WeakShared};
 use archive_core::slice::ArchivedSlice;
-use archive_core::traits::{Archive, Deserialize, Portable, PortablePointee, Serialize};
-use archive_tuple::ArchivedTuple2;
+use archive_core::traits::{Archive, Deserialize, PortablePointee, Serialize};
 use std::alloc::Global;
 use std::process::Abort;
 use std::rc::{Rc, RcSlice};
@@ -42,69 +40,57 @@ fn shared_slice<T: Drop>(rt: &impl Abort, key: u64, values: Vec<T>) -> SharedSli
     SharedSlice { key, value }
 }
 
-// The archive of two pointers, each of its own key and value.
+// Two pointers to one value.
+fn twice<T: Drop>(rt: &impl Abort, alloc: Global, value: T) -> (Shared<T>, Shared<T>) {
+    let first = shared(rt, alloc, 1, value);
+    let second = first.clone().expect(rt, "memory");
+    (first, second)
+}
+
+// Two pointers to one slice.
+fn slice_twice<T: Drop>(rt: &impl Abort, values: Vec<T>) -> (SharedSlice<T>, SharedSlice<T>) {
+    let first = shared_slice(rt, 1, values);
+    let second = first.clone().expect(rt, "memory");
+    (first, second)
+}
+
+// The archive of two pointers.
 fn assert_two_written<T: Serialize<HighSerializer<Vec<u8>, Global>> + Drop>(
     rt: &impl Abort,
     alloc: Global,
-    values: (T, T),
+    pair: &(Shared<T>, Shared<T>),
     archive: &[u8],
 ) {
-    let pair = (
-        shared(rt, alloc, 1, values.0),
-        shared(rt, alloc, 2, values.1),
-    );
-    assert_written(rt, alloc, &pair, archive);
+    assert_pair_written(rt, alloc, pair, archive);
 }
 
-// And of two pointers to one value.
-fn assert_twice_written<T: Serialize<HighSerializer<Vec<u8>, Global>> + Drop>(
-    rt: &impl Abort,
-    alloc: Global,
-    value: T,
-    archive: &[u8],
-) {
-    let first = shared(rt, alloc, 1, value);
-    let second = first.clone().expect(rt, "memory");
-    assert_written(rt, alloc, &(first, second), archive);
-}
-
-// And of a pointer to a value with a weak one, to the same value or to none.
-fn assert_weak_written<T: Serialize<HighSerializer<Vec<u8>, Global>> + Drop>(
-    rt: &impl Abort,
-    alloc: Global,
-    value: T,
-    is_null: bool,
-    archive: &[u8],
-) {
-    let first = shared(rt, alloc, 1, value);
-    let value = if is_null {
-        None
-    } else {
-        Some(first.clone().expect(rt, "memory"))
-    };
-    assert_written(rt, alloc, &(first, WeakShared { value }), archive);
-}
-
-// And of two slices.
+// And of two pointers to slices.
 fn assert_slices_written<T: Serialize<HighSerializer<Vec<u8>, Global>> + Drop>(
     rt: &impl Abort,
     alloc: Global,
-    slices: (SharedSlice<T>, SharedSlice<T>),
+    pair: &(SharedSlice<T>, SharedSlice<T>),
     archive: &[u8],
 ) {
-    assert_written(rt, alloc, &slices, archive);
+    assert_pair_written(rt, alloc, pair, archive);
 }
 
-// And of two pointers to one slice.
-fn assert_slice_twice_written<T: Serialize<HighSerializer<Vec<u8>, Global>> + Drop>(
+// And of a pointer to a number with a weak one.
+fn assert_weak_written(
     rt: &impl Abort,
     alloc: Global,
-    values: Vec<T>,
+    pair: &(Shared<u32>, WeakShared<u32>),
     archive: &[u8],
 ) {
-    let first = shared_slice(rt, 1, values);
-    let second = first.clone().expect(rt, "memory");
-    assert_written(rt, alloc, &(first, second), archive);
+    assert_pair_written(rt, alloc, pair, archive);
+}
+
+fn assert_numbers_written(
+    rt: &impl Abort,
+    alloc: Global,
+    pair: &(Shared<u32>, Shared<u32>),
+    archive: &[u8],
+) {
+    assert_two_written(rt, alloc, pair, archive);
 }
 
 // What is read back of two pointers.
@@ -117,20 +103,7 @@ fn read_two<T: Archive + Drop, D: Pooling<Shared<T>>>(
 where
     T::Archived: Deserialize<T, D>,
 {
-    read(rt, alloc, archive, deserializer)
-}
-
-// Of a pointer and a weak one.
-fn read_weak<T: Archive + Drop, D: Pooling<Shared<T>>>(
-    rt: &impl Abort,
-    alloc: Global,
-    archive: &[u8],
-    deserializer: &mut D,
-) -> (Shared<T>, WeakShared<T>)
-where
-    T::Archived: Deserialize<T, D>,
-{
-    read(rt, alloc, archive, deserializer)
+    read_pair(rt, alloc, archive, deserializer).expect(rt, "a pair")
 }
 
 // And of two pointers to slices.
@@ -143,22 +116,25 @@ fn read_slices<T: Archive + Drop, D: Pooling<SharedSlice<T>>>(
 where
     T::Archived: Deserialize<T, D>,
 {
-    read(rt, alloc, archive, deserializer)
+    read_pair(rt, alloc, archive, deserializer).expect(rt, "a pair")
 }
 
-// A pair of these is accepted.
-fn assert_pair<A: Portable, B: Portable>(rt: &impl Abort, alloc: Global, bytes: &[u8]) {
-    assert_accepted::<ArchivedTuple2<A, B>>(rt, alloc, bytes);
+// And of a pointer to a number with a weak one, by a pool.
+fn read_weak(rt: &impl Abort, alloc: Global, archive: &[u8]) -> (Shared<u32>, WeakShared<u32>) {
+    let mut pool: Pool<Shared<u32>> = Pool::new(alloc);
+    read_pair(rt, alloc, archive, &mut pool).expect(rt, "a pair")
 }
 
-// Two shared pointers to one type are.
+// Two shared pointers to one type are accepted.
 fn assert_two<T: PortablePointee>(rt: &impl Abort, alloc: Global, bytes: &[u8]) {
     assert_pair::<ArchivedRc<T, RcFlavor>, ArchivedRc<T, RcFlavor>>(rt, alloc, bytes);
 }
 
-// A shared pointer and a weak one to one type are.
-fn assert_weak<T: PortablePointee>(rt: &impl Abort, alloc: Global, bytes: &[u8]) {
-    assert_pair::<ArchivedRc<T, RcFlavor>, ArchivedRcWeak<T, RcFlavor>>(rt, alloc, bytes);
+// A shared pointer and a weak one to a number are.
+fn assert_weak(rt: &impl Abort, alloc: Global, bytes: &[u8]) {
+    assert_pair::<ArchivedRc<ArchivedU32, RcFlavor>, ArchivedRcWeak<ArchivedU32, RcFlavor>>(
+        rt, alloc, bytes,
+    );
 }
 
 // Shared pointers to these two types are refused.
@@ -169,48 +145,58 @@ fn assert_not_two<T: PortablePointee, U: PortablePointee>(
     bytes: &[u8],
     refusal: Error,
 ) {
-    type One<T> = ArchivedRc<T, RcFlavor>;
-    assert_refused::<ArchivedTuple2<One<T>, One<U>>>(rt, what, alloc, bytes, refusal);
+    assert_pair_refused::<ArchivedRc<T, RcFlavor>, ArchivedRc<U, RcFlavor>>(
+        rt, what, alloc, bytes, refusal,
+    );
 }
 
-// The key and the number of a shared number.
-fn number_of(number: &Shared<u32>) -> (u64, u32) {
-    (number.key, *number.value)
-}
-
-// Each of two pointers leads to a 10 and has the key 0, and both to one 10 or to two.
-fn assert_tens(rt: &impl Abort, pair: &(Shared<u32>, Shared<u32>), in_one_place: bool) {
-    assert_same(rt, "the first", number_of(&pair.0), (0, 10));
-    assert_same(rt, "the second", number_of(&pair.1), (0, 10));
-    let one = Rc::ptr_eq(&pair.0.value, &pair.1.value);
-    assert_same(rt, "one number", one, in_one_place);
+// Each of two pointers that are read back leads to a 10 and has the key 0, and both to one 10 or to two.
+fn assert_tens<D: Pooling<Shared<u32>>>(
+    rt: &impl Abort,
+    alloc: Global,
+    deserializer: &mut D,
+    in_one_place: bool,
+) {
+    let (first, second) = read_two(rt, alloc, ONE_NUMBER, deserializer);
+    let one = Rc::ptr_eq(&first.value, &second.value);
+    assert_same(rt, "the keys", (first.key, second.key), (0, 0));
+    let found = (*first.value, *second.value, one);
+    assert_same(rt, "the numbers", found, (10, 10, in_one_place));
 }
 
 #[test]
 fn two_pointers_to_one_number(rt: HostRuntime) {
-    assert_twice_written(&rt, rt.alloc(), 10u32, ONE_NUMBER);
+    let pair = twice(&rt, rt.alloc(), 10);
+    assert_numbers_written(&rt, rt.alloc(), &pair, ONE_NUMBER);
     assert_two::<ArchivedU32>(&rt, rt.alloc(), ONE_NUMBER);
     let mut pool: HighDeserializer<Shared<u32>> = Pool::new(rt.alloc());
-    let pair = read_two(&rt, rt.alloc(), ONE_NUMBER, &mut pool);
-    assert_tens(&rt, &pair, true);
+    assert_tens(&rt, rt.alloc(), &mut pool, true);
 }
 
 #[test]
 fn two_pointers_to_one_number_without_a_pool(rt: HostRuntime) {
-    let pair = read_two(&rt, rt.alloc(), ONE_NUMBER, &mut Unpool);
-    assert_tens(&rt, &pair, false);
+    assert_tens(&rt, rt.alloc(), &mut Unpool, false);
 }
 
 #[test]
 fn two_pointers_to_two_numbers(rt: HostRuntime) {
     let archive = b"\x0a\0\0\0\x14\0\0\0\xf8\xff\xff\xff\xf8\xff\xff\xff";
-    assert_two_written(&rt, rt.alloc(), (10u32, 20u32), archive);
+    let pair = (
+        shared(&rt, rt.alloc(), 1, 10),
+        shared(&rt, rt.alloc(), 2, 20),
+    );
+    assert_numbers_written(&rt, rt.alloc(), &pair, archive);
 }
 
 #[test]
 fn two_pointers_to_one_unit(rt: HostRuntime) {
-    assert_twice_written(&rt, rt.alloc(), (), ONE_UNIT);
+    let pair = twice(&rt, rt.alloc(), ());
+    assert_two_written(&rt, rt.alloc(), &pair, ONE_UNIT);
     assert_two::<()>(&rt, rt.alloc(), ONE_UNIT);
+}
+
+#[test]
+fn two_pointers_to_one_unit_are_read_back(rt: HostRuntime) {
     let mut pool: Pool<Shared<()>> = Pool::new(rt.alloc());
     let (first, second): (Shared<()>, Shared<()>) = read_two(&rt, rt.alloc(), ONE_UNIT, &mut pool);
     assert_same(&rt, "the keys", (first.key, second.key), (0, 0));
@@ -221,7 +207,7 @@ fn an_empty_slice_and_one_of_a_number(rt: HostRuntime) {
     let empty: SharedSlice<u32> = shared_slice(&rt, 1, Vec::new(rt.alloc()));
     let numbers = vec![in rt.alloc(); 100u32].expect(&rt, "memory");
     let slices = (empty, shared_slice(&rt, 2, numbers));
-    assert_slices_written(&rt, rt.alloc(), slices, TWO_SLICES);
+    assert_slices_written(&rt, rt.alloc(), &slices, TWO_SLICES);
     assert_two::<ArchivedSlice<ArchivedU32>>(&rt, rt.alloc(), TWO_SLICES);
 }
 
@@ -240,17 +226,17 @@ fn two_pointers_to_one_slice_of_texts(rt: HostRuntime) {
     let hello = String::from_str(rt.alloc(), "hello").expect(&rt, "memory");
     let world = String::from_str(rt.alloc(), "world").expect(&rt, "memory");
     let texts = vec![in rt.alloc(); hello, world].expect(&rt, "memory");
-    assert_slice_twice_written(&rt, rt.alloc(), texts, ONE_SLICE_OF_TEXTS);
+    let slices = slice_twice(&rt, texts);
+    assert_slices_written(&rt, rt.alloc(), &slices, ONE_SLICE_OF_TEXTS);
 }
 
 // The key of a slice is 0, and its texts are "hello" and "world".
 fn assert_hello_world(rt: &impl Abort, slice: &SharedSlice<String>) {
-    assert_same(rt, "the key", slice.key, 0);
     let [hello, world] = slice.value.as_slice() else {
         panic!(rt; "not two")
     };
-    assert_same(rt, "the first", hello.as_str(), "hello");
-    assert_same(rt, "the second", world.as_str(), "world");
+    let found = (slice.key, hello.as_str(), world.as_str());
+    assert_same(rt, "the texts", found, (0, "hello", "world"));
 }
 
 #[test]
@@ -263,21 +249,34 @@ fn two_pointers_to_one_slice_of_texts_are_read_back(rt: HostRuntime) {
 
 #[test]
 fn a_shared_and_a_weak_pointer_to_one_number(rt: HostRuntime) {
-    assert_weak_written(&rt, rt.alloc(), 10u32, false, ONE_NUMBER);
-    let mut pool: Pool<Shared<u32>> = Pool::new(rt.alloc());
-    let (number, weak) = read_weak(&rt, rt.alloc(), ONE_NUMBER, &mut pool);
-    assert_same(&rt, "the number", number_of(&number), (0, 10));
-    let same = weak.value.as_ref().map(|same| number_of(same));
-    assert_same(&rt, "the weak one", same, Some((0, 10)));
+    let (number, same) = twice(&rt, rt.alloc(), 10);
+    let weak = WeakShared { value: Some(same) };
+    assert_weak_written(&rt, rt.alloc(), &(number, weak), ONE_NUMBER);
 }
 
 #[test]
 fn a_shared_number_and_a_null(rt: HostRuntime) {
-    assert_weak_written(&rt, rt.alloc(), 10u32, true, NUMBER_AND_NULL);
-    let mut pool: Pool<Shared<u32>> = Pool::new(rt.alloc());
-    let (number, null) = read_weak(&rt, rt.alloc(), NUMBER_AND_NULL, &mut pool);
-    assert_same(&rt, "the number", number_of(&number), (0, 10));
-    assert_holds(&rt, "null", null.value.is_none());
+    let number = shared(&rt, rt.alloc(), 1, 10);
+    let null = WeakShared { value: None };
+    assert_weak_written(&rt, rt.alloc(), &(number, null), NUMBER_AND_NULL);
+}
+
+// A pointer that is read back leads to a 10 and has the key 0, and so the weak one, where that is no null.
+fn assert_ten(rt: &impl Abort, alloc: Global, archive: &[u8], is_null: bool) {
+    let (number, weak) = read_weak(rt, alloc, archive);
+    assert_same(rt, "the number", (number.key, *number.value), (0, 10));
+    let Some(same) = weak.value else {
+        assert_holds(rt, "null", is_null);
+        return;
+    };
+    let found = (same.key, *same.value, is_null);
+    assert_same(rt, "the weak one", found, (0, 10, false));
+}
+
+#[test]
+fn a_weak_pointer_is_read_back(rt: HostRuntime) {
+    assert_ten(&rt, rt.alloc(), ONE_NUMBER, false);
+    assert_ten(&rt, rt.alloc(), NUMBER_AND_NULL, true);
 }
 
 #[test]
@@ -298,6 +297,6 @@ fn pairs_are_checked_by_position(rt: HostRuntime) {
         ONE_NUMBER,
         Error::TypeMismatch,
     );
-    assert_weak::<ArchivedU32>(&rt, rt.alloc(), ONE_NUMBER);
-    assert_weak::<ArchivedU32>(&rt, rt.alloc(), NUMBER_AND_NULL);
+    assert_weak(&rt, rt.alloc(), ONE_NUMBER);
+    assert_weak(&rt, rt.alloc(), NUMBER_AND_NULL);
 }

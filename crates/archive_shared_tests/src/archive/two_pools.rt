@@ -4,7 +4,8 @@ ghost use Rattle.std.specs.Prelude.{◌≡◌, true, is_some, refl};
 ghost use Rattle.std.proofs.Common.{true≢false};
 ghost use Rattle.archive_shared_tests.specs.TwoPools.{both_pools};
 
-use crate::assertions::{assert_same, read};
+use crate::archive::pairs::read_pair;
+use crate::assertions::assert_same;
 use archive_core::error::Error;
 use archive_core::pooling::{Pool, Pooled, Pooling, PoolingState};
 use archive_core::rc::{Shared, SharedStr};
@@ -89,7 +90,7 @@ fn read_both<P: Telling<Shared<u32>>, Q: Telling<SharedStr>>(
     alloc: Global,
     pools: &mut TwoPools<P, Q>,
 ) -> (Shared<u32>, SharedStr) {
-    read(rt, alloc, NUMBER_AND_TEXT, pools)
+    read_pair(rt, alloc, NUMBER_AND_TEXT, pools).expect(rt, "a pair")
 }
 
 #[test]
@@ -99,10 +100,8 @@ fn values_of_two_types_are_pooled(rt: HostRuntime) {
         texts: Pool::new(rt.alloc()),
     };
     let (number, text) = read_both(&rt, rt.alloc(), &mut pools);
-    let found = (number.key, *number.value);
-    assert_same(&rt, "the number", found, (0, 10));
-    let found = (text.key, text.value.as_str());
-    assert_same(&rt, "the text", found, (4, "hello"));
+    let found = (number.key, *number.value, text.key, text.value.as_str());
+    assert_same(&rt, "what is read", found, (0, 10, 4, "hello"));
     let found = (pools.numbers.is_known(0), pools.numbers.is_known(4));
     assert_same(&rt, "the numbers' pool", found, (true, false));
     let found = (pools.texts.is_known(4), pools.texts.is_known(0));
