@@ -22,17 +22,17 @@ pub(crate) fn assert_same<T: PartialEq + Debug + Drop>(
 
 // What `what` names holds.
 pub(crate) fn assert_holds(rt: &impl Abort, what: &str, holds: bool) {
-    assert!(rt; holds, "{what}");
+    assert_same(rt, what, holds, true);
 }
 
 // A call was refused, and for this reason.
-pub(crate) fn assert_refusal<T: PartialEq + Debug + Drop>(
+pub(crate) fn assert_refusal<T: Drop>(
     rt: &impl Abort,
     what: &str,
     found: Result<T, Error>,
     refusal: Error,
 ) {
-    assert_eq!(rt; found, Err(refusal), "{what}");
+    assert_same(rt, what, found.err(), Some(refusal));
 }
 
 // A text.
@@ -48,7 +48,7 @@ pub(crate) fn assert_written<T: Serialize<HighSerializer<Vec<u8>, Global>>>(
     archive: &[u8],
 ) {
     let bytes = to_bytes(alloc, value).expect(rt, "an archive");
-    assert_eq!(rt; bytes.as_slice(), archive);
+    assert_same(rt, "the archive", bytes.as_slice(), archive);
 }
 
 // A value has no archive, for this reason.
@@ -59,8 +59,7 @@ pub(crate) fn assert_unwritten<T: Serialize<HighSerializer<Vec<u8>, Global>>>(
     value: &T,
     refusal: Error,
 ) {
-    let refused = to_bytes(alloc, value).err();
-    assert_eq!(rt; refused, Some(refusal), "{what}");
+    assert_refusal(rt, what, to_bytes(alloc, value), refusal);
 }
 
 // An archive is read back as this value.
@@ -74,7 +73,7 @@ where
     T::Archived: Deserialize<T, ()>,
 {
     let back: T = from_bytes(alloc, archive, &mut ()).expect(rt, "a value");
-    assert_eq!(rt; &back, value, "of {archive:?}");
+    assert_same(rt, "what is read back", &back, value);
 }
 
 // No `T` is read back of the bytes, for this reason.
@@ -88,7 +87,7 @@ where
     T::Archived: Deserialize<T, ()>,
 {
     let back: Result<T, Error> = from_bytes(alloc, bytes, &mut ());
-    assert_eq!(rt; back.err(), Some(refusal), "reading {bytes:?}");
+    assert_refusal(rt, "what is read back", back, refusal);
 }
 
 // The view of the `T` at the end of the bytes.
@@ -119,7 +118,7 @@ pub(crate) fn assert_refused<T: Portable>(
     refusal: Error,
 ) {
     let refused = access::<T>(alloc, bytes).err();
-    assert_eq!(rt; refused, Some(refusal), "{what}, of {bytes:?}");
+    assert_same(rt, what, (bytes, refused), (bytes, Some(refusal)));
 }
 
 // No `T` lies at a position, for this reason.
@@ -132,5 +131,5 @@ pub(crate) fn assert_refused_at<T: Portable>(
     refusal: Error,
 ) {
     let refused = access_pos::<T>(alloc, bytes, pos).err();
-    assert_eq!(rt; refused, Some(refusal), "{what}");
+    assert_same(rt, what, refused, Some(refusal));
 }

@@ -69,10 +69,14 @@ const ARCHIVES: &[u8] =
 
 // A device that failed after so many writes did so once, which was passed on, and holds a beginning of the archives.
 fn assert_failed_once(rt: &impl Abort, left: u32, device: &Failing, written: Result<(), Error>) {
-    assert_eq!(rt; device.failures, 1, "after {left}");
-    assert_eq!(rt; written, Err(Error::WriterFailed), "after {left}");
-    let bytes = device.bytes.as_slice();
-    assert!(rt; ARCHIVES.starts_with(bytes), "after {left}");
+    let failed_once = device.failures == 1 && written == Err(Error::WriterFailed);
+    let begun = ARCHIVES.starts_with(device.bytes.as_slice());
+    assert_same(
+        rt,
+        "after so many writes",
+        (left, failed_once, begun),
+        (left, true, true),
+    );
 }
 
 // How many bytes a device holds that takes so many writes and fails then; none where it takes all archives.
@@ -100,7 +104,13 @@ fn each_write_fails_in_turn(rt: HostRuntime) {
         let Some(pos) = held_after(&rt, rt.alloc(), &hello, left) else {
             return;
         };
-        assert!(rt; pos >= held, "after {left}");
+        let no_fewer = pos >= held;
+        assert_same(
+            &rt,
+            "no fewer bytes after so many writes",
+            (left, no_fewer),
+            (left, true),
+        );
         held = pos;
     }
     panic!(&rt; "each run failed")

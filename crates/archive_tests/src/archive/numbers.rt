@@ -22,7 +22,7 @@ fn assert_number<N: Native + Debug + Drop>(
     number: N,
 ) {
     let view = viewed::<LittleEndian<N>>(rt, alloc, bytes);
-    assert_eq!(rt; view.get(), number, "{what}");
+    assert_same(rt, what, view.get(), number);
 }
 
 // A view of a leaf that is its own format gives this one.
@@ -33,7 +33,8 @@ fn assert_leaf<N: Plain + PartialEq + Debug + Drop>(
     bytes: &[u8],
     leaf: N,
 ) {
-    assert_eq!(rt; viewed::<N>(rt, alloc, bytes).get(), leaf, "{what}");
+    let view = viewed::<N>(rt, alloc, bytes);
+    assert_same(rt, what, view.get(), leaf);
 }
 
 // A view of a number that isn't 0 gives this one.
@@ -45,7 +46,7 @@ fn assert_not_zero<N: Integer + Debug + Drop>(
     number: N,
 ) {
     let view = viewed::<NonZero<N>>(rt, alloc, bytes);
-    assert_eq!(rt; view.get(), number, "{what}");
+    assert_same(rt, what, view.get(), number);
 }
 
 // The number and its format have this archive, which is viewed, and read back as both.

@@ -32,7 +32,8 @@ fn distances_between_positions(rt: HostRuntime) {
         (middle + 2, 0, Err(Error::IsizeOverflow)),
     ];
     for (from, to, distance) in rows {
-        assert_eq!(rt; signed_offset(from, to), distance, "from {from} to {to}");
+        let found = (from, to, signed_offset(from, to));
+        assert_same(&rt, "a distance", found, (from, to, distance));
     }
 }
 
@@ -66,7 +67,7 @@ fn assert_emplaced<const N: usize, O: Offset>(
     let mut bytes = [0xee; N];
     let place: Place<'_, RawRelPtr<O>> = Place::new(pos, &mut bytes);
     RawRelPtr::try_emplace(to, place).expect(rt, what);
-    assert_eq!(rt; bytes, wanted, "{what}");
+    assert_same(rt, what, bytes, wanted);
 }
 
 // A pointer isn't written, for this reason, and the bytes are ee as before.
@@ -83,7 +84,7 @@ fn assert_not_emplaced<const N: usize, O: Offset>(
     let place: Place<'_, RawRelPtr<O>> = Place::new(pos, &mut bytes);
     let answer = RawRelPtr::try_emplace(to, place);
     assert_refusal(rt, what, answer, refusal);
-    assert_eq!(rt; bytes, [0xee; N], "{what}");
+    assert_same(rt, what, bytes, [0xee; N]);
 }
 
 #[test]
@@ -151,8 +152,10 @@ fn pointers_as_they_are_read(rt: HostRuntime) {
 // A pointer is a leaf of this number, with these many bytes.
 fn assert_leaf<P: Portable>(rt: &impl Abort, alloc: Global, kind: IntegerKind, size: usize) {
     let expression = P::expr(alloc).expect(rt, "an expression");
-    assert_eq!(rt; expression, Expr::Leaf(Kind::RawRel(kind)));
-    assert_eq!(rt; (P::size(), P::align()), (size, size), "{kind:?}");
+    let wanted = Expr::Leaf(Kind::RawRel(kind));
+    assert_same(rt, "the expression", expression, wanted);
+    let found = (kind, P::size(), P::align());
+    assert_same(rt, "its numbers", found, (kind, size, size));
 }
 
 #[test]

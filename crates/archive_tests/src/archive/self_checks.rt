@@ -167,10 +167,15 @@ fn agrees_when_edited<T: Portable>(rt: &impl Abort, alloc: Global, archive: &[u8
 
 // And that of a type that checks itself, or that goes by its schema.
 fn assert_agrees<T: Portable>(rt: &impl Abort, alloc: Global, checks_itself: bool, archive: &[u8]) {
-    assert_eq!(rt; T::Check::is_direct(), checks_itself, "for {archive:?}");
-    assert!(rt;
+    let found = (
+        T::Check::is_direct(),
         agrees_when_edited::<T>(rt, alloc, archive),
-        "for {archive:?}"
+    );
+    assert_same(
+        rt,
+        "the checks",
+        (archive, found),
+        (archive, (checks_itself, true)),
     );
 }
 

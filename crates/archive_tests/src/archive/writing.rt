@@ -40,7 +40,7 @@ fn assert_appended<W: Writer, T: Serialize<W>>(
     root: usize,
 ) {
     let pos = to_bytes_into(alloc, value, writer).expect(rt, "an archive");
-    assert_eq!(rt; pos, root, "the root");
+    assert_same(rt, "the root", pos, root);
 }
 
 // A value whose archive can't be appended to a writer.
@@ -51,8 +51,8 @@ fn assert_not_appended<W: Writer, T: Serialize<W>>(
     writer: &mut W,
     refusal: Error,
 ) {
-    let refused = to_bytes_into(alloc, value, writer).err();
-    assert_eq!(rt; refused, Some(refusal), "too large");
+    let appended = to_bytes_into(alloc, value, writer);
+    assert_refusal(rt, "too large", appended, refusal);
 }
 
 // Three bytes that a writer holds already.
@@ -90,7 +90,7 @@ fn assert_region<T: Serialize<S>, S: Writer + ResolverAlloc>(
     region: usize,
 ) {
     let pos = serialize_one(value, serializer).expect(rt, "a region");
-    assert_eq!(rt; pos, region, "{what}");
+    assert_same(rt, what, pos, region);
 }
 
 #[test]
