@@ -24,7 +24,7 @@ pub(crate) fn assert_same<T: PartialEq + Debug + Drop>(
 
 // What `what` names holds.
 pub(crate) fn assert_holds(rt: &impl Abort, what: &str, holds: bool) {
-    assert!(rt; holds, "{what}");
+    assert_same(rt, what, holds, true);
 }
 
 // What a call answered that wasn't refused.
@@ -34,7 +34,7 @@ pub(crate) fn made<T>(rt: &impl Abort, what: &str, found: Result<T, Error>) -> T
 
 // Two buffers have the same bytes; `what` names them where they haven't.
 pub(crate) fn assert_bytes(rt: &impl Abort, what: &str, found: &[u8], wanted: &[u8]) {
-    assert_eq!(rt; found, wanted, "{what}");
+    assert_same(rt, what, found, wanted);
 }
 
 // These bytes are the archive of a value.
@@ -45,7 +45,7 @@ pub(crate) fn assert_written<T: Serialize<HighSerializer<Vec<u8>, Global>>>(
     archive: &[u8],
 ) {
     let bytes = to_bytes(alloc, value).expect(rt, "an archive");
-    assert_eq!(rt; bytes.as_slice(), archive);
+    assert_bytes(rt, "the archive", bytes.as_slice(), archive);
 }
 
 // The value of an archive that shares nothing.
@@ -67,7 +67,7 @@ where
     T::Archived: Deserialize<T, ()>,
 {
     let back: T = value_of(rt, alloc, archive);
-    assert_eq!(rt; &back, value, "of {archive:?}");
+    assert_same(rt, "what is read back", &back, value);
 }
 
 // The view of the `T` at the end of the bytes.
@@ -93,10 +93,11 @@ pub(crate) fn sealed<'a, T: Portable>(
 // No `T` lies at the end of the bytes, for this reason.
 pub(crate) fn assert_refused<T: Portable>(
     rt: &impl Abort,
+    what: &str,
     alloc: Global,
     bytes: &[u8],
     refusal: Error,
 ) {
     let refused = access::<T>(alloc, bytes).err();
-    assert_eq!(rt; refused, Some(refusal), "of {bytes:?}");
+    assert_same(rt, what, refused, Some(refusal));
 }

@@ -36,7 +36,7 @@ fn assert_behind_refused<T: Portable>(rt: &impl Abort, alloc: Global) {
         end: 0,
     };
     let bytes = b"\x01\0\0\0\x04\0\0\0\x01\0\0\0\xf4\xff\xff\xff";
-    assert_refused::<T>(rt, alloc, bytes, refusal);
+    assert_refused::<T>(rt, "a box behind its node", alloc, bytes, refusal);
 }
 
 // A node that is viewed holds a box.
@@ -85,11 +85,8 @@ fn assert_too_deep<T: Portable>(rt: &impl Abort, alloc: Global, bytes: &[u8], le
     requires { levels ≢ Some 0 }
 {
     let refused = entered::<T>(alloc, bytes, levels).err();
-    assert_eq!(rt;
-        refused,
-        Some(Error::ExceededMaximumSubtreeDepth),
-        "with few levels"
-    );
+    let too_deep = Some(Error::ExceededMaximumSubtreeDepth);
+    assert_same(rt, "with few levels", refused, too_deep);
 }
 
 // A node is as deep as its boxes.

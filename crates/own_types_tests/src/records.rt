@@ -71,7 +71,7 @@ fn assert_tag_refused<T: Portable>(rt: &impl Abort, alloc: Global) {
     };
     let mut bytes = *RECORD;
     bytes[40] = 2;
-    assert_refused::<T>(rt, alloc, &bytes, refusal);
+    assert_refused::<T>(rt, "another tag", alloc, &bytes, refusal);
 }
 
 // The number is written over, and no other byte.
