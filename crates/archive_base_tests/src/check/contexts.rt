@@ -25,9 +25,12 @@ const OTHER: FlavorInfo = FlavorInfo {
 
 // What a call answers. It holds no text, as an `Error` may: rows of it take the check a third of the time.
 enum Answer {
-    // a position is started, and was this before
-    Was(ValidationState),
-    IsFinished,
+    // a position is started, and was this before: unknown, pending or finished
+    Started,
+    Pending,
+    Finished,
+    // and is finished
+    Done,
     TypeMismatch,
     MetadataMismatch,
     NotStarted,
@@ -37,8 +40,10 @@ enum Answer {
 // The same, as the calls answer it: the state is none where a position is finished.
 fn result_of(answer: &Answer) -> Result<Option<ValidationState>, Error> {
     match answer {
-        Answer::Was(state) => Ok(Some(*state)),
-        Answer::IsFinished => Ok(None),
+        Answer::Started => Ok(Some(ValidationState::Started)),
+        Answer::Pending => Ok(Some(ValidationState::Pending)),
+        Answer::Finished => Ok(Some(ValidationState::Finished)),
+        Answer::Done => Ok(None),
         Answer::TypeMismatch => Err(Error::TypeMismatch),
         Answer::MetadataMismatch => Err(Error::MetadataMismatch),
         Answer::NotStarted => Err(Error::NotStarted),
@@ -116,23 +121,11 @@ fn a_position_has_one_type_and_length(rt: HostRuntime) {
         &rt,
         &mut SharedValidator::new(rt.alloc()),
         &[
-            (
-                false,
-                true,
-                8,
-                Some(3),
-                Answer::Was(ValidationState::Started),
-            ),
+            (false, true, 8, Some(3), Answer::Started),
             (true, true, 8, Some(3), Answer::TypeMismatch),
             (false, false, 8, Some(0), Answer::TypeMismatch),
             (false, true, 8, Some(4), Answer::MetadataMismatch),
-            (
-                false,
-                true,
-                8,
-                Some(3),
-                Answer::Was(ValidationState::Pending),
-            ),
+            (false, true, 8, Some(3), Answer::Pending),
         ],
     );
 }
@@ -144,37 +137,13 @@ fn a_position_is_finished_once(rt: HostRuntime) {
         &mut SharedValidator::new(rt.alloc()),
         &[
             (false, true, 8, None, Answer::NotStarted),
-            (
-                false,
-                true,
-                8,
-                Some(3),
-                Answer::Was(ValidationState::Started),
-            ),
-            (
-                false,
-                false,
-                -8,
-                Some(0),
-                Answer::Was(ValidationState::Started),
-            ),
-            (true, false, 8, None, Answer::IsFinished),
+            (false, true, 8, Some(3), Answer::Started),
+            (false, false, -8, Some(0), Answer::Started),
+            (true, false, 8, None, Answer::Done),
             (false, true, 8, None, Answer::AlreadyFinished),
-            (
-                false,
-                true,
-                8,
-                Some(3),
-                Answer::Was(ValidationState::Finished),
-            ),
+            (false, true, 8, Some(3), Answer::Finished),
             (false, true, 8, Some(2), Answer::MetadataMismatch),
-            (
-                false,
-                false,
-                -8,
-                Some(0),
-                Answer::Was(ValidationState::Pending),
-            ),
+            (false, false, -8, Some(0), Answer::Pending),
         ],
     );
 }
