@@ -12,7 +12,7 @@ use crate::assertions::{
 use crate::readme::{archived, record, value_of};
 use archive_core::error::Error;
 use archive_core::primitive::ArchivedI32;
-use archive_core::seal::Seal;
+use archive_core::seal::{Seal, SealedLeaf};
 use archive_core::string::ArchivedString;
 use archive_core::traits::{ArchivePointee, Portable, Record};
 use archive_core::vec::ArchivedVec;
@@ -86,12 +86,13 @@ fn assert_number_written_over<R: Record>(rt: &impl Abort, alloc: Global)
     assert_bytes(rt, "with another number", &bytes, &wanted);
 }
 
-// Writes over the third of some numbers, if there is one.
-fn write_third(list: Seal<'_, ArchivedVec<ArchivedI32>>)
-    requires viewed { Viewed ⟦<ArchivedI32 as ArchivePointee>⟧.definitions list.bytes.now list.pos (one (vec_shape ⟦<ArchivedI32 as Portable>⟧.shape)) list.len }
+// Writes over the third element of a list, if there is one.
+fn write_third<T: Portable + SealedLeaf>(list: Seal<'_, ArchivedVec<T>>, value: T::Written)
+    requires viewed { Viewed T.definitions list.bytes.now list.pos (one (vec_shape T.shape)) list.len }
+    requires can_hold { T.can_hold value }
 {
     if list.as_ref().len() > 2 {
-        list.index(2).write(-1);
+        list.index(2).write(value);
     }
 }
 
@@ -105,7 +106,7 @@ fn assert_element_written_over<R: Record>(rt: &impl Abort, alloc: Global)
         .field::<Numbers>(2)
         .as_seal();
     if let Some(list) = list {
-        write_third(list);
+        write_third::<ArchivedI32>(list, -1);
     }
     let mut wanted = *RECORD;
     for at in 20..24 {
