@@ -257,8 +257,8 @@ fn short_table(rows: &[Row], wanted: impl Fn(&str) -> bool) -> String {
     for (set, _) in SETS.into_iter().filter(|(set, _)| wanted(*set)) {
         let of_columns = |it: &&Row| it.set == set && Operation::ALL.contains(&it.operation);
         let cells = rows.iter().filter(of_columns).map(|row| {
-            if row.cells[Format::Project as usize].ns().is_none() {
-                return "not yet".to_string();
+            if let Cell::Word(why) = &row.cells[Format::Project as usize] {
+                return why.clone();
             }
             let of = |format: Format| match &row.cells[format as usize] {
                 Cell::Word(why) => why.clone(),
