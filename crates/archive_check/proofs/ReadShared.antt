@@ -86,6 +86,29 @@ module _ (s : Schema) (bytes : List ℕ) where
         let eq : x ≡ u = pos_one (sym there ∙ at) in
         meets_in_shared c i e at (still u) (turns inner (rw eq at reached) (grows within outside u f))
 
+module _ (s : Schema) (bytes : List ℕ) (t : ℕ) (old started : Entries) where
+  -- what is met while t is pending is met within it
+  pub meets_within : {q n : ℕ} {P : Pointee} → old t ≡ None → ((u : ℕ) → (u ≡ t → ⊥) → started u ≡ old u) → MeetsOpen s bytes started [] q P n → MeetsOpen s bytes old (t ∷ []) q P n
+  meets_within {q = q} {n = n} {P = P} unknown others m = wider s bytes m was_none opened
+    where
+      opened : (u : ℕ) → IsOpen started [] u → IsOpen old (t ∷ []) u
+      opened u (inl pending) = elim (cases_eq u t) [
+        | inl eq ↦ inr (rw eq (contains_first [] t))
+        | inr d ↦ inl (sym (others u d) ∙ pending)
+      ]
+      opened u (inr c) = absurd (omega (arith, c.1))
+
+      was_none : (u : ℕ) → started u ≡ None → old u ≡ None
+      was_none u none = elim (cases_eq u t) [
+        | inl eq ↦ rw eq unknown
+        | inr d ↦ sym (others u d) ∙ none
+      ]
+
+  -- and so is what is met where nothing is kept
+  pub meets_alone : {q n : ℕ} {P : Pointee} → NoEntries old → NoEntries started → MeetsOpen s bytes started [] q P n → MeetsOpen s bytes old (t ∷ []) q P n
+  meets_alone nothing begun m = wider s bytes m (λ u e. nothing u)
+      (λ u o. ⊎_elim (λ pending. let no : started u ≡ None = begun u in cc) (λ d. absurd (omega (arith, d.1))) o)
+
 module _ (D : Definitions) (bytes : List ℕ) (q n t : ℕ) (flavor : Flavor) (P : Pointee) (there : (pointer_at bytes q (Some flavor) P).target ≡ pos t)
     (X : Shape) (is_hole : (s : Schema) (v : Value) → Contents s bytes q (one X) n v → v ≡ hole (pointer_at bytes q (Some flavor) P)) where
   abbrev p : Pointer
@@ -148,26 +171,12 @@ module _ (D : Definitions) (bytes : List ℕ) (q n t : ℕ) (flavor : Flavor) (P
 
   -- and so is one whose value, read while it is pending, meets an open position
   pub inner_cyclic : (old started : Entries) → old t ≡ None → started t ≡ Some None → ((u : ℕ) → (u ≡ t → ⊥) → started u ≡ old u) → IsCyclic D bytes started t P p.length → IsCyclic D bytes old q (one X) n
-  inner_cyclic old started unknown here others h = record { meets = λ s knows l. inside s knows l }
-    where
-      opened : (u : ℕ) → IsOpen started [] u → IsOpen old (t ∷ []) u
-      opened u (inl pending) = elim (cases_eq u t) [
-        | inl eq ↦ inr (rw eq (contains_first [] t))
-        | inr m ↦ inl (sym (others u m) ∙ pending)
-      ]
-      opened u (inr c) = absurd (omega (arith, c.1))
-
-      was_none : (u : ℕ) → started u ≡ None → old u ≡ None
-      was_none u none = elim (cases_eq u t) [
-        | inl eq ↦ rw eq unknown
-        | inr m ↦ sym (others u m) ∙ none
-      ]
-
-      inside : (s : Schema) → Knows s D → Lies s bytes q (one X) n → MeetsOpen s bytes old [] q (one X) n
-      inside s knows l =
-          let (v, c) = lies_reads s bytes l in
-          let (x, r) = target_reached s l in
-          meets_in_shared {t = t} {p = p} c (has_pointer s v c) refl there unknown (wider s bytes (h.meets s knows (reached_lies s bytes r)) was_none opened)
+  inner_cyclic old started unknown here others h = record {
+    meets = λ s knows l. (
+        let (v, c) = lies_reads s bytes l in
+        let (x, r) = target_reached s l in
+        meets_in_shared {t = t} {p = p} c (has_pointer s v c) refl there unknown (meets_within s bytes t old started unknown others (h.meets s knows (reached_lies s bytes r))));
+  }
 
   -- a new one is read while it is pending, and finished
   module _ (old started mid new : Entries) (own : Flavor) (w : Value) (keys : List Naming) (unknown : old t ≡ None) (here : started t ≡ Some None) (others : (u : ℕ) → (u ≡ t → ⊥) → started u ≡ old u)
@@ -289,8 +298,7 @@ module _ (D : Definitions) (bytes : List ℕ) (q n t : ℕ) (flavor : Flavor) (P
       meets = λ s knows l. (
           let (v, c) = lies_reads s bytes l in
           let (x, r) = target_reached s l in
-          meets_in_shared {t = t} {p = p} c (has_pointer s v c) refl there (nothing t) (wider s bytes (h.meets s knows (reached_lies s bytes r)) (λ u e. nothing u)
-          (λ u o. ⊎_elim (λ pending. let no : started u ≡ None = begun u in cc) (λ d. absurd (omega (arith, d.1))) o)));
+          meets_in_shared {t = t} {p = p} c (has_pointer s v c) refl there (nothing t) (meets_alone s bytes t old started nothing begun (h.meets s knows (reached_lies s bytes r))));
     }
 
     module _ (own : Flavor) (w : Value) (keys : List Naming) (h : ReadsBack D bytes t P p.length started mid w keys) where

@@ -87,6 +87,10 @@ IsClosed s bytes root X told t = (p : Pointer) (flavor : Flavor) → IsMet s byt
 pub record IsCyclic (D : Definitions) (bytes : List ℕ) (told : Entries) (q : ℕ) (P : Pointee) (n : ℕ) : Type 0 where
   pub meets : (s : Schema) → Knows s D → Lies s bytes q P n → MeetsOpen s bytes told [] q P n
 
+-- the shared position t is pending, or what is there leads to an open one, t itself among them
+abbrev pub LeadsToOpen : Definitions → List ℕ → Entries → ℕ → Pointee → ℕ → Type 0
+LeadsToOpen D bytes told t P n = (told t ≡ Some None) ⊎ ((s : Schema) → Knows s D → Lies s bytes t P n → MeetsOpen s bytes told (t ∷ []) t P n)
+
 -- P at q was read back as w, its shared values named by their positions, and these are what the names in w lead to: under each schema that knows
 -- the definitions, and under each root under which it lies so, what the archive means. What was told of finished positions before is as right as
 -- it was; what is told of them now is. No open position was met, and what was unknown and is finished now leads to none.

@@ -9,7 +9,7 @@ use Rattle.archive_check.specs.declared.format.layout.Layout.{Layout}
 use Rattle.archive_check.specs.declared.format.traits.ArchivePointee as ArchivePointee
 use Rattle.archive_check.specs.Shape.{Pointee}
 use Rattle.archive_check.specs.Definitions.{Definitions}
-use Rattle.archive_check.specs.RegionLayout.{IsRegionLayout, IsLargeRegion}
+use Rattle.archive_check.specs.RegionLayout.{IsRegionLayout, HasNoLayout}
 use Rattle.archive_check.specs.Ranges.{RangeState, subtree_answer, pushed, pop_answer, popped}
 use Rattle.archive_check.specs.PositionStates.{Positions}
 
@@ -70,7 +70,7 @@ module _ {C : Type 0} (state : C → RangeState) (positions : C → Positions) w
   -- `InRegion Call Gives D P length old position result new`: the same of the region of a pointer to P with this length, whose layout is made first
   pub data InRegion {R E : Type 0} (Call : C → Result R E → C → Type 0) (Gives : Error → E → Type 0) (D : Definitions) (P : Pointee) (length : ℕ) (old : C) (position : ℤ) : Result R E → C → Type 0 where
     layout_refused : {given : E}
-        → IsLargeRegion D P length
+        → HasNoLayout D P length
         → Gives LayoutTooLarge given
         → InRegion Call Gives D P length old position (Err given) old
     laid_out : {new : C} {result : Result R E} {layout : Layout}

@@ -44,6 +44,10 @@ pub record PartsLaidOut (D : Definitions) (ps : Parts) (align : ℕ) (end : ℕ 
   pub begins : (s : Schema) → Knows s D → (p n i : ℕ) (Y : Shape) → part_at ps i ≡ Some Y → IsPart s p n ps (p + begin n i) Y
   pub offsets : (s : Schema) → Knows s D → (n i : ℕ) → offset_at s.layouts n ps i ≡ begin n i
 
+-- the sizes of the parts
+abbrev pub HaveSizes : Definitions → Parts → (ℕ → ℕ) → Type 0
+HaveSizes D ps sizes = (s : Schema) → Knows s D → (i : ℕ) (Y : Shape) → part_at ps i ≡ Some Y → size_of s.layouts Y ≡ sizes i
+
 -- under the schema, X is a Y, or a name that stands for it
 pub data StandsFor (s : Schema) (Y : Shape) : Shape → Type 0 where
   for_itself : StandsFor s Y Y
@@ -110,6 +114,17 @@ module _ (D E : Definitions) (X : Shape) (L : Layout) (laid : HasLayout D X L) (
     begins = part_begins;
     offsets = part_offsets;
   }
+
+pub no_part_sized : HaveSizes no_definition no_part (λ i. 0)
+no_part_sized s k i Y none = absurd (cc none)
+
+-- one part, and others behind it
+pub part_sized : (D E : Definitions) (X : Shape) (L : Layout) → HasLayout D X L → (ps : Parts) (sizes : ℕ → ℕ) → HaveSizes E ps sizes
+    → HaveSizes (both D E) (part X ps) (first_or L.size sizes)
+part_sized D E X L laid ps sizes others s k zero Y e =
+    let same : X ≡ Y = cc e in
+    subst (λ Z. size_of s.layouts Z ≡ L.size) same (ap (λ l. l.size) (laid.solved s (knows_left s D E k)))
+part_sized D E X L laid ps sizes others s k (suc i) Y e = others s (knows_right s D E k) i Y e
 
 -- the greater of two alignments
 pub greater_align : (a b : ℕ) → IsAlign a → IsAlign b → IsAlign (max a b)

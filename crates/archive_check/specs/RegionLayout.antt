@@ -21,3 +21,7 @@ pub record IsRegionLayout (D : Definitions) (P : Pointee) (n : ℕ) (l : RustLay
 -- the region takes more than usize::MAX
 abbrev pub IsLargeRegion : Definitions → Pointee → ℕ → Type 0
 IsLargeRegion D P n = (s : Schema) → Knows s D → 2 ^ 64 ≤ pointee_size s P n
+
+-- and has no layout: it is no single value's
+abbrev pub HasNoLayout : Definitions → Pointee → ℕ → Type 0
+HasNoLayout D P n = IsLargeRegion D P n × (IsSingle P n → ⊥)

@@ -28,7 +28,7 @@ module _ (D : Definitions) (bytes : List ℕ) (q n : ℕ) (flavor : Flavor) (P :
 
   pub shared_unread : (told : Entries) (e : Error) → Viewed D bytes q (one (shared flavor P)) n → RefusesShared D bytes (target_from bytes q q) P (length_at bytes q P) told e
       → RefusesReading D bytes q (one (shared flavor P)) n told e
-  shared_unread told e v h = ⊎_elim inl (λ c. inr (c.0, c.1 q n (shared flavor P) (shared_leads v))) h
+  shared_unread told e v h = ⊎_elim inl (λ c. inr (c.0, c.1.by_pointers q n (shared flavor P) (shared_leads v))) h
 
   pub weak_back : (old new : Entries) (k : Kept) → i32_at bytes q ≢ pos 1 → Viewed D bytes q (one (weak flavor P)) n → ReadsShared D bytes (target_from bytes q q) P (length_at bytes q P) old new k
       → ReadsBack D bytes q (one (weak flavor P)) n old new (shared_value k.name) ((k.name, (k.entry, k.value)) ∷ k.keys)
@@ -36,7 +36,7 @@ module _ (D : Definitions) (bytes : List ℕ) (q n : ℕ) (flavor : Flavor) (P :
 
   pub weak_unread : (told : Entries) (e : Error) → i32_at bytes q ≢ pos 1 → Viewed D bytes q (one (weak flavor P)) n → RefusesShared D bytes (target_from bytes q q) P (length_at bytes q P) told e
       → RefusesReading D bytes q (one (weak flavor P)) n told e
-  weak_unread told e far v h = ⊎_elim inl (λ c. inr (c.0, c.1 q n (weak flavor P) (weak_leads far v))) h
+  weak_unread told e far v h = ⊎_elim inl (λ c. inr (c.0, c.1.by_pointers q n (weak flavor P) (weak_leads far v))) h
 
   -- a null is read back as such
   null_bare : i32_at bytes q ≡ pos 1 → (s : Schema) (v : Value) → Contents s bytes q (one (weak flavor P)) n v → pointers v ≡ []

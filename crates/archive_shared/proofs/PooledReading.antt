@@ -12,30 +12,30 @@ use Rattle.archive_check.specs.Denotes.{Naming}
 use Rattle.archive_check.specs.Layout.{has_length}
 use Rattle.archive_check.specs.Reads.{length_at}
 use Rattle.archive_check.specs.Pooled.{Kept, EntryState, Entries, pooled}
-use Rattle.archive_check.specs.Viewed.{Viewed}
-use Rattle.archive_check.specs.Entries.{NoEntries, AreNamedByPosition, IsCyclic, ReadsBack, RefusesReading}
-use Rattle.archive_check.proofs.ReadShared.{again_read_back, pending_cyclic, inner_cyclic, shared_read_back, alone_cyclic, alone_read_back}
+use Rattle.archive_check.specs.Viewed.{Viewed, Says}
+use Rattle.archive_check.specs.Entries.{NoEntries, AreNamedByPosition, IsCyclic, KeepsEntries, ReadsBack, RefusesReading}
+use Rattle.archive_check.proofs.ReadShared.{meets_within, meets_alone, again_read_back, pending_cyclic, inner_cyclic, shared_read_back, alone_cyclic, alone_read_back}
 use Rattle.archive_check.proofs.Seen.{same_some}
 use Rattle.archive_types.specs.SharedSources.{rc_flavor}
 use Rattle.archive_shared.specs.Pooling.{kept_at, IsPut, IsSame, LeadsHere, ReadsShared, RefusesShared, Spans}
 
 -- what is put there, and elsewhere
 
-put_here : (old new : Entries) (t : ℕ) (state : EntryState) → IsPut old t state new → new t ≡ state
+pub put_here : (old new : Entries) (t : ℕ) (state : EntryState) → IsPut old t state new → new t ≡ state
 put_here old new t state h = h t ∙ update_here old t state
 
-put_apart : (old new : Entries) (t : ℕ) (state : EntryState) → IsPut old t state new → (u : ℕ) → (u ≡ t → ⊥) → new u ≡ old u
+pub put_apart : (old new : Entries) (t : ℕ) (state : EntryState) → IsPut old t state new → (u : ℕ) → (u ≡ t → ⊥) → new u ≡ old u
 put_apart old new t state h u n = h u ∙ update_apart old t state u n
 
 -- a start of a known position changes nothing
-start_same : (old new : Entries) (t : ℕ) (k : Kept) → old t ≡ Some (Some k) → IsPut old t (pooled (old t)) new → IsSame old new
+pub start_same : (old new : Entries) (t : ℕ) (k : Kept) → old t ≡ Some (Some k) → IsPut old t (pooled (old t)) new → IsSame old new
 start_same old new t k known h u = elim (cases_eq u t) [
   | inl eq ↦ (let there : new t ≡ pooled (old t) = put_here old new t (pooled (old t)) h in let same : new t ≡ old t = rw known at there ∙ sym known in rw eq same)
   | inr n ↦ put_apart old new t (pooled (old t)) h u n
 ]
 
 -- what is named by position is so while another one is pending
-still_named : (old started : Entries) (t : ℕ) → started t ≡ Some None → ((u : ℕ) → (u ≡ t → ⊥) → started u ≡ old u) → AreNamedByPosition old → AreNamedByPosition started
+pub still_named : (old started : Entries) (t : ℕ) → started t ≡ Some None → ((u : ℕ) → (u ≡ t → ⊥) → started u ≡ old u) → AreNamedByPosition old → AreNamedByPosition started
 still_named old started t here others named u k is = elim (cases_eq u t) [
   | inl eq ↦ (let no : started t ≡ Some (Some k) = rw eq at is in cc)
   | inr n ↦ named u k (sym (others u n) ∙ is)
@@ -113,7 +113,7 @@ module _ (D : Definitions) (bytes : List ℕ) (q m : ℕ) (Q : Pointee) (w : Val
     }
 
 -- whether pending positions are kept
-by_keeping : {A : Type 0} (b : Bool) → (b ≡ true → A) → (b ≡ false → A) → A
+pub by_keeping : {A : Type 0} (b : Bool) → (b ≡ true → A) → (b ≡ false → A) → A
 by_keeping true f g = f refl
 by_keeping false f g = g refl
 
@@ -135,16 +135,21 @@ module _ (D : Definitions) (bytes : List ℕ) (t : ℕ) (P : Pointee) (n : ℕ) 
 
   -- one that is pending
   pub kept_pending : (old : Entries) → old t ≡ Some None → RefusesShared D bytes t P n old CyclicDeserialize
-  kept_pending old pending = inr (refl, λ q m X h. pending_cyclic D bytes q m t h.flavor P h.target X h.reads old pending)
+  kept_pending old pending = inr (refl, record { itself = inl pending; by_pointers = λ q m X h. pending_cyclic D bytes q m t h.flavor P h.target X h.reads old pending })
 
   -- one whose value is refused
   pub kept_refused : (old started : Entries) (e : Error) → (keeps ≡ false → NoEntries old) → (keeps ≡ false → NoEntries started) → (keeps ≡ true → IsPut old t (pooled (old t)) started) → old t ≡ None
       → RefusesReading D bytes t P n started e → RefusesShared D bytes t P n old e
   kept_refused old started e nothing begun after unknown h = ⊎_elim inl (λ c. inr (
     c.0,
-    λ q m X l. by_keeping keeps
-        (λ b. inner_cyclic D bytes q m t l.flavor P l.target X l.reads old started unknown (rw unknown at (put_here old started t (pooled (old t)) (after b))) (put_apart old started t (pooled (old t)) (after b)) (rw (l.length) (c.1)))
-        (λ b. alone_cyclic D bytes q m t l.flavor P l.target X l.reads old started started started (nothing b) (begun b) (begun b) (begun b) (rw (l.length) (c.1))),
+    record {
+      itself = inr (λ s knows l. by_keeping keeps
+          (λ b. meets_within s bytes t old started unknown (put_apart old started t (pooled (old t)) (after b)) (c.1.meets s knows l))
+          (λ b. meets_alone s bytes t old started (nothing b) (begun b) (c.1.meets s knows l)));
+      by_pointers = λ q m X l. by_keeping keeps
+          (λ b. inner_cyclic D bytes q m t l.flavor P l.target X l.reads old started unknown (rw unknown at (put_here old started t (pooled (old t)) (after b))) (put_apart old started t (pooled (old t)) (after b)) (rw (l.length) (c.1)))
+          (λ b. alone_cyclic D bytes q m t l.flavor P l.target X l.reads old started started started (nothing b) (begun b) (begun b) (begun b) (rw (l.length) (c.1)));
+    },
   )) h
 
   -- a new one

@@ -13,7 +13,7 @@ use Rattle.archive_check.specs.Denotes.{Naming}
 use Rattle.archive_check.specs.Pooled.{Kept, EntryState, Entries}
 use Rattle.archive_check.specs.PositionStates.{finish_answer}
 use Rattle.archive_check.specs.Viewed.{Viewed, Says}
-use Rattle.archive_check.specs.Entries.{IsCyclic, ReadsBack}
+use Rattle.archive_check.specs.Entries.{IsCyclic, LeadsToOpen, ReadsBack}
 use Rattle.archive_types.specs.SharedSources.{rc_flavor}
 use Rattle.archive_shared.specs.declared.pooling.PoolingState.{PoolingState}
 use Rattle.archive_shared.specs.declared.pooling.PoolingState.TheVariants.{Started, Pending, Finished}
@@ -57,9 +57,14 @@ pub record LeadsHere (bytes : List ℕ) (q m : ℕ) (X : Shape) (P : Pointee) (t
 abbrev pub ReadsShared : Definitions → List ℕ → ℕ → Pointee → ℕ → Entries → Entries → Kept → Type 0
 ReadsShared D bytes t P n old new k = (q m : ℕ) (X : Shape) → LeadsHere bytes q m X P t n → ReadsBack D bytes q (one X) m old new (shared_value k.name) ((k.name, (k.entry, k.value)) ∷ k.keys)
 
--- it was refused: memory was, or the reading of each pointer to P at t meets an open position
+-- P at t is pending or leads to an open position, and so the reading of each pointer to it meets one
+pub record IsCyclicAt (D : Definitions) (bytes : List ℕ) (t : ℕ) (P : Pointee) (n : ℕ) (told : Entries) : Type 0 where
+  pub itself : LeadsToOpen D bytes told t P n
+  pub by_pointers : (q m : ℕ) (X : Shape) → LeadsHere bytes q m X P t n → IsCyclic D bytes told q (one X) m
+
+-- it was refused: memory was, or an open position is met
 abbrev pub RefusesShared : Definitions → List ℕ → ℕ → Pointee → ℕ → Entries → Error → Type 0
-RefusesShared D bytes t P n told e = (e ≡ OutOfMemory) ⊎ ((e ≡ CyclicDeserialize) × ((q m : ℕ) (X : Shape) → LeadsHere bytes q m X P t n → IsCyclic D bytes told q (one X) m))
+RefusesShared D bytes t P n told e = (e ≡ OutOfMemory) ⊎ ((e ≡ CyclicDeserialize) × IsCyclicAt D bytes t P n told)
 
 -- a value that is read back of P has as many elements or bytes as the pointer says
 abbrev pub Spans : Definitions → Pointee → ℕ → Value → Type 0

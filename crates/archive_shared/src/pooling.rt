@@ -1,15 +1,15 @@
 //! Pools: shared values that are read back once for each position, and handed out at each pointer. The position is unknown, then pending while its
 //! value is read, then finished with the value.
 
-ghost use Rattle.std.specs.Prelude.{◌≡◌, ◌⊎◌, ◌≤◌, ℕ, true, false, refl, None, Some, is_some, Err, IfOk, OnOk, IfErr, OnErr, nat_eq};
+ghost use Rattle.std.specs.Prelude.{◌≡◌, ◌⊎◌, ◌≤◌, ℕ, true, false, refl, None, Some, is_some, Err, IfOk, OnOk, IfErr, OnErr, IsOk, nat_eq};
 ghost use Rattle.std.specs.HashMap.{get, spare};
 ghost use Rattle.std.proofs.Common.{true≢false};
-ghost use Rattle.archive_check.specs.Entries.{NoEntries};
+ghost use Rattle.archive_check.specs.Entries.{NoEntries, KeepsEntries};
 ghost use Rattle.archive_check.specs.Pooled.{Kept, pooled};
 ghost use Rattle.archive_check.specs.declared.format.error.Error.TheVariants.{OutOfMemory};
 ghost use Rattle.archive_shared.specs.Pooling.{known_by, IsStartAnswer, IsSame, Spans, IsFinishAnswer};
 ghost use Rattle.archive_shared.specs.KeptValues.{kept_value};
-ghost use Rattle.archive_shared.specs.SharedSeen.{ReadsKept, RefusesKept, PutAt};
+ghost use Rattle.archive_shared.specs.SharedSeen.{ReadsKept, HandsOut, SaysShown, IsFinishedWith, RefusesKept, PutAt};
 
 use archive_check::format::error::Error;
 use archive_types::traits::{Archive, ArchivePointee, DeserializeUnsized, Entries};
@@ -88,6 +88,10 @@ pub trait PoolingExt<T: Pooled>: Pooling<T> {
         Self: Sized,
         T::Archived: DeserializeUnsized<T::Value, Self>,
         ensures read { IfOk result (λ v. ReadsKept view.entry Self.Entries self (T.kept v)) }
+        ensures handed_out { IfOk result (λ v. HandsOut view.entry Self.Entries self (T.kept v)) }
+        ensures says { IfOk result (λ v. SaysShown view.entry Self.Entries self (T.kept v)) }
+        ensures finished { Self.keeps ≡ true → IfOk result (λ v. IsFinishedWith view.entry Self.Entries self (T.kept v)) }
+        ensures kept { OnOk result (KeepsEntries (Self.entry_of self.old) (Self.entry_of self.new)) }
         ensures refused { IfErr result (λ e. RefusesKept view.entry Self.Entries self e) }
     {
         let part = view.part();
@@ -189,11 +193,23 @@ impl Entries for Unpool {
 }
 
 impl<T: Pooled> Pooling<T> for Unpool {
-    fn start_pooling(&mut self, _pos: usize) -> Result<PoolingState<T>, Error> {
+    fn start_pooling(&mut self, _pos: usize) -> Result<PoolingState<T>, Error>
+        ensures answer { IfOk result (IsStartAnswer T.kept (⟦<Self as Entries>⟧.entry_of self.old _pos)) }
+        ensures after { ⟦<Self as Entries>⟧.keeps ≡ true → OnOk result (PutAt ⟦<Self as Entries>⟧ self _pos (pooled (⟦<Self as Entries>⟧.entry_of self.old _pos))) }
+        ensures unchanged { OnErr result (IsSame (⟦<Self as Entries>⟧.entry_of self.old) (⟦<Self as Entries>⟧.entry_of self.new)) }
+        ensures refused { IfErr result (λ e. e ≡ OutOfMemory) }
+        ensures succeeds { IsOk result }
+    {
         Ok(PoolingState::Started)
     }
 
-    fn finish_pooling(&mut self, _pos: usize, _value: T) -> Result<(), Error> {
+    fn finish_pooling(&mut self, _pos: usize, _value: T) -> Result<(), Error>
+        ensures answer { ⟦<Self as Entries>⟧.keeps ≡ true → IsFinishAnswer (⟦<Self as Entries>⟧.entry_of self.old _pos) result }
+        ensures after { ⟦<Self as Entries>⟧.keeps ≡ true → OnOk result (PutAt ⟦<Self as Entries>⟧ self _pos (Some (Some (T.kept _value)))) }
+        ensures unchanged { OnErr result (IsSame (⟦<Self as Entries>⟧.entry_of self.old) (⟦<Self as Entries>⟧.entry_of self.new)) }
+        ensures refused { ⟦<Self as Entries>⟧.keeps ≡ false → IfErr result (λ e. e ≡ OutOfMemory) }
+        ensures succeeds { IsOk result }
+    {
         Ok(())
     }
 }

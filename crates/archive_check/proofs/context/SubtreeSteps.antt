@@ -5,7 +5,7 @@ use Rattle.archive_check.specs.declared.format.error.Error.{Error}
 use Rattle.archive_check.specs.declared.format.error.Error.TheVariants.{ExceededMaximumSubtreeDepth, LayoutTooLarge}
 use Rattle.archive_check.specs.Shape.{Pointee}
 use Rattle.archive_check.specs.Definitions.{Definitions}
-use Rattle.archive_check.specs.RegionLayout.{IsLargeRegion}
+use Rattle.archive_check.specs.RegionLayout.{HasNoLayout}
 use Rattle.archive_check.specs.Ranges.{RangeState, subtree_answer, pushed, pop_answer, popped}
 use Rattle.archive_check.specs.PositionStates.{Positions}
 use Rattle.archive_check.specs.InSubtree.{IsEntered, InSubtree, InRegion, layout_refused, check_refused, push_refused, call_refused, pop_refused, entered_and_left}
@@ -87,6 +87,6 @@ module _ {C R E : Type 0} (state : C → RangeState) (positions : C → Position
 
 -- the region's layout is made first
 module _ {C R E : Type 0} (state : C → RangeState) (positions : C → Positions) (Call : C → Result R E → C → Type 0) (Gives : Error → E → Type 0) (D : Definitions) (P : Pointee) (length : ℕ) (old : C) (z : ℤ) where
-  pub at_layout : (e : Error) (r : Result R E) → (e ≡ LayoutTooLarge) × IsLargeRegion D P length → IsErrAnd r (Gives e) → InRegion state positions Call Gives D P length old z r old
+  pub at_layout : (e : Error) (r : Result R E) → (e ≡ LayoutTooLarge) × HasNoLayout D P length → IsErrAnd r (Gives e) → InRegion state positions Call Gives D P length old z r old
   at_layout e (Ok x) h given = absurd given
   at_layout e (Err y) h given = layout_refused h.1 (subst (λ x. Gives x y) h.0 given)

@@ -3,7 +3,7 @@
 ghost use Rattle.archive_check.specs.Definitions.{both};
 ghost use Rattle.archive_check.specs.Layout.{up};
 ghost use Rattle.archive_check.specs.NoOthers.{part_reached};
-ghost use Rattle.archive_check.specs.PartsLayout.{part_laid_out, greater_align, begins_over, within_over};
+ghost use Rattle.archive_check.specs.PartsLayout.{part_laid_out, part_sized, first_or, greater_align, begins_over, within_over};
 ghost use Rattle.archive_check.specs.SelfCheck.Lone.{part_ordered};
 ghost use Rattle.archive_check.specs.SelfCheck.Regions.{rises_over};
 ghost use Rattle.archive_check.specs.Shape.{part};
@@ -88,6 +88,12 @@ impl<A: Portable, B: Portable, C: Portable, D: Portable, R: PortableParts> Porta
     ghost laid_out = { part_laid_out _ _ _ _ A.has_layout _ _ _ _
         (part_laid_out _ _ _ _ B.has_layout _ _ _ _
         (part_laid_out _ _ _ _ C.has_layout _ _ _ _ (part_laid_out _ _ _ _ D.has_layout _ _ _ _ R.laid_out))) };
+
+    ghost sized = { part_sized _ _ _ _ A.has_layout (part B.shape (part C.shape (part D.shape R.parts)))
+        (first_or B.layout.size (first_or C.layout.size (first_or D.layout.size R.size_at)))
+        (part_sized _ _ _ _ B.has_layout (part C.shape (part D.shape R.parts)) (first_or C.layout.size (first_or D.layout.size R.size_at))
+        (part_sized _ _ _ _ C.has_layout (part D.shape R.parts) (first_or D.layout.size R.size_at)
+        (part_sized _ _ _ _ D.has_layout R.parts R.size_at R.sized))) };
 
     ghost no_others = { part_reached A.definitions (both B.definitions (both C.definitions (both D.definitions R.definitions))) A.shape
         (part B.shape (part C.shape (part D.shape R.parts))) A.no_others

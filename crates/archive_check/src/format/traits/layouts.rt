@@ -2,7 +2,7 @@
 
 ghost use Rattle.std.specs.Prelude.{◌≡◌, IfOk, IfErr, IsOk};
 ghost use Rattle.archive_check.specs.Shape.{run};
-ghost use Rattle.archive_check.specs.RegionLayout.{IsRegionLayout, IsLargeRegion};
+ghost use Rattle.archive_check.specs.RegionLayout.{IsRegionLayout, HasNoLayout};
 ghost use Rattle.archive_check.specs.declared.format.error.Error.TheVariants.{LayoutTooLarge};
 
 use super::{ArchivePointee, Portable};
@@ -17,14 +17,14 @@ pub trait LayoutRaw: ArchivePointee {
     /// `usize::MAX`. rkyv 0.8.18 takes the metadata in place of its length, and refuses a slice or a text above `isize::MAX`.
     fn layout_raw(length: usize) -> Result<Layout, Error>
         ensures made { IfOk result (λ l. IsRegionLayout Self.definitions Self.pointee length l) }
-        ensures refused { IfErr result (λ e. (e ≡ LayoutTooLarge) × IsLargeRegion Self.definitions Self.pointee length) };
+        ensures refused { IfErr result (λ e. (e ≡ LayoutTooLarge) × HasNoLayout Self.definitions Self.pointee length) };
 }
 
 /// One value: its size and alignment, whatever the length. It is never refused.
 impl<T: Portable> LayoutRaw for T {
     fn layout_raw(_length: usize) -> Result<Layout, Error>
         ensures made { IfOk result (λ l. IsRegionLayout T.definitions T.pointee _length l) }
-        ensures refused { IfErr result (λ e. (e ≡ LayoutTooLarge) × IsLargeRegion T.definitions T.pointee _length) }
+        ensures refused { IfErr result (λ e. (e ≡ LayoutTooLarge) × HasNoLayout T.definitions T.pointee _length) }
         ensures never_refused { IsOk result }
     {
         Ok(Layout {
@@ -38,7 +38,7 @@ impl<T: Portable> LayoutRaw for T {
 /// its size is above `usize::MAX`, except that a run of one isn't refused: its size then is `usize::MAX`. Our own.
 pub fn layout_of_run<T: Portable>(length: usize) -> Result<Layout, Error>
     ensures made { IfOk result (λ l. IsRegionLayout T.definitions (run T.shape) length l) }
-    ensures refused { IfErr result (λ e. (e ≡ LayoutTooLarge) × IsLargeRegion T.definitions (run T.shape) length) }
+    ensures refused { IfErr result (λ e. (e ≡ LayoutTooLarge) × HasNoLayout T.definitions (run T.shape) length) }
 {
     match times(Some(T::size()), length) {
         None => Err(Error::LayoutTooLarge),

@@ -6,7 +6,7 @@ ghost use Rattle.archive_check.specs.Layout.{up};
 ghost use Rattle.archive_check.specs.Expressions.{shape_of, shapes_in, table_of};
 ghost use Rattle.archive_check.specs.Definitions.{IsAlign, NoOthers, Extended, ExplainsConflict, named_record};
 ghost use Rattle.archive_check.specs.NoOthers.{no_parts_reached, part_reached};
-ghost use Rattle.archive_check.specs.PartsLayout.{PartsLaidOut, IsRecord, joined, first_or, no_part_laid_out, part_laid_out, greater_align, one_align, begins_at, begins_over, within_at, within_over};
+ghost use Rattle.archive_check.specs.PartsLayout.{PartsLaidOut, HaveSizes, IsRecord, joined, first_or, no_part_laid_out, no_part_sized, part_laid_out, part_sized, greater_align, one_align, begins_at, begins_over, within_at, within_over};
 ghost use Rattle.archive_check.specs.declared.format.error.Error.TheVariants.{OutOfMemory};
 ghost use Rattle.archive_check.specs.AddedDefinitions.{AreAdded};
 
@@ -57,6 +57,8 @@ pub trait PortableParts: CheckedParts {
 
     ghost laid_out: { PartsLaidOut Self.definitions Self.parts greatest Self.end begin };
 
+    ghost sized: { HaveSizes Self.definitions Self.parts size_at };
+
     ghost no_others: { NoOthers Self.definitions (parts Self.parts) };
 
     ghost begins: { (n i : ℕ) → n ≤ begin n i };
@@ -74,6 +76,8 @@ impl PortableParts for () {
     ghost is_align = { one_align };
 
     ghost laid_out = { no_part_laid_out };
+
+    ghost sized = { no_part_sized };
 
     ghost no_others = { no_parts_reached };
 
@@ -113,6 +117,8 @@ impl<A: Portable, R: PortableParts> PortableParts for (A, R) {
     ghost is_align = { greater_align A.layout.align R.greatest A.is_align R.is_align };
 
     ghost laid_out = { part_laid_out A.definitions R.definitions A.shape A.layout A.has_layout R.parts R.greatest R.end R.begin R.laid_out };
+
+    ghost sized = { part_sized A.definitions R.definitions A.shape A.layout A.has_layout R.parts R.size_at R.sized };
 
     ghost no_others = { part_reached A.definitions R.definitions A.shape R.parts A.no_others R.no_others };
 
