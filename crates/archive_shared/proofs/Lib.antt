@@ -1,3 +1,4 @@
 pub mod SharedOnes
 pub mod PooledReading
 pub mod PooledPointers
+pub mod PooledPositions
