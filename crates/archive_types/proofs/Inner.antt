@@ -1,5 +1,5 @@
 -- The region of a value that was serialized before, and a box of it.
-use Rattle.std.proofs.Common.{◌≡◌, ℕ, ◌+◌, ◌<◌, ◌≤◌, List, length}
+use Rattle.std.proofs.Common.{◌≡◌, inl, inr, ℕ, ◌+◌, ◌<◌, ◌≤◌, List, length}
 use Rattle.archive_check.specs.Shape.{Shape, one}
 use Rattle.archive_check.specs.Layout.{Layout}
 use Rattle.archive_check.specs.Definitions.{Definitions, HasLayout, IsAlign}
@@ -9,9 +9,9 @@ use Rattle.archive_check.specs.declared.format.error.Error.{Error}
 use Rattle.archive_check.specs.declared.format.error.Error.TheVariants.{PositionTooLarge}
 use Rattle.archive_write.specs.Written.{GoesOn, ExplainsRefusal, padding}
 use Rattle.archive_types.specs.Writing.{Naming, Puts}
-use Rattle.archive_types.specs.Causes.{Explains, HindersRegionAt}
-use Rattle.archive_types.specs.Inner.{IsBoxed, IsNotBoxed}
-use Rattle.archive_types.proofs.Causes.{goes_both}
+use Rattle.archive_types.specs.Causes.{Explains, HindersRegionAt, IsOwnCause, of_layout, IsOfWriting}
+use Rattle.archive_types.specs.Inner.{IsBoxed, IsPutAt, IsNotBoxed}
+use Rattle.archive_types.proofs.Causes.{goes_both, explains_write, explains_named}
 use Rattle.archive_types.proofs.Planned.{serialized_one, one_padded, one_hindered}
 use Rattle.archive_types.proofs.Owners.{serialized_box, box_refused, far_box_refused}
 
@@ -32,3 +32,20 @@ module _ (D : Definitions) (X : Shape) (ks : List Naming) (v flat : Value) (L : 
   -- it stands above 4,294,967,295
   pub too_far_inner : (t : ℕ) (mid low new : WriterState) → 4294967295 < t → Pads L.align mid low → Puts D low new X L flat → t ≡ length low.bytes → IsNotBoxed D X ks v flat mid new PositionTooLarge
   too_far_inner t mid low new far pads puts at = record { since = λ old g h. far_box_refused D (one X) 0 ks v t old new far (serialized_one D X ks v flat L t old mid low new h pads puts at) }
+
+pub put_there : {D : Definitions} {X : Shape} {L : Layout} {flat : Value} {t : ℕ} {mid low new : WriterState} → Pads L.align mid low → Puts D low new X L flat → t ≡ length low.bytes → IsPutAt D X L flat t mid new
+put_there {low = low} pads puts at = record { low = low; pads = pads; at = at; puts = puts }
+
+-- a refusal has the number of one of writing: of zeros in front, and of the region
+
+pub padding_number : (n position : ℕ) {mid new : WriterState} {e : Error} → position ≡ length mid.bytes → GoesOn mid new → ExplainsRefusal n position mid.room mid.failures new.failures e → IsOfWriting e
+padding_number n position {mid = mid} {new = new} {e = e} at g refusal =
+    explains_named (λ d. ⊥) (λ m. Unit {0}) mid new e (λ d h. absurd h) (explains_write (λ d. ⊥) (λ m. Unit {0}) n position mid new e at tt refusal)
+
+region_named : (D : Definitions) (X : Shape) (L : Layout) (flat : Value) (p : ℕ) (d : Error) → HindersRegionAt D X L flat p d → IsOwnCause d
+region_named D X L flat p d (inl h) = rw h.0 of_layout
+region_named D X L flat p d (inr h) = h.named
+
+pub region_number : (D : Definitions) (X : Shape) (L : Layout) (flat : Value) (p : ℕ) (reaches : ℕ → Type 0) (low new : WriterState) (e : Error)
+    → Explains (HindersRegionAt D X L flat p) reaches low new e → IsOfWriting e
+region_number D X L flat p reaches low new e h = explains_named (HindersRegionAt D X L flat p) reaches low new e (region_named D X L flat p) h

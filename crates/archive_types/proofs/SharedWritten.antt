@@ -19,7 +19,7 @@ use Rattle.archive_write.specs.Sharing.{known_answer}
 use Rattle.archive_types.specs.Writing.{NameMap, Naming, to_shared}
 use Rattle.archive_types.specs.SharedLaws.{naming_of, as_shared, as_weak}
 use Rattle.archive_types.specs.Plans.{Cursor, cursor, begun, ended, IsAt, Step, lays, plans_shared, plans_null, plans_new, PlanOf, RegionPlan, Serialized, serialized, SerializedShared, serialized_shared}
-use Rattle.archive_types.specs.Causes.{Explains, own_cause, of_position, of_length, PartOf, part_itself, IsOwner, owner_shared, owner_weak, HindersPart, stands_too_far, IsSharedOwner, shared_owner, weak_owner, shared_too_long, HindersStep, part_hinders, length_hinders, end_hinders, item_hinders, HindersSome, Hinders, HindersRegion, HindersShared, Reaches, RegionReaches, IsRefused}
+use Rattle.archive_types.specs.Causes.{Explains, own_cause, of_position, of_length, PartOf, part_itself, IsOwner, owner_shared, owner_weak, HindersPart, stands_too_far, IsSharedOwner, shared_owner, weak_owner, shared_too_long, HindersStep, part_hinders, length_hinders, end_hinders, HindersSome, Hinders, HindersRegion, HindersShared, Reaches, RegionReaches, IsRefused}
 use Rattle.archive_types.proofs.Causes.{explains_sooner, explains_later, explains_write}
 use Rattle.archive_types.proofs.PlansForward.{begun_below}
 use Rattle.archive_types.proofs.Appending.{writes_nothing}
@@ -32,7 +32,6 @@ moved_step : (s : Schema) (t n : ℕ) (P : Pointee) (w : Value) (e : Error) → 
 moved_step s t n P w e (part_hinders {o = o} {Y = Y} {w = u} p h) = part_hinders {r = region_at s t P n true} {o = o} {Y = Y} {w = u} p h
 moved_step s t n P w e (length_hinders l) = length_hinders {r = region_at s t P n true} l
 moved_step s t n P w e (end_hinders l) = end_hinders {r = region_at s t P n true} l
-moved_step s t n P w e (item_hinders is some) = item_hinders {r = region_at s t P n true} is some
 
 moved_steps : (s : Schema) (C : List Step) (t n : ℕ) (P : Pointee) (w : Value) (e : Error) → HindersSome s (C ++ lays (region_at s t P n false) w ∷ []) e → HindersSome s (C ++ lays (region_at s t P n true) w ∷ []) e
 moved_steps s C t n P w e (x, c, h) =

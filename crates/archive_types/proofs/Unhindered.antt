@@ -11,7 +11,7 @@ use Rattle.archive_check.specs.declared.format.error.Error.{Error}
 use Rattle.archive_check.proofs.Elements.{contains_cases}
 use Rattle.archive_types.specs.Writing.{NameMap}
 use Rattle.archive_types.specs.Plans.{Cursor, at_start, Step, lays, plans_leaf, plans_one, plans_region, PlansRegion}
-use Rattle.archive_types.specs.Causes.{IsTooWide, part_itself, part_of_one, stands_too_far, too_wide, text_too_long, HindersPart, shared_too_long, anywhere, too_far_from_here, HindersPartAt, part_hinders, length_hinders, end_hinders, item_hinders, HindersStep, HindersSome, HindersRegion}
+use Rattle.archive_types.specs.Causes.{IsTooWide, part_itself, part_of_one, stands_too_far, too_wide, text_too_long, HindersPart, shared_too_long, anywhere, too_far_from_here, HindersPartAt, part_hinders, length_hinders, end_hinders, HindersStep, HindersSome, HindersRegion}
 
 -- a schema of no names
 abbrev bare : Schema
@@ -31,7 +31,6 @@ step_unhindered : (s : Schema) (kind : Kind) (z : ℤ) (t : ℕ) (e : Error) →
 step_unhindered s kind z t e fits ends (part_hinders (part_of_one part_itself) at) = part_unhindered kind z _ e fits at
 step_unhindered s kind z t e fits ends (length_hinders long) = omega (arith, long)
 step_unhindered s kind z t e fits ends (end_hinders far) = omega (arith, far, ends)
-step_unhindered s kind z t e fits ends (item_hinders is has) = cc
 
 not_too_wide : (n : ℕ) → n < 2 ^ 32 → IsTooWide (number_kind unsigned w32) (pos n) → ⊥
 not_too_wide n less wide = wide n less refl

@@ -9,7 +9,7 @@ use Rattle.archive_check.specs.Reads.{Schema}
 use Rattle.archive_check.specs.Tour.{Region}
 use Rattle.archive_check.specs.WriterState.{KeyState, WriterState}
 use Rattle.archive_check.specs.declared.format.error.Error.{Error}
-use Rattle.archive_check.specs.declared.format.error.Error.TheVariants.{OutOfMemory, IsizeOverflow, OffsetOverflow, PositionTooLarge, LengthTooLarge, NumberTooLarge, StringTooLong, BufferOverflow, WriterFailed, ItemWrote, CyclicSerialize, LayoutTooLarge}
+use Rattle.archive_check.specs.declared.format.error.Error.TheVariants.{OutOfMemory, IsizeOverflow, OffsetOverflow, PositionTooLarge, LengthTooLarge, NumberTooLarge, StringTooLong, BufferOverflow, WriterFailed, CyclicSerialize, LayoutTooLarge}
 use Rattle.archive_pointers.specs.Offsets.{distance, IsTooFar}
 use Rattle.archive_types.specs.Plans.{Cursor, Step, lays, meets, Foreseen, PlanOf, RegionPlan, cursor}
 use Rattle.archive_types.specs.Writing.{Naming}
@@ -28,8 +28,8 @@ pub data Explains (own : Error → Type 0) (reaches : ℕ → Type 0) (old new :
   device_failed : (old.failures < new.failures) ⊎ (old.failures ≡ 2 ^ 64 - 1) → Explains own reaches old new WriterFailed
   own_cause : {e : Error} → own e → Explains own reaches old new e
 
--- The refusals that a value may cause: of an owner's offset; of a position, a length, a number, a string's text; of an item that wrote; of a key that
--- is pending; of a region's end.
+-- The refusals that a value may cause: of an owner's offset; of a position, a length, a number, a string's text; of a key that is pending; of a
+-- region's end.
 pub data IsOwnCause : Error → Type 0 where
   of_isize : IsOwnCause IsizeOverflow
   of_offset : IsOwnCause OffsetOverflow
@@ -37,7 +37,6 @@ pub data IsOwnCause : Error → Type 0 where
   of_length : IsOwnCause LengthTooLarge
   of_number : IsOwnCause NumberTooLarge
   of_string : IsOwnCause StringTooLong
-  of_item : IsOwnCause ItemWrote
   of_key : IsOwnCause CyclicSerialize
   of_layout : IsOwnCause LayoutTooLarge
 
@@ -127,8 +126,8 @@ pub data HindersPartAt : Shape → ℕ → Value → Error → Type 0 where
   too_far_from_here : {Y : Shape} {q : ℕ} {w : Value} {e : Error} {h : Pointer} {t : ℕ} → IsOwner Y w h → h.target ≡ pos t → IsTooFar e (distance q t) → HindersPartAt Y q w e
   looks_null : {flavor : Flavor} {P : Pointee} {q : ℕ} {h : Pointer} → h.target ≡ pos (suc q) → HindersPartAt (weak flavor P) q (hole h) OffsetOverflow
 
--- What hinders a step of a plan: a part of what is read in the region; its length is above 4,294,967,295, its end above `usize::MAX`; of a run, an item has
--- a pointer, so it may have written; or the key is pending.
+-- What hinders a step of a plan: a part of what is read in the region; its length is above 4,294,967,295, its end above `usize::MAX`; or
+-- the key is pending.
 pub data HindersStep (s : Schema) : Step → Error → Type 0 where
   part_hinders : {r : Region} {v : Value} {o : ℕ} {Y : Shape} {w : Value} {e : Error}
       → PartOfPointee s r.pointee r.length v o Y w
@@ -136,7 +135,6 @@ pub data HindersStep (s : Schema) : Step → Error → Type 0 where
       → HindersStep s (lays r v) e
   length_hinders : {r : Region} {v : Value} → 4294967295 < r.length → HindersStep s (lays r v) LengthTooLarge
   end_hinders : {r : Region} {v : Value} → 2 ^ 64 ≤ r.begin + r.size → HindersStep s (lays r v) LayoutTooLarge
-  item_hinders : {r : Region} {v : Value} {X : Shape} {h : Pointer} {hs : List Pointer} → r.pointee ≡ run X → pointers v ≡ h ∷ hs → HindersStep s (lays r v) ItemWrote
   key_hinders : {key : ℕ} → HindersStep s (meets key) CyclicSerialize
 
 -- one of them is hindered

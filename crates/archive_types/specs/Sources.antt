@@ -12,7 +12,7 @@ use Rattle.archive_check.specs.declared.format.traits.Entries as Entries
 use Rattle.archive_check.specs.declared.format.traits.Keys as Keys
 use Rattle.archive_types.specs.Arrays.{ResolvesRun}
 use Rattle.archive_types.specs.Causes.{HindersAt, IsRefused, IsRegionRefused}
-use Rattle.archive_types.specs.Inner.{IsBoxed, IsNotBoxed}
+use Rattle.archive_types.specs.Inner.{IsBoxed, IsPutAt, IsNotBoxed}
 use Rattle.archive_types.specs.KindsWritten.{RunStored, RunStoredIf, RunUnstored, RunCopiedIf, RunUncopied}
 use Rattle.archive_check.specs.Formats.{FormatOf}
 use Rattle.archive_types.specs.Plans.{Serialized, SerializedRegion}
@@ -105,6 +105,9 @@ SliceUnboxed a f xs k w e =
 -- from whatever the value was serialized: its region stands at t, and a box of it is serialized, too; and why it isn't
 abbrev pub InnerBoxed : {T A R M C S : Type 0} → Archive.Ghosts T A R C M → FormatOf M → T → R → Keys.Ghosts S → Both (MutBor S) (MutBor S) → ℕ → Type 0
 InnerBoxed a f v r k w t = IsBoxed f.definitions f.shape (a.keys v) (a.meaning v) (a.flat v r) t (k.state w.entry.now) (k.state w.exit.now)
+
+abbrev pub InnerPut : {T A R M C S : Type 0} → Archive.Ghosts T A R C M → FormatOf M → T → R → Keys.Ghosts S → Both (MutBor S) (MutBor S) → ℕ → Type 0
+InnerPut a f v r k w t = IsPutAt f.definitions f.shape f.layout (a.flat v r) t (k.state w.entry.now) (k.state w.exit.now)
 
 abbrev pub InnerUnboxed : {T A R M C S : Type 0} → Archive.Ghosts T A R C M → FormatOf M → T → R → Keys.Ghosts S → Both (MutBor S) (MutBor S) → Error → Type 0
 InnerUnboxed a f v r k w e = IsNotBoxed f.definitions f.shape (a.keys v) (a.meaning v) (a.flat v r) (k.state w.entry.now) (k.state w.exit.now) e

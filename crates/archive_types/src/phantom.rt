@@ -1,6 +1,6 @@
 // `PhantomData`: a record of nothing.
 
-ghost use Rattle.std.specs.Prelude.{◌≡◌, ⊤, [], length, IfOk, OnOk, IfErr, IsOk};
+ghost use Rattle.std.specs.Prelude.{◌≡◌, ⊤, refl, [], length, IfOk, OnOk, IfErr, IsOk};
 ghost use Rattle.archive_check.specs.Shape.{one, parts, no_part};
 ghost use Rattle.archive_check.specs.Definitions.{no_definition};
 ghost use Rattle.archive_check.specs.Entries.{ReadsBack};
@@ -19,8 +19,8 @@ ghost use Rattle.archive_write.specs.Written.{GoesOn};
 use crate::place::Place;
 use crate::slice::copy_groups;
 use crate::traits::{
-    Archive, ArchivePointee, Copied, CopyOptimization, Deserialize, Entries, Keys, Portable,
-    Serialize,
+    Archive, ArchivePointee, Copied, CopiedSource, CopyOptimization, Deserialize, Entries, Keys,
+    Portable, Serialize,
 };
 use crate::view::RawView;
 use archive_check::format::error::Error;
@@ -88,6 +88,12 @@ impl<T> Copied for PhantomData<T> {
     }
 
     fn copy_one(&self, _bytes: &mut [u8]) {}
+}
+
+impl<T> CopiedSource for PhantomData<T> {
+    ghost same_keys = { refl };
+
+    ghost same_meaning = { refl };
 }
 
 impl<T, S: Writer + Keys> Serialize<S> for PhantomData<T> {

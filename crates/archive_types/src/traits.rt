@@ -31,7 +31,7 @@ use std::alloc::Global;
 mod copying;
 mod one_value;
 
-pub use copying::{Copied, CopyOptimization};
+pub use copying::{Copied, CopiedSource, CopyOptimization};
 
 /// The archived type of a source.
 pub type Archived<T> = <T as Archive>::Archived;

@@ -16,7 +16,7 @@ use archive_core::place::Place;
 use archive_core::primitive::ArchivedU32;
 use archive_core::ser::Writer;
 use archive_core::slice::copy_groups;
-use archive_core::traits::{Archive, Copied, CopyOptimization, Keys, Serialize};
+use archive_core::traits::{Archive, Copied, CopiedSource, CopyOptimization, Keys, Serialize};
 
 /// A length in metres. It is archived as its number is, and read back as that.
 #[derive(Clone, Copy, Drop)]
@@ -81,6 +81,12 @@ impl Copied for Metres {
     fn copy_one(&self, bytes: &mut [u8]) {
         self.number.copy_one(bytes);
     }
+}
+
+impl CopiedSource for Metres {
+    ghost same_keys = { refl };
+
+    ghost same_meaning = { refl };
 }
 
 impl<S: Writer + Keys> Serialize<S> for Metres {

@@ -4,10 +4,10 @@ ghost use Rattle.std.specs.Prelude.{◌≡◌, ◌+◌, ◌<◌, ◌≤◌, ◌^
 ghost use Rattle.archive_check.specs.CleanRegions.{IsZeroed};
 ghost use Rattle.archive_check.specs.Shape.{boxed, one};
 ghost use Rattle.archive_check.specs.Value.{box, hole};
-ghost use Rattle.archive_types.specs.Causes.{HindersAt};
+ghost use Rattle.archive_types.specs.Causes.{HindersAt, IsOfWriting};
 ghost use Rattle.archive_types.specs.Inner.{IsBoxed, IsNotBoxed};
 ghost use Rattle.archive_types.specs.KindsWritten.{BoxCase, InnerResolved, InnerHindered};
-ghost use Rattle.archive_types.specs.Sources.{InnerBoxed, InnerUnboxed};
+ghost use Rattle.archive_types.specs.Sources.{InnerBoxed, InnerPut, InnerUnboxed};
 ghost use Rattle.archive_types.specs.Variants.{HoldsCase};
 ghost use Rattle.archive_types.specs.Writing.{Resolves, to_pointee};
 ghost use Rattle.archive_write.specs.Written.{GoesOn};
@@ -32,8 +32,10 @@ pub fn serialize_inner<S: Writer + ResolverAlloc, T: Archive>(
 ) -> Result<BoxResolver, Error>
     requires same_value { T.belongs value.now resolver }
     ensures boxed { IfOk result (InnerBoxed T.Archive T.Archived.Portable value.now resolver S.Keys serializer) }
+    ensures put { IfOk result (InnerPut T.Archive T.Archived.Portable value.now resolver S.Keys serializer) }
     ensures goes_on { GoesOn (S.state serializer.old) (S.state serializer.new) }
     ensures refused { IfErr result (InnerUnboxed T.Archive T.Archived.Portable value.now resolver S.Keys serializer) }
+    ensures number { IfErr result IsOfWriting }
 {
     let alloc = serializer.resolver_alloc();
     write_inner(alloc, value, resolver, serializer)
@@ -48,8 +50,10 @@ fn write_inner<A: Allocator + Drop, S: Writer, T: Archive>(
 ) -> Result<BoxResolver, Error>
     requires same_value { T.belongs value.now resolver }
     ensures boxed { IfOk result (InnerBoxed T.Archive T.Archived.Portable value.now resolver S.Keys serializer) }
+    ensures put { IfOk result (InnerPut T.Archive T.Archived.Portable value.now resolver S.Keys serializer) }
     ensures goes_on { GoesOn (S.state serializer.old) (S.state serializer.new) }
     ensures refused { IfErr result (InnerUnboxed T.Archive T.Archived.Portable value.now resolver S.Keys serializer) }
+    ensures number { IfErr result IsOfWriting }
 {
     serializer.align_for::<T::Archived>()?;
     let pos = serializer.resolve_aligned(alloc, value, resolver)?;

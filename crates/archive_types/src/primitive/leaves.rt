@@ -19,8 +19,8 @@ use crate::place::Place;
 use crate::ser::serialize_one;
 use crate::slice::copy_groups;
 use crate::traits::{
-    Archive, ArchivePointee, ArchiveUnsized, ArchivedMetadata, Copied, CopyOptimization, Keys,
-    Portable, Serialize, SerializeUnsized,
+    Archive, ArchivePointee, ArchiveUnsized, ArchivedMetadata, Copied, CopiedSource,
+    CopyOptimization, Keys, Portable, Serialize, SerializeUnsized,
 };
 use archive_check::format::error::Error;
 use archive_nonzero::NonZero;
@@ -237,4 +237,10 @@ impl<L: Leaf> Copied for L {
     fn copy_one(&self, bytes: &mut [u8]) {
         self.write_bytes(bytes);
     }
+}
+
+impl<L: Leaf> CopiedSource for L {
+    ghost same_keys = { refl };
+
+    ghost same_meaning = { refl };
 }

@@ -4,13 +4,13 @@ ghost use Rattle.std.specs.Prelude.{◌≡◌, ◌+◌, ◌*◌, ◌^◌, ◌++�
 ghost use Rattle.archive_check.specs.WriterState.{KeepsKeys};
 ghost use Rattle.archive_types.specs.Copies.{each_bytes, copies_from};
 ghost use Rattle.archive_types.specs.KindsWritten.{OwnsNothingAs, EachCopiedAs};
-ghost use Rattle.archive_types.specs.Sources.{CopiesStored, CopiesStoredIf, CopiesUnstored, CopiesInBulkIf, CopiesNotInBulk};
+ghost use Rattle.archive_types.specs.Sources.{SliceStored, SliceUnstored, CopiesStored, CopiesStoredIf, CopiesUnstored, CopiesInBulkIf, CopiesNotInBulk};
 ghost use Rattle.archive_write.specs.Written.{GoesOn};
 ghost use Rattle.archive_types.specs.CopiesWritten.{AllCopied, PiecesUnwritten, CopyRefused, CopiesRefused, Takes, AddedAligned};
 ghost use Rattle.archive_types.specs.Placed.{BytesAdded, WriteRefused};
 
 use crate::ser::run_fits;
-use crate::traits::{Copied, Keys};
+use crate::traits::{Copied, CopiedSource, Keys};
 use archive_check::format::error::Error;
 use archive_write::ser::{Writer, WriterExt};
 
@@ -282,18 +282,18 @@ fn copy_together<S: Writer + Keys, T: Copied>(
 /// 8; `WriterFailed`, 9), of a whole piece each time; so over a `Buffer` exactly where the bytes don't fit. After a refusal, too, the bytes from before are
 /// a beginning of those that `serializer` holds. rkyv 0.8.18 has it within `serialize_unsized` of a slice, and copies memory.
 #[inline(always)]
-pub fn copy_slice<S: Writer + Keys, T: Copied>(
+pub fn copy_slice<S: Writer + Keys, T: CopiedSource>(
     values: &[T],
     serializer: &mut S,
 ) -> Result<usize, Error>
-    ensures serialized { IfOk result (CopiesStored T.Copied T.CopiedAs.Portable values.now S.Keys serializer) }
-    ensures copied { OnOk result (AddedAligned T.CopiedAs.layout (each_bytes T.copied_bytes values.now) S.Keys serializer) }
-    ensures position { IfOk result (λ p. p ≡ copies_from T.CopiedAs.layout (S.position serializer.old)) }
+    ensures serialized { IfOk result (SliceStored T.Archive T.Archived.Portable values.now S.Keys serializer) }
+    ensures copied { OnOk result (AddedAligned T.Archived.layout (each_bytes T.copied_bytes values.now) S.Keys serializer) }
+    ensures position { IfOk result (λ p. p ≡ copies_from T.Archived.layout (S.position serializer.old)) }
     ensures goes_on { GoesOn (S.state serializer.old) (S.state serializer.new) }
-    ensures refused { IfErr result (CopiesUnstored T.Copied T.CopiedAs.Portable values.now S.Keys serializer) }
-    ensures cause { IfErr result (CopiesRefused S.position S.Keys serializer T.CopiedAs.layout (length values.now)) }
+    ensures refused { IfErr result (SliceUnstored T.Archive T.Archived.Portable values.now S.Keys serializer) }
+    ensures cause { IfErr result (CopiesRefused S.position S.Keys serializer T.Archived.layout (length values.now)) }
     ensures memory { IsErrOf result Error.OutOfMemory → IsTrue S.takes_memory }
-    ensures succeeds { Takes S.position S.Keys serializer S.takes_memory T.CopiedAs.layout (length values.now) → IsOk result }
+    ensures succeeds { Takes S.position S.Keys serializer S.takes_memory T.Archived.layout (length values.now) → IsOk result }
 {
     let size = T::copied_size();
     copy_together(values, size, 1, serializer)

@@ -6,7 +6,7 @@ ghost use Rattle.archive_types.specs.Copies.{each_bytes, IsCopied, EachCopied, O
 ghost use Rattle.archive_types.specs.KindsWritten.{OwnsNothingAs, IsCopiedAs, EachCopiedAs};
 ghost use Rattle.archive_types.specs.Writing.{Naming};
 
-use super::Portable;
+use super::{Archive, Portable};
 use std::marker::PhantomData;
 
 /// Whether slices of a `T` are written in bulk. As in rkyv 0.8.18, where it is a constant, and a promise of what implements it.
@@ -50,12 +50,13 @@ impl<T> CopyOptimization<T> {
 }
 
 /// A source whose values own nothing, and have each the same bytes wherever they are archived: slices of such values can be written in bulk. Our own: rkyv
-/// 0.8.18 copies the memory of the values. It stands beside `Archive`, so that what implements that can call `slice::copy_groups`.
+/// 0.8.18 copies the memory of the values. It stands beside `Archive`, so that what implements that can call `slice::copy_groups`; `CopiedSource` says that
+/// the two agree.
 pub trait Copied {
     /// The archived type.
     type CopiedAs: Portable;
 
-    // The keys of a value, and what it means: those of its `Archive`.
+    // The keys of a value, and what it means.
     ghost copied_keys: { Self → List Naming };
 
     ghost copied_meaning: { Self → Value };
@@ -89,4 +90,11 @@ pub trait Copied {
             values[index].copy_one(&mut bytes[begin..begin + size]);
         }
     }
+}
+
+/// A source that is copied in bulk, as its `Archive` says: what is copied of a value has its keys and its meaning. Our own.
+pub trait CopiedSource: Archive + Copied<CopiedAs = <Self as Archive>::Archived> {
+    ghost same_keys: { Self.copied_keys ≡ Self.keys };
+
+    ghost same_meaning: { Self.copied_meaning ≡ Self.meaning };
 }

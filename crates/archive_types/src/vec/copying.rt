@@ -10,7 +10,7 @@ ghost use Rattle.archive_types.specs.Placed.{AtOnce};
 
 use super::{ArchivedVec, VecResolver};
 use crate::slice::copy_slice;
-use crate::traits::{Copied, Keys, Portable};
+use crate::traits::{Archive, CopiedSource, Keys, Portable};
 use archive_check::format::error::Error;
 use archive_write::ser::Writer;
 
@@ -21,11 +21,11 @@ impl<T: Portable> ArchivedVec<T> {
     /// elements; with `PositionTooLarge`, 4, only where they would stand above 4,294,967,295; else as `copy_slice`. Our own.
     #[tactic(auto, using(crate::proofs::Owners::serialized_vec, crate::proofs::Causes::goes_nowhere, crate::proofs::Copies::copies_refused, crate::proofs::Copies::long_copies_refused, crate::proofs::Copies::far_copies_refused))]
     #[inline(always)]
-    pub fn serialize_from_copied<U: Copied<CopiedAs = T>, S: Writer + Keys>(
+    pub fn serialize_from_copied<U: CopiedSource + Archive<Archived = T>, S: Writer + Keys>(
         value: &[U],
         serializer: &mut S,
     ) -> Result<VecResolver, Error>
-        ensures serialized { IfOk result (VecSerialized U.copied_keys U.copied_meaning T.Portable value.now S.Keys serializer) }
+        ensures serialized { IfOk result (VecSerialized U.keys U.meaning T.Portable value.now S.Keys serializer) }
         ensures copied { OnOk result (AddedAligned T.layout (each_bytes U.copied_bytes value.now) S.Keys serializer) }
         ensures position { IfOk result (λ r. r ≡ copies_from T.layout (S.position serializer.old)) }
         ensures held { OnOk result (length value.now ≤ 4294967295) }
