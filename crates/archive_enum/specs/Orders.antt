@@ -8,7 +8,6 @@ use Rattle.std.specs.Ordering.{is_eq, is_gt, is_some_and, eq_by_cmp}
 use Rattle.std.specs.Hash as fed
 use Rattle.std.specs.Cmp.{IsPartialEquivalence, IsEquivalence, IsPartialOrder, IsTotalOrder, Agrees, total, equiv, partial_equiv_from_equiv, partial_order_from_total}
 use Rattle.std.specs.declared.cmp.Ordering.{Ordering}
-use Rattle.std.specs.declared.cmp.Ordering.TheVariants.{Less, Equal}
 
 -- results: an `Ok` is less than an `Err`
 

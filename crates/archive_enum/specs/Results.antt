@@ -1,8 +1,7 @@
 -- Results as archives hold them: what they look like, and the laws of that.
-use Rattle.std.specs.Prelude.{◌≡◌, ℕ, zero, suc, ◌+◌, ◌≤◌, max, codes, is_some, true, Bool, ◌&&◌, ◌||◌, [], None, IsTrue, nat_lt, nat_le}
+use Rattle.std.specs.Prelude.{◌≡◌, ℕ, zero, suc, ◌+◌, ◌≤◌, max, codes, is_some, true, Bool, ◌&&◌, ◌||◌, [], None, IsTrue, nat_lt}
 use Rattle.std.proofs.Common.{refl, ap, arith, ⊎_elim}
 use Rattle.std.proofs.lemmas.Bool.{and_parts}
-use Rattle.std.proofs.lemmas.Bool.Decides.{nat_tests}
 use Rattle.std.proofs.lemmas.List.{append-nil}
 use Rattle.archive_check.specs.Shape.{Name, Shape, choice, no_part, part, Variants, no_variant, variant, variant_at, Table}
 use Rattle.archive_check.specs.Layout.{Layout, up, size_of, align_of}
@@ -12,9 +11,8 @@ use Rattle.archive_check.specs.Definitions.{Definitions, no_definition, both, li
 use Rattle.archive_check.specs.NoOthers.{around_reached, both_reached}
 use Rattle.archive_check.specs.PartsLayout.{knows_left, knows_right}
 use Rattle.archive_check.specs.MissingNames.{missing}
-use Rattle.archive_check.specs.SelfCheck.Orders.{IsOrder}
 use Rattle.archive_check.specs.SelfCheck.Laws.{IsCheckOf, no_more}
-use Rattle.archive_check.specs.SelfCheck.Lone.{HasOrder, none_missing, none_listed, first_order, later_order, plain_order, or_parts, small_fits}
+use Rattle.archive_check.specs.SelfCheck.Lone.{HasOrder, none_missing, first_order, later_order, plain_order, or_parts, small_fits}
 use Rattle.archive_enum.specs.Choices.{up_first, align_low}
 
 -- the variants of a result: each with one part

@@ -1,9 +1,7 @@
 // What an option and a result are in an archive.
 
-ghost use Rattle.std.specs.Prelude.{◌≡◌, ◌<◌, ◌≤◌, ◌^◌, min, IfOk, refl};
-ghost use Rattle.archive_check.specs.Shape.{one, choice, no_variant, variant};
-ghost use Rattle.archive_check.specs.Layout.{up};
-ghost use Rattle.archive_check.specs.Expressions.{shape_of, shapes_in};
+ghost use Rattle.std.specs.Prelude.{refl};
+ghost use Rattle.archive_check.specs.Shape.{one};
 ghost use Rattle.archive_enum.specs.Choices.{option_shape, option_layout, option_definitions, option_direct, option_has_layout, option_reached, option_check};
 
 mod results;
@@ -13,24 +11,11 @@ use archive_check::context::ArchiveContext;
 use archive_check::format::defs::Defs;
 use archive_check::format::error::Error;
 use archive_check::format::expr::Expr;
-use archive_check::format::traits::{ArchivePointee, Portable};
+use archive_check::format::traits::{
+    ArchivePointee, Portable, PortableVariants, align_of_choice, expr_of_choice, size_of_choice,
+};
 use archive_check::self_check::{SelfCheck, check_choice};
-use std::alloc::{AllocError, Global};
-
-// How many bytes a choice takes whose longest variant ends there, or `usize::MAX` where that is less.
-fn choice_size(end: u128, align: usize) -> usize
-    requires positive { 0 < align }
-    requires few { end < 2 ^ 66 }
-    ensures { result ≡ min (up end align) 18446744073709551615 }
-{
-    let align = align as u128;
-    let size = (end + (align - 1)) / align * align;
-    if size < usize::MAX as u128 {
-        size as usize
-    } else {
-        usize::MAX
-    }
-}
+use std::alloc::Global;
 
 /// As a pointee it is one value.
 impl<T: Portable> ArchivePointee for ArchivedOption<T> {
@@ -46,6 +31,9 @@ impl<T: Portable> ArchivePointee for ArchivedOption<T> {
         0
     }
 }
+
+// The variants of an option: without a part, and with one.
+type OptionVariants<T> = ((), ((T, ()), ()));
 
 /// A choice named `ArchivedOption`: the byte 0 is `None`; behind the byte 1, at the next multiple of its alignment, stands the value. The bytes behind
 /// a `None` may be any.
@@ -67,28 +55,22 @@ impl<T: Portable> Portable for ArchivedOption<T> {
     ghost checks = { option_check T.definitions T.shape T.layout T.Check.direct T.Check.definitions T.Check.shape T.Check.span T.Check.nameless T.checks };
 
     fn size() -> usize {
-        let align = T::align();
-        choice_size(align as u128 + T::size() as u128, align)
+        size_of_choice::<OptionVariants<T>>()
     }
 
     fn align() -> usize {
-        T::align()
+        align_of_choice::<OptionVariants<T>>()
     }
 
     fn expr(alloc: Global) -> Result<Expr, Error> {
-        let value = T::expr(alloc)?;
-        let none = vec![in alloc]?;
-        let some = vec![in alloc; value]?;
-        Ok(Expr::choice_of_two(alloc, "ArchivedOption", none, some)?)
+        expr_of_choice::<OptionVariants<T>>(alloc, "ArchivedOption")
     }
 
+    #[tactic(auto, using(crate::proofs::ByVariants::option_added))]
     fn define(alloc: Global, defs: &mut Defs) -> Result<(), Error> {
-        T::define(alloc, defs)
+        <OptionVariants<T> as PortableVariants>::define(alloc, defs)
     }
 }
-
-// The variants of an option: without a part, and with one.
-type OptionVariants<T> = ((), ((T, ()), ()));
 
 /// The tag, and then the value behind a 1.
 impl<T: Portable> SelfCheck for ArchivedOption<T> {

@@ -1,9 +1,7 @@
 //! How far it is from one position to another, and the numbers that relative pointers hold.
 
-ghost use Rattle.std.specs.Prelude.{◌≡◌, MatchResult, FitsSigned, refl};
-ghost use Rattle.std.specs.Int.{w64};
-ghost use Rattle.archive_check.specs.declared.format.error.Error.TheVariants.{IsizeOverflow, OffsetOverflow};
-ghost use Rattle.archive_pointers.specs.Offsets.{distance, Fits, as_isize};
+ghost use Rattle.std.specs.Prelude.{◌≡◌, MatchResult, IfOk, IfErr, refl};
+ghost use Rattle.archive_pointers.specs.Offsets.{distance, IsTooFar, as_isize};
 ghost use Rattle.archive_pointers.specs.OffsetWidths.{IsOffsetWidth};
 ghost use Rattle.archive_pointers.specs.Distances.{GivesDistance, GivesNumber};
 
@@ -130,6 +128,16 @@ impl OffsetNumber for u64 {
     fn to_distance(self) -> isize {
         self.cast_signed() as isize
     }
+}
+
+// How far it is from `pos` to `target`, in bytes, as the four bytes of an offset hold it. Refused with `IsizeOverflow`, 2, exactly where the distance
+// doesn't fit `isize`, and else with `OffsetOverflow`, 3, exactly where it doesn't fit 32 bits.
+#[inline(always)]
+pub(crate) fn offset_to(pos: usize, target: usize) -> Result<i32, Error>
+    ensures distance { IfOk result (λ z. z ≡ distance pos target) }
+    ensures refused { IfErr result (λ e. IsTooFar e (distance pos target)) }
+{
+    i32::from_distance(signed_offset(pos, target)?)
 }
 
 /// What a relative pointer holds: how far it is to what it leads to, from the pointer's own position. As in rkyv 0.8.18.

@@ -5,7 +5,7 @@ ghost use Rattle.std.specs.Int.{w32};
 ghost use Rattle.archive_pointers.specs.Offsets.{distance, IsTooFar};
 ghost use Rattle.archive_pointers.specs.OwnerBytes.{owner_bytes};
 
-use crate::offset::signed_offset;
+use crate::offset::offset_to;
 use archive_check::format::error::Error;
 use archive_num::FixedUsize;
 
@@ -19,9 +19,7 @@ fn emplace_owner(target: usize, pos: usize, bytes: &mut [u8]) -> Result<(), Erro
     ensures refused { IfErr result (λ e. (bytes.new ≡ bytes.old) × IsTooFar e (distance pos target)) }
     ensures same_length { length bytes.new ≡ length bytes.old }
 {
-    let Ok(offset) = i32::try_from(signed_offset(pos, target)?) else {
-        return Err(Error::OffsetOverflow);
-    };
+    let offset = offset_to(pos, target)?;
     bytes.copy_from_slice(&offset.to_le_bytes());
     Ok(())
 }
@@ -42,9 +40,7 @@ pub fn emplace_long_owner(
     ensures refused { IfErr result (λ e. (bytes.new ≡ bytes.old) × IsTooFar e (distance pos target)) }
     ensures same_length { length bytes.new ≡ length bytes.old }
 {
-    let Ok(offset) = i32::try_from(signed_offset(pos, target)?) else {
-        return Err(Error::OffsetOverflow);
-    };
+    let offset = offset_to(pos, target)?;
     let (begin, behind) = bytes.split_at_mut(4);
     begin.copy_from_slice(&offset.to_le_bytes());
     behind.copy_from_slice(&count.to_le_bytes());

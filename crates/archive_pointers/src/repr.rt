@@ -5,7 +5,7 @@ ghost use Rattle.std.specs.Int.{w32};
 ghost use Rattle.archive_pointers.specs.Offsets.{distance, IsTooFar};
 ghost use Rattle.archive_pointers.specs.StringBytes.{inline_bytes, out_of_line_bytes, coded_length, OutOfLineWritten};
 
-use crate::offset::signed_offset;
+use crate::offset::offset_to;
 use archive_check::format::error::Error;
 
 /// A text of at most so many bytes stands in the string itself. As in rkyv 0.8.18.
@@ -53,9 +53,7 @@ pub fn try_emplace_out_of_line(
     requires sized { length out.old ≡ 8 }
     ensures { OutOfLineWritten (length value.now) (distance pos target) out.old out.new result }
 {
-    let Ok(offset) = i32::try_from(signed_offset(pos, target)?) else {
-        return Err(Error::OffsetOverflow);
-    };
+    let offset = offset_to(pos, target)?;
     let (length, behind) = out.split_at_mut(4);
     length.copy_from_slice(&coded(value.len()).to_le_bytes());
     behind.copy_from_slice(&offset.to_le_bytes());

@@ -6,13 +6,14 @@ ghost use Rattle.archive_check.specs.Definitions.{both};
 ghost use Rattle.archive_check.specs.PartsLayout.{greater_align};
 ghost use Rattle.archive_enum.specs.Results.{result_shape, result_layout, result_definitions, result_direct, result_has_layout, result_reached, result_check};
 
-use super::choice_size;
 use crate::result::ArchivedResult;
 use archive_check::context::ArchiveContext;
 use archive_check::format::defs::Defs;
 use archive_check::format::error::Error;
 use archive_check::format::expr::Expr;
-use archive_check::format::traits::{ArchivePointee, Portable};
+use archive_check::format::traits::{
+    ArchivePointee, Portable, PortableVariants, align_of_choice, expr_of_choice, size_of_choice,
+};
 use archive_check::self_check::{SelfCheck, check_choice};
 use std::alloc::Global;
 
@@ -30,6 +31,9 @@ impl<T: Portable, E: Portable> ArchivePointee for ArchivedResult<T, E> {
         0
     }
 }
+
+// The variants of a result: a value, and an error.
+type ResultVariants<T, E> = ((T, ()), ((E, ()), ()));
 
 /// A choice named `ArchivedResult`: behind the byte 0, at the next multiple of its alignment, stands the value, and behind the byte 1 so does the error.
 /// The bytes behind the shorter one may be any.
@@ -52,30 +56,22 @@ impl<T: Portable, E: Portable> Portable for ArchivedResult<T, E> {
         E.Check.definitions E.Check.shape E.Check.span E.Check.nameless T.Check.direct E.Check.direct T.checks E.checks };
 
     fn size() -> usize {
-        let value = T::align() as u128 + T::size() as u128;
-        let error = E::align() as u128 + E::size() as u128;
-        choice_size(value.max(error), T::align().max(E::align()))
+        size_of_choice::<ResultVariants<T, E>>()
     }
 
     fn align() -> usize {
-        T::align().max(E::align())
+        align_of_choice::<ResultVariants<T, E>>()
     }
 
     fn expr(alloc: Global) -> Result<Expr, Error> {
-        let value = vec![in alloc; T::expr(alloc)?]?;
-        let error = vec![in alloc; E::expr(alloc)?]?;
-        Ok(Expr::choice_of_two(alloc, "ArchivedResult", value, error)?)
+        expr_of_choice::<ResultVariants<T, E>>(alloc, "ArchivedResult")
     }
 
-    #[tactic(auto, using(archive_check::proofs::format::AddedDefinitions::extended_both))]
+    #[tactic(auto, using(crate::proofs::ByVariants::result_added))]
     fn define(alloc: Global, defs: &mut Defs) -> Result<(), Error> {
-        T::define(alloc, defs)?;
-        E::define(alloc, defs)
+        <ResultVariants<T, E> as PortableVariants>::define(alloc, defs)
     }
 }
-
-// The variants of a result: a value, and an error.
-type ResultVariants<T, E> = ((T, ()), ((E, ()), ()));
 
 /// The tag, and then the value behind a 0, and the error behind a 1. It needs a schema where both bring definitions, which may be different ones of one name.
 impl<T: Portable, E: Portable> SelfCheck for ArchivedResult<T, E> {
