@@ -3,3 +3,4 @@ pub mod PowersOfTwo
 pub mod SharedPositions
 pub mod RecalledPositions
 pub mod SubtreeSteps
+pub mod EnteredRegions

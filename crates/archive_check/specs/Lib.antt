@@ -34,6 +34,7 @@ pub mod RegionLayout
 pub mod LittleEndian
 pub mod Readable
 pub mod Ranges
+pub mod EnteredRegions
 pub mod Pushes
 pub mod PositionStates
 pub mod FreshContexts

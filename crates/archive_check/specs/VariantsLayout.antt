@@ -6,7 +6,7 @@ use Rattle.archive_check.specs.Reads.{Schema}
 use Rattle.archive_check.specs.Defined.{holds_parts, holds_choice, holds_variant, holds_other, Mentions, mentions_held, mentions_parts, mentions_choice, mentions_variant, mentions_other}
 use Rattle.archive_check.specs.Definitions.{Definitions, no_definition, defines, both, Knows, NoOthers, HasLayout}
 use Rattle.archive_check.specs.NoOthers.{around_reached, both_reached}
-use Rattle.archive_check.specs.PartsLayout.{part_at, offset_at, definitions_at, knows_none, knows_at, knows_left, knows_right, PartsLaidOut, StandsFor, for_itself, by_name}
+use Rattle.archive_check.specs.PartsLayout.{part_at, offset_at, definitions_at, knows_none, knows_at, knows_left, knows_right, PartsLaidOut, StandsFor, by_name}
 
 -- the part with this index of the variant with this tag
 abbrev pub payload_at : Variants → ℕ → ℕ → Option Shape
@@ -47,11 +47,7 @@ pub record IsChoice (D : Definitions) (X : Shape) (name : Name) (E : Definitions
   pub stands : (s : Schema) → Knows s D → StandsFor s (choice name vs) X
   pub known : (s : Schema) → Knows s D → Knows s E
 
--- variants by themselves
-pub is_choice : (D : Definitions) (name : Name) (vs : Variants) → IsChoice D (choice name vs) name D vs
-is_choice D name vs = record { stands = λ s k. for_itself; known = λ s k. k }
-
--- and under a name of their own
+-- variants under a name of their own
 pub is_named_choice : (name : Name) (D : Definitions) (vs : Variants) → IsChoice (both (defines name (choice name vs)) D) (named name) name D vs
 is_named_choice name D vs = record { stands = λ s k. by_name k.has.0; known = λ s k. knows_right s (defines name (choice name vs)) D k }
 

@@ -7,6 +7,8 @@ ghost use Rattle.archive_check.specs.Ranges.{RangeState, subtree_answer, pushed,
 pub mod positions;
 pub mod range;
 mod recalled;
+pub mod refusals;
+pub mod regions;
 pub mod subtree;
 pub mod validator;
 

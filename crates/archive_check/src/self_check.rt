@@ -16,8 +16,6 @@ mod arrays;
 mod elements;
 mod leaves;
 mod parts;
-mod refusals;
-mod regions;
 mod roots;
 mod texts;
 mod tuples;

@@ -7,7 +7,7 @@ use Rattle.std.specs.HashMap.{HashMap, get, Updates, IsUnchanged}
 use Rattle.std.proofs.lemmas.List.Elements.{All-weaker}
 use Rattle.archive_check.specs.declared.context.positions.SharedPosition.{SharedPosition}
 use Rattle.archive_check.specs.declared.context.recalled.FinishedPosition.{FinishedPosition}
-use Rattle.archive_check.specs.RecalledPositions.{Recalls, AreRecalled}
+use Rattle.archive_check.specs.RecalledPositions.{Recalls, AreRecalled, StaysRecalled}
 
 other_stays : (b : Bool) (x y : Option SharedPosition) → (b ≡ true → ⊥) → cond b x y ≡ y
 other_stays true x y other = absurd (other refl)
@@ -46,7 +46,7 @@ recalled_where_finished recalled f g key x k kept pending e =
 -- a position is finished, and recalled or left out
 pub recalled_finished : (old new : List FinishedPosition) (f g : ℤ → Option SharedPosition) (key : ℤ) (k now : SharedPosition)
     → Some k ≡ f key → k.finished ≡ false → now.finished ≡ true → ((q : ℤ) → g q ≡ cond (int_eq key q) (Some now) (f q))
-    → ((kept : ℤ → Option SharedPosition) → AreRecalled old kept → kept key ≡ Some now → now.finished ≡ true → AreRecalled new kept)
+    → StaysRecalled old new key now
     → AreRecalled old f → AreRecalled new g
 recalled_finished old new f g key k now kept pending done e add before =
     add g (recalled_where_finished old f g key (Some now) k kept pending e before) (e key ∙ ap (λ b. cond b (Some now) (f key)) ((signed_Decides key key).1 refl)) done

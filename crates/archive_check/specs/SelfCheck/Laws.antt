@@ -1,5 +1,5 @@
 -- When a check of one shape is a check of a type, and the laws of those that stand here.
-use Rattle.std.specs.Prelude.{◌≡◌, ℕ, List, [], Option, Some, None, Contains, Bool, true, false, IsTrue, nat_le}
+use Rattle.std.specs.Prelude.{◌≡◌, ℕ, List, [], Option, Some, None, Bool, true, false, IsTrue, nat_le}
 use mathlib.Core.Bool.{true≢false}
 use Rattle.std.proofs.Common.{refl, sym, arith}
 use Rattle.std.proofs.lemmas.Bool.Decides.{nat_tests}
@@ -12,7 +12,7 @@ use Rattle.archive_check.specs.Outcomes.{Outcome, done, refused}
 use Rattle.archive_check.specs.Walk.{walk_named}
 use Rattle.archive_check.specs.Trail.{trips_named}
 use Rattle.archive_check.specs.BoundedSizes.{fits}
-use Rattle.archive_check.specs.Definitions.{Definitions, no_definition, listed, Has, Knows}
+use Rattle.archive_check.specs.Definitions.{Definitions, no_definition, listed, Knows}
 use Rattle.archive_check.specs.SelfCheck.Ways.{shape_way}
 use Rattle.archive_check.specs.MissingNames.{missing}
 use Rattle.archive_check.specs.SelfCheck.Orders.{IsOrder}
@@ -54,21 +54,6 @@ own_check D X size order nameless small ordered plain = record {
 -- so is that of a type which holds no name
 pub plain_check : {nameless : Bool} (X : Shape) (size : ℕ) → fits size ≡ Some size → missing true [] X ≡ None → IsCheckOf no_definition X size no_definition X size nameless
 plain_check {nameless = nameless} X size small none = own_check no_definition X size [] nameless small (record { has = tt; only = tt; once = tt; root = none; closed = tt; placed = tt }) (λ says. refl)
-
-no_item : {A : Type 0} (x : A) → Contains [] x → {B : Type 0} → B
-no_item x c = absurd (omega (arith, c.1))
-
--- the check of a type that holds no name, by its parts: their definitions E are none
-pub parts_check : {nameless : Bool} (X : Shape) (size : ℕ) (E : Definitions) (n : ℕ) → nat_le n size ≡ true → fits size ≡ Some size → missing true [] X ≡ None → ((t : Schema) → Has t E) → listed E ≡ [] → IsCheckOf no_definition X size E X n nameless
-parts_check X size E n within small none has empty = record {
-  within = within;
-  small = small;
-  order = [];
-  ordered = record { has = tt; only = tt; once = tt; root = none; closed = tt; placed = tt };
-  known = λ t k. record { has = has t; finite = λ name Y c. no_item (name, Y) (rw empty at c); laid_out = k.laid_out };
-  leads = λ t k bytes p pending depth stop start seen o w. w;
-  plain = λ says. refl;
-}
 
 leaf_fits : (kind : Kind) → fits (kind_size kind) ≡ Some (kind_size kind)
 leaf_fits unit = refl

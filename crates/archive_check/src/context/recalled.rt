@@ -1,8 +1,8 @@
 //! Finished positions that are found with no search in a map, where a hint leads to them.
 
-ghost use Rattle.std.specs.Prelude.{◌≡◌, ℤ, Option, Some, true, IfSome};
+ghost use Rattle.std.specs.Prelude.{◌≡◌, ℤ, Option};
 ghost use Rattle.archive_check.specs.declared.context.positions.SharedPosition.{SharedPosition};
-ghost use Rattle.archive_check.specs.RecalledPositions.{AreRecalled};
+ghost use Rattle.archive_check.specs.RecalledPositions.{AreRecalled, IsRecalled, StaysRecalled};
 
 use crate::context::positions::SharedPosition;
 use std::alloc::{AllocError, Allocator};
@@ -58,8 +58,7 @@ impl<A: Allocator + Copy> FinishedPositions<A> {
     /// What is kept of a position, where a hint leads to it.
     #[inline(always)]
     pub(crate) fn get(&self, position: i128) -> Option<&SharedPosition>
-        ensures { (kept : ℤ → Option SharedPosition) → AreRecalled self.now.list.items kept
-            → IfSome result (λ k. kept position ≡ Some k.now) }
+        ensures { IsRecalled self.now.list.items position result }
     {
         let Ok(position) = usize::try_from(position) else {
             return None;
@@ -84,8 +83,7 @@ impl<A: Allocator + Copy> FinishedPositions<A> {
 
     /// Adds a finished position with what is kept of it. It is left out where it is no `usize`, and where there is no room.
     pub(crate) fn add(&mut self, position: i128, now: SharedPosition)
-        ensures { (kept : ℤ → Option SharedPosition) → AreRecalled self.old.list.items kept → kept position ≡ Some now
-            → now.finished ≡ true → AreRecalled self.new.list.items kept }
+        ensures { StaysRecalled self.old.list.items self.new.list.items position now }
     {
         let Ok(position) = usize::try_from(position) else {
             return;

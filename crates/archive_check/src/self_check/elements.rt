@@ -7,9 +7,9 @@ ghost use Rattle.archive_check.specs.Pushes.{Spends};
 ghost use Rattle.archive_check.specs.SelfCheck.Steps.{WentOver, StoppedIn, run_at};
 
 use super::SelfCheck;
-use super::regions::{enter, leave};
 use super::values::{check_value, whole_size};
 use crate::context::ArchiveContext;
+use crate::context::regions::{enter, leave};
 use crate::format::bytes::{read_position, read_u32};
 use crate::format::error::Error;
 use crate::format::extents::times;

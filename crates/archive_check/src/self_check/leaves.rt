@@ -11,13 +11,14 @@ ghost use Rattle.archive_check.specs.Pushes.{Spends};
 ghost use Rattle.archive_check.specs.SelfCheck.Steps.{Went, Stopped};
 
 use super::SelfCheck;
-use super::refusals::refuse;
 use crate::context::ArchiveContext;
+use crate::context::refusals::refuse;
 use crate::format::error::Error;
 use crate::format::expr::{IntegerKind, Kind};
 use crate::format::leaf::{illegal, is_legal};
 
-/// Checks the leaf of this kind at `at`. `None` where the check stops, and `refusal` is why: 25 at a bool, 26 at a char, 27 at a number that is 0.
+/// Checks the leaf of this kind at `at`, in bytes from the first one. Asks that it lies in `bytes`. `None` where the check stops, and `refusal` is why:
+/// `InvalidBool`, 25, `InvalidChar`, 26, or `ZeroNumber`, 27, at a number that may not be 0. Our own.
 #[inline(always)]
 pub fn check_leaf<C: ArchiveContext>(
     kind: Kind,

@@ -7,9 +7,9 @@ ghost use Rattle.archive_check.specs.Pushes.{Spends};
 ghost use Rattle.archive_check.specs.SelfCheck.Steps.{Went, Stopped, text_at};
 
 use super::SelfCheck;
-use super::refusals::refuse;
-use super::regions::{enter, leave};
 use crate::context::ArchiveContext;
+use crate::context::refusals::refuse;
+use crate::context::regions::{enter, leave};
 use crate::format::bytes::{
     inline_length, is_out_of_line, is_text, read_coded_length, read_position, read_u32,
 };

@@ -8,8 +8,8 @@ ghost use Rattle.archive_check.specs.Pushes.{Spends};
 ghost use Rattle.archive_check.specs.SelfCheck.Steps.{WentOver, StoppedIn, one_at};
 
 use super::SelfCheck;
-use super::regions::{enter, leave};
 use crate::context::ArchiveContext;
+use crate::context::regions::{enter, leave};
 use crate::format::bytes::read_position;
 use crate::format::error::Error;
 use crate::format::traits::Portable;

@@ -7,8 +7,8 @@ ghost use Rattle.archive_check.specs.Pushes.{Spends};
 ghost use Rattle.archive_check.specs.SelfCheck.Steps.{Went, StoppedIf as Stops, VariantWent, VariantStops, choice_at};
 
 use super::parts::CheckedParts;
-use super::refusals::refuse;
 use crate::context::ArchiveContext;
+use crate::context::refusals::refuse;
 use crate::format::error::Error;
 
 /// Variants that are checked by their tags: `()`, or `(P, V)` for the parts `P` with the tag 0 and then the variants of `V`.
@@ -101,8 +101,8 @@ impl<P: CheckedParts, V: CheckedVariants> CheckedVariants for (P, V) {
     }
 }
 
-/// Checks the choice of this name at `at`: the tag, and then the variant that it names. `None` where the check stops, and `refusal` is why: 24 where
-/// no variant has the tag.
+/// Checks the choice of this name at `at`, in bytes from the first one: the tag, and then the variant that it names. `None` where the check stops, and
+/// `refusal` is why: `InvalidDiscriminant`, 24, where no variant has the tag. Asks that the tag and the longest variant lie in `bytes`. Our own.
 #[inline(always)]
 pub fn check_choice<V: CheckedVariants, C: ArchiveContext>(
     name: &'static str,

@@ -1,12 +1,12 @@
-// Regions are entered and left.
+//! Regions are entered and left, and why not is kept beside the answer. The calls that do so stand in their callers, since what they answer is wide.
 
 ghost use Rattle.std.specs.Prelude.{◌≡◌, ◌+◌, ◌<◌, ◌≤◌, ℕ, pos, OnSome, IfSome, IfNone, Some, Err, is_err, true};
 ghost use Rattle.archive_check.specs.Ranges.{subtree_answer, pop_answer, popped};
-ghost use Rattle.archive_check.specs.SelfCheck.Regions.{Begun, Enters, EntersNot};
+ghost use Rattle.archive_check.specs.EnteredRegions.{Begun, Enters, EntersNot, IsTakenBack};
 
-use super::refusals::{keep, refuse};
 use crate::context::ArchiveContext;
 use crate::context::range::Region;
+use crate::context::refusals::{keep, refuse};
 use crate::format::error::Error;
 use crate::format::layout::Layout;
 use std::ops::Range;
@@ -19,7 +19,7 @@ fn index_of(position: i128) -> usize
     position as usize
 }
 
-// Stops the check at a region that is refused. The context is asked once more for the reason.
+// Stops the check at a region that is refused. The context is asked once more for the reason, so that no wide answer is kept where regions are entered.
 #[cold]
 #[inline(never)]
 fn refuse_region<C: ArchiveContext>(
@@ -52,7 +52,9 @@ fn refuse_range<C: ArchiveContext>(start: usize, end: usize, refusal: &mut Error
     }
 }
 
-// Leaves a region: the range is the one from `start` to `end` again.
+/// Leaves a region: the range is the one from `start` to `end` again, in bytes from the buffer's first one, as `Region` keeps it. It asks nothing. `None`
+/// where that is refused as by `pop_subtree_range`, and `refusal` is why: `RangePoppedOutOfOrder`, 20, or `RangePoppedTooManyTimes`, 19. Then nothing has
+/// changed. Our own.
 #[inline(always)]
 pub fn leave<C: ArchiveContext>(
     start: usize,
@@ -60,6 +62,7 @@ pub fn leave<C: ArchiveContext>(
     refusal: &mut Error,
     context: &mut C,
 ) -> Option<()>
+    ensures taken { OnSome result (IsTakenBack (C.state context.old) start) }
     ensures left { OnSome result (C.state context.new ≡ popped (C.state context.old) start end) }
     ensures refused { IfNone result (pop_answer (C.state context.old) start ≡ Err refusal.new) }
     ensures unchanged { IfNone result (C.state context.new ≡ C.state context.old) }
@@ -72,7 +75,10 @@ pub fn leave<C: ArchiveContext>(
     Some(())
 }
 
-// Enters a region of this size and alignment at `position`.
+/// Enters the region at `position`, in bytes from the buffer's first one, of `whole` bytes, which is no number where they are above `usize::MAX`, and of this
+/// alignment. Asks that the alignment isn't 0. Answers the region with the range to be given back by `leave`. `None` where it isn't entered, and `refusal` is
+/// why: `LayoutTooLarge`, 23, `InvalidSubtreePointer`, 16, `UnalignedPointer`, 17, or `ExceededMaximumSubtreeDepth`, 18, the first that applies. Then nothing
+/// has changed. Our own.
 #[inline(always)]
 pub fn enter<C: ArchiveContext>(
     whole: Option<usize>,

@@ -1,4 +1,4 @@
-// How a check that needs no list stops.
+//! How a check stops whose refusal is kept beside its answer: a refusal is wide, and a call that answers one costs each caller a place for it.
 
 ghost use Rattle.std.specs.Prelude.{◌≡◌, None};
 
@@ -7,13 +7,13 @@ use crate::format::error::Error;
 // Keeps why the check stops.
 #[cold]
 #[inline(never)]
-pub fn keep(refusal: &mut Error, fault: Error)
+pub(crate) fn keep(refusal: &mut Error, fault: Error)
     ensures { refusal.new ≡ fault }
 {
     *refusal = fault;
 }
 
-// Stops the check.
+/// Stops the check: `None`, and `refusal` is `fault`, whatever it was. It asks nothing. Our own.
 #[inline]
 pub fn refuse<T>(refusal: &mut Error, fault: Error) -> Option<T>
     ensures none { result ≡ None }

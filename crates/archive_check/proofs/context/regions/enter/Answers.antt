@@ -4,12 +4,12 @@ use mir.Syntax.{w128}
 use Rattle.archive_check.specs.declared.format.error.Error.TheVariants.{LayoutTooLarge, ExceededMaximumSubtreeDepth}
 use Rattle.archive_check.specs.Ranges.{subtree_answer}
 use Rattle.archive_check.specs.Trail.{too_large}
-use Rattle.archive_check.specs.SelfCheck.Regions.{EntersNot, not_sized}
+use Rattle.archive_check.specs.EnteredRegions.{EntersNot, not_sized}
 use Rattle.archive_check.proofs.SelfCheck.Outcomes.{if_none}
 use Rattle.archive_check.proofs.TestedAnswers.{not_err, not_refused}
 use Rattle.archive_check.proofs.RangeLevels.{lands}
-use Rattle.archive_check.proofs.SelfCheck.Regions.{astray, stopped_deep, begun}
-use Rattle.archive_check.proofs.self_check.regions.enter.Goals as goal
+use Rattle.archive_check.proofs.context.EnteredRegions.{astray, stopped_deep, begun}
+use Rattle.archive_check.proofs.context.regions.enter.Goals as goal
 
 pub returns-in_default-clause-stops : goal.returns-in_default-clause-stops
 returns-in_default-clause-stops g c =
