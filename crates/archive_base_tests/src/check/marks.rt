@@ -61,6 +61,8 @@ impl<F: Form> ArchivePointee for Plain<F> {
 
     ghost metadata_length = { λ _. 0 };
 
+    ghost no_length = { λ _ _. refl };
+
     fn pointer_metadata(_metadata: &()) -> usize {
         0
     }
@@ -122,6 +124,8 @@ impl<F: Definition> ArchivePointee for Named<F> {
     ghost definitions = { defines F.name F.shape };
 
     ghost metadata_length = { λ _. 0 };
+
+    ghost no_length = { λ _ _. refl };
 
     fn pointer_metadata(_metadata: &()) -> usize {
         0
@@ -218,6 +222,8 @@ impl<A: Around, T: Portable> ArchivePointee for Behind<A, T> {
     ghost definitions = { T.definitions };
 
     ghost metadata_length = { λ _. 0 };
+
+    ghost no_length = { λ _ _. refl };
 
     fn pointer_metadata(_metadata: &()) -> usize {
         0
@@ -403,6 +409,8 @@ impl<T: Portable, const N: usize> ArchivePointee for Array<T, N> {
     ghost definitions = { T.definitions };
 
     ghost metadata_length = { λ _. 0 };
+
+    ghost no_length = { λ _ _. refl };
 
     fn pointer_metadata(_metadata: &()) -> usize {
         0

@@ -32,6 +32,8 @@ impl ArchivePointee for Tagged {
 
     ghost metadata_length = { λ _. 0 };
 
+    ghost no_length = { λ _ _. refl };
+
     fn pointer_metadata(_metadata: &()) -> usize {
         0
     }
@@ -82,6 +84,8 @@ impl ArchivePointee for Endless {
     ghost definitions = { defines (codes "Itself") itself };
 
     ghost metadata_length = { λ _. 0 };
+
+    ghost no_length = { λ _ _. refl };
 
     fn pointer_metadata(_metadata: &()) -> usize {
         0

@@ -37,6 +37,8 @@ impl ArchivePointee for ArchivedSevens {
 
     ghost metadata_length = { λ _. 0 };
 
+    ghost no_length = { λ _ _. refl };
+
     fn pointer_metadata(_metadata: &()) -> usize {
         0
     }
