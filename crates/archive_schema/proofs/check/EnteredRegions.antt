@@ -1,25 +1,21 @@
 -- A region is entered: what the range calls say, and what is left to do.
-use Rattle.std.proofs.Common.{◌≡◌, ◌≢◌, ℕ, ℤ, pos, negsuc, refl, sym, ap, ap₂, ◌∙◌, slice_index_or, ◌+◌, ◌*◌, ◌%◌, ◌<◌, ◌≤◌, nat_le, nat_eq, Bool, true, false, arith, List, ◌∷◌, length, Option, Some, None, Ok, Err, IsUtf8}
+use Rattle.std.proofs.Common.{◌≡◌, ◌≢◌, ℕ, ℤ, pos, refl, sym, ap, ap₂, ◌∙◌, ◌+◌, ◌*◌, ◌<◌, ◌≤◌, nat_eq, Bool, true, false, arith, List, ◌∷◌, length, Option, Some, None, Err, IsUtf8}
 use Rattle.std.proofs.lemmas.Bool.Decides.{nat_tests}
 use Rattle.archive_check.specs.declared.format.error.Error.{Error}
-use Rattle.archive_check.specs.declared.format.error.Error.TheVariants.{ExceededMaximumSubtreeDepth}
 use Rattle.archive_schema.specs.declared.plan.PointeeKind.{PointeeKind}
 use Rattle.archive_schema.specs.declared.plan.PointeeKind.TheVariants.{One, Run, Text}
 use Rattle.archive_schema.specs.declared.plan.NodeKind.TheVariants.{Free}
-use Rattle.archive_schema.specs.declared.plan.Node.{Node}
 use Rattle.archive_schema.specs.declared.check.Checker.{Checker}
 use Rattle.archive_schema.specs.declared.check.worklist.Work.{Work}
 use Rattle.archive_schema.specs.declared.check.worklist.Work.TheVariants.{Part as PartWork, Elements, Leave}
 use Rattle.archive_check.specs.Depth.{inside}
-use Rattle.archive_check.specs.Ranges.{RangeState, subtree_answer, pushed, one_more, pop_answer, popped, Lands}
+use Rattle.archive_check.specs.Ranges.{RangeState, one_more, pop_answer, popped}
 use Rattle.archive_check.specs.PositionStates.{Positions}
 use Rattle.archive_check.specs.Reads.{bytes_at}
 use Rattle.archive_check.specs.Tour.{Seen}
-use Rattle.archive_check.specs.Trail.{Fault, outside, unaligned, too_deep}
 use Rattle.archive_check.specs.BoundedSizes.{times}
 use Rattle.archive_check.specs.Outcomes.{Outcome, done, refused}
-use Rattle.archive_schema.specs.check.Runs.{Takes, RegionIs, EnterRuns, enter_outside, enter_unaligned, enter_too_deep, enter_stop, contents_text, contents_empty, contents_one, contents_run, run_free, elements_free, IsNode, enter_within, ListRuns}
-use Rattle.archive_check.specs.Faults.{IsFor}
+use Rattle.archive_schema.specs.check.Runs.{Takes, RegionIs, enter_stop, contents_text, contents_empty, contents_one, contents_run, run_free, elements_free, IsNode, enter_within, ListRuns}
 use Rattle.archive_check.specs.declared.context.range.Region.{Region}
 use Rattle.archive_schema.specs.check.Entered.{Entered}
 use Rattle.archive_schema.specs.check.Through.{Rule, Through, Stops, region_rule, contents_rule}
@@ -27,63 +23,14 @@ use Rattle.archive_schema.specs.check.LoopInvariant.{and_then, RegionIsLegalHere
 use Rattle.archive_check.specs.FreshContexts.{HasLevels}
 use Rattle.archive_schema.proofs.check.TurnRules.{enter_one, enter_run}
 use Rattle.archive_schema.proofs.check.ContextAgrees.{allows, agrees_inside, levels_of}
-use Rattle.archive_check.proofs.RangeLevels.{taken_back, not_taken, lands, last_level, levels_inside, inside_few, level_back}
+use Rattle.archive_check.proofs.RangeLevels.{taken_back, not_taken, levels_inside, inside_few, level_back}
 use Rattle.archive_schema.proofs.check.OrderlyContexts.{orderly_levels, orderly_inside}
 use Rattle.archive_schema.proofs.check.TurnsEnd.{level_end, falls_enter}
 use Rattle.archive_check.proofs.Depths.{levels_allow}
 
-negative : (n t : ℕ) → negsuc n ≡ pos t → ⊥
-negative n t e = cc
-
-pos_same : (n t : ℕ) → pos n ≡ pos t → n ≡ t
-pos_same n t e = cc
-
--- what a refusal of the range says
-pub astray : (m : Checker) (j n : ℕ) (target : PointeeKind) (s : RangeState) (z : ℤ) (size align : ℕ) (e : Error) → RegionIs m j n (Some size) align → Err e ≡ subtree_answer s z size align
-    → (f : Fault) × IsFor f e × ((pending : List ℕ) (seen : Seen) → EnterRuns m pending s.depth s.end target j n z s.start seen (refused f))
-astray m j n target s (negsuc k) size align e reg h =
-    (outside (negsuc k) size s.start s.end, cc, λ pending seen. enter_outside reg (λ t is above below. negative k t is))
-astray m j n target s (pos k) size align e reg h = astray_by m j n target s k size align e reg (nat_le s.start k) (nat_le (k + size) s.end) (nat_eq (k % align) 0) refl refl refl h
-  where
-    astray_by : (m : Checker) (j n : ℕ) (target : PointeeKind) (s : RangeState) (k : ℕ) (size align : ℕ) (e : Error) → RegionIs m j n (Some size) align → (a b d : Bool) → nat_le s.start k ≡ a → nat_le (k + size) s.end ≡ b → nat_eq (k % align) 0 ≡ d → Err e ≡ subtree_answer s (pos k) size align
-        → (f : Fault) × IsFor f e × ((pending : List ℕ) (seen : Seen) → EnterRuns m pending s.depth s.end target j n (pos k) s.start seen (refused f))
-    astray_by m j n target s k size align e reg true true true p q r h = absurd (grind (arith, nat_tests))
-    astray_by m j n target s k size align e reg true true false p q r h =
-        (unaligned k align, grind (arith, nat_tests), λ pending seen. enter_unaligned reg refl (grind (arith, nat_tests)) (grind (arith, nat_tests)) (grind (arith, nat_tests)))
-    astray_by m j n target s k size align e reg true false d p q r h =
-        (outside (pos k) size s.start s.end, grind (arith, nat_tests), λ pending seen. enter_outside reg (λ t is above below. let same : k ≡ t = pos_same k t is in grind (arith, nat_tests)))
-    astray_by m j n target s k size align e reg false b d p q r h =
-        (outside (pos k) size s.start s.end, grind (arith, nat_tests), λ pending seen. enter_outside reg (λ t is above below. let same : k ≡ t = pos_same k t is in grind (arith, nat_tests)))
-
--- on the last level no region is entered
-pub stopped_deep : (m : Checker) (j n : ℕ) (target : PointeeKind) (s : RangeState) (z : ℤ) (size align t : ℕ) (e : Error) → RegionIs m j n (Some size) align → Lands s z size align t → s.depth ≡ Some 1 → e ≡ ExceededMaximumSubtreeDepth → Stops (region_rule m target j n z) s e
-stopped_deep m j n target s z size align t e reg at deep is some =
-    (too_deep, is, λ pending seen. enter_too_deep reg at.target at.above at.below at.aligned (last_level s.depth deep))
-
 pub times_size : (size : Option ℕ) (n z : ℕ) → times size n ≡ Some z → 0 < z → (y : ℕ) × (size ≡ Some y) × (n * y ≡ z)
 times_size None n z e lt = absurd (grind (arith, nat_tests))
 times_size (Some y) n z e lt = (y, refl, grind (arith, nat_tests))
-
--- what the calls on the range say of a region that is entered
-pub entered : (m : Checker) (s s1 s2 : RangeState) (j n : ℕ) (z z' : ℤ) (node : Node) (r : Region) (u : Unit {0})
-    → j < length m.nodes.now → node ≡ slice_index_or m.nodes.now j node → times (slice_index_or m.nodes.now j node).size n ≡ Some r.size
-    → z' ≡ z → z' ≡ pos r.begin → Ok u ≡ subtree_answer s z' r.size (slice_index_or m.nodes.now j node).align
-    → s1 ≡ s → s2 ≡ pushed s1 r.begin → (s1.depth ≡ Some 1 → ⊥) → (r.outer_start ≡ r.begin + r.size) × (r.outer_end ≡ s1.end)
-    → Entered m j n z s s2 r
-entered m s s1 s2 j n z z' node r u known is sized zz target v same pushes deep ends =
-    let w : Ok u ≡ subtree_answer s z r.size (slice_index_or m.nodes.now j node).align = v ∙ ap (λ q. subtree_answer s q r.size (slice_index_or m.nodes.now j node).align) zz in
-    let p : s2 ≡ pushed s r.begin = pushes ∙ ap (λ q. pushed q r.begin) same in
-    record {
-      align = (slice_index_or m.nodes.now j node).align;
-      region = record { node = node; at = record { below = known; is = is }; size_is = ap (λ q. times q.size n) is ∙ sized; align_is = ap (λ q. q.align) is };
-      lands = lands s z r.size (slice_index_or m.nodes.now j node).align r.begin u (sym zz ∙ target) w;
-      start = ap (λ q. q.start) p;
-      end = ap (λ q. q.end) p;
-      depth = ap (λ q. q.depth) p;
-      deep = λ e. deep (ap (λ q. q.depth) same ∙ e);
-      outer_start = ends.0;
-      outer_end = ends.1 ∙ ap (λ q. q.end) same;
-    }
 
 -- what a region holds that is legal as it lies, and leads nowhere
 module _ (m : Checker) (j n z t : ℕ) where

@@ -1,9 +1,9 @@
 -- What the calls that enter a region answer, one lemma an exit.
-use Rattle.std.proofs.Common.{◌≡◌, ◌≢◌, inl, inr, ℕ, ℤ, refl, sym, ap, ◌∙◌, ◌+◌, ◌<◌, ◌≤◌, arith, List, ◌∷◌, length, slice_index_or, Option, Some, None, Err, OnSome, IfNone, to_z, of_z, SFits}
+use Rattle.std.proofs.Common.{◌≡◌, ◌≢◌, inl, inr, ℕ, ℤ, refl, sym, ap, ◌∙◌, ◌+◌, ◌<◌, ◌≤◌, arith, List, ◌∷◌, length, slice_index_or, Option, Some, None, Err, OnSome, IfSome, IfNone, to_z, of_z, SFits}
 use mir.Syntax.{w128}
 use Rattle.std.proofs.lemmas.Int.{to_z-of_z}
 use Rattle.archive_check.specs.declared.format.error.Error.{Error}
-use Rattle.archive_check.specs.declared.format.error.Error.TheVariants.{OutOfMemory, LayoutTooLarge, ExceededMaximumSubtreeDepth}
+use Rattle.archive_check.specs.declared.format.error.Error.TheVariants.{OutOfMemory}
 use Rattle.archive_schema.specs.declared.plan.PointeeKind.{PointeeKind}
 use Rattle.archive_schema.specs.declared.plan.PointeeKind.TheVariants.{One, Run, Text}
 use Rattle.archive_schema.specs.declared.plan.NodeKind.TheVariants.{Free}
@@ -12,15 +12,18 @@ use Rattle.archive_schema.specs.declared.check.Checker.{Checker}
 use Rattle.archive_check.specs.declared.context.range.Region.{Region}
 use Rattle.archive_schema.specs.declared.check.worklist.Work.{Work}
 use Rattle.archive_schema.specs.declared.check.worklist.Work.TheVariants.{Part as PartWork, Elements, Leave}
-use Rattle.archive_check.specs.Ranges.{subtree_answer, Lands}
-use Rattle.archive_check.specs.Trail.{too_large}
+use Rattle.archive_check.specs.Ranges.{RangeState, pop_answer, popped}
+use Rattle.archive_check.specs.EnteredRegions.{NotEntered, not_sized, not_within, not_aligned, not_allowed, Enters, EntersNot, IsTakenBack}
+use Rattle.archive_check.specs.Tour.{Seen}
+use Rattle.archive_check.specs.Trail.{Fault}
+use Rattle.archive_check.specs.Outcomes.{refused}
 use Rattle.archive_check.specs.BoundedSizes.{times}
-use Rattle.archive_schema.specs.check.Runs.{RegionIs, enter_too_large}
+use Rattle.archive_schema.specs.check.Runs.{RegionIs, EnterRuns, enter_too_large, enter_outside, enter_unaligned, enter_too_deep}
 use Rattle.archive_schema.specs.check.LoopInvariant.{Stage, stage, PointeeFits, Ready, RegionIsLegalHere}
 use Rattle.archive_schema.specs.check.Through.{Stops, Passed, PassesFrom, TestsFrom, region_rule, contents_rule}
 use Rattle.archive_schema.specs.check.Entered.{Entered, EntersFrom, LeavesFrom}
 use Rattle.archive_schema.specs.check.Turns.{ComesInto}
-use Rattle.archive_schema.proofs.check.EnteredRegions.{astray, stopped_deep, passes_free, region_through, region_left, region_stops, region_leads, entered_one, entered_run, entered_one_ready, entered_run_ready, entered_one_ends, entered_run_ends}
+use Rattle.archive_schema.proofs.check.EnteredRegions.{passes_free, region_through, region_left, region_stops, region_leads, entered_one, entered_run, entered_one_ready, entered_run_ready, entered_one_ends, entered_run_ends}
 
 -- a position that was read
 pub read_at : {q z : ℤ} → SFits w128 q → q ≡ z → to_z w128 (of_z w128 q) ≡ z
@@ -30,22 +33,47 @@ read_at {q = q} fits is = to_z-of_z w128 q fits ∙ is
 pub region_is : (m : Checker) {j n : ℕ} {x : Node} {size : Option ℕ} → j < length m.nodes.now → x ≡ slice_index_or m.nodes.now j x → times (slice_index_or m.nodes.now j x).size n ≡ size → RegionIs m j n size (slice_index_or m.nodes.now j x).align
 region_is m {n = n} {x = x} known is size = record { node = x; at = record { below = known; is = is }; size_is = ap (λ q. times q.size n) is ∙ size; align_is = ap (λ q. q.align) is }
 
--- a region is refused
+-- what keeps a region from being entered is what the plan's rule is refused with
+not_entered : {m : Checker} {target : PointeeKind} {j n align : ℕ} {size : Option ℕ} {s : RangeState} {z : ℤ} {f : Fault} (pending : List ℕ) (seen : Seen)
+    → RegionIs m j n size align → NotEntered s z align size f → EnterRuns m pending s.depth s.end target j n z s.start seen (refused f)
+not_entered pending seen region not_sized = enter_too_large region
+not_entered pending seen region (not_within out) = enter_outside region out
+not_entered pending seen region (not_aligned is above below not) = enter_unaligned region is above below not
+not_entered pending seen region (not_allowed at not) = enter_too_deep region at.target at.above at.below at.aligned not
 
-not_entered : {m : Checker} {j n : ℕ} {z : ℤ} {x y : Stage} {r : Option Region} {fault : Error} → r ≡ None → ((target : PointeeKind) → Stops (region_rule m target j n z) x.range fault) → EntersFrom m j n z x y r fault
-not_entered {r = Some q} none h = absurd (let clash = none in cc)
-not_entered {r = None} none h = record { entered = tt; list = tt; positions = tt; none = h }
+-- a region of this size and alignment is entered, or not, where it is that of so many of a node
+pub enters_so : {m : Checker} {j n align : ℕ} {size : Option ℕ} {z : ℤ} {x y : Stage} (r : Option Region) {fault : Error} → RegionIs m j n size align
+    → IfSome r (λ q. Enters x.range y.range z align size q) → IfNone r (EntersNot x.range z align size fault) → OnSome r (y.met ≡ x.met) → y.work ≡ x.work
+    → EntersFrom m j n z x y r fault
+enters_so {align = align} (Some q) region some none met work = record {
+  entered = record {
+    align = align;
+    region = record { node = region.node; at = region.at; size_is = region.size_is ∙ some.0; align_is = region.align_is };
+    lands = some.1.lands;
+    start = some.1.start;
+    end = some.1.end;
+    depth = some.1.depth;
+    deep = some.1.deep;
+    outer_start = some.1.outer_start;
+    outer_end = some.1.outer_end;
+  };
+  list = work;
+  positions = met;
+  none = tt;
+}
+enters_so None region some none met work = record {
+  entered = tt;
+  list = tt;
+  positions = tt;
+  none = λ target levels. let f = none levels in (f.0, f.1, λ pending seen. not_entered pending seen region f.2);
+}
 
-pub not_counted : {m : Checker} {j n align : ℕ} {z : ℤ} {x y : Stage} {r : Option Region} {fault : Error} → RegionIs m j n None align → r ≡ None → fault ≡ LayoutTooLarge → EntersFrom m j n z x y r fault
-not_counted region none is = not_entered none (λ target some. (too_large, is, λ pending seen. enter_too_large region))
-
-pub not_placed : {m : Checker} {j n size align : ℕ} {z : ℤ} {x y : Stage} {fault : Error} → RegionIs m j n (Some size) align → subtree_answer x.range z size align ≡ Err fault → EntersFrom m j n z x y None fault
-not_placed {m = m} {j = j} {n = n} {size = size} {align = align} {z = z} {x = x} {fault = fault} region is =
-    not_entered refl (λ target some. astray m j n target x.range z size align fault region (sym is))
-
-pub not_so_deep : {m : Checker} {j n size align t : ℕ} {z : ℤ} {x y : Stage} {r : Option Region} {fault : Error} → RegionIs m j n (Some size) align → Lands x.range z size align t → x.range.depth ≡ Some 1 → r ≡ None → fault ≡ ExceededMaximumSubtreeDepth → EntersFrom m j n z x y r fault
-not_so_deep {m = m} {j = j} {n = n} {size = size} {align = align} {t = t} {z = z} {x = x} {fault = fault} region at deep none is =
-    not_entered none (λ target. stopped_deep m j n target x.range z size align t fault region at deep is)
+-- the range is given back, or isn't
+pub leaves_so : {start end : ℕ} {x y : Stage} (r : Option (Unit {0})) {fault : Error} → OnSome r (IsTakenBack x.range start)
+    → OnSome r (y.range ≡ popped x.range start end) → IfNone r (pop_answer x.range start ≡ Err fault) → OnSome r (y.met ≡ x.met) → y.work ≡ x.work
+    → LeavesFrom start end x y r fault
+leaves_so (Some u) taken left none met work = record { range = left; taken = taken; list = work; positions = met; none = tt }
+leaves_so None taken left none met work = record { range = tt; taken = tt; list = tt; positions = tt; none = none }
 
 -- what a region holds that may be any bytes
 pub free_region : {m : Checker} {target : PointeeKind} {j n size align t : ℕ} {x : Node} → PointeeFits m target j n → x ≡ slice_index_or m.nodes.now j x → (slice_index_or m.nodes.now j x).kind ≡ Free → target ≢ Text → RegionIs m j n (Some size) align → t + size ≤ length m.bytes.now → RegionIsLegalHere m target j n size t

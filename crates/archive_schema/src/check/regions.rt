@@ -1,7 +1,6 @@
 //! Regions are entered and left.
 
-ghost use Rattle.std.specs.Prelude.{◌≡◌, ◌+◌, ◌<◌, ◌≤◌, ℕ, pos, length, Some, Ok, Err, OnSome, IfNone, is_err, true};
-ghost use Rattle.archive_check.specs.Ranges.{subtree_answer, pop_answer};
+ghost use Rattle.std.specs.Prelude.{◌≡◌, ◌+◌, ◌<◌, ◌≤◌, ℕ, length, Some, OnSome, IfNone};
 ghost use Rattle.archive_schema.specs.check.Lists.{list_of};
 ghost use Rattle.archive_schema.specs.check.Runs.{RegionIs};
 ghost use Rattle.archive_schema.specs.check.LoopInvariant.{PointeeFits, Ready};
@@ -15,55 +14,10 @@ use crate::check::worklist::Worklist;
 use crate::plan::{NodeKind, PointeeKind};
 use archive_check::context::ArchiveContext;
 use archive_check::context::range::Region;
+use archive_check::context::regions::{enter, leave};
 use archive_check::format::bytes::is_text;
 use archive_check::format::error::Error;
 use archive_check::format::extents::times;
-use archive_check::format::layout::Layout;
-use std::ops::Range;
-
-/// The position as an index.
-fn index_of(position: i128) -> usize
-    requires { (t : ℕ) × (position ≡ pos t) × (t < 18446744073709551616) }
-    ensures { position ≡ pos result }
-{
-    position as usize
-}
-
-/// Stops the check at a region that is refused. The context is asked once more for the reason, so that no wide answer is kept where regions are
-/// entered.
-#[cold]
-#[inline(never)]
-fn refuse_region<C: ArchiveContext>(
-    position: i128,
-    layout: &Layout,
-    work: &mut Worklist,
-    context: &mut C,
-)
-    requires { is_err (subtree_answer (C.state context.old) position layout.now.size layout.now.align) ≡ true }
-    ensures refused { subtree_answer (C.state context.old) position layout.now.size layout.now.align ≡ Err work.new.fault }
-    ensures unchanged { C.state context.new ≡ C.state context.old }
-    ensures list { list_of work.new ≡ list_of work.old }
-{
-    match context.check_subtree_ptr(position, layout) {
-        Err(error) => work.keep(error),
-        Ok(()) => unreachable!(),
-    }
-}
-
-/// Stops the check at a range that isn't taken back, likewise.
-#[cold]
-#[inline(never)]
-fn refuse_range<C: ArchiveContext>(start: usize, end: usize, work: &mut Worklist, context: &mut C)
-    requires { is_err (pop_answer (C.state context.old) start) ≡ true }
-    ensures refused { pop_answer (C.state context.old) start ≡ Err work.new.fault }
-    ensures unchanged { C.state context.new ≡ C.state context.old }
-    ensures list { list_of work.new ≡ list_of work.old }
-{
-    match context.pop_subtree_range(Range { start, end }) {
-        Err(error) => work.keep(error),
-        Ok(()) => unreachable!(),
-    }
-}
 
 /// Leaves a region: the range is the one from `start` to `end` again. Refused as `pop_subtree_range` is.
 #[inline(always)]
@@ -77,11 +31,7 @@ pub fn leave_region<C: ArchiveContext>(
     ensures unchanged { IfNone result (C.state context.new ≡ C.state context.old) }
     ensures list { list_of work.new ≡ list_of work.old }
 {
-    if context.pop_subtree_range(Range { start, end }).is_err() {
-        refuse_range(start, end, work, context);
-        return None;
-    }
-    Some(())
+    leave(start, end, &mut work.fault, context)
 }
 
 impl Checker<'_> {
@@ -96,34 +46,14 @@ impl Checker<'_> {
         context: &mut C,
     ) -> Option<Region>
         requires known { pointee < length self.now.nodes.now }
-        ensures enters { EntersRegion C.Context self.now pointee count position
-            context work result }
+        ensures enters { EntersRegion C.Context self.now pointee count position context work result }
         ensures pushes { OnSome result ((C.state context.new).pushes ≤ (C.state context.old).pushes + 1) }
         ensures unchanged { IfNone result (C.state context.new ≡ C.state context.old) }
         ensures list { list_of work.new ≡ list_of work.old }
     {
         let node = self.nodes[pointee];
-        let Some(size) = times(node.size, count) else {
-            return work.refuse(Error::LayoutTooLarge);
-        };
-        let layout = Layout {
-            size,
-            align: node.align,
-        };
-        if context.check_subtree_ptr(position, &layout).is_err() {
-            refuse_region(position, &layout, work, context);
-            return None;
-        }
-        let begin = index_of(position);
-        let Ok(Range { start, end }) = context.push_subtree_range(begin, begin + size) else {
-            return work.refuse(Error::ExceededMaximumSubtreeDepth);
-        };
-        Some(Region {
-            begin,
-            size,
-            outer_start: start,
-            outer_end: end,
-        })
+        let size = times(node.size, count);
+        enter(size, node.align, position, &mut work.fault, context)
     }
 
     /// Checks what a region of so many of the pointee holds, where that is shallow. Answers whether it is.
@@ -143,8 +73,7 @@ impl Checker<'_> {
         requires pointee { PointeeFits self.now target pointee count }
         requires within { begin + size ≤ length self.now.bytes.now }
         requires ends { (C.state context.old).end ≡ begin }
-        ensures passes { PassesHeld C.Context self.now target pointee count begin size
-            context work result }
+        ensures passes { PassesHeld C.Context self.now target pointee count begin size context work result }
         ensures pays { Pays C.Context self.now size context work }
     {
         if let PointeeKind::Text = target {
@@ -184,8 +113,7 @@ impl Checker<'_> {
         requires plan { IsCheckable self.now }
         requires ready { Ready self.now (C.state context.old) (list_of work.old) }
         requires pointee { PointeeFits self.now target pointee count }
-        ensures enters { Enters C.Context self.now target pointee count position
-            context work result }
+        ensures enters { Enters C.Context self.now target pointee count position context work result }
         ensures pays { Pays C.Context self.now 4 context work }
     {
         let region = self.enter_region(pointee, count, position, work, context)?;
@@ -218,8 +146,7 @@ impl Checker<'_> {
         requires plan { IsCheckable self.now }
         requires ready { Ready self.now (C.state context.old) (list_of work.old) }
         requires pointee { PointeeFits self.now target pointee count }
-        ensures enters { Enters C.Context self.now target pointee count position
-            context work result }
+        ensures enters { Enters C.Context self.now target pointee count position context work result }
         ensures pays { Pays C.Context self.now 4 context work }
     {
         self.enter_here(target, pointee, count, position, work, context)

@@ -1,7 +1,7 @@
 //! The check of shallow nodes. They lead to nothing that has to be listed, so the calls nest as deep as the shape does, and no deeper.
 
 ghost use Rattle.std.specs.Prelude.{◌≡◌, ◌≢◌, ◌+◌, ◌≤◌, ℕ, length, IsTrue};
-ghost use Rattle.archive_schema.specs.declared.plan.NodeKind.TheVariants.{Str, Pointer as PointerNode};
+ghost use Rattle.archive_schema.specs.declared.plan.NodeKind.TheVariants.{Str, Leaf as LeafNode, Pointer as PointerNode};
 ghost use Rattle.archive_schema.specs.declared.plan.PointeeKind.TheVariants.{Text};
 ghost use Rattle.archive_schema.specs.check.Runs.{IsNode};
 ghost use Rattle.archive_schema.specs.plan.SoundPlans.{IsSound};
@@ -22,6 +22,7 @@ use archive_check::format::bytes::{
     inline_length, is_out_of_line, is_text, read_coded_length, read_position,
 };
 use archive_check::format::error::Error;
+use archive_check::format::expr::Kind;
 use archive_check::format::leaf::{illegal, is_legal};
 
 impl Checker<'_> {
@@ -39,8 +40,7 @@ impl Checker<'_> {
         requires pointee { PointeeFits self.now target pointee count }
         requires shallow { target ≢ Text → IsTrue (free_at self.now.nodes.now pointee) }
         requires below { (C.state context.old).end ≤ length self.now.bytes.now }
-        ensures passes { PassesRegion C.Context self.now target pointee count position
-            context work result }
+        ensures passes { PassesRegion C.Context self.now target pointee count position context work result }
         ensures pays { Pays C.Context self.now 4 context work }
     {
         let region = self.enter_region(pointee, count, position, work, context)?;
@@ -50,6 +50,28 @@ impl Checker<'_> {
             }
         }
         leave_region(region.outer_start, region.outer_end, work, context)
+    }
+
+    /// Checks the leaf at `at`, whose node this is.
+    #[inline(always)]
+    fn check_leaf<C: ArchiveContext>(
+        &self,
+        node: usize,
+        at: usize,
+        kind: Kind,
+        work: &mut Worklist,
+        _context: &mut C,
+    ) -> Option<()>
+        requires sound { IsSound self.now }
+        requires kind { IsNode self.now node (LeafNode kind) }
+        requires fits { PartFits self.now node at }
+        ensures passes { Passes C.Context (node_rule self.now node at) _context work result }
+        ensures pays { Pays C.Context self.now (size_at self.now.nodes.now node) _context work }
+    {
+        if !is_legal(kind, self.bytes, at) {
+            return work.refuse(illegal(kind));
+        }
+        Some(())
     }
 
     /// Checks the pointer at `at`, whose node this is.
@@ -68,8 +90,7 @@ impl Checker<'_> {
         requires shallow { target ≢ Text → IsTrue (free_at self.now.nodes.now pointee) }
         requires fits { PartFits self.now node at }
         requires below { (C.state context.old).end ≤ length self.now.bytes.now }
-        ensures passes { Passes C.Context (node_rule self.now node at)
-            context work result }
+        ensures passes { Passes C.Context (node_rule self.now node at) context work result }
         ensures pays { Pays C.Context self.now (size_at self.now.nodes.now node) context work }
     {
         let count = self.count(target, at);
@@ -91,8 +112,7 @@ impl Checker<'_> {
         requires kind { IsNode self.now node (Str pointee) }
         requires fits { PartFits self.now node at }
         requires below { (C.state context.old).end ≤ length self.now.bytes.now }
-        ensures passes { Passes C.Context (node_rule self.now node at)
-            context work result }
+        ensures passes { Passes C.Context (node_rule self.now node at) context work result }
         ensures pays { Pays C.Context self.now (size_at self.now.nodes.now node) context work }
     {
         if is_out_of_line(self.bytes, at) {
@@ -130,8 +150,7 @@ impl Checker<'_> {
         requires shallow { IsShallow self.now node }
         requires fits { PartFits self.now node at }
         requires below { (C.state context.old).end ≤ length self.now.bytes.now }
-        ensures passes { PassesIf C.Context (node_rule self.now node at)
-            context work result }
+        ensures passes { PassesIf C.Context (node_rule self.now node at) context work result }
         ensures pays { Pays C.Context self.now (size_at self.now.nodes.now node) context work }
     {
         let here = self.nodes[node];
@@ -162,10 +181,8 @@ impl Checker<'_> {
         requires shallow { IsTrue (parts_shallow self.now.shallow.now (span self.now.parts.now variant.first variant.last)) }
         requires fits { PartsFit self.now variant.first variant.last at }
         requires below { (C.state context.old).end ≤ length self.now.bytes.now }
-        ensures passes { PassesIf C.Context (span_rule self.now variant at)
-            context work result }
-        ensures pays { Pays C.Context self.now (bytes_of_parts self.now variant.first variant.last)
-            context work }
+        ensures passes { PassesIf C.Context (span_rule self.now variant at) context work result }
+        ensures pays { Pays C.Context self.now (bytes_of_parts self.now variant.first variant.last) context work }
     {
         if variant.last.saturating_sub(variant.first) == 1 {
             let part = self.parts[variant.first];
@@ -188,19 +205,13 @@ impl Checker<'_> {
         requires shallow { IsShallow self.now node }
         requires fits { PartFits self.now node at }
         requires below { (C.state context.old).end ≤ length self.now.bytes.now }
-        ensures passes { Passes C.Context (node_rule self.now node at)
-            context work result }
+        ensures passes { Passes C.Context (node_rule self.now node at) context work result }
         ensures pays { Pays C.Context self.now (size_at self.now.nodes.now node) context work }
     {
         let here = self.nodes[node];
         match here.kind {
             NodeKind::Free => Some(()),
-            NodeKind::Leaf(kind) => {
-                if !is_legal(kind, self.bytes, at) {
-                    return work.refuse(illegal(kind));
-                }
-                Some(())
-            }
+            NodeKind::Leaf(kind) => self.check_leaf(node, at, kind, work, context),
             NodeKind::Record { first, last } => self.check_shallow_parts(
                 first, last, at, work, context,
             ),
@@ -236,8 +247,7 @@ impl Checker<'_> {
         requires shallow { IsTrue (parts_shallow self.now.shallow.now (span self.now.parts.now first last)) }
         requires fits { PartsFit self.now first last base }
         requires below { (C.state context.old).end ≤ length self.now.bytes.now }
-        ensures passes { Passes C.Context (parts_rule self.now first last base)
-            context work result }
+        ensures passes { Passes C.Context (parts_rule self.now first last base) context work result }
         ensures pays { Pays C.Context self.now (bytes_of_parts self.now first last) context work }
     {
         for index in first..last {
@@ -262,8 +272,7 @@ impl Checker<'_> {
         requires shallow { IsTrue (marked self.now.shallow.now node) }
         requires fits { ElementsFit self.now node count at }
         requires below { (C.state context.old).end ≤ length self.now.bytes.now }
-        ensures passes { Passes C.Context (elements_rule self.now node count at)
-            context work result }
+        ensures passes { Passes C.Context (elements_rule self.now node count at) context work result }
         ensures pays { Pays C.Context self.now (bytes_of_elements self.now node count) context work }
     {
         let size = self.nodes[node].size.unwrap_or(0);

@@ -35,8 +35,7 @@ impl Checker<'_> {
         requires within { at + pointer_bytes target ≤ length self.now.bytes.now }
         requires shared_type { shared_type < length self.now.shared_types.now }
         requires pointee { pointee < length self.now.nodes.now }
-        ensures follows { Follows C.Context self.now shared_type target pointee at
-            context work result }
+        ensures follows { Follows C.Context self.now shared_type target pointee at context work result }
         ensures pays { Pays C.Context self.now 4 context work }
     {
         let count = self.count(target, at);
@@ -74,8 +73,7 @@ impl Checker<'_> {
     ) -> Option<()>
         requires plan { IsCheckable self.now }
         requires ready { Ready self.now (C.state context.old) (PartsWork first last base ∷ list_of work.old) }
-        ensures turn { Turn C.Context self.now (PartsWork first last base)
-            context work result }
+        ensures turn { Turn C.Context self.now (PartsWork first last base) context work result }
         ensures pays { Pays C.Context self.now (bytes_of_parts self.now first last) context work }
     {
         let next = self.first_to_open(first, last, base);

@@ -3,6 +3,7 @@
 ghost use Rattle.std.specs.Prelude.{◌≡◌, ◌≤◌, ◌∷◌, [], None, OnSome, IfSome, IfNone};
 ghost use Rattle.archive_schema.specs.check.Lists.{list_of, PutsMore};
 
+use archive_check::context::refusals::refuse;
 use archive_check::format::error::Error;
 use std::alloc::Global;
 
@@ -43,7 +44,8 @@ pub enum Work {
 #[derive(Drop)]
 pub struct Worklist {
     entries: Vec<Work>,
-    fault: Error,
+    /// Why the check stopped.
+    pub fault: Error,
 }
 
 impl Worklist {
@@ -72,16 +74,6 @@ impl Worklist {
         self.fault
     }
 
-    /// Keeps why the check stops.
-    #[cold]
-    #[inline(never)]
-    pub fn keep(&mut self, fault: Error)
-        ensures fault { self.new.fault ≡ fault }
-        ensures list { list_of self.new ≡ list_of self.old }
-    {
-        self.fault = fault;
-    }
-
     /// Stops the check.
     #[inline]
     pub fn refuse<T>(&mut self, fault: Error) -> Option<T>
@@ -89,8 +81,7 @@ impl Worklist {
         ensures fault { self.new.fault ≡ fault }
         ensures list { list_of self.new ≡ list_of self.old }
     {
-        self.keep(fault);
-        None
+        refuse(&mut self.fault, fault)
     }
 
     /// One entry more. Refused with 1 where memory is refused.

@@ -1,18 +1,12 @@
 use Rattle.std.proofs.Common.{rules, ◌+◌, ◌*◌, ◌<◌, ◌≤◌, ◌-◌, arith, refl, ap, slice_index_or, length}
-use Rattle.archive_check.specs.Expressions.{kind_of}
-use Rattle.archive_check.specs.Layout.{kind_size}
-use Rattle.archive_check.specs.Reads.{bytes_at}
-use Rattle.archive_check.specs.Trail.{illegal}
-use Rattle.archive_schema.specs.check.Runs.{run_free, run_leaf, run_illegal, run_record, run_array}
+use Rattle.archive_schema.specs.check.Runs.{run_free, run_record, run_array}
 use Rattle.archive_check.specs.Elements.{span}
 use Rattle.archive_schema.specs.check.LoopInvariant.{rank}
-use Rattle.archive_check.proofs.EditedBytes.{bytes_long}
-use Rattle.archive_check.proofs.TestedAnswers.{not_true, is_true}
 use Rattle.archive_check.proofs.Elements.{at_default}
 use Rattle.archive_schema.proofs.check.TurnInvariants.{node_is, node_fits, record_fits, variant_fits, rank_less, less_by}
 use Rattle.archive_schema.proofs.check.LegalElements.{node_takes, element_fits}
 use Rattle.archive_schema.proofs.check.LegalParts.{part_fits}
-use Rattle.archive_schema.proofs.check.AtOnce.{pointer_shallow, record_shallow, choice_shallow, array_shallow, part_marked, part_below, parts_here, elements_here, passes_by, passes_refused, passes_same, passes_from, passes_behind, passes_stopped, passes_known, no_variant, variant_passed, towards_passed, towards_same, towards_element, element_stops, elements_over, towards_part, part_stops, parts_over}
+use Rattle.archive_schema.proofs.check.AtOnce.{pointer_shallow, record_shallow, choice_shallow, array_shallow, part_marked, part_below, parts_here, elements_here, passes_by, passes_same, passes_from, passes_behind, passes_stopped, passes_known, no_variant, variant_passed, towards_passed, towards_same, towards_element, element_stops, elements_over, towards_part, part_stops, parts_over}
 use Rattle.archive_check.specs.Pushes.{worth}
 use Rattle.archive_schema.specs.check.Paid.{bytes_in}
 use Rattle.archive_schema.proofs.check.Paid.{record_few, variant_few, array_few, parts_next_is, elements_next_is, elements_few}
@@ -20,21 +14,8 @@ use Rattle.archive_schema.proofs.check.Checker.+check_shallow.Goals as goal
 
 -- a leaf, or any bytes
 
-pub check_shallow-illegal-requires : goal.check_shallow-illegal-requires
-check_shallow-illegal-requires g t c =
-    let fits = node_fits c.requires.plan.sound (node_is c.requires.fits c.index-self-node.is c.in-Leaf.is) c.requires.fits in
-    let size = kind_size (kind_of c.in-Leaf.kind) in
-    (bytes_at c.args.self.now.bytes.now c.args.at size, bytes_long c.args.self.now.bytes.now c.args.at size (omega (arith, fits, c.requires.fits.fits)), λ u. not_true c.is_legal.result c.if-not-is_legal.true (c.is_legal.ensures.1 u))
-
-pub check_shallow-returns-then-not-is_legal-clause-passes : goal.check_shallow-returns-then-not-is_legal-clause-passes
-check_shallow-returns-then-not-is_legal-clause-passes g t c =
-    let is = node_is c.requires.fits c.index-self-node.is c.in-Leaf.is in
-    passes_refused c.refuse.ensures.none c.refuse.ensures.fault (λ some. (illegal (kind_of c.in-Leaf.kind), c.illegal.ensures, λ pending seen. run_illegal is (λ u. not_true c.is_legal.result c.if-not-is_legal.true (c.is_legal.ensures.1 u))))
-
-pub check_shallow-returns-else-not-is_legal-clause-passes : goal.check_shallow-returns-else-not-is_legal-clause-passes
-check_shallow-returns-else-not-is_legal-clause-passes g t c =
-    let is = node_is c.requires.fits c.index-self-node.is c.in-Leaf.is in
-    passes_same (λ pending seen. run_leaf is (c.is_legal.ensures.0 (is_true c.is_legal.result c.if-not-is_legal.false)))
+pub check_shallow-check_leaf-requires-clause-kind : goal.check_shallow-check_leaf-requires-clause-kind
+check_shallow-check_leaf-requires-clause-kind g t c = node_is c.requires.fits c.index-self-node.is c.in-Leaf.is
 
 pub check_shallow-returns-in-Free-clause-passes : goal.check_shallow-returns-in-Free-clause-passes
 check_shallow-returns-in-Free-clause-passes g t c =
