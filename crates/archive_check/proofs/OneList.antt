@@ -1,0 +1,2 @@
+-- Only one list of bytes is tight and clean and denotes a value.
+pub mod Twins
