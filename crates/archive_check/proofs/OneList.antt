@@ -1,2 +1,3 @@
 -- Only one list of bytes is tight and clean and denotes a value.
 pub mod Twins
+pub mod Tours
