@@ -15,11 +15,11 @@ use Rattle.archive_check.proofs.Seen.{inserted_has, same_some}
 use Rattle.archive_check.proofs.OneList.Twins.{Twin, Twins, twins_none, twins_more, Like, unique_filled, shared_filled, contents_like}
 
 -- up to a region of a tight list, and on behind it
-tight_split : (start : ℕ) (C : List Region) (r : Region) (D : List Region) (next : ℕ) → Tight start (C ++ r ∷ D) next → (mid : ℕ) × Tight start C mid × (r.begin ≡ up mid r.align) × Tight (after r) D next
+pub tight_split : (start : ℕ) (C : List Region) (r : Region) (D : List Region) (next : ℕ) → Tight start (C ++ r ∷ D) next → (mid : ℕ) × Tight start C mid × (r.begin ≡ up mid r.align) × Tight (after r) D next
 tight_split start [] r D next h = (start, refl, h.0, h.1)
 tight_split start (q ∷ C) r D next h = let (mid, f, e, g) = tight_split (after q) C r D next (h.1) in (mid, (h.0, f), e, g)
 
-tight_next : (start : ℕ) (C : List Region) (m n : ℕ) → Tight start C m → Tight start C n → m ≡ n
+pub tight_next : (start : ℕ) (C : List Region) (m n : ℕ) → Tight start C m → Tight start C n → m ≡ n
 tight_next start [] m n h k = h ∙ sym k
 tight_next start (r ∷ C) m n h k = tight_next (after r) C m n (h.1) (k.1)
 

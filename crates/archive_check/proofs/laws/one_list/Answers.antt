@@ -1,4 +1,4 @@
-use Rattle.archive_check.proofs.OneList.Tours.{tours_same}
+use Rattle.archive_check.proofs.OneList.Buffers.{buffers_equal}
 use Rattle.archive_check.proofs.laws.one_list.Goals as goal
 
 pub returns : goal.returns
