@@ -1,25 +1,25 @@
 -- Two tight and clean buffers that say the same are equal, byte by byte.
-use Rattle.std.proofs.Common.{◌≡◌, ◌≢◌, ℕ, zero, suc, ◌+◌, ◌<◌, ◌≤◌, pos, List, [], ◌∷◌, ◌++◌, length, take, Bool, true, false, nat_eq, All, Contains, slice_index, arith, refl, sym, ap, ap₂, ◌∙◌, subst, get_or-take, ⊎_elim}
+use Rattle.std.proofs.Common.{◌≡◌, ◌≢◌, ℕ, ◌+◌, ◌<◌, ◌≤◌, List, [], ◌∷◌, ◌++◌, length, take, Bool, true, false, nat_eq, All, slice_index, arith, refl, sym, ap, ap₂, ◌∙◌, subst, get_or-take, ⊎_elim}
 use Rattle.std.proofs.lemmas.Bool.{cases_lt}
 use Rattle.std.proofs.lemmas.Bool.Decides.{nat_tests}
 use Rattle.std.proofs.lemmas.List.{ext_get_or}
 use Rattle.std.proofs.lemmas.List.Elements.{All-nil, All-cons, All-append, All-contains}
-use Rattle.archive_check.specs.Shape.{Flavor, Shape, str, weak, Pointee, one, text}
+use Rattle.archive_check.specs.Shape.{Shape, Pointee, one}
 use Rattle.archive_check.specs.Layout.{up, size_of}
 use Rattle.archive_check.specs.Value.{Value, pointers}
-use Rattle.archive_check.specs.Reads.{Schema, LaidOut, bytes_at, i32_at, length_at, IsOutOfLine, before_end}
+use Rattle.archive_check.specs.Reads.{Schema, LaidOut}
 use Rattle.archive_check.specs.Tour.{Region, root_region, pointee_size, pointee_align, Rising, contents_one, Accepted}
 use Rattle.archive_check.specs.Leaves.{regions_of}
 use Rattle.archive_check.specs.LittleEndian.{AreBytes}
-use Rattle.archive_check.specs.Within.{PartOf, PartOfSome}
-use Rattle.archive_check.specs.Tightness.{after, Tight, Owned, owned_part, owned_text, own_size, Clean, TightFrom, CleanFrom}
+use Rattle.archive_check.specs.Within.{PartOfSome}
+use Rattle.archive_check.specs.Tightness.{after, Tight, Owned, owned_part, owned_text, Clean, TightFrom, CleanFrom}
 use Rattle.archive_check.specs.Denotes.{Fills}
 use Rattle.archive_check.proofs.UniqueBefore.{part_after}
 use Rattle.archive_check.proofs.Viewed.{lies_fits}
 use Rattle.archive_check.proofs.Tightness.{positive_append, pointee_positive, tour_positive, tight_rises}
-use Rattle.archive_check.proofs.OneList.Twins.{Like, reads_like}
-use Rattle.archive_check.proofs.OneList.Tours.{SaidAlike, Alike, KnownAlike, SameTours, tight_split, tight_next, tours_same}
-use Rattle.archive_check.proofs.OneList.Readings.{ReadAlike, part_of_alike, text_of_alike}
+use Rattle.archive_check.proofs.OneList.Twins.{reads_like}
+use Rattle.archive_check.proofs.OneList.Tours.{Alike, KnownAlike, SameTours, tight_split, tight_next, tours_same}
+use Rattle.archive_check.proofs.OneList.Readings.{part_of_alike, text_of_alike}
 use Rattle.archive_check.proofs.OneList.OwnBytes.{byte_there, Trimmed, own_bytes}
 
 -- each part of these regions fits the buffer

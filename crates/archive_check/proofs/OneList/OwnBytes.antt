@@ -1,20 +1,18 @@
 -- The bytes of a leaf, a tag, a pointer or a string are the same in two buffers, where they say the same there.
-use Rattle.std.proofs.Common.{◌≡◌, ◌⊎◌, inl, inr, ⊎_elim, ℕ, zero, suc, ◌+◌, ◌-◌, ◌/◌, ◌%◌, ◌*◌, ◌<◌, ◌≤◌, ℤ, pos, ◌+ℤ◌, List, [], ◌∷◌, length, take, drop, Option, Some, None, All, slice_index, arith, refl, sym, ap, ◌∙◌, subst, w32, drop-cons}
+use Rattle.std.proofs.Common.{◌≡◌, ⊎_elim, ℕ, suc, ◌+◌, ◌-◌, ◌/◌, ◌%◌, ◌*◌, ◌<◌, ◌≤◌, ℤ, pos, ◌+ℤ◌, List, ◌∷◌, length, take, drop, Option, Some, None, slice_index, arith, refl, sym, ap, ◌∙◌, subst, w32, drop-cons}
 use Rattle.std.proofs.Math.IntN.{◌-ℤ◌, +ℤ_comm, +ℤ-neg_ℤ_cancel}
 use Rattle.std.proofs.lemmas.Bool.{cases_lt}
 use Rattle.std.proofs.lemmas.List.Elements.{All-take, All-drop}
-use Rattle.std.specs.Int.{from_le_bytes}
-use Rattle.archive_check.specs.Shape.{signed, Kind, Flavor, Shape, leaf, choice, boxed, vec, str, shared, weak, Pointee, one, run, text}
+use Rattle.archive_check.specs.Shape.{signed, Flavor, Shape, str, weak, Pointee, one, run, text}
 use Rattle.archive_check.specs.Layout.{kind_size, size_of, pointer_size}
-use Rattle.archive_check.specs.Value.{Pointer, Value, number, case, text_value, hole, box}
-use Rattle.archive_check.specs.Reads.{Schema, bytes_at, u32_at, i32_at, kind_value, IsLegal, IsOutOfLine, before_end, decoded_length, length_at, pointer_at, string_at, Reads, reads_leaf, reads_parts, reads_choice, reads_array, reads_boxed, reads_vec, reads_inline, reads_out_of_line, reads_shared, reads_null, reads_weak, reads_named}
+use Rattle.archive_check.specs.Value.{Value}
+use Rattle.archive_check.specs.Reads.{Schema, bytes_at, u32_at, i32_at, IsOutOfLine, before_end, decoded_length, length_at, pointer_at, string_at, Reads, reads_leaf, reads_parts, reads_choice, reads_array, reads_boxed, reads_vec, reads_inline, reads_out_of_line, reads_shared, reads_null, reads_weak, reads_named}
 use Rattle.archive_check.specs.LittleEndian.{little_number, AreBytes}
 use Rattle.archive_check.specs.Tightness.{own_size}
 use Rattle.archive_check.proofs.format.BytesAt.{byte_in}
 use Rattle.archive_check.proofs.format.LegalBytes.{encoding_unique}
 use Rattle.archive_check.proofs.EditedBytes.{bytes_long}
 use Rattle.archive_check.proofs.LittleEndian.{from_le_bytes-little, from_le_bytes-one, with_sign-one}
-use Rattle.archive_check.proofs.RegionsApart.{before_end_le, bytes_few}
 use Rattle.archive_check.proofs.Texts.{inline_bytes}
 
 -- a part of the bytes is bytes

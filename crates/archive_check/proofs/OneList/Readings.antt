@@ -1,5 +1,5 @@
 -- What lies in a region that says the same in two buffers is read in both, and says the same.
-use Rattle.std.proofs.Common.{◌≡◌, ℕ, zero, suc, ◌+◌, ◌*◌, ◌<◌, List, Some, arith, sym, ap, ◌∙◌, slice_index, subst}
+use Rattle.std.proofs.Common.{◌≡◌, ℕ, zero, suc, ◌+◌, ◌*◌, ◌<◌, List, Some, arith, slice_index, subst}
 use Rattle.archive_check.specs.Shape.{Name, Shape, parts, choice, array, named, Pointee, one, run, text, Parts, Variants, definition, variant_at}
 use Rattle.archive_check.specs.Layout.{size_of}
 use Rattle.archive_check.specs.Value.{Value, Values}

@@ -1,10 +1,10 @@
 -- Two buffers that say the same, each hole filled: their pointers stand in the same order, and lead to the same.
-use Rattle.std.proofs.Common.{◌≡◌, ℕ, zero, suc, ◌+◌, ◌*◌, ◌<◌, ◌≤◌, pos, List, [], ◌∷◌, ◌++◌, length, Some, None, arith, refl, sym, ap, ap₂, ◌∙◌, slice_index}
+use Rattle.std.proofs.Common.{◌≡◌, ℕ, suc, ◌+◌, ◌<◌, ◌≤◌, pos, List, [], ◌∷◌, ◌++◌, length, Some, None, arith, refl, sym, ap, ap₂, ◌∙◌, slice_index}
 use Rattle.archive_check.specs.Shape.{Flavor, Shape, Pointee, one, run, text, Parts}
-use Rattle.archive_check.specs.Value.{Pointer, Value, Values, number, product, case, list, text_value, box, null, shared_value, hole, no_value, value, pointers, all_pointers}
+use Rattle.archive_check.specs.Value.{Pointer, Value, Values, number, product, case, list, text_value, box, null, shared_value, hole, value, pointers, all_pointers}
 use Rattle.archive_check.specs.Reads.{Schema, bytes_at, u32_at, before_end, decoded_length, length_at, pointer_at, string_at, Reads, reads_leaf, reads_parts, reads_choice, reads_array, reads_boxed, reads_vec, reads_inline, reads_out_of_line, reads_shared, reads_null, reads_weak, reads_named, ReadsParts, reads_no_part, reads_part, ReadsRun, reads_none, reads_element}
 use Rattle.archive_check.specs.Tour.{Contents, contents_one, contents_run, contents_text, Leads, pointee_size}
-use Rattle.archive_check.specs.Denotes.{Fills, fills_number, fills_product, fills_case, fills_list, fills_text, fills_box, fills_null, fills_shared_value, fills_unique, fills_shared, FillsAll, fills_no_value, fills_value}
+use Rattle.archive_check.specs.Denotes.{Fills, fills_number, fills_product, fills_case, fills_list, fills_text, fills_box, fills_null, fills_unique, fills_shared, FillsAll, fills_no_value, fills_value}
 use Rattle.archive_check.proofs.ReadingUnique.{leads_position, leads_value}
 use Rattle.archive_check.proofs.RegionsApart.{before_end_le, bytes_few}
 use Rattle.archive_check.proofs.EditedBytes.{bytes_long}
@@ -117,7 +117,11 @@ module _ (s : Schema) (a b : List ℕ) where
 
   string_twin : (p q : ℕ) {x : Value} → Fills s a (hole (string_at a p)) x → Fills s b (hole (string_at b q)) x → Twin s a b (string_at a p) (string_at b q)
   string_twin p q {x} f g = record {
-    sharing = refl; pointee = refl; filled = x; left = f; right = g;
+    sharing = refl;
+    pointee = refl;
+    filled = x;
+    left = f;
+    right = g;
     length = λ e. unique_long (string_at a p) (string_at b q) text refl refl refl refl f g;
   }
 
