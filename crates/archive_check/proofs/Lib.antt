@@ -62,3 +62,4 @@ pub mod UniqueBefore
 pub mod SelfCheck
 pub mod OpenPaths
 pub mod ReadParts
+pub mod OneList

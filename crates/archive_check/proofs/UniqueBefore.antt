@@ -55,7 +55,8 @@ module _ (s : Schema) (bytes : List ℕ) where
       let own = tour_before 0 root a.tour (rising_front 0 a.regions r [] (length bytes) a.rising) in
       All-append Owns a.regions (r ∷ []) (own.1) (All-cons Owns r [] (a.value, contents_one a.flat.reads, own.0) (All-nil Owns))
 
-  part_after : LaidOut s → {r : Region} {q : ℕ} {P : Pointee} {n : ℕ} → PartOf s bytes r q P n → r.begin ≤ q
+  -- a part lies where its region begins, or behind
+  pub part_after : LaidOut s → {r : Region} {q : ℕ} {P : Pointee} {n : ℕ} → PartOf s bytes r q P n → r.begin ≤ q
   part_after laid whole_region = omega arith
   part_after laid (in_one e w) = omega (arith, within_inside s laid w)
   part_after laid (in_run e below w) = omega (arith, within_inside s laid w)

@@ -21,6 +21,7 @@ pub mod Leaves
 pub mod Within
 pub mod Reached
 pub mod Tightness
+pub mod Tidy
 pub mod Revised
 pub mod PlainData
 pub mod Laws

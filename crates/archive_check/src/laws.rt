@@ -1,7 +1,7 @@
 //! The laws of archives. Each is what a function promises that does nothing, so that the check of this crate proves it. They are laws of our own
 //! definitions, which `specs/Laws.antt` states and docs/DEFINITIONS.md lists.
 
-ghost use Rattle.archive_check.specs.Laws.{MeaningExists, MeaningUnique, AcceptedWhereWalked, FaultyNotWalked, RegionsDisjoint, LeavesInRegions, LeafWritten, PartsReached, ReachedUnique, RootReached, PointersReached, WithinReached, ElementsReached, EncodingUnique, PartsInside, LayoutsExist, LayoutUnique, ReadingUnique, TourUnique, FaultUnique, SameReflexive, SameSymmetric, SameTransitive, PartsReachedMeaning, ReachedMeaningUnique, NamesKnown, RootReachedMeaning, SaidReached, UniqueBefore, KnownWhereWellFormed, NeverCyclic, SharedKnown};
+ghost use Rattle.archive_check.specs.Laws.{MeaningExists, MeaningUnique, AcceptedWhereWalked, FaultyNotWalked, RegionsDisjoint, LeavesInRegions, LeafWritten, PartsReached, ReachedUnique, RootReached, PointersReached, WithinReached, ElementsReached, EncodingUnique, PartsInside, LayoutsExist, LayoutUnique, ReadingUnique, TourUnique, FaultUnique, SameReflexive, SameSymmetric, SameTransitive, PartsReachedMeaning, ReachedMeaningUnique, NamesKnown, RootReachedMeaning, SaidReached, UniqueBefore, KnownWhereWellFormed, NeverCyclic, SharedKnown, TidyUnique, OneList};
 
 /// An accepted buffer has a meaning.
 pub fn meaning_exists()
@@ -161,4 +161,14 @@ pub fn never_cyclic()
 /// What a shared pointer leads to, that is read in a part of an archive, is known to its map, with the pointer's flavor, pointee and length.
 pub fn shared_known()
     ensures { SharedKnown }
+{}
+
+/// Only one list of bytes, whose first ones are given, has a meaning and is tight and clean from there on. The names in a meaning are positions.
+pub fn tidy_unique()
+    ensures { TidyUnique }
+{}
+
+/// Only one list of bytes, whose first ones are given, denotes a value of a shape in which nothing is shared and is tight and clean from there on.
+pub fn one_list()
+    ensures { OneList }
 {}
