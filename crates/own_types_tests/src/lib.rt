@@ -1,4 +1,4 @@
-//! Tests of the types of own_types, through public calls.
+//! Tests of the types of own_types, and of whole calls where memory is refused, through public calls.
 #![tactic(auto)]
 
 #[cfg(test)]
@@ -11,3 +11,5 @@ mod nodes;
 mod readme;
 #[cfg(test)]
 mod records;
+#[cfg(test)]
+mod refused_memory;

@@ -1,7 +1,7 @@
-// A record of an own type: written and read back by the calls of the program in readme.rt, and viewed and edited in place. What is shown of its archives is
-// generic in the record, so that a call at the type is made once.
+// A record of an own type: written and read back by the calls of the program in readme.rt, written to full buffers, and viewed and edited in place. What is
+// shown of its archives is generic in the record, so that a call at the type is made once.
 
-ghost use Rattle.std.specs.Prelude.{◌≡◌, Some};
+ghost use Rattle.std.specs.Prelude.{◌≡◌, ◌≤◌, Some};
 ghost use Rattle.archive_check.specs.PartsLayout.{part_at, definitions_at};
 ghost use Rattle.archive_check.specs.Shape.{one, vec as vec_shape};
 ghost use Rattle.archive_check.specs.Viewed.{Viewed};
@@ -10,19 +10,21 @@ use crate::assertions::{
     assert_bytes, assert_holds, assert_refused, assert_same, made, sealed, viewed,
 };
 use crate::readme::{archived, record, value_of};
+use archive_core::api::to_bytes_in;
 use archive_core::error::Error;
 use archive_core::primitive::ArchivedI32;
 use archive_core::seal::{Seal, SealedLeaf};
+use archive_core::ser::{Buffer, Writer};
 use archive_core::string::ArchivedString;
 use archive_core::traits::{ArchivePointee, Portable, Record};
 use archive_core::vec::ArchivedVec;
 use archive_core::view::Ref;
-use own_types::test_record::{ArchivedTest, Numbers};
+use own_types::test_record::{ArchivedTest, Numbers, Test};
 use std::alloc::Global;
 use std::process::Abort;
 
 // A text, four numbers, and at 28 the record that points back at them.
-const RECORD: &[u8; 52] =
+pub(crate) const RECORD: &[u8; 52] =
     b"hello world\0\x01\0\0\0\x02\0\0\0\x03\0\0\0\x04\0\0\0*\0\0\0\x8b\0\0\0\xe0\xff\xff\xff\x01\0\0\0\xe0\xff\xff\xff\x04\0\0\0";
 
 #[test]
@@ -36,6 +38,73 @@ fn a_record_comes_back(rt: HostRuntime) {
     let back = made(&rt, "a record", value_of(rt.alloc(), RECORD));
     let value = record(rt.alloc()).expect(&rt, "memory for a record");
     assert_holds(&rt, "the record comes back", back == value);
+}
+
+// Appends the archive of a record to a writer that is lent, which keeps what was written of it where that is refused.
+pub(crate) fn append_record<W: Writer>(
+    alloc: Global,
+    record: &Test,
+    writer: &mut W,
+) -> Result<(), Error> {
+    to_bytes_in(alloc, record, writer)?;
+    Ok(())
+}
+
+// Why a buffer over these bytes doesn't take the archive of a record; none where it does. It holds a beginning of it.
+fn refusal_within(
+    rt: &impl Abort,
+    alloc: Global,
+    record: &Test,
+    bytes: &mut [u8],
+) -> Option<Error> {
+    let mut buffer = Buffer::from(bytes);
+    let refusal = append_record(alloc, record, &mut buffer).err();
+    let begun = RECORD.starts_with(buffer.as_slice());
+    assert_holds(rt, "a beginning of the archive", begun);
+    refusal
+}
+
+// A buffer over so many bytes is too small for a record, and says how many they are.
+fn assert_too_small(rt: &impl Abort, alloc: Global, record: &Test, size: usize)
+    requires { size ≤ 52 }
+{
+    let mut bytes = [0xcc; 52];
+    let refusal = refusal_within(rt, alloc, record, &mut bytes[..size]);
+    let Some(Error::BufferOverflow { cap, .. }) = refusal else {
+        panic!(rt; "no overflow of {size} bytes")
+    };
+    assert_same(rt, "the room", cap, size);
+}
+
+// The write that finds a buffer over twenty bytes full, and the one that finds one over thirty full.
+fn assert_overflows(rt: &impl Abort, alloc: Global, record: &Test) {
+    let text_alone = Error::BufferOverflow {
+        write_len: 16,
+        cap: 20,
+        len: 12,
+    };
+    let twenty = refusal_within(rt, alloc, record, &mut [0xcc; 20]);
+    assert_same(rt, "no room for the list", twenty, Some(text_alone));
+    let text_and_list = Error::BufferOverflow {
+        write_len: 24,
+        cap: 30,
+        len: 28,
+    };
+    let thirty = refusal_within(rt, alloc, record, &mut [0xcc; 30]);
+    assert_same(rt, "no room for the root", thirty, Some(text_and_list));
+}
+
+#[test]
+fn a_record_in_a_full_buffer(rt: HostRuntime) {
+    let record = record(rt.alloc()).expect(&rt, "memory for a record");
+    for size in 0..52usize {
+        assert_too_small(&rt, rt.alloc(), &record, size);
+    }
+    assert_overflows(&rt, rt.alloc(), &record);
+    let mut bytes = [0xcc; 52];
+    let refusal = refusal_within(&rt, rt.alloc(), &record, &mut bytes);
+    assert_same(&rt, "with room for all", refusal, None);
+    assert_bytes(&rt, "the archive", &bytes, RECORD);
 }
 
 // How many numbers a list has; 0 where there is none.

@@ -2,12 +2,15 @@
 
 ghost use Rattle.std.specs.Prelude.{◌≡◌, IfOk};
 
-use crate::assertions::{assert_refusal, assert_same, assert_served};
+use crate::archive::shared_pairs::{ONE_NUMBER, twice};
+use crate::assertions::{assert_holds, assert_refusal, assert_same, assert_served};
+use archive_core::api::{HighSerializer, serialize_using};
 use archive_core::error::Error;
-use archive_core::ser::{Serializer, Writer};
+use archive_core::ser::{Buffer, Serializer, Writer};
 use archive_core::sharing::{Share, Sharing, SharingExt};
 use archive_core::string::Text;
-use archive_core::traits::SerializeUnsized;
+use archive_core::traits::{Serialize, SerializeUnsized};
+use std::alloc::Global;
 use std::process::Abort;
 
 // Writes a shared text twice. The contract of `serialize_shared` alone shows that both stand at one position.
@@ -86,4 +89,46 @@ fn a_tuple_of_four_is_shared(rt: HostRuntime) {
     let bytes = serializer.into_writer();
     let right = b"\x01\0\0\0\x02\0\0\0\x03\0\0\0\x04\0\0\0";
     assert_same(&rt, "the bytes", bytes.as_slice(), right);
+}
+
+// A share that knew what was written of a pair to a buffer without room for it, or was still in writing, and is cleared.
+fn cleared_share<'a, P: Serialize<HighSerializer<Buffer<'a>, Global>>>(
+    rt: &impl Abort,
+    alloc: Global,
+    pair: &(P, P),
+    bytes: &'a mut [u8],
+) -> Share {
+    let mut serializer = Serializer::new(Buffer::from(bytes), alloc, Share::new(alloc));
+    let written = serialize_using(pair, &mut serializer);
+    let is_full = matches!(written, Err(Error::BufferOverflow { .. }));
+    assert_holds(rt, "no room", is_full);
+    let (_, _, mut share) = serializer.into_raw_parts();
+    share.clear();
+    share
+}
+
+// A share serves a pair on a new writer: its archive, with its root here.
+fn assert_serves<P: Serialize<HighSerializer<Vec<u8>, Global>>>(
+    rt: &impl Abort,
+    alloc: Global,
+    share: Share,
+    pair: &(P, P),
+    root: usize,
+    archive: &[u8],
+) {
+    let mut serializer = Serializer::new(Vec::new(alloc), alloc, share);
+    let written = serialize_using(pair, &mut serializer);
+    assert_served(rt, "the root", written, root);
+    let bytes = serializer.into_writer();
+    assert_same(rt, "the archive", bytes.as_slice(), archive);
+}
+
+#[test]
+fn a_share_cleared_after_a_refusal_serves_as_a_fresh_one(rt: HostRuntime) {
+    let pair = twice(&rt, rt.alloc(), 10u32);
+    for size in 0..12usize {
+        let mut bytes = [0; 12];
+        let share = cleared_share(&rt, rt.alloc(), &pair, &mut bytes[..size]);
+        assert_serves(&rt, rt.alloc(), share, &pair, 4, ONE_NUMBER);
+    }
 }

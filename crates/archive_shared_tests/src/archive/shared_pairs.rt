@@ -15,7 +15,7 @@ use std::process::Abort;
 use std::rc::{Rc, RcSlice};
 
 // Two pointers to one 10; the second may be weak.
-const ONE_NUMBER: &[u8] = b"\x0a\0\0\0\xfc\xff\xff\xff\xf8\xff\xff\xff";
+pub(super) const ONE_NUMBER: &[u8] = b"\x0a\0\0\0\xfc\xff\xff\xff\xf8\xff\xff\xff";
 
 // A pointer to a 10, and a null.
 const NUMBER_AND_NULL: &[u8] = b"\x0a\0\0\0\xfc\xff\xff\xff\x01\0\0\0";
@@ -41,7 +41,7 @@ fn shared_slice<T: Drop>(rt: &impl Abort, key: u64, values: Vec<T>) -> SharedSli
 }
 
 // Two pointers to one value.
-fn twice<T: Drop>(rt: &impl Abort, alloc: Global, value: T) -> (Shared<T>, Shared<T>) {
+pub(super) fn twice<T: Drop>(rt: &impl Abort, alloc: Global, value: T) -> (Shared<T>, Shared<T>) {
     let first = shared(rt, alloc, 1, value);
     let second = first.clone().expect(rt, "memory");
     (first, second)

@@ -6,7 +6,7 @@ ghost use Rattle.archive_tests.specs.Wholes.{ArchivesText};
 
 use crate::archive::HELLO_WORLD;
 use crate::assertions::{assert_holds, assert_refusal, assert_same, text, viewed};
-use archive_core::api::{to_bytes, to_bytes_in, to_bytes_into};
+use archive_core::api::{HighSerializer, to_bytes, to_bytes_in, to_bytes_into};
 use archive_core::error::Error;
 use archive_core::place::Place;
 use archive_core::primitive::ArchivedU32;
@@ -148,17 +148,41 @@ fn a_buffer_keeps_what_was_written_before_a_refusal(rt: HostRuntime) {
     assert_same(&rt, "all bytes", bytes, *b"hello world\0\xcc\xcc\xcc\xcc");
 }
 
+// Writes the archive of a value to a buffer over an array.
+fn write_to_array<'a, T: Serialize<HighSerializer<Buffer<'a>, Global>>>(
+    rt: &impl Abort,
+    alloc: Global,
+    value: &T,
+    bytes: &'a mut [u8; 256],
+    archive: &[u8],
+) {
+    let buffer = to_bytes_in(alloc, value, Buffer::from(bytes));
+    let buffer = buffer.expect(rt, "an archive");
+    assert_same(rt, "the archive", buffer.as_slice(), archive);
+}
+
+// An array begins with an archive, and has its old bytes behind it.
+fn assert_untouched_beyond(rt: &impl Abort, bytes: &[u8], archive: &[u8]) {
+    assert!(rt; archive.len() <= bytes.len());
+    let (written, beyond) = bytes.split_at(archive.len());
+    assert_same(rt, "in the array", written, archive);
+    let untouched = beyond.iter().all(|byte| *byte == 0xcc);
+    assert_holds(rt, "untouched beyond", untouched);
+}
+
 #[test]
 fn a_buffer_leaves_the_bytes_beyond(rt: HostRuntime) {
     let value = text(&rt, rt.alloc(), "hello world");
     let mut bytes = [0xcc; 256];
-    let buffer = to_bytes_in(rt.alloc(), &value, Buffer::from(&mut bytes));
-    let buffer = buffer.expect(&rt, "an archive");
-    assert_same(&rt, "the archive", buffer.as_slice(), HELLO_WORLD);
-    let (written, beyond) = bytes.split_at(20);
-    assert_same(&rt, "in the array", written, HELLO_WORLD);
-    let untouched = beyond.iter().all(|byte| *byte == 0xcc);
-    assert_holds(&rt, "untouched beyond", untouched);
+    write_to_array(&rt, rt.alloc(), &value, &mut bytes, HELLO_WORLD);
+    assert_untouched_beyond(&rt, &bytes, HELLO_WORLD);
+}
+
+#[test]
+fn padding_is_zero_and_the_bytes_beyond_are_left(rt: HostRuntime) {
+    let mut bytes = [0xcc; 256];
+    write_to_array(&rt, rt.alloc(), &(0u8, 0u64), &mut bytes, &[0; 16]);
+    assert_untouched_beyond(&rt, &bytes, &[0; 16]);
 }
 
 #[test]
