@@ -28,23 +28,25 @@ pub(crate) fn said(alloc: Global, command: &str) -> Result<(u8, Vec<u8>), AllocE
 }
 
 #[test]
-fn values_are_written(rt: HostRuntime) -> Result<(), Fail> {
+fn numbers_are_written(rt: HostRuntime) -> Result<(), Fail> {
     let rows = [
         ("write|u32|42", 0, "2a000000\n"),
         ("write|u32|0042", 0, "2a000000\n"),
         ("write|u32|4294967295", 0, "ffffffff\n"),
+        ("write|vec-u32|1,2", 0, "0100000002000000f8ffffff02000000\n"),
+        ("write|vec-u32|", 0, "0000000000000000\n"),
+    ];
+    assert_said(&rt, rt.alloc(), &rows)?;
+    Ok(())
+}
+
+#[test]
+fn texts_are_written(rt: HostRuntime) -> Result<(), Fail> {
+    let rows = [
         (
             "write|string|hello world",
             0,
             "68656c6c6f20776f726c64008b000000f4ffffff\n",
-        ),
-        ("write|vec-u32|1,2", 0, "0100000002000000f8ffffff02000000\n"),
-        ("write|vec-u32|", 0, "0000000000000000\n"),
-        ("write|opt-box-bytes|none", 0, "000000000000000000000000\n"),
-        (
-            "write|opt-box-bytes|some:48656c6c6f20776f726c64",
-            0,
-            "48656c6c6f20776f726c640001000000f0ffffff0b000000\n",
         ),
         ("write|string|hi", 0, "6869ffffffffffff\n"),
         ("write|string|", 0, "ffffffffffffffff\n"),
@@ -54,6 +56,28 @@ fn values_are_written(rt: HostRuntime) -> Result<(), Fail> {
             0,
             "31323334353637383900000089000000f4ffffff\n",
         ),
+    ];
+    assert_said(&rt, rt.alloc(), &rows)?;
+    Ok(())
+}
+
+#[test]
+fn options_are_written(rt: HostRuntime) -> Result<(), Fail> {
+    let rows = [
+        ("write|opt-box-bytes|none", 0, "000000000000000000000000\n"),
+        (
+            "write|opt-box-bytes|some:48656c6c6f20776f726c64",
+            0,
+            "48656c6c6f20776f726c640001000000f0ffffff0b000000\n",
+        ),
+    ];
+    assert_said(&rt, rt.alloc(), &rows)?;
+    Ok(())
+}
+
+#[test]
+fn records_are_written(rt: HostRuntime) -> Result<(), Fail> {
+    let rows = [
         (
             "write|test|42;hello world;1,2,3,4",
             0,
@@ -80,21 +104,30 @@ fn values_are_written(rt: HostRuntime) -> Result<(), Fail> {
 }
 
 #[test]
-fn archives_are_checked(rt: HostRuntime) -> Result<(), Fail> {
+fn numbers_are_checked(rt: HostRuntime) -> Result<(), Fail> {
     let rows = [
         ("check|u32|2a000000", 0, "accepted\n"),
         ("check|u32|2A000000", 0, "accepted\n"),
-        (
-            "check|string|68656c6c6f20776f726c64008b000000f4ffffff",
-            0,
-            "accepted\n",
-        ),
+        ("check|u32|2a0000", 1, "refused: 16 InvalidSubtreePointer\n"),
         (
             "check|vec-u32|0100000002000000f8ffffff02000000",
             0,
             "accepted\n",
         ),
         ("check|vec-u32|0000000000000000", 0, "accepted\n"),
+    ];
+    assert_said(&rt, rt.alloc(), &rows)?;
+    Ok(())
+}
+
+#[test]
+fn texts_are_checked(rt: HostRuntime) -> Result<(), Fail> {
+    let rows = [
+        (
+            "check|string|68656c6c6f20776f726c64008b000000f4ffffff",
+            0,
+            "accepted\n",
+        ),
         ("check|string|6869ffffffffffff", 0, "accepted\n"),
         (
             "check|string|81000000ffffffff",
@@ -112,7 +145,14 @@ fn archives_are_checked(rt: HostRuntime) -> Result<(), Fail> {
             1,
             "refused: 17 UnalignedPointer\n",
         ),
-        ("check|u32|2a0000", 1, "refused: 16 InvalidSubtreePointer\n"),
+    ];
+    assert_said(&rt, rt.alloc(), &rows)?;
+    Ok(())
+}
+
+#[test]
+fn options_are_checked(rt: HostRuntime) -> Result<(), Fail> {
+    let rows = [
         (
             "check|opt-box-bytes|48656c6c6f20776f726c640001000000f0ffffff0b000000",
             0,
@@ -120,26 +160,6 @@ fn archives_are_checked(rt: HostRuntime) -> Result<(), Fail> {
         ),
         (
             "check|opt-box-bytes|48656c6c6f20776f726c640002000000f0ffffff0b000000",
-            1,
-            "refused: 24 InvalidDiscriminant\n",
-        ),
-        (
-            "check|two-box-bytes|68690000fcffffff01000000f5ffffff01000000",
-            0,
-            "accepted\n",
-        ),
-        (
-            "check|two-box-bytes|48656c6c6f20776f726c6400f0ffffff0b000000e8ffffff0b000000",
-            1,
-            "refused: 16 InvalidSubtreePointer\n",
-        ),
-        (
-            "check|test|68656c6c6f20776f726c6400010000000200000003000000040000002a0000008b000000e0ffffff01000000e0ffffff04000000",
-            0,
-            "accepted\n",
-        ),
-        (
-            "check|test|01000000613b62ffffffffff02000000f0ffffff00000000",
             1,
             "refused: 24 InvalidDiscriminant\n",
         ),
@@ -156,48 +176,86 @@ fn archives_are_checked(rt: HostRuntime) -> Result<(), Fail> {
 }
 
 #[test]
-fn other_words_are_bad_arguments(rt: HostRuntime) -> Result<(), Fail> {
+fn boxes_are_checked(rt: HostRuntime) -> Result<(), Fail> {
     let rows = [
-        "",
-        "write",
-        "write|u32",
-        "write|u32|1|2",
-        "read|u32|1",
-        "Write|u32|1",
-        "write|u64|1",
-        "write|vec-u64|1",
-        "write|vec-u32|1,,2",
-        "write|vec-u32|1,",
-        "write|vec-u32|1 ,2",
-        "check|list|00",
-        "write|u32|",
-        "write|u32|+1",
-        "write|u32|-1",
-        "write|u32| 1",
-        "write|u32|1 ",
-        "write|u32|1x",
-        "write|u32|4294967296",
-        "write|opt-u32|1",
-        "write|opt-u32|none",
-        "write|two-box-bytes|none",
-        "write|test|42",
-        "write|test|42;hello",
-        "write|test|256;;none",
-        "write|test|;;none",
-        "write|test|-1;;none",
-        "write|test|1;;1,",
-        "write|test|1;;-",
-        "write|test|1;;2147483648",
-        "write|test|1;;None",
-        "write|opt-box-bytes|",
-        "write|opt-box-bytes|some",
-        "write|opt-box-bytes|some:6",
-        "check|string|6",
-        "check|string|6g",
-        "check|string|0x00",
-        "check|string|68 69",
+        (
+            "check|two-box-bytes|68690000fcffffff01000000f5ffffff01000000",
+            0,
+            "accepted\n",
+        ),
+        (
+            "check|two-box-bytes|48656c6c6f20776f726c6400f0ffffff0b000000e8ffffff0b000000",
+            1,
+            "refused: 16 InvalidSubtreePointer\n",
+        ),
     ];
-    for command in rows {
+    assert_said(&rt, rt.alloc(), &rows)?;
+    Ok(())
+}
+
+#[test]
+fn records_are_checked(rt: HostRuntime) -> Result<(), Fail> {
+    let rows = [
+        (
+            "check|test|68656c6c6f20776f726c6400010000000200000003000000040000002a0000008b000000e0ffffff01000000e0ffffff04000000",
+            0,
+            "accepted\n",
+        ),
+        (
+            "check|test|01000000613b62ffffffffff02000000f0ffffff00000000",
+            1,
+            "refused: 24 InvalidDiscriminant\n",
+        ),
+    ];
+    assert_said(&rt, rt.alloc(), &rows)?;
+    Ok(())
+}
+
+// Words that are no command, or give no value or no bytes of their format.
+const BAD_ARGUMENTS: [&str; 38] = [
+    "",
+    "write",
+    "write|u32",
+    "write|u32|1|2",
+    "read|u32|1",
+    "Write|u32|1",
+    "write|u64|1",
+    "write|vec-u64|1",
+    "write|vec-u32|1,,2",
+    "write|vec-u32|1,",
+    "write|vec-u32|1 ,2",
+    "check|list|00",
+    "write|u32|",
+    "write|u32|+1",
+    "write|u32|-1",
+    "write|u32| 1",
+    "write|u32|1 ",
+    "write|u32|1x",
+    "write|u32|4294967296",
+    "write|opt-u32|1",
+    "write|opt-u32|none",
+    "write|two-box-bytes|none",
+    "write|test|42",
+    "write|test|42;hello",
+    "write|test|256;;none",
+    "write|test|;;none",
+    "write|test|-1;;none",
+    "write|test|1;;1,",
+    "write|test|1;;-",
+    "write|test|1;;2147483648",
+    "write|test|1;;None",
+    "write|opt-box-bytes|",
+    "write|opt-box-bytes|some",
+    "write|opt-box-bytes|some:6",
+    "check|string|6",
+    "check|string|6g",
+    "check|string|0x00",
+    "check|string|68 69",
+];
+
+#[test]
+fn other_words_are_bad_arguments(rt: HostRuntime) -> Result<(), Fail> {
+    for command in BAD_ARGUMENTS {
         assert_said(&rt, rt.alloc(), &[(command, 2, "bad arguments\n")])?;
     }
     let mut out = Vec::new(rt.alloc());

@@ -15,6 +15,8 @@ use hex::FromHexError;
 use own_types::node::{ArchivedNode, Node, node_of};
 use own_types::test_record::{ArchivedTest, Test, TestOf};
 use std::alloc::Global;
+use std::num::ParseIntError;
+use std::str::FromStr;
 
 /// A format, as the second word of a command names it.
 #[derive(Clone, Copy, Debug, PartialEq, Eq)]
@@ -87,7 +89,8 @@ impl Format {
         }
     }
 
-    /// The value that a word stands for: none where it stands for none, or the format is checked alone. Refused with 1 where memory is refused.
+    /// The value that a word stands for: none where it stands for none, or the format is checked alone. Memory comes from `alloc`; refused with
+    /// `OutOfMemory`, 1, where it is refused.
     pub fn value(self, alloc: Global, word: &String) -> Result<Option<Value<'_>>, Error> {
         match self {
             Format::U32 => match u32::read(word.as_str()) {
@@ -126,7 +129,7 @@ impl Format {
         }
     }
 
-    /// Whether the bytes are an archive of the format.
+    /// Whether the bytes are an archive of the format. Memory comes from `alloc`. Refused as `access` is.
     pub fn check(self, alloc: Global, bytes: &[u8]) -> Result<(), Error> {
         match self {
             Format::U32 => check_as::<ArchivedU32>(alloc, bytes),
@@ -147,7 +150,7 @@ impl Format {
 }
 
 impl Value<'_> {
-    /// The archive of the value.
+    /// The archive of the value. Memory comes from `alloc`. Refused as `to_bytes` is.
     pub fn write(self, alloc: Global) -> Result<Vec<u8>, Error> {
         match self {
             Value::U32(number) => to_bytes(alloc, &number),
@@ -186,14 +189,15 @@ fn check_two_boxes<T: PortablePointee>(alloc: Global, bytes: &[u8]) -> Result<()
 }
 
 // A number that a word may stand for.
-trait Digits {
-    // The number of one or more digits, behind a `-` where it may be negative.
-    fn read(word: &str) -> Option<Self>;
-}
+trait Digits: FromStr<Err = ParseIntError> {
+    // What of the word must be digits: all of it, or what stands behind a `-` where the number may be negative.
+    fn digits(word: &str) -> &str {
+        word
+    }
 
-impl Digits for u8 {
-    fn read(word: &str) -> Option<u8> {
-        if are_digits(word) {
+    // The number of one or more digits.
+    final fn read(word: &str) -> Option<Self> {
+        if are_digits(Self::digits(word)) {
             word.parse().ok()
         } else {
             None
@@ -201,23 +205,13 @@ impl Digits for u8 {
     }
 }
 
-impl Digits for u32 {
-    fn read(word: &str) -> Option<u32> {
-        if are_digits(word) {
-            word.parse().ok()
-        } else {
-            None
-        }
-    }
-}
+impl Digits for u8 {}
+
+impl Digits for u32 {}
 
 impl Digits for i32 {
-    fn read(word: &str) -> Option<i32> {
-        if are_digits(word.strip_prefix('-').unwrap_or(word)) {
-            word.parse().ok()
-        } else {
-            None
-        }
+    fn digits(word: &str) -> &str {
+        word.strip_prefix('-').unwrap_or(word)
     }
 }
 

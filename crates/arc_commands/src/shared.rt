@@ -1,10 +1,10 @@
 //! Pairs of shared and weak pointers.
 
 use archive_core::api::access;
+use archive_core::core_impls::ArchivedTuple2;
 use archive_core::error::Error;
 use archive_core::rc::{ArchivedRc, ArchivedRcWeak, RcFlavor, Shared};
 use archive_core::traits::{Portable, PortablePointee};
-use archive_tuple::ArchivedTuple2;
 use std::alloc::Global;
 use std::rc::Rc;
 

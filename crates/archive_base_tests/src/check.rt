@@ -12,3 +12,11 @@ mod memory;
 mod names;
 mod parts;
 mod ranges;
+
+use archive_check::format::expr::FlavorInfo;
+
+// The flavor of pointers that may not lead into their own values.
+const RC: FlavorInfo = FlavorInfo {
+    name: "RcFlavor",
+    cycles: false,
+};

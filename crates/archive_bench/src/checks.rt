@@ -151,7 +151,8 @@ pub extern "C" fn archive_bench_check_record(
     record_accepted(alloc, bytes, step, count, true)
 }
 
-/// How many of `count` archived small records without their option a kept `Access` accepts. They have `step` bytes each and stand one after another in `bytes`.
+/// How many of `count` archived small records without their option a kept `Access` accepts. They have `step` bytes each and stand one after another in
+/// `bytes`.
 #[unsafe(no_mangle)]
 pub extern "C" fn archive_bench_check_plain(
     alloc: Global,
@@ -255,7 +256,8 @@ pub extern "C" fn archive_bench_access_record(
     record_accepted(alloc, bytes, step, count, false)
 }
 
-/// How many of `count` archived small records without their option `access` accepts. They have `step` bytes each and stand one after another in `bytes`.
+/// How many of `count` archived small records without their option `access` accepts. They have `step` bytes each and stand one after another in
+/// `bytes`.
 #[unsafe(no_mangle)]
 pub extern "C" fn archive_bench_access_plain(
     alloc: Global,

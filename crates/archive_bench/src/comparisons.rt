@@ -27,7 +27,7 @@ fn lesser(names: Ref<'_, ArchivedSlice<ArchivedString>>, from: usize, to: usize)
 }
 
 /// How many strings of an archived list are less than the next one, summed over `count` goes through the list, which was checked once. 0 where it is
-/// refused.
+/// refused. `_step` isn't used: all exports that take archives have the same parameters.
 #[unsafe(no_mangle)]
 pub extern "C" fn archive_bench_compare_names(
     alloc: Global,

@@ -129,8 +129,8 @@ pub extern "C" fn archive_bench_write_numbers(
     list_written_over(alloc, list_of(alloc, numbers), count, reuse)
 }
 
-/// Writes the small record `count` times, each into a new buffer, or all into one where `reuse` is true. Answers the sum of the lengths and of a byte of each; 0
-/// where memory ran out.
+/// Writes the small record `count` times, each into a new buffer, or all into one where `reuse` is true. Answers the sum of the lengths and of a byte
+/// of each; 0 where memory ran out. `_size` isn't used: all exports that make what they write have the same parameters.
 #[unsafe(no_mangle)]
 pub extern "C" fn archive_bench_write_record(
     alloc: Global,
@@ -143,8 +143,8 @@ pub extern "C" fn archive_bench_write_record(
     written_over(alloc, small(alloc), count, reuse)
 }
 
-/// Writes the small record without its option `count` times, each into a new buffer, or all into one where `reuse` is true. Answers the sum of the lengths and of a byte of each; 0
-/// where memory ran out.
+/// Writes the small record without its option `count` times, each into a new buffer, or all into one where `reuse` is true. Answers the sum of the
+/// lengths and of a byte of each; 0 where memory ran out. `_size` isn't used, as by `archive_bench_write_record`.
 #[unsafe(no_mangle)]
 pub extern "C" fn archive_bench_write_plain(
     alloc: Global,
@@ -157,8 +157,8 @@ pub extern "C" fn archive_bench_write_plain(
     written_over(alloc, plain(alloc), count, reuse)
 }
 
-/// Writes `size` rows `count` times, each into a new buffer, or all into one where `reuse` is true. Answers the sum of the lengths and of a byte of each; 0
-/// where memory ran out.
+/// Writes `size` rows `count` times, each into a new buffer, or all into one where `reuse` is true. Answers the sum of the lengths and of a byte of
+/// each; 0 where memory ran out.
 #[unsafe(no_mangle)]
 pub extern "C" fn archive_bench_write_rows(
     alloc: Global,
@@ -171,8 +171,8 @@ pub extern "C" fn archive_bench_write_rows(
     list_written_over(alloc, rows(alloc, size), count, reuse)
 }
 
-/// Writes a chain of `size` boxes `count` times, each into a new buffer, or all into one where `reuse` is true. Answers the sum of the lengths and of a byte of each; 0
-/// where memory ran out.
+/// Writes a chain of `size` boxes `count` times, each into a new buffer, or all into one where `reuse` is true. Answers the sum of the lengths and of
+/// a byte of each; 0 where memory ran out.
 #[unsafe(no_mangle)]
 pub extern "C" fn archive_bench_write_list(
     alloc: Global,
@@ -185,8 +185,8 @@ pub extern "C" fn archive_bench_write_list(
     written_over(alloc, node_of(alloc, size), count, reuse)
 }
 
-/// Writes `size` shared pointers `count` times, each into a new buffer, or all into one where `reuse` is true. Answers the sum of the lengths and of a byte of each; 0
-/// where memory ran out.
+/// Writes `size` shared pointers `count` times, each into a new buffer, or all into one where `reuse` is true. Answers the sum of the lengths and of a
+/// byte of each; 0 where memory ran out.
 #[unsafe(no_mangle)]
 pub extern "C" fn archive_bench_write_shared(
     alloc: Global,

@@ -2,7 +2,9 @@
 #![tactic(auto)]
 
 pub mod api;
+pub mod core_impls;
 pub mod rc;
+pub mod view;
 
 pub use archive_check::format::error;
 pub use archive_check::{context as validation, laws, self_check};
@@ -12,7 +14,7 @@ pub use archive_seal::seal;
 pub use archive_shared::pooling;
 pub use archive_types::{
     array, boxed, choice, compare, option, parts, place, primitive, record, rel_ptr, result, ser,
-    sharing, slice, string, traits, tuples, vec, view,
+    sharing, slice, string, traits, tuples, vec,
 };
 
 /// A relative pointer to a `T` whose offset is of 32 bits. As in rkyv 0.8.18.

@@ -8,7 +8,7 @@ use Rattle.archive_check.specs.NamedLayout.{name_has_layout}
 use Rattle.archive_types.specs.SharedLaws.{flavor_as}
 
 abbrev pub loop_name : Name
-loop_name = codes "ArchivedAllValues"
+loop_name = codes "ArchivedLoop"
 
 abbrev pub loop_shape : Shape
 loop_shape = named loop_name

@@ -11,6 +11,7 @@ mod seals;
 mod shared;
 mod shared_memory;
 mod shared_pairs;
+mod shared_seals;
 mod shared_sources;
 mod two_pools;
 

@@ -1,2 +1,1 @@
-pub mod Repeated
 pub mod Wholes

@@ -1,7 +1,6 @@
 // Whole archives, and the parts that they are written and read by.
 
 mod device;
-mod memory;
 mod numbers;
 mod positions;
 mod reading;

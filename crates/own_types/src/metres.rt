@@ -21,6 +21,7 @@ use archive_core::traits::{Archive, Copied, CopiedSource, CopyOptimization, Keys
 /// A length in metres. It is archived as its number is, and read back as that.
 #[derive(Clone, Copy, Drop)]
 pub struct Metres {
+    /// The length, in metres.
     pub number: u32,
 }
 

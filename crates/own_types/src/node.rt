@@ -25,7 +25,9 @@ use std::alloc::{AllocError, Global};
 /// Nothing, or a box of the rest.
 #[derive(Drop)]
 pub enum Node {
+    /// No box.
     Nil,
+    /// A box of the rest.
     Cons(Box<Node>),
 }
 

@@ -26,8 +26,11 @@ use std::marker::PhantomData;
 /// A number, a text, and perhaps a list of numbers. The fields' types are parameters, so that its impls are proved for all types at once.
 #[derive(Debug, PartialEq, Drop)]
 pub struct TestOf<A, B, C> {
+    /// The number, the field with the index 0.
     pub number: A,
+    /// The text, the field with the index 1.
     pub text: B,
+    /// The list, the field with the index 2.
     pub list: C,
 }
 

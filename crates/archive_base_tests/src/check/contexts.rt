@@ -3,6 +3,7 @@
 ghost use Rattle.std.specs.Prelude.{◌≡◌, ◌≤◌};
 
 use crate::assertions::{assert_refusal, assert_same};
+use crate::check::RC;
 use archive_check::context::positions::SharedValidator;
 use archive_check::context::subtree::ArchiveContextExt;
 use archive_check::context::validator::Validator;
@@ -12,11 +13,6 @@ use archive_check::format::expr::{Expr, FlavorInfo, Kind, Pointee};
 use archive_check::format::layout::Layout;
 use std::ops::Range;
 use std::process::Abort;
-
-const RC: FlavorInfo = FlavorInfo {
-    name: "RcFlavor",
-    cycles: false,
-};
 
 const OTHER: FlavorInfo = FlavorInfo {
     name: "RcFlavor",

@@ -1,16 +1,12 @@
 // Expressions are compared as they are written, copied alike, and defined once.
 
 use crate::assertions::assert_same;
+use crate::check::RC;
 use archive_check::format::error::Error;
 use archive_check::format::expr::{Defs, Expr, FlavorInfo, IntegerKind, Kind, Pointee};
 use std::alloc::Global;
 use std::fmt::Debug;
 use std::process::Abort;
-
-const RC: FlavorInfo = FlavorInfo {
-    name: "RcFlavor",
-    cycles: false,
-};
 
 const CYCLIC: FlavorInfo = FlavorInfo {
     name: "RcFlavor",

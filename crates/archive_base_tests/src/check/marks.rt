@@ -13,18 +13,14 @@ ghost use Rattle.archive_check.specs.NoOthers.{around_reached};
 ghost use Rattle.archive_base_tests.specs.Forms.{rc};
 ghost use Rattle.archive_check.specs.SelfCheck.Laws.{by_schema};
 
+use crate::check::RC;
 use archive_check::format::error::Error;
-use archive_check::format::expr::{Defs, Expr, FlavorInfo, Pointee};
+use archive_check::format::expr::{Defs, Expr, Pointee};
 use archive_check::format::layout::Layout;
 use archive_check::format::traits::{ArchivePointee, Portable};
 use archive_check::self_check::BySchema;
 use std::alloc::{AllocError, Global};
 use std::marker::PhantomData;
-
-pub(crate) const RC: FlavorInfo = FlavorInfo {
-    name: "RcFlavor",
-    cycles: false,
-};
 
 /// A shape whose layout is the same under all definitions. Its expression is refused for want of memory alone, and so with an `AllocError`: an `Error`, which
 /// may hold a text, is ten times as long for the check.

@@ -4,18 +4,14 @@
 ghost use Rattle.std.specs.Prelude.{◌<◌};
 
 use crate::assertions::{assert_holds, assert_refusal, assert_same};
+use crate::check::RC;
 use archive_check::context::positions::SharedValidator;
 use archive_check::context::{SharedContext, ValidationState};
 use archive_check::format::error::Error;
-use archive_check::format::expr::{Expr, FlavorInfo, Kind, Pointee};
+use archive_check::format::expr::{Expr, Kind, Pointee};
 use linked_list_allocator::LocalHeap;
 use std::alloc::{Allocator, Global};
 use std::process::Abort;
-
-const RC: FlavorInfo = FlavorInfo {
-    name: "RcFlavor",
-    cycles: false,
-};
 
 // Starts a position, and answers why it is refused; none where it isn't.
 fn start_as<S: SharedContext>(

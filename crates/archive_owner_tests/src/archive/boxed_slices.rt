@@ -1,5 +1,6 @@
 // Boxed slices and texts, and the calls with a serializer or an allocator of the caller's own.
 
+use crate::archive::BOXED_HELLO_WORLD;
 use crate::assertions::{assert_same, assert_too_far, assert_written, value_of};
 use archive_core::api::{serialize_using, to_bytes_in_with_alloc, to_bytes_with_alloc};
 use archive_core::boxed::{BoxSlice, BoxStr};
@@ -9,9 +10,6 @@ use archive_core::string::Text;
 
 // Two numbers of 16 bits, and at 4 the box that points back at them.
 const ONE_AND_TWO: &[u8] = b"\x01\0\x02\0\xfc\xff\xff\xff\x02\0\0\0";
-
-// A text, a zero, and at 12 the box that points back at it.
-const HELLO_WORLD: &[u8] = b"hello world\0\xf4\xff\xff\xff\x0b\0\0\0";
 
 #[test]
 fn boxed_slices_are_written(rt: HostRuntime) {
@@ -28,12 +26,12 @@ fn boxed_slices_are_read_back(rt: HostRuntime) {
 #[test]
 fn boxed_texts_are_written(rt: HostRuntime) {
     let text = String::from_str(rt.alloc(), "hello world").expect(&rt, "memory");
-    assert_written(&rt, rt.alloc(), &BoxStr { text }, HELLO_WORLD);
+    assert_written(&rt, rt.alloc(), &BoxStr { text }, BOXED_HELLO_WORLD);
 }
 
 #[test]
 fn boxed_texts_are_read_back(rt: HostRuntime) {
-    let back: BoxStr = value_of(&rt, rt.alloc(), HELLO_WORLD);
+    let back: BoxStr = value_of(&rt, rt.alloc(), BOXED_HELLO_WORLD);
     assert_same(&rt, "the text", back.text.as_str(), "hello world");
 }
 

@@ -1,6 +1,6 @@
 // Views of boxes, slices and vectors, and of what strings tell of their texts.
 
-use crate::archive::HELLO_WORLD;
+use crate::archive::{BOXED_HELLO_WORLD, HELLO_WORLD};
 use crate::assertions::{assert_holds, assert_same, viewed};
 use archive_core::boxed::ArchivedBox;
 use archive_core::primitive::{ArchivedU16, ArchivedU32};
@@ -13,9 +13,6 @@ use std::process::Abort;
 
 // The numbers 1 and 2, and at 8 the vector that points back at them.
 const ONE_AND_TWO: &[u8] = b"\x01\0\0\0\x02\0\0\0\xf8\xff\xff\xff\x02\0\0\0";
-
-// The text "hello world", a zero, and at 12 the box that points back at its eleven bytes.
-const BOXED_HELLO_WORLD: &[u8] = b"hello world\0\xf4\xff\xff\xff\x0b\0\0\0";
 
 // The size and the alignment of a type, in bytes.
 fn layout_of<T: Portable>() -> (usize, usize) {

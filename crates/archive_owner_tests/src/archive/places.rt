@@ -2,9 +2,9 @@
 
 use super::own_choices::Event;
 use crate::assertions::assert_same;
+use archive_core::core_impls::ArchivedTuple2;
 use archive_core::place::Place;
 use archive_core::primitive::{ArchivedU16, ArchivedU32};
-use archive_tuple::ArchivedTuple2;
 
 // A byte at 0, and a number at 4.
 type Pair = ArchivedTuple2<u8, ArchivedU32>;

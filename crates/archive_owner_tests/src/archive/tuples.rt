@@ -4,10 +4,10 @@ use crate::assertions::{
     assert_holds, assert_refused, assert_same, assert_written, bytes_of, found, viewed,
 };
 use archive_core::api::access_mut;
+use archive_core::core_impls::{ArchivedTuple1, ArchivedTuple3, ArchivedTuple5, ArchivedTuple13};
 use archive_core::error::Error;
 use archive_core::primitive::{ArchivedI32, ArchivedU16, ArchivedU32};
 use archive_core::traits::{Portable, Record};
-use archive_tuple::{ArchivedTuple1, ArchivedTuple3, ArchivedTuple5, ArchivedTuple13};
 use std::alloc::Global;
 
 // The tuple (24, true, 16) of an `i32`, a `bool` and a `u32`.

@@ -3,9 +3,11 @@
 ghost use Rattle.std.specs.Prelude.{◌≢◌, Some};
 
 use crate::archive::HELLO_WORLD;
+use crate::archive::pairs::ONE_NUMBER;
 use crate::assertions::{assert_refusal, assert_same, assert_served};
 use archive_core::api::{HighValidator, access_with_context};
 use archive_core::boxed::ArchivedBox;
+use archive_core::core_impls::{ArchivedTuple2, ArchivedTuple3};
 use archive_core::error::Error;
 use archive_core::option::ArchivedOption;
 use archive_core::primitive::{ArchivedI32, ArchivedU32};
@@ -15,7 +17,6 @@ use archive_core::string::{ArchivedStr, ArchivedString};
 use archive_core::traits::Portable;
 use archive_core::validation::{ArchiveContextExt, ArchiveValidator};
 use archive_core::vec::ArchivedVec;
-use archive_tuple::{ArchivedTuple2, ArchivedTuple3};
 use std::alloc::Global;
 use std::process::Abort;
 
@@ -33,7 +34,7 @@ fn entered_within<T: Portable>(
 }
 
 // With no limit it enters so many.
-fn assert_entered<T: Portable>(
+pub(super) fn assert_entered<T: Portable>(
     rt: &impl Abort,
     what: &str,
     alloc: Global,
@@ -96,9 +97,8 @@ fn a_check_enters_each_region_of_a_record_once(rt: HostRuntime) {
 
 #[test]
 fn a_check_enters_a_shared_region_once(rt: HostRuntime) {
-    let shared = b"\x0a\0\0\0\xfc\xff\xff\xff\xf8\xff\xff\xff";
     type Number = ArchivedRc<ArchivedU32, RcFlavor>;
-    assert_two_entered::<Number, Number>(&rt, "a shared number", rt.alloc(), shared, 2);
+    assert_two_entered::<Number, Number>(&rt, "a shared number", rt.alloc(), ONE_NUMBER, 2);
 }
 
 // Perhaps a box of bytes.

@@ -4,12 +4,10 @@ ghost use Rattle.std.specs.Prelude.{refl};
 ghost use Rattle.std.proofs.Common.{inl, inr};
 ghost use Rattle.archive_shared_tests.specs.CircleShape.{circle_name, circle_pointer};
 
-use crate::assertions::assert_same;
-use archive_core::api::{HighValidator, access_with_context};
+use crate::archive::contexts::assert_entered;
 use archive_core::own::{ArchivedRecursive, NamedRecursive};
 use archive_core::shape::{Expr, FlavorInfo, Pointee};
 use std::alloc::{AllocError, Global};
-use std::process::Abort;
 
 // The name of a shared pointer to one of it.
 struct Circle;
@@ -54,19 +52,8 @@ const ONE: &[u8] = b"\0\0\0\0\xfc\xff\xff\xff";
 
 const TWO: &[u8] = b"\x04\0\0\0\xfc\xff\xff\xff\xfc\xff\xff\xff";
 
-// How many regions a check of a circle enters.
-fn entered(rt: &impl Abort, alloc: Global, bytes: &[u8]) -> usize {
-    let mut context = HighValidator::new(alloc, bytes);
-    let _ = access_with_context::<ArchivedCircle, HighValidator<'_>>(
-        alloc,
-        bytes,
-        &mut context,
-    ).expect(rt, "an archive");
-    context.subtrees()
-}
-
 #[test]
 fn a_circle_is_entered_once_a_pointer(rt: HostRuntime) {
-    assert_same(&rt, "one", entered(&rt, rt.alloc(), ONE), 2);
-    assert_same(&rt, "two", entered(&rt, rt.alloc(), TWO), 3);
+    assert_entered::<ArchivedCircle>(&rt, "one", rt.alloc(), ONE, 2);
+    assert_entered::<ArchivedCircle>(&rt, "two", rt.alloc(), TWO, 3);
 }

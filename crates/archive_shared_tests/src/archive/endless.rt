@@ -56,13 +56,13 @@ fn choice_of(alloc: Global, name: &'static str, only: Vec<Expr>) -> Result<Expr,
 fn definition(alloc: Global) -> Result<Expr, AllocError>
     ensures { IfOk result (λ e. shape_of e ≡ loop_choice) }
 {
-    let pointee = Box::new(alloc, Pointee::One(Expr::Named("ArchivedAllValues")))?;
+    let pointee = Box::new(alloc, Pointee::One(Expr::Named("ArchivedLoop")))?;
     let flavor = FlavorInfo {
         name: "Looping",
         cycles: true,
     };
     let inner = Expr::Shared(flavor, pointee);
-    choice_of(alloc, "ArchivedAllValues", vec![in alloc; inner]?)
+    choice_of(alloc, "ArchivedLoop", vec![in alloc; inner]?)
 }
 
 impl Portable for ArchivedLoop {
@@ -91,12 +91,12 @@ impl Portable for ArchivedLoop {
     }
 
     fn expr(_alloc: Global) -> Result<Expr, Error> {
-        Ok(Expr::Named("ArchivedAllValues"))
+        Ok(Expr::Named("ArchivedLoop"))
     }
 
     #[tactic(auto, using(archive_check::proofs::format::AddedDefinitions::not_extended))]
     fn define(alloc: Global, defs: &mut Defs) -> Result<(), Error> {
-        defs.add("ArchivedAllValues", definition(alloc)?)?;
+        defs.add("ArchivedLoop", definition(alloc)?)?;
         Ok(())
     }
 }

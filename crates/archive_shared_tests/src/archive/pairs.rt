@@ -1,13 +1,45 @@
-// Pairs of any two types. What a call at a pair takes is written out here once, and who calls with certain types hands over what these do alone.
+// Pairs of any two types, and shared values of any type. What a call at a pair takes is written out here once, and who calls with certain types hands over
+// what these do alone.
 
 use crate::assertions::{assert_accepted, assert_refused, assert_written, read_unless, viewed};
 use archive_core::api::HighSerializer;
+use archive_core::core_impls::ArchivedTuple2;
 use archive_core::error::Error;
+use archive_core::rc::{Shared, SharedSlice};
 use archive_core::traits::{Archive, Deserialize, Entries, Portable, Serialize};
 use archive_core::view::Ref;
-use archive_tuple::ArchivedTuple2;
 use std::alloc::Global;
 use std::process::Abort;
+use std::rc::{Rc, RcSlice};
+
+// Two pointers to one 10; the second may be weak.
+pub(super) const ONE_NUMBER: &[u8; 12] = b"\x0a\0\0\0\xfc\xff\xff\xff\xf8\xff\xff\xff";
+
+// A value that is shared under a key.
+pub(super) fn shared<T: Drop>(rt: &impl Abort, alloc: Global, key: u64, value: T) -> Shared<T> {
+    let value = Rc::new(alloc, value).expect(rt, "memory");
+    Shared { key, value }
+}
+
+// And values that are.
+pub(super) fn shared_slice<T: Drop>(rt: &impl Abort, key: u64, values: Vec<T>) -> SharedSlice<T> {
+    let value = RcSlice::from_vec(values).expect(rt, "memory");
+    SharedSlice { key, value }
+}
+
+// Two pointers to one value.
+pub(super) fn twice<T: Drop>(rt: &impl Abort, alloc: Global, value: T) -> (Shared<T>, Shared<T>) {
+    let first = shared(rt, alloc, 1, value);
+    let second = first.clone().expect(rt, "memory");
+    (first, second)
+}
+
+// The texts "hello" and "world".
+pub(super) fn hello_and_world(rt: &impl Abort, alloc: Global) -> Vec<String> {
+    let hello = String::from_str(alloc, "hello").expect(rt, "memory");
+    let world = String::from_str(alloc, "world").expect(rt, "memory");
+    vec![in alloc; hello, world].expect(rt, "memory")
+}
 
 // These bytes are the archive of a pair.
 pub(super) fn assert_pair_written<

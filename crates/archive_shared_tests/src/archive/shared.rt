@@ -2,7 +2,7 @@
 
 ghost use Rattle.std.specs.Prelude.{◌≡◌, IfOk};
 
-use crate::archive::shared_pairs::{ONE_NUMBER, twice};
+use crate::archive::pairs::{ONE_NUMBER, twice};
 use crate::assertions::{assert_holds, assert_refusal, assert_same, assert_served};
 use archive_core::api::{HighSerializer, serialize_using};
 use archive_core::error::Error;

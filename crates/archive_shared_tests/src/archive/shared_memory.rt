@@ -3,13 +3,14 @@
 ghost use Rattle.std.specs.Prelude.{true, IfOk, ◌≤◌, length};
 ghost use Rattle.std.proofs.Common.{true≢false};
 
-use crate::archive::pairs::read_pair;
+use crate::archive::pairs::{ONE_NUMBER, read_pair, twice};
 use crate::assertions::{assert_holds, assert_same};
 use archive_check::context::positions::SharedValidator;
 use archive_check::context::range::ArchiveValidator;
 use archive_check::context::validator::Validator;
 use archive_check::context::{ArchiveContext, SharedContext};
 use archive_core::api::{check_pos_with_context, serialize_using};
+use archive_core::core_impls::ArchivedTuple2;
 use archive_core::error::Error;
 use archive_core::pooling::{Pool, Pooling, PoolingState};
 use archive_core::primitive::ArchivedU32;
@@ -17,28 +18,16 @@ use archive_core::rc::{ArchivedRc, RcFlavor, Shared};
 use archive_core::ser::{ResolverAlloc, Serializer, Writer};
 use archive_core::sharing::Share;
 use archive_core::traits::{Entries, Keys, Portable, Serialize};
-use archive_tuple::ArchivedTuple2;
 use linked_list_allocator::LocalHeap;
 use std::alloc::{Allocator, Global};
 use std::process::Abort;
-use std::rc::Rc;
 
-// Two pointers to one 10.
-const ONE_NUMBER: &[u8] = b"\x0a\0\0\0\xfc\xff\xff\xff\xf8\xff\xff\xff";
-
-// The same behind four other bytes.
+// Four other bytes, and behind them two pointers to one 10, as in `ONE_NUMBER`.
 const BEHIND_OTHERS: &[u8] = b"\xaa\xbb\xcc\xdd\x0a\0\0\0\xfc\xff\xff\xff\xf8\xff\xff\xff";
 
 type Pair = (Shared<u32>, Shared<u32>);
 
 type Pointer = ArchivedRc<ArchivedU32, RcFlavor>;
-
-fn pair_of(rt: &impl Abort, alloc: Global, number: u32) -> Pair {
-    let value = Rc::new(alloc, number).expect(rt, "memory");
-    let first = Shared { key: 1, value };
-    let second = first.clone().expect(rt, "memory");
-    (first, second)
-}
 
 // A serializer whose memory comes from an allocator.
 type Memory<M> = Serializer<Vec<u8, M>, M, Share<M>>;
@@ -94,7 +83,7 @@ fn assert_written_in<A: Allocator + Copy + Drop>(
 
 #[test]
 fn what_was_written_before_stands(rt: HostRuntime) {
-    let pair = pair_of(&rt, rt.alloc(), 10);
+    let pair = twice(&rt, rt.alloc(), 10);
     let mut most = 0usize;
     let mut served = false;
     for units in 1..64usize {

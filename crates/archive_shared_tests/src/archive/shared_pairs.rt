@@ -1,7 +1,10 @@
 // Pairs of shared and weak pointers: written, checked and read back. What is done with a pair is said of any two types once, and what with two pointers of any
 // type, so that a test hands over what the type it is about does, and not what the pair or the pointers do.
 
-use crate::archive::pairs::{assert_pair, assert_pair_refused, assert_pair_written, read_pair};
+use crate::archive::pairs::{
+    ONE_NUMBER, assert_pair, assert_pair_refused, assert_pair_written, hello_and_world, read_pair,
+    shared, shared_slice, twice,
+};
 use crate::assertions::{assert_holds, assert_same};
 use archive_core::api::{HighDeserializer, HighSerializer};
 use archive_core::error::Error;
@@ -12,10 +15,7 @@ use archive_core::slice::ArchivedSlice;
 use archive_core::traits::{Archive, Deserialize, PortablePointee, Serialize};
 use std::alloc::Global;
 use std::process::Abort;
-use std::rc::{Rc, RcSlice};
-
-// Two pointers to one 10; the second may be weak.
-pub(super) const ONE_NUMBER: &[u8] = b"\x0a\0\0\0\xfc\xff\xff\xff\xf8\xff\xff\xff";
+use std::rc::Rc;
 
 // A pointer to a 10, and a null.
 const NUMBER_AND_NULL: &[u8] = b"\x0a\0\0\0\xfc\xff\xff\xff\x01\0\0\0";
@@ -29,23 +29,6 @@ const TWO_SLICES: &[u8] = b"\0\0\0\0\x64\0\0\0\xf8\xff\xff\xff\0\0\0\0\xf4\xff\x
 // Two pointers to one slice of the texts "hello" and "world".
 const ONE_SLICE_OF_TEXTS: &[u8] =
     b"hello\xff\xff\xffworld\xff\xff\xff\xf0\xff\xff\xff\x02\0\0\0\xe8\xff\xff\xff\x02\0\0\0";
-
-fn shared<T: Drop>(rt: &impl Abort, alloc: Global, key: u64, value: T) -> Shared<T> {
-    let value = Rc::new(alloc, value).expect(rt, "memory");
-    Shared { key, value }
-}
-
-fn shared_slice<T: Drop>(rt: &impl Abort, key: u64, values: Vec<T>) -> SharedSlice<T> {
-    let value = RcSlice::from_vec(values).expect(rt, "memory");
-    SharedSlice { key, value }
-}
-
-// Two pointers to one value.
-pub(super) fn twice<T: Drop>(rt: &impl Abort, alloc: Global, value: T) -> (Shared<T>, Shared<T>) {
-    let first = shared(rt, alloc, 1, value);
-    let second = first.clone().expect(rt, "memory");
-    (first, second)
-}
 
 // Two pointers to one slice.
 fn slice_twice<T: Drop>(rt: &impl Abort, values: Vec<T>) -> (SharedSlice<T>, SharedSlice<T>) {
@@ -223,10 +206,7 @@ fn an_empty_slice_and_one_of_a_number_are_read_back(rt: HostRuntime) {
 
 #[test]
 fn two_pointers_to_one_slice_of_texts(rt: HostRuntime) {
-    let hello = String::from_str(rt.alloc(), "hello").expect(&rt, "memory");
-    let world = String::from_str(rt.alloc(), "world").expect(&rt, "memory");
-    let texts = vec![in rt.alloc(); hello, world].expect(&rt, "memory");
-    let slices = slice_twice(&rt, texts);
+    let slices = slice_twice(&rt, hello_and_world(&rt, rt.alloc()));
     assert_slices_written(&rt, rt.alloc(), &slices, ONE_SLICE_OF_TEXTS);
 }
 

@@ -1,5 +1,6 @@
 // Shared values as sources. A list of them is written in functions of any type, which a test hands its type's part alone.
 
+use crate::archive::pairs::{hello_and_world, shared, shared_slice};
 use crate::assertions::{assert_unwritten, assert_written};
 use archive_core::api::HighSerializer;
 use archive_core::error::Error;
@@ -7,7 +8,7 @@ use archive_core::rc::{Shared, SharedSlice, SharedStr, WeakShared};
 use archive_core::traits::Serialize;
 use std::alloc::Global;
 use std::process::Abort;
-use std::rc::{Rc, RcSlice, RcStr};
+use std::rc::RcStr;
 
 // The archive of a list of shared values.
 fn assert_list_written<T: Serialize<HighSerializer<Vec<u8>, Global>> + Drop>(
@@ -36,18 +37,17 @@ fn assert_circle_unwritten<T: Serialize<HighSerializer<Vec<u8>, Global>> + Drop>
     value: T,
     refusal: Error,
 ) {
-    let value = Rc::new(alloc, value).expect(rt, "memory");
-    let inner = Shared { key: 7, value };
-    let value = Rc::new(alloc, inner).expect(rt, "memory");
-    assert_unwritten(rt, alloc, &Shared { key: 7, value }, refusal);
+    let inner = shared(rt, alloc, 7, value);
+    let outer = shared(rt, alloc, 7, inner);
+    assert_unwritten(rt, alloc, &outer, refusal);
 }
 
 #[test]
 fn a_shared_number_is_written_once(rt: HostRuntime) {
     let mut numbers = Vec::new(rt.alloc());
     for _ in 0..2 {
-        let value = Rc::new(rt.alloc(), 10u32).expect(&rt, "memory");
-        numbers.push(Shared { key: 1, value }).expect(&rt, "memory");
+        let number = shared(&rt, rt.alloc(), 1, 10u32);
+        numbers.push(number).expect(&rt, "memory");
     }
     let archive = b"\x0a\0\0\0\xfc\xff\xff\xff\xf8\xff\xff\xff\xf8\xff\xff\xff\x02\0\0\0";
     assert_list_written(&rt, rt.alloc(), &numbers, archive);
@@ -58,20 +58,11 @@ fn a_key_within_itself_is_refused(rt: HostRuntime) {
     assert_circle_unwritten(&rt, rt.alloc(), 10u32, Error::CyclicSerialize);
 }
 
-// The texts "hello" and "world", shared.
-fn hello_world(rt: &impl Abort, alloc: Global) -> SharedSlice<String> {
-    let hello = String::from_str(alloc, "hello").expect(rt, "memory");
-    let world = String::from_str(alloc, "world").expect(rt, "memory");
-    let texts = vec![in alloc; hello, world].expect(rt, "memory");
-    let value = RcSlice::from_vec(texts).expect(rt, "memory");
-    SharedSlice { key: 1, value }
-}
-
 #[test]
 fn a_shared_slice_of_texts(rt: HostRuntime) {
     let mut pointers = Vec::new(rt.alloc());
     for _ in 0..2 {
-        let texts = hello_world(&rt, rt.alloc());
+        let texts = shared_slice(&rt, 1, hello_and_world(&rt, rt.alloc()));
         pointers.push(texts).expect(&rt, "memory");
     }
     let archive =

@@ -1,11 +1,6 @@
 // Types that check themselves answer as their schemas do; and a kept check answers views.
 
 ghost use Rattle.std.specs.Prelude.{◌≢◌, codes, refl, Some};
-ghost use Rattle.std.specs.Int.{w32};
-ghost use Rattle.std.proofs.Common.{inl, inr};
-ghost use Rattle.archive_check.specs.Shape.{array, leaf, number, one, unsigned};
-ghost use Rattle.archive_check.specs.Definitions.{no_definition};
-ghost use Rattle.archive_check.specs.LeafLayout.{no_definition_reached};
 ghost use Rattle.archive_check.specs.SelfCheck.Laws.{by_schema};
 ghost use Rattle.archive_own.specs.OwnRecords.{named_check};
 
@@ -13,6 +8,7 @@ use crate::archive::HELLO_WORLD;
 use crate::assertions::{assert_holds, assert_same};
 use archive_core::api::{Access, HighValidator, check_pos_with_context};
 use archive_core::boxed::ArchivedBox;
+use archive_core::core_impls::{ArchivedTuple1, ArchivedTuple2, ArchivedTuple3};
 use archive_core::error::Error;
 use archive_core::own::{ArchivedRecord, NamedRecord};
 use archive_core::primitive::{
@@ -20,68 +16,33 @@ use archive_core::primitive::{
 };
 use archive_core::result::ArchivedResult;
 use archive_core::self_check::{BySchema, RecordCheck, SelfCheck};
-use archive_core::shape::{Defs, Expr, Schema};
+use archive_core::shape::Schema;
 use archive_core::slice::ArchivedSlice;
 use archive_core::string::{ArchivedStr, ArchivedString};
-use archive_core::traits::{ArchivePointee, Portable};
+use archive_core::traits::Portable;
 use archive_core::vec::ArchivedVec;
 use archive_core::view::Ref;
-use archive_tuple::{ArchivedTuple1, ArchivedTuple2, ArchivedTuple3};
 use std::alloc::{AllocError, Global};
 use std::process::Abort;
 
-// Two numbers, which their schema checks.
-struct ArchivedTwo;
+// Two numbers under a name, which their schema checks.
+struct TwoFormat;
 
-impl ArchivePointee for ArchivedTwo {
-    type ArchivedMetadata = ();
-
-    ghost pointee = { one (array 2 (leaf (number unsigned w32))) };
-
-    ghost definitions = { no_definition };
-
-    ghost metadata_length = { λ _. 0 };
-
-    ghost no_length = { λ _ _. refl };
-
-    fn pointer_metadata(_metadata: &()) -> usize {
-        0
-    }
-}
-
-impl Portable for ArchivedTwo {
-    ghost shape = { array 2 (leaf (number unsigned w32)) };
-
-    ghost layout = { record { size = 8; align = 4 } };
+impl NamedRecord for TwoFormat {
+    type Parts = (ArchivedU32, (ArchivedU32, ()));
 
     type Check = BySchema;
 
-    ghost is_one = { refl };
-
-    ghost is_align = { inr (inr (inl refl)) };
-
-    ghost has_layout = { record { solved = λ s k. refl } };
-
-    ghost no_others = { no_definition_reached (array 2 (leaf (number unsigned w32))) };
+    ghost name = { codes "ArchivedTwo" };
 
     ghost checks = { λ direct. by_schema direct };
 
-    fn size() -> usize {
-        8
-    }
-
-    fn align() -> usize {
-        4
-    }
-
-    fn expr(alloc: Global) -> Result<Expr, Error> {
-        Ok(Expr::Array(2, Box::new(alloc, ArchivedU32::expr(alloc)?)?))
-    }
-
-    fn define(_alloc: Global, _defs: &mut Defs) -> Result<(), Error> {
-        Ok(())
+    fn name() -> &'static str {
+        "ArchivedTwo"
     }
 }
+
+type ArchivedTwo = ArchivedRecord<TwoFormat>;
 
 // A bool and a byte under a name, which check themselves.
 struct LabelFormat;

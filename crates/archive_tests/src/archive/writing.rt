@@ -109,6 +109,21 @@ fn a_value_is_laid_out_as_a_region(rt: HostRuntime) {
     assert_same(&rt, "the numbers", rest, b"\x2a\0\0\0\x07\0\0\0\0\0\0\0");
 }
 
+// Its 100 bytes are more than a local array holds.
+#[test]
+fn a_large_region_is_resolved_on_the_heap(rt: HostRuntime) {
+    let mut serializer = Serializer::new(Vec::new(rt.alloc()), rt.alloc(), ());
+    assert_region(&rt, "a number", &42u32, &mut serializer, 0);
+    let sevens = [0x0707_0707u32; 25];
+    assert_region(&rt, "the region", &sevens, &mut serializer, 4);
+    let writer = serializer.into_writer();
+    assert_same(&rt, "the end", writer.len(), 104);
+    let sevens = writer.iter().skip(4).all(|byte| *byte == 7);
+    assert_holds(&rt, "sevens alone", sevens);
+    let view = viewed::<[ArchivedU32; 25]>(&rt, rt.alloc(), writer.as_slice());
+    assert_same(&rt, "the view", view.pos(), 4);
+}
+
 #[test]
 fn a_number_is_an_archive(rt: HostRuntime) {
     let bytes = archive_of_number(rt.alloc(), 42).expect(&rt, "an archive");
