@@ -1,6 +1,7 @@
 // What is done with each archive, of whatever type: all that a stranger makes of it by cutting it short or by writing over one byte is judged.
 
 use crate::assertions::{assert_agreement, assert_answer, form_of};
+use crate::oracle::Form;
 use archive_core::boxed::ArchivedBox;
 use archive_core::option::ArchivedOption;
 use archive_core::rc::{ArchivedRc, ArchivedRcWeak, RcFlavor};
@@ -23,63 +24,63 @@ fn edited(alloc: Global, archive: &[u8], index: usize, value: u8) -> Result<Vec<
 }
 
 // The archive is accepted; and each beginning of it is judged alike by both checks, and the whole with each byte in turn made another one.
-pub(crate) fn assert_hostile<T: Portable>(
+fn assert_archive<T: Portable>(
     rt: &impl Abort,
     what: &str,
     alloc: Global,
+    form: &Form,
     archive: &[u8],
 ) {
-    let form = form_of::<T>(rt, alloc);
     for index in 0..archive.len() {
-        assert_agreement::<T>(rt, what, alloc, &form, &archive[..index]);
+        assert_agreement::<T>(rt, what, alloc, form, &archive[..index]);
         for value in OTHERS {
             let bytes = edited(alloc, archive, index, value).expect(rt, "memory for a copy");
-            assert_agreement::<T>(rt, what, alloc, &form, &bytes);
+            assert_agreement::<T>(rt, what, alloc, form, &bytes);
         }
     }
-    assert_answer::<T>(rt, what, alloc, &form, archive, None);
+    assert_answer::<T>(rt, what, alloc, form, archive, None);
 }
 
-// The same of an option of a box.
+// The same of the archive in each row, which names it.
+pub(crate) fn assert_hostile<T: Portable>(rt: &impl Abort, alloc: Global, rows: &[(&str, &[u8])]) {
+    let form = form_of::<T>(rt, alloc);
+    for (what, archive) in rows {
+        assert_archive::<T>(rt, what, alloc, &form, archive);
+    }
+}
+
+// And of archives of an option of a box.
 pub(crate) fn assert_hostile_option<T: PortablePointee>(
     rt: &impl Abort,
-    what: &str,
     alloc: Global,
-    archive: &[u8],
+    rows: &[(&str, &[u8])],
 ) {
-    assert_hostile::<ArchivedOption<ArchivedBox<T>>>(rt, what, alloc, archive);
+    assert_hostile::<ArchivedOption<ArchivedBox<T>>>(rt, alloc, rows);
 }
 
 // And of a pair.
-fn assert_hostile_pair<A: Portable, B: Portable>(
+pub(crate) fn assert_hostile_pair<A: Portable, B: Portable>(
     rt: &impl Abort,
-    what: &str,
     alloc: Global,
-    archive: &[u8],
+    rows: &[(&str, &[u8])],
 ) {
-    assert_hostile::<ArchivedTuple2<A, B>>(rt, what, alloc, archive);
+    assert_hostile::<ArchivedTuple2<A, B>>(rt, alloc, rows);
 }
 
 // And of two shared pointers.
 pub(crate) fn assert_hostile_shared<T: PortablePointee>(
     rt: &impl Abort,
-    what: &str,
     alloc: Global,
-    archive: &[u8],
+    rows: &[(&str, &[u8])],
 ) {
-    assert_hostile_pair::<ArchivedRc<T, RcFlavor>, ArchivedRc<T, RcFlavor>>(
-        rt, what, alloc, archive,
-    );
+    assert_hostile_pair::<ArchivedRc<T, RcFlavor>, ArchivedRc<T, RcFlavor>>(rt, alloc, rows);
 }
 
 // And of a shared pointer and a weak one.
 pub(crate) fn assert_hostile_weak<T: PortablePointee>(
     rt: &impl Abort,
-    what: &str,
     alloc: Global,
-    archive: &[u8],
+    rows: &[(&str, &[u8])],
 ) {
-    assert_hostile_pair::<ArchivedRc<T, RcFlavor>, ArchivedRcWeak<T, RcFlavor>>(
-        rt, what, alloc, archive,
-    );
+    assert_hostile_pair::<ArchivedRc<T, RcFlavor>, ArchivedRcWeak<T, RcFlavor>>(rt, alloc, rows);
 }

@@ -5,9 +5,10 @@ use crate::assertions::{assert_answer, assert_same, form_of};
 use archive_core::api::access;
 use archive_core::boxed::ArchivedBox;
 use archive_core::error::Error;
-use archive_core::primitive::ArchivedU32;
+use archive_core::primitive::{ArchivedI32, ArchivedU32};
+use archive_core::rc::{ArchivedRc, RcFlavor};
 use archive_core::string::ArchivedString;
-use archive_core::traits::Portable;
+use archive_core::traits::{Portable, PortablePointee};
 use archive_tuple::ArchivedTuple2;
 use std::alloc::Global;
 use std::process::Abort;
@@ -52,15 +53,15 @@ fn a_string_is_cut_short(rt: HostRuntime) {
     assert_text(&rt, rt.alloc(), &HELLO_WORLD[..12], "o world\0");
 }
 
-// In each row bytes with two faults, and the one that is met first.
+// In each row bytes, and the fault in them that is met first.
 fn assert_first_faults<T: Portable>(rt: &impl Abort, alloc: Global, rows: &[(&[u8], Error)]) {
     let form = form_of::<T>(rt, alloc);
     for (bytes, fault) in rows {
-        assert_answer::<T>(rt, "two faults", alloc, &form, bytes, Some(*fault));
+        assert_answer::<T>(rt, "a fault", alloc, &form, bytes, Some(*fault));
     }
 }
 
-// A number isn't within the bytes or lies behind where it may.
+// A number lies outside the eight bytes before the boxes.
 fn outside(position: i128) -> Error {
     Error::InvalidSubtreePointer {
         position,
@@ -102,5 +103,28 @@ fn of_two_faults_of_parts_the_first_is_told(rt: HostRuntime) {
             (b"\x02\0\0\0\x81\0\0\0\0\0\0\0", Error::InvalidBool),
             (b"\x01\0\0\0\x81\0\0\0\0\0\0\0", Error::InvalidStringRepr),
         ],
+    );
+}
+
+// The same of a pair of shared pointers.
+fn assert_first_shared_faults<T: PortablePointee, U: PortablePointee>(
+    rt: &impl Abort,
+    alloc: Global,
+    rows: &[(&[u8], Error)],
+) {
+    assert_first_faults::<ArchivedTuple2<ArchivedRc<T, RcFlavor>, ArchivedRc<U, RcFlavor>>>(
+        rt, alloc, rows,
+    );
+}
+
+#[test]
+fn a_shared_position_has_one_type(rt: HostRuntime) {
+    assert_first_shared_faults::<ArchivedU32, ArchivedI32>(
+        &rt,
+        rt.alloc(),
+        &[(
+            b"\x0a\0\0\0\xfc\xff\xff\xff\xf8\xff\xff\xff",
+            Error::TypeMismatch,
+        )],
     );
 }
