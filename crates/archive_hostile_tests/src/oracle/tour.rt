@@ -1,0 +1,377 @@
+// The way over the bytes, expression by expression, which lists each region as it is entered. It ends at the first fault of what a region holds, and where
+// a region doesn't lie in the buffer, so that there is nothing to go over.
+
+use crate::oracle::Form;
+use crate::oracle::bytes::{
+    byte_at, bytes_at, decoded_length, inline_length, is_legal, is_out_of_line, is_text, number_at,
+    target_at,
+};
+use crate::oracle::layout::{Layout, definition, layout_of, size_of_leaf, times, up};
+use crate::oracle::regions::Region;
+use crate::oracle::shared::{Meeting, Met, look_up};
+use archive_core::shape::{Def, Expr, FlavorInfo, Kind, Pointee};
+use std::alloc::Global;
+
+// How deep values and regions may lie in one another. A type that holds itself may lead round and round, but each round enters a region that is refused.
+const LEVELS: usize = 200;
+
+// What is wrong with what a region holds.
+#[derive(Clone, Copy)]
+pub(super) enum Fault {
+    Leaf(Kind),
+    Tag(&'static str, u8),
+    Text,
+    CodedLength,
+    Type,
+    Length,
+    Cycle,
+}
+
+// What is gone over.
+#[derive(Clone, Copy)]
+struct Archive<'a> {
+    bytes: &'a [u8],
+    definitions: &'a [Def],
+}
+
+// What a region holds.
+#[derive(Clone, Copy)]
+enum Contents<'a> {
+    Value(&'a Expr),
+    Elements(&'a Expr, usize),
+    Text(usize),
+}
+
+// What was met so far.
+#[derive(Drop)]
+pub(super) struct Listing {
+    // In the order in which they were entered.
+    pub(super) regions: Vec<Region>,
+    pub(super) fault: Option<Fault>,
+    met: Vec<Met>,
+    // The number of the region whose contents are gone over.
+    inside: Option<usize>,
+    // That of the region that was left last.
+    left: Option<usize>,
+}
+
+impl Listing {
+    pub(super) fn new(alloc: Global) -> Listing {
+        Listing {
+            regions: Vec::new(alloc),
+            fault: None,
+            met: Vec::new(alloc),
+            inside: None,
+            left: None,
+        }
+    }
+
+    // The way ends with a fault.
+    fn ends_with(&mut self, fault: Fault) -> Option<()> {
+        self.fault = Some(fault);
+        None
+    }
+
+    // A region is entered. The way ends where it doesn't lie in a buffer of so many bytes.
+    fn enter(&mut self, len: usize, position: i128, layout: Layout) -> Option<()> {
+        let region = Region {
+            position,
+            size: layout.size,
+            align: layout.align,
+            holder: self.inside,
+            left: self.left,
+        };
+        self.inside = Some(self.regions.len());
+        self.regions.push(region).ok()?;
+        if region.lies_within(0, len as i128) {
+            Some(())
+        } else {
+            None
+        }
+    }
+
+    // The region whose contents were gone over is left.
+    fn leave(&mut self) -> Option<()> {
+        let number = self.inside?;
+        self.left = Some(number);
+        self.inside = self.regions.get(number)?.holder;
+        Some(())
+    }
+
+    // A shared position is met, and is being checked from here on.
+    fn meet(
+        &mut self,
+        position: i128,
+        flavor: FlavorInfo,
+        pointee: &Pointee,
+        length: usize,
+    ) -> Option<()> {
+        let pointee = pointee.clone().ok()?;
+        let met = Met {
+            position,
+            flavor,
+            pointee,
+            length,
+            pending: true,
+        };
+        self.met.push(met).ok()
+    }
+
+    // A shared position, the one with a number in the order in which they were met, is finished.
+    fn finish(&mut self, number: usize) -> Option<()> {
+        let met = self.met.get_mut(number)?;
+        met.pending = false;
+        Some(())
+    }
+}
+
+// The length of a pointer: 0 where it leads to one value.
+fn length_at(bytes: &[u8], at: i128, pointee: &Pointee) -> Option<usize> {
+    match pointee {
+        Pointee::One(_) => Some(0),
+        Pointee::Run(_) | Pointee::Text => Some(number_at(bytes, at.saturating_add(4))? as usize),
+    }
+}
+
+// What a region holds that a pointer with a length leads to.
+fn contents_of(pointee: &Pointee, length: usize) -> Contents<'_> {
+    match pointee {
+        Pointee::One(expr) => Contents::Value(expr),
+        Pointee::Run(element) => Contents::Elements(element, length),
+        Pointee::Text => Contents::Text(length),
+    }
+}
+
+// What a region takes.
+fn layout_of_contents(definitions: &[Def], contents: Contents<'_>) -> Layout {
+    match contents {
+        Contents::Value(expr) => layout_of(definitions, expr),
+        Contents::Elements(element, count) => times(layout_of(definitions, element), count),
+        Contents::Text(length) => Layout {
+            size: length as i128,
+            align: 1,
+        },
+    }
+}
+
+// Lists the regions of the archive whose root lies at the end of the bytes; none where the way ended before.
+pub(super) fn list_regions(form: &Form, bytes: &[u8], listing: &mut Listing) -> Option<()> {
+    let archive = Archive {
+        bytes,
+        definitions: &form.definitions,
+    };
+    let size = layout_of(archive.definitions, &form.root).size;
+    let root = (bytes.len() as i128).saturating_sub(size).max(0);
+    go_over_region(archive, listing, Contents::Value(&form.root), root, LEVELS)
+}
+
+// A region is entered, its contents are gone over, and it is left.
+#[cycle(tour)]
+fn go_over_region(
+    archive: Archive<'_>,
+    listing: &mut Listing,
+    contents: Contents<'_>,
+    position: i128,
+    levels: usize,
+) -> Option<()> {
+    let layout = layout_of_contents(archive.definitions, contents);
+    listing.enter(archive.bytes.len(), position, layout)?;
+    match contents {
+        Contents::Value(expr) => go_over_value(archive, listing, expr, position, levels)?,
+        Contents::Elements(element, count) => {
+            go_over_elements(archive, listing, element, count, position, levels)?
+        }
+        Contents::Text(length) => go_over_text(archive, listing, position, length)?,
+    }
+    listing.leave()
+}
+
+// So many bytes are UTF-8.
+fn go_over_text(
+    archive: Archive<'_>,
+    listing: &mut Listing,
+    at: i128,
+    length: usize,
+) -> Option<()> {
+    let text = bytes_at(archive.bytes, at, length as i128)?;
+    if is_text(text) {
+        Some(())
+    } else {
+        listing.ends_with(Fault::Text)
+    }
+}
+
+// A leaf is legal.
+fn go_over_leaf(archive: Archive<'_>, listing: &mut Listing, kind: Kind, at: i128) -> Option<()> {
+    let leaf = bytes_at(archive.bytes, at, size_of_leaf(kind))?;
+    if is_legal(kind, leaf) {
+        Some(())
+    } else {
+        listing.ends_with(Fault::Leaf(kind))
+    }
+}
+
+#[cycle(tour)]
+fn go_over_value(
+    archive: Archive<'_>,
+    listing: &mut Listing,
+    expr: &Expr,
+    at: i128,
+    levels: usize,
+) -> Option<()> {
+    let levels = levels.checked_sub(1)?;
+    match expr {
+        Expr::Leaf(kind) => go_over_leaf(archive, listing, *kind, at),
+        Expr::Record(parts) => go_over_parts(archive, listing, parts, at, 0, levels),
+        Expr::Choice(name, variants) => {
+            go_over_choice(archive, listing, *name, variants, at, levels)
+        }
+        Expr::Array(count, element) => {
+            go_over_elements(archive, listing, element, *count, at, levels)
+        }
+        Expr::Box(pointee) => {
+            let length = length_at(archive.bytes, at, pointee)?;
+            let target = target_at(archive.bytes, at, at)?;
+            go_over_region(
+                archive,
+                listing,
+                contents_of(pointee, length),
+                target,
+                levels,
+            )
+        }
+        Expr::Vec(element) => {
+            let count = number_at(archive.bytes, at.saturating_add(4))? as usize;
+            let target = target_at(archive.bytes, at, at)?;
+            go_over_region(
+                archive,
+                listing,
+                Contents::Elements(element, count),
+                target,
+                levels,
+            )
+        }
+        Expr::Str => go_over_string(archive, listing, at, levels),
+        Expr::Shared(flavor, pointee) => {
+            go_over_shared(archive, listing, *flavor, pointee, at, levels)
+        }
+        Expr::Weak(flavor, pointee) => {
+            if number_at(archive.bytes, at)? == 1 {
+                return Some(());
+            }
+            go_over_shared(archive, listing, *flavor, pointee, at, levels)
+        }
+        Expr::Named(name) => {
+            let expr = definition(archive.definitions, name)?;
+            go_over_value(archive, listing, expr, at, levels)
+        }
+    }
+}
+
+// Parts that are laid out from an offset on, each at the next multiple of its alignment.
+#[cycle(tour)]
+fn go_over_parts(
+    archive: Archive<'_>,
+    listing: &mut Listing,
+    parts: &[Expr],
+    at: i128,
+    start: i128,
+    levels: usize,
+) -> Option<()> {
+    let mut end = start;
+    for part in parts {
+        let layout = layout_of(archive.definitions, part);
+        let offset = up(end, layout.align);
+        go_over_value(archive, listing, part, at.saturating_add(offset), levels)?;
+        end = offset.saturating_add(layout.size);
+    }
+    Some(())
+}
+
+// The tag names a variant, whose parts are laid out behind it.
+#[cycle(tour)]
+fn go_over_choice(
+    archive: Archive<'_>,
+    listing: &mut Listing,
+    name: &'static str,
+    variants: &[Vec<Expr>],
+    at: i128,
+    levels: usize,
+) -> Option<()> {
+    let tag = byte_at(archive.bytes, at)?;
+    let Some(parts) = variants.get(tag as usize) else {
+        return listing.ends_with(Fault::Tag(name, tag));
+    };
+    go_over_parts(archive, listing, parts, at, 1, levels)
+}
+
+// Elements, one behind another; those of size zero have nothing to go over.
+#[cycle(tour)]
+fn go_over_elements(
+    archive: Archive<'_>,
+    listing: &mut Listing,
+    element: &Expr,
+    count: usize,
+    at: i128,
+    levels: usize,
+) -> Option<()> {
+    let layout = layout_of(archive.definitions, element);
+    if layout.size == 0 {
+        return Some(());
+    }
+    for number in 0..count {
+        let offset = times(layout, number).size;
+        go_over_value(archive, listing, element, at.saturating_add(offset), levels)?;
+    }
+    Some(())
+}
+
+// A string: its text stands in it, or is a region.
+#[cycle(tour)]
+fn go_over_string(
+    archive: Archive<'_>,
+    listing: &mut Listing,
+    at: i128,
+    levels: usize,
+) -> Option<()> {
+    let string = bytes_at(archive.bytes, at, 8)?;
+    if !is_out_of_line(byte_at(string, 0)?) {
+        return go_over_text(archive, listing, at, inline_length(string));
+    }
+    let length = decoded_length(number_at(string, 0)?);
+    if length <= 8 {
+        return listing.ends_with(Fault::CodedLength);
+    }
+    let target = target_at(string, 4, at)?;
+    go_over_region(archive, listing, Contents::Text(length), target, levels)
+}
+
+// A shared pointer: its region is entered where its position is met first.
+#[cycle(tour)]
+fn go_over_shared(
+    archive: Archive<'_>,
+    listing: &mut Listing,
+    flavor: FlavorInfo,
+    pointee: &Pointee,
+    at: i128,
+    levels: usize,
+) -> Option<()> {
+    let length = length_at(archive.bytes, at, pointee)?;
+    let target = target_at(archive.bytes, at, at)?;
+    match look_up(&listing.met, target, flavor, pointee, length) {
+        Meeting::Again => Some(()),
+        Meeting::Refused(fault) => listing.ends_with(fault),
+        Meeting::First => {
+            let number = listing.met.len();
+            listing.meet(target, flavor, pointee, length)?;
+            go_over_region(
+                archive,
+                listing,
+                contents_of(pointee, length),
+                target,
+                levels,
+            )?;
+            listing.finish(number)
+        }
+    }
+}
