@@ -7,7 +7,7 @@ ghost use Rattle.std.proofs.Common.{true≢false};
 ghost use Rattle.archive_check.specs.Entries.{NoEntries};
 ghost use Rattle.archive_check.specs.Pooled.{Kept, pooled};
 ghost use Rattle.archive_check.specs.declared.format.error.Error.TheVariants.{OutOfMemory};
-ghost use Rattle.archive_shared.specs.Pooling.{known_by, IsStartAnswer, IsSame, Spans, IsFinishAnswer};
+ghost use Rattle.archive_shared.specs.Pooling.{known_by, IsPoolAnswer, IsSame, Spans, IsFinishAnswer};
 ghost use Rattle.archive_shared.specs.KeptValues.{kept_value};
 ghost use Rattle.archive_shared.specs.SharedSeen.{ReadsKept, RefusesKept, PutAt};
 
@@ -60,7 +60,7 @@ pub trait Pooled: Clone + Drop {
 pub trait Pooling<T: Pooled>: Entries {
     /// Answers what the position was, and makes it pending where it was unknown. Refused with `OutOfMemory`, 1, where memory is refused.
     fn start_pooling(&mut self, pos: usize) -> Result<PoolingState<T>, Error>
-        ensures answer { IfOk result (IsStartAnswer T.kept (Self.entry_of self.old pos)) }
+        ensures answer { IfOk result (IsPoolAnswer T.kept (Self.entry_of self.old pos)) }
         ensures after { Self.keeps ≡ true → OnOk result (PutAt Self.Entries self pos (pooled (Self.entry_of self.old pos))) }
         ensures unchanged { OnErr result (IsSame (Self.entry_of self.old) (Self.entry_of self.new)) }
         ensures refused { IfErr result (λ e. e ≡ OutOfMemory) };
