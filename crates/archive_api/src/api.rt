@@ -76,8 +76,8 @@ pub fn to_bytes_in<W: Writer + Drop, T: Serialize<HighSerializer<W, Global>>>(
 
 /// Appends an archive of `value` to what `writer` holds, its root at the end, and answers the root's position, in bytes from the first one. The
 /// writer knows no shared key yet; a value that shares, or takes memory for resolvers, has a `Serializer` as its writer. Memory for a large root
-/// comes from `alloc`. Refused with what the value's parts or the writer refuse with, with 23 where the root would end above `usize::MAX`, or with 1
-/// where memory is refused; `writer` then holds what was written of the archive.
+/// comes from `alloc`. Refused with what the value's parts or the writer refuse with, with `LayoutTooLarge`, 23, where the root would end above
+/// `usize::MAX`, or with `OutOfMemory`, 1, where memory is refused; `writer` then holds what was written of the archive.
 #[inline(always)]
 pub fn to_bytes_into<W: Writer, T: Serialize<W>>(
     alloc: Global,
@@ -147,11 +147,7 @@ pub fn access_pos<'a, T: Portable>(
     ensures whole { IfOk result (λ r. r.len ≡ 0) }
 {
     let mut context = HighValidator::new(alloc, bytes);
-    let checked = check_pos_with_context::<T, HighValidator<'_>>(alloc, bytes, pos, &mut context);
-    if let Err(error) = checked {
-        return Err(error);
-    }
-    Ok(Ref::at(RawView { bytes, pos, len: 0 }))
+    access_pos_with_context::<T, HighValidator<'_>>(alloc, bytes, pos, &mut context)
 }
 
 /// Checks that `bytes` are an archive whose root, a `T`, lies at the end, and answers the root's view. Memory for the schema and the check comes
@@ -168,6 +164,7 @@ pub fn access<'a, T: Portable>(alloc: Global, bytes: &'a [u8]) -> Result<Ref<'a,
 /// Checks that `bytes` are an archive whose root, a `T`, lies at `pos`, in a context, and answers the root's view. Asks for a context of these bytes
 /// that met nothing yet. Memory for the schema and the check comes from `alloc`. Refused as by `access_pos`, and with
 /// `ExceededMaximumSubtreeDepth`, 18, where a region is deeper than the context allows.
+#[inline(always)]
 pub fn access_pos_with_context<'a, T: Portable, C: ArchiveContext + SharedContext>(
     alloc: Global,
     bytes: &'a [u8],

@@ -1,5 +1,5 @@
 -- Variants with several parts: how they are written, and why they aren't.
-use Rattle.std.proofs.Common.{◌≡◌, inl, inr, ℕ, ◌+◌, ◌<◌, List, [], ◌∷◌, ◌++◌, length, slice_index, refl, sym, ap, subst, ◌∙◌, arith, Some, suc, ◌≤◌, take, drop, slice_set, append-nil, Result, Ok, Err, IfOk}
+use Rattle.std.proofs.Common.{◌≡◌, inl, inr, ℕ, ◌+◌, ◌<◌, List, [], ◌∷◌, ◌++◌, length, slice_index, refl, sym, ap, subst, ◌∙◌, arith, Some, ◌≤◌, take, drop, slice_set, append-nil, Result, Ok, Err, IfOk}
 use Rattle.std.proofs.Math.ListN.{drop_of_length-le}
 use Rattle.archive_check.specs.Shape.{Name, Shape, choice, Parts, Variants, variant_at}
 use Rattle.archive_check.specs.Layout.{Layout, size_of}
@@ -9,7 +9,7 @@ use Rattle.archive_check.specs.Value.{case, Values}
 use Rattle.archive_check.specs.Reads.{Schema, Reads, reads_choice}
 use Rattle.archive_check.specs.Denotes.{fills_case}
 use Rattle.archive_check.specs.Reached.{names_case}
-use Rattle.archive_check.specs.CleanRegions.{IsZeroed, clean_choice}
+use Rattle.archive_check.specs.CleanRegions.{clean_choice}
 use Rattle.archive_check.specs.WriterState.{KeyStates, WriterState}
 use Rattle.archive_check.specs.declared.format.error.Error.{Error}
 use Rattle.archive_check.proofs.StandingBytes.{stands_back}
@@ -95,7 +95,3 @@ module _ (D : Definitions) (X : Shape) (name : Name) (E : Definitions) (vs : Var
 pub tagged_whole : (tag k : ℕ) (old new : List ℕ) → 0 < length old → length old ≤ k + 1 → take 1 (slice_set old 0 tag) ++ (new ++ drop k (drop 1 (slice_set old 0 tag))) ≡ tag ∷ new
 tagged_whole tag k [] new some all = absurd (omega (arith, some))
 tagged_whole tag k (b ∷ bs) new some all = (let none : drop k bs ≡ [] = drop_of_length-le bs (omega (arith, all)) in rw none (ap (λ z. tag ∷ z) (append-nil new)))
-
-pub zeroed_behind_tag : (tag : ℕ) (old : List ℕ) → IsZeroed old → IsZeroed (drop 1 (slice_set old 0 tag))
-zeroed_behind_tag tag [] z = z
-zeroed_behind_tag tag (b ∷ bs) z = record { zero_at = λ i below. z.zero_at (suc i) (omega (arith, below)) }

@@ -1,15 +1,13 @@
 -- Variants with several parts as sources: which definitions they bring, and their plans.
 use Rattle.std.specs.Prelude.{◌≡◌, ℕ, zero, suc, List, Some}
-use Rattle.archive_check.specs.Shape.{Name, Shape, choice, Parts, Variants, variant_at}
+use Rattle.archive_check.specs.Shape.{Name, choice, Parts, Variants, variant_at}
 use Rattle.archive_check.specs.Definitions.{Definitions, no_definition, defines, both, Knows}
 use Rattle.archive_check.specs.PartsLayout.{knows_none, knows_left, knows_right}
-use Rattle.archive_check.specs.VariantsLayout.{IsChoice}
 use Rattle.archive_check.specs.Value.{Value, case, Values}
 use Rattle.archive_check.specs.Reads.{Schema}
-use Rattle.archive_types.specs.Writing.{NameMap, Naming}
-use Rattle.archive_types.specs.Plans.{Cursor, Step, plans_choice, PlanOf, HasPlan}
-use Rattle.archive_types.specs.Parts.{PartsPlan, HavePlan}
-use Rattle.archive_types.specs.PartsPlanned.{standing_plan}
+use Rattle.archive_types.specs.Writing.{NameMap}
+use Rattle.archive_types.specs.Plans.{Cursor, Step, plans_choice, PlanOf}
+use Rattle.archive_types.specs.Parts.{PartsPlan}
 
 -- the definitions that the variant with this tag brings, of those of all variants
 abbrev pub variant_definitions : Definitions → ℕ → Definitions
@@ -24,13 +22,7 @@ knows_variant s (both D E) (suc tag) k = knows_variant s E tag (knows_right s D 
 knows_variant s no_definition tag k = knows_none s k.laid_out
 knows_variant s (defines n X) tag k = knows_none s k.laid_out
 
+-- a variant is planned as its parts are
 pub variant_plan : (name : Name) (vs : Variants) (tag : ℕ) (ps : Parts) → variant_at vs tag ≡ Some ps → (us : Values) (s : Schema) (names : NameMap) (a : Cursor) (holds : Values → List Step → Cursor → Type 0) (such : Value → List Step → Cursor → Type 0)
     → ((ws : Values) (C : List Step) (b : Cursor) → holds ws C b → such (case tag ws) C b) → PartsPlan s names ps us a holds → PlanOf s names (choice name vs) (case tag us) a such
 variant_plan name vs tag ps at us s names a holds such f h = record { flat = case tag h.flats; steps = h.steps; stop = h.stop; plans = plans_choice at h.plans; such = f h.flats h.steps h.stop h.such }
-
--- a variant is planned as its parts are
-pub choice_planned : (D : Definitions) (X : Shape) (name : Name) (E : Definitions) (vs : Variants) → IsChoice D X name E vs → (tag : ℕ) (ps : Parts) → variant_at vs tag ≡ Some ps
-    → (ks : List Naming) (us : Values) → HavePlan (variant_definitions E tag) ps ks us → HasPlan D X ks (case tag us)
-choice_planned D X name E vs is tag ps at ks us h a s names k n =
-    standing_plan s names (choice name vs) X (case tag us) a _ (is.stands s k)
-    (variant_plan name vs tag ps at us s names a _ _ (λ ws C b x. tt) (h.plan a s names (knows_variant s E tag (is.known s k)) n))

@@ -1,11 +1,11 @@
 -- The check of a record under a name of its own: that of its parts. Each condition is shown by computing, where the parts are known.
 use Rattle.std.specs.Prelude.{◌≡◌, ℕ, [], ◌∷◌, Some, None, true, false, nat_le, refl}
-use Rattle.archive_check.specs.Shape.{Name, Shape, parts, named, Parts, definition}
+use Rattle.archive_check.specs.Shape.{Name, parts, named, Parts, definition}
 use Rattle.archive_check.specs.Definitions.{Definitions, defines, both, listed}
 use Rattle.archive_check.specs.PartsLayout.{knows_right}
 use Rattle.archive_check.specs.BoundedSizes.{fits}
 use Rattle.archive_check.specs.MissingNames.{missing}
-use Rattle.archive_check.specs.SelfCheck.Orders.{AllIn, IsOrder}
+use Rattle.archive_check.specs.SelfCheck.Orders.{IsOrder}
 use Rattle.archive_check.specs.SelfCheck.Laws.{IsCheckOf, by_schema, named_leads}
 
 -- its parts hold no name, also behind pointers, and bring no definition; a table finds the name

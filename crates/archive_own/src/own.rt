@@ -35,7 +35,8 @@ use std::alloc::Global;
 use std::marker::PhantomData;
 pub use variants::{deserialize_variant, resolve_variant, serialize_variant};
 
-/// What tells one archived record from others: its name and its parts. A type of its own implements this for each record.
+/// What tells one archived record from others: its name and its parts. A type of its own implements this for each record. Our own, where rkyv 0.8.18
+/// derives an archived type for each struct.
 pub trait NamedRecord {
     /// Its parts, nested pair by pair: `(A, (B, ()))` for an `A` and then a `B`.
     type Parts: PortableParts;
@@ -56,6 +57,7 @@ pub trait NamedRecord {
 }
 
 /// An archived record under the name and with the parts of `N`: each part at the next multiple of its alignment, in the order in which they are named.
+/// Our own.
 pub struct ArchivedRecord<N> {
     of: PhantomData<N>,
 }
@@ -134,7 +136,7 @@ where
     }
 }
 
-/// A value whose field with the index `I` is a `U`: how it is found. A record implements this once for each of its fields.
+/// A value whose field with the index `I` is a `U`: how it is found. A record implements this once for each of its fields. Our own.
 pub trait HasField<const I: usize, U> {
     // The field of a value.
     ghost field: { Self → U };
@@ -144,7 +146,7 @@ pub trait HasField<const I: usize, U> {
         ensures { result.now ≡ field self.now };
 }
 
-/// The field with the index `I`, which is a `U`, as a part. The parts of a record are a nest of these: `(Field<0, A>, (Field<1, B>, ()))`.
+/// The field with the index `I`, which is a `U`, as a part. The parts of a record are a nest of these: `(Field<0, A>, (Field<1, B>, ()))`. Our own.
 pub struct Field<const I: usize, U> {
     of: PhantomData<U>,
 }

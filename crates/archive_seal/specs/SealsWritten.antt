@@ -17,8 +17,8 @@ SealsBeside D P Q u v = StandsWith D v.bytes.now (view v.pos P v.len) (view u.po
 abbrev pub LeafStands : Kind → List ℕ → ℕ → Pointee → ℕ → Type 0
 LeafStands kind bytes p P n = StandsIn bytes p P n (leaf_at kind bytes p)
 
-abbrev pub LeafWritten : Kind → ℕ → ℤ → List ℕ → List ℕ → Type 0
-LeafWritten kind p z old new = WritesLeaf (leaf_at kind old p) (number_leaf p kind z) old new
+abbrev pub LeafEdited : Kind → ℕ → ℤ → List ℕ → List ℕ → Type 0
+LeafEdited kind p z old new = WritesLeaf (leaf_at kind old p) (number_leaf p kind z) old new
 
 -- the same of the text of n bytes at p, and of the text of the string at p
 abbrev pub TextStands : List ℕ → ℕ → ℕ → Type 0

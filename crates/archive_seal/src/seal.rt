@@ -72,14 +72,14 @@ impl<T: ArchivePointee> Spot<T> {
         Spot::at(pos, len)
     }
 
-    /// Where it begins, in bytes from the buffer's first one.
+    /// Where it begins, in bytes from the buffer's first one. Our own.
     pub fn pos(self) -> usize
         ensures { result ≡ self.pos }
     {
         self.pos
     }
 
-    /// The view of what stands there. Asks that the part lies in a buffer that was checked, as it does in that from which the spot was had.
+    /// The view of what stands there. Asks that the part lies in a buffer that was checked, as it does in that from which the spot was had. Our own.
     pub fn view(self, bytes: &[u8]) -> Ref<'_, T>
         requires { Viewed T.definitions bytes.now self.pos T.pointee self.len }
         ensures buffer { result.bytes.now ≡ bytes.now }
@@ -94,7 +94,7 @@ impl<T: ArchivePointee> Spot<T> {
     }
 
     /// The seal of what stands there. Asks that the part lies in a buffer that was checked, as it does in that from which the spot was had. No byte
-    /// changes. What is called on the seal afterwards changes these very bytes.
+    /// changes. What is called on the seal afterwards changes these very bytes. Our own.
     pub fn seal<'a>(self, bytes: &'a mut [u8]) -> Seal<'a, T>
         requires { Viewed T.definitions bytes.old self.pos T.pointee self.len }
         ensures same_reference { result.bytes.ghost_name ≡ bytes.entry.ghost_name }
@@ -113,14 +113,15 @@ impl<T: ArchivePointee> Spot<T> {
 }
 
 impl<'a, T: ArchivePointee> Seal<'a, T> {
-    /// Where it begins, in bytes from the buffer's first one.
+    /// Where it begins, in bytes from the buffer's first one. Our own.
     pub fn pos(&self) -> usize
         ensures { result ≡ self.now.pos }
     {
         self.pos
     }
 
-    /// A view of what it shows. Asks that this is a part of a buffer that was checked, as it is when the seal is made. No byte changes.
+    /// A view of what it shows. Asks that this is a part of a buffer that was checked, as it is when the seal is made. No byte changes. Our own, where
+    /// rkyv 0.8.18 has `Deref`.
     pub fn as_ref(&self) -> Ref<'_, T>
         requires { Viewed T.definitions self.now.bytes.now self.now.pos T.pointee self.now.len }
         ensures buffer { result.bytes.now ≡ self.now.bytes.now }
@@ -134,7 +135,7 @@ impl<'a, T: ArchivePointee> Seal<'a, T> {
         })
     }
 
-    /// A seal of the same for a shorter time. No byte changes by this call.
+    /// A seal of the same for a shorter time. No byte changes by this call. Our own.
     pub fn reborrow(&mut self) -> Seal<'_, T>
         ensures buffer { result.bytes.now ≡ self.old.bytes.now }
         ensures position { result.pos ≡ self.old.pos }

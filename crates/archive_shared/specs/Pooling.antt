@@ -33,10 +33,10 @@ known_by kept (Some None) = Some None
 known_by kept (Some (Some x)) = Some (Some (kept x))
 
 -- what a start answers: what was known of the position
-abbrev pub IsStartAnswer : {T : Type 0} → (T → Kept) → EntryState → PoolingState T → Type 0
-IsStartAnswer kept known Started = known ≡ None
-IsStartAnswer kept known Pending = known ≡ Some None
-IsStartAnswer kept known (Finished x) = known ≡ Some (Some (kept x))
+abbrev pub IsPoolAnswer : {T : Type 0} → (T → Kept) → EntryState → PoolingState T → Type 0
+IsPoolAnswer kept known Started = known ≡ None
+IsPoolAnswer kept known Pending = known ≡ Some None
+IsPoolAnswer kept known (Finished x) = known ≡ Some (Some (kept x))
 
 -- the position is in this state, and others are as they were
 abbrev pub IsPut : Entries → ℕ → EntryState → Entries → Type 0

@@ -7,7 +7,7 @@ ghost use Rattle.std.proofs.Common.{true≢false};
 ghost use Rattle.archive_check.specs.Entries.{NoEntries, KeepsEntries};
 ghost use Rattle.archive_check.specs.Pooled.{Kept, pooled};
 ghost use Rattle.archive_check.specs.declared.format.error.Error.TheVariants.{OutOfMemory};
-ghost use Rattle.archive_shared.specs.Pooling.{known_by, IsStartAnswer, IsSame, Spans, IsFinishAnswer};
+ghost use Rattle.archive_shared.specs.Pooling.{known_by, IsPoolAnswer, IsSame, Spans, IsFinishAnswer};
 ghost use Rattle.archive_shared.specs.KeptValues.{kept_value};
 ghost use Rattle.archive_shared.specs.SharedSeen.{ReadsKept, HandsOut, SaysShown, IsFinishedWith, RefusesKept, PutAt};
 
@@ -60,7 +60,7 @@ pub trait Pooled: Clone + Drop {
 pub trait Pooling<T: Pooled>: Entries {
     /// Answers what the position was, and makes it pending where it was unknown. Refused with `OutOfMemory`, 1, where memory is refused.
     fn start_pooling(&mut self, pos: usize) -> Result<PoolingState<T>, Error>
-        ensures answer { IfOk result (IsStartAnswer T.kept (Self.entry_of self.old pos)) }
+        ensures answer { IfOk result (IsPoolAnswer T.kept (Self.entry_of self.old pos)) }
         ensures after { Self.keeps ≡ true → OnOk result (PutAt Self.Entries self pos (pooled (Self.entry_of self.old pos))) }
         ensures unchanged { OnErr result (IsSame (Self.entry_of self.old) (Self.entry_of self.new)) }
         ensures refused { IfErr result (λ e. e ≡ OutOfMemory) };
@@ -194,7 +194,7 @@ impl Entries for Unpool {
 
 impl<T: Pooled> Pooling<T> for Unpool {
     fn start_pooling(&mut self, _pos: usize) -> Result<PoolingState<T>, Error>
-        ensures answer { IfOk result (IsStartAnswer T.kept (⟦<Self as Entries>⟧.entry_of self.old _pos)) }
+        ensures answer { IfOk result (IsPoolAnswer T.kept (⟦<Self as Entries>⟧.entry_of self.old _pos)) }
         ensures after { ⟦<Self as Entries>⟧.keeps ≡ true → OnOk result (PutAt ⟦<Self as Entries>⟧ self _pos (pooled (⟦<Self as Entries>⟧.entry_of self.old _pos))) }
         ensures unchanged { OnErr result (IsSame (⟦<Self as Entries>⟧.entry_of self.old) (⟦<Self as Entries>⟧.entry_of self.new)) }
         ensures refused { IfErr result (λ e. e ≡ OutOfMemory) }

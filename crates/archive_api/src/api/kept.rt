@@ -23,7 +23,7 @@ use std::alloc::Global;
 use std::marker::PhantomData;
 
 /// What accesses archives whose root is a `T`. It is made once, and keeps what the check of one takes: the schema of `T`, where `T` doesn't check
-/// itself, and else nothing. It answers views of any number of buffers, and each call promises what the call of that name in `api` does.
+/// itself, and else nothing. It answers views of any number of buffers, and each call promises what the call of that name in `api` does. Our own.
 #[derive(Drop)]
 pub struct Access<T: Portable> {
     alloc: Global,
@@ -35,8 +35,9 @@ pub struct Access<T: Portable> {
 }
 
 impl<T: Portable> Access<T> {
-    /// Makes what a check takes; where `T` checks itself, nothing. Memory comes from `alloc`, also that which a check takes. Refused with 1 where it
-    /// is refused, and with 30 or 31 where the definitions of `T` have no meaning.
+    /// Makes what a check takes; where `T` checks itself, nothing. Memory comes from `alloc`, also that which a check takes. Refused with
+    /// `OutOfMemory`, 1, where it is refused, and with `ShapeConflict`, 30, or `RecursiveLayout`, 31, where the definitions of `T` have no meaning. Our
+    /// own.
     pub fn new(alloc: Global) -> Result<Access<T>, Error>
         ensures meaning { OnOk result (WellFormed (listed T.definitions) T.shape) }
         ensures refused { IfErr result (λ e. ExplainsNoSchema T.shape T.definitions e) }
@@ -57,8 +58,9 @@ impl<T: Portable> Access<T> {
         })
     }
 
-    /// Checks that `bytes` are an archive whose root lies at `pos`. In a context for these bytes that met nothing yet the answer is exact: refused
-    /// with 1 where memory is refused, else with the first fault of the bytes, in the order that docs/FORMAT.md gives.
+    /// Checks that `bytes` are an archive whose root lies at `pos`. Asks that the context's range ends in the buffer. In a context for these bytes that
+    /// met nothing yet the answer is exact: refused with `OutOfMemory`, 1, where memory is refused, else with the first fault of the bytes, in the order
+    /// that docs/FORMAT.md gives. Our own.
     pub fn check_pos_with_context<C: ArchiveContext + SharedContext>(
         &self,
         bytes: &[u8],
@@ -78,8 +80,8 @@ impl<T: Portable> Access<T> {
         }
     }
 
-    /// Checks that `bytes` are an archive whose root lies at `pos`, and answers the root's view. Refused with 1 where memory is refused, else with
-    /// the first fault of the bytes, in the order that docs/FORMAT.md gives.
+    /// Checks that `bytes` are an archive whose root lies at `pos`, and answers the root's view. It asks nothing. Refused with `OutOfMemory`, 1, where
+    /// memory is refused, else with the first fault of the bytes, in the order that docs/FORMAT.md gives. Our own.
     pub fn access_pos<'a>(&self, bytes: &'a [u8], pos: usize) -> Result<Ref<'a, T>, Error>
         ensures answer { Answers T.definitions bytes.now None pos T.shape result }
         ensures buffer { IfOk result (λ r. r.bytes.now ≡ bytes.now) }
@@ -93,7 +95,7 @@ impl<T: Portable> Access<T> {
         Ok(Ref::at(RawView { bytes, pos, len: 0 }))
     }
 
-    /// Checks that `bytes` are an archive whose root lies at the end, and answers the root's view. Refused as by `access_pos`.
+    /// Checks that `bytes` are an archive whose root lies at the end, and answers the root's view. It asks nothing. Refused as by `access_pos`. Our own.
     pub fn access<'a>(&self, bytes: &'a [u8]) -> Result<Ref<'a, T>, Error>
         ensures answer { Answers T.definitions bytes.now None (root_in bytes.now T.layout) T.shape result }
         ensures buffer { IfOk result (λ r. r.bytes.now ≡ bytes.now) }
@@ -104,8 +106,9 @@ impl<T: Portable> Access<T> {
     }
 
     /// Checks that `bytes` are an archive of a `U`, its root at the end, and reads it back: the answer means what the archive denotes, its shared
-    /// values named by their positions. `deserializer` is empty; `()` where nothing is shared. Refused as by `access`, and with 13 where a shared
-    /// value holds itself, so never where the type shares nothing.
+    /// values named by their positions, where `deserializer` knows no position yet; it is `()` where nothing is shared. It asks nothing. Refused as by
+    /// `access`, and with `CyclicDeserialize`, 13, only where a shared position is met that is still being read, so never where the type shares
+    /// nothing. Our own.
     pub fn from_bytes<U: Archive<Archived = T>, D: Entries>(
         &self,
         bytes: &[u8],

@@ -19,13 +19,14 @@ use archive_types::traits::{
 use std::alloc::Global;
 use std::marker::PhantomData;
 
-/// What tells one archived choice from others: its name and its variants. A type of its own implements this for each choice.
+/// What tells one archived choice from others: its name and its variants. A type of its own implements this for each choice. Our own, where rkyv 0.8.18
+/// derives an archived type for each enum.
 pub trait NamedChoice {
     /// Its variants, in the order of their tags, nested pair by pair, each by its parts: `((), ((A, (B, ())), ()))` for one with no part and then one with
     /// an `A` and a `B`.
     type Variants: PortableVariants;
 
-    /// The check of its values where they lie: `ChoiceCheck` of its variants, or `BySchema` where they share something or hold themselves.
+    /// The check of its values where they lie: `BySchema`, or a `SelfCheck` of its own that calls `check_choice`.
     type Check: SelfCheck;
 
     // The name.
@@ -40,7 +41,7 @@ pub trait NamedChoice {
         Self.Check.nameless };
 }
 
-/// An archived choice under the name and with the variants of `N`: a tag of one byte, and behind it the parts of the variant that it names.
+/// An archived choice under the name and with the variants of `N`: a tag of one byte, and behind it the parts of the variant that it names. Our own.
 pub struct ArchivedChoice<N> {
     of: PhantomData<N>,
 }

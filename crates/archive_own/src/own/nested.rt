@@ -23,7 +23,7 @@ use archive_write::ser::{ResolverAlloc, Writer};
 use std::alloc::Global;
 
 /// A source that holds itself: a choice of which each variant holds nothing, or a box of a further value. A type of its own implements this beside
-/// `Archive`, and is then written by `serialize_nested`.
+/// `Archive`, and is then written by `serialize_nested`. Our own.
 pub trait Nested<X: Choice>: Archive<Archived = X, Resolver = Option<BoxResolver>> {
     /// The tag of the value's variant, and what the variant's box holds, if there is one.
     fn inner(&self) -> (u8, Option<&Self>)
@@ -38,7 +38,7 @@ pub trait Nested<X: Choice>: Archive<Archived = X, Resolver = Option<BoxResolver
     ghost no_keys: { (v : Self) → Self.keys v ≡ [] };
 }
 
-/// A source that holds itself, and is made of the value in its box when it is read back.
+/// A source that holds itself, and is made of the value in its box when it is read back. Our own.
 pub trait FromNested<N: RecursiveChoice>: Archive {
     /// The value of the variant with this tag, if that holds nothing.
     fn empty(tag: u8) -> Option<Self>
@@ -83,8 +83,8 @@ pub fn serialize_nested<X: Choice, T: Nested<X>, S: Writer + ResolverAlloc>(
 }
 
 /// Writes the choice over the bytes of `place`: the tag, and four bytes behind it the box of what `serialize_nested` wrote, if there is one. Asks for a
-/// variant with this tag which holds such a box, or nothing, and for zeros, as many as the choice has, eight at least where there is a box. Refused with
-/// `IsizeOverflow`, 2, or `OffsetOverflow`, 3, where the box's offset doesn't fit. Our own.
+/// choice that goes by its name, for a variant with this tag which holds such a box, or nothing, and for zeros, as many as the choice has, which are eight
+/// or more. Refused with `IsizeOverflow`, 2, or `OffsetOverflow`, 3, where the box's offset doesn't fit. Our own.
 #[inline(always)]
 pub fn resolve_nested<X: Choice>(
     tag: u8,
@@ -93,7 +93,7 @@ pub fn resolve_nested<X: Choice>(
 ) -> Result<(), Error>
     requires tag { IsTagOf X.shape X.Variants.variants tag resolver }
     requires is_named { X.shape ≡ named X.name }
-    requires some { 8 ≤ X.layout.size }
+    requires eight { 8 ≤ X.layout.size }
     requires zeroed { ZeroedPlace X.layout.size place.pos place.bytes.now }
     ensures resolved { OnOk result (Resolved X.Portable place (nest_flat X.shape tag resolver)) }
     ensures same_length { length place.exit.0.now ≡ length place.entry.bytes.now }

@@ -18,7 +18,7 @@ use std::alloc::{AllocError, Global};
 use std::marker::PhantomData;
 
 /// What tells one archived type that holds itself from others: its name, and what the name stands for, in which it may stand behind pointers. A type of
-/// its own implements this for each such type.
+/// its own implements this for each such type. Our own.
 pub trait NamedRecursive {
     // The name.
     ghost name: { Name };
@@ -50,7 +50,7 @@ pub trait NamedRecursive {
     ghost laid_out: { HasLayout (defines name stands_for) stands_for layout };
 }
 
-/// The variants of a type that holds itself, where its name stands for a choice under this name.
+/// The variants of a type that holds itself, where its name stands for a choice under this name. Our own.
 pub trait RecursiveChoice: NamedRecursive {
     /// Its variants, as `NamedChoice` names them. The type itself may stand in them behind pointers.
     type Variants: PortableVariants;
@@ -58,7 +58,7 @@ pub trait RecursiveChoice: NamedRecursive {
     ghost has_variants: { IsChoice (defines Self.name Self.stands_for) (named Self.name) Self.name Self.Variants.definitions Self.Variants.variants };
 }
 
-/// An archived type that holds itself, under the name of `N`. A schema checks it, so that its depth takes no stack.
+/// An archived type that holds itself, under the name of `N`. A schema checks it, so that its depth takes no stack. Our own.
 pub struct ArchivedRecursive<N> {
     of: PhantomData<N>,
 }
@@ -131,7 +131,7 @@ fn define_name(name: &'static str, definition: Expr, defs: &mut Defs) -> Result<
     Ok(())
 }
 
-/// A choice under this name of these variants, each by the expressions of its parts: what a definition is where a type holds itself.
+/// A choice under this name of these variants, each by the expressions of its parts: what a definition is where a type holds itself. Our own.
 pub fn choice_of(name: &'static str, variants: Vec<Vec<Expr>>) -> Expr
     ensures { shape_of result ≡ choice name.now (variants_in variants.items) }
 {

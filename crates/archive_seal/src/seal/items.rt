@@ -16,7 +16,7 @@ impl<'a, T: Portable> IntoIterator for Seal<'a, ArchivedOption<T>> {
 
     ghost into_iter_gives = { λ s it. ShowsOption T.Portable s → LeavesItsValue T.Portable s it };
 
-    // `iter_seal` asks what a call of this trait can't: so it is looked here whether the tag lies in the buffer.
+    // `iter_seal` asks what a call of this trait can't: so this call looks itself whether the tag lies in the buffer.
     fn into_iter(self) -> Iter<Seal<'a, T>> {
         let Seal { bytes, pos, .. } = self;
         if pos >= bytes.len() || bytes[pos] == 0 {

@@ -3,7 +3,7 @@
 ghost use Rattle.std.specs.Prelude.{◌≡◌, ◌+◌, ◌≤◌, length};
 ghost use Rattle.archive_check.specs.Leaves.{edit};
 ghost use Rattle.archive_check.specs.Viewed.{Viewed};
-ghost use Rattle.archive_seal.specs.SealsWritten.{LeafStands, LeafWritten};
+ghost use Rattle.archive_seal.specs.SealsWritten.{LeafStands, LeafEdited};
 ghost use Rattle.archive_types.specs.Sealed.{StandsIn, leaf_at};
 ghost use Rattle.archive_types.specs.Standing.{KeepsParts, KeepsViews, view};
 
@@ -28,7 +28,7 @@ fn write_over<T: SealedLeaf>(bytes: &mut [u8], pos: usize, value: T::Written)
     requires fits { pos + T.Written.byte_count ≤ length bytes.old }
     requires can_hold { T.can_hold value }
     ensures edited { bytes.new ≡ edit bytes.old pos (T.Written.bytes_of value) }
-    ensures leaf { LeafWritten T.kind pos (T.Written.value_of value) bytes.old bytes.new }
+    ensures leaf { LeafEdited T.kind pos (T.Written.value_of value) bytes.old bytes.new }
     ensures parts { KeepsParts (leaf_at T.kind bytes.old pos) bytes.old bytes.new }
 {
     write_value(value, bytes, pos);
@@ -44,7 +44,7 @@ impl<'a, T: SealedLeaf> Seal<'a, T> {
         requires can_hold { T.can_hold value }
         ensures edited { self.exit.0.now ≡ edit self.entry.bytes.now self.entry.pos (T.Written.bytes_of value) }
         ensures stands { LeafStands T.kind self.entry.bytes.now self.entry.pos T.pointee self.entry.len }
-        ensures leaf { LeafWritten T.kind self.entry.pos (T.Written.value_of value) self.entry.bytes.now self.exit.0.now }
+        ensures leaf { LeafEdited T.kind self.entry.pos (T.Written.value_of value) self.entry.bytes.now self.exit.0.now }
         ensures parts { KeepsParts (leaf_at T.kind self.entry.bytes.now self.entry.pos)
             self.entry.bytes.now self.exit.0.now }
         ensures views { KeepsViews self.entry.bytes.now self.exit.0.now (view self.entry.pos T.pointee self.entry.len) }
@@ -65,7 +65,7 @@ impl<'a, T: ArchivePointee> Seal<'a, T> {
         ensures length { self.new.len ≡ self.old.len }
         ensures edited { self.new.bytes.now ≡ edit self.old.bytes.now spot.pos (U.Written.bytes_of value) }
         ensures stands { StandsIn self.old.bytes.now spot.pos U.pointee spot.len (leaf_at U.kind self.old.bytes.now spot.pos) }
-        ensures leaf { LeafWritten U.kind spot.pos (U.Written.value_of value) self.old.bytes.now self.new.bytes.now }
+        ensures leaf { LeafEdited U.kind spot.pos (U.Written.value_of value) self.old.bytes.now self.new.bytes.now }
         ensures parts { KeepsParts (leaf_at U.kind self.old.bytes.now spot.pos) self.old.bytes.now self.new.bytes.now }
         ensures views { KeepsViews self.old.bytes.now self.new.bytes.now (view spot.pos U.pointee spot.len) }
     {

@@ -201,6 +201,7 @@ impl<'a, T: Portable> Seal<'a, ArchivedOption<T>> {
         let Seal { bytes, .. } = self;
         Some(spot.seal(bytes))
     }
+
     /// An iterator over the seal of the value: it comes once, from either end, and then none. Asks that the seal shows a part of a buffer that was
     /// checked, as it does when it is made. No byte changes. As in rkyv 0.8.18.
     pub fn iter_seal(self) -> Iter<Seal<'a, T>>

@@ -58,7 +58,8 @@ fn text_spot(string: Ref<'_, ArchivedString>) -> Spot<ArchivedStr>
 
 impl<'a> Seal<'a, ArchivedStr> {
     /// Writes a text over the one that it shows. Asks that the seal shows a part of a buffer that was checked, as it does when it is made, and that
-    /// both texts have equally many bytes. Every other byte stays, and in every archive in which the text stands it alone changes.
+    /// both texts have equally many bytes. Every other byte stays, and in every archive in which the text stands it alone changes. Our own: in rkyv
+    /// 0.8.18 unsafe code alone writes a sealed `str`.
     pub fn write_str(self, value: &str)
         requires viewed { Viewed no_definition self.bytes.now self.pos text self.len }
         requires same_length { length value.now ≡ self.len }
@@ -75,7 +76,7 @@ impl<'a> Seal<'a, ArchivedStr> {
 
 impl<'a> Seal<'a, ArchivedString> {
     /// A seal of its text, wherever it stands. Asks that the seal shows a part of a buffer that was checked, as it does when it is made. No byte
-    /// changes.
+    /// changes. As in rkyv 0.8.18.
     pub fn as_str_seal(self) -> Seal<'a, ArchivedStr>
         requires { Viewed no_definition self.bytes.now self.pos (one str_shape) self.len }
         ensures same_reference { result.bytes.ghost_name ≡ self.entry.bytes.ghost_name }
@@ -91,7 +92,7 @@ impl<'a> Seal<'a, ArchivedString> {
     }
 
     /// Writes a text over that of the string, wherever it stands. Asks that the seal shows a part of a buffer that was checked, as it does when it is
-    /// made, and that both texts have equally many bytes. Every other byte stays, and in every archive in which the text stands it alone changes.
+    /// made, and that both texts have equally many bytes. Every other byte stays, and in every archive in which the text stands it alone changes. Our own.
     pub fn write_str(self, value: &str)
         requires viewed { Viewed no_definition self.bytes.now self.pos (one str_shape) self.len }
         requires same_length { length value.now ≡ length (string_text self.bytes.now self.pos) }
