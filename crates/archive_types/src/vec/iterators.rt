@@ -54,6 +54,7 @@ impl<T: Portable> ArchivedVec<T> {
         };
         Self::serialize_from_slice(items.as_slice(), serializer)
     }
+
     /// Writes the items of `iter` one behind another as they come, from the next multiple of their alignment on, and keeps none of them. Asks that the
     /// iterator ends. An item may write nothing in its `serialize`: refused with `ItemWrote`, 10, exactly where that of an item succeeded and wrote;
     /// with `PositionTooLarge`, 4, before an item is taken, where the first one would stand above 4,294,967,295; with `LengthTooLarge`, 5, where more
