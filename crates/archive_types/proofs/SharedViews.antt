@@ -84,27 +84,6 @@ module _ (D : Definitions) (bytes : List ℕ) (q n : ℕ) (flavor : Flavor) (P :
   pub null_says : i32_at bytes q ≡ pos 1 → Says D bytes q (one (weak flavor P)) n null
   null_says is = record { fills = λ s v k l c. rw (weak_null is c) fills_null }
 
--- the length that stands behind the offset
-pub length_there : (bytes : List ℕ) (q : ℕ) (P : Pointee) (b : Bool) → b ≡ has_length P → b ≡ true → length_at bytes q P ≡ u32_at bytes (q + 4)
-length_there bytes q (one X) b e f = cc
-length_there bytes q (run X) b e f = refl
-length_there bytes q text b e f = refl
-
-pub length_not_there : (bytes : List ℕ) (q : ℕ) (P : Pointee) (b : Bool) → b ≡ has_length P → b ≡ false → length_at bytes q P ≡ 0
-length_not_there bytes q (one X) b e f = refl
-length_not_there bytes q (run X) b e f = cc
-length_not_there bytes q text b e f = cc
-
-pub long_pointer : (P : Pointee) (b : Bool) → b ≡ has_length P → b ≡ true → pointer_size P ≡ 8
-long_pointer (one X) b e f = cc
-long_pointer (run X) b e f = refl
-long_pointer text b e f = refl
-
-pub pointer_some : (P : Pointee) → 4 ≤ pointer_size P
-pointer_some (one X) = omega arith
-pointer_some (run X) = omega arith
-pointer_some text = omega arith
-
 -- whether the pointer is a null, as it is tested
 pub is_one : (z : ℤ) (b : Bool) → b ≡ int_eq z (pos 1) → b ≡ true → z ≡ pos 1
 is_one z b e f = (Decides-int_eq z (pos 1)).0 (sym e ∙ f)

@@ -32,6 +32,7 @@ ghost use Rattle.archive_types.specs.Writing.{ZeroedPlace, Resolves};
 
 mod views;
 
+use crate::owner_pointers::position_of;
 use crate::place::Place;
 use crate::primitive::ArchivedUsize;
 use crate::ser::serialize_one;
@@ -265,9 +266,7 @@ impl ArchivedString {
             return Err(Error::StringTooLong);
         }
         let pos = Text { text: value }.serialize_unsized(serializer)?;
-        let Ok(pos) = u32::try_from(pos) else {
-            return Err(Error::PositionTooLarge);
-        };
+        let pos = position_of(pos)?;
         Ok(StringResolver { pos })
     }
 
