@@ -5,11 +5,11 @@ use Rattle.std.specs.Ordering.{int_eq}
 use Rattle.std.proofs.lemmas.Bool.Decides.{Decides-int_eq}
 use Rattle.std.proofs.Math.Logic.{∥∥₁_elim, ∥∥₁_map}
 use Rattle.std.proofs.Math.IntN.{ℤ_set}
-use Rattle.archive_check.specs.Shape.{Flavor, Shape, shared, weak, Pointee, one, run, text}
-use Rattle.archive_check.specs.Layout.{pointer_size, has_length}
+use Rattle.archive_check.specs.Shape.{Flavor, Shape, shared, weak, Pointee, one}
+use Rattle.archive_check.specs.Layout.{pointer_size}
 use Rattle.archive_check.specs.Definitions.{Definitions, Knows}
 use Rattle.archive_check.specs.Value.{Value, Pointer, hole, null, shared_value, pointers}
-use Rattle.archive_check.specs.Reads.{Schema, i32_at, u32_at, length_at, pointer_at, reads_shared, reads_weak, reads_null}
+use Rattle.archive_check.specs.Reads.{Schema, i32_at, length_at, pointer_at, reads_shared, reads_weak, reads_null}
 use Rattle.archive_check.specs.Tour.{Contents, contents_one}
 use Rattle.archive_check.specs.Denotes.{Fills, fills_shared, fills_null}
 use Rattle.archive_check.specs.Readable.{position, target_from}

@@ -8,6 +8,7 @@ ghost use Rattle.archive_types.specs.KindsWritten.{VecOfItems, NoVecOfItems};
 ghost use Rattle.archive_write.specs.Written.{GoesOn};
 
 use super::{ArchivedVec, VecResolver};
+use crate::owner_pointers::position_of;
 use crate::ser::resolve_next;
 use crate::traits::{Portable, Serialize};
 use archive_check::format::error::Error;
@@ -73,9 +74,7 @@ impl<T: Portable> ArchivedVec<T> {
     {
         let alloc = serializer.resolver_alloc();
         let pos = serializer.align_for::<T>()?;
-        if pos > u32::MAX as usize {
-            return Err(Error::PositionTooLarge);
-        }
+        let pos = position_of(pos)?;
         let mut count = 0u32;
         for item in iter {
             let Some(more) = count.checked_add(1) else {
@@ -84,6 +83,6 @@ impl<T: Portable> ArchivedVec<T> {
             write_item(alloc, &item, serializer)?;
             count = more;
         }
-        Ok(VecResolver::from_pos(pos))
+        Ok(VecResolver::from_pos(pos as usize))
     }
 }
