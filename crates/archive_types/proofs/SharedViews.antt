@@ -5,11 +5,11 @@ use Rattle.std.specs.Ordering.{int_eq}
 use Rattle.std.proofs.lemmas.Bool.Decides.{Decides-int_eq}
 use Rattle.std.proofs.Math.Logic.{∥∥₁_elim, ∥∥₁_map}
 use Rattle.std.proofs.Math.IntN.{ℤ_set}
-use Rattle.archive_check.specs.Shape.{Flavor, Shape, shared, weak, Pointee, one, run, text}
-use Rattle.archive_check.specs.Layout.{pointer_size, has_length}
+use Rattle.archive_check.specs.Shape.{Flavor, Shape, shared, weak, Pointee, one}
+use Rattle.archive_check.specs.Layout.{pointer_size}
 use Rattle.archive_check.specs.Definitions.{Definitions, Knows}
 use Rattle.archive_check.specs.Value.{Value, Pointer, hole, null, shared_value, pointers}
-use Rattle.archive_check.specs.Reads.{Schema, i32_at, u32_at, length_at, pointer_at, reads_shared, reads_weak, reads_null}
+use Rattle.archive_check.specs.Reads.{Schema, i32_at, length_at, pointer_at, reads_shared, reads_weak, reads_null}
 use Rattle.archive_check.specs.Tour.{Contents, contents_one}
 use Rattle.archive_check.specs.Denotes.{Fills, fills_shared, fills_null}
 use Rattle.archive_check.specs.Readable.{position, target_from}
@@ -83,27 +83,6 @@ module _ (D : Definitions) (bytes : List ℕ) (q n : ℕ) (flavor : Flavor) (P :
 
   pub null_says : i32_at bytes q ≡ pos 1 → Says D bytes q (one (weak flavor P)) n null
   null_says is = record { fills = λ s v k l c. rw (weak_null is c) fills_null }
-
--- the length that stands behind the offset
-pub length_there : (bytes : List ℕ) (q : ℕ) (P : Pointee) (b : Bool) → b ≡ has_length P → b ≡ true → length_at bytes q P ≡ u32_at bytes (q + 4)
-length_there bytes q (one X) b e f = cc
-length_there bytes q (run X) b e f = refl
-length_there bytes q text b e f = refl
-
-pub length_not_there : (bytes : List ℕ) (q : ℕ) (P : Pointee) (b : Bool) → b ≡ has_length P → b ≡ false → length_at bytes q P ≡ 0
-length_not_there bytes q (one X) b e f = refl
-length_not_there bytes q (run X) b e f = cc
-length_not_there bytes q text b e f = cc
-
-pub long_pointer : (P : Pointee) (b : Bool) → b ≡ has_length P → b ≡ true → pointer_size P ≡ 8
-long_pointer (one X) b e f = cc
-long_pointer (run X) b e f = refl
-long_pointer text b e f = refl
-
-pub pointer_some : (P : Pointee) → 4 ≤ pointer_size P
-pointer_some (one X) = omega arith
-pointer_some (run X) = omega arith
-pointer_some text = omega arith
 
 -- whether the pointer is a null, as it is tested
 pub is_one : (z : ℤ) (b : Bool) → b ≡ int_eq z (pos 1) → b ≡ true → z ≡ pos 1

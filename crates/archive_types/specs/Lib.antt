@@ -9,6 +9,7 @@ pub mod Causes
 pub mod Compared
 pub mod ValueOrder
 pub mod OrderedParts
+pub mod ComparedNative
 pub mod Fields
 pub mod Parts
 pub mod PartsPlanned

@@ -1,6 +1,6 @@
 //! Boxes: values, slices and texts in regions of their own.
 
-ghost use Rattle.std.specs.Prelude.{◌≡◌, ◌+◌, ◌≤◌, length, refl};
+ghost use Rattle.std.specs.Prelude.{◌≡◌, refl};
 ghost use Rattle.std.proofs.Common.{inl, inr};
 ghost use Rattle.archive_check.specs.Shape.{one, boxed};
 ghost use Rattle.archive_check.specs.Layout.{pointer_size};
@@ -14,9 +14,10 @@ mod reading;
 mod slices;
 mod sources;
 
+use crate::owner_pointers::{pointer_size, read_length};
 use crate::traits::{ArchivePointee, Portable, PortablePointee};
 use crate::view::{RawView, Ref};
-use archive_check::format::bytes::{read_target, read_u32};
+use archive_check::format::bytes::read_target;
 use archive_check::format::error::Error;
 use archive_check::format::expr::{Defs, Expr};
 pub use inner::{resolve_inner, serialize_inner};
@@ -65,12 +66,8 @@ impl<T: PortablePointee> Portable for ArchivedBox<T> {
 
     ghost checks = { T.box_checks };
 
-    #[tactic(auto, using(crate::proofs::Owned::size_by_length))]
     fn size() -> usize {
-        if T::has_length() {
-            return 8;
-        }
-        4
+        pointer_size::<T>()
     }
 
     fn align() -> usize {
@@ -84,17 +81,6 @@ impl<T: PortablePointee> Portable for ArchivedBox<T> {
     fn define(alloc: Global, defs: &mut Defs) -> Result<(), Error> {
         T::define_pointee(alloc, defs)
     }
-}
-
-// The length of the pointer at `at`: 0 where it leads to one value.
-fn read_length<T: PortablePointee>(bytes: &[u8], at: usize) -> usize
-    requires { at + pointer_size T.pointee ≤ length bytes.now }
-    ensures { result ≡ length_at bytes.now at T.pointee }
-{
-    if !T::has_length() {
-        return 0;
-    }
-    read_u32(bytes, at + 4) as usize
 }
 
 impl<'a, T: PortablePointee> Ref<'a, ArchivedBox<T>> {

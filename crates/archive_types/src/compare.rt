@@ -14,6 +14,7 @@ mod leaves;
 mod lists;
 mod native;
 mod native_lists;
+mod native_owners;
 mod options;
 mod owners;
 mod results;

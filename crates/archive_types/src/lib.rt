@@ -7,6 +7,7 @@ pub mod choice;
 pub mod compare;
 mod fields;
 pub mod option;
+mod owner_pointers;
 pub mod parts;
 mod phantom;
 pub mod place;

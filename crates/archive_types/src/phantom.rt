@@ -10,6 +10,7 @@ ghost use Rattle.archive_types.specs.Causes.{HindersAt, IsRefused};
 ghost use Rattle.archive_types.specs.KindsWritten.{NothingSerialized, NothingRefused};
 ghost use Rattle.archive_types.specs.Nothing.{empty_product_keyed, empty_product_planned};
 ghost use Rattle.archive_types.specs.Placed.{Resolved};
+ghost use Rattle.archive_types.specs.PlannedOwners.{one_planned};
 ghost use Rattle.archive_types.specs.Plans.{Serialized};
 ghost use Rattle.archive_types.specs.Seen.{IsPartOf};
 ghost use Rattle.archive_types.specs.Sources.{Read};
@@ -17,14 +18,15 @@ ghost use Rattle.archive_types.specs.Writing.{ZeroedPlace, Resolves};
 ghost use Rattle.archive_write.specs.Written.{GoesOn};
 
 use crate::place::Place;
+use crate::ser::serialize_one;
 use crate::slice::copy_groups;
 use crate::traits::{
-    Archive, ArchivePointee, Copied, CopiedSource, CopyOptimization, Deserialize, Entries, Keys,
-    Portable, Serialize,
+    Archive, ArchivePointee, ArchiveUnsized, Copied, CopiedSource, CopyOptimization, Deserialize,
+    Entries, Keys, Portable, Serialize, SerializeUnsized,
 };
 use crate::view::RawView;
 use archive_check::format::error::Error;
-use archive_write::ser::Writer;
+use archive_write::ser::{ResolverAlloc, Writer};
 use std::alloc::Global;
 use std::marker::PhantomData;
 
@@ -107,6 +109,33 @@ impl<T, S: Writer + Keys> Serialize<S> for PhantomData<T> {
         ensures succeeds { IsOk result }
     {
         Ok(())
+    }
+}
+
+/// As a source in a region of its own it is one value, of no byte.
+impl<T> ArchiveUnsized for PhantomData<T> {
+    type Archived = PhantomData<T>;
+
+    ghost source_length = { λ _. 0 };
+
+    ghost meaning = { λ _. product no_value };
+
+    ghost keys = { λ _. [] };
+
+    ghost keyed = { λ _. empty_product_keyed };
+
+    ghost one_length = { λ _ _. refl };
+
+    ghost planned = { λ _. one_planned no_definition (parts no_part) [] (product no_value) empty_product_planned };
+
+    fn archived_metadata(&self) -> Result<(), Error> {
+        Ok(())
+    }
+}
+
+impl<T, S: Writer + ResolverAlloc> SerializeUnsized<S> for PhantomData<T> {
+    fn serialize_unsized(&self, serializer: &mut S) -> Result<usize, Error> {
+        serialize_one(self, serializer)
     }
 }
 

@@ -11,6 +11,7 @@ ghost use Rattle.archive_types.specs.SharedLaws.{flavor_as, shared_reaches, weak
 mod views;
 mod writing;
 
+use crate::owner_pointers::pointer_size;
 use crate::traits::{ArchivePointee, Portable, PortablePointee};
 use archive_check::format::error::Error;
 use archive_check::format::expr::{Defs, Expr, FlavorInfo};
@@ -69,17 +70,6 @@ fn flavor_info<F: Flavor>() -> FlavorInfo
         name: F::name(),
         cycles: F::ALLOW_CYCLES,
     }
-}
-
-// How many bytes a pointer to a `T` has.
-#[tactic(auto, using(crate::proofs::Owned::size_by_length))]
-fn pointer_size<T: PortablePointee>() -> usize
-    ensures { result ≡ pointer_size T.pointee }
-{
-    if T::has_length() {
-        return 8;
-    }
-    4
 }
 
 /// An archived shared pointer of the flavor `F`: an offset of four bytes, at a multiple of four, and behind it a length of four where it leads to a

@@ -13,6 +13,7 @@ ghost use Rattle.archive_types.specs.Writing.{Resolves, to_pointee};
 ghost use Rattle.archive_write.specs.Written.{GoesOn};
 
 use super::{ArchivedBox, BoxResolver};
+use crate::owner_pointers::position_of;
 use crate::place::Place;
 use crate::ser::ResolveExt;
 use crate::traits::{Archive, Portable};
@@ -57,9 +58,7 @@ fn write_inner<A: Allocator + Drop, S: Writer, T: Archive>(
 {
     serializer.align_for::<T::Archived>()?;
     let pos = serializer.resolve_aligned(alloc, value, resolver)?;
-    let Ok(pos) = u32::try_from(pos) else {
-        return Err(Error::PositionTooLarge);
-    };
+    let pos = position_of(pos)?;
     Ok(BoxResolver::from_pos(pos as usize))
 }
 

@@ -23,6 +23,7 @@ ghost use Rattle.archive_types.specs.Writing.{ZeroedPlace, Resolves, to_pointee}
 ghost use Rattle.archive_write.specs.Written.{GoesOn};
 
 use super::{ArchivedBox, BoxResolver};
+use crate::owner_pointers::position_of;
 use crate::place::Place;
 use crate::ser::serialize_one;
 use crate::slice::{ArchivedSlice, read_elements, serialize_slice};
@@ -104,10 +105,8 @@ impl<S: Writer + ResolverAlloc, T: Serialize<S>> Serialize<S> for BoxSlice<T> {
         ensures too_long { 4294967295 < length self.now.items.items → AtOnce result LengthTooLarge S.Keys serializer }
     {
         let pos = serialize_slice(self.items.as_slice(), serializer)?;
-        if pos > u32::MAX as usize {
-            return Err(Error::PositionTooLarge);
-        }
-        Ok(BoxResolver::from_pos(pos))
+        let pos = position_of(pos)?;
+        Ok(BoxResolver::from_pos(pos as usize))
     }
 }
 
@@ -211,10 +210,8 @@ impl<S: Writer + ResolverAlloc> Serialize<S> for BoxStr {
             text: self.text.as_str(),
         }
         .serialize_unsized(serializer)?;
-        if pos > u32::MAX as usize {
-            return Err(Error::PositionTooLarge);
-        }
-        Ok(BoxResolver::from_pos(pos))
+        let pos = position_of(pos)?;
+        Ok(BoxResolver::from_pos(pos as usize))
     }
 }
 

@@ -19,6 +19,7 @@ ghost use Rattle.archive_types.specs.Writing.{ZeroedPlace, Resolves, to_pointee}
 ghost use Rattle.archive_write.specs.Written.{GoesOn};
 
 use super::ArchivedBox;
+use crate::owner_pointers::position_of;
 use crate::place::Place;
 use crate::rel_ptr::Metadata;
 use crate::ser::serialize_one;
@@ -66,9 +67,7 @@ impl<T: PortablePointee> ArchivedBox<T> {
         ensures refused { IfErr result (BoxRefused T.ArchivePointee U.ArchiveUnsized value.now S.Keys serializer) }
     {
         let pos = value.serialize_unsized(serializer)?;
-        let Ok(pos) = u32::try_from(pos) else {
-            return Err(Error::PositionTooLarge);
-        };
+        let pos = position_of(pos)?;
         Ok(BoxResolver { pos })
     }
 
@@ -160,9 +159,7 @@ impl<S: Writer + ResolverAlloc, T: Serialize<S>> Serialize<S> for Box<T> {
         ensures refused { IfErr result (OneUnboxed T.Archived.ArchivePointee T.Archive self.now.value S.Keys serializer) }
     {
         let pos = serialize_one(&**self, serializer)?;
-        let Ok(pos) = u32::try_from(pos) else {
-            return Err(Error::PositionTooLarge);
-        };
+        let pos = position_of(pos)?;
         Ok(BoxResolver { pos })
     }
 }

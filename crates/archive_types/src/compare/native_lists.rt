@@ -92,14 +92,14 @@ impl<'a, T: Portable> Ref<'a, ArchivedOption<T>> {
 
 impl<'a, T: Portable, E: Portable> Ref<'a, ArchivedResult<T, E>> {
     /// Whether the result equals one of the machine: both are `Ok` or both `Err`, with equal values. Our own.
-    pub fn eq_result<U: Archive, W: Archive>(self, result_of: &Result<U, W>) -> bool
+    pub fn eq_result<U: Archive, W: Archive>(self, outcome: &Result<U, W>) -> bool
     where
         T: CompareNative<U>,
         E: CompareNative<W>,
-        ensures order { result ≡ is_eq (result_to T.native_order E.native_order T.layout E.layout self.entry result_of.now) }
-        ensures by_value { ViewEquals self.entry (result_meaning U.meaning W.meaning result_of.now) result }
+        ensures order { result ≡ is_eq (result_to T.native_order E.native_order T.layout E.layout self.entry outcome.now) }
+        ensures by_value { ViewEquals self.entry (result_meaning U.meaning W.meaning outcome.now) result }
     {
-        is_result(self, result_of)
+        is_result(self, outcome)
     }
 }
 
@@ -155,10 +155,10 @@ fn is_result<
     W: Archive,
     T: Portable + CompareNative<U>,
     E: Portable + CompareNative<W>,
->(view: Ref<'_, ArchivedResult<T, E>>, result_of: &Result<U, W>) -> bool
-    ensures { result ≡ is_eq (result_to T.native_order E.native_order T.layout E.layout view.entry result_of.now) }
+>(view: Ref<'_, ArchivedResult<T, E>>, outcome: &Result<U, W>) -> bool
+    ensures { result ≡ is_eq (result_to T.native_order E.native_order T.layout E.layout view.entry outcome.now) }
 {
-    match (view.as_ref(), result_of) {
+    match (view.as_ref(), outcome) {
         (Ok(view), Ok(value)) => T::compare_native(view.part(), value).is_eq(),
         (Err(view), Err(error)) => E::compare_native(view.part(), error).is_eq(),
         (Ok(_), Err(_)) | (Err(_), Ok(_)) => false,

@@ -2,7 +2,6 @@
 
 ghost use Rattle.std.specs.Prelude.{◌≡◌, ◌+◌, ◌≤◌, length, pos as whole, IfSome, IfNone, IsNone};
 ghost use Rattle.std.specs.Ordering.{int_eq};
-ghost use Rattle.archive_check.specs.Layout.{pointer_size};
 ghost use Rattle.archive_check.specs.Readable.{target_from};
 ghost use Rattle.archive_check.specs.Reads.{i32_at, length_at};
 ghost use Rattle.archive_check.specs.Shape.{one, shared, weak};
@@ -13,21 +12,10 @@ ghost use Rattle.archive_types.specs.SharedLaws.{flavor_as};
 ghost use Rattle.archive_types.specs.Standing.{StandsWith, view};
 
 use super::{ArchivedRc, ArchivedRcWeak, Flavor};
+use crate::owner_pointers::read_length;
 use crate::traits::PortablePointee;
 use crate::view::{RawView, Ref};
-use archive_check::format::bytes::{read_i32, read_target, read_u32};
-
-// The length that the pointer at `pos` says; 0 of one value.
-#[tactic(auto, using(crate::proofs::SharedViews::length_there, crate::proofs::SharedViews::length_not_there, crate::proofs::SharedViews::long_pointer))]
-fn read_length<T: PortablePointee>(bytes: &[u8], pos: usize) -> usize
-    requires { pos + pointer_size T.pointee ≤ length bytes.now }
-    ensures { result ≡ length_at bytes.now pos T.pointee }
-{
-    if T::has_length() {
-        return read_u32(bytes, pos + 4) as usize;
-    }
-    0
-}
+use archive_check::format::bytes::{read_i32, read_target};
 
 // Whether the weak pointer at `pos` is a null.
 fn is_null(bytes: &[u8], pos: usize) -> bool

@@ -18,6 +18,7 @@ ghost use Rattle.archive_types.specs.Writing.{Resolves, to_shared};
 ghost use Rattle.archive_write.specs.Written.{GoesOn};
 
 use super::{ArchivedRc, ArchivedRcWeak, Flavor};
+use crate::owner_pointers::position_of;
 use crate::place::Place;
 use crate::ser::Writer;
 use crate::sharing::{Sharing, SharingExt};
@@ -132,9 +133,7 @@ where
         if value.archived_metadata().is_err() {
             return Err(Error::LengthTooLarge);
         }
-        let Ok(pos) = u32::try_from(pos) else {
-            return Err(Error::PositionTooLarge);
-        };
+        let pos = position_of(pos)?;
         Ok(RcResolver { pos })
     }
 

@@ -9,6 +9,7 @@ ghost use Rattle.archive_types.specs.KindsWritten.{VecSerialized};
 ghost use Rattle.archive_types.specs.Placed.{AtOnce};
 
 use super::{ArchivedVec, VecResolver};
+use crate::owner_pointers::position_of;
 use crate::slice::copy_slice;
 use crate::traits::{Archive, CopiedSource, Keys, Portable};
 use archive_check::format::error::Error;
@@ -39,9 +40,7 @@ impl<T: Portable> ArchivedVec<T> {
             return Err(Error::LengthTooLarge);
         }
         let pos = copy_slice(value, serializer)?;
-        let Ok(pos) = u32::try_from(pos) else {
-            return Err(Error::PositionTooLarge);
-        };
+        let pos = position_of(pos)?;
         Ok(VecResolver::from_pos(pos as usize))
     }
 }

@@ -8,6 +8,7 @@ ghost use Rattle.archive_types.specs.KindsWritten.{VecOfItems, NoVecOfItems};
 ghost use Rattle.archive_write.specs.Written.{GoesOn};
 
 use super::{ArchivedVec, VecResolver};
+use crate::owner_pointers::position_of;
 use crate::ser::resolve_next;
 use crate::traits::{Portable, Serialize};
 use archive_check::format::error::Error;
@@ -54,6 +55,7 @@ impl<T: Portable> ArchivedVec<T> {
         };
         Self::serialize_from_slice(items.as_slice(), serializer)
     }
+
     /// Writes the items of `iter` one behind another as they come, from the next multiple of their alignment on, and keeps none of them. Asks that the
     /// iterator ends. An item may write nothing in its `serialize`: refused with `ItemWrote`, 10, exactly where that of an item succeeded and wrote;
     /// with `PositionTooLarge`, 4, before an item is taken, where the first one would stand above 4,294,967,295; with `LengthTooLarge`, 5, where more
@@ -72,9 +74,7 @@ impl<T: Portable> ArchivedVec<T> {
     {
         let alloc = serializer.resolver_alloc();
         let pos = serializer.align_for::<T>()?;
-        if pos > u32::MAX as usize {
-            return Err(Error::PositionTooLarge);
-        }
+        let pos = position_of(pos)?;
         let mut count = 0u32;
         for item in iter {
             let Some(more) = count.checked_add(1) else {
@@ -83,6 +83,6 @@ impl<T: Portable> ArchivedVec<T> {
             write_item(alloc, &item, serializer)?;
             count = more;
         }
-        Ok(VecResolver::from_pos(pos))
+        Ok(VecResolver::from_pos(pos as usize))
     }
 }

@@ -18,6 +18,7 @@ ghost use Rattle.archive_types.specs.Writing.{ZeroedPlace, Resolves, to_pointee}
 ghost use Rattle.archive_write.specs.Written.{GoesOn};
 
 use super::ArchivedVec;
+use crate::owner_pointers::position_of;
 use crate::place::Place;
 use crate::ser::serialize_one;
 use crate::slice::serialize_slice;
@@ -73,9 +74,7 @@ impl<T: Portable> ArchivedVec<T> {
         ensures too_long { 4294967295 < length value.now → AtOnce result LengthTooLarge S.Keys serializer }
     {
         let pos = serialize_slice(value, serializer)?;
-        let Ok(pos) = u32::try_from(pos) else {
-            return Err(Error::PositionTooLarge);
-        };
+        let pos = position_of(pos)?;
         Ok(VecResolver { pos })
     }
 

@@ -26,18 +26,19 @@ returns-in_err-pos-clause-refused g c = err_by c.from_residual-in_err-pos.result
     (unresolved _ _ _ _ _ _ _ _ _ _ g.met.T.Archived.Portable.has_layout c.in_ok-align_for.ensures.padded
     (goes_written _ _ _ c.in_ok-align_for.ensures.written c.in_ok-align_for.ensures.room c.in_ok-align_for.ensures.device c.in_ok-align_for.ensures.keys) c.in_err-pos.ensures.goes_on c.in_err-pos.ensures.refused)
 
-pub returns-in_default-clause-goes_on : goal.returns-in_default-clause-goes_on
-returns-in_default-clause-goes_on g c = goes_both _ _ _
-    (goes_written _ _ _ c.in_ok-align_for.ensures.written c.in_ok-align_for.ensures.room c.in_ok-align_for.ensures.device c.in_ok-align_for.ensures.keys) c.in_ok-pos.ensures.goes_on
+pub returns-in_err-pos-2-clause-refused : goal.returns-in_err-pos-2-clause-refused
+returns-in_err-pos-2-clause-refused g c =
+    let far : 4294967295 < c.in_ok-pos.pos = c.in_err-pos-2.ensures.refused.1 in
+    err_by c.from_residual-in_err-pos-2.result c.in_err-pos-2.field-0.0 _ c.from_residual-in_err-pos-2.ensures.1
+    (rw (c.in_err-pos-2.ensures.refused.0) (too_far_inner _ _ _ _ _ _ _ _ _ _ far c.in_ok-align_for.ensures.padded c.in_ok-pos.ensures.region (c.in_ok-pos.ensures.position ∙ g.met.S.Writer.position_law _)))
 
-pub returns-in_default-clause-refused : goal.returns-in_default-clause-refused
-returns-in_default-clause-refused g c =
-    let far : 4294967295 < c.in_ok-pos.pos = omega (arith, c.in_default.ensures) in
-    too_far_inner _ _ _ _ _ _ _ _ _ _ far c.in_ok-align_for.ensures.padded c.in_ok-pos.ensures.region (c.in_ok-pos.ensures.position ∙ g.met.S.Writer.position_law _)
+pub returns-in_err-pos-2-clause-goes_on : goal.returns-in_err-pos-2-clause-goes_on
+returns-in_err-pos-2-clause-goes_on g c = goes_both _ _ _
+    (goes_written _ _ _ c.in_ok-align_for.ensures.written c.in_ok-align_for.ensures.room c.in_ok-align_for.ensures.device c.in_ok-align_for.ensures.keys) c.in_ok-pos.ensures.goes_on
 
 pub returns-clause-boxed : goal.returns-clause-boxed
 returns-clause-boxed g c =
-    let same : c.from_pos.result ≡ c.in_ok-pos.pos = omega (arith, c.from_pos.ensures, c.in-Ok.ensures) in
+    let same : c.from_pos.result ≡ c.in_ok-pos.pos = omega (arith, c.from_pos.ensures, c.in_ok-pos-2.ensures.same) in
     boxed_there _ _ _ _ _ _ _ _ _ _ c.in_ok-align_for.ensures.padded c.in_ok-pos.ensures.region (same ∙ c.in_ok-pos.ensures.position ∙ g.met.S.Writer.position_law _)
 
 pub returns-clause-put : goal.returns-clause-put

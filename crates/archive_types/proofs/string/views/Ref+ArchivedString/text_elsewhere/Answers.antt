@@ -7,7 +7,7 @@ use Rattle.archive_check.specs.Readable.{target_from, string_text}
 use Rattle.std.proofs.lemmas.Int.{to_z-of_z}
 use Rattle.archive_check.proofs.ViewedValues.{string_readable, out_says}
 use Rattle.archive_types.proofs.Shown.{string_shown, elsewhere_shown}
-use Rattle.archive_types.proofs.string.Ref+ArchivedString.text_elsewhere.Goals as goal
+use Rattle.archive_types.proofs.string.views.Ref+ArchivedString.text_elsewhere.Goals as goal
 
 -- the text of a string that stands elsewhere
 out_text : (b : List ℕ) (p : ℕ) → IsOutOfLine b p → string_text b p ≡ bytes_at b (target_from b p (p + 4)) (decoded_length (u32_at b p))

@@ -1,6 +1,6 @@
 use Rattle.archive_check.proofs.ViewedValues.{text_readable, text_says}
 use Rattle.archive_types.proofs.Shown.{text_shown}
-use Rattle.archive_types.proofs.string.Ref+ArchivedStr.as_str.Goals as goal
+use Rattle.archive_types.proofs.string.views.Ref+ArchivedStr.as_str.Goals as goal
 
 pub read_text-requires-clause-utf8 : goal.read_text-requires-clause-utf8
 read_text-requires-clause-utf8 c = (text_shown _ _ _ (text_readable _ _ _ _ c.part-pos.ensures.viewed)).utf8

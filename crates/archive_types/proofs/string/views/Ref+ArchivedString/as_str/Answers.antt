@@ -1,7 +1,7 @@
 use Rattle.std.proofs.Common.{arith}
 use Rattle.archive_check.proofs.ViewedValues.{string_readable, inline_says}
 use Rattle.archive_types.proofs.Shown.{string_shown, inline_shown}
-use Rattle.archive_types.proofs.string.Ref+ArchivedString.as_str.Goals as goal
+use Rattle.archive_types.proofs.string.views.Ref+ArchivedString.as_str.Goals as goal
 
 pub is_out_of_line-requires : goal.is_out_of_line-requires
 is_out_of_line-requires c = omega (arith, string_shown _ _ _ (string_readable _ _ _ _ c.part-pos.ensures.viewed))
