@@ -90,8 +90,6 @@ impl<N: Integer> ArchivePointee for NonZero<N> {
 
     ghost metadata_length = { λ _. 0 };
 
-    ghost no_length = { λ _ _. refl };
-
     fn pointer_metadata(_metadata: &()) -> usize {
         0
     }

@@ -67,8 +67,6 @@ impl<N: Native> ArchivePointee for LittleEndian<N> {
 
     ghost metadata_length = { λ _. 0 };
 
-    ghost no_length = { λ _ _. refl };
-
     fn pointer_metadata(_metadata: &()) -> usize {
         0
     }

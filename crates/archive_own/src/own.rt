@@ -71,8 +71,6 @@ impl<N: NamedRecord> ArchivePointee for ArchivedRecord<N> {
 
     ghost metadata_length = { λ _. 0 };
 
-    ghost no_length = { λ _ _. refl };
-
     fn pointer_metadata(_metadata: &()) -> usize {
         0
     }

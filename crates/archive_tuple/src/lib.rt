@@ -32,8 +32,6 @@ impl<P: PortableParts> ArchivePointee for ArchivedTuple<P> {
 
     ghost metadata_length = { λ _. 0 };
 
-    ghost no_length = { λ _ _. refl };
-
     fn pointer_metadata(_metadata: &()) -> usize {
         0
     }

@@ -42,8 +42,6 @@ impl<T: ArchivePointee> ArchivePointee for ArchivedBox<T> {
 
     ghost metadata_length = { λ _. 0 };
 
-    ghost no_length = { λ _ _. refl };
-
     fn pointer_metadata(_metadata: &()) -> usize {
         0
     }

@@ -97,8 +97,6 @@ impl<T: ArchivePointee, F: Flavor> ArchivePointee for ArchivedRc<T, F> {
 
     ghost metadata_length = { λ _. 0 };
 
-    ghost no_length = { λ _ _. refl };
-
     fn pointer_metadata(_metadata: &()) -> usize {
         0
     }
@@ -147,8 +145,6 @@ impl<T: ArchivePointee, F: Flavor> ArchivePointee for ArchivedRcWeak<T, F> {
     ghost definitions = { T.definitions };
 
     ghost metadata_length = { λ _. 0 };
-
-    ghost no_length = { λ _ _. refl };
 
     fn pointer_metadata(_metadata: &()) -> usize {
         0

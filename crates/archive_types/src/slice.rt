@@ -1,7 +1,6 @@
 //! Slices: elements one behind another, in a region of their own.
 
 ghost use Rattle.std.specs.Prelude.{◌≡◌, ◌+◌, ◌*◌, ◌<◌, ◌↔◌, IfOk, IfErr, IfSome, IsSome, IsTrue};
-ghost use Rattle.std.proofs.Common.{true≢false};
 ghost use Rattle.archive_check.specs.Shape.{run};
 ghost use Rattle.archive_check.specs.SelfCheck.Owners.{run_check, run_reaches};
 ghost use Rattle.archive_types.specs.Seen.{ShowsPartOf};
@@ -43,8 +42,6 @@ impl<T: Portable> ArchivePointee for ArchivedSlice<T> {
     ghost definitions = { T.definitions };
 
     ghost metadata_length = { λ n. n };
-
-    ghost no_length = { λ _ e. absurd (true≢false e) };
 
     fn pointer_metadata(metadata: &ArchivedUsize) -> usize {
         metadata.to_native() as usize

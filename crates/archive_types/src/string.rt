@@ -3,7 +3,6 @@
 ghost use Rattle.std.specs.Prelude.{◌≡◌, ◌++◌, ◌+◌, ◌<◌, ◌≤◌, ℕ, [], OnOk, IfOk, IfErr, IsOk, IsErrOf, FitsSigned, length, refl, string_bytes};
 ghost use Rattle.std.specs.Int.{w32};
 ghost use Rattle.std.proofs.Common.{inl, inr};
-ghost use Rattle.std.proofs.Common.{true≢false};
 ghost use Rattle.archive_check.specs.Shape.{str as str_shape, boxed, one, text};
 ghost use Rattle.archive_check.specs.Definitions.{no_definition};
 ghost use Rattle.archive_check.specs.LeafLayout.{no_definition_reached};
@@ -94,8 +93,6 @@ impl ArchivePointee for ArchivedString {
 
     ghost metadata_length = { λ _. 0 };
 
-    ghost no_length = { λ _ _. refl };
-
     fn pointer_metadata(_metadata: &()) -> usize {
         0
     }
@@ -143,8 +140,6 @@ impl ArchivePointee for ArchivedStr {
     ghost definitions = { no_definition };
 
     ghost metadata_length = { λ n. n };
-
-    ghost no_length = { λ _ e. absurd (true≢false e) };
 
     fn pointer_metadata(metadata: &ArchivedUsize) -> usize {
         metadata.to_native() as usize

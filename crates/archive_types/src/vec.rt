@@ -40,8 +40,6 @@ impl<T: Portable> ArchivePointee for ArchivedVec<T> {
 
     ghost metadata_length = { λ _. 0 };
 
-    ghost no_length = { λ _ _. refl };
-
     fn pointer_metadata(_metadata: &()) -> usize {
         0
     }

@@ -57,8 +57,6 @@ impl<F: Form> ArchivePointee for Plain<F> {
 
     ghost metadata_length = { λ _. 0 };
 
-    ghost no_length = { λ _ _. refl };
-
     fn pointer_metadata(_metadata: &()) -> usize {
         0
     }
@@ -120,8 +118,6 @@ impl<F: Definition> ArchivePointee for Named<F> {
     ghost definitions = { defines F.name F.shape };
 
     ghost metadata_length = { λ _. 0 };
-
-    ghost no_length = { λ _ _. refl };
 
     fn pointer_metadata(_metadata: &()) -> usize {
         0
@@ -218,8 +214,6 @@ impl<A: Around, T: Portable> ArchivePointee for Behind<A, T> {
     ghost definitions = { T.definitions };
 
     ghost metadata_length = { λ _. 0 };
-
-    ghost no_length = { λ _ _. refl };
 
     fn pointer_metadata(_metadata: &()) -> usize {
         0
@@ -405,8 +399,6 @@ impl<T: Portable, const N: usize> ArchivePointee for Array<T, N> {
     ghost definitions = { T.definitions };
 
     ghost metadata_length = { λ _. 0 };
-
-    ghost no_length = { λ _ _. refl };
 
     fn pointer_metadata(_metadata: &()) -> usize {
         0

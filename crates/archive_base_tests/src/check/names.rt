@@ -32,8 +32,6 @@ impl ArchivePointee for Tagged {
 
     ghost metadata_length = { λ _. 0 };
 
-    ghost no_length = { λ _ _. refl };
-
     fn pointer_metadata(_metadata: &()) -> usize {
         0
     }
@@ -84,8 +82,6 @@ impl ArchivePointee for Endless {
     ghost definitions = { defines (codes "Itself") itself };
 
     ghost metadata_length = { λ _. 0 };
-
-    ghost no_length = { λ _ _. refl };
 
     fn pointer_metadata(_metadata: &()) -> usize {
         0

@@ -2,7 +2,7 @@
 
 ghost use Rattle.std.specs.Prelude.{◌≡◌, ℕ, min, Bool, true, false, refl, IsTrue, Option, None, OnOk, IfOk, IfErr};
 ghost use Rattle.archive_check.specs.Shape.{Shape, Pointee, one};
-ghost use Rattle.archive_check.specs.Layout.{Layout as LayoutOf, has_length};
+ghost use Rattle.archive_check.specs.Layout.{Layout as LayoutOf};
 ghost use Rattle.archive_check.specs.Expressions.{shape_of, table_of};
 ghost use Rattle.archive_check.specs.Definitions.{Definitions, HasLayout, IsAlign, NoOthers, Extended, ExplainsConflict};
 ghost use Rattle.archive_check.specs.Entries.{NoEntries};
@@ -46,9 +46,6 @@ pub trait ArchivePointee {
 
     // The length that the metadata is.
     ghost metadata_length: { Self.ArchivedMetadata → ℕ };
-
-    // Of one value it is 0.
-    ghost no_length: { (m : Self.ArchivedMetadata) → has_length Self.pointee ≡ false → metadata_length m ≡ 0 };
 
     /// The length that `metadata` is: 0 for one value, else the number of elements or bytes.
     fn pointer_metadata(metadata: &Self::ArchivedMetadata) -> usize

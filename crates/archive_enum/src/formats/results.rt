@@ -27,8 +27,6 @@ impl<T: Portable, E: Portable> ArchivePointee for ArchivedResult<T, E> {
 
     ghost metadata_length = { λ _. 0 };
 
-    ghost no_length = { λ _ _. refl };
-
     fn pointer_metadata(_metadata: &()) -> usize {
         0
     }

@@ -55,8 +55,6 @@ impl<N: NamedChoice> ArchivePointee for ArchivedChoice<N> {
 
     ghost metadata_length = { λ _. 0 };
 
-    ghost no_length = { λ _ _. refl };
-
     fn pointer_metadata(_metadata: &()) -> usize {
         0
     }

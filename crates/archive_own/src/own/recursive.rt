@@ -72,8 +72,6 @@ impl<N: NamedRecursive> ArchivePointee for ArchivedRecursive<N> {
 
     ghost metadata_length = { λ _. 0 };
 
-    ghost no_length = { λ _ _. refl };
-
     fn pointer_metadata(_metadata: &()) -> usize {
         0
     }

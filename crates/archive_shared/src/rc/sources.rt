@@ -51,8 +51,6 @@ impl<A: Portable> ArchivePointee for OneOf<A> {
 
     ghost metadata_length = { λ _. 0 };
 
-    ghost no_length = { λ _ _. refl };
-
     fn pointer_metadata(_metadata: &()) -> usize {
         0
     }

@@ -37,8 +37,6 @@ impl ArchivePointee for ArchivedLoop {
 
     ghost metadata_length = { λ _. 0 };
 
-    ghost no_length = { λ _ _. refl };
-
     fn pointer_metadata(_metadata: &()) -> usize {
         0
     }

@@ -32,8 +32,6 @@ impl ArchivePointee for ArchivedTwice {
 
     ghost metadata_length = { λ _. 0 };
 
-    ghost no_length = { λ _ _. refl };
-
     fn pointer_metadata(_metadata: &()) -> usize {
         0
     }
@@ -91,8 +89,6 @@ impl ArchivePointee for ArchivedItself {
     ghost definitions = { defines (codes "ArchivedItself") (parts (part (named (codes "ArchivedItself")) no_part)) };
 
     ghost metadata_length = { λ _. 0 };
-
-    ghost no_length = { λ _ _. refl };
 
     fn pointer_metadata(_metadata: &()) -> usize {
         0

@@ -97,8 +97,6 @@ impl<O: Offset> ArchivePointee for RawRelPtr<O> {
 
     ghost metadata_length = { λ _. 0 };
 
-    ghost no_length = { λ _ _. refl };
-
     fn pointer_metadata(_metadata: &()) -> usize {
         0
     }

@@ -104,8 +104,6 @@ where
 
     ghost metadata_length = { λ _. 0 };
 
-    ghost no_length = { λ _ _. refl };
-
     fn pointer_metadata(_metadata: &()) -> usize {
         0
     }

@@ -20,8 +20,6 @@ impl<T: Portable, const N: usize> ArchivePointee for [T; N] {
 
     ghost metadata_length = { λ _. 0 };
 
-    ghost no_length = { λ _ _. refl };
-
     fn pointer_metadata(_metadata: &()) -> usize {
         0
     }

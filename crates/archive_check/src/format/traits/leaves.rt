@@ -21,8 +21,6 @@ impl ArchivePointee for () {
 
     ghost metadata_length = { λ _. 0 };
 
-    ghost no_length = { λ _ _. refl };
-
     fn pointer_metadata(_metadata: &()) -> usize {
         0
     }
@@ -70,8 +68,6 @@ impl ArchivePointee for bool {
     ghost definitions = { no_definition };
 
     ghost metadata_length = { λ _. 0 };
-
-    ghost no_length = { λ _ _. refl };
 
     fn pointer_metadata(_metadata: &()) -> usize {
         0
@@ -121,8 +117,6 @@ impl ArchivePointee for u8 {
 
     ghost metadata_length = { λ _. 0 };
 
-    ghost no_length = { λ _ _. refl };
-
     fn pointer_metadata(_metadata: &()) -> usize {
         0
     }
@@ -170,8 +164,6 @@ impl ArchivePointee for i8 {
     ghost definitions = { no_definition };
 
     ghost metadata_length = { λ _. 0 };
-
-    ghost no_length = { λ _ _. refl };
 
     fn pointer_metadata(_metadata: &()) -> usize {
         0

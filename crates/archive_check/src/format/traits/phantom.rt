@@ -24,8 +24,6 @@ impl<T> ArchivePointee for PhantomData<T> {
 
     ghost metadata_length = { λ _. 0 };
 
-    ghost no_length = { λ _ _. refl };
-
     fn pointer_metadata(_metadata: &()) -> usize {
         0
     }
