@@ -7,7 +7,9 @@ use archive_core::error::Error;
 use archive_core::primitive::{ArchivedNonZeroU16, ArchivedU32};
 use archive_core::ser::{Buffer, ResolverAlloc, Serializer, Writer};
 use archive_core::slice::{Slice, copy_slice};
-use archive_core::traits::{Archive, Copied, CopyOptimization, Keys, Serialize, SerializeUnsized};
+use archive_core::traits::{
+    Archive, CopiedSource, CopyOptimization, Keys, Serialize, SerializeUnsized,
+};
 use archive_core::vec::ArchivedVec;
 use std::alloc::{AllocError, Global};
 use std::marker::PhantomData;
@@ -214,7 +216,11 @@ fn small_arrays_are_copied_and_no_large_ones(rt: HostRuntime) {
 }
 
 // Where values are copied.
-fn copied<T: Copied, S: Writer + Keys>(rt: &impl Abort, values: &[T], serializer: &mut S) -> usize {
+fn copied<T: CopiedSource, S: Writer + Keys>(
+    rt: &impl Abort,
+    values: &[T],
+    serializer: &mut S,
+) -> usize {
     copy_slice(values, serializer).expect(rt, "copied")
 }
 
