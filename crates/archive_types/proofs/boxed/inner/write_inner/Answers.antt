@@ -18,8 +18,9 @@ pub returns-in_err-pos-clause-number : goal.returns-in_err-pos-clause-number
 returns-in_err-pos-clause-number g c = err_by c.from_residual-in_err-pos.result c.in_err-pos.field-0.0 _ c.from_residual-in_err-pos.ensures.1
     (region_number _ _ g.T.Archived.Portable.layout _ _ _ _ _ _ c.in_err-pos.ensures.refused)
 
-pub returns-in_default-clause-number : goal.returns-in_default-clause-number
-returns-in_default-clause-number g c = of_value of_position
+pub returns-in_err-pos-2-clause-number : goal.returns-in_err-pos-2-clause-number
+returns-in_err-pos-2-clause-number g c = err_by c.from_residual-in_err-pos-2.result c.in_err-pos-2.field-0.0 _ c.from_residual-in_err-pos-2.ensures.1
+    (rw (c.in_err-pos-2.ensures.refused.0) (of_value of_position))
 
 pub returns-in_err-pos-clause-refused : goal.returns-in_err-pos-clause-refused
 returns-in_err-pos-clause-refused g c = err_by c.from_residual-in_err-pos.result c.in_err-pos.field-0.0 _ c.from_residual-in_err-pos.ensures.1
@@ -43,7 +44,7 @@ returns-clause-boxed g c =
 
 pub returns-clause-put : goal.returns-clause-put
 returns-clause-put g c =
-    let same : c.from_pos.result ≡ c.in_ok-pos.pos = omega (arith, c.from_pos.ensures, c.in-Ok.ensures) in
+    let same : c.from_pos.result ≡ c.in_ok-pos.pos = omega (arith, c.from_pos.ensures, c.in_ok-pos-2.ensures.same) in
     put_there c.in_ok-align_for.ensures.padded c.in_ok-pos.ensures.region (same ∙ c.in_ok-pos.ensures.position ∙ g.met.S.Writer.position_law _)
 
 pub returns-clause-goes_on : goal.returns-clause-goes_on
