@@ -3,10 +3,10 @@
 use crate::assertions::{assert_agreement, assert_answer, form_of};
 use crate::oracle::Form;
 use archive_core::boxed::ArchivedBox;
+use archive_core::core_impls::ArchivedTuple2;
 use archive_core::option::ArchivedOption;
 use archive_core::rc::{ArchivedRc, ArchivedRcWeak, RcFlavor};
 use archive_core::traits::{Portable, PortablePointee};
-use archive_tuple::ArchivedTuple2;
 use std::alloc::{AllocError, Global};
 use std::process::Abort;
 

@@ -4,12 +4,12 @@ use crate::archives::HELLO_WORLD;
 use crate::assertions::{assert_answer, assert_same, form_of};
 use archive_core::api::access;
 use archive_core::boxed::ArchivedBox;
+use archive_core::core_impls::ArchivedTuple2;
 use archive_core::error::Error;
 use archive_core::primitive::{ArchivedI32, ArchivedU32};
 use archive_core::rc::{ArchivedRc, RcFlavor};
 use archive_core::string::ArchivedString;
 use archive_core::traits::{Portable, PortablePointee};
-use archive_tuple::ArchivedTuple2;
 use std::alloc::Global;
 use std::process::Abort;
 
