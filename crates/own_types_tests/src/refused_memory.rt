@@ -54,13 +54,18 @@ fn bytes_of(alloc: Global, bytes: &[u8]) -> Result<Vec<u8>, Error> {
     Ok(Vec::from_slice(alloc, bytes)?)
 }
 
+// A call was refused, which it was for want of memory.
+fn refused(rt: &(impl Abort + Print), what: &str, number: u32) {
+    assert_same(rt, what, number, Error::OutOfMemory.number());
+    println!(rt; "refused: {what}").expect(rt, "a line printed");
+}
+
 // What a call answered, or nothing where it was refused for want of memory.
 fn answered<T>(rt: &(impl Abort + Print), what: &str, found: Result<T, Error>) -> Option<T> {
     match found {
         Ok(answer) => Some(answer),
         Err(error) => {
-            assert_same(rt, what, error, Error::OutOfMemory);
-            println!(rt; "refused: {what}").expect(rt, "a line printed");
+            refused(rt, what, error.number());
             None
         }
     }
@@ -77,14 +82,16 @@ fn prepared<T: Drop>(
     Some((value, bytes))
 }
 
-// Appends the archive of a value to a vector.
+// Appends the archive of a value to a vector, and answers the number of the refusal, where it is refused.
 fn append<'a, T: Serialize<HighSerializer<&'a mut Vec<u8>, Global>>>(
     alloc: Global,
     value: &T,
     bytes: &'a mut Vec<u8>,
-) -> Result<(), Error> {
-    to_bytes_in(alloc, value, bytes)?;
-    Ok(())
+) -> Option<u32> {
+    match to_bytes_in(alloc, value, bytes) {
+        Ok(_) => None,
+        Err(error) => Some(error.number()),
+    }
 }
 
 // And that of a pair.
@@ -92,14 +99,19 @@ fn append_pair<'a, P: Serialize<HighSerializer<&'a mut Vec<u8>, Global>>>(
     alloc: Global,
     pair: &(P, P),
     bytes: &'a mut Vec<u8>,
-) -> Result<(), Error> {
+) -> Option<u32> {
     append(alloc, pair, bytes)
+}
+
+// The number of a refusal.
+fn number_of(written: Result<(), Error>) -> Option<u32> {
+    written.err().map(|error| error.number())
 }
 
 // A vector holds what it held before and, behind that, an archive, or a beginning of it where writing was refused.
 fn assert_appended(
     rt: &(impl Abort + Print),
-    appended: Result<(), Error>,
+    refusal: Option<u32>,
     bytes: &[u8],
     before: &[u8],
     archive: &[u8],
@@ -110,8 +122,9 @@ fn assert_appended(
     };
     let begun = archive.starts_with(behind);
     assert_holds(rt, "a beginning of the archive", begun);
-    if answered(rt, "writing", appended).is_some() {
-        assert_bytes(rt, "the archive", behind, archive);
+    match refusal {
+        None => assert_bytes(rt, "the archive", behind, archive),
+        Some(number) => refused(rt, "writing", number),
     }
 }
 
@@ -122,9 +135,12 @@ fn assert_viewed<T: Archive>(
     archive: &[u8],
     root: usize,
 ) {
-    let view = access::<T::Archived>(alloc, archive);
-    if let Some(view) = answered(rt, "viewing", view) {
-        assert_same(rt, "the root", view.pos(), root);
+    let position = match access::<T::Archived>(alloc, archive) {
+        Ok(view) => Ok(view.pos()),
+        Err(error) => Err(error),
+    };
+    if let Some(position) = answered(rt, "viewing", position) {
+        assert_same(rt, "the root", position, root);
     }
 }
 
@@ -168,8 +184,8 @@ where
 fn a_record_is_written(rt: HostRuntime) {
     let (value, bytes) = (a_record(rt.alloc()), bytes_of(rt.alloc(), BEFORE));
     if let Some((record, mut bytes)) = prepared(&rt, value, bytes) {
-        let appended = append_record(rt.alloc(), &record, &mut bytes);
-        assert_appended(&rt, appended, &bytes, BEFORE, RECORD);
+        let refusal = number_of(append_record(rt.alloc(), &record, &mut bytes));
+        assert_appended(&rt, refusal, &bytes, BEFORE, RECORD);
     }
 }
 
@@ -177,8 +193,8 @@ fn a_record_is_written(rt: HostRuntime) {
 fn two_pointers_to_one_number_are_written(rt: HostRuntime) {
     let (value, bytes) = (one_number(rt.alloc()), bytes_of(rt.alloc(), BEFORE));
     if let Some((pair, mut bytes)) = prepared(&rt, value, bytes) {
-        let appended = append_pair(rt.alloc(), &pair, &mut bytes);
-        assert_appended(&rt, appended, &bytes, BEFORE, ONE_NUMBER);
+        let refusal = append_pair(rt.alloc(), &pair, &mut bytes);
+        assert_appended(&rt, refusal, &bytes, BEFORE, ONE_NUMBER);
     }
 }
 
@@ -186,8 +202,8 @@ fn two_pointers_to_one_number_are_written(rt: HostRuntime) {
 fn an_empty_slice_and_one_of_a_number_are_written(rt: HostRuntime) {
     let (value, bytes) = (two_slices(rt.alloc()), bytes_of(rt.alloc(), BEFORE));
     if let Some((pair, mut bytes)) = prepared(&rt, value, bytes) {
-        let appended = append_pair(rt.alloc(), &pair, &mut bytes);
-        assert_appended(&rt, appended, &bytes, BEFORE, TWO_SLICES);
+        let refusal = append_pair(rt.alloc(), &pair, &mut bytes);
+        assert_appended(&rt, refusal, &bytes, BEFORE, TWO_SLICES);
     }
 }
 
@@ -196,8 +212,8 @@ fn a_text_is_written(rt: HostRuntime) {
     let (before, archive) = BYTES_AND_TEXT.split_at(3);
     let (value, bytes) = (a_text(rt.alloc()), bytes_of(rt.alloc(), before));
     if let Some((text, mut bytes)) = prepared(&rt, value, bytes) {
-        let appended = append(rt.alloc(), &text, &mut bytes);
-        assert_appended(&rt, appended, &bytes, before, archive);
+        let refusal = append(rt.alloc(), &text, &mut bytes);
+        assert_appended(&rt, refusal, &bytes, before, archive);
     }
 }
 
