@@ -142,6 +142,19 @@ fn contents_of(pointee: &Pointee, length: usize) -> Contents<'_> {
     }
 }
 
+// What a box or a vector owns, and where.
+fn owned_at<'a>(bytes: &[u8], expr: &'a Expr, at: i128) -> Option<(Contents<'a>, i128)> {
+    let target = target_at(bytes, at, at)?;
+    match expr {
+        Expr::Box(pointee) => Some((contents_of(pointee, length_at(bytes, at, pointee)?), target)),
+        Expr::Vec(element) => {
+            let count = number_at(bytes, at.saturating_add(4))? as usize;
+            Some((Contents::Elements(element, count), target))
+        }
+        _ => None,
+    }
+}
+
 // What a region takes.
 fn layout_of_contents(definitions: &[Def], contents: Contents<'_>) -> Layout {
     match contents {
@@ -229,36 +242,13 @@ fn go_over_value(
         Expr::Array(count, element) => {
             go_over_elements(archive, listing, element, *count, at, levels)
         }
-        Expr::Box(pointee) => {
-            let length = length_at(archive.bytes, at, pointee)?;
-            let target = target_at(archive.bytes, at, at)?;
-            go_over_region(
-                archive,
-                listing,
-                contents_of(pointee, length),
-                target,
-                levels,
-            )
-        }
-        Expr::Vec(element) => {
-            let count = number_at(archive.bytes, at.saturating_add(4))? as usize;
-            let target = target_at(archive.bytes, at, at)?;
-            go_over_region(
-                archive,
-                listing,
-                Contents::Elements(element, count),
-                target,
-                levels,
-            )
+        Expr::Box(_) | Expr::Vec(_) => {
+            let (contents, target) = owned_at(archive.bytes, expr, at)?;
+            go_over_region(archive, listing, contents, target, levels)
         }
         Expr::Str => go_over_string(archive, listing, at, levels),
-        Expr::Shared(flavor, pointee) => {
-            go_over_shared(archive, listing, *flavor, pointee, at, levels)
-        }
-        Expr::Weak(flavor, pointee) => {
-            if number_at(archive.bytes, at)? == 1 {
-                return Some(());
-            }
+        Expr::Weak(_, _) if number_at(archive.bytes, at) == Some(1) => Some(()),
+        Expr::Shared(flavor, pointee) | Expr::Weak(flavor, pointee) => {
             go_over_shared(archive, listing, *flavor, pointee, at, levels)
         }
         Expr::Named(name) => {
