@@ -1,4 +1,4 @@
-use Rattle.std.proofs.Common.{ℕ, ◌+◌, ◌*◌}
+use Rattle.std.proofs.Common.{◌+◌, ◌*◌}
 use Rattle.archive_hostile_tests.proofs.oracle.layout.+layout.Given as goal
 
 abbrev pub decreases-layout_within : goal.decreases-layout_within

@@ -1,4 +1,4 @@
-use Rattle.std.proofs.Common.{ℕ, ◌+◌, ◌*◌}
+use Rattle.std.proofs.Common.{◌+◌, ◌*◌}
 use Rattle.archive_hostile_tests.proofs.oracle.tour.+tour.Given as goal
 
 abbrev pub decreases-go_over_value : goal.decreases-go_over_value
