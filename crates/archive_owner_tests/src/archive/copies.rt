@@ -8,7 +8,7 @@ use archive_core::primitive::{ArchivedNonZeroU16, ArchivedU32};
 use archive_core::ser::{Buffer, ResolverAlloc, Serializer, Writer};
 use archive_core::slice::{Slice, copy_slice};
 use archive_core::traits::{
-    Archive, CopiedSource, CopyOptimization, Keys, Serialize, SerializeUnsized,
+    Archive, Copied, CopiedSource, CopyOptimization, Keys, Serialize, SerializeUnsized,
 };
 use archive_core::vec::ArchivedVec;
 use std::alloc::{AllocError, Global};
