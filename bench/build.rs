@@ -1,13 +1,14 @@
 // Builds the peers in C++ and the counter of the heap, and links them, the project's static library and the kit's heap for it. Finds which exports
-// the library has: the driver's rows of the others say 'not yet'.
+// the library has: the driver's rows of the others have a dash.
 use std::env;
 use std::fmt::Write;
 use std::fs;
 use std::path::{Path, PathBuf};
 use std::process::Command;
 
-const SETS: [&str; 8] = [
-    "u32", "string", "record", "plain", "numbers", "rows", "list", "shared",
+const SETS: [&str; 11] = [
+    "u32", "string", "record", "plain", "own", "frames", "events", "numbers", "rows", "list",
+    "shared",
 ];
 
 fn run(command: &mut Command) -> String {
@@ -95,7 +96,9 @@ fn exports(library: &Path, out: &Path) {
         &mut text,
         &has,
         "Size",
-        &names(&["record", "plain", "rows", "list", "shared"]),
+        &names(&[
+            "record", "plain", "own", "frames", "events", "rows", "list", "shared",
+        ]),
         "size: usize, count: usize, reuse: bool",
     );
     table(

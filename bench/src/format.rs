@@ -11,6 +11,12 @@ pub enum Set {
     Record,
     /// The same without the option.
     Plain,
+    /// The small record again, as a struct that the project's and rkyv's derive archive.
+    Own,
+    /// So many structs of a u64, two structs of two i32 each, and a string of 20 bytes.
+    Frames(usize),
+    /// So many enums of five variants, in turns: nothing, a char, a string of 20 bytes, two i32, 8 u32.
+    Events(usize),
     /// So many u32.
     Numbers(usize),
     /// So many rows of a u64, a string of 20 bytes and 8 u32.
@@ -31,6 +37,9 @@ impl Set {
             Set::Text(_) => "string",
             Set::Record => "record",
             Set::Plain => "plain",
+            Set::Own => "own",
+            Set::Frames(_) => "frames",
+            Set::Events(_) => "events",
             Set::Numbers(_) => "numbers",
             Set::Rows(_) => "rows",
             Set::List(_) => "list",
@@ -48,6 +57,7 @@ impl Set {
             Set::Numbers(_) => Some(3),
             Set::Rows(_) => Some(4),
             Set::List(_) => Some(5),
+            Set::Own | Set::Frames(_) | Set::Events(_) => None,
             Set::Shared(_) | Set::Names(_) => None,
         }
     }
@@ -64,9 +74,9 @@ impl Set {
     /// How many elements or bytes it has.
     pub fn size(self) -> usize {
         match self {
-            Set::Number | Set::Record | Set::Plain => 1,
+            Set::Number | Set::Record | Set::Plain | Set::Own => 1,
             Set::Text(n) | Set::Numbers(n) | Set::Rows(n) | Set::List(n) => n,
-            Set::Shared(n) | Set::Names(n) => n,
+            Set::Frames(n) | Set::Events(n) | Set::Shared(n) | Set::Names(n) => n,
         }
     }
 
@@ -78,7 +88,9 @@ impl Set {
             Set::Rows(_) => "rows, for one",
             Set::List(_) => "chain, for a box",
             Set::Shared(_) => "shared pointers, for one",
-            Set::Number | Set::Record | Set::Plain | Set::Names(_) => "one",
+            Set::Frames(_) => "structs of structs, for one",
+            Set::Events(_) => "enums, for one",
+            Set::Number | Set::Record | Set::Plain | Set::Own | Set::Names(_) => "one",
         }
     }
 
@@ -89,6 +101,9 @@ impl Set {
             Set::Text(n) => format!("string of {} bytes", grouped(n as f64)),
             Set::Record => "small record".into(),
             Set::Plain => "small record without its option".into(),
+            Set::Own => "struct, derived".into(),
+            Set::Frames(n) => format!("{} structs of structs, derived", grouped(n as f64)),
+            Set::Events(n) => format!("{} enums, derived", grouped(n as f64)),
             Set::Numbers(n) => format!("{} u32", grouped(n as f64)),
             Set::Rows(n) => format!("{} rows", grouped(n as f64)),
             Set::List(n) => format!("chain of {} boxes", grouped(n as f64)),
@@ -220,8 +235,6 @@ pub struct Ready {
 /// What a format does of an operation.
 pub enum Task {
     Ready(Ready),
-    /// The project can't do it yet.
-    NotYet,
     /// It isn't measured in this format.
     Absent,
 }

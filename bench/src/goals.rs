@@ -12,11 +12,13 @@ const NUMBERS: Set = Set::Numbers(100_000);
 const ROWS: Set = Set::Rows(10_000);
 const SHARED: Set = Set::Shared(10_000);
 
-const GOALS: [Goal; 24] = [
+const FRAMES: Set = Set::Frames(10_000);
+const EVENTS: Set = Set::Events(10_000);
+
+const GOALS: [Goal; 35] = [
     Goal(Set::Number, Operation::Access, Format::Rkyv, 2.0),
     Goal(Set::Text(11), Operation::Access, Format::Rkyv, 1.3),
     Goal(Set::Text(65_536), Operation::Access, Format::Rkyv, 0.6),
-    Goal(Set::Record, Operation::Access, Format::Rkyv, 1.2),
     Goal(NUMBERS, Operation::Access, Format::Rkyv, 1.5),
     Goal(ROWS, Operation::Access, Format::Rkyv, 1.0),
     Goal(ROWS, Operation::Access, Format::Flat, 1.0),
@@ -37,6 +39,18 @@ const GOALS: [Goal; 24] = [
     Goal(NUMBERS, Operation::WriteReused, Format::Copy, 1.3),
     Goal(NUMBERS, Operation::WriteReused, Format::Flat, 1.0),
     Goal(NUMBERS, Operation::Read, Format::Copy, 1.3),
+    Goal(Set::Own, Operation::Access, Format::Rkyv, 0.7),
+    Goal(Set::Own, Operation::WriteNew, Format::Rkyv, 0.9),
+    Goal(Set::Own, Operation::WriteReused, Format::Rkyv, 0.9),
+    Goal(Set::Own, Operation::Read, Format::Rkyv, 0.9),
+    Goal(FRAMES, Operation::Access, Format::Rkyv, 0.7),
+    Goal(FRAMES, Operation::WriteNew, Format::Rkyv, 0.9),
+    Goal(FRAMES, Operation::WriteReused, Format::Rkyv, 0.9),
+    Goal(FRAMES, Operation::Read, Format::Rkyv, 0.9),
+    Goal(EVENTS, Operation::Access, Format::Rkyv, 0.7),
+    Goal(EVENTS, Operation::WriteNew, Format::Rkyv, 0.9),
+    Goal(EVENTS, Operation::WriteReused, Format::Rkyv, 0.9),
+    Goal(EVENTS, Operation::Read, Format::Rkyv, 0.9),
 ];
 
 impl Goal {
@@ -48,7 +62,7 @@ impl Goal {
             .find(|it| it.set == *set && it.operation == *operation);
         match row.and_then(|it| it.ratio(*beside)) {
             Some(measured) => (ratio(measured), measured <= *most),
-            None => ("not yet".into(), false),
+            None => ("–".into(), false),
         }
     }
 }

@@ -1,4 +1,5 @@
-//! Times the project beside its peers, in one process and in turns, and writes RESULTS.md, results.svg and the table in the README.
+//! Times the project beside its peers, in one process and in turns, and writes RESULTS.md, results.svg and the table in the README, unless the tree has
+//! changes that aren't committed.
 //! `driver` does all; `driver goals` times what the goals speak of and prints their table alone; `driver deep FORMAT OPERATION` and `driver heap` are
 //! what it starts as children.
 
@@ -36,6 +37,10 @@ fn rounds_of_growth(set: Set) -> usize {
 
 fn all() {
     sets::verify();
+    let is_changed = report::is_changed();
+    if is_changed {
+        eprintln!("The tree has changes that aren't committed: only the goals are printed, and nothing is written.");
+    }
     let machine = report::Machine::now();
     let mut rows = Vec::new();
     let mut beside = Vec::new();
@@ -68,8 +73,10 @@ fn all() {
     eprintln!("the heap");
     let heap = measure::heap_of_child();
     let others = beside.iter().sum::<f64>() / beside.len() as f64;
-    report::write(&machine, &rows, &growth, &heap, rounds(), others);
-    chart::write(&rows);
+    if !is_changed {
+        report::write(&machine, &rows, &growth, &heap, rounds(), others);
+        chart::write(&rows);
+    }
     print!("{}", goals::table(&rows));
 }
 

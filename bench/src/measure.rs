@@ -37,12 +37,15 @@ impl Row {
 }
 
 /// The sets of the table, and whether a peer keeps its own limits of depth and size.
-pub const SETS: [(Set, bool); 12] = [
+pub const SETS: [(Set, bool); 15] = [
     (Set::Number, false),
     (Set::Text(11), false),
     (Set::Text(65_536), false),
     (Set::Record, false),
     (Set::Plain, false),
+    (Set::Own, false),
+    (Set::Frames(10_000), false),
+    (Set::Events(10_000), false),
     (Set::Numbers(100_000), false),
     (Set::Rows(10_000), false),
     (Set::List(1_000), false),
@@ -82,7 +85,7 @@ pub fn deep(format: usize, operation: usize) -> i32 {
             // Nothing is freed: that may need a deep stack, too.
             std::process::exit(if refused { 3 } else { 0 })
         }
-        Task::NotYet | Task::Absent => 0,
+        Task::Absent => 0,
     }
 }
 
@@ -104,7 +107,6 @@ pub fn row(
         held.push(
             match stops.map_or_else(|| Ok(format.task(set, operation, limited)), Err) {
                 Ok(Task::Ready(ready)) => Ok(ready),
-                Ok(Task::NotYet) => Err("not yet".into()),
                 Ok(Task::Absent) => Err("–".into()),
                 Err(why) => Err(why),
             },
@@ -178,7 +180,7 @@ pub fn heap() {
         for operation in GROWTH {
             let peaks = GROWING.map(|format| match format.task(set, operation, false) {
                 Task::Ready(mut ready) => peak(&mut ready).to_string(),
-                Task::NotYet | Task::Absent => "-".into(),
+                Task::Absent => "-".into(),
             });
             println!("{}", peaks.join(" "));
         }

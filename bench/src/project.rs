@@ -39,8 +39,11 @@ fn on_bytes(set: Set, operation: Operation, call: Bytes) -> Ready {
                 (0..count).map(|i| u64::from(numbers[i % 1024])).sum()
             }))
         }
-        (Operation::Read, Set::Record | Set::Plain) => {
-            Some(Box::new(|count| ("hello world".len() + 4) as u64 * count as u64))
+        (Operation::Read, Set::Record | Set::Plain | Set::Own) => Some(Box::new(|count| {
+            ("hello world".len() + 4) as u64 * count as u64
+        })),
+        (Operation::Read, Set::List(n)) => {
+            Some(Box::new(move |count| n.min(1) as u64 * count as u64))
         }
         (Operation::Read, _) => Some(Box::new(move |count| (set.size() * count) as u64)),
         (Operation::Compare, _) => {
@@ -76,6 +79,14 @@ fn sum_of_written(archives: &[Vec<u8>], count: usize) -> u64 {
     (0..count).map(one).sum()
 }
 
+// Writes a set that its export makes by itself.
+fn by_size(name: &str, set: Set, reuse: bool) -> Option<Box<dyn FnMut(usize) -> u64>> {
+    let call = size(name)?;
+    Some(Box::new(
+        move |count| unsafe { call(set.size(), count, reuse) } as u64,
+    ))
+}
+
 fn write(set: Set, reuse: bool) -> Option<Ready> {
     let name = format!("write_{}", set.export());
     let mut archived = vec![sets::archive(set)];
@@ -97,10 +108,9 @@ fn write(set: Set, reuse: bool) -> Option<Ready> {
             Box::new(move |count| unsafe { call(value.as_ptr(), value.len(), count, reuse) } as u64)
         }
         Set::Names(_) => return None,
-        Set::Record | Set::Plain | Set::Rows(_) | Set::List(_) | Set::Shared(_) => {
-            let call = size(&name)?;
-            Box::new(move |count| unsafe { call(set.size(), count, reuse) } as u64)
-        }
+        Set::Record | Set::Plain | Set::Own => by_size(&name, set, reuse)?,
+        Set::Frames(_) | Set::Events(_) => by_size(&name, set, reuse)?,
+        Set::Rows(_) | Set::List(_) | Set::Shared(_) => by_size(&name, set, reuse)?,
     };
     let expected: Option<Box<dyn Fn(usize) -> u64>> =
         Some(Box::new(move |count| sum_of_written(&archived, count)));
@@ -117,9 +127,7 @@ fn seal(set: Set) -> Option<Ready> {
     let mut bytes = sets::archive(set);
     Some(Ready {
         bytes: bytes.len(),
-        run: Box::new(
-            move |count| unsafe { call(bytes.as_mut_ptr(), bytes.len(), count) } as u64,
-        ),
+        run: Box::new(move |count| unsafe { call(bytes.as_mut_ptr(), bytes.len(), count) } as u64),
         expected: Some(Box::new(|count| count as u64)),
         prepares: true,
     })
@@ -140,5 +148,5 @@ fn ready(set: Set, operation: Operation) -> Option<Ready> {
 }
 
 pub fn task(set: Set, operation: Operation) -> Task {
-    ready(set, operation).map_or(Task::NotYet, Task::Ready)
+    ready(set, operation).map_or(Task::Absent, Task::Ready)
 }

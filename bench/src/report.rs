@@ -30,6 +30,13 @@ fn load() -> String {
     text.split(' ').take(3).collect::<Vec<_>>().join(" ")
 }
 
+/// Whether the tree has changes that aren't committed, other than those that a run makes: nobody could take the figures anew.
+pub fn is_changed() -> bool {
+    let made = [":!RESULTS.md", ":!results.svg", ":!../README.md"];
+    let words = [&["status", "--porcelain", "--", ".."], &made[..]].concat();
+    !said("git", &words).is_empty()
+}
+
 /// How many others run or wait for a processor just now, but this program itself.
 pub fn others() -> f64 {
     let text = fs::read_to_string("/proc/loadavg").unwrap_or_default();
@@ -65,7 +72,7 @@ fn processor() -> String {
 impl Machine {
     pub fn now() -> Machine {
         let package = |name: &str| said("dpkg-query", &["-W", "-f=${Version}", name]);
-        let commit = said("git", &["describe", "--always", "--dirty"]);
+        let commit = said("git", &["describe", "--always"]);
         let lines = vec![
             format!(
                 "Date: {}. Commit: {commit}.",
@@ -225,7 +232,7 @@ fn grown(row: &Row, peak: Option<usize>, place: usize) -> String {
             short(peak as f64 / elements)
         ),
         (Cell::Word(why), _) => why.clone(),
-        (_, None) => "not yet".into(),
+        (_, None) => "–".into(),
     }
 }
 

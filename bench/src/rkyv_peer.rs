@@ -35,6 +35,32 @@ pub struct Plain {
 
 #[derive(Archive, Serialize, Deserialize)]
 #[archive_attr(derive(CheckBytes))]
+pub struct Corner {
+    x: i32,
+    y: i32,
+}
+
+#[derive(Archive, Serialize, Deserialize)]
+#[archive_attr(derive(CheckBytes))]
+pub struct Frame {
+    id: u64,
+    from: Corner,
+    to: Corner,
+    label: String,
+}
+
+#[derive(Archive, Serialize, Deserialize)]
+#[archive_attr(derive(CheckBytes))]
+pub enum Event {
+    Quit,
+    Key(char),
+    Text(String),
+    Move { x: i32, y: i32 },
+    Batch(Vec<u32>),
+}
+
+#[derive(Archive, Serialize, Deserialize)]
+#[archive_attr(derive(CheckBytes))]
 pub struct Row {
     id: u64,
     name: String,
@@ -232,6 +258,38 @@ fn compare(n: usize) -> Ready {
     }
 }
 
+fn corner((x, y): (i32, i32)) -> Corner {
+    Corner { x, y }
+}
+
+fn frames(n: usize) -> Vec<Frame> {
+    let made = (0..n).map(sets::frame);
+    made.map(|(id, [from, to], label)| Frame {
+        id,
+        from: corner(from),
+        to: corner(to),
+        label,
+    })
+    .collect()
+}
+
+fn event(i: usize) -> Event {
+    match i % 5 {
+        0 => Event::Quit,
+        1 => Event::Key(sets::key(i)),
+        2 => Event::Text(sets::row(i).1),
+        3 => {
+            let Corner { x, y } = corner(sets::frame(i).1[0]);
+            Event::Move { x, y }
+        }
+        _ => Event::Batch(sets::row(i).2),
+    }
+}
+
+fn events(n: usize) -> Vec<Event> {
+    (0..n).map(event).collect()
+}
+
 fn rows(n: usize) -> Vec<Row> {
     let made = (0..n).map(sets::row);
     made.map(|(id, name, values)| Row { id, name, values })
@@ -268,7 +326,9 @@ pub fn task(set: Set, operation: Operation) -> Task {
         Set::Record if operation == Operation::Seal => seal(),
         Set::Number => unshared(42u32, operation, None),
         Set::Text(n) => unshared(sets::text(n), operation, None),
-        Set::Record => unshared(record(), operation, None),
+        Set::Record | Set::Own => unshared(record(), operation, None),
+        Set::Frames(n) => unshared(frames(n), operation, None),
+        Set::Events(n) => unshared(events(n), operation, None),
         Set::Plain => unshared(plain(), operation, None),
         Set::Numbers(n) => unshared(sets::numbers(n), operation, None),
         Set::Rows(n) => unshared(rows(n), operation, None),

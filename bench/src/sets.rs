@@ -27,6 +27,25 @@ pub fn row(i: usize) -> (u64, String, Vec<u32>) {
     )
 }
 
+/// A struct of structs: its number, its corners and its label.
+pub fn frame(i: usize) -> (u64, [(i32, i32); 2], String) {
+    let x = (i & 0xffff) as i32;
+    (
+        i as u64 * 7919,
+        [(x, -x), (x + 100, 7)],
+        format!("record-name-{i:08}"),
+    )
+}
+
+/// The char of an enum whose variant has one.
+pub fn key(i: usize) -> char {
+    if i % 2 == 0 {
+        'a'
+    } else {
+        'é'
+    }
+}
+
 /// How many strings so many pointers lead to.
 pub fn shared_strings(pointers: usize) -> usize {
     (pointers / 100).max(1)
@@ -149,6 +168,67 @@ fn of_rows(n: usize) -> Vec<u8> {
     out
 }
 
+fn signed(out: &mut Vec<u8>, number: i32) {
+    word(out, number as u32);
+}
+
+fn of_frames(n: usize) -> Vec<u8> {
+    let mut out = Vec::new();
+    let places: Vec<usize> = (0..n).map(|i| region(&mut out, &frame(i).2)).collect();
+    pad(&mut out, 8);
+    let frames = out.len();
+    for (i, place) in places.into_iter().enumerate() {
+        let (id, corners, label) = frame(i);
+        out.extend_from_slice(&id.to_le_bytes());
+        for (x, y) in corners {
+            signed(&mut out, x);
+            signed(&mut out, y);
+        }
+        string(&mut out, &label, place);
+    }
+    list(&mut out, frames, n);
+    out
+}
+
+// What an enum owns, by its number: a text or numbers.
+fn owned(out: &mut Vec<u8>, i: usize) -> usize {
+    match i % 5 {
+        2 => region(out, &row(i).1),
+        4 => {
+            pad(out, 4);
+            let at = out.len();
+            row(i).2.into_iter().for_each(|it| word(out, it));
+            at
+        }
+        _ => 0,
+    }
+}
+
+fn of_events(n: usize) -> Vec<u8> {
+    let mut out = Vec::new();
+    let places: Vec<usize> = (0..n).map(|i| owned(&mut out, i)).collect();
+    pad(&mut out, 4);
+    let events = out.len();
+    for (i, place) in places.into_iter().enumerate() {
+        let here = out.len();
+        word(&mut out, (i % 5) as u32);
+        match i % 5 {
+            1 => word(&mut out, key(i) as u32),
+            2 => string(&mut out, &row(i).1, place),
+            3 => {
+                let (x, y) = frame(i).1[0];
+                signed(&mut out, x);
+                signed(&mut out, y);
+            }
+            4 => list(&mut out, place, 8),
+            _ => {}
+        }
+        out.resize(here + 12, 0);
+    }
+    list(&mut out, events, n);
+    out
+}
+
 // Each string stands where the first pointer to it is met.
 fn of_shared(n: usize) -> Vec<u8> {
     let mut out = Vec::new();
@@ -197,7 +277,9 @@ pub fn archive(set: Set) -> Vec<u8> {
     match set {
         Set::Number => 42u32.to_le_bytes().to_vec(),
         Set::Text(n) => of_text(&text(n)),
-        Set::Record => of_record(),
+        Set::Record | Set::Own => of_record(),
+        Set::Frames(n) => of_frames(n),
+        Set::Events(n) => of_events(n),
         Set::Plain => of_plain(),
         Set::Numbers(n) => of_numbers(n),
         Set::Rows(n) => of_rows(n),
@@ -233,6 +315,8 @@ pub fn verify() {
         crate::rkyv_peer::written(Set::List(100))
     );
     assert_eq!(archive(Set::Rows(3)).len(), 3 * (20 + 32) + 4 + 3 * 24 + 8);
+    assert_eq!(archive(Set::Frames(3)).len(), 3 * 20 + 4 + 3 * 32 + 8);
+    assert_eq!(archive(Set::Events(5)).len(), 20 + 32 + 5 * 12 + 8);
     let shared = b"record-name-00000000\x94\0\0\0\xec\xff\xff\xff\xf8\xff\xff\xff\xf4\xff\xff\xff\xf8\xff\xff\xff\x02\0\0\0";
     assert_eq!(archive(Set::Shared(2)), shared);
 }

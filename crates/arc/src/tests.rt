@@ -1,7 +1,7 @@
 // Commands with what they print and the status that they end with. The words of a command stand between bars.
 
 use crate::assertions::{assert_said, assert_same};
-use arc_commands::command::run;
+use arc_commands::run;
 use std::alloc::{AllocError, Global};
 use std::io;
 use std::process::Abort;

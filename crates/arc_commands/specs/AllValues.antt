@@ -1,7 +1,7 @@
 -- What a value that is a shared value of its own type looks like.
 use Rattle.std.specs.Prelude.{codes}
-use Rattle.archive_check.specs.Shape.{Name, Shape, choice, named, one, shared, no_variant, variant, no_part, part}
-use Rattle.archive_types.specs.SharedSources.{rc_flavor}
+use Rattle.archive_core.specs.Shape.{Name, Shape, choice, named, one, shared, no_variant, variant, no_part, part}
+use Rattle.archive_core.specs.SharedSources.{rc_flavor}
 
 abbrev pub all_name : Name
 all_name = codes "ArchivedAllValues"

@@ -1,7 +1,9 @@
 //! The formats that the program knows.
 
 use crate::all_values::ArchivedAllValues;
-use crate::shared::{TwoShared, check_shared_and_weak, check_two_shared, two_shared};
+use crate::shared::{
+    ArchivedRcWeakPair, ArchivedTwoRc, ArchivedTwoRcBytes, ArchivedTwoRcUnit, TwoRc, two_rc,
+};
 use archive_core::api::{access, to_bytes};
 use archive_core::boxed::{ArchivedBox, BoxSlice};
 use archive_core::error::Error;
@@ -61,7 +63,7 @@ pub enum Value<'a> {
     /// Numbers.
     VecU32(Vec<u32>),
     /// Two shared numbers.
-    TwoRc(TwoShared),
+    TwoRc(TwoRc),
     /// A list of boxes in boxes.
     Node(Node),
     /// A record.
@@ -113,7 +115,7 @@ impl Format {
                 None => Ok(None),
             },
             Format::TwoRc => match one_or_two(word.as_str()) {
-                Some((first, second)) => Ok(Some(Value::TwoRc(two_shared(alloc, first, second)?))),
+                Some((first, second)) => Ok(Some(Value::TwoRc(two_rc(alloc, first, second)?))),
                 None => Ok(None),
             },
             Format::Node => match u32::read(word.as_str()) {
@@ -138,10 +140,10 @@ impl Format {
             Format::OptBoxBytes => check_option::<ArchivedBox<ArchivedSlice<u8>>>(alloc, bytes),
             Format::TwoBoxBytes => check_two_boxes::<ArchivedSlice<u8>>(alloc, bytes),
             Format::VecU32 => check_as::<ArchivedVec<ArchivedU32>>(alloc, bytes),
-            Format::TwoRc => check_two_shared::<ArchivedU32>(alloc, bytes),
-            Format::TwoRcUnit => check_two_shared::<()>(alloc, bytes),
-            Format::TwoRcBytes => check_two_shared::<ArchivedSlice<u8>>(alloc, bytes),
-            Format::RcWeak => check_shared_and_weak::<ArchivedU32>(alloc, bytes),
+            Format::TwoRc => check_as::<ArchivedTwoRc>(alloc, bytes),
+            Format::TwoRcUnit => check_as::<ArchivedTwoRcUnit>(alloc, bytes),
+            Format::TwoRcBytes => check_as::<ArchivedTwoRcBytes>(alloc, bytes),
+            Format::RcWeak => check_as::<ArchivedRcWeakPair>(alloc, bytes),
             Format::Node => check_as::<ArchivedNode>(alloc, bytes),
             Format::AllValues => check_as::<ArchivedAllValues>(alloc, bytes),
             Format::Test => check_as::<ArchivedTest>(alloc, bytes),

@@ -5,3 +5,5 @@ pub mod all_values;
 pub mod command;
 pub mod formats;
 pub mod shared;
+
+pub use command::run;

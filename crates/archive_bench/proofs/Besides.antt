@@ -1,8 +1,8 @@
 -- What stands beside what, under definitions that bring others.
 use Rattle.std.proofs.Common.{ℕ, List}
-use Rattle.archive_check.specs.Reads.{Schema}
-use Rattle.archive_check.specs.Definitions.{Definitions, Knows}
-use Rattle.archive_types.specs.Standing.{View, StandsWith}
+use Rattle.archive_core.specs.Reads.{Schema}
+use Rattle.archive_core.specs.Definitions.{Definitions, Knows}
+use Rattle.archive_core.specs.Standing.{View, StandsWith}
 
 -- what holds under each schema that knows E holds under each that knows D
 pub beside_in : (D E : Definitions) → ((s : Schema) → Knows s D → Knows s E) → (bytes : List ℕ) (v u : View) → StandsWith E bytes v u → StandsWith D bytes v u

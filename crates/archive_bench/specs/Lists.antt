@@ -1,10 +1,10 @@
 -- A list that a record may have, and where an element of it stands.
-use Rattle.archive_check.specs.Shape.{Shape, Pointee, vec}
-use Rattle.archive_check.specs.declared.format.traits.ArchivePointee as ArchivePointee
-use Rattle.archive_enum.specs.Choices.{option_shape}
-use Rattle.archive_types.specs.Standing.{StandsWith, view}
-use Rattle.archive_seal.specs.declared.seal.Spot.{Spot}
-use Rattle.archive_types.specs.declared.view.Ref.{Ref}
+use Rattle.archive_core.specs.Shape.{Shape, Pointee, vec}
+use Rattle.archive_core.specs.ArchivePointee as ArchivePointee
+use Rattle.archive_core.specs.Choices.{option_shape}
+use Rattle.archive_core.specs.Standing.{StandsWith, view}
+use Rattle.archive_core.specs.declared.seal.Spot.{Spot}
+use Rattle.archive_core.specs.Ref.{Ref}
 
 -- nothing, or elements
 abbrev pub optional_list : Shape → Shape

@@ -2,12 +2,12 @@
 //! types as parameters it is proved once for all of them.
 
 ghost use Rattle.std.specs.Prelude.{◌≡◌, length, OnOk, IfErr};
-ghost use Rattle.archive_check.specs.PartsLayout.{is_named_record};
-ghost use Rattle.archive_check.specs.Value.{product};
-ghost use Rattle.archive_types.specs.Keyed.{nothing_keyed, part_keyed, record_keyed};
-ghost use Rattle.archive_types.specs.PartsPlanned.{no_part_planned, part_planned, record_planned};
-ghost use Rattle.archive_types.specs.Sources.{ResolvedAs, HinderedAs};
-ghost use Rattle.archive_types.specs.Writing.{ZeroedPlace};
+ghost use Rattle.archive_core.specs.PartsLayout.{is_named_record};
+ghost use Rattle.archive_core.specs.Value.{product};
+ghost use Rattle.archive_core.specs.Keyed.{nothing_keyed, part_keyed, record_keyed};
+ghost use Rattle.archive_core.specs.PartsPlanned.{no_part_planned, part_planned, record_planned};
+ghost use Rattle.archive_core.specs.Sources.{ResolvedAs, HinderedAs};
+ghost use Rattle.archive_core.specs.Writing.{ZeroedPlace};
 
 use archive_core::error::Error;
 use archive_core::own::{ArchivedRecord, Field, FromParts, HasField, NamedRecord};

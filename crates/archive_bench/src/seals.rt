@@ -1,16 +1,17 @@
 //! A number that is written over where it lies.
 
 ghost use Rattle.std.specs.Prelude.{◌≡◌, ◌≤◌, Some, IfSome};
-ghost use Rattle.archive_check.specs.PartsLayout.{part_at, definitions_at};
-ghost use Rattle.archive_check.specs.Viewed.{Viewed};
-ghost use Rattle.archive_types.specs.Standing.{KeepsViews, view};
+ghost use Rattle.archive_core.specs.PartsLayout.{part_at, definitions_at};
+ghost use Rattle.archive_core.specs.KnownParts.{KnowsAlso};
+ghost use Rattle.archive_core.specs.Viewed.{Viewed};
+ghost use Rattle.archive_core.specs.Standing.{KeepsViews, view};
 ghost use Rattle.archive_bench.specs.Lists.{optional_list, SpotBeside};
 
 use crate::sets::ArchivedSmall;
 use archive_core::api::access;
 use archive_core::option::ArchivedOption;
 use archive_core::primitive::ArchivedI32;
-use archive_core::seal::{SealedLeaf, Spot};
+use archive_core::seal::{SealedLeaf, Spot, SpotExt};
 use archive_core::traits::{ArchivePointee, Portable, Record};
 use archive_core::vec::ArchivedVec;
 use archive_core::view::Ref;
@@ -19,13 +20,13 @@ use std::alloc::Global;
 // Where the third element stands of the list that a record's part with the index 2 may be.
 fn third<R: Record, T: Portable>(root: Ref<'_, R>) -> Option<Spot<T>>
     requires shape { part_at R.Parts.parts 2 ≡ Some (optional_list T.shape) }
-    requires definitions { definitions_at R.Parts.definitions 2 ≡ T.definitions }
+    requires definitions { KnowsAlso (definitions_at R.Parts.definitions 2) T.definitions }
     ensures viewed { IfSome result (λ s. Viewed T.definitions root.entry.bytes.now s.pos T.pointee s.len) }
     ensures beside { IfSome result (λ s. SpotBeside T.pointee s root.entry) }
 {
     let list = root.field::<ArchivedOption<ArchivedVec<T>>>(2).as_ref()?;
     let item = list.as_slice().get(2)?;
-    Some(Spot::of(item))
+    Some(item.spot())
 }
 
 // Writes a value over the leaf at a spot. Views of what stands beside it stay views.
@@ -45,7 +46,7 @@ fn write_third<R: Record, T: Portable + SealedLeaf>(
 ) -> bool
     requires viewed { Viewed R.definitions bytes.old root.pos R.pointee root.len }
     requires shape { part_at R.Parts.parts 2 ≡ Some (optional_list T.shape) }
-    requires definitions { definitions_at R.Parts.definitions 2 ≡ T.definitions }
+    requires definitions { KnowsAlso (definitions_at R.Parts.definitions 2) T.definitions }
     requires can_hold { T.can_hold value }
     ensures viewed { Viewed R.definitions bytes.new root.pos R.pointee root.len }
 {
@@ -61,7 +62,7 @@ fn write_third<R: Record, T: Portable + SealedLeaf>(
 fn written_over<R: Record>(bytes: &mut [u8], root: Spot<R>, count: usize) -> usize
     requires viewed { Viewed R.definitions bytes.old root.pos R.pointee root.len }
     requires shape { part_at R.Parts.parts 2 ≡ Some (optional_list ⟦<ArchivedI32 as Portable>⟧.shape) }
-    requires definitions { definitions_at R.Parts.definitions 2 ≡ ⟦<ArchivedI32 as ArchivePointee>⟧.definitions }
+    requires definitions { KnowsAlso (definitions_at R.Parts.definitions 2) ⟦<ArchivedI32 as ArchivePointee>⟧.definitions }
     ensures { result ≤ count }
 {
     let mut written = 0;
@@ -80,7 +81,7 @@ pub extern "C" fn archive_bench_seal_record(alloc: Global, bytes: &mut [u8], cou
     ensures { result ≤ count }
 {
     let root = match access::<ArchivedSmall>(alloc, bytes) {
-        Ok(root) => Spot::of(root),
+        Ok(root) => root.spot(),
         Err(_) => return 0,
     };
     written_over(bytes, root, count)

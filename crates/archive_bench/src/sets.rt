@@ -1,7 +1,7 @@
 //! The types of the sets, and their values. bench/src/sets.rs makes the same values and their archives.
 
 ghost use Rattle.std.specs.Prelude.{◌≡◌, codes, refl};
-ghost use Rattle.archive_own.specs.OwnRecords.{named_check};
+ghost use Rattle.archive_core.specs.OwnRecords.{named_check};
 
 use crate::records::RecordOf;
 use archive_core::option::ArchivedOption;

@@ -28,6 +28,7 @@ pub mod PartsInside
 pub mod EqualBytes
 pub mod EqualTours
 pub mod FaultyNotWalked
+pub mod WithoutLimit
 pub mod NamesKnown
 pub mod NamesReached
 pub mod SelectedEntries
@@ -43,7 +44,6 @@ pub mod WellFormed
 pub mod ReachedNames
 pub mod Rounds
 pub mod Viewed
-pub mod ViewedFields
 pub mod ViewedValues
 pub mod ReadBack
 pub mod ReadOwners

@@ -1,5 +1,5 @@
 -- The names in an expression that have no definition.
-use Rattle.std.proofs.Common.{◌≡◌, ◌⊎◌, inl, inr, ⊎_elim, refl, ap, Bool, true, false, cond, Option, Some, None, is_some, IsSome}
+use Rattle.std.proofs.Common.{◌≡◌, ◌⊎◌, inl, inr, ⊎_elim, refl, ap, Bool, true, false, cond, Option, Some, None, is_some}
 use Rattle.archive_check.specs.Shape.{Name, Shape, leaf, parts, choice, array, boxed, vec, str, shared, weak, named, Pointee, one, run, text, Parts, no_part, part, Variants, no_variant, variant, Table, definition}
 use Rattle.archive_check.specs.Defined.{Holds, holds_name, holds_parts, holds_choice, holds_array, PartsHold, holds_first, holds_later, VariantsHold, holds_variant, holds_other, Mentions, mentions_held, mentions_array, mentions_parts, mentions_choice, mentions_boxed, mentions_vec, mentions_shared, mentions_weak, PointeeMentions, mentions_one, mentions_run, PartsMention, mentions_first, mentions_later, VariantsMention, mentions_variant, mentions_other}
 use Rattle.archive_check.specs.MissingNames.{or_else, missing, pointee_missing, parts_missing, variants_missing}
@@ -200,15 +200,3 @@ module _ (table : Table) where
     variants_near (variant ps vs) e =
         let h = or_none (parts_missing true table ps) (variants_missing true table vs) e in
         both_none (parts_missing false table ps) (variants_missing false table vs) (parts_near ps h.0) (variants_near vs h.1)
-
--- each name that is held is defined exactly where none is missed before pointers
-module _ (table : Table) (X : Shape) where
-  pub held_known : (far : Bool) → missing far table X ≡ None → (n : Name) → Holds n X → IsSome (definition table n)
-  held_known far none n h = ap is_some (held_defined table far n h none).1
-
-  pub none_held_missed : ((n : Name) → Holds n X → IsSome (definition table n)) → missing false table X ≡ None
-  none_held_missed all = go (missing false table X) refl
-    where
-      go : (o : Option Name) → missing false table X ≡ o → missing false table X ≡ None
-      go None e = e
-      go (Some n) e = let (h, none) = missed_held table X n e in let known = all n h in cc

@@ -1,4 +1,4 @@
--- Only one list of bytes, whose first ones are given, is tight and clean from there on and has a given meaning. Where nothing is shared, its value says so.
+-- Only one list of bytes, whose first ones are given, is tight and clean from there on and has a meaning, whatever its names. Where nothing is shared, the value is enough.
 use Rattle.std.proofs.Common.{◌≡◌, ℕ, List, take, Option, Some, None, IsTrue, Contains, All, Bool, false, nat_cmp, refl, sym, ap, ◌∙◌}
 use Rattle.std.specs.FinMap.{get, empty, get-empty}
 use Rattle.std.proofs.lemmas.List.Elements.{All-head, All-tail}
@@ -8,14 +8,17 @@ use Rattle.archive_check.specs.Reads.{Schema, LaidOut}
 use Rattle.archive_check.specs.Tour.{Entry, Region, Contents, contents_one, Seen, Tour, tour_end, tour_unique, tour_new, tour_again, Accepted}
 use Rattle.archive_check.specs.Definitions.{Definitions, listed, Has, Knows}
 use Rattle.archive_check.specs.Unshared.{has_flavors, IsUnshared}
-use Rattle.archive_check.specs.Denotes.{Meaning, Fills, Denotes, IsSharedValue}
+use Rattle.archive_check.specs.Denotes.{Meaning, Fills, Denotes, IsSharedValue, Same, rename}
 use Rattle.archive_check.specs.Tidy.{IsTidy}
 use Rattle.archive_check.proofs.Seen.{same_some}
 use Rattle.archive_check.proofs.Unshared.{Right, contents_right}
+use Rattle.archive_check.proofs.SameMeanings.{rename_same}
+use Rattle.archive_check.proofs.OneList.Twins.{Renamed}
 use Rattle.archive_check.proofs.OneList.Tours.{KnownAlike}
 use Rattle.archive_check.proofs.OneList.Buffers.{buffers_equal}
 pub mod Twins
 pub mod Tours
+pub mod Placed
 pub mod Readings
 pub mod OwnBytes
 pub mod Buffers
@@ -39,21 +42,39 @@ never_met D X s bytes root k u x t e has =
 
 pub one_list : (s : Schema) (D : Definitions) (X : Shape) (m n : Meaning) (start : ℕ) (a b : List ℕ) → Knows s D → IsUnshared D X → IsTidy s a start X m → IsTidy s b start X n → m.value ≡ n.value → take start a ≡ take start b → a ≡ b
 one_list s D X m n start a b k u x y v same =
-    buffers_equal s k.laid_out a b x.small y.small start x.root y.root X x.denotes.accepted y.denotes.accepted m.value same x.denotes.root_value (rw (sym v) at y.denotes.root_value)
-    (λ t e f has had. absurd (never_met D X s a x.root k u x.denotes.accepted t e has)) x.tight x.clean y.tight y.clean
+    let none = never_met D X s a x.root k u x.denotes.accepted in
+    buffers_equal s k.laid_out a b x.small y.small start x.root y.root X x.denotes.accepted y.denotes.accepted (λ t. t) (λ t q e f name has had. absurd (none t e has)) (λ t q e f has had name. name) same
+    x.denotes.root_value y.denotes.root_value (record { is = sym v ∙ sym (rename_same m.value) }) x.tight x.clean y.tight y.clean
 
 -- what a known position says
 known_value : (s : Schema) (bytes : List ℕ) (t : ℕ) (e : Entry) (seen : Option Entry) (known : Option (Entry × Value)) → seen ≡ Some e → IsSharedValue s bytes t seen known → IsSharedValue s bytes t (Some e) known
 known_value s bytes t e seen known same h = rw same at h
 
-same_known : (s : Schema) (a b : List ℕ) (t : ℕ) (e f : Entry) (known : Option (Entry × Value)) → IsSharedValue s a t (Some e) known → IsSharedValue s b t (Some f) known
-    → (e ≡ f) × (v : Value) × (w : Value) × (x : Value) × Contents s a t e.pointee e.length v × Contents s b t e.pointee e.length w × Fills s a v x × Fills s b w x
-same_known s a b t e f known (v, x, c, h, i) (w, y, d, k, j) =
-    let pair : (e, x) ≡ (f, y) = same_some (sym i ∙ j) in
-    let entries : e ≡ f = ap (λ z. z.0) pair in let values : y ≡ x = sym (ap (λ z. z.1) pair) in (entries, v, w, x, c, rw (sym entries) at d, h, rw values at k)
+found_value : (s : Schema) (bytes : List ℕ) (t : ℕ) (e : Entry) (known : Option (Entry × Value)) → IsSharedValue s bytes t (Some e) known → (w : Value) × (known ≡ Some (e, w))
+found_value s bytes t e known (v, w, c, f, h) = (w, h)
 
-pub tidy_unique : (s : Schema) (X : Shape) (m : Meaning) (start : ℕ) (a b : List ℕ) → LaidOut s → IsTidy s a start X m → IsTidy s b start X m → take start a ≡ take start b → a ≡ b
-tidy_unique s X m start a b laid x y same =
-    buffers_equal s laid a b x.small y.small start x.root y.root X x.denotes.accepted y.denotes.accepted m.value same x.denotes.root_value y.denotes.root_value
-    (λ t e f has had. same_known s a b t e f (get m.shared t) (known_value s a t e (get x.denotes.accepted.seen t) (get m.shared t) has (x.denotes.shared t)) (known_value s b t f (get y.denotes.accepted.seen t) (get m.shared t) had (y.denotes.shared t)))
-    x.tight x.clean y.tight y.clean
+same_known : (s : Schema) (a b : List ℕ) (to : ℕ → ℕ) (t u : ℕ) (e f : Entry) (known other : Option (Entry × Value)) → ((g : Entry) (x : Value) → known ≡ Some (g, x) → other ≡ Some (g, rename to x)) → IsSharedValue s a t (Some e) known → IsSharedValue s b u (Some f) other
+    → (e ≡ f) × (v : Value) × (w : Value) × (x : Value) × (y : Value) × Contents s a t e.pointee e.length v × Contents s b u e.pointee e.length w × Fills s a v x × Fills s b w y × Renamed to x y
+same_known s a b to t u e f known other there (v, x, c, h, i) (w, y, d, k, j) =
+    let pair : (e, rename to x) ≡ (f, y) = same_some (sym (there e x i) ∙ j) in
+    let entries : e ≡ f = ap (λ z. z.0) pair in (entries, v, w, x, y, c, rw (sym entries) at d, h, k, record { is = sym (ap (λ z. z.1) pair) })
+
+module _ (s : Schema) (laid : LaidOut s) (X : Shape) (m n : Meaning) (start : ℕ) (a b : List ℕ) (x : IsTidy s a start X m) (y : IsTidy s b start X n) (h : Same m n) where
+  abbrev first : Seen
+  first = x.denotes.accepted.seen
+
+  said : (t : ℕ) (e : Entry) → get first t ≡ Some e → IsSharedValue s a t (Some e) (get m.shared t)
+  said t e has = known_value s a t e (get first t) (get m.shared t) has (x.denotes.shared t)
+
+  back : (t : ℕ) (e : Entry) → get first t ≡ Some e → h.from (h.to t) ≡ t
+  back t e has = let (v, k) = found_value s a t e (get m.shared t) (said t e has) in (h.there t e v k).0
+
+  alike : KnownAlike s a b h.to first y.denotes.accepted.seen
+  alike t u e f name has had =
+      same_known s a b h.to t u e f (get m.shared t) (get n.shared u) (λ g v k. ap (get n.shared) name ∙ (h.there t g v k).1) (said t e has)
+      (known_value s b u f (get y.denotes.accepted.seen u) (get n.shared u) had (y.denotes.shared u))
+
+  pub tidy_unique : take start a ≡ take start b → a ≡ b
+  tidy_unique same =
+      buffers_equal s laid a b x.small y.small start x.root y.root X x.denotes.accepted y.denotes.accepted h.to alike (λ t u e f has had name. sym (back t e has) ∙ ap h.from name ∙ back u f had) same
+      x.denotes.root_value y.denotes.root_value (record { is = h.value }) x.tight x.clean y.tight y.clean

@@ -43,6 +43,7 @@ pub mod SharedPositions
 pub mod RecalledPositions
 pub mod InSubtree
 pub mod Validators
+pub mod VariantsHeld
 pub mod VariantsLayout
 pub mod Faults
 pub mod Viewed

@@ -18,9 +18,6 @@ EntryState = Option (Option Kept)
 abbrev pub Entries : Type 0
 Entries = ℕ → EntryState
 
-abbrev pub nothing_pooled : Entries
-nothing_pooled t = None
-
 -- a start leaves a new position pending, and others as they are
 abbrev pub pooled : EntryState → EntryState
 pooled None = Some None

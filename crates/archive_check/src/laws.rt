@@ -1,7 +1,8 @@
 //! The laws of archives. Each is what a function promises that does nothing, so that the check of this crate proves it. They are laws of our own
 //! definitions, which `specs/Laws.antt` states and docs/DEFINITIONS.md lists.
 
-ghost use Rattle.archive_check.specs.Laws.{MeaningExists, MeaningUnique, AcceptedWhereWalked, FaultyNotWalked, RegionsDisjoint, LeavesInRegions, LeafWritten, PartsReached, ReachedUnique, RootReached, PointersReached, WithinReached, ElementsReached, EncodingUnique, PartsInside, LayoutsExist, LayoutUnique, ReadingUnique, TourUnique, FaultUnique, SameReflexive, SameSymmetric, SameTransitive, PartsReachedMeaning, ReachedMeaningUnique, NamesKnown, RootReachedMeaning, SaidReached, UniqueBefore, KnownWhereWellFormed, NeverCyclic, SharedKnown, TidyUnique, OneList};
+ghost use Rattle.archive_check.specs.LittleEndian.{AreBytes};
+ghost use Rattle.archive_check.specs.Laws.{MeaningExists, MeaningUnique, AcceptedWhereWalked, FaultyNotWalked, RegionsDisjoint, LeavesInRegions, LeafWritten, PartsReached, ReachedUnique, RootReached, PointersReached, WithinReached, ElementsReached, EncodingUnique, PartsInside, LayoutsExist, LayoutUnique, ReadingUnique, TourUnique, FaultWithoutLimit, FaultUnique, SameReflexive, SameSymmetric, SameTransitive, PartsReachedMeaning, ReachedMeaningUnique, NamesKnown, RootReachedMeaning, SaidReached, UniqueBefore, KnownWhereWellFormed, NeverCyclic, SharedKnown, TidyUnique, OneList};
 
 /// An accepted buffer has a meaning.
 pub fn meaning_exists()
@@ -98,6 +99,11 @@ pub fn tour_unique()
     ensures { TourUnique }
 {}
 
+/// A fault other than depth, found under a limit, is found without one: the buffer is no archive at all.
+pub fn fault_without_limit()
+    ensures { FaultWithoutLimit }
+{}
+
 /// A check finds one fault.
 pub fn fault_unique()
     ensures { FaultUnique }
@@ -163,7 +169,7 @@ pub fn shared_known()
     ensures { SharedKnown }
 {}
 
-/// Only one list of bytes, whose first ones are given, has a meaning and is tight and clean from there on. The names in a meaning are positions.
+/// Only one list of bytes, whose first ones are given, has a meaning and is tight and clean from there on, whatever the names in the meaning.
 pub fn tidy_unique()
     ensures { TidyUnique }
 {}
@@ -171,4 +177,10 @@ pub fn tidy_unique()
 /// Only one list of bytes, whose first ones are given, denotes a value of a shape in which nothing is shared and is tight and clean from there on.
 pub fn one_list()
     ensures { OneList }
+{}
+
+/// Each number in a slice of bytes is below 256, as these laws require of what they compare. In proofs a list may have any numbers. A caller of `one_list`
+/// shows it by this call of what `to_bytes` returns. When the program runs this does nothing.
+pub fn bytes_are_small(_bytes: &[u8])
+    ensures { AreBytes _bytes.now }
 {}

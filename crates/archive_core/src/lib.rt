@@ -3,15 +3,16 @@
 
 pub mod api;
 pub mod core_impls;
+pub mod own;
+pub mod pooling;
 pub mod rc;
+pub mod seal;
 pub mod view;
 
 pub use archive_check::format::error;
 pub use archive_check::{context as validation, laws, self_check};
-pub use archive_own::own;
+pub use archive_fields::fields;
 pub use archive_schema::shape;
-pub use archive_seal::seal;
-pub use archive_shared::pooling;
 pub use archive_types::{
     array, boxed, choice, compare, option, parts, place, primitive, record, rel_ptr, result, ser,
     sharing, slice, string, traits, tuples, vec,

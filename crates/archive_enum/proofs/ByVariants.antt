@@ -4,7 +4,7 @@ use Rattle.std.proofs.lemmas.List.{append-nil}
 use Rattle.archive_check.specs.Shape.{Table}
 use Rattle.archive_check.specs.Definitions.{Definitions, both, listed, Extended}
 use Rattle.archive_enum.specs.Choices.{option_definitions}
-use Rattle.archive_enum.specs.Results.{result_definitions}
+use Rattle.archive_enum.specs.ResultShapes.{result_definitions}
 
 -- what is listed alike is added alike
 extended_alike : (D E : Definitions) → listed D ≡ listed E → (old new : Table) → Extended old D new → Extended old E new

@@ -1,6 +1,10 @@
 pub mod Choices
 pub mod Items
 pub mod Lending
-pub mod Results
+pub mod LendingResults
+pub mod ResultShapes
 pub mod StandsFor
 pub mod Orders
+pub use Rattle.archive_check.specs.Definitions
+pub use Rattle.archive_check.specs.PartsLayout
+pub use Rattle.archive_check.specs.Shape

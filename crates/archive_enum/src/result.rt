@@ -1,8 +1,10 @@
 //! A result that lies in an archive.
 
+ghost use Rattle.std.specs.Borrow.{sem};
 ghost use Rattle.std.specs.Prelude.{◌≡◌, is_ok, is_err, IsOk, MatchResult, Ok as OfOk};
 ghost use Rattle.std.specs.Option.{option_copied, option_copied_mut};
-ghost use Rattle.std.specs.Result.{result_ok, result_copied, result_copied_mut, ForErr};
+ghost use Rattle.std.specs.Result.{result_ok, result_err, result_copied, result_copied_mut, ForErr};
+ghost use Rattle.archive_enum.specs.LendingResults.{LendsOkIfAny, LendsErrIfAny};
 ghost use Rattle.archive_enum.specs.StandsFor.{result_of};
 ghost use Rattle.archive_enum.specs.Items.{YieldsItsValue, YieldsItsValueMut};
 
@@ -87,6 +89,28 @@ impl<T, E> ArchivedResult<T, E> {
         }
     }
 
+    /// The value where it lies, to be changed there, if it is an `Ok`. Unlike `as_mut`'s, its contract says what the result ends as. Our own.
+    pub fn ok_mut(&mut self) -> Option<&mut T>
+        ensures* writes_back { sem 𝓛 (LendsOkIfAny T.row E.row self.entry result) }
+        ensures value { option_copied_mut result ≡ result_ok (result_of self.old) }
+    {
+        match self {
+            ArchivedResult::Ok(value) => Some(value),
+            ArchivedResult::Err(_) => None,
+        }
+    }
+
+    /// The error where it lies, to be changed there, if it is an `Err`. Unlike `as_mut`'s, its contract says what the result ends as. Our own.
+    pub fn err_mut(&mut self) -> Option<&mut E>
+        ensures* writes_back { sem 𝓛 (LendsErrIfAny T.row E.row self.entry result) }
+        ensures error { option_copied_mut result ≡ result_err (result_of self.old) }
+    {
+        match self {
+            ArchivedResult::Ok(_) => None,
+            ArchivedResult::Err(error) => Some(error),
+        }
+    }
+
     /// An iterator over the value where it lies, if it is an `Ok`; as `Result::iter`.
     #[tactic(auto, using(crate::proofs::Items::yields_its_value))]
     pub fn iter(&self) -> Iter<&T>
@@ -102,10 +126,7 @@ impl<T, E> ArchivedResult<T, E> {
         ensures item { option_copied_mut result ≡ result_ok (result_of self.old) }
         ensures runs { YieldsItsValueMut T }
     {
-        match self {
-            ArchivedResult::Ok(value) => Iter::new(Some(value)),
-            ArchivedResult::Err(_) => Iter::new(None),
-        }
+        Iter::new(self.ok_mut())
     }
 }
 

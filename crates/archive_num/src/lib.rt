@@ -4,6 +4,9 @@
 
 mod little_endian;
 mod native;
+pub mod offset;
+pub mod owners;
+pub mod repr;
 
 pub use little_endian::LittleEndian;
 pub use native::{Integer, Native};

@@ -46,7 +46,7 @@ pub struct Schema {
 impl Schema {
     ghost use Rattle.std.specs.Prelude.{◌≡◌, ◌≤◌, length, None, false, OnOk, IfOk, IfErr};
     ghost use Rattle.archive_check.specs.declared.format.error.Error.TheVariants.{LayoutTooLarge};
-    ghost use Rattle.archive_schema.specs.Contexts.{AnswersIn};
+    ghost use Rattle.archive_schema.specs.ContextAnswers.{AnswersIn};
     ghost use Rattle.archive_check.specs.Faults.{IsOfCheck};
     ghost use Rattle.archive_check.specs.FreshContexts.{HasLevels, KeepsLevels};
     ghost use Rattle.archive_check.specs.Pushes.{FewPushed};

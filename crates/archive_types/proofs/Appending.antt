@@ -4,7 +4,7 @@ use Rattle.std.proofs.lemmas.List.{append-nil}
 use Rattle.std.specs.FinMap.{get}
 use Rattle.archive_check.specs.Shape.{Shape, Pointee, one}
 use Rattle.archive_check.specs.Layout.{Layout, up, size_of, align_of}
-use Rattle.archive_check.specs.Definitions.{Definitions, no_definition, both, Knows, HasLayout}
+use Rattle.archive_check.specs.Definitions.{Definitions, both, Knows, HasLayout}
 use Rattle.archive_check.specs.Value.{Pointer, Value, number, Values, value, no_value, product, case, box, hole, pointers}
 use Rattle.archive_check.specs.Reads.{Schema}
 use Rattle.archive_check.specs.Tour.{Region, contents_one, Leads, Entry, Seen, tour_end, tour_unique, pointee_size, pointee_align, region_of}
@@ -263,12 +263,6 @@ lays_one D old mid low new ks v x X L t h pads puts here = record {
   clean = λ s bytes k stands. clean_one (rw here (puts.resolved.clean s bytes k (rw (← here) stands)));
   states = puts.states ∙ pads.states;
 }
-
-pub writes_pair : (D E : Definitions) (old mid new : WriterState) (ks ls : List Naming) (v x w y : Value)
-    → Writes D old mid ks v x → Writes E mid new ls w y
-    → Writes (both D (both E no_definition)) old new (ks ++ (ls ++ [])) (product (value v (value w no_value))) (product (value x (value y no_value)))
-writes_pair D E old mid new ks ls v x w y h i =
-    writes_product _ old new _ _ _ (writes_cons D (both E no_definition) old mid new ks (ls ++ []) v x _ _ h (writes_cons E no_definition mid new new ls [] w y _ _ i (writes_none no_definition new)))
 
 pub writes_case : (D : Definitions) (old new : WriterState) (ks : List Naming) (tag : ℕ) (v x : Value)
     → Writes D old new ks v x → Writes D old new ks (case tag (value v no_value)) (case tag (value x no_value))

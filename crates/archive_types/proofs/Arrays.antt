@@ -92,9 +92,6 @@ module _ {A R : Type 0} (D : Definitions) (X : Shape) (L : Layout) (layout : Has
   fills_start q all rs left here these same = rw (here, these) (record { done_all = λ a h. h; hindered = λ e h. h; belongs = same })
 
   module _ (q n : ℕ) (all : Values) (done : List ℕ) (rest others : List A) (left later : List R) (x : A) (r : R) (first : rest ≡ x ∷ others) (its : left ≡ r ∷ later) where
-    pub belongs_first : Fills D X f b p q n all done rest left → b x r
-    belongs_first h = (let c : Fills D X f b p q n all done (x ∷ others) (r ∷ later) = rw (first, its) at h in c.belongs.0)
-
     pub fills_more : (next : ℕ) (a both : List ℕ) → next ≡ q + L.size → both ≡ done ++ a → length a ≡ L.size → Resolves D q a X (f x r) → Fills D X f b p q n all done rest left
         → Fills D X f b p next n all both others later
     fills_more next a both there grown sized step h =

@@ -47,12 +47,14 @@ full_later : (r s : Option ℕ) (xs ys : List ℕ) (cap end : ℕ) → length xs
 full_later None s xs ys cap end le h k = rw h at k
 full_later (Some room) s xs ys cap end le h k = (let m = rw (h.1) at k in (omega (arith, h.0, m.0), m.1))
 
-overflows_later : (reaches whole : ℕ → Type 0) (old mid : WriterState) (count cap position : ℕ) → GoesOn old mid → ((n : ℕ) → reaches n → whole n)
-    → Overflows reaches mid count cap position → Overflows whole old count cap position
-overflows_later reaches whole old mid count cap position g m h = record {
+overflows_later : (reaches whole : ℕ → Type 0) (old mid new : WriterState) (count cap position : ℕ) → GoesOn old mid → ((n : ℕ) → reaches n → whole n)
+    → Overflows reaches mid new count cap position → Overflows whole old new count cap position
+overflows_later reaches whole old mid new count cap position g m h = record {
   behind = omega (arith, h.behind, begins_shorter _ _ g.kept);
+  held = h.held;
   planned = m (position + count) h.planned;
   full = full_later old.room mid.room old.bytes mid.bytes cap (position + count) (begins_shorter _ _ g.kept) g.room h.full;
+  left = h.left;
 }
 
 failed_later : (a b c : ℕ) → a ≤ b → b ≤ c → (b < c) ⊎ (b ≡ 2 ^ 64 - 1) → (a < c) ⊎ (a ≡ 2 ^ 64 - 1)
@@ -63,7 +65,7 @@ failed_later a b c le ge (inr h) = elim (cases_lt a b) [ inl l ↦ inl (omega ar
 pub explains_later : (own all : Error → Type 0) (reaches whole : ℕ → Type 0) (old mid new : WriterState) (e : Error) → GoesOn old mid → GoesOn mid new
     → (own e → all e) → ((n : ℕ) → reaches n → whole n) → Explains own reaches mid new e → Explains all whole old new e
 explains_later own all reaches whole old mid new e g k f m no_memory = no_memory
-explains_later own all reaches whole old mid new e g k f m (no_room h) = no_room (overflows_later reaches whole old mid _ _ _ g m h)
+explains_later own all reaches whole old mid new e g k f m (no_room h) = no_room (overflows_later reaches whole old mid new _ _ _ g m h)
 explains_later own all reaches whole old mid new e g k f m (device_failed h) = device_failed (failed_later old.failures mid.failures new.failures g.device k.device h)
 explains_later own all reaches whole old mid new e g k f m (own_cause h) = own_cause (f h)
 
@@ -71,9 +73,14 @@ explains_later own all reaches whole old mid new e g k f m (own_cause h) = own_c
 pub explains_sooner : (own all : Error → Type 0) (reaches whole : ℕ → Type 0) (old new : WriterState) (e : Error) → (own e → all e) → ((n : ℕ) → reaches n → whole n)
     → Explains own reaches old new e → Explains all whole old new e
 explains_sooner own all reaches whole old new e f m no_memory = no_memory
-explains_sooner own all reaches whole old new e f m (no_room h) = no_room (record { behind = h.behind; planned = m _ h.planned; full = h.full })
+explains_sooner own all reaches whole old new e f m (no_room h) = no_room (record { behind = h.behind; held = h.held; planned = m _ h.planned; full = h.full; left = h.left })
 explains_sooner own all reaches whole old new e f m (device_failed h) = device_failed h
 explains_sooner own all reaches whole old new e f m (own_cause h) = own_cause (f h)
+
+left_now : (r s : Option ℕ) (xs ys : List ℕ) (n count begin cap : ℕ) → RoomFalls r s xs ys → count ≡ n → IsSomeAnd r (λ room. (room < n) × (cap ≡ begin + room))
+    → IsSomeAnd s (λ room. room < count)
+left_now None s xs ys n count begin cap falls e h = absurd h
+left_now (Some room) s xs ys n count begin cap falls e h = rw (falls.1) (omega (arith, h.0, e))
 
 full_now : (r : Option ℕ) (n begin len count cap position : ℕ) → begin ≡ len → count ≡ n → position ≡ begin
     → IsSomeAnd r (λ room. (room < n) × (cap ≡ begin + room)) → IsSomeAnd r (λ room. (cap ≡ len + room) × (cap < position + count))
@@ -81,44 +88,46 @@ full_now None n begin len count cap position e f g h = absurd h
 full_now (Some room) n begin len count cap position e f g h = (omega (arith, h.1), omega (arith, h.0, h.1))
 
 -- a write of n bytes was refused
-pub explains_write : (own : Error → Type 0) (reaches : ℕ → Type 0) (n position : ℕ) (old new : WriterState) (e : Error) → position ≡ length old.bytes → reaches (position + n)
+pub explains_write : (own : Error → Type 0) (reaches : ℕ → Type 0) (n position : ℕ) (old new : WriterState) (e : Error) → position ≡ length old.bytes → reaches (position + n) → GoesOn old new
     → ExplainsRefusal n position old.room old.failures new.failures e → Explains own reaches old new e
-explains_write own reaches n position old new OutOfMemory here fits h = no_memory
-explains_write own reaches n position old new (BufferOverflow count cap at) here fits h = no_room (record {
+explains_write own reaches n position old new OutOfMemory here fits g h = no_memory
+explains_write own reaches n position old new (BufferOverflow count cap at) here fits g h = no_room (record {
   behind = omega (arith, h.1, here);
+  held = omega (arith, h.1, here, begins_shorter _ _ g.kept);
   planned = rw (h.0, h.1) fits;
   full = full_now old.room n position (length old.bytes) count cap at here h.0 h.1 h.2;
+  left = left_now old.room new.room old.bytes new.bytes n count position cap g.room h.0 h.2;
 })
-explains_write own reaches n position old new WriterFailed here fits h = device_failed h
-explains_write own reaches n position old new IsizeOverflow here fits h = absurd h
-explains_write own reaches n position old new OffsetOverflow here fits h = absurd h
-explains_write own reaches n position old new PositionTooLarge here fits h = absurd h
-explains_write own reaches n position old new LengthTooLarge here fits h = absurd h
-explains_write own reaches n position old new NumberTooLarge here fits h = absurd h
-explains_write own reaches n position old new StringTooLong here fits h = absurd h
-explains_write own reaches n position old new ItemWrote here fits h = absurd h
-explains_write own reaches n position old new CyclicSerialize here fits h = absurd h
-explains_write own reaches n position old new CyclicValidate here fits h = absurd h
-explains_write own reaches n position old new CyclicDeserialize here fits h = absurd h
-explains_write own reaches n position old new NotStarted here fits h = absurd h
-explains_write own reaches n position old new AlreadyFinished here fits h = absurd h
-explains_write own reaches n position old new ExceededMaximumSubtreeDepth here fits h = absurd h
-explains_write own reaches n position old new RangePoppedTooManyTimes here fits h = absurd h
-explains_write own reaches n position old new RangePoppedOutOfOrder here fits h = absurd h
-explains_write own reaches n position old new TypeMismatch here fits h = absurd h
-explains_write own reaches n position old new MetadataMismatch here fits h = absurd h
-explains_write own reaches n position old new LayoutTooLarge here fits h = absurd h
-explains_write own reaches n position old new InvalidBool here fits h = absurd h
-explains_write own reaches n position old new InvalidChar here fits h = absurd h
-explains_write own reaches n position old new ZeroNumber here fits h = absurd h
-explains_write own reaches n position old new InvalidUtf8 here fits h = absurd h
-explains_write own reaches n position old new InvalidStringRepr here fits h = absurd h
-explains_write own reaches n position old new ShapeConflict here fits h = absurd h
-explains_write own reaches n position old new RecursiveLayout here fits h = absurd h
-explains_write own reaches n position old new UnsortedKeys here fits h = absurd h
-explains_write own reaches n position old new (InvalidSubtreePointer a b c d) here fits h = absurd h
-explains_write own reaches n position old new (UnalignedPointer a b) here fits h = absurd h
-explains_write own reaches n position old new (InvalidDiscriminant a b) here fits h = absurd h
+explains_write own reaches n position old new WriterFailed here fits g h = device_failed h
+explains_write own reaches n position old new IsizeOverflow here fits g h = absurd h
+explains_write own reaches n position old new OffsetOverflow here fits g h = absurd h
+explains_write own reaches n position old new PositionTooLarge here fits g h = absurd h
+explains_write own reaches n position old new LengthTooLarge here fits g h = absurd h
+explains_write own reaches n position old new NumberTooLarge here fits g h = absurd h
+explains_write own reaches n position old new StringTooLong here fits g h = absurd h
+explains_write own reaches n position old new ItemWrote here fits g h = absurd h
+explains_write own reaches n position old new CyclicSerialize here fits g h = absurd h
+explains_write own reaches n position old new CyclicValidate here fits g h = absurd h
+explains_write own reaches n position old new CyclicDeserialize here fits g h = absurd h
+explains_write own reaches n position old new NotStarted here fits g h = absurd h
+explains_write own reaches n position old new AlreadyFinished here fits g h = absurd h
+explains_write own reaches n position old new ExceededMaximumSubtreeDepth here fits g h = absurd h
+explains_write own reaches n position old new RangePoppedTooManyTimes here fits g h = absurd h
+explains_write own reaches n position old new RangePoppedOutOfOrder here fits g h = absurd h
+explains_write own reaches n position old new TypeMismatch here fits g h = absurd h
+explains_write own reaches n position old new MetadataMismatch here fits g h = absurd h
+explains_write own reaches n position old new LayoutTooLarge here fits g h = absurd h
+explains_write own reaches n position old new InvalidBool here fits g h = absurd h
+explains_write own reaches n position old new InvalidChar here fits g h = absurd h
+explains_write own reaches n position old new ZeroNumber here fits g h = absurd h
+explains_write own reaches n position old new InvalidUtf8 here fits g h = absurd h
+explains_write own reaches n position old new InvalidStringRepr here fits g h = absurd h
+explains_write own reaches n position old new ShapeConflict here fits g h = absurd h
+explains_write own reaches n position old new RecursiveLayout here fits g h = absurd h
+explains_write own reaches n position old new UnsortedKeys here fits g h = absurd h
+explains_write own reaches n position old new (InvalidSubtreePointer a b c d) here fits g h = absurd h
+explains_write own reaches n position old new (UnalignedPointer a b) here fits g h = absurd h
+explains_write own reaches n position old new (InvalidDiscriminant a b) here fits g h = absurd h
 
 pub explains_own : (own : Error → Type 0) (reaches : ℕ → Type 0) (old new : WriterState) (e : Error) → own e → Explains own reaches old new e
 explains_own own reaches old new e h = own_cause h

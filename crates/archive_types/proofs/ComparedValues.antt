@@ -10,7 +10,7 @@ use Rattle.archive_check.specs.Reads.{bytes_at}
 use Rattle.archive_check.specs.Readable.{string_text}
 use Rattle.archive_check.specs.Definitions.{Definitions, HasLayout, IsAlign, both}
 use Rattle.archive_enum.specs.Choices.{option_shape}
-use Rattle.archive_enum.specs.Results.{result_shape}
+use Rattle.archive_enum.specs.ResultShapes.{result_shape}
 use Rattle.archive_types.specs.Compared.{Standing, standing, elements, slice_of, value_of, option_order, result_in, result_order}
 use Rattle.archive_types.specs.Options.{option_meaning}
 use Rattle.archive_types.specs.Results.{result_meaning}

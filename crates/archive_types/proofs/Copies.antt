@@ -117,7 +117,7 @@ module _ {A : Type 0} (D : Definitions) (X : Shape) (size : ℕ) (m : A → Valu
         let many : (length piece + length later) * size ≡ length piece * size + length later * size = add-mul (length piece) (length later) size in
         explains_later (λ x. ⊥) (λ x. ⊥) (λ n. n ≤ end) _ first now new e c.goes g (λ x. x) (λ n x. x)
         (explains_write (λ x. ⊥) (λ n. n ≤ end) (length piece * size) position now new e here
-        (omega (arith, here, whole, c.ends, many, ap (λ z. z * size) (length-append piece later))) refused)
+        (omega (arith, here, whole, c.ends, many, ap (λ z. z * size) (length-append piece later))) g refused)
 
     -- none is left
     pub copies_written : (rest : List A) → length rest ≡ 0 → Copies D X size m b first now all rest → now.bytes ≡ first.bytes ++ each_bytes b all
@@ -136,9 +136,6 @@ pub record FirstCopied {A : Type 0} (D : Definitions) (X : Shape) (size : ℕ) (
   pub read : EachCopied D X size m b (take n all)
 
 module _ {A : Type 0} (D : Definitions) (X : Shape) (size : ℕ) (m : A → Value) (b : A → List ℕ) (first now : WriterState) (all : List A) where
-  pub first_none : (w : WriterState) → w ≡ first → FirstCopied D X size m b first w all 0
-  first_none w e = rw e (record { goes = goes_nowhere first; states = λ k. refl; bytes = sym (append-nil first.bytes); read = tt })
-
   pub first_more : (next : WriterState) (n k : ℕ) (piece : List A) → piece ≡ take k (drop n all) → FirstCopied D X size m b first now all n → EachCopied D X size m b piece
       → next.bytes ≡ now.bytes ++ each_bytes b piece → GoesOn now next → KeepsKeys now.states next.states → FirstCopied D X size m b first next all (n + k)
   first_more next n k piece is h read grown g keys =
@@ -236,9 +233,9 @@ copy_refused_later L n old mid new p q size e here there same grown g k h =
     explains_later _ _ _ _ old mid new e g k (λ x. (x.0, omega (arith, x.1, whole))) (λ m x. omega (arith, x, whole)) h
 
 -- or they aren't
-pub copy_not_padded : (L : Layout) (n : ℕ) (old new : WriterState) (p : ℕ) (e : Error) → p ≡ length old.bytes → ExplainsRefusal (padding L.align p) p old.room old.failures new.failures e
+pub copy_not_padded : (L : Layout) (n : ℕ) (old new : WriterState) (p : ℕ) (e : Error) → p ≡ length old.bytes → GoesOn old new → ExplainsRefusal (padding L.align p) p old.room old.failures new.failures e
     → IsCopyRefused (copies_to L n p) old new e
-copy_not_padded L n old new p e here h = explains_write _ (λ m. m ≤ copies_to L n p) (padding L.align p) p old new e here (omega arith) h
+copy_not_padded L n old new p e here g h = explains_write _ (λ m. m ≤ copies_to L n p) (padding L.align p) p old new e here (omega arith) g h
 
 -- behind the old bytes stand the zeros and what is copied
 pub behind_written : (r : Result ℕ Error) (L : Layout) (p : ℕ) (old mid new bytes : List ℕ) → p ≡ length old → mid ≡ old ++ replicate (padding L.align p) 0 → OnOk r (new ≡ mid ++ bytes)

@@ -18,9 +18,6 @@ below {x} {y} l = sym (nat_cmp_is x y Less l)
 above : {x y : ℕ} → y < x → nat_cmp x y ≡ Greater
 above {x} {y} l = sym (nat_cmp_is x y Greater l)
 
-level : (x : ℕ) → nat_cmp x x ≡ Equal
-level x = sym (nat_cmp_is x x Equal refl)
-
 -- a lesser number in front stays lesser, whatever bytes are appended to both
 rises : (n a b : ℕ) (us vs : List ℕ) → n ≤ length us → n ≤ length vs → Bytes us → a < b → big_endian a (take n us) < big_endian b (take n vs)
 rises zero a b us vs p q h l = l

@@ -17,9 +17,6 @@ use Rattle.archive_types.proofs.PartsShown.{one_within}
 use Rattle.archive_types.proofs.ReadElements.{FirstElements, HasElements, elements_none, elements_more}
 
 module _ {A : Type 0} (D : Definitions) (bytes : List ℕ) (q z : ℕ) (P : Pointee) (meaning : A → Value) (i : ℕ) where
-  pub said_none : (xs : List A) → AreSaid D bytes q z P meaning i 0 xs
-  said_none xs = λ k d below. absurd (omega (arith, below))
-
   one_more : (n : ℕ) (xs ys : List A) (x : A) → AreSaid D bytes q z P meaning i n xs → ((k : ℕ) (d : A) → k < n → slice_index_or ys k d ≡ slice_index_or xs k d)
       → ((d : A) → slice_index_or ys n d ≡ x) → Says D bytes (q + (i + n) * z) P 0 (meaning x) → AreSaid D bytes q z P meaning i (n + 1) ys
   one_more n xs ys x said same last says = λ k d below. ⊎_elim

@@ -40,7 +40,7 @@ put_there {low = low} pads puts at = record { low = low; pads = pads; at = at; p
 
 pub padding_number : (n position : ℕ) {mid new : WriterState} {e : Error} → position ≡ length mid.bytes → GoesOn mid new → ExplainsRefusal n position mid.room mid.failures new.failures e → IsOfWriting e
 padding_number n position {mid = mid} {new = new} {e = e} at g refusal =
-    explains_named (λ d. ⊥) (λ m. Unit {0}) mid new e (λ d h. absurd h) (explains_write (λ d. ⊥) (λ m. Unit {0}) n position mid new e at tt refusal)
+    explains_named (λ d. ⊥) (λ m. Unit {0}) mid new e (λ d h. absurd h) (explains_write (λ d. ⊥) (λ m. Unit {0}) n position mid new e at tt g refusal)
 
 region_named : (D : Definitions) (X : Shape) (L : Layout) (flat : Value) (p : ℕ) (d : Error) → HindersRegionAt D X L flat p d → IsOwnCause d
 region_named D X L flat p d (inl h) = rw h.0 of_layout

@@ -26,12 +26,14 @@ pub mod SharedWritten
 pub mod SharedViews
 pub mod SharedBytes
 pub mod KeyStates
+pub mod KnownParts
 pub mod ShortTexts
 pub mod Pointers
 pub mod Records
 pub mod Owned
 pub mod OwnersWritten
 pub mod PartBytes
+pub mod PlacedParts
 pub mod PartsShown
 pub mod ArraysShown
 pub mod Arrays
@@ -47,6 +49,7 @@ pub mod Nothing
 pub mod ResolvedVariants
 pub mod OwnersRead
 pub mod Copies
+pub mod ArrayBytes
 pub mod ArrayCopies
 pub mod CopiedLeaves
 pub mod SilentPlans
@@ -55,3 +58,5 @@ pub mod SaidOrder
 pub mod FollowedPointers
 pub mod OneReading
 pub mod MeantOrder
+pub mod OneLengths
+pub mod ArrayRegions

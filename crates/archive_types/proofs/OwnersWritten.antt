@@ -12,8 +12,8 @@ use Rattle.archive_check.specs.Reads.{u32_at, i32_at, length_at, pointer_at, Rea
 use Rattle.archive_check.specs.CleanRegions.{Occurs, clean_boxed, clean_vec}
 use Rattle.archive_check.specs.declared.format.error.Error.{Error}
 use Rattle.archive_check.proofs.StandingBytes.{stands_front, stands_back, stands_bytes}
-use Rattle.archive_pointers.specs.Offsets.{distance, IsTooFar}
-use Rattle.archive_pointers.specs.OwnerBytes.{owner_bytes}
+use Rattle.archive_num.specs.Offsets.{distance, IsTooFar}
+use Rattle.archive_num.specs.OwnerBytes.{owner_bytes}
 use Rattle.archive_types.specs.Writing.{Resolves, to_pointee}
 use Rattle.archive_types.specs.Causes.{IsOwner, owner_box, owner_vec, part_itself, too_far_from_here, HindersAt}
 use Rattle.archive_types.proofs.Planned.{own_if_too_far}

@@ -18,7 +18,7 @@ use Rattle.archive_check.proofs.PartsInside.{up_le}
 use Rattle.archive_check.proofs.PositiveAlignments.{align_pos}
 use Rattle.archive_write.specs.Written.{GoesOn, padding, ExplainsRefusal}
 use Rattle.archive_write.proofs.Padding.{padded}
-use Rattle.archive_pointers.specs.Offsets.{distance, IsTooFar}
+use Rattle.archive_num.specs.Offsets.{distance, IsTooFar}
 use Rattle.archive_types.specs.Strings.{to_text, string_flat}
 use Rattle.archive_types.specs.Planned.{text_region}
 use Rattle.archive_types.specs.PlannedOwners.{one_plan}
@@ -68,9 +68,9 @@ long_text_refused D old new bs long = own_cause (record {
 })
 
 pub text_refused : (D : Definitions) (old new : WriterState) (bs : List ℕ) (position : ℕ) (e : Error) → position ≡ length old.bytes
-    → ExplainsRefusal (length bs) position old.room old.failures new.failures e → IsRegionRefused D text (length bs) [] (text_value bs) old new e
-text_refused D old new bs position e here h =
-    explains_write _ _ (length bs) position old new e here (λ below s names k n. text_region s names bs (cursor old) _ (omega (arith, here))) h
+    → GoesOn old new → ExplainsRefusal (length bs) position old.room old.failures new.failures e → IsRegionRefused D text (length bs) [] (text_value bs) old new e
+text_refused D old new bs position e here g h =
+    explains_write _ _ (length bs) position old new e here (λ below s names k n. text_region s names bs (cursor old) _ (omega (arith, here))) g h
 
 -- strings
 
@@ -184,7 +184,7 @@ module _ (D : Definitions) (X : Shape) (ks : List Naming) (v : Value) where
       let q = planned below s names l n in
       let t : ℕ = up q.stop.position (align_of s.layouts X) in
       let there : up position L.align ≡ t = ap (λ m. up m L.align) (here ∙ q.such.1.position) ∙ ap (up q.stop.position) (sym (align_is layout s l)) in
-      one_plan D X ks v s names (cursor old) _ _ q t refl (omega (arith, padded position L.align is, there)))) refused)
+      one_plan D X ks v s names (cursor old) _ _ q t refl (omega (arith, padded position L.align is, there)))) k refused)
 
   -- nor its own region
   pub one_hindered : (flat : Value) (L : Layout) (old mid low new : WriterState) (e : Error) → HasLayout D X L → Serialized D X ks v flat old mid → Pads L.align mid low

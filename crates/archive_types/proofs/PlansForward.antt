@@ -1,77 +1,22 @@
--- A plan goes on: it ends no earlier than it begins, and its regions lie one close behind another in between.
-use Rattle.std.proofs.Common.{◌≡◌, inl, inr, ℕ, zero, suc, ◌+◌, ◌<◌, ◌≤◌, List, [], ◌∷◌, ◌++◌, refl, sym, ap, ◌∙◌, arith, Bool, true, cond, ◌&&◌, nat_eq, Some, None}
+-- A plan goes on: it ends no earlier than it begins.
+use Rattle.std.proofs.Common.{◌≡◌, inl, inr, ℕ, zero, suc, ◌+◌, ◌<◌, ◌≤◌, List, sym, ◌∙◌, arith, Bool, true, cond, ◌&&◌, nat_eq, Some, None}
 use Rattle.std.proofs.lemmas.Bool.{cases_eq}
 use Rattle.std.proofs.lemmas.Map.{update_here, update_apart}
 use Rattle.archive_check.specs.Shape.{Shape, one, run, text, Pointee, Flavor, Parts}
-use Rattle.archive_check.specs.Layout.{up}
 use Rattle.archive_check.specs.Value.{Value, Values}
 use Rattle.archive_check.specs.Reads.{Schema, LaidOut}
-use Rattle.archive_check.specs.Tour.{Region, pointee_size, pointee_align, region_at}
-use Rattle.archive_check.specs.Tightness.{Tight, after}
+use Rattle.archive_check.specs.Tour.{pointee_size, pointee_align}
 use Rattle.archive_check.proofs.PartsInside.{up_le}
 use Rattle.archive_check.proofs.PositiveAlignments.{align_pos}
-use Rattle.archive_check.proofs.Tightness.{tight_append}
 use Rattle.archive_types.specs.Writing.{NameMap}
-use Rattle.archive_types.specs.Plans.{Cursor, AreBelow, begun, ended, Step, lays, meets, Plans, plans_leaf, plans_parts, plans_choice, plans_array, plans_boxed, plans_vec, plans_inline, plans_out_of_line, plans_shared, plans_null, plans_weak, plans_named, PlansParts, plans_no_part, plans_part, PlansRun, plans_none, plans_element, PlansPointee, plans_one, plans_run, plans_text, PlansRegion, plans_region, PlansShared, plans_new, plans_finished, plans_pending}
-
--- the regions that are written, in order
-abbrev pub laid : List Step → List Region
-laid [] = []
-laid (lays r v ∷ C) = r ∷ laid C
-laid (meets key ∷ C) = laid C
-
-laid_append : (C D : List Step) → laid (C ++ D) ≡ laid C ++ laid D
-laid_append [] D = refl
-laid_append (lays r v ∷ C) D = ap (λ R. r ∷ R) (laid_append C D)
-laid_append (meets key ∷ C) D = laid_append C D
-
-tight_both : (C D : List Step) (a b c : ℕ) → Tight a (laid C) b → Tight b (laid D) c → Tight a (laid (C ++ D)) c
-tight_both C D a b c h i = rw (laid_append C D) (tight_append a (laid C) b (laid D) c h i)
+use Rattle.archive_types.specs.Plans.{Cursor, AreBelow, begun, ended, Step, Plans, plans_leaf, plans_parts, plans_choice, plans_array, plans_boxed, plans_vec, plans_inline, plans_out_of_line, plans_shared, plans_null, plans_weak, plans_named, PlansParts, plans_no_part, plans_part, PlansRun, plans_none, plans_element, PlansPointee, plans_one, plans_run, plans_text, PlansRegion, plans_region, PlansShared, plans_new, plans_finished, plans_pending}
 
 pub pointee_align_low : (s : Schema) → LaidOut s → (P : Pointee) → 1 ≤ pointee_align s P
 pointee_align_low s l (one X) = align_pos s.layouts l.aligned X
 pointee_align_low s l (run X) = align_pos s.layouts l.aligned X
 pointee_align_low s l text = omega arith
 
--- what is written lies close together
-mutual
-  pub plans_tight : (s : Schema) (names : NameMap) {X : Shape} {v w : Value} {a b : Cursor} {C : List Step} → Plans s names X v a w C b → Tight a.position (laid C) b.position
-  plans_tight s names plans_leaf = refl
-  plans_tight s names (plans_parts h) = parts_tight s names h
-  plans_tight s names (plans_choice is h) = parts_tight s names h
-  plans_tight s names (plans_array h) = run_tight s names h
-  plans_tight s names (plans_boxed h) = region_tight s names h
-  plans_tight s names (plans_vec h) = region_tight s names h
-  plans_tight s names (plans_inline few) = refl
-  plans_tight s names (plans_out_of_line long h) = region_tight s names h
-  plans_tight s names (plans_shared h) = shared_tight s names h
-  plans_tight s names plans_null = refl
-  plans_tight s names (plans_weak h) = shared_tight s names h
-  plans_tight s names (plans_named is h) = plans_tight s names h
-
-  pub parts_tight : (s : Schema) (names : NameMap) {ps : Parts} {vs ws : Values} {a b : Cursor} {C : List Step} → PlansParts s names ps vs a ws C b → Tight a.position (laid C) b.position
-  parts_tight s names plans_no_part = refl
-  parts_tight s names (plans_part {a = a} {b = b} {c = c} {C = C} {D = D} h i) = tight_both C D a.position b.position c.position (plans_tight s names h) (parts_tight s names i)
-
-  pub run_tight : (s : Schema) (names : NameMap) {n : ℕ} {X : Shape} {vs ws : Values} {a b : Cursor} {C : List Step} → PlansRun s names n X vs a ws C b → Tight a.position (laid C) b.position
-  run_tight s names plans_none = refl
-  run_tight s names (plans_element {a = a} {b = b} {c = c} {C = C} {D = D} h i) = tight_both C D a.position b.position c.position (plans_tight s names h) (run_tight s names i)
-
-  pub pointee_tight : (s : Schema) (names : NameMap) {P : Pointee} {n : ℕ} {v w : Value} {a b : Cursor} {C : List Step} → PlansPointee s names P n v a w C b → Tight a.position (laid C) b.position
-  pointee_tight s names (plans_one h) = plans_tight s names h
-  pointee_tight s names (plans_run h) = run_tight s names h
-  pointee_tight s names plans_text = refl
-
-  pub region_tight : (s : Schema) (names : NameMap) {is_shared : Bool} {P : Pointee} {n t : ℕ} {v : Value} {a b : Cursor} {C : List Step} → PlansRegion s names is_shared P n v a t C b → Tight a.position (laid C) b.position
-  region_tight s names (plans_region {is_shared = is_shared} {P = P} {n = n} {t = t} {w = w} {a = a} {b = b} {C = C} h at) =
-      tight_both C (lays (region_at s t P n is_shared) w ∷ []) a.position b.position (after (region_at s t P n is_shared)) (pointee_tight s names h) (at, refl)
-
-  pub shared_tight : (s : Schema) (names : NameMap) {flavor : Flavor} {P : Pointee} {key : ℕ} {w : Value} {a b : Cursor} {C : List Step} → PlansShared s names flavor P key a w C b → Tight a.position (laid C) b.position
-  shared_tight s names (plans_new none is h) = region_tight s names h
-  shared_tight s names (plans_finished at is) = refl
-  shared_tight s names (plans_pending at) = refl
-
--- and a plan ends no earlier than it begins
+-- a plan ends no earlier than it begins
 mutual
   pub plans_forward : (s : Schema) (l : LaidOut s) (names : NameMap) {X : Shape} {v w : Value} {a b : Cursor} {C : List Step} → Plans s names X v a w C b → a.position ≤ b.position
   plans_forward s l names plans_leaf = omega arith

@@ -15,11 +15,11 @@ use Rattle.archive_check.specs.Definitions.{Definitions, no_definition, HasLayou
 use Rattle.archive_check.specs.Viewed.{Viewed}
 use Rattle.archive_check.proofs.LittleEndian.{from_le_bytes-little, little_number-lt, pow_bits}
 use Rattle.archive_check.proofs.Viewed.{lies_fits}
-use Rattle.archive_num.specs.Leaves.{number-leaf, unsigned-reads, signed-reads}
-use Rattle.archive_pointers.specs.OffsetWidths.{IsOffsetWidth}
+use Rattle.archive_num.specs.NumberLaws.{number-leaf, unsigned-reads, signed-reads}
+use Rattle.archive_num.specs.OffsetWidths.{IsOffsetWidth}
 use Rattle.archive_types.specs.RelativePointers.{rel_parts, rel_layout, length_begin}
 use Rattle.archive_types.specs.RelativeLayout.{rel_has_layout}
-use Rattle.archive_pointers.specs.Offsets.{Fits, offset_bytes, as_isize}
+use Rattle.archive_num.specs.Offsets.{Fits, offset_bytes, as_isize}
 
 -- z fits, and these are its bytes
 pub record IsOffset (sign : Sign) (width : Width) (bs : List ℕ) (z : ℤ) : Type 0 where

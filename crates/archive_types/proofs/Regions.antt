@@ -8,7 +8,7 @@ use Rattle.archive_check.specs.Value.{Value}
 use Rattle.archive_check.specs.WriterState.{WriterState, KeepsKeys}
 use Rattle.archive_check.specs.declared.format.error.Error.{Error}
 use Rattle.archive_check.specs.declared.format.error.Error.TheVariants.{LayoutTooLarge}
-use Rattle.archive_write.specs.Written.{ExplainsRefusal}
+use Rattle.archive_write.specs.Written.{ExplainsRefusal, GoesOn}
 use Rattle.archive_write.proofs.Padding.{zeroed_replicate}
 use Rattle.archive_types.specs.Writing.{Resolves, Puts, ZeroedPlace}
 use Rattle.archive_types.specs.Causes.{Explains, own_cause, HindersAt, HindersRegionAt}
@@ -43,9 +43,9 @@ pub region_hindered : (D : Definitions) (X : Shape) (L : Layout) (v : Value) (p 
 region_hindered D X L v p q reaches old new e here h = own_cause (inr (rw here at h))
 
 pub region_refused : (D : Definitions) (X : Shape) (L : Layout) (v : Value) (n p : ℕ) (old new : WriterState) (e : Error) → p ≡ length old.bytes → n ≡ L.size
-    → ExplainsRefusal n p old.room old.failures new.failures e
+    → GoesOn old new → ExplainsRefusal n p old.room old.failures new.failures e
     → Explains (HindersRegionAt D X L v (length old.bytes)) (λ m. m ≤ length old.bytes + L.size) old new e
-region_refused D X L v n p old new e here sized h = explains_write _ _ n p old new e here (omega (arith, here, sized)) h
+region_refused D X L v n p old new e here sized g h = explains_write _ _ n p old new e here (omega (arith, here, sized)) g h
 
 pub sum_fits : (o : Option ℕ) (P : Type 0) (n : ℕ) → SomeIff o P n → is_some o ≡ true → P
 sum_fits None P n h e = cc

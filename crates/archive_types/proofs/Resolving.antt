@@ -12,7 +12,7 @@ use Rattle.archive_check.proofs.StandingBytes.{stands_bytes}
 use Rattle.archive_check.specs.LittleEndian.{little_bytes, little_number}
 use Rattle.archive_num.specs.Digits.{is_zero}
 use Rattle.archive_check.proofs.LittleEndian.{length-little_bytes}
-use Rattle.archive_num.specs.Leaves.{unsigned-value, unsigned-number, signed-value, signed-number, number-leaf}
+use Rattle.archive_num.specs.NumberLaws.{unsigned-value, unsigned-number, signed-value, signed-number, number-leaf}
 use Rattle.archive_types.specs.Writing.{Resolves}
 
 pub resolves_leaf : (D : Definitions) (p : ℕ) (a : List ℕ) (kind : Kind) → IsLegal kind a → Resolves D p a (leaf kind) (number (kind_value kind a))

@@ -250,7 +250,7 @@ module _ (D : Definitions) (X : Shape) (n : ℕ) (ks : List Naming) (vs : Values
       let q = planned below s names l m in
       let t : ℕ = up q.stop.position (align_of s.layouts X) in
       let there : up position L.align ≡ t = ap (λ p. up p L.align) (here ∙ q.such.1.position) ∙ ap (up q.stop.position) (sym (align_is layout s l)) in
-      run_plan D X n ks vs s names (cursor old) _ _ q t refl (omega (arith, padded position L.align is, there)))) refused)
+      run_plan D X n ks vs s names (cursor old) _ _ q t refl (omega (arith, padded position L.align is, there)))) k refused)
 
   -- nor the elements
   pub run_hindered : (ws : Values) (L : Layout) (old mid low new : WriterState) (e : Error) → HasLayout D X L → SerializedRun D X n ks vs ws old mid → Pads L.align mid low

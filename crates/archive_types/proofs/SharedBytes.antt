@@ -13,8 +13,8 @@ use Rattle.archive_check.specs.CleanRegions.{Occurs, clean_shared, clean_null, c
 use Rattle.archive_check.specs.declared.format.error.Error.{Error}
 use Rattle.archive_check.specs.declared.format.error.Error.TheVariants.{OffsetOverflow}
 use Rattle.archive_check.proofs.StandingBytes.{stands_front, stands_back, stands_bytes}
-use Rattle.archive_pointers.specs.Offsets.{distance, IsTooFar}
-use Rattle.archive_pointers.specs.OwnerBytes.{owner_bytes}
+use Rattle.archive_num.specs.Offsets.{distance, IsTooFar}
+use Rattle.archive_num.specs.OwnerBytes.{owner_bytes}
 use Rattle.archive_types.specs.Writing.{Resolves, to_shared}
 use Rattle.archive_types.specs.Causes.{IsOwner, owner_shared, owner_weak, part_itself, too_far_from_here, looks_null, HindersAt, of_offset}
 use Rattle.archive_types.proofs.Planned.{own_if_too_far}

@@ -1,5 +1,5 @@
 -- How the writing of a shared value goes, from that of its pointee.
-use Rattle.std.proofs.Common.{◌≡◌, inl, inr, ℕ, length, refl, sym, ap, subst, ◌∙◌, arith, List, Option, Some, None, is_some, nat_eq, Result, Ok, Err}
+use Rattle.std.proofs.Common.{◌≡◌, inl, inr, ℕ, length, refl, sym, ap, subst, ◌∙◌, List, Some, None, is_some, nat_eq, Result, Ok, Err}
 use Rattle.std.specs.Map.{update}
 use Rattle.std.proofs.lemmas.Bool.{cases_eq}
 use Rattle.archive_check.specs.Shape.{Pointee}
@@ -14,10 +14,10 @@ use Rattle.archive_check.specs.PositionStates.{finish_answer}
 use Rattle.archive_write.specs.declared.sharing.SharingState.{SharingState}
 use Rattle.archive_write.specs.declared.sharing.SharingState.TheVariants.{Started, Pending}
 use Rattle.archive_types.specs.Writing.{Naming, LaysOut}
-use Rattle.archive_types.specs.Plans.{Cursor, cursor, begun, IsAt, LiesAsPlanned, SerializedRegion, serialized_region, SerializedShared, serialized_shared}
-use Rattle.archive_types.specs.Causes.{Explains, own_cause, HindersRegion, HindersShared, RegionReaches, IsRegionRefused, IsOwnCause, of_key, IsOfWriting}
+use Rattle.archive_types.specs.Plans.{cursor, begun, IsAt, LiesAsPlanned, SerializedRegion, serialized_region, SerializedShared, serialized_shared}
+use Rattle.archive_types.specs.Causes.{Explains, own_cause, HindersRegion, HindersShared, RegionReaches, IsRegionRefused}
 use Rattle.archive_types.proofs.KeyStates.{set_here, set_other}
-use Rattle.archive_types.proofs.Causes.{goes_kept, goes_both, explains_later, explains_named}
+use Rattle.archive_types.proofs.Causes.{goes_kept, explains_later}
 
 -- where a new key's value is begun
 pub begun_cursor : (old mid : WriterState) (key : ℕ) → old.states key ≡ None → KeepsBytes old mid → IsSet old.states key (started (old.states key)) mid.states
@@ -35,21 +35,6 @@ begun_goes old mid key unknown same set = goes_kept old mid same (λ k x is. eli
   | inl eq ↦ (let none : old.states k ≡ None = rw eq unknown in cc)
   | inr n ↦ set_other old.states mid.states key (started (old.states key)) set k n ∙ is
 ])
-
--- and a key that was unknown is finished in the end
-pub ended_goes : (old mid low new : WriterState) (key p : ℕ) → old.states key ≡ None → KeepsBytes old mid → IsSet old.states key (started (old.states key)) mid.states → GoesOn mid low
-    → KeepsBytes low new → IsSet low.states key (Some (Some p)) new.states → GoesOn old new
-ended_goes old mid low new key p unknown same set g like finish =
-    let begins : GoesOn old low = goes_both old mid low (begun_goes old mid key unknown same set) g in
-    record {
-      kept = rw (like.0) begins.kept;
-      room = rw (like.0, like.1) begins.room;
-      device = rw (like.2) begins.device;
-      known = λ k x is. elim (cases_eq k key) [
-        | inl eq ↦ (let none : old.states k ≡ None = rw eq unknown in cc)
-        | inr n ↦ set_other low.states new.states key (Some (Some p)) finish k n ∙ begins.known k x is
-      ];
-    }
 
 module _ (D : Definitions) (P : Pointee) (n : ℕ) (ks : List Naming) (v : Value) (key : ℕ) where
   abbrev Hindered : WriterState → Error → Type 0
@@ -116,12 +101,3 @@ finished_served f g h key r e unknown set kept answer is =
     let here : g key ≡ Some None = set_here f g key (started (f key)) set ∙ ap started unknown in
     let there : h key ≡ Some None = kept key None here in
     let served : r ≡ Ok tt = answer ∙ ap (finish_answer is_some) there in cc
-
--- each refusal is one of writing
-shared_own : (D : Definitions) (P : Pointee) (n : ℕ) (ks : List Naming) (v : Value) (a : Cursor) (state : KeyState) (e : Error) → HindersShared state (HindersRegion D P n ks v a) e → IsOwnCause e
-shared_own D P n ks v a state e (inl h) = rw (h.0) of_key
-shared_own D P n ks v a state e (inr h) = h.named
-
-pub shared_named : (D : Definitions) (P : Pointee) (n : ℕ) (ks : List Naming) (v : Value) (a : Cursor) (reaches : ℕ → Type 0) (state : KeyState) (old new : WriterState) (e : Error)
-    → Explains (HindersShared state (HindersRegion D P n ks v a)) reaches old new e → IsOfWriting e
-shared_named D P n ks v a reaches state old new e h = explains_named _ reaches old new e (λ d x. shared_own D P n ks v a state d x) h

@@ -129,7 +129,7 @@ module _ (D : Definitions) (P : Pointee) (n : ℕ) (ks : List Naming) (v : Value
         → IsRefused D (shared flavor P) all (shared_value key) old new e
     byte_refused position new e here there g more h =
         explains_later (Hinders D (shared flavor P) all (shared_value key) (cursor old)) _ (Reaches D (shared flavor P) all (shared_value key) (cursor old)) _ old mid new e g more (λ x. x) (λ m x. x)
-        (explains_write _ _ 1 position mid new e here (rw there (planned_byte (sym here ∙ there))) h)
+        (explains_write _ _ 1 position mid new e here (rw there (planned_byte (sym here ∙ there))) more h)
 
     -- it was written
     pub shared_serialized : (new : WriterState) (tail : List ℕ) → new.bytes ≡ mid.bytes ++ tail → IsZeroed tail → length tail ≡ cond (nat_eq (length mid.bytes) p) 1 0 → KeepsKeys mid.states new.states

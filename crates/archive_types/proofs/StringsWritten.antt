@@ -16,9 +16,9 @@ use Rattle.archive_check.specs.CleanRegions.{Occurs, clean_inline, clean_out_of_
 use Rattle.archive_check.specs.WriterState.{WriterState, KeepsKeys}
 use Rattle.archive_check.proofs.StandingBytes.{stands_front, stands_back, stands_bytes, stands_index, zeroed_none}
 use Rattle.archive_check.proofs.Texts.{text_no_end, text_inline, text_before}
-use Rattle.archive_pointers.specs.Offsets.{distance}
+use Rattle.archive_num.specs.Offsets.{distance}
 use Rattle.archive_types.specs.Planned.{up_one}
-use Rattle.archive_pointers.specs.StringBytes.{coded_length, inline_bytes, out_of_line_bytes}
+use Rattle.archive_num.specs.StringBytes.{coded_length, inline_bytes, out_of_line_bytes}
 use Rattle.archive_types.specs.Strings.{to_text, string_flat}
 use Rattle.archive_types.specs.Writing.{Resolves, Writes, LaysOut}
 use Rattle.archive_types.proofs.ShortTexts.{if_short, if_long}

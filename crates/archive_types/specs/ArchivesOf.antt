@@ -20,7 +20,6 @@ use Rattle.archive_types.specs.Plans.{SerializedRegion, at_start, unshared}
 use Rattle.archive_types.specs.Writing.{Archives}
 use Rattle.archive_types.specs.declared.traits.Archive as Archive
 use Rattle.archive_types.specs.declared.traits.ArchiveUnsized as ArchiveUnsized
-use Rattle.archive_write.specs.Sharing.{KnowsNone}
 use Rattle.archive_write.specs.Written.{GoesOn}
 
 -- behind what the writer held, an archive of the value was written, with its root there
@@ -40,9 +39,6 @@ IsArchiveOf a f v bytes = (root : ℕ) × Archives f.definitions [] bytes root f
 -- why no archive of it was written: into a vector; between these two, whatever keys the writers keep; up to what some writer tells in the end
 abbrev pub NoArchiveOf : {T A R M C : Type 0} → Archive.Ghosts T A R C M → FormatOf M → T → Error → Type 0
 NoArchiveOf a f v e = (e ≡ OutOfMemory) ⊎ HindersRegion f.definitions (one f.shape) 0 (a.keys v) (a.meaning v) at_start e
-
-abbrev pub LeavesNone : {T A R M C W : Type 0} → Archive.Ghosts T A R C M → FormatOf M → T → Keys.Ghosts W → W → W → Error → Type 0
-LeavesNone a f v k old new e = IsRegionRefused f.definitions (one f.shape) 0 (a.keys v) (a.meaning v) (unshared (k.state old)) (unshared (k.state new)) e
 
 -- the same between two states of a writer
 abbrev pub WholeRefused : {T A R M C : Type 0} → Archive.Ghosts T A R C M → FormatOf M → T → WriterState → WriterState → Error → Type 0
@@ -75,10 +71,6 @@ RefusesArchive f bytes d b e = RefusesWhole f.definitions bytes (root_in bytes f
 abbrev pub AsCheckIfNeverOpen : {M D T : Type 0} → FormatOf M → List ℕ → Entries.Ghosts D → Both (MutBor D) (MutBor D) → Result T Error → Type 0
 AsCheckIfNeverOpen f bytes d b result =
     IsNeverOpen f.definitions f.shape (d.entry_of b.entry.now) → IfErr result (RefusesAsCheck f.definitions bytes (root_in bytes f.layout) f.shape)
-
--- a writer that knows no shared key, as the call begins
-abbrev pub IsNew : {W : Type 0} → Keys.Ghosts W → Both (MutBor W) (MutBor W) → Type 0
-IsNew k w = KnowsNone (k.state w.entry.now).states
 
 -- a type has no schema, and why, or it is well formed and something else was refused
 abbrev pub LacksSchema : {M : Type 0} → FormatOf M → Error → Type 0

@@ -10,21 +10,23 @@ use Rattle.archive_check.specs.Tour.{Region}
 use Rattle.archive_check.specs.WriterState.{KeyState, WriterState}
 use Rattle.archive_check.specs.declared.format.error.Error.{Error}
 use Rattle.archive_check.specs.declared.format.error.Error.TheVariants.{OutOfMemory, IsizeOverflow, OffsetOverflow, PositionTooLarge, LengthTooLarge, NumberTooLarge, StringTooLong, BufferOverflow, WriterFailed, CyclicSerialize, LayoutTooLarge}
-use Rattle.archive_pointers.specs.Offsets.{distance, IsTooFar}
+use Rattle.archive_num.specs.Offsets.{distance, IsTooFar}
 use Rattle.archive_types.specs.Plans.{Cursor, Step, lays, meets, Foreseen, PlanOf, RegionPlan, cursor}
 use Rattle.archive_types.specs.Writing.{Naming}
 
--- Of the bytes planned up to an end, the writer was to take `count` at a position and has none left for them: it ends at `cap`.
-pub record Overflows (reaches : ℕ → Type 0) (old : WriterState) (count cap position : ℕ) : Type 0 where
+-- Of the planned bytes the writer, which held those up to a position and ends at `cap`, was to take `count` more: fewer are free, also now.
+pub record Overflows (reaches : ℕ → Type 0) (old new : WriterState) (count cap position : ℕ) : Type 0 where
   pub behind : length old.bytes ≤ position
+  pub held : position ≤ length new.bytes
   pub planned : reaches (position + count)
   pub full : IsSomeAnd old.room (λ room. (cap ≡ length old.bytes + room) × (cap < position + count))
+  pub left : IsSomeAnd new.room (λ room. room < count)
 
 -- Why what is planned was refused: for want of memory; for want of room, which the planned bytes don't fit; by the writer's device, which failed now or had
 -- failed too often; or for a cause of the value's own.
 pub data Explains (own : Error → Type 0) (reaches : ℕ → Type 0) (old new : WriterState) : Error → Type 0 where
   no_memory : Explains own reaches old new OutOfMemory
-  no_room : {count cap position : ℕ} → Overflows reaches old count cap position → Explains own reaches old new (BufferOverflow count cap position)
+  no_room : {count cap position : ℕ} → Overflows reaches old new count cap position → Explains own reaches old new (BufferOverflow count cap position)
   device_failed : (old.failures < new.failures) ⊎ (old.failures ≡ 2 ^ 64 - 1) → Explains own reaches old new WriterFailed
   own_cause : {e : Error} → own e → Explains own reaches old new e
 

@@ -7,7 +7,7 @@ use Rattle.std.specs.Int.{Width}
 use Rattle.archive_check.specs.Shape.{Sign}
 use Rattle.archive_check.specs.declared.format.error.Error.{Error}
 use Rattle.archive_check.specs.declared.format.error.Error.TheVariants.{OffsetOverflow}
-use Rattle.archive_pointers.specs.Offsets.{distance, Fits, IsBeyond, offset_bytes}
+use Rattle.archive_num.specs.Offsets.{distance, Fits, IsBeyond, offset_bytes}
 use Rattle.archive_types.specs.RelativePointers.{rel_bytes}
 use Rattle.archive_types.specs.declared.place.Place.{Place}
 

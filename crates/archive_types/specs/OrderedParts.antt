@@ -18,7 +18,7 @@ use Rattle.archive_check.specs.Readable.{position, target_from, string_text}
 use Rattle.archive_check.specs.Definitions.{Definitions, Knows, HasLayout, IsAlign, both}
 use Rattle.archive_check.specs.PartsLayout.{knows_left, knows_right}
 use Rattle.archive_enum.specs.Choices.{option_shape, up_first}
-use Rattle.archive_enum.specs.Results.{result_shape, result_variants}
+use Rattle.archive_enum.specs.ResultShapes.{result_shape, result_variants}
 use Rattle.archive_types.specs.Compared.{Standing, standing, elements, elements_from, slices, pointee_at, slice_of, value_of, result_in, option_order, result_order}
 use Rattle.archive_types.specs.Options.{option_meaning}
 use Rattle.archive_types.specs.Results.{result_meaning}

@@ -12,8 +12,8 @@ use Rattle.archive_check.specs.declared.format.error.Error.TheVariants.{LengthTo
 use Rattle.archive_check.specs.declared.format.traits.ArchivePointee as ArchivePointee
 use Rattle.archive_check.specs.declared.format.traits.Keys as Keys
 use Rattle.archive_types.specs.Causes.{HindersAt}
-use Rattle.archive_pointers.specs.Offsets.{distance, IsTooFar}
-use Rattle.archive_pointers.specs.OwnerBytes.{owner_bytes, HindersPointerAt}
+use Rattle.archive_num.specs.Offsets.{distance, IsTooFar}
+use Rattle.archive_num.specs.OwnerBytes.{owner_bytes, HindersPointerAt}
 use Rattle.archive_types.specs.Plans.{HasRegionPlan}
 use Rattle.archive_types.specs.Writing.{Naming, Resolves}
 use Rattle.archive_types.specs.declared.place.Place.{Place}

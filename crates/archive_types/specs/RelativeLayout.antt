@@ -3,7 +3,7 @@ use Rattle.std.proofs.Common.{Bool, true, false, refl, inl, inr}
 use Rattle.std.specs.Int.{Width, w8, w16, w32, w64, w128}
 use Rattle.archive_check.specs.Shape.{Sign, parts}
 use Rattle.archive_check.specs.Definitions.{no_definition, HasLayout, IsAlign}
-use Rattle.archive_pointers.specs.OffsetWidths.{IsOffsetWidth, not_128}
+use Rattle.archive_num.specs.OffsetWidths.{IsOffsetWidth, not_128}
 use Rattle.archive_types.specs.RelativePointers.{rel_parts, rel_layout}
 
 -- a power of two

@@ -4,7 +4,7 @@ use Rattle.std.specs.Int.{Width, w32, byte_len}
 use Rattle.archive_check.specs.Shape.{Sign, unsigned, number, raw_rel, Shape, leaf, parts, Parts, no_part, part}
 use Rattle.archive_check.specs.Layout.{Layout}
 use Rattle.archive_check.specs.LittleEndian.{little_bytes}
-use Rattle.archive_pointers.specs.Offsets.{offset_bytes}
+use Rattle.archive_num.specs.Offsets.{offset_bytes}
 
 -- its parts, with a length or without
 abbrev pub rel_parts : Sign → Width → Bool → Parts

@@ -5,7 +5,7 @@ use Rattle.archive_check.specs.Shape.{Shape}
 use Rattle.archive_check.specs.Definitions.{Definitions, both}
 use Rattle.archive_check.specs.PartsLayout.{knows_left, knows_right}
 use Rattle.archive_check.specs.Value.{Value, case, no_value}
-use Rattle.archive_enum.specs.Results.{result_shape}
+use Rattle.archive_enum.specs.ResultShapes.{result_shape}
 use Rattle.archive_types.specs.Writing.{Naming, IsKeyed}
 use Rattle.archive_types.specs.Plans.{HasPlan}
 use Rattle.archive_types.specs.Variants.{case_of, one_keyed, case_planned}

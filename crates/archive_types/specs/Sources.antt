@@ -3,7 +3,7 @@ use denote.Triple.Both.{Both}
 use denote.Ref.{MutBor}
 use Rattle.std.specs.Prelude.{Option, ℕ, List, length}
 use Rattle.archive_check.specs.Entries.{ReadsBack, RefusesReading}
-use Rattle.archive_check.specs.Shape.{boxed, one, run}
+use Rattle.archive_check.specs.Shape.{array, boxed, one, run}
 use Rattle.archive_check.specs.Value.{list, box, hole}
 use Rattle.archive_check.specs.Viewed.{Viewed}
 use Rattle.archive_check.specs.declared.format.error.Error.{Error}
@@ -76,6 +76,15 @@ SliceStored a f xs k w p = RunStored a.keys a.meaning f xs k w p
 
 abbrev pub SliceUnstored : {T A R M C S : Type 0} → Archive.Ghosts T A R C M → FormatOf M → List T → Keys.Ghosts S → Both (MutBor S) (MutBor S) → Error → Type 0
 SliceUnstored a f xs k w e = RunUnstored a.keys a.meaning f xs k w e
+
+-- the same as one array, which is one value
+abbrev pub ArrayStored : {T A R M C S : Type 0} → Archive.Ghosts T A R C M → FormatOf M → List T → Keys.Ghosts S → Both (MutBor S) (MutBor S) → ℕ → Type 0
+ArrayStored a f xs k w p =
+    SerializedRegion f.definitions (one (array (length xs) f.shape)) 0 (each_keys a.keys xs) (list (each_meaning a.meaning xs)) p (k.state w.entry.now) (k.state w.exit.now)
+
+abbrev pub ArrayUnstored : {T A R M C S : Type 0} → Archive.Ghosts T A R C M → FormatOf M → List T → Keys.Ghosts S → Both (MutBor S) (MutBor S) → Error → Type 0
+ArrayUnstored a f xs k w e =
+    IsRegionRefused f.definitions (one (array (length xs) f.shape)) 0 (each_keys a.keys xs) (list (each_meaning a.meaning xs)) (k.state w.entry.now) (k.state w.exit.now) e
 
 -- a box of what is laid out at t; and why it isn't
 abbrev pub BoxSerialized : {P M U A N S : Type 0} → ArchivePointee.Ghosts P M → ArchiveUnsized.Ghosts U A N → U → Keys.Ghosts S → Both (MutBor S) (MutBor S) → ℕ → Type 0

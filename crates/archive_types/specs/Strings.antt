@@ -2,8 +2,8 @@
 use Rattle.std.specs.Prelude.{ℕ, List, length, nat_lt, if◌then◌else◌}
 use Rattle.archive_check.specs.Shape.{text}
 use Rattle.archive_check.specs.Value.{Pointer, Value, text_value, hole}
-use Rattle.archive_pointers.specs.Offsets.{distance}
-use Rattle.archive_pointers.specs.StringBytes.{inline_bytes, out_of_line_bytes}
+use Rattle.archive_num.specs.Offsets.{distance}
+use Rattle.archive_num.specs.StringBytes.{inline_bytes, out_of_line_bytes}
 use Rattle.archive_types.specs.Writing.{to_pointee}
 
 -- of the string at p of a text, which stands at t if it isn't inline

@@ -4,7 +4,7 @@ use Rattle.archive_check.specs.WriterState.{WriterState}
 use Rattle.archive_check.specs.declared.format.error.Error.{Error}
 use Rattle.archive_check.specs.declared.format.error.Error.TheVariants.{PositionTooLarge, LengthTooLarge, StringTooLong}
 use Rattle.archive_write.specs.Written.{ExplainsRefusal}
-use Rattle.archive_pointers.specs.Offsets.{distance, IsTooFar}
+use Rattle.archive_num.specs.Offsets.{distance, IsTooFar}
 
 -- the text has more bytes than a pointer can say
 abbrev pub HindersText : List ℕ → Error → Type 0

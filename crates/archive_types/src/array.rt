@@ -8,11 +8,13 @@ ghost use Rattle.archive_types.specs.Views.{element_in};
 mod owned;
 mod reading;
 mod sources;
+mod unsized_sources;
 
 use crate::slice::Iter;
 use crate::traits::Portable;
 use crate::view::{RawView, Ref};
 pub use owned::OwnedArray;
+pub use sources::each_is_whole;
 
 impl<'a, T: Portable, const N: usize> Ref<'a, [T; N]> {
     /// How many elements there are: as many as the type says.

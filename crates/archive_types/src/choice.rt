@@ -1,9 +1,10 @@
 //! Choices: views of their tags and of what stands behind them, and places of their tags.
 
-ghost use Rattle.std.specs.Prelude.{◌≡◌, ◌+◌, ◌<◌, ◌≤◌, ◌^◌, Some, is_some, length, slice_index, slice_set, true};
+ghost use Rattle.std.specs.Prelude.{◌≡◌, ◌+◌, ◌<◌, ◌^◌, Some, is_some, length, slice_index, slice_set, true};
 ghost use Rattle.archive_check.specs.Reads.{bytes_at};
 ghost use Rattle.archive_check.specs.Shape.{variant_at};
 ghost use Rattle.archive_check.specs.VariantsLayout.{payload_at, payload_definitions};
+ghost use Rattle.archive_types.specs.KnownParts.{KnowsAlso};
 ghost use Rattle.archive_types.specs.Payloads.{payload_in};
 ghost use Rattle.archive_types.specs.Seen.{tag_of, ShowsValueOf};
 ghost use Rattle.archive_types.specs.Views.{ShowsPart};
@@ -22,10 +23,11 @@ impl<'a, T: Choice> Ref<'a, T> {
         bytes[pos]
     }
 
-    /// The view of part `i` of the variant that the tag names. Asks that this part is a `U`. Our own.
+    /// The view of part `i` of the variant that the tag names. The caller must ensure that its expression is that of `U`, and that its names have the
+    /// definitions that `U` has. Our own.
     pub fn payload<U: Portable>(self, i: usize) -> Ref<'a, U>
         requires part { payload_at T.Variants.variants (slice_index self.bytes.now self.pos) i ≡ Some U.shape }
-        requires definitions { payload_definitions T.Variants.definitions (tag_of self) i ≡ U.definitions }
+        requires definitions { KnowsAlso (payload_definitions T.Variants.definitions (tag_of self) i) U.definitions }
         ensures buffer { result.bytes.now ≡ self.entry.bytes.now }
         ensures position { result.pos ≡ self.entry.pos + T.Variants.begin (slice_index self.entry.bytes.now self.entry.pos) i }
         ensures length { result.len ≡ 0 }
@@ -53,13 +55,13 @@ impl<'a, T: Choice> Place<'a, T> {
         self.bytes[0] = tag;
     }
 
-    /// The place of part `i` of the variant with this tag. Asks that this part is a `U` and lies within the place's bytes, and that their end fits
-    /// `usize`. The other bytes, the tag among them, are out of its reach. Our own.
+    /// The place of part `i` of the variant with this tag. The caller must ensure that this part is a `U`, that the place has as many bytes as a `T`, and
+    /// that their end fits `usize`. What the choice's bytes are afterwards isn't said: `resolve_payload` says it. Our own.
     pub fn payload<U: Portable>(self, tag: u8, i: usize) -> Place<'a, U>
         requires part { payload_at T.Variants.variants tag i ≡ Some U.shape }
-        requires definitions { payload_definitions T.Variants.definitions tag i ≡ U.definitions }
-        requires inside { T.Variants.begin tag i + U.layout.size ≤ length self.bytes.now }
-        requires ends { self.pos + length self.bytes.now < 2 ^ 64 }
+        requires size { T.Variants.size_at tag i ≡ U.layout.size }
+        requires sized { length self.bytes.now ≡ T.layout.size }
+        requires ends { self.pos + T.layout.size < 2 ^ 64 }
         ensures buffer { result.bytes.now ≡ bytes_at self.entry.bytes.now (T.Variants.begin tag i) U.layout.size }
         ensures position { result.pos ≡ self.entry.pos + T.Variants.begin tag i }
     {

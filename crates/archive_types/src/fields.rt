@@ -3,6 +3,7 @@
 ghost use Rattle.std.specs.Prelude.{◌≡◌, ◌+◌, Some};
 ghost use Rattle.archive_check.specs.PartsLayout.{part_at, definitions_at};
 ghost use Rattle.archive_types.specs.Fields.{field_in};
+ghost use Rattle.archive_types.specs.KnownParts.{KnowsAlso};
 ghost use Rattle.archive_types.specs.Seen.{ShowsValueOf};
 ghost use Rattle.archive_types.specs.Views.{ShowsPart};
 
@@ -10,10 +11,11 @@ use crate::traits::{Portable, Record};
 use crate::view::{RawView, Ref};
 
 impl<'a, T: Record> Ref<'a, T> {
-    /// The view of part `i`. Asks that this part is a `U`. Our own, where rkyv 0.8.18 has the type's fields.
+    /// The view of part `i`. The caller must ensure that its expression is that of `U`, and that its names have the definitions that `U` has. Our own,
+    /// where rkyv 0.8.18 has the type's fields.
     pub fn field<U: Portable>(self, i: usize) -> Ref<'a, U>
         requires part { part_at T.Parts.parts i ≡ Some U.shape }
-        requires definitions { definitions_at T.Parts.definitions i ≡ U.definitions }
+        requires definitions { KnowsAlso (definitions_at T.Parts.definitions i) U.definitions }
         ensures buffer { result.bytes.now ≡ self.entry.bytes.now }
         ensures position { result.pos ≡ self.entry.pos + T.Parts.begin 0 i }
         ensures length { result.len ≡ 0 }

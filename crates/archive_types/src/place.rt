@@ -1,12 +1,14 @@
 //! Where an archived value is to be written.
 
 ghost use Rattle.std.specs.Prelude.{◌≡◌, ◌+◌, ◌*◌, ◌<◌, ◌≤◌, ◌^◌, Some, length};
-ghost use Rattle.archive_check.specs.PartsLayout.{part_at, definitions_at};
+ghost use Rattle.archive_check.specs.PartsLayout.{part_at};
 ghost use Rattle.archive_check.specs.Reads.{bytes_at};
 
 use crate::primitive::{SealedLeaf, write_leaf};
 use crate::traits::{Portable, Record};
 use std::marker::PhantomData;
+
+mod filling;
 
 /// The bytes that an archived `T` is to have, and the position of the first one in the buffer. What implements `Archive` takes it apart by a
 /// pattern, so that its caller knows the bytes afterwards. It stands where rkyv 0.8.18 has a place over a raw pointer.
@@ -74,11 +76,10 @@ impl<'a, T: SealedLeaf> Place<'a, T> {
 }
 
 impl<'a, T: Record> Place<'a, T> {
-    /// The place of part `i`. Asks that this part is a `U`, that the place has as many bytes as a `T`, and that their end fits `usize`. The bytes outside
-    /// of the part are out of its reach. Our own, where rkyv 0.8.18 has a macro that goes to the type's fields.
+    /// The place of part `i`. The caller must ensure that this part is a `U`, that the place has as many bytes as a `T`, and that their end fits `usize`.
+    /// What the record's bytes are afterwards isn't said: `resolve_field` says it. Our own, where rkyv 0.8.18 has a macro that goes to the fields.
     pub fn field<U: Portable>(self, i: usize) -> Place<'a, U>
         requires part { part_at T.Parts.parts i ≡ Some U.shape }
-        requires definitions { definitions_at T.Parts.definitions i ≡ U.definitions }
         requires size { T.Parts.size_at i ≡ U.layout.size }
         requires sized { length self.bytes.now ≡ T.layout.size }
         requires ends { self.pos + T.layout.size < 2 ^ 64 }
@@ -92,8 +93,8 @@ impl<'a, T: Record> Place<'a, T> {
 }
 
 impl<'a, T: Portable, const N: usize> Place<'a, [T; N]> {
-    /// The place of the element `index`, of which 0 is the first. Asks that there is one, that the place has as many bytes as the array, and that their
-    /// end fits `usize`. The bytes of the others are out of its reach. As in rkyv 0.8.18, which doesn't ask.
+    /// The place of the element `index`, of which 0 is the first. The caller must ensure that there is one, that the place has as many bytes as the array,
+    /// and that their end fits `usize`. What the array's bytes are afterwards isn't said: `resolve_index` says it. As in rkyv 0.8.18, which requires nothing.
     pub fn index(self, index: usize) -> Place<'a, T>
         requires in_bounds { index < N }
         requires sized { length self.bytes.now ≡ N * T.layout.size }

@@ -4,7 +4,7 @@ mod metadata;
 mod raw;
 mod typed;
 
-pub use archive_pointers::offset::{Offset, OffsetNumber, signed_offset};
+pub use archive_num::offset::{Offset, OffsetNumber, signed_offset};
 pub use metadata::Metadata;
 pub use raw::{
     RawRelPtr, RawRelPtrI8, RawRelPtrI16, RawRelPtrI32, RawRelPtrI64, RawRelPtrU8, RawRelPtrU16,

@@ -5,7 +5,7 @@ ghost use Rattle.archive_check.specs.Shape.{one};
 ghost use Rattle.archive_check.specs.Definitions.{both};
 ghost use Rattle.archive_check.specs.Viewed.{Viewed};
 ghost use Rattle.archive_check.specs.Entries.{ReadsBack, RefusesReading};
-ghost use Rattle.archive_enum.specs.Results.{result_shape, result_layout};
+ghost use Rattle.archive_enum.specs.ResultShapes.{result_shape, result_layout};
 ghost use Rattle.archive_types.specs.Causes.{HindersAt};
 ghost use Rattle.archive_types.specs.PlannedOwners.{one_planned};
 ghost use Rattle.archive_types.specs.Results.{result_meaning, result_keys, result_flat, ResultBelongs, result_keyed, result_planned};

@@ -1,9 +1,11 @@
 //! Writers, and the regions that are resolved into them.
 
-ghost use Rattle.std.specs.Prelude.{◌≡◌, ◌⊎◌, ◌+◌, ◌++◌, ◌*◌, ◌^◌, ◌<◌, ◌≤◌, ◌%◌, ◌↔◌, min, true, length, IfOk, OnOk, IfErr};
+ghost use Rattle.std.specs.Prelude.{◌≡◌, ◌⊎◌, ◌+◌, ◌++◌, ◌*◌, ◌^◌, ◌<◌, ◌≤◌, ◌%◌, ◌↔◌, min, true, length, IfOk, OnOk, IfErr, FitsSigned};
+ghost use Rattle.std.specs.Int.{w32};
 ghost use Rattle.archive_check.specs.WriterState.{KeepsKeys};
 ghost use Rattle.archive_check.specs.Layout.{has_length};
 ghost use Rattle.archive_check.specs.Shape.{one};
+ghost use Rattle.archive_num.specs.Offsets.{distance};
 ghost use Rattle.archive_types.specs.Causes.{HindersAt};
 ghost use Rattle.archive_types.specs.KindsWritten.{BytesResolved, RegionPut, RegionRefused, EachPut, EachHindered};
 ghost use Rattle.archive_types.specs.Placed.{GrowsBy, Pointed, Unpointed};
@@ -18,7 +20,7 @@ use crate::traits::{
 };
 use archive_check::format::error::Error;
 use archive_num::FixedUsize;
-use archive_pointers::owners::emplace_pointer;
+use archive_num::owners::emplace_pointer;
 pub use archive_write::ser::{Buffer, Positional, ResolverAlloc, Serializer, Writer, WriterExt};
 use std::alloc::Allocator;
 
@@ -271,8 +273,8 @@ pub trait ResolveExt: Writer {
 
     /// Writes a pointer to the region of `value`, which stands at `to`: an offset of four bytes, and behind it the length, of four, where `value` is a
     /// slice or a text. Answers the pointer's position, in bytes from the first one. Asks that the writer stands at a multiple of four. It takes no
-    /// memory. Refused with `LengthTooLarge`, 5, where the length is above 4,294,967,295, with `LayoutTooLarge`, 23, where the pointer would end above
-    /// `usize::MAX`, with `IsizeOverflow`, 2, or `OffsetOverflow`, 3, where the offset doesn't fit, nothing being written then, or as the writer refuses
+    /// memory. Refused with `LengthTooLarge`, 5, exactly where the length is above 4,294,967,295, with `LayoutTooLarge`, 23, where the pointer would end
+    /// above `usize::MAX`, else exactly where the offset doesn't fit, with `IsizeOverflow`, 2, or `OffsetOverflow`, 3, nothing being written, or as the writer refuses
     /// (`BufferOverflow`, 8; `WriterFailed`, 9). rkyv 0.8.18 has the call in `WriterExt`, and panics where the offset doesn't fit.
     #[tactic(auto, using(crate::proofs::Owned::size_by_length, crate::proofs::Causes::goes_nowhere, crate::proofs::Causes::goes_written, crate::proofs::Causes::goes_refused))]
     #[inline(always)]
@@ -287,6 +289,8 @@ pub trait ResolveExt: Writer {
         ArchivedMetadata<T>: Drop,
         requires aligned { Self.position self.old % 4 ≡ 0 }
         ensures written { OnOk result (Pointed T.Archived.pointee (T.source_length value.now) to Self.position Self.Keys self) }
+        ensures fits { OnOk result (FitsSigned w32 (distance (Self.position self.old) to)) }
+        ensures held { OnOk result (T.source_length value.now ≤ 4294967295) }
         ensures position { IfOk result (λ p. p ≡ Self.position self.old) }
         ensures refused { IfErr result (Unpointed T.Archived.pointee (T.source_length value.now) to Self.position Self.Keys self) }
         ensures goes_on { GoesOn (Self.state self.old) (Self.state self.new) }

@@ -19,12 +19,12 @@ use archive_check::format::expr::{Defs, Pointee};
 use archive_check::format::layout::Layout;
 use archive_check::self_check::VecCheck;
 pub(crate) use copying::PIECE;
-pub use copying::{copy_groups, copy_slice};
+pub use copying::{copy_arrays, copy_groups, copy_slice};
 pub use iter::Iter;
 pub(crate) use iter::element_at;
 pub(crate) use reading::{read_each, read_elements};
 pub use sources::Slice;
-pub(crate) use sources::{serialize_each, serialize_slice};
+pub(crate) use sources::{serialize_each, serialize_in_turn, serialize_slice};
 use std::alloc::Global;
 use std::marker::PhantomData;
 

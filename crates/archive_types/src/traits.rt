@@ -243,8 +243,10 @@ pub trait DeserializeUnsized<T: Archive, D: Entries>: ArchivePointee {
     }
 
     /// Its length: 0 for one value, else the number of elements or bytes.
+    #[tactic(auto, using(crate::proofs::OneLengths::one_has_no_length))]
     final fn deserialize_metadata(view: Ref<'_, Self>) -> usize
-        ensures { result ≡ view.entry.len }
+        ensures length { result ≡ view.entry.len }
+        ensures one_value { has_length Self.pointee ≡ false → result ≡ 0 }
     {
         view.part().len
     }

@@ -1,8 +1,8 @@
 -- What a list of boxes in boxes means.
 use Rattle.std.specs.Prelude.{ℕ, Option, Some, None, refl}
-use Rattle.archive_check.specs.Value.{Value, case, box, no_value}
-use Rattle.archive_own.specs.Nests.{IsNest, nothing_held, box_held, nest_flat}
-use Rattle.archive_types.specs.Variants.{case_of}
+use Rattle.archive_core.specs.Value.{Value, case, box, no_value}
+use Rattle.archive_core.specs.Nests.{IsNest, nothing_held, box_held, nest_flat}
+use Rattle.archive_core.specs.Variants.{case_of}
 use Rattle.own_types.specs.NodeShape.{node_shape, node_variants}
 use Rattle.own_types.specs.declared.node.Node.{Node, Nil, Cons'}
 

@@ -1,6 +1,6 @@
 -- What a list of boxes in boxes looks like.
 use Rattle.std.specs.Prelude.{codes}
-use Rattle.archive_check.specs.Shape.{Name, Shape, choice, named, boxed, one, Variants, no_variant, variant, no_part, part}
+use Rattle.archive_core.specs.Shape.{Name, Shape, choice, named, boxed, one, Variants, no_variant, variant, no_part, part}
 
 abbrev pub node_name : Name
 node_name = codes "ArchivedNode"

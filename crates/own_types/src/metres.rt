@@ -2,21 +2,25 @@
 
 ghost use Rattle.std.specs.Prelude.{◌≡◌, ⊤, refl, [], pos, length, OnOk, IfErr};
 ghost use Rattle.std.specs.Int.{w32};
-ghost use Rattle.archive_check.specs.Definitions.{no_definition};
-ghost use Rattle.archive_check.specs.LittleEndian.{little_bytes};
-ghost use Rattle.archive_check.specs.Shape.{leaf, number as number_kind, unsigned};
-ghost use Rattle.archive_check.specs.Value.{number};
-ghost use Rattle.archive_types.specs.Keyed.{number_keyed};
-ghost use Rattle.archive_types.specs.Planned.{leaf_planned};
-ghost use Rattle.archive_types.specs.KindsWritten.{LeafResolved, LeafHindered};
-ghost use Rattle.archive_types.specs.Writing.{ZeroedPlace};
+ghost use Rattle.archive_core.specs.Definitions.{no_definition};
+ghost use Rattle.archive_core.specs.LittleEndian.{little_bytes};
+ghost use Rattle.archive_core.specs.Shape.{leaf, number as number_kind, unsigned};
+ghost use Rattle.archive_core.specs.Value.{number};
+ghost use Rattle.archive_core.specs.Keyed.{number_keyed};
+ghost use Rattle.archive_core.specs.Planned.{leaf_planned};
+ghost use Rattle.archive_core.specs.PlannedOwners.{one_planned};
+ghost use Rattle.archive_core.specs.KindsWritten.{LeafResolved, LeafHindered};
+ghost use Rattle.archive_core.specs.Writing.{ZeroedPlace};
 
 use archive_core::error::Error;
 use archive_core::place::Place;
 use archive_core::primitive::ArchivedU32;
-use archive_core::ser::Writer;
+use archive_core::ser::{ResolverAlloc, Writer, serialize_one};
 use archive_core::slice::copy_groups;
-use archive_core::traits::{Archive, Copied, CopiedSource, CopyOptimization, Keys, Serialize};
+use archive_core::traits::{
+    Archive, ArchiveUnsized, Copied, CopiedSource, CopyOptimization, Keys, Serialize,
+    SerializeUnsized,
+};
 
 /// A length in metres. It is archived as its number is, and read back as that.
 #[derive(Clone, Copy, Drop)]
@@ -93,5 +97,32 @@ impl CopiedSource for Metres {
 impl<S: Writer + Keys> Serialize<S> for Metres {
     fn serialize(&self, serializer: &mut S) -> Result<(), Error> {
         self.number.serialize(serializer)
+    }
+}
+
+/// As a region of its own.
+impl ArchiveUnsized for Metres {
+    type Archived = ArchivedU32;
+
+    ghost source_length = { λ _. 0 };
+
+    ghost meaning = { ⟦<Metres as Archive>⟧.meaning };
+
+    ghost keys = { ⟦<Metres as Archive>⟧.keys };
+
+    ghost keyed = { λ m. number_keyed (pos m.number) };
+
+    ghost one_length = { λ _ _. refl };
+
+    ghost planned = { λ m. one_planned _ _ [] _ (leaf_planned no_definition (leaf (number_kind unsigned w32)) (number_kind unsigned w32) [] (pos m.number) refl) };
+
+    fn archived_metadata(&self) -> Result<(), Error> {
+        Ok(())
+    }
+}
+
+impl<S: Writer + ResolverAlloc> SerializeUnsized<S> for Metres {
+    fn serialize_unsized(&self, serializer: &mut S) -> Result<usize, Error> {
+        serialize_one(self, serializer)
     }
 }

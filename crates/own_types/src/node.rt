@@ -1,13 +1,14 @@
 //! A list of boxes in boxes: an own type that holds itself.
 
 ghost use Rattle.std.specs.Prelude.{◌≡◌, [], length, refl, ⊤, OnOk, IfErr};
-ghost use Rattle.std.proofs.Common.{inl, inr};
-ghost use Rattle.archive_check.specs.VariantsLayout.{is_recursive_choice};
-ghost use Rattle.archive_check.specs.Value.{box};
-ghost use Rattle.archive_own.specs.Nests.{HoldsBox, nest_keyed, nest_planned};
-ghost use Rattle.archive_types.specs.Placed.{Resolved, Hindered};
-ghost use Rattle.archive_types.specs.Variants.{case_of};
-ghost use Rattle.archive_types.specs.Writing.{ZeroedPlace};
+ghost use Rattle.std.proofs.Common.{inl, inr, lit≤};
+ghost use Rattle.archive_core.specs.VariantsLayout.{is_recursive_choice};
+ghost use Rattle.archive_core.specs.Value.{box};
+ghost use Rattle.archive_core.specs.Nests.{HoldsBox, nest_keyed, nest_planned};
+ghost use Rattle.archive_core.specs.Placed.{Resolved, Hindered};
+ghost use Rattle.archive_core.specs.PlannedOwners.{one_planned};
+ghost use Rattle.archive_core.specs.Variants.{case_of};
+ghost use Rattle.archive_core.specs.Writing.{ZeroedPlace};
 ghost use Rattle.own_types.specs.NodeShape.{node_name, node_variants, node_choice};
 
 use archive_core::boxed::{ArchivedBox, BoxResolver};
@@ -17,9 +18,9 @@ use archive_core::own::{
     resolve_nested, serialize_nested,
 };
 use archive_core::place::Place;
-use archive_core::ser::{ResolverAlloc, Writer};
+use archive_core::ser::{ResolverAlloc, Writer, serialize_one};
 use archive_core::shape::{Expr, Pointee};
-use archive_core::traits::{Archive, Keys, Portable, Serialize};
+use archive_core::traits::{Archive, ArchiveUnsized, Keys, Portable, Serialize, SerializeUnsized};
 use std::alloc::{AllocError, Global};
 
 /// Nothing, or a box of the rest.
@@ -93,6 +94,8 @@ impl RecursiveChoice for NodeFormat {
 
     ghost has_variants = { is_recursive_choice node_name _ node_variants
         (λ s k. record { has = (tt, ((k.has, tt), tt)); finite = k.finite; laid_out = k.laid_out }) };
+
+    ghost holds = { lit≤ tt };
 }
 
 impl Archive for Node {
@@ -149,6 +152,35 @@ impl Nested<ArchivedNode> for Node {
 impl<S: Writer + Keys + ResolverAlloc> Serialize<S> for Node {
     fn serialize(&self, serializer: &mut S) -> Result<Option<BoxResolver>, Error> {
         serialize_nested::<ArchivedNode, Node, S>(self, serializer)
+    }
+}
+
+/// As a region of its own.
+impl ArchiveUnsized for Node {
+    ghost use Rattle.own_types.specs.Node.{node_nest};
+
+    type Archived = ArchivedNode;
+
+    ghost source_length = { λ _. 0 };
+
+    ghost meaning = { ⟦<Node as Archive>⟧.meaning };
+
+    ghost keys = { ⟦<Node as Archive>⟧.keys };
+
+    ghost keyed = { λ n. nest_keyed (node_nest n) };
+
+    ghost one_length = { λ _ _. refl };
+
+    ghost planned = { λ n. one_planned _ _ [] _ (nest_planned (node_nest n)) };
+
+    fn archived_metadata(&self) -> Result<(), Error> {
+        Ok(())
+    }
+}
+
+impl<S: Writer + ResolverAlloc> SerializeUnsized<S> for Node {
+    fn serialize_unsized(&self, serializer: &mut S) -> Result<usize, Error> {
+        serialize_one(self, serializer)
     }
 }
 

@@ -1,13 +1,14 @@
 //! A record of three fields: an own type with a name.
 
-ghost use Rattle.std.specs.Prelude.{◌≡◌, codes, length, OnOk, IfErr};
-ghost use Rattle.archive_check.specs.PartsLayout.{is_named_record};
-ghost use Rattle.archive_check.specs.SelfCheck.Laws.{by_schema};
-ghost use Rattle.archive_check.specs.Value.{product};
-ghost use Rattle.archive_types.specs.Keyed.{nothing_keyed, part_keyed, record_keyed};
-ghost use Rattle.archive_types.specs.PartsPlanned.{no_part_planned, part_planned, record_planned};
-ghost use Rattle.archive_types.specs.Sources.{ResolvedAs, HinderedAs};
-ghost use Rattle.archive_types.specs.Writing.{ZeroedPlace};
+ghost use Rattle.std.specs.Prelude.{◌≡◌, codes, length, refl, OnOk, IfErr};
+ghost use Rattle.archive_core.specs.PartsLayout.{is_named_record};
+ghost use Rattle.archive_core.specs.SelfCheck.Laws.{by_schema};
+ghost use Rattle.archive_core.specs.Value.{product};
+ghost use Rattle.archive_core.specs.Keyed.{nothing_keyed, part_keyed, record_keyed};
+ghost use Rattle.archive_core.specs.PartsPlanned.{no_part_planned, part_planned, record_planned};
+ghost use Rattle.archive_core.specs.PlannedOwners.{one_planned};
+ghost use Rattle.archive_core.specs.Sources.{ResolvedAs, HinderedAs};
+ghost use Rattle.archive_core.specs.Writing.{ZeroedPlace};
 
 use archive_core::error::Error;
 use archive_core::option::ArchivedOption;
@@ -17,9 +18,9 @@ use archive_core::place::Place;
 use archive_core::primitive::ArchivedI32;
 use archive_core::record::{resolve_record, serialize_record};
 use archive_core::self_check::BySchema;
-use archive_core::ser::Writer;
+use archive_core::ser::{ResolverAlloc, Writer, serialize_one};
 use archive_core::string::ArchivedString;
-use archive_core::traits::{Archive, Keys, Portable, Serialize};
+use archive_core::traits::{Archive, ArchiveUnsized, Keys, Portable, Serialize, SerializeUnsized};
 use archive_core::vec::ArchivedVec;
 use std::marker::PhantomData;
 
@@ -133,6 +134,36 @@ impl<S: Writer + Keys, A: Serialize<S>, B: Serialize<S>, C: Serialize<S>> Serial
     #[inline(always)]
     fn serialize(&self, serializer: &mut S) -> Result<Self::Resolver, Error> {
         serialize_record::<Self, Parts<A, B, C>, Self::Archived, S>(self, serializer)
+    }
+}
+
+/// As a region of its own.
+impl<A: Archive, B: Archive, C: Archive> ArchiveUnsized for TestOf<A, B, C> {
+    type Archived = ArchivedRecord<TestFormat<A::Archived, B::Archived, C::Archived>>;
+
+    ghost source_length = { λ _. 0 };
+
+    ghost meaning = { ⟦<TestOf<A, B, C> as Archive>⟧.meaning };
+
+    ghost keys = { ⟦<TestOf<A, B, C> as Archive>⟧.keys };
+
+    ghost keyed = { λ v. record_keyed (part_keyed (A.keyed v.number) (part_keyed (B.keyed v.text) (part_keyed (C.keyed v.list) nothing_keyed))) };
+
+    ghost one_length = { λ _ _. refl };
+
+    ghost planned = { λ v. one_planned _ _ _ _ (record_planned _ _ _ _ _ _ (is_named_record _ _ _) (part_planned _ _ _ _ (A.planned v.number)
+        (part_planned _ _ _ _ (B.planned v.text) (part_planned _ _ _ _ (C.planned v.list) no_part_planned)))) };
+
+    fn archived_metadata(&self) -> Result<(), Error> {
+        Ok(())
+    }
+}
+
+impl<S: Writer + ResolverAlloc, A: Serialize<S>, B: Serialize<S>, C: Serialize<S>> SerializeUnsized<
+    S,
+> for TestOf<A, B, C> {
+    fn serialize_unsized(&self, serializer: &mut S) -> Result<usize, Error> {
+        serialize_one(self, serializer)
     }
 }
 

@@ -1,12 +1,12 @@
 -- Reading back: what shared values hold, and when an open position is met.
-use Rattle.std.proofs.Common.{◌≡◌, pos, List, [], ◌∷◌, arith, lit≤, refl, sym, ap, ◌∙◌, inr}
+use Rattle.std.proofs.Common.{◌≡◌, pos, List, [], ◌∷◌, None, arith, lit≤, refl, sym, ap, ◌∙◌, inr}
 use Rattle.archive_check.specs.Shape.{one, shared, named}
 use Rattle.archive_check.specs.Value.{Value, number, shared_value}
 use Rattle.archive_check.specs.Reads.{bytes_at, u32_at, i32_at, reads_choice, reads_shared, reads_named, reads_part, reads_no_part}
 use Rattle.archive_check.specs.Tour.{Entry, contents_one}
 use Rattle.archive_check.specs.Denotes.{Naming}
 use Rattle.archive_check.specs.Definitions.{no_definition, Knows}
-use Rattle.archive_check.specs.Pooled.{nothing_pooled}
+use Rattle.archive_check.specs.Pooled.{Entries}
 use Rattle.archive_check.specs.Entries.{MeetsOpen, meets_open, meets_in_shared}
 use Rattle.archive_check.specs.Archives.{IsValueOf}
 use Rattle.archive_check.proofs.Elements.{contains_first}
@@ -29,6 +29,9 @@ not_ninety_nine h =
     let k = h.shared no_names _ knows_nothing one_ten (0, (known_as rc (one u32) 0, number (pos 99))) (contains_first [] (0, (known_as rc (one u32) 0, number (pos 99)))) in
     let same : number (pos 10) ≡ number (pos 99) = ap (λ (p : Entry × Value). p.1) (same_some (sym (inserted_has _ 0 (known_as rc (one u32) 0, number (pos 10))) ∙ k.known)) in
     cc
+
+abbrev nothing_pooled : Entries
+nothing_pooled t = None
 
 -- a value that shares itself is met while it is read
 abbrev pub MeetsItself : Type 0

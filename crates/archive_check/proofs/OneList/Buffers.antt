@@ -1,5 +1,6 @@
 -- Two tight and clean buffers that say the same are equal, byte by byte.
-use Rattle.std.proofs.Common.{◌≡◌, ◌≢◌, ℕ, ◌+◌, ◌<◌, ◌≤◌, List, [], ◌∷◌, ◌++◌, length, take, Bool, true, false, nat_eq, All, slice_index, arith, refl, sym, ap, ap₂, ◌∙◌, subst, get_or-take, ⊎_elim}
+use Rattle.std.proofs.Common.{◌≡◌, ◌≢◌, ℕ, ◌+◌, ◌<◌, ◌≤◌, List, [], ◌∷◌, ◌++◌, length, take, Bool, true, false, nat_eq, All, slice_index, arith, refl, sym, ap, ap₂, ◌∙◌, subst, get_or-take, ⊎_elim, Some, nat_cmp}
+use Rattle.std.specs.FinMap.{get, get-empty}
 use Rattle.std.proofs.lemmas.Bool.{cases_lt}
 use Rattle.std.proofs.lemmas.Bool.Decides.{nat_tests}
 use Rattle.std.proofs.lemmas.List.{ext_get_or}
@@ -8,7 +9,7 @@ use Rattle.archive_check.specs.Shape.{Shape, Pointee, one}
 use Rattle.archive_check.specs.Layout.{up, size_of}
 use Rattle.archive_check.specs.Value.{Value, pointers}
 use Rattle.archive_check.specs.Reads.{Schema, LaidOut}
-use Rattle.archive_check.specs.Tour.{Region, root_region, pointee_size, pointee_align, Rising, contents_one, Accepted}
+use Rattle.archive_check.specs.Tour.{Region, root_region, pointee_size, pointee_align, Rising, contents_one, Entry, Accepted}
 use Rattle.archive_check.specs.Leaves.{regions_of}
 use Rattle.archive_check.specs.LittleEndian.{AreBytes}
 use Rattle.archive_check.specs.Within.{PartOfSome}
@@ -17,7 +18,8 @@ use Rattle.archive_check.specs.Denotes.{Fills}
 use Rattle.archive_check.proofs.UniqueBefore.{part_after}
 use Rattle.archive_check.proofs.Viewed.{lies_fits}
 use Rattle.archive_check.proofs.Tightness.{positive_append, pointee_positive, tour_positive, tight_rises}
-use Rattle.archive_check.proofs.OneList.Twins.{reads_like}
+use Rattle.archive_check.proofs.OneList.Twins.{Renamed, Like, reads_like}
+use Rattle.archive_check.proofs.OneList.Placed.{tours_placed}
 use Rattle.archive_check.proofs.OneList.Tours.{Alike, KnownAlike, SameTours, tight_split, tight_next, tours_same}
 use Rattle.archive_check.proofs.OneList.Readings.{part_of_alike, text_of_alike}
 use Rattle.archive_check.proofs.OneList.OwnBytes.{byte_there, Trimmed, own_bytes}
@@ -25,9 +27,6 @@ use Rattle.archive_check.proofs.OneList.OwnBytes.{byte_there, Trimmed, own_bytes
 -- each part of these regions fits the buffer
 abbrev AllFit : Schema → List ℕ → List Region → Type 0
 AllFit s bytes C = (q : ℕ) (P : Pointee) (n : ℕ) → PartOfSome s bytes C q P n → q + pointee_size s P n ≤ length bytes
-
-same_text : {Y Z : Shape} → Y ≡ Z → one Y ≡ one Z
-same_text e = ap one e
 
 -- a part of a clean buffer is trimmed
 trimmed : (s : Schema) (bytes : List ℕ) (start : ℕ) (C : List Region) (q : ℕ) (Y : Shape) → Clean s bytes start C → start ≤ q → PartOfSome s bytes C q (one Y) 0 → Trimmed bytes q Y
@@ -91,14 +90,21 @@ module _ (s : Schema) (laid : LaidOut s) (a b : List ℕ) (h : AreBytes a) (k : 
         let each = byte_same s laid a b start (regions_of x) h k alike fit (subst (AllFit s b) (sym regions) room) long (above t) f (subst (Clean s b start) (sym regions) g) in
         ext_get_or 0 a b long (λ i low. ⊎_elim (λ less. first_bytes start i e less) (λ more. each i more low) (cases_lt i start))
 
-    -- where what they say is filled alike, and so are the shared values
-    pub buffers_equal : (w : Value) → take start a ≡ take start b → Fills s a x.value w → Fills s b y.value w → KnownAlike s a b x.seen y.seen → TightFrom start x → CleanFrom start x → TightFrom start y → CleanFrom start y → a ≡ b
-    buffers_equal w e f g known t l u m =
-        let like = reads_like s a b x.flat.reads y.flat.reads f g in
-        let (c, hc, hb, hd) = tight_split start x.regions (root_region s root X) [] (length a) t in
-        let (o, kc, kb, kd) = tight_split start y.regions (root_region s base X) [] (length b) u in
-        let tours = tours_same s a b x.seen y.seen known start c o (like.0) x.tour y.tour hc kc (λ t e z. z) (λ t e z. z) in
-        let same : c ≡ o = tight_next start x.regions c o hc (subst (λ L. Tight start L o) (sym tours.visited) kc) in
-        let here : root ≡ base = hb ∙ ap (λ m. up m (pointee_align s (one X))) same ∙ sym kb in
-        let long : length a ≡ length b = hd ∙ ap (λ q. after (root_region s q X)) here ∙ sym kd in
-        equal e (like.1 tours.followed) here long tours t l m
+    module _ (to : ℕ → ℕ) (known : KnownAlike s a b to x.seen y.seen) (apart : (t u : ℕ) (e f : Entry) → get x.seen t ≡ Some e → get x.seen u ≡ Some f → to t ≡ to u → t ≡ u) where
+      -- so it is where what they say is filled alike but for names, and so are the shared values: these keep their names
+      same : take start a ≡ take start b → (c o : ℕ) → Like s a b to x.value y.value → Tight start x.regions c → Tight start y.regions o → root ≡ up c (pointee_align s (one X)) → base ≡ up o (pointee_align s (one X))
+          → length a ≡ after (root_region s root X) → length b ≡ after (root_region s base X) → TightFrom start x → CleanFrom start x → CleanFrom start y → a ≡ b
+      same e c o like hc kc hb kb hd kd t l m =
+          let placed = tours_placed s a b to x.seen y.seen known apart start c o (like.0) x.tour y.tour (record { left = hc; right = kc; related = λ t e h. get-empty {X = Entry} nat_cmp (to t) ∙ sym (get-empty {X = Entry} nat_cmp t); grows = λ t e h. h; spreads = λ t e h. h }) in
+          let stays : (t : ℕ) (e : Entry) → get x.seen t ≡ Some e → to t ≡ t = λ t e h. ⊎_elim (λ none. let nothing = get-empty {X = Entry} nat_cmp t in cc) (λ k. k) (placed.kept t e h) in
+          let tours = tours_same s a b to x.seen y.seen known stays start c o (like.0) x.tour y.tour hc kc (λ t e z. z) (λ t e z. z) in
+          let level : c ≡ o = tight_next start x.regions c o hc (subst (λ L. Tight start L o) (sym tours.visited) kc) in
+          let here : root ≡ base = hb ∙ ap (λ m. up m (pointee_align s (one X))) level ∙ sym kb in
+          let long : length a ≡ length b = hd ∙ ap (λ q. after (root_region s q X)) here ∙ sym kd in
+          equal e (like.1 tours.followed) here long tours t l m
+
+      pub buffers_equal : {v w : Value} → take start a ≡ take start b → Fills s a x.value v → Fills s b y.value w → Renamed to v w → TightFrom start x → CleanFrom start x → TightFrom start y → CleanFrom start y → a ≡ b
+      buffers_equal e f g renamed t l u m =
+          let (c, hc, hb, hd) = tight_split start x.regions (root_region s root X) [] (length a) t in
+          let (o, kc, kb, kd) = tight_split start y.regions (root_region s base X) [] (length b) u in
+          same e c o (reads_like s a b to x.flat.reads y.flat.reads f g renamed) hc kc hb kb hd kd t l m

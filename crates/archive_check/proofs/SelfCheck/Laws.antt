@@ -1,22 +1,17 @@
 -- The check that a type names is one of the type.
-use Rattle.std.proofs.Common.{Bool, ◌≡◌, ℕ, ◌+◌, ◌≤◌, ◌∙◌, min, sym, ap, arith, List, Option, Some, OnSome, IfNone}
+use Rattle.std.proofs.Common.{Bool, ℕ, ◌+◌, ◌≤◌, arith, List, Option, OnSome, IfNone}
 use Rattle.std.proofs.lemmas.Bool.Decides.{nat_tests}
 use Rattle.archive_check.specs.declared.format.error.Error.{Error}
 use Rattle.archive_check.specs.Shape.{Shape}
 use Rattle.archive_check.specs.Ranges.{RangeState}
-use Rattle.archive_check.specs.BoundedSizes.{fits}
 use Rattle.archive_check.specs.Definitions.{Definitions}
 use Rattle.archive_check.specs.SelfCheck.Ways.{Goes, Halts, shape_way}
 use Rattle.archive_check.specs.SelfCheck.Laws.{IsCheckOf}
-use Rattle.archive_check.proofs.BoundedSizes.{some_below}
 use Rattle.archive_check.proofs.SelfCheck.Ways.{goes_by, halts_by}
 
 module _ (D E : Definitions) (X Y : Shape) (z n : ℕ) {nameless : Bool} (law : IsCheckOf D X z E Y n nameless) where
   pub span_fits : (at len : ℕ) → at + z ≤ len → at + n ≤ len
   span_fits at len h = let within = law.within in grind (arith, nat_tests)
-
-  pub size_is : (size : ℕ) → size ≡ min z 18446744073709551615 → Some size ≡ fits z
-  size_is size e = let small : z ≤ 18446744073709551615 = omega (arith, some_below z law.small) in let same : size ≡ z = omega (arith, e, small) in ap Some same ∙ sym law.small
 
   module _ (b : List ℕ) (p : ℕ) (s : RangeState) where
     pub checked_goes : (s' : RangeState) (r : Option (Unit {0})) → OnSome r (Goes E (shape_way b p Y) s s') → OnSome r (Goes D (shape_way b p X) s s')

@@ -39,10 +39,6 @@ module _ (D E : Definitions) (b : List ℕ) (base : ℕ) (ps : Parts) (vs : Vari
       let less : suc n - 1 ≡ n = omega arith in
       record { parts = g.parts; at = rw less at g.at; halts = halts_from E (both D E) (parts_way b base 1 g.parts) (parts_way b base 1 g.parts) s (λ t. knows_right t D E) (λ t k pending seen o w. w) e g.halts }
 
-  pub other_unknown : (tag : ℕ) → 0 < tag → variant_at vs (tag - 1) ≡ None → variant_at (variant ps vs) tag ≡ None
-  other_unknown zero lt e = absurd (omega arith)
-  other_unknown (suc n) lt e = let less : suc n - 1 ≡ n = omega arith in rw less at e
-
 pub choice_goes : (D : Definitions) (b : List ℕ) (p : ℕ) (name : Name) (vs : Variants) (s s' : RangeState) → VariantGoes D b p vs (slice_index b p) s s' → Goes D (shape_way b p (choice name vs)) s s'
 choice_goes D b p name vs s s' g = goes_from D D (parts_way b p 1 g.parts) (shape_way b p (choice name vs)) s (λ t k. k) (λ t k pending seen o w. choice_way b t pending s.depth s.end s.start seen p name vs g.parts o g.at w) s' g.goes
 

@@ -5,46 +5,62 @@ ghost use Rattle.archive_check.specs.Errors.{number_of, name_of};
 ghost use Rattle.archive_check.specs.declared.format.error.Error.TheVariants.{OutOfMemory};
 
 use std::alloc::{AllocError, AllocFailed};
-use std::fmt;
+use thiserror::Error;
 
 /// Why a call was refused. The cases and their numbers are this project's own: rkyv 0.8.18 has an error type for each place.
-#[derive(Debug, Drop, Clone, Copy, PartialEq, Eq)]
+#[derive(Debug, Drop, Clone, Copy, PartialEq, Eq, Error)]
 pub enum Error {
     /// 1: a growth or an allocation was refused.
+    #[error("out of memory")]
     OutOfMemory,
     /// 2: a difference of two positions doesn't fit `isize`.
+    #[error("the distance between two positions does not fit isize")]
     IsizeOverflow,
     /// 3: a difference of two positions fits `isize`, and not the offset's type.
+    #[error("the distance between a pointer and its target does not fit the offset")]
     OffsetOverflow,
     /// 4: a written pointee's position is above 4,294,967,295.
+    #[error("the position of a value that a pointer leads to is above 4294967295")]
     PositionTooLarge,
     /// 5: the length of a slice, a vec or a text is above 4,294,967,295.
+    #[error("the length of a slice or text is above 4294967295")]
     LengthTooLarge,
     /// 6: a `usize` or `isize` that is written doesn't fit 32 bits.
+    #[error("a usize or isize does not fit the 32 bits that it has in an archive")]
     NumberTooLarge,
     /// 7: a string's text is longer than 1,073,741,823 bytes.
+    #[error("the text of a string is longer than 1073741823 bytes")]
     StringTooLong,
     /// 8: a writer that holds `len` of at most `cap` bytes was given `write_len` more, which don't fit.
+    #[error("{write_len} more bytes do not fit a buffer of {cap} bytes that holds {len}")]
     BufferOverflow {
         write_len: usize,
         cap: usize,
         len: usize,
     },
     /// 9: the writer's device failed.
+    #[error("the writer could not write to its device")]
     WriterFailed,
     /// 10: an item of a sequence of unknown length wrote bytes of its own (`serialize_from_unknown_length_iter`).
+    #[error("an item of an iterator of unknown length wrote bytes of its own")]
     ItemWrote,
     /// 11: a shared value is written that is being written already.
+    #[error("a shared value that contains itself cannot be written")]
     CyclicSerialize,
     /// 12: a shared position is met that is being checked already, and its flavor forbids cycles.
+    #[error("a shared value contains itself, which its flavor forbids")]
     CyclicValidate,
     /// 13: a shared position is met that is being read already.
+    #[error("a shared value that contains itself cannot be read back")]
     CyclicDeserialize,
     /// 14: a shared key or position is finished that wasn't started.
+    #[error("a shared value was finished before it was started")]
     NotStarted,
     /// 15: a shared key or position is finished that is finished already.
+    #[error("a shared value was finished twice")]
     AlreadyFinished,
     /// 16: a region of `size` bytes at `position` doesn't lie in the range `start..end`.
+    #[error("region of {size} bytes at position {position} lies outside {start}..{end}")]
     InvalidSubtreePointer {
         position: i128,
         size: usize,
@@ -52,42 +68,58 @@ pub enum Error {
         end: usize,
     },
     /// 17: a region lies in the range, and its position is no multiple of `align`.
+    #[error("region at position {position} is not aligned to {align} bytes")]
     UnalignedPointer {
         position: i128,
         align: usize,
     },
     /// 18: a region is entered with one level left, the last of which lets none be entered.
+    #[error("regions are nested deeper than the limit allows")]
     ExceededMaximumSubtreeDepth,
     /// 19: a range is given back where the levels left are `usize::MAX`.
+    #[error("a range was popped more often than one was pushed")]
     RangePoppedTooManyTimes,
     /// 20: a range is given back that begins below the current end.
+    #[error("a range was popped out of order")]
     RangePoppedOutOfOrder,
     /// 21: a shared position is met that was met with another flavor or pointee.
+    #[error("pointers of two types lead to one shared value")]
     TypeMismatch,
     /// 22: a shared position is met that was met with this type and another length.
+    #[error("pointers of two lengths lead to one shared value")]
     MetadataMismatch,
     /// 23: a region's size, or the end of one that is written, is above `usize::MAX`.
+    #[error("a value takes more bytes than usize can count")]
     LayoutTooLarge,
     /// 24: the tag `value` names no variant of the choice `name`.
+    #[error("tag {value} names no variant of {name}")]
     InvalidDiscriminant {
         name: &'static str,
         value: u8,
     },
     /// 25: a bool's byte is neither 0 nor 1.
+    #[error("the byte of a bool is neither 0 nor 1")]
     InvalidBool,
     /// 26: a char's number is no scalar value of Unicode.
+    #[error("the number of a char is not a Unicode scalar value")]
     InvalidChar,
     /// 27: all bytes of a non-zero number are 0.
+    #[error("a non-zero number is 0")]
     ZeroNumber,
     /// 28: a text isn't UTF-8.
+    #[error("text is not valid UTF-8")]
     InvalidUtf8,
     /// 29: an out-of-line string codes a length of eight bytes or fewer.
+    #[error("a string that is stored out of line has eight bytes or fewer")]
     InvalidStringRepr,
     /// 30: a name that a type reaches has no definition, or two different ones.
+    #[error("the name of a type has no definition, or two different ones")]
     ShapeConflict,
     /// 31: a name holds itself other than behind a pointer.
+    #[error("a type contains itself without a pointer between")]
     RecursiveLayout,
     /// 32: kept for sorted maps. No call answers it yet.
+    #[error("the keys of a sorted map do not ascend strictly")]
     UnsortedKeys,
 }
 
@@ -185,83 +217,6 @@ impl Error {
             Error::ShapeConflict => "ShapeConflict",
             Error::RecursiveLayout => "RecursiveLayout",
             Error::UnsortedKeys => "UnsortedKeys",
-        }
-    }
-
-    /// The sentence that `Display` prints of a refusal without fields.
-    fn message(&self) -> &'static str {
-        MESSAGES[self.number() as usize - 1]
-    }
-}
-
-/// The sentences of the refusals in the order of their numbers; none where a refusal has fields, which stand in its sentence.
-const MESSAGES: [&str; 32] = [
-    "out of memory",
-    "the distance between two positions doesn't fit isize",
-    "the distance between two positions doesn't fit the offset",
-    "a position above 4294967295 doesn't fit 32 bits",
-    "a length above 4294967295 doesn't fit 32 bits",
-    "a usize or isize doesn't fit 32 bits",
-    "the text of a string has more than 1073741823 bytes",
-    "",
-    "the writer's device failed",
-    "an item of a sequence of unknown length wrote bytes of its own",
-    "a shared value that holds itself can't be written",
-    "a shared value holds itself, which its type forbids",
-    "a shared value that holds itself can't be read back",
-    "a shared value is finished that wasn't started",
-    "a shared value is finished that is finished already",
-    "",
-    "",
-    "regions lie too deep in one another",
-    "a range is given back more often than one was taken",
-    "a range is given back out of order",
-    "a shared value is pointed to as two types",
-    "a shared value is pointed to with two lengths",
-    "a value takes more bytes than a usize can count",
-    "",
-    "the byte of a bool is neither 0 nor 1",
-    "the number of a char is no Unicode scalar value",
-    "a number is 0 that must not be 0",
-    "a text isn't UTF-8",
-    "a text of eight bytes or fewer stands outside its string",
-    "the name of a type has no definition, or two",
-    "a type holds itself other than behind a pointer",
-    "the keys of a sorted map aren't in order",
-];
-
-impl std::error::Error for Error {}
-
-/// One sentence for people, without a full stop; our own.
-impl fmt::Display for Error {
-    fn fmt<W: fmt::Write>(&self, f: &mut fmt::Formatter<W>) -> fmt::Result {
-        match self {
-            Error::BufferOverflow {
-                write_len,
-                cap,
-                len,
-            } => write!(
-                f,
-                "{write_len} more bytes don't fit a buffer of {cap} bytes that holds {len}"
-            ),
-            Error::InvalidSubtreePointer {
-                position,
-                size,
-                start,
-                end,
-            } => write!(
-                f,
-                "a region of {size} bytes at {position} doesn't lie within {start}..{end}"
-            ),
-            Error::UnalignedPointer { position, align } => write!(
-                f,
-                "a region at {position}, which is no multiple of {align}"
-            ),
-            Error::InvalidDiscriminant { name, value } => write!(
-                f,
-                "tag {value} names no variant of {name}"
-            ),
-            _ => f.write_str(self.message()),
         }
     }
 }

@@ -6,7 +6,7 @@ ghost use Rattle.archive_check.specs.Shape.{unit, bool, char};
 ghost use Rattle.archive_check.specs.LittleEndian.{little_bytes, little_number};
 ghost use Rattle.archive_num.specs.Digits.{bool_byte};
 ghost use Rattle.archive_check.proofs.LittleEndian.{length-little_bytes, AreBytes-little_bytes};
-ghost use Rattle.archive_num.specs.Leaves.{unit-bytes, unit-leaf, unit-reads, unit-value, bool-bytes, bool-kind, bool-legal, bool-leaf, bool-number, bool-reads, bool-value, bool-order, char-kind, char-legal, char-leaf, char-number, char-reads, char-value, unsigned-order};
+ghost use Rattle.archive_num.specs.NumberLaws.{unit-bytes, unit-leaf, unit-reads, unit-value, bool-bytes, bool-kind, bool-legal, bool-leaf, bool-number, bool-reads, bool-value, bool-order, char-kind, char-legal, char-leaf, char-number, char-reads, char-value, unsigned-order};
 
 use crate::Native;
 use archive_check::format::expr::Kind;

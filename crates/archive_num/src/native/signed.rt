@@ -6,7 +6,7 @@ ghost use Rattle.std.specs.Int.RustNames.{FitsSigned};
 ghost use Rattle.archive_check.specs.Shape.{number, signed};
 ghost use Rattle.archive_check.specs.LittleEndian.{little_bytes, little_number};
 ghost use Rattle.archive_check.proofs.LittleEndian.{length-little_bytes, AreBytes-little_bytes};
-ghost use Rattle.archive_num.specs.Leaves.{number-leaf, signed-number, signed-reads, signed-value};
+ghost use Rattle.archive_num.specs.NumberLaws.{number-leaf, signed-number, signed-reads, signed-value};
 
 use crate::{Integer, Native};
 use archive_check::format::expr::{IntegerKind, Kind};

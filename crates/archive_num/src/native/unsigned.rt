@@ -5,7 +5,7 @@ ghost use Rattle.std.specs.Int.{w8, w16, w32, w64, w128};
 ghost use Rattle.archive_check.specs.Shape.{number, unsigned};
 ghost use Rattle.archive_check.specs.LittleEndian.{little_bytes, little_number};
 ghost use Rattle.archive_check.proofs.LittleEndian.{length-little_bytes, AreBytes-little_bytes};
-ghost use Rattle.archive_num.specs.Leaves.{number-leaf, unsigned-number, unsigned-reads, unsigned-value, unsigned-order};
+ghost use Rattle.archive_num.specs.NumberLaws.{number-leaf, unsigned-number, unsigned-reads, unsigned-value, unsigned-order};
 
 use crate::{Integer, Native};
 use archive_check::format::expr::{IntegerKind, Kind};

@@ -1,5 +1,5 @@
 -- What each turn of a check's loop keeps.
-use Rattle.std.proofs.Common.{◌≡◌, inl, inr, ℕ, zero, suc, ℤ, pos, sym, ap, ◌∙◌, ◌+◌, ◌-◌, ◌*◌, ◌<◌, ◌≤◌, max, arith, List, [], ◌∷◌, length, slice_index, slice_index_or, Bor, Some, Result, Ok, Err, OnOk, IfErr}
+use Rattle.std.proofs.Common.{◌≡◌, inl, inr, ℕ, zero, suc, ℤ, pos, sym, ap, ◌∙◌, ◌+◌, ◌-◌, ◌*◌, ◌<◌, ◌≤◌, max, arith, List, [], ◌∷◌, length, slice_index, slice_index_or, Bor, Some, Err}
 use Rattle.archive_check.specs.declared.format.error.Error.{Error}
 use Rattle.archive_schema.specs.declared.plan.NodeKind.{NodeKind}
 use Rattle.archive_schema.specs.declared.plan.NodeKind.TheVariants.{Free, Record, Choice}
@@ -195,13 +195,3 @@ elements_less {m = m} {i = i} {n = n} {j = j} e p old fits =
     let k = length m.nodes.now in
     falls_one (level k e (j + 1) n) (level k e i 18446744073709551616) (cost m e old)
     (level_same k e i (j + 1) 18446744073709551616 n (omega (arith, fits.earlier)) fits.few)
-
--- answers
-
-pub ok_map : {A B : Type 0} (r : Result (Unit {0}) Error) → (A → B) → OnOk r A → OnOk r B
-ok_map (Ok u) f h = f h
-ok_map (Err e) f h = tt
-
-pub err_map : {A B : Error → Type 0} (r : Result (Unit {0}) Error) → ((e : Error) → A e → B e) → IfErr r A → IfErr r B
-err_map (Ok u) f h = tt
-err_map (Err e) f h = f e h

@@ -1,8 +1,8 @@
 -- The marks of the shallow nodes, one after another.
-use Rattle.std.proofs.Common.{◌≡◌, ◌⊎◌, inl, inr, ⊎_elim, ℕ, zero, suc, refl, sym, ap, ◌∙◌, subst, ◌+◌, ◌<◌, ◌≤◌, arith, List, [], ◌∷◌, ◌++◌, length, length-append, get_or, take, drop, Bool, false, ◌&&◌, IsTrue}
+use Rattle.std.proofs.Common.{◌≡◌, ◌⊎◌, inl, inr, ⊎_elim, ℕ, zero, suc, refl, sym, ap, ◌∙◌, subst, ◌+◌, ◌<◌, ◌≤◌, arith, List, [], ◌∷◌, ◌++◌, length, length-append, get_or, take, Bool, false, IsTrue}
 use Rattle.std.proofs.lemmas.Bool.{cases_lt, and_parts}
 use Rattle.std.proofs.lemmas.List.{take-append-le}
-use Rattle.std.proofs.Math.Seq.{drop-cons, take-append_seam}
+use Rattle.std.proofs.Math.Seq.{take-append_seam}
 use Rattle.std.specs.Cmp.Derive.{both_true}
 use Rattle.archive_schema.specs.declared.plan.PointeeKind.TheVariants.{One, Run, Text}
 use Rattle.archive_schema.specs.declared.plan.NodeKind.{NodeKind}
@@ -12,7 +12,7 @@ use Rattle.archive_schema.specs.declared.plan.Part.{Part}
 use Rattle.archive_schema.specs.declared.plan.Span.{Span}
 use Rattle.archive_check.specs.Elements.{IsAt, span}
 use Rattle.archive_check.proofs.Elements.{same_at}
-use Rattle.archive_schema.specs.plan.Shallow.{marked, is_free, free_at, parts_shallow, variants_shallow, kind_shallow, AreShallow, HasRange, HasSpans, HasIndexes, AreAllMarked}
+use Rattle.archive_schema.specs.plan.Shallow.{marked, is_free, free_at, parts_shallow, variants_shallow, kind_shallow, AreShallow, HasIndexes, AreAllMarked}
 
 pub kind_free : (kind : NodeKind) → IsTrue (is_free kind) → kind ≡ Free
 kind_free Free h = refl
@@ -25,18 +25,6 @@ kind_free (Str j) h = cc
 kind_free (Shared k target j) h = cc
 kind_free (Weak k target j) h = cc
 
--- the element at i, and the rest
-drop_next : {A : Type 0} (xs : List A) (i : ℕ) (x : A) → i < length xs → x ≡ get_or xs i x → drop i xs ≡ x ∷ drop (i + 1) xs
-drop_next xs i x h e =
-    let s : i + 1 ≡ suc i = omega arith in
-    drop-cons xs i x h ∙ ap (λ y. y ∷ drop (suc i) xs) (sym e) ∙ ap (λ j. x ∷ drop j xs) (sym s)
-
-pub parts_next : (marks : List Bool) (xs : List Part) (i : ℕ) (x : Part) → i < length xs → x ≡ get_or xs i x → parts_shallow marks (drop i xs) ≡ (marked marks x.node && parts_shallow marks (drop (i + 1) xs))
-parts_next marks xs i x h e = ap (parts_shallow marks) (drop_next xs i x h e)
-
-pub variants_next : (marks : List Bool) (parts : List Part) (xs : List Span) (i : ℕ) (x : Span) → i < length xs → x ≡ get_or xs i x → variants_shallow marks parts (drop i xs) ≡ (parts_shallow marks (span parts x.first x.last) && variants_shallow marks parts (drop (i + 1) xs))
-variants_next marks parts xs i x h e = ap (variants_shallow marks parts) (drop_next xs i x h e)
-
 pub free_here : (nodes : List Node) (i : ℕ) (x : Node) → i < length nodes → free_at nodes i ≡ is_free (get_or nodes i x).kind
 free_here [] i x h = absurd (omega arith)
 free_here (y ∷ ys) zero x h = refl
@@ -46,9 +34,6 @@ pub free_nowhere : (nodes : List Node) (i : ℕ) → length nodes ≤ i → free
 free_nowhere [] i h = refl
 free_nowhere (y ∷ ys) zero h = absurd (omega arith)
 free_nowhere (y ∷ ys) (suc i) h = free_nowhere ys i (omega arith)
-
-pub spans_next : (parts : List Part) (xs : List Span) (i : ℕ) (x : Span) → i < length xs → x ≡ get_or xs i x → HasSpans parts (drop i xs) → HasRange parts x.first x.last × HasSpans parts (drop (i + 1) xs)
-spans_next parts xs i x h e spans = rw (drop_next xs i x h e) at spans
 
 -- one more mark
 

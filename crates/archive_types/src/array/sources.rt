@@ -54,9 +54,10 @@ fn is_whole<T, const N: usize>(_array: &[T; N])
     ensures { length _array.now ≡ N }
 {}
 
-// So has each of a slice of arrays. In proofs alone an array can be a list of any length, so this does nothing.
+/// Shows that each of `arrays` has as many elements as its type says. In proofs alone an array can be a list of any length; when the program runs this
+/// does nothing. What is promised of a list of arrays speaks of such alone, so who uses it calls this first. Our own.
 #[inline(always)]
-fn each_is_whole<T, const N: usize>(arrays: &[[T; N]])
+pub fn each_is_whole<T, const N: usize>(arrays: &[[T; N]])
     ensures { All (λ array. length array ≡ N) arrays.now }
 {
     for array in arrays {

@@ -10,8 +10,8 @@ ghost use Rattle.archive_check.specs.declared.format.error.Error.TheVariants.{Le
 ghost use Rattle.archive_types.specs.Causes.{HindersAt, IsRefused};
 ghost use Rattle.archive_types.specs.Keyed.{box_keyed, each_keyed, text_keyed};
 ghost use Rattle.archive_types.specs.KindsWritten.{SliceBoxResolved, SliceBoxHindered, TextBoxResolved, TextBoxHindered, TextBoxed, TextUnboxed};
-ghost use Rattle.archive_pointers.specs.Offsets.{distance, IsTooFar};
-ghost use Rattle.archive_pointers.specs.OwnerBytes.{owner_bytes};
+ghost use Rattle.archive_num.specs.Offsets.{distance, IsTooFar};
+ghost use Rattle.archive_num.specs.OwnerBytes.{owner_bytes};
 ghost use Rattle.archive_types.specs.Placed.{PointsTo, AtOnce};
 ghost use Rattle.archive_types.specs.Planned.{text_planned};
 ghost use Rattle.archive_types.specs.PlannedOwners.{box_planned, one_planned, slice_planned};

@@ -9,8 +9,8 @@ ghost use Rattle.archive_check.specs.declared.format.error.Error.TheVariants.{Le
 ghost use Rattle.archive_types.specs.Causes.{HindersAt, IsRefused};
 ghost use Rattle.archive_types.specs.Keyed.{box_keyed};
 ghost use Rattle.archive_types.specs.KindsWritten.{BoxResolved, BoxHindered};
-ghost use Rattle.archive_pointers.specs.Offsets.{distance, IsTooFar};
-ghost use Rattle.archive_pointers.specs.OwnerBytes.{owner_bytes};
+ghost use Rattle.archive_num.specs.Offsets.{distance, IsTooFar};
+ghost use Rattle.archive_num.specs.OwnerBytes.{owner_bytes};
 ghost use Rattle.archive_types.specs.Placed.{IsTooFarFrom, PointsTo, IsNoPointer};
 ghost use Rattle.archive_types.specs.PlannedOwners.{one_planned, boxed_one_planned};
 ghost use Rattle.archive_types.specs.Plans.{Serialized};
@@ -26,7 +26,7 @@ use crate::ser::serialize_one;
 use crate::traits::{Archive, ArchiveUnsized, PortablePointee, Serialize, SerializeUnsized};
 use archive_check::format::error::Error;
 use archive_num::FixedUsize;
-use archive_pointers::owners::emplace_pointer;
+use archive_num::owners::emplace_pointer;
 use archive_write::ser::{ResolverAlloc, Writer};
 use std::marker::Model;
 

@@ -8,7 +8,7 @@ ghost use Rattle.archive_check.specs.LittleEndian.{little_bytes, little_number};
 ghost use Rattle.archive_check.specs.Shape.{Kind as KindOf, bool, number, signed, unsigned, leaf, non_zero, one};
 ghost use Rattle.archive_types.specs.Sealed.{Encodes, value_encodes, non_zero_encodes, non_zero_size};
 ghost use Rattle.archive_num.specs.Digits.{is_zero, bool_byte};
-ghost use Rattle.archive_num.specs.Leaves.{bool-leaf, bool-number, bool-value, number-leaf, signed-number, signed-value, unsigned-number, unsigned-value};
+ghost use Rattle.archive_num.specs.NumberLaws.{bool-leaf, bool-number, bool-value, number-leaf, signed-number, signed-value, unsigned-number, unsigned-value};
 
 use archive_check::format::traits::ArchivePointee;
 use archive_nonzero::NonZero;

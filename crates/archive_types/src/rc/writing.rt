@@ -8,8 +8,8 @@ ghost use Rattle.archive_check.specs.Value.{hole, shared_value};
 ghost use Rattle.archive_check.specs.WriterState.{KeepsBytes, KeepsKeys};
 ghost use Rattle.archive_check.specs.declared.format.error.Error.TheVariants.{CyclicSerialize};
 ghost use Rattle.archive_types.specs.Causes.{HindersAt, IsRefused};
-ghost use Rattle.archive_pointers.specs.Offsets.{distance, IsTooFar};
-ghost use Rattle.archive_pointers.specs.OwnerBytes.{owner_bytes};
+ghost use Rattle.archive_num.specs.Offsets.{distance, IsTooFar};
+ghost use Rattle.archive_num.specs.OwnerBytes.{owner_bytes};
 ghost use Rattle.archive_types.specs.Placed.{IsTooFarFrom};
 ghost use Rattle.archive_types.specs.Plans.{Serialized};
 ghost use Rattle.archive_types.specs.SharedLaws.{flavor_as, naming_of, weak_value, weak_keys, weak_count, weak_flat};
@@ -25,7 +25,7 @@ use crate::sharing::{Sharing, SharingExt};
 use crate::traits::{ArchiveUnsized, PortablePointee, SerializeUnsized};
 use archive_check::format::error::Error;
 use archive_num::FixedUsize;
-use archive_pointers::owners::emplace_pointer;
+use archive_num::owners::emplace_pointer;
 use std::marker::Model;
 
 /// Where a shared value was written, in bytes from the first one. In a contract it is that position. As in rkyv 0.8.18.

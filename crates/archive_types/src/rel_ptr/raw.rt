@@ -10,7 +10,7 @@ ghost use Rattle.archive_check.specs.Layout.{kind_size};
 ghost use Rattle.archive_check.specs.SelfCheck.Laws.{leaf_check};
 ghost use Rattle.archive_check.specs.LeafLayout.{leaf_layout, leaf_align, leaf_has_layout, no_definition_reached};
 ghost use Rattle.archive_check.specs.declared.format.error.Error.TheVariants.{OffsetOverflow};
-ghost use Rattle.archive_pointers.specs.Offsets.{distance, Fits, IsBeyond, offset_bytes, offset_at};
+ghost use Rattle.archive_num.specs.Offsets.{distance, Fits, IsBeyond, offset_bytes, offset_at};
 ghost use Rattle.archive_types.specs.OffsetsWritten.{OffsetWritten, OffsetPut};
 
 use super::{Offset, OffsetNumber, signed_offset};

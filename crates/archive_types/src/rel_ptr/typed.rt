@@ -10,7 +10,7 @@ ghost use Rattle.archive_check.specs.Expressions.{shape_of};
 ghost use Rattle.archive_check.specs.LeafLayout.{no_definition_reached};
 ghost use Rattle.archive_check.specs.LittleEndian.{little_bytes};
 ghost use Rattle.archive_check.specs.declared.format.error.Error.TheVariants.{OutOfMemory, OffsetOverflow};
-ghost use Rattle.archive_pointers.specs.Offsets.{distance, offset_at};
+ghost use Rattle.archive_num.specs.Offsets.{distance, offset_at};
 ghost use Rattle.archive_types.specs.OffsetsWritten.{RelWritten, RelPut, InvalidPut};
 ghost use Rattle.archive_types.specs.PointersWritten.{PointerPut};
 ghost use Rattle.archive_types.specs.RelativePointers.{rel_parts, length_begin, rel_layout, written_at};

@@ -279,7 +279,7 @@ fn copy_together<S: Writer + Keys, T: Copied>(
 /// Writes zeros up to the values' alignment, and then the bytes of all, one behind another, a piece of at most 1,024 bytes at a time, and several pieces at
 /// once where the writer has the room for them at hand; answers the region's position, in bytes from the first one. It asks nothing, and takes no memory of
 /// its own. Refused with `LayoutTooLarge`, 23, where the region would end above `usize::MAX`, or as the writer refuses (`OutOfMemory`, 1; `BufferOverflow`,
-/// 8; `WriterFailed`, 9), of a whole piece each time; so over a `Buffer` exactly where the bytes don't fit. After a refusal, too, the bytes from before are
+/// 8; `WriterFailed`, 9); so over a `Buffer` exactly where the bytes don't fit. After a refusal, too, the bytes from before are
 /// a beginning of those that `serializer` holds. rkyv 0.8.18 has it within `serialize_unsized` of a slice, and copies memory.
 #[inline(always)]
 pub fn copy_slice<S: Writer + Keys, T: CopiedSource>(
@@ -322,4 +322,22 @@ pub fn copy_groups<S: Writer + Keys, T: Copied>(
     }
     let pos = copy_together(values, size, together, serializer)?;
     Ok(Some(pos))
+}
+
+/// Writes arrays of values that are copied, as `copy_slice` writes the values of all: zeros up to their alignment, and then the bytes of each array, one
+/// behind another; returns the position of the first. The caller must ensure that the values can be counted. Fails as `copy_slice` does. Our own.
+#[inline(always)]
+pub fn copy_arrays<S: Writer + Keys, T: CopiedSource, const N: usize>(
+    arrays: &[[T; N]],
+    serializer: &mut S,
+) -> Result<usize, Error>
+    requires { length arrays.now * N < 2 ^ 64 }
+    ensures copied { OnOk result (AddedAligned T.Archived.layout (each_bytes (each_bytes T.copied_bytes) arrays.now) S.Keys serializer) }
+    ensures position { IfOk result (λ p. p ≡ copies_from T.Archived.layout (S.position serializer.old)) }
+    ensures goes_on { GoesOn (S.state serializer.old) (S.state serializer.new) }
+    ensures cause { IfErr result (CopiesRefused S.position S.Keys serializer T.Archived.layout (length arrays.now * N)) }
+    ensures memory { IsErrOf result Error.OutOfMemory → IsTrue S.takes_memory }
+    ensures succeeds { Takes S.position S.Keys serializer S.takes_memory T.Archived.layout (length arrays.now * N) → IsOk result }
+{
+    copy_slice(arrays.as_flattened(), serializer)
 }

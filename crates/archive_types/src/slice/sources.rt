@@ -10,7 +10,7 @@ ghost use Rattle.archive_types.specs.Placed.{AtOnce};
 ghost use Rattle.archive_types.specs.PlannedOwners.{is_long, slice_planned};
 ghost use Rattle.archive_types.specs.Plans.{SerializedRegion};
 ghost use Rattle.archive_types.specs.Runs.{each_keys, each_meaning, each_flat, EachBelongs, SerializedRun, IsRunRefused};
-ghost use Rattle.archive_types.specs.Sources.{EachOwned, EachRefused, SliceStored, SliceUnstored};
+ghost use Rattle.archive_types.specs.Sources.{EachOwned, EachRefused, SliceStored, SliceUnstored, ArrayStored, ArrayUnstored};
 ghost use Rattle.archive_write.specs.Written.{GoesOn};
 
 use super::ArchivedSlice;
@@ -52,15 +52,18 @@ pub(crate) fn serialize_each<A: Allocator + Drop, S: Writer, T: Serialize<S>>(
     Ok(resolvers)
 }
 
-// Writes what each of the values owns and then all of them as a region of its own, and answers the region's position.
+// Writes what each of the values owns and then all of them as a region of its own, and answers the region's position. The region is that of an array of
+// them, too.
 #[inline(always)]
-fn serialize_in_turn<S: Writer + ResolverAlloc, T: Serialize<S>>(
+pub(crate) fn serialize_in_turn<S: Writer + ResolverAlloc, T: Serialize<S>>(
     values: &[T],
     serializer: &mut S,
 ) -> Result<usize, Error>
     ensures serialized { IfOk result (SliceStored T.Archive T.Archived.Portable values.now S.Keys serializer) }
+    ensures as_array { IfOk result (ArrayStored T.Archive T.Archived.Portable values.now S.Keys serializer) }
     ensures goes_on { GoesOn (S.state serializer.old) (S.state serializer.new) }
     ensures refused { IfErr result (SliceUnstored T.Archive T.Archived.Portable values.now S.Keys serializer) }
+    ensures no_array { IfErr result (ArrayUnstored T.Archive T.Archived.Portable values.now S.Keys serializer) }
 {
     let alloc = serializer.resolver_alloc();
     let resolvers = serialize_each(alloc, values, serializer)?;

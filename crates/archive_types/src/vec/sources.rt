@@ -8,8 +8,8 @@ ghost use Rattle.archive_check.specs.declared.format.error.Error.TheVariants.{Le
 ghost use Rattle.archive_types.specs.Causes.{HindersAt, IsRefused};
 ghost use Rattle.archive_types.specs.Keyed.{each_keyed};
 ghost use Rattle.archive_types.specs.KindsWritten.{VecSerialized, VecRefused, VecResolved, VecHindered};
-ghost use Rattle.archive_pointers.specs.Offsets.{distance, IsTooFar};
-ghost use Rattle.archive_pointers.specs.OwnerBytes.{owner_bytes};
+ghost use Rattle.archive_num.specs.Offsets.{distance, IsTooFar};
+ghost use Rattle.archive_num.specs.OwnerBytes.{owner_bytes};
 ghost use Rattle.archive_types.specs.Placed.{IsTooFarFrom, PointsTo, AtOnce};
 ghost use Rattle.archive_types.specs.PlannedOwners.{one_planned, vec_planned, slice_planned};
 ghost use Rattle.archive_types.specs.Plans.{Serialized};
@@ -25,7 +25,7 @@ use crate::slice::serialize_slice;
 use crate::traits::{Archive, ArchiveUnsized, Portable, Serialize, SerializeUnsized};
 use archive_check::format::error::Error;
 use archive_num::FixedUsize;
-use archive_pointers::owners::emplace_long_owner;
+use archive_num::owners::emplace_long_owner;
 use archive_write::ser::{ResolverAlloc, Writer};
 use std::marker::Model;
 

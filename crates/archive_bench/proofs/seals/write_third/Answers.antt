@@ -1,4 +1,4 @@
-use Rattle.archive_types.proofs.ViewsTogether.{viewed_still}
+use Rattle.archive_core.proofs.ViewsTogether.{viewed_still}
 use Rattle.archive_bench.proofs.seals.write_third.Goals as goal
 
 pub write_leaf-requires-clause-viewed : goal.write_leaf-requires-clause-viewed

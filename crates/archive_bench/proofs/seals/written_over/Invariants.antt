@@ -1,5 +1,5 @@
 use Rattle.std.proofs.Common.{◌≤◌}
-use Rattle.archive_check.specs.Viewed.{Viewed}
+use Rattle.archive_core.specs.Viewed.{Viewed}
 use Rattle.archive_bench.proofs.seals.written_over.Given as goal
 
 abbrev pub invariant-loop-round : goal.invariant-loop-round

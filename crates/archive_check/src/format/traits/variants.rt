@@ -1,11 +1,12 @@
 // The variants of a choice, nested pair by pair, and the choices that have them.
 
-ghost use Rattle.std.specs.Prelude.{◌≡◌, ℕ, max, min, OnOk, IfOk, IfErr};
+ghost use Rattle.std.specs.Prelude.{◌≡◌, ℕ, ◌+◌, ◌≤◌, max, min, OnOk, IfOk, IfErr};
 ghost use Rattle.archive_check.specs.Shape.{Name, choice, no_variant, variant};
 ghost use Rattle.archive_check.specs.Layout.{up};
 ghost use Rattle.archive_check.specs.Expressions.{shape_of, variants_in, table_of};
 ghost use Rattle.archive_check.specs.Definitions.{IsAlign, NoOthers, Extended, ExplainsConflict, named_choice};
 ghost use Rattle.archive_check.specs.PartsLayout.{greater_align, one_align};
+ghost use Rattle.archive_check.specs.VariantsHeld.{HavePayloadSizes, no_payload_sized, no_payload_within, payload_sized, payload_within};
 ghost use Rattle.archive_check.specs.VariantsLayout.{VariantsLaidOut, IsChoice, joined_variants, first_variant_or, no_variant_laid_out, variant_laid_out, no_variants_reached, variant_reached};
 ghost use Rattle.archive_check.specs.declared.format.error.Error.TheVariants.{OutOfMemory};
 ghost use Rattle.archive_check.specs.AddedDefinitions.{AreAdded};
@@ -26,6 +27,9 @@ pub trait PortableVariants: CheckedVariants {
 
     // Where the part with an index begins, in the variant with a tag.
     ghost begin: { ℕ → ℕ → ℕ };
+
+    // The size of the part with an index, in the variant with a tag: 0 where there is none.
+    ghost size_at: { ℕ → ℕ → ℕ };
 
     /// The greatest alignment of all parts in bytes, 1 where there is none.
     fn align() -> usize
@@ -56,6 +60,10 @@ pub trait PortableVariants: CheckedVariants {
     ghost laid_out: { VariantsLaidOut Self.definitions Self.variants greatest Self.end begin };
 
     ghost no_others: { (name : Name) → NoOthers Self.definitions (choice name Self.variants) };
+
+    ghost sized: { HavePayloadSizes Self.definitions Self.variants size_at };
+
+    ghost within: { (tag i : ℕ) → begin tag i + size_at tag i ≤ Self.end };
 }
 
 impl PortableVariants for () {
@@ -63,11 +71,17 @@ impl PortableVariants for () {
 
     ghost begin = { λ tag i. 1 };
 
+    ghost size_at = { λ tag i. 0 };
+
     ghost is_align = { one_align };
 
     ghost laid_out = { no_variant_laid_out };
 
     ghost no_others = { no_variants_reached };
+
+    ghost sized = { no_payload_sized };
+
+    ghost within = { no_payload_within };
 
     fn align() -> usize {
         1
@@ -96,11 +110,17 @@ impl<P: PortableParts, V: PortableVariants> PortableVariants for (P, V) {
 
     ghost begin = { first_variant_or (P.begin 1) V.begin };
 
+    ghost size_at = { first_variant_or P.size_at V.size_at };
+
     ghost is_align = { greater_align P.greatest V.greatest P.is_align V.is_align };
 
     ghost laid_out = { variant_laid_out P.definitions V.definitions P.parts P.greatest P.end P.begin P.laid_out V.variants V.greatest V.end V.begin V.laid_out };
 
     ghost no_others = { variant_reached P.definitions V.definitions P.parts V.variants P.no_others V.no_others };
+
+    ghost sized = { payload_sized P.definitions V.definitions P.parts P.size_at P.sized V.variants V.size_at V.sized };
+
+    ghost within = { payload_within (P.begin 1) P.size_at (P.end 1) (P.within 1) V.begin V.size_at V.end V.within };
 
     #[inline(always)]
     fn align() -> usize {
@@ -145,6 +165,9 @@ pub trait Choice: Portable {
 
     // It is they, or a name that stands for them.
     ghost has_variants: { IsChoice Self.definitions Self.shape name Self.Variants.definitions Self.Variants.variants };
+
+    // It holds them.
+    ghost holds: { Self.Variants.end ≤ Self.layout.size };
 
     /// Where part `i` of the variant with this tag begins, in bytes from the choice's first one, which is the tag: `usize::MAX` where it is that or more.
     final fn offset(tag: u8, i: usize) -> usize

@@ -3,7 +3,7 @@ use Rattle.archive_check.specs.Definitions.{IsAlign}
 use Rattle.archive_check.specs.PartsLayout.{knows_left, knows_right}
 use Rattle.archive_check.proofs.ViewedVariants.{tag_fits, tag_known, case_viewed}
 use Rattle.archive_enum.specs.Choices.{up_first}
-use Rattle.archive_enum.specs.Results.{result_tag}
+use Rattle.archive_enum.specs.ResultShapes.{result_tag}
 use Rattle.archive_types.proofs.ViewsTogether.{case_with}
 use Rattle.archive_types.proofs.result.Ref+ArchivedResult+T+E.as_ref.Goals as goal
 

@@ -12,13 +12,17 @@ returns-in_err-align_for-clause-refused g c = err_by c.from_residual.result c.in
 
 pub returns-in_err-align_for-clause-cause : goal.returns-in_err-align_for-clause-cause
 returns-in_err-align_for-clause-cause g c = err_by c.from_residual.result c.in_err-align_for.field-0.0 _ c.from_residual.ensures.1
-    (copy_not_padded g.T.CopiedAs.Portable.layout _ _ _ _ _ (g.met.S.Writer.position_law _) c.in_err-align_for.ensures.refusal)
+    (copy_not_padded g.T.CopiedAs.Portable.layout _ _ _ _ _ (g.met.S.Writer.position_law _)
+    (goes_refused _ _ c.in_err-align_for.ensures.kept c.in_err-align_for.ensures.room c.in_err-align_for.ensures.device c.in_err-align_for.ensures.keys)
+    c.in_err-align_for.ensures.refusal)
 
 pub returns-in_err-align_for-clause-succeeds : goal.returns-in_err-align_for-clause-succeeds
 returns-in_err-align_for-clause-succeeds g c = copy_fails c.from_residual.result c.in_err-align_for.field-0.0 _ _ _ _
     (goes_refused _ _ c.in_err-align_for.ensures.kept c.in_err-align_for.ensures.room c.in_err-align_for.ensures.device c.in_err-align_for.ensures.keys)
     c.in_err-align_for.ensures.memory
-    (copy_not_padded g.T.CopiedAs.Portable.layout _ _ _ _ _ (g.met.S.Writer.position_law _) c.in_err-align_for.ensures.refusal)
+    (copy_not_padded g.T.CopiedAs.Portable.layout _ _ _ _ _ (g.met.S.Writer.position_law _)
+    (goes_refused _ _ c.in_err-align_for.ensures.kept c.in_err-align_for.ensures.room c.in_err-align_for.ensures.device c.in_err-align_for.ensures.keys)
+    c.in_err-align_for.ensures.refusal)
 
 pub returns-clause-serialized : goal.returns-clause-serialized
 returns-clause-serialized g c = serialized_elements_if _ _ _ _ _ c.copy_aligned.result _ _ _ _ _ _ _

@@ -1,4 +1,5 @@
 use Rattle.std.proofs.Common.{◌≡◌, ◌+◌, ◌≤◌, length, arith, refl}
+use Rattle.archive_types.proofs.KnownParts.{viewed_also}
 use Rattle.archive_types.proofs.FieldsShown.{field_viewed, field_within, field_shows}
 use Rattle.archive_types.proofs.view.Ref.field.Goals as goal
 
@@ -10,7 +11,7 @@ pub at-requires : goal.at-requires
 at-requires g c =
     let within = field_within _ _ _ _ g.met.T.Record.has_parts c.part-pos.result.bytes.now c.part-pos.result.pos _ _ g.met.T.Portable.is_one _ _ _ g.met.T.Parts.PortableParts.laid_out c.args.i _ c.requires.part c.part-pos.ensures.viewed in
     let here : c.offset.result ≡ g.T.Parts.PortableParts.begin 0 c.args.i = omega (arith, c.offset.ensures, within) in
-    rw (g.met.U.Portable.is_one, here) (field_viewed _ _ _ _ g.met.T.Record.has_parts c.part-pos.result.bytes.now c.part-pos.result.pos _ _ g.met.T.Portable.is_one _ _ _ g.met.T.Parts.PortableParts.laid_out c.args.i _ c.requires.part _ c.requires.definitions c.part-pos.ensures.viewed)
+    rw (g.met.U.Portable.is_one, here) (viewed_also c.requires.definitions (field_viewed _ _ _ _ g.met.T.Record.has_parts c.part-pos.result.bytes.now c.part-pos.result.pos _ _ g.met.T.Portable.is_one _ _ _ g.met.T.Parts.PortableParts.laid_out c.args.i _ c.requires.part _ refl c.part-pos.ensures.viewed))
 
 pub returns-clause-position : goal.returns-clause-position
 returns-clause-position g c =

@@ -1,5 +1,6 @@
 use Rattle.std.proofs.Common.{◌≡◌, ◌+◌, ◌≤◌, length, slice_index, arith, refl}
 use Rattle.archive_check.proofs.ViewedPayloads.{choice_tag_fits, payload_viewed, payload_within}
+use Rattle.archive_types.proofs.KnownParts.{viewed_also}
 use Rattle.archive_types.proofs.ChoicesShown.{payload_shows}
 use Rattle.archive_types.proofs.view.Ref.payload.Goals as goal
 
@@ -17,7 +18,7 @@ at-requires g c =
     let of = rw (← c.part-pos.ensures.buffer, ← c.part-pos.ensures.position) at c.requires.definitions in
     let within = payload_within _ _ _ _ _ g.met.T.Choice.has_variants c.part-pos.result.bytes.now c.part-pos.result.pos _ _ g.met.T.Portable.is_one _ _ _ g.met.T.Variants.PortableVariants.laid_out c.args.i _ at c.part-pos.ensures.viewed in
     let here : c.offset.result ≡ g.T.Variants.PortableVariants.begin (slice_index c.part-pos.result.bytes.now c.part-pos.result.pos) c.args.i = omega (arith, c.offset.ensures, within) in
-    rw (g.met.U.Portable.is_one, here) (payload_viewed _ _ _ _ _ g.met.T.Choice.has_variants c.part-pos.result.bytes.now c.part-pos.result.pos _ _ g.met.T.Portable.is_one _ _ _ g.met.T.Variants.PortableVariants.laid_out c.args.i _ at _ of c.part-pos.ensures.viewed)
+    rw (g.met.U.Portable.is_one, here) (viewed_also of (payload_viewed _ _ _ _ _ g.met.T.Choice.has_variants c.part-pos.result.bytes.now c.part-pos.result.pos _ _ g.met.T.Portable.is_one _ _ _ g.met.T.Variants.PortableVariants.laid_out c.args.i _ at _ refl c.part-pos.ensures.viewed))
 
 pub returns-clause-position : goal.returns-clause-position
 returns-clause-position g c =

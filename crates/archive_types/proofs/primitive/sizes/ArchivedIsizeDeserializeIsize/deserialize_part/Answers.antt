@@ -3,7 +3,7 @@ use Rattle.std.proofs.lemmas.Grind.{common_steps}
 use Rattle.std.specs.Int.{w32, cast_signed}
 use Rattle.archive_check.specs.Shape.{number, signed}
 use Rattle.archive_check.specs.LittleEndian.{little_number}
-use Rattle.archive_num.specs.Leaves.{signed-value}
+use Rattle.archive_num.specs.NumberLaws.{signed-value}
 use Rattle.archive_check.proofs.ReadBack.{leaf_read_back}
 use Rattle.archive_types.proofs.Shown.{number_says}
 use Rattle.archive_types.proofs.primitive.sizes.ArchivedIsizeDeserializeIsize.deserialize_part.Goals as goal

@@ -1,4 +1,0 @@
-use Rattle.archive_core.proofs.api.access_pos_mut.Goals as goal
-
-pub seal-requires : goal.seal-requires
-seal-requires g c = rw c.in-Ok.ensures.buffer at c.of-spot.ensures.viewed

@@ -1,0 +1,8 @@
+use Rattle.archive_types.proofs.SharedWritten.{weak_serialized, null_serialized}
+use Rattle.archive_core.proofs.rc.sources.weak.WeakSharedSerialize.serialize.Goals as goal
+
+pub returns-in_default-clause-serialized : goal.returns-in_default-clause-serialized
+returns-in_default-clause-serialized g c = rw c.in_default.is (null_serialized _ _ _ _)
+
+pub returns-in-Ok-clause-serialized : goal.returns-in-Ok-clause-serialized
+returns-in-Ok-clause-serialized g c = rw c.in-Some.is (weak_serialized _ _ _ _ _ _ _ _ c.in-Ok.ensures.serialized)

@@ -1,0 +1,14 @@
+use Rattle.archive_core.proofs.SealedLeaves.{text_lies}
+use Rattle.archive_types.proofs.StandingLeaves.{text_stands}
+use Rattle.archive_core.proofs.StandingParts.{views_kept}
+use Rattle.archive_core.proofs.seal.Seal.write_str_at.Goals as goal
+
+pub write_text_over-requires : goal.write_text_over-requires
+write_text_over-requires g c = text_lies _ _ _ _ _ c.requires.same_length c.requires.viewed
+
+pub returns-clause-stands : goal.returns-clause-stands
+returns-clause-stands g c = λ s root X a i. text_stands s _ a _ _ i
+
+pub returns-clause-views : goal.returns-clause-views
+returns-clause-views g c =
+    views_kept _ _ _ _ _ _ _ (rw c.requires.same_length at c.write_text_over.ensures.leaf) (rw c.requires.same_length at c.write_text_over.ensures.parts) (λ s root X a i. text_stands s _ a _ _ i)

@@ -1,0 +1,8 @@
+use Rattle.archive_types.proofs.ViewsTogether.{shown_with}
+use Rattle.archive_core.proofs.seal.parts.Seal+array+N+T.index.Goals as goal
+
+pub seal-requires : goal.seal-requires
+seal-requires g c = rw (c.index.ensures.buffer, c.as_ref.ensures.buffer) at c.of-element.ensures.viewed
+
+pub returns-clause-beside : goal.returns-clause-beside
+returns-clause-beside g c = rw (c.seal.ensures.position, c.seal.ensures.length, c.of-element.ensures.position, c.of-element.ensures.length) (shown_with _ _ _ _ _ _ _ _ _ (rw (c.as_ref.ensures.buffer, c.as_ref.ensures.position, c.as_ref.ensures.length) at c.index.ensures.shows))

@@ -1,0 +1,46 @@
+//! Whole archives that are edited where they lie: the root's seal.
+
+ghost use Rattle.std.specs.Prelude.{◌≡◌, None, IfOk};
+ghost use Rattle.archive_check.specs.Archives.{Answers, root_in};
+ghost use Rattle.archive_check.specs.Viewed.{Viewed};
+
+use super::{access_pos, root_position};
+use crate::seal::{Seal, SpotExt};
+use archive_check::format::error::Error;
+use archive_types::traits::Portable;
+use std::alloc::Global;
+
+/// Checks that `bytes` are an archive whose root, a `T`, lies at `pos`, and answers the root's seal. It asks nothing. No byte changes. Memory for the
+/// schema and the check comes from `alloc`. Refused as by `access_pos`.
+pub fn access_pos_mut<'a, T: Portable>(
+    alloc: Global,
+    bytes: &'a mut [u8],
+    pos: usize,
+) -> Result<Seal<'a, T>, Error>
+    ensures answer { Answers T.definitions bytes.old None pos T.shape result }
+    ensures same_reference { IfOk result (λ s. s.bytes.ghost_name ≡ bytes.entry.ghost_name) }
+    ensures buffer { IfOk result (λ s. s.bytes.now ≡ bytes.old) }
+    ensures position { IfOk result (λ s. s.pos ≡ pos) }
+    ensures whole { IfOk result (λ s. s.len ≡ 0) }
+    ensures viewed { IfOk result (λ s. Viewed T.definitions s.bytes.now s.pos T.pointee s.len) }
+{
+    let spot = match access_pos::<T>(alloc, bytes, pos) {
+        Ok(root) => root.spot(),
+        Err(error) => return Err(error),
+    };
+    Ok(spot.seal(bytes))
+}
+
+/// Checks that `bytes` are an archive whose root, a `T`, lies at the end, and answers the root's seal. It asks nothing. No byte changes. Memory for the
+/// schema and the check comes from `alloc`. Refused as by `access_pos`.
+pub fn access_mut<'a, T: Portable>(alloc: Global, bytes: &'a mut [u8]) -> Result<Seal<'a, T>, Error>
+    ensures answer { Answers T.definitions bytes.old None (root_in bytes.old T.layout) T.shape result }
+    ensures same_reference { IfOk result (λ s. s.bytes.ghost_name ≡ bytes.entry.ghost_name) }
+    ensures buffer { IfOk result (λ s. s.bytes.now ≡ bytes.old) }
+    ensures position { IfOk result (λ s. s.pos ≡ root_in bytes.old T.layout) }
+    ensures whole { IfOk result (λ s. s.len ≡ 0) }
+    ensures viewed { IfOk result (λ s. Viewed T.definitions s.bytes.now s.pos T.pointee s.len) }
+{
+    let pos = root_position::<T>(bytes.len());
+    access_pos_mut(alloc, bytes, pos)
+}

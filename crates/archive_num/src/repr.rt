@@ -1,0 +1,61 @@
+//! The eight bytes of a string, as rkyv 0.8.18 has them.
+
+ghost use Rattle.std.specs.Prelude.{◌≡◌, ◌<◌, ◌≤◌, MatchResult, FitsSigned, length};
+ghost use Rattle.std.specs.Int.{w32};
+ghost use Rattle.archive_num.specs.Offsets.{distance, IsTooFar};
+ghost use Rattle.archive_num.specs.StringBytes.{inline_bytes, out_of_line_bytes, coded_length, OutOfLineWritten};
+
+use crate::offset::offset_to;
+use archive_check::format::error::Error;
+
+/// A text of at most so many bytes stands in the string itself. As in rkyv 0.8.18.
+pub const INLINE_CAPACITY: usize = 8;
+
+/// A string's text of more bytes than these can't be archived. As in rkyv 0.8.18.
+pub const OUT_OF_LINE_CAPACITY: usize = 1_073_741_823;
+
+/// Writes a short text over the string's bytes, and 0xff over those that it leaves. Asks for a text of at most `INLINE_CAPACITY` bytes and for the
+/// eight bytes of the string; it is never refused.
+#[inline(always)]
+pub fn emplace_inline(value: &str, out: &mut [u8])
+    requires short { length value.now ≤ 8 }
+    requires sized { length out.old ≡ 8 }
+    ensures { out.new ≡ inline_bytes value.now }
+{
+    let mut text = [0xff; 8];
+    text[..value.len()].copy_from_slice(value.as_bytes());
+    out.copy_from_slice(&text);
+}
+
+// The first four bytes of a string whose text stands elsewhere, as a number.
+#[tactic(auto, using(crate::proofs::Coded::coded_bits))]
+#[inline(always)]
+fn coded(len: usize) -> u32
+    requires { len ≤ 1073741823 }
+    ensures { result ≡ coded_length len }
+{
+    ((len & 0x3f) | 0x80 | ((len & !0x3f) << 2)) as u32
+}
+
+/// Writes over the bytes of the string at `pos` that its text stands at `target`, both in bytes from the buffer's first one. Asks for a text of more
+/// than `INLINE_CAPACITY` and at most `OUT_OF_LINE_CAPACITY` bytes, and for the eight bytes of the string. Refused with `IsizeOverflow`, 2, exactly
+/// where the offset doesn't fit `isize`, and else with `OffsetOverflow`, 3, exactly where it doesn't fit 32 bits; the bytes are then unchanged,
+/// where rkyv 0.8.18 has written the length.
+#[inline(always)]
+pub fn try_emplace_out_of_line(
+    value: &str,
+    pos: usize,
+    target: usize,
+    out: &mut [u8],
+) -> Result<(), Error>
+    requires long { 8 < length value.now }
+    requires held { length value.now ≤ 1073741823 }
+    requires sized { length out.old ≡ 8 }
+    ensures { OutOfLineWritten (length value.now) (distance pos target) out.old out.new result }
+{
+    let offset = offset_to(pos, target)?;
+    let (length, behind) = out.split_at_mut(4);
+    length.copy_from_slice(&coded(value.len()).to_le_bytes());
+    behind.copy_from_slice(&offset.to_le_bytes());
+    Ok(())
+}

@@ -1,4 +1,0 @@
-pub mod OwnChoices
-pub mod ReadChoices
-pub mod NamedVariants
-pub mod Nests

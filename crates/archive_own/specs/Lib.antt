@@ -1,4 +1,0 @@
-pub mod OwnChoices
-pub mod Nests
-pub mod NestsRead
-pub mod OwnRecords

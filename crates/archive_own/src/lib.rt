@@ -1,4 +1,0 @@
-//! Records and choices of your own.
-#![tactic(auto)]
-
-pub mod own;

@@ -1,5 +1,0 @@
-pub mod Offsets
-pub mod OffsetWidths
-pub mod Distances
-pub mod OwnerBytes
-pub mod StringBytes

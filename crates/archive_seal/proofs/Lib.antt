@@ -1,2 +1,0 @@
-pub mod StandingParts
-pub mod SealedLeaves

@@ -1,9 +1,0 @@
-use Rattle.archive_types.proofs.ViewsTogether.{shown_with, with_trans}
-use Rattle.archive_seal.proofs.seal.parts.Seal+ArchivedVec+T.index.Goals as goal
-
-pub seal-requires : goal.seal-requires
-seal-requires g c = rw (c.index.ensures.buffer, c.as_slice.ensures.buffer, c.as_ref.ensures.buffer) at c.of-spot.ensures.viewed
-
-pub returns-clause-beside : goal.returns-clause-beside
-returns-clause-beside g c = rw (c.seal.ensures.position, c.seal.ensures.length, c.of-spot.ensures.position, c.of-spot.ensures.length) (with_trans _ _ _ _ _ (shown_with _ _ _ _ _ _ _ _ _ (rw (c.as_ref.ensures.buffer, c.as_ref.ensures.position, c.as_ref.ensures.length) at c.as_slice.ensures.shows))
-    (shown_with _ _ _ _ _ _ _ _ _ (rw (c.as_slice.ensures.buffer, c.as_ref.ensures.buffer) at c.index.ensures.shows)))

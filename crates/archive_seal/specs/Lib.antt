@@ -1,3 +1,0 @@
-pub mod SealedResults
-pub mod SealedOptions
-pub mod SealsWritten

@@ -1,4 +1,0 @@
-//! Archives are edited where they lie: seals.
-#![tactic(auto)]
-
-pub mod seal;

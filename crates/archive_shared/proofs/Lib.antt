@@ -1,4 +1,0 @@
-pub mod SharedOnes
-pub mod PooledReading
-pub mod PooledPointers
-pub mod PooledPositions

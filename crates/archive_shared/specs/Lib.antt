@@ -1,4 +1,0 @@
-pub mod Pooling
-pub mod SharedSeen
-pub mod KeptValues
-pub mod Spans

@@ -1,0 +1,523 @@
+//! An enum of five variants.
+
+/// What happens.
+#[derive(Debug, PartialEq, Drop)]
+pub enum Event {
+    /// The end.
+    Quit,
+    /// A key.
+    Key(char),
+    /// A text.
+    Text(String),
+    /// A step.
+    Move {
+        /// To the right.
+        x: i32,
+        /// Up.
+        y: i32,
+    },
+    /// Numbers.
+    Batch(Vec<u32>),
+}
+
+// Below this line all is written by tools/derive: change what is above it, and run it again.
+
+ghost use Rattle.archive_core.specs.Definitions.{both, no_definition};
+ghost use Rattle.archive_core.specs.Keyed.{case_keyed, each_keyed, nothing_keyed, number_keyed, part_keyed, text_keyed};
+ghost use Rattle.archive_core.specs.LeafLayout.{no_definition_reached};
+ghost use Rattle.archive_core.specs.PartsPlanned.{no_part_planned, part_planned};
+ghost use Rattle.archive_core.specs.Payloads.{payload_in};
+ghost use Rattle.archive_core.specs.Plain.{plain_choice, plain_own_check, plain_variant_planned};
+ghost use Rattle.archive_core.specs.Planned.{leaf_planned, string_planned};
+ghost use Rattle.archive_core.specs.PlannedOwners.{one_planned, slice_planned, vec_planned};
+ghost use Rattle.archive_core.specs.SealsWritten.{SealsBeside, seal_tag};
+ghost use Rattle.archive_core.specs.Seen.{IsPartOf, RefusesPart, ShowsValueOf, tag_of};
+ghost use Rattle.archive_core.specs.Shape.{choice, no_part, no_variant, one, part, variant};
+ghost use Rattle.archive_core.specs.Sources.{HinderedAs, Read, ResolvedAs};
+ghost use Rattle.archive_core.specs.Value.{case, no_value, value};
+ghost use Rattle.archive_core.specs.Viewed.{Viewed};
+ghost use Rattle.archive_core.specs.Writing.{ZeroedPlace};
+ghost use Rattle.std.proofs.Common.{inl, inr, lit≤};
+ghost use Rattle.std.specs.Prelude.{IfErr, IfOk, OnOk, [], codes, length, refl, string_bytes, true, ℕ, ◌++◌, ◌+◌, ◌≡◌};
+
+use archive_core::error::Error;
+use archive_core::fields::{
+    known_tag, part_in_case, read_case, resolve_case_0, resolve_case_1, resolve_case_2,
+    serialize_case_0, serialize_case_1, serialize_case_2, tag_in,
+};
+use archive_core::place::Place;
+use archive_core::primitive::{ArchivedChar, ArchivedI32, ArchivedU32};
+use archive_core::seal::{Seal, sealed_part_in_case};
+use archive_core::self_check::{SelfCheck, check_choice};
+use archive_core::ser::{ResolverAlloc, Writer, serialize_one};
+use archive_core::shape::{Defs, Expr};
+use archive_core::string::ArchivedString;
+use archive_core::traits::{
+    Archive, ArchivePointee, ArchiveUnsized, Choice, Deserialize, Entries, Portable, Serialize,
+    SerializeUnsized, expr_of_choice,
+};
+use archive_core::validation::ArchiveContext;
+use archive_core::vec::ArchivedVec;
+use archive_core::view::{RawView, Ref};
+use std::alloc::Global;
+
+/// An archived `Event`: 12 bytes at a multiple of 4.
+pub struct ArchivedEvent;
+
+type EventKeyParts = (ArchivedChar, ());
+
+type EventKeyOwned = (char, ());
+
+type EventTextParts = (ArchivedString, ());
+
+type EventTextOwned = (String, ());
+
+type EventMoveParts = (ArchivedI32, (ArchivedI32, ()));
+
+type EventMoveOwned = (i32, (i32, ()));
+
+type EventBatchParts = (ArchivedVec<ArchivedU32>, ());
+
+type EventBatchOwned = (Vec<u32>, ());
+
+type EventVariants = (
+    (),
+    (
+        EventKeyParts,
+        (EventTextParts, (EventMoveParts, (EventBatchParts, ()))),
+    ),
+);
+
+impl ArchivePointee for ArchivedEvent {
+    type ArchivedMetadata = ();
+
+    ghost pointee = { one (choice (codes "ArchivedEvent") (variant no_part (variant (part ⟦<ArchivedChar as Portable>⟧.shape no_part) (variant (part ⟦<ArchivedString as Portable>⟧.shape no_part) (variant (part ⟦<ArchivedI32 as Portable>⟧.shape (part ⟦<ArchivedI32 as Portable>⟧.shape no_part)) (variant (part ⟦<ArchivedVec<ArchivedU32> as Portable>⟧.shape no_part) no_variant)))))) };
+
+    ghost definitions = { no_definition };
+
+    ghost metadata_length = { λ _. 0 };
+
+    fn pointer_metadata(_metadata: &()) -> usize {
+        0
+    }
+}
+
+impl Portable for ArchivedEvent {
+    ghost shape = { choice (codes "ArchivedEvent") (variant no_part (variant (part ⟦<ArchivedChar as Portable>⟧.shape no_part) (variant (part ⟦<ArchivedString as Portable>⟧.shape no_part) (variant (part ⟦<ArchivedI32 as Portable>⟧.shape (part ⟦<ArchivedI32 as Portable>⟧.shape no_part)) (variant (part ⟦<ArchivedVec<ArchivedU32> as Portable>⟧.shape no_part) no_variant))))) };
+
+    ghost layout = { record { size = 12; align = 4 } };
+
+    type Check = ArchivedEvent;
+
+    ghost is_one = { refl };
+
+    ghost is_align = { inr (inr (inl refl)) };
+
+    ghost has_layout = { record { solved = λ s k. refl } };
+
+    ghost no_others = { no_definition_reached (choice (codes "ArchivedEvent") (variant no_part (variant (part ⟦<ArchivedChar as Portable>⟧.shape no_part) (variant (part ⟦<ArchivedString as Portable>⟧.shape no_part) (variant (part ⟦<ArchivedI32 as Portable>⟧.shape (part ⟦<ArchivedI32 as Portable>⟧.shape no_part)) (variant (part ⟦<ArchivedVec<ArchivedU32> as Portable>⟧.shape no_part) no_variant)))))) };
+
+    ghost checks = { λ _. plain_own_check _ _ _ _ _ refl refl refl refl };
+
+    fn size() -> usize {
+        12
+    }
+
+    fn align() -> usize {
+        4
+    }
+
+    fn expr(alloc: Global) -> Result<Expr, Error> {
+        expr_of_choice::<EventVariants>(alloc, "ArchivedEvent")
+    }
+
+    fn define(_alloc: Global, _defs: &mut Defs) -> Result<(), Error> {
+        Ok(())
+    }
+}
+
+impl SelfCheck for ArchivedEvent {
+    ghost shape = { choice (codes "ArchivedEvent") (variant no_part (variant (part ⟦<ArchivedChar as Portable>⟧.shape no_part) (variant (part ⟦<ArchivedString as Portable>⟧.shape no_part) (variant (part ⟦<ArchivedI32 as Portable>⟧.shape (part ⟦<ArchivedI32 as Portable>⟧.shape no_part)) (variant (part ⟦<ArchivedVec<ArchivedU32> as Portable>⟧.shape no_part) no_variant))))) };
+
+    ghost definitions = { (both no_definition (both (both no_definition no_definition) (both (both no_definition no_definition) (both (both no_definition (both no_definition no_definition)) (both (both no_definition no_definition) no_definition))))) };
+
+    ghost span = { 12 };
+
+    ghost direct = { true };
+
+    ghost nameless = { true };
+
+    fn is_direct() -> bool {
+        true
+    }
+
+    fn is_nameless() -> bool {
+        true
+    }
+
+    fn check_at<C: ArchiveContext>(
+        bytes: &[u8],
+        at: usize,
+        refusal: &mut Error,
+        context: &mut C,
+    ) -> Option<()> {
+        check_choice::<EventVariants, C>("ArchivedEvent", bytes, at, refusal, context)
+    }
+}
+
+impl Choice for ArchivedEvent {
+    type Variants = EventVariants;
+
+    ghost name = { codes "ArchivedEvent" };
+
+    ghost has_variants = { plain_choice (codes "ArchivedEvent") (variant no_part (variant (part ⟦<ArchivedChar as Portable>⟧.shape no_part) (variant (part ⟦<ArchivedString as Portable>⟧.shape no_part) (variant (part ⟦<ArchivedI32 as Portable>⟧.shape (part ⟦<ArchivedI32 as Portable>⟧.shape no_part)) (variant (part ⟦<ArchivedVec<ArchivedU32> as Portable>⟧.shape no_part) no_variant))))) (both no_definition (both (both no_definition no_definition) (both (both no_definition no_definition) (both (both no_definition (both no_definition no_definition)) (both (both no_definition no_definition) no_definition))))) refl };
+
+    ghost holds = { lit≤ tt };
+}
+
+/// What is kept of `Event` from its serialization until it is resolved.
+#[derive(Drop)]
+pub enum EventResolver {
+    /// Of `Quit`.
+    Quit,
+    /// Of `Key`.
+    Key((<char as Archive>::Resolver, ())),
+    /// Of `Text`.
+    Text((<String as Archive>::Resolver, ())),
+    /// Of `Move`.
+    Move((<i32 as Archive>::Resolver, (<i32 as Archive>::Resolver, ()))),
+    /// Of `Batch`.
+    Batch((<Vec<u32> as Archive>::Resolver, ())),
+}
+
+impl Archive for Event {
+    ghost use Rattle.derived_types.specs.declared.event.Event.TheVariants.{Batch as EventBatch, Key as EventKey, Move as EventMove, Quit as EventQuit, Text as EventText};
+    ghost use Rattle.derived_types.specs.declared.event.EventResolver.TheVariants.{Batch as EventBatchKept, Key as EventKeyKept, Move as EventMoveKept, Quit as EventQuitKept, Text as EventTextKept};
+
+    type Archived = ArchivedEvent;
+
+    type Resolver = EventResolver;
+
+    ghost meaning = { elim [ EventQuit ↦ case 0 no_value | EventKey a0 ↦ case 1 (value (⟦<char as Archive>⟧.meaning a0) no_value) | EventText a0 ↦ case 2 (value (⟦<String as Archive>⟧.meaning a0) no_value) | EventMove a0 a1 ↦ case 3 (value (⟦<i32 as Archive>⟧.meaning a0) (value (⟦<i32 as Archive>⟧.meaning a1) no_value)) | EventBatch a0 ↦ case 4 (value (⟦<Vec<u32> as Archive>⟧.meaning a0) no_value) ] };
+
+    ghost flat = { λ v r. elim v [ EventQuit ↦ case 0 no_value | EventKey a0 ↦ elim r [ EventKeyKept s ↦ case 1 (value (⟦<char as Archive>⟧.flat a0 s.0) no_value) | _ ↦ case 1 no_value ] | EventText a0 ↦ elim r [ EventTextKept s ↦ case 2 (value (⟦<String as Archive>⟧.flat a0 s.0) no_value) | _ ↦ case 2 no_value ] | EventMove a0 a1 ↦ elim r [ EventMoveKept s ↦ case 3 (value (⟦<i32 as Archive>⟧.flat a0 s.0) (value (⟦<i32 as Archive>⟧.flat a1 s.1.0) no_value)) | _ ↦ case 3 no_value ] | EventBatch a0 ↦ elim r [ EventBatchKept s ↦ case 4 (value (⟦<Vec<u32> as Archive>⟧.flat a0 s.0) no_value) | _ ↦ case 4 no_value ] ] };
+
+    ghost keys = { elim [ EventQuit ↦ [] | EventKey a0 ↦ ⟦<char as Archive>⟧.keys a0 ++ [] | EventText a0 ↦ ⟦<String as Archive>⟧.keys a0 ++ [] | EventMove a0 a1 ↦ ⟦<i32 as Archive>⟧.keys a0 ++ (⟦<i32 as Archive>⟧.keys a1 ++ []) | EventBatch a0 ↦ ⟦<Vec<u32> as Archive>⟧.keys a0 ++ [] ] };
+
+    ghost belongs = { λ v r. elim v [ EventQuit ↦ elim r [ EventQuitKept ↦ Unit {0} | _ ↦ ⊥ ] | EventKey a0 ↦ elim r [ EventKeyKept s ↦ ⟦<char as Archive>⟧.belongs a0 s.0 × Unit {0} | _ ↦ ⊥ ] | EventText a0 ↦ elim r [ EventTextKept s ↦ ⟦<String as Archive>⟧.belongs a0 s.0 × Unit {0} | _ ↦ ⊥ ] | EventMove a0 a1 ↦ elim r [ EventMoveKept s ↦ ⟦<i32 as Archive>⟧.belongs a0 s.0 × (⟦<i32 as Archive>⟧.belongs a1 s.1.0 × Unit {0}) | _ ↦ ⊥ ] | EventBatch a0 ↦ elim r [ EventBatchKept s ↦ ⟦<Vec<u32> as Archive>⟧.belongs a0 s.0 × Unit {0} | _ ↦ ⊥ ] ] };
+
+    ghost keyed = { elim [ EventQuit ↦ case_keyed _ 0 _ nothing_keyed | EventKey a0 ↦ case_keyed _ 1 _ (part_keyed (number_keyed _) nothing_keyed) | EventText a0 ↦ case_keyed _ 2 _ (part_keyed (text_keyed (string_bytes a0)) nothing_keyed) | EventMove a0 a1 ↦ case_keyed _ 3 _ (part_keyed (number_keyed _) (part_keyed (number_keyed _) nothing_keyed)) | EventBatch a0 ↦ case_keyed _ 4 _ (part_keyed (each_keyed ⟦<u32 as Archive>⟧.keys ⟦<u32 as Archive>⟧.meaning (λ x. number_keyed _) a0.items) nothing_keyed) ] };
+
+    ghost planned = { elim [ EventQuit ↦ plain_variant_planned _ _ 0 no_part refl no_definition _ _ no_part_planned refl | EventKey a0 ↦ plain_variant_planned _ _ 1 (part ⟦<ArchivedChar as Portable>⟧.shape no_part) refl (both no_definition no_definition) _ _ (part_planned no_definition ⟦<ArchivedChar as Portable>⟧.shape (⟦<char as Archive>⟧.keys a0) (⟦<char as Archive>⟧.meaning a0) (leaf_planned no_definition _ _ [] _ refl) no_part_planned) refl | EventText a0 ↦ plain_variant_planned _ _ 2 (part ⟦<ArchivedString as Portable>⟧.shape no_part) refl (both no_definition no_definition) _ _ (part_planned no_definition ⟦<ArchivedString as Portable>⟧.shape (⟦<String as Archive>⟧.keys a0) (⟦<String as Archive>⟧.meaning a0) (string_planned no_definition [] (string_bytes a0)) no_part_planned) refl | EventMove a0 a1 ↦ plain_variant_planned _ _ 3 (part ⟦<ArchivedI32 as Portable>⟧.shape (part ⟦<ArchivedI32 as Portable>⟧.shape no_part)) refl (both no_definition (both no_definition no_definition)) _ _ (part_planned no_definition ⟦<ArchivedI32 as Portable>⟧.shape (⟦<i32 as Archive>⟧.keys a0) (⟦<i32 as Archive>⟧.meaning a0) (leaf_planned no_definition _ _ [] _ refl) (part_planned no_definition ⟦<ArchivedI32 as Portable>⟧.shape (⟦<i32 as Archive>⟧.keys a1) (⟦<i32 as Archive>⟧.meaning a1) (leaf_planned no_definition _ _ [] _ refl) no_part_planned)) refl | EventBatch a0 ↦ plain_variant_planned _ _ 4 (part ⟦<ArchivedVec<ArchivedU32> as Portable>⟧.shape no_part) refl (both no_definition no_definition) _ _ (part_planned no_definition ⟦<ArchivedVec<ArchivedU32> as Portable>⟧.shape (⟦<Vec<u32> as Archive>⟧.keys a0) (⟦<Vec<u32> as Archive>⟧.meaning a0) (vec_planned no_definition ⟦<ArchivedU32 as Portable>⟧.shape _ _ _ (slice_planned no_definition ⟦<ArchivedU32 as Portable>⟧.shape ⟦<u32 as Archive>⟧.keys ⟦<u32 as Archive>⟧.meaning (λ x. leaf_planned no_definition _ _ [] _ refl) a0.items)) no_part_planned) refl ] };
+
+    fn resolve(
+        &self,
+        resolver: Self::Resolver,
+        place: Place<'_, Self::Archived>,
+    ) -> Result<(), Error>
+        requires zeroed { ZeroedPlace 12 place.pos place.bytes.now }
+        requires same_value { ⟦<Self as Archive>⟧.belongs self.now resolver }
+        ensures resolved { OnOk result (ResolvedAs ⟦<Self as Archive>⟧ ⟦<Self::Archived as Portable>⟧ place self.now resolver) }
+        ensures same_length { length place.exit.0.now ≡ length place.entry.bytes.now }
+        ensures refused { IfErr result (HinderedAs ⟦<Self as Archive>⟧ ⟦<Self::Archived as Portable>⟧ place self.now resolver) }
+    {
+        let Place { bytes, pos, .. } = place;
+        match self {
+            Event::Quit => resolve_case_0::<ArchivedEvent>(0, (), Place::new(pos, bytes)),
+            Event::Key(a0) => {
+                let EventResolver::Key(kept) = resolver else {
+                    unreachable!();
+                };
+                resolve_case_1::<char, ArchivedEvent>(1, a0, kept, Place::new(pos, bytes))
+            }
+            Event::Text(a0) => {
+                let EventResolver::Text(kept) = resolver else {
+                    unreachable!();
+                };
+                resolve_case_1::<String, ArchivedEvent>(2, a0, kept, Place::new(pos, bytes))
+            }
+            Event::Move { x: a0, y: a1 } => {
+                let EventResolver::Move(kept) = resolver else {
+                    unreachable!();
+                };
+                resolve_case_2::<i32, i32, ArchivedEvent>(3, a0, a1, kept, Place::new(pos, bytes))
+            }
+            Event::Batch(a0) => {
+                let EventResolver::Batch(kept) = resolver else {
+                    unreachable!();
+                };
+                resolve_case_1::<Vec<u32>, ArchivedEvent>(4, a0, kept, Place::new(pos, bytes))
+            }
+        }
+    }
+}
+
+impl<S: Writer + ResolverAlloc> Serialize<S> for Event {
+    fn serialize(&self, serializer: &mut S) -> Result<Self::Resolver, Error> {
+        match self {
+            Event::Quit => match serialize_case_0::<ArchivedEvent, S>(0, serializer) {
+                Ok(()) => Ok(EventResolver::Quit),
+                Err(error) => Err(error),
+            },
+            Event::Key(a0) => match serialize_case_1::<char, ArchivedEvent, S>(1, a0, serializer) {
+                Ok(kept) => Ok(EventResolver::Key(kept)),
+                Err(error) => Err(error),
+            },
+            Event::Text(a0) => match serialize_case_1::<String, ArchivedEvent, S>(
+                2, a0, serializer,
+            ) {
+                Ok(kept) => Ok(EventResolver::Text(kept)),
+                Err(error) => Err(error),
+            },
+            Event::Move { x: a0, y: a1 } => match serialize_case_2::<i32, i32, ArchivedEvent, S>(
+                3, a0, a1, serializer,
+            ) {
+                Ok(kept) => Ok(EventResolver::Move(kept)),
+                Err(error) => Err(error),
+            },
+            Event::Batch(a0) => match serialize_case_1::<Vec<u32>, ArchivedEvent, S>(
+                4, a0, serializer,
+            ) {
+                Ok(kept) => Ok(EventResolver::Batch(kept)),
+                Err(error) => Err(error),
+            },
+        }
+    }
+}
+
+/// As a region of its own: the value itself.
+impl ArchiveUnsized for Event {
+    ghost use Rattle.derived_types.specs.contracts.event.EventArchive.TheImpl.Laws.{keyed-law as keyed_of_event, planned-law as planned_of_event};
+
+    type Archived = ArchivedEvent;
+
+    ghost source_length = { λ _. 0 };
+
+    ghost meaning = { ⟦<Event as Archive>⟧.meaning };
+
+    ghost keys = { ⟦<Event as Archive>⟧.keys };
+
+    ghost keyed = { keyed_of_event };
+
+    ghost one_length = { λ _ _. refl };
+
+    ghost planned = { λ v. one_planned no_definition (choice (codes "ArchivedEvent") (variant no_part (variant (part ⟦<ArchivedChar as Portable>⟧.shape no_part) (variant (part ⟦<ArchivedString as Portable>⟧.shape no_part) (variant (part ⟦<ArchivedI32 as Portable>⟧.shape (part ⟦<ArchivedI32 as Portable>⟧.shape no_part)) (variant (part ⟦<ArchivedVec<ArchivedU32> as Portable>⟧.shape no_part) no_variant)))))) (⟦<Event as Archive>⟧.keys v) (⟦<Event as Archive>⟧.meaning v) (planned_of_event v) };
+
+    fn archived_metadata(&self) -> Result<(), Error> {
+        Ok(())
+    }
+}
+
+impl<S: Writer + ResolverAlloc> SerializeUnsized<S> for Event {
+    fn serialize_unsized(&self, serializer: &mut S) -> Result<usize, Error> {
+        serialize_one(self, serializer)
+    }
+}
+
+impl<D: Entries> Deserialize<Event, D> for ArchivedEvent {
+    fn deserialize_part(
+        alloc: Global,
+        part: RawView<'_>,
+        deserializer: &mut D,
+    ) -> Result<Event, Error>
+        requires { IsPartOf ⟦<Self as ArchivePointee>⟧ part }
+        ensures read { IfOk result (Read ⟦<Self as ArchivePointee>⟧ part D.Entries deserializer ⟦<Event as Archive>⟧) }
+        ensures refused { IfErr result (RefusesPart ⟦<Self as ArchivePointee>⟧ part D.Entries deserializer) }
+    {
+        match known_tag::<Self>(part) {
+            0 => match read_case::<Self, (), (), D>(0, alloc, part, deserializer) {
+                Ok(()) => Ok(Event::Quit),
+                Err(error) => Err(error),
+            },
+            1 => match read_case::<Self, EventKeyParts, EventKeyOwned, D>(
+                1,
+                alloc,
+                part,
+                deserializer,
+            ) {
+                Ok((a0, ())) => Ok(Event::Key(a0)),
+                Err(error) => Err(error),
+            },
+            2 => match read_case::<Self, EventTextParts, EventTextOwned, D>(
+                2,
+                alloc,
+                part,
+                deserializer,
+            ) {
+                Ok((a0, ())) => Ok(Event::Text(a0)),
+                Err(error) => Err(error),
+            },
+            3 => match read_case::<Self, EventMoveParts, EventMoveOwned, D>(
+                3,
+                alloc,
+                part,
+                deserializer,
+            ) {
+                Ok((a0, (a1, ()))) => Ok(Event::Move { x: a0, y: a1 }),
+                Err(error) => Err(error),
+            },
+            _ => match read_case::<Self, EventBatchParts, EventBatchOwned, D>(
+                4,
+                alloc,
+                part,
+                deserializer,
+            ) {
+                Ok((a0, ())) => Ok(Event::Batch(a0)),
+                Err(error) => Err(error),
+            },
+        }
+    }
+}
+
+/// What a view of an archived `Event` shows, by its tag.
+#[derive(Drop)]
+pub enum ViewOfEvent<'a> {
+    /// The end.
+    Quit,
+    /// A key.
+    Key(Ref<'a, ArchivedChar>),
+    /// A text.
+    Text(Ref<'a, ArchivedString>),
+    /// A step.
+    Move {
+        /// To the right.
+        x: Ref<'a, ArchivedI32>,
+        /// Up.
+        y: Ref<'a, ArchivedI32>,
+    },
+    /// Numbers.
+    Batch(Ref<'a, ArchivedVec<ArchivedU32>>),
+}
+
+/// The variant of an archived `Event`, where it lies.
+pub trait EventView<'a> {
+    /// The variant that the tag names, with views of its fields.
+    fn variant(self) -> ViewOfEvent<'a>;
+}
+
+impl<'a> EventView<'a> for Ref<'a, ArchivedEvent> {
+    ghost use Rattle.derived_types.specs.declared.event.ViewOfEvent.TheVariants.{Batch as EventBatchShown, Key as EventKeyShown, Move as EventMoveShown, Quit as EventQuitShown, Text as EventTextShown};
+
+    fn variant(self) -> ViewOfEvent<'a>
+        ensures shows { elim result [ EventQuitShown ↦ (tag_of self.entry ≡ 0) | EventKeyShown a0 ↦ (tag_of self.entry ≡ 1) × (a0.bytes.now ≡ self.entry.bytes.now) × (a0.pos ≡ self.entry.pos + 4) × (a0.len ≡ 0) × ShowsValueOf a0 self.entry (payload_in 0) | EventTextShown a0 ↦ (tag_of self.entry ≡ 2) × (a0.bytes.now ≡ self.entry.bytes.now) × (a0.pos ≡ self.entry.pos + 4) × (a0.len ≡ 0) × ShowsValueOf a0 self.entry (payload_in 0) | EventMoveShown a0 a1 ↦ (tag_of self.entry ≡ 3) × (a0.bytes.now ≡ self.entry.bytes.now) × (a0.pos ≡ self.entry.pos + 4) × (a0.len ≡ 0) × ShowsValueOf a0 self.entry (payload_in 0) × (a1.bytes.now ≡ self.entry.bytes.now) × (a1.pos ≡ self.entry.pos + 8) × (a1.len ≡ 0) × ShowsValueOf a1 self.entry (payload_in 1) | EventBatchShown a0 ↦ (tag_of self.entry ≡ 4) × (a0.bytes.now ≡ self.entry.bytes.now) × (a0.pos ≡ self.entry.pos + 4) × (a0.len ≡ 0) × ShowsValueOf a0 self.entry (payload_in 0) ] }
+    {
+        match tag_in(self) {
+            0 => ViewOfEvent::Quit,
+            1 => ViewOfEvent::Key(part_in_case::<ArchivedEvent, ArchivedChar>(self, 1, 0, 4)),
+            2 => ViewOfEvent::Text(part_in_case::<ArchivedEvent, ArchivedString>(self, 2, 0, 4)),
+            3 => ViewOfEvent::Move {
+                x: part_in_case::<ArchivedEvent, ArchivedI32>(self, 3, 0, 4),
+                y: part_in_case::<ArchivedEvent, ArchivedI32>(self, 3, 1, 8),
+            },
+            _ => {
+                let a0 = part_in_case::<ArchivedEvent, ArchivedVec<ArchivedU32>>(self, 4, 0, 4);
+                ViewOfEvent::Batch(a0)
+            }
+        }
+    }
+}
+
+/// The fields of an archived `Event`, sealed where they lie. Each call asks that the tag is its variant's.
+pub trait EventSeal<'a> {
+    // The seal shows a part of a buffer that was checked.
+    ghost sealed: { Self → Type 0 };
+
+    // The tag that it shows.
+    ghost tag: { Self → ℕ };
+
+    /// The field `0` of `Key`.
+    fn key_0_mut(self) -> Seal<'a, ArchivedChar>
+        requires viewed { sealed self }
+        requires tag { tag self ≡ 1 };
+
+    /// The field `0` of `Text`.
+    fn text_0_mut(self) -> Seal<'a, ArchivedString>
+        requires viewed { sealed self }
+        requires tag { tag self ≡ 2 };
+
+    /// To the right.
+    fn move_x_mut(self) -> Seal<'a, ArchivedI32>
+        requires viewed { sealed self }
+        requires tag { tag self ≡ 3 };
+
+    /// Up.
+    fn move_y_mut(self) -> Seal<'a, ArchivedI32>
+        requires viewed { sealed self }
+        requires tag { tag self ≡ 3 };
+
+    /// The field `0` of `Batch`.
+    fn batch_0_mut(self) -> Seal<'a, ArchivedVec<ArchivedU32>>
+        requires viewed { sealed self }
+        requires tag { tag self ≡ 4 };
+}
+
+impl<'a> EventSeal<'a> for Seal<'a, ArchivedEvent> {
+    ghost sealed = { λ s. Viewed no_definition s.bytes.now s.pos (one ⟦<ArchivedEvent as Portable>⟧.shape) s.len };
+
+    ghost tag = { λ s. seal_tag s };
+
+    fn key_0_mut(self) -> Seal<'a, ArchivedChar>
+        requires viewed { Viewed no_definition self.bytes.now self.pos (one ⟦<ArchivedEvent as Portable>⟧.shape) self.len }
+        requires tag { seal_tag self ≡ 1 }
+        ensures same_reference { result.bytes.ghost_name ≡ self.entry.bytes.ghost_name }
+        ensures buffer { result.bytes.now ≡ self.entry.bytes.now }
+        ensures position { result.pos ≡ self.entry.pos + 4 }
+        ensures length { result.len ≡ 0 }
+        ensures viewed { Viewed no_definition result.bytes.now result.pos ⟦<ArchivedChar as ArchivePointee>⟧.pointee result.len }
+        ensures beside { SealsBeside no_definition (one ⟦<ArchivedEvent as Portable>⟧.shape) ⟦<ArchivedChar as ArchivePointee>⟧.pointee result self.entry }
+    {
+        sealed_part_in_case::<ArchivedEvent, ArchivedChar>(self, 1, 0, 4)
+    }
+
+    fn text_0_mut(self) -> Seal<'a, ArchivedString>
+        requires viewed { Viewed no_definition self.bytes.now self.pos (one ⟦<ArchivedEvent as Portable>⟧.shape) self.len }
+        requires tag { seal_tag self ≡ 2 }
+        ensures same_reference { result.bytes.ghost_name ≡ self.entry.bytes.ghost_name }
+        ensures buffer { result.bytes.now ≡ self.entry.bytes.now }
+        ensures position { result.pos ≡ self.entry.pos + 4 }
+        ensures length { result.len ≡ 0 }
+        ensures viewed { Viewed no_definition result.bytes.now result.pos ⟦<ArchivedString as ArchivePointee>⟧.pointee result.len }
+        ensures beside { SealsBeside no_definition (one ⟦<ArchivedEvent as Portable>⟧.shape) ⟦<ArchivedString as ArchivePointee>⟧.pointee result self.entry }
+    {
+        sealed_part_in_case::<ArchivedEvent, ArchivedString>(self, 2, 0, 4)
+    }
+
+    fn move_x_mut(self) -> Seal<'a, ArchivedI32>
+        requires viewed { Viewed no_definition self.bytes.now self.pos (one ⟦<ArchivedEvent as Portable>⟧.shape) self.len }
+        requires tag { seal_tag self ≡ 3 }
+        ensures same_reference { result.bytes.ghost_name ≡ self.entry.bytes.ghost_name }
+        ensures buffer { result.bytes.now ≡ self.entry.bytes.now }
+        ensures position { result.pos ≡ self.entry.pos + 4 }
+        ensures length { result.len ≡ 0 }
+        ensures viewed { Viewed no_definition result.bytes.now result.pos ⟦<ArchivedI32 as ArchivePointee>⟧.pointee result.len }
+        ensures beside { SealsBeside no_definition (one ⟦<ArchivedEvent as Portable>⟧.shape) ⟦<ArchivedI32 as ArchivePointee>⟧.pointee result self.entry }
+    {
+        sealed_part_in_case::<ArchivedEvent, ArchivedI32>(self, 3, 0, 4)
+    }
+
+    fn move_y_mut(self) -> Seal<'a, ArchivedI32>
+        requires viewed { Viewed no_definition self.bytes.now self.pos (one ⟦<ArchivedEvent as Portable>⟧.shape) self.len }
+        requires tag { seal_tag self ≡ 3 }
+        ensures same_reference { result.bytes.ghost_name ≡ self.entry.bytes.ghost_name }
+        ensures buffer { result.bytes.now ≡ self.entry.bytes.now }
+        ensures position { result.pos ≡ self.entry.pos + 8 }
+        ensures length { result.len ≡ 0 }
+        ensures viewed { Viewed no_definition result.bytes.now result.pos ⟦<ArchivedI32 as ArchivePointee>⟧.pointee result.len }
+        ensures beside { SealsBeside no_definition (one ⟦<ArchivedEvent as Portable>⟧.shape) ⟦<ArchivedI32 as ArchivePointee>⟧.pointee result self.entry }
+    {
+        sealed_part_in_case::<ArchivedEvent, ArchivedI32>(self, 3, 1, 8)
+    }
+
+    fn batch_0_mut(self) -> Seal<'a, ArchivedVec<ArchivedU32>>
+        requires viewed { Viewed no_definition self.bytes.now self.pos (one ⟦<ArchivedEvent as Portable>⟧.shape) self.len }
+        requires tag { seal_tag self ≡ 4 }
+        ensures same_reference { result.bytes.ghost_name ≡ self.entry.bytes.ghost_name }
+        ensures buffer { result.bytes.now ≡ self.entry.bytes.now }
+        ensures position { result.pos ≡ self.entry.pos + 4 }
+        ensures length { result.len ≡ 0 }
+        ensures viewed { Viewed no_definition result.bytes.now result.pos ⟦<ArchivedVec<ArchivedU32> as ArchivePointee>⟧.pointee result.len }
+        ensures beside { SealsBeside no_definition (one ⟦<ArchivedEvent as Portable>⟧.shape) ⟦<ArchivedVec<ArchivedU32> as ArchivePointee>⟧.pointee result self.entry }
+    {
+        sealed_part_in_case::<ArchivedEvent, ArchivedVec<ArchivedU32>>(self, 4, 0, 4)
+    }
+}

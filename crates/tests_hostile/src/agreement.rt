@@ -1,0 +1,101 @@
+// What is done with each archive, of whatever type: all that a stranger makes of it by cutting it short, by writing over one byte, or by both, is judged.
+
+use crate::assertions::{assert_agreement, assert_answer, form_of};
+use crate::oracle::Form;
+use archive_core::boxed::ArchivedBox;
+use archive_core::core_impls::ArchivedTuple2;
+use archive_core::option::ArchivedOption;
+use archive_core::rc::{ArchivedRc, ArchivedRcWeak, RcFlavor};
+use archive_core::traits::{Portable, PortablePointee};
+use std::alloc::{AllocError, Global};
+use std::process::Abort;
+
+// The bytes that others are made: the least, those on both sides of a sign's bit, and the greatest.
+const OTHERS: [u8; 5] = [0, 1, 0x7f, 0x80, 0xff];
+
+// The archive with another byte at an index.
+fn edited(alloc: Global, archive: &[u8], index: usize, value: u8) -> Result<Vec<u8>, AllocError> {
+    let mut bytes = Vec::new(alloc);
+    bytes.extend_from_slice(archive)?;
+    if let Some(byte) = bytes.get_mut(index) {
+        *byte = value;
+    }
+    Ok(bytes)
+}
+
+// Some bytes with each of them in turn made another one are judged alike by both checks.
+fn assert_edits<T: Portable>(
+    rt: &impl Abort,
+    what: &str,
+    alloc: Global,
+    form: &Form,
+    bytes: &[u8],
+) {
+    for index in 0..bytes.len() {
+        for value in OTHERS {
+            let bytes = edited(alloc, bytes, index, value).expect(rt, "memory for a copy");
+            assert_agreement::<T>(rt, what, alloc, form, &bytes);
+        }
+    }
+}
+
+// The archive is accepted, and each beginning of it is judged alike by both checks; so are the whole and each beginning with a byte made another one.
+fn assert_archive<T: Portable>(
+    rt: &impl Abort,
+    what: &str,
+    alloc: Global,
+    form: &Form,
+    archive: &[u8],
+) {
+    for length in 0..archive.len() {
+        let beginning = &archive[..length];
+        assert_agreement::<T>(rt, what, alloc, form, beginning);
+        assert_edits::<T>(rt, what, alloc, form, beginning);
+    }
+    assert_edits::<T>(rt, what, alloc, form, archive);
+    assert_answer::<T>(rt, what, alloc, form, archive, None);
+}
+
+// The same of the archive in each row, which names it.
+pub(crate) fn assert_hostile<T: Portable>(rt: &impl Abort, alloc: Global, rows: &[(&str, &[u8])]) {
+    let form = form_of::<T>(rt, alloc);
+    for (what, archive) in rows {
+        assert_archive::<T>(rt, what, alloc, &form, archive);
+    }
+}
+
+// And of archives of an option of a box.
+pub(crate) fn assert_hostile_option<T: PortablePointee>(
+    rt: &impl Abort,
+    alloc: Global,
+    rows: &[(&str, &[u8])],
+) {
+    assert_hostile::<ArchivedOption<ArchivedBox<T>>>(rt, alloc, rows);
+}
+
+// And of a pair.
+pub(crate) fn assert_hostile_pair<A: Portable, B: Portable>(
+    rt: &impl Abort,
+    alloc: Global,
+    rows: &[(&str, &[u8])],
+) {
+    assert_hostile::<ArchivedTuple2<A, B>>(rt, alloc, rows);
+}
+
+// And of two shared pointers.
+pub(crate) fn assert_hostile_shared<T: PortablePointee>(
+    rt: &impl Abort,
+    alloc: Global,
+    rows: &[(&str, &[u8])],
+) {
+    assert_hostile_pair::<ArchivedRc<T, RcFlavor>, ArchivedRc<T, RcFlavor>>(rt, alloc, rows);
+}
+
+// And of a shared pointer and a weak one.
+pub(crate) fn assert_hostile_weak<T: PortablePointee>(
+    rt: &impl Abort,
+    alloc: Global,
+    rows: &[(&str, &[u8])],
+) {
+    assert_hostile_pair::<ArchivedRc<T, RcFlavor>, ArchivedRcWeak<T, RcFlavor>>(rt, alloc, rows);
+}

@@ -1,0 +1,17 @@
+//! Tests of hostile bytes: archives cut short and with bytes made others, judged by `access` and by a slow check of its own, made from docs/FORMAT.md.
+#![tactic(auto)]
+
+#[cfg(test)]
+mod agreement;
+#[cfg(test)]
+mod archives;
+#[cfg(test)]
+mod assertions;
+#[cfg(test)]
+mod faults;
+#[cfg(test)]
+mod inner;
+#[cfg(test)]
+mod oracle;
+#[cfg(test)]
+mod rows;

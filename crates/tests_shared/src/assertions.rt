@@ -1,0 +1,172 @@
+// Assertions that are proved once. A call of one takes the check a fifth of a second, and `assert_eq!` written out in a test's body seconds. What is written
+// and read back is compared in here, too: a call of `to_bytes` or `from_bytes` at a type is as dear. None answers a `Result`: a check lists all locals of a
+// body at each of its steps, with their types in full, and `Error` is the longest of them. What isn't as it should be ends the process.
+
+ghost use Rattle.std.specs.Prelude.{◌≡◌};
+ghost use Rattle.archive_core.specs.Viewed.{Viewed};
+
+use archive_core::api::{HighSerializer, access, access_mut, access_pos_mut, from_bytes, to_bytes};
+use archive_core::error::Error;
+use archive_core::seal::Seal;
+use archive_core::traits::{Archive, Deserialize, Entries, Portable, Serialize};
+use archive_core::view::Ref;
+use std::alloc::Global;
+use std::fmt::Debug;
+use std::process::Abort;
+
+// Two values are equal; `what` names them where they aren't.
+pub(crate) fn assert_same<T: PartialEq + Debug + Drop>(
+    rt: &impl Abort,
+    what: &str,
+    found: T,
+    wanted: T,
+) {
+    assert_eq!(rt; found, wanted, "{what}");
+}
+
+// These bytes are the same.
+pub(crate) fn assert_bytes(rt: &impl Abort, what: &str, found: &[u8], wanted: &[u8]) {
+    assert_same(rt, what, found, wanted);
+}
+
+// What `what` names holds.
+pub(crate) fn assert_holds(rt: &impl Abort, what: &str, holds: bool) {
+    assert!(rt; holds, "{what}");
+}
+
+// What `what` names is served, with this answer.
+pub(crate) fn assert_served<T: PartialEq + Debug + Drop>(
+    rt: &impl Abort,
+    what: &str,
+    found: Result<T, Error>,
+    wanted: T,
+) {
+    let value = found.expect(rt, what);
+    assert_same(rt, what, value, wanted);
+}
+
+// What `what` names is refused, with this error.
+pub(crate) fn assert_refusal<T: Drop>(
+    rt: &impl Abort,
+    what: &str,
+    found: Result<T, Error>,
+    refusal: Error,
+) {
+    assert_same(rt, what, found.err(), Some(refusal));
+}
+
+// These bytes are the archive of a value.
+pub(crate) fn assert_written<T: Serialize<HighSerializer<Vec<u8>, Global>>>(
+    rt: &impl Abort,
+    alloc: Global,
+    value: &T,
+    archive: &[u8],
+) {
+    let bytes = archived(rt, alloc, value);
+    assert_bytes(rt, "the archive", bytes.as_slice(), archive);
+}
+
+// No archive of a value is made.
+pub(crate) fn assert_unwritten<T: Serialize<HighSerializer<Vec<u8>, Global>>>(
+    rt: &impl Abort,
+    alloc: Global,
+    value: &T,
+    refusal: Error,
+) {
+    assert_refusal(rt, "an archive", to_bytes(alloc, value), refusal);
+}
+
+// The archive of a value.
+pub(crate) fn archived<T: Serialize<HighSerializer<Vec<u8>, Global>>>(
+    rt: &impl Abort,
+    alloc: Global,
+    value: &T,
+) -> Vec<u8> {
+    to_bytes(alloc, value).expect(rt, "an archive")
+}
+
+// What is read back of an archive, with a deserializer.
+pub(crate) fn read<T: Archive, D: Entries>(
+    rt: &impl Abort,
+    alloc: Global,
+    archive: &[u8],
+    deserializer: &mut D,
+) -> T
+where
+    T::Archived: Deserialize<T, D>,
+{
+    from_bytes(alloc, archive, deserializer).expect(rt, "a value")
+}
+
+// What is read back of an archive, or nothing where that is refused with this error.
+pub(crate) fn read_unless<T: Archive, D: Entries>(
+    rt: &impl Abort,
+    alloc: Global,
+    archive: &[u8],
+    deserializer: &mut D,
+    refusal: Error,
+) -> Option<T>
+where
+    T::Archived: Deserialize<T, D>,
+{
+    match from_bytes(alloc, archive, deserializer) {
+        Ok(value) => Some(value),
+        Err(error) => {
+            assert_same(rt, "the refusal", error, refusal);
+            None
+        }
+    }
+}
+
+// A `T` lies at the end of the bytes.
+pub(crate) fn assert_accepted<T: Portable>(rt: &impl Abort, alloc: Global, bytes: &[u8]) {
+    let _ = viewed::<T>(rt, alloc, bytes);
+}
+
+// No `T` lies there.
+pub(crate) fn assert_refused<T: Portable>(
+    rt: &impl Abort,
+    what: &str,
+    alloc: Global,
+    bytes: &[u8],
+    refusal: Error,
+) {
+    let error = access::<T>(alloc, bytes).err();
+    assert_same(rt, what, error, Some(refusal));
+}
+
+// The view of a `T` at the end of the bytes.
+pub(crate) fn viewed<'a, T: Portable>(
+    rt: &impl Abort,
+    alloc: Global,
+    bytes: &'a [u8],
+) -> Ref<'a, T> {
+    access::<T>(alloc, bytes).expect(rt, "an archive")
+}
+
+// The seal of a `T` at the end of the bytes.
+pub(crate) fn sealed<'a, T: Portable>(
+    rt: &impl Abort,
+    alloc: Global,
+    bytes: &'a mut [u8],
+) -> Seal<'a, T>
+    ensures same_reference { result.bytes.ghost_name ≡ bytes.entry.ghost_name }
+    ensures buffer { result.bytes.now ≡ bytes.old }
+    ensures viewed { Viewed T.definitions result.bytes.now result.pos T.pointee result.len }
+{
+    access_mut::<T>(alloc, bytes).expect(rt, "an archive")
+}
+
+// And of one at a position.
+pub(crate) fn sealed_at<'a, T: Portable>(
+    rt: &impl Abort,
+    alloc: Global,
+    bytes: &'a mut [u8],
+    pos: usize,
+) -> Seal<'a, T>
+    ensures same_reference { result.bytes.ghost_name ≡ bytes.entry.ghost_name }
+    ensures buffer { result.bytes.now ≡ bytes.old }
+    ensures viewed { Viewed T.definitions result.bytes.now result.pos T.pointee result.len }
+{
+    access_pos_mut::<T>(alloc, bytes, pos).expect(rt, "an archive")
+}

@@ -1,0 +1,235 @@
+// Relative pointers.
+
+ghost use Rattle.std.specs.Prelude.{◌≡◌};
+ghost use Rattle.std.specs.Int.{byte_len};
+
+use crate::assertions::{assert_holds, assert_refusal, assert_same, viewed};
+use archive_core::RelPtr;
+use archive_core::error::Error;
+use archive_core::place::Place;
+use archive_core::primitive::{
+    ArchivedI16, ArchivedI32, ArchivedI64, ArchivedU16, ArchivedU32, ArchivedU64, ArchivedUsize,
+};
+use archive_core::rel_ptr::{
+    self, Offset, RawRelPtr, RawRelPtrI8, RawRelPtrI16, RawRelPtrI32, RawRelPtrI64, RawRelPtrU8,
+    RawRelPtrU16, RawRelPtrU32, RawRelPtrU64, signed_offset,
+};
+use archive_core::shape::{Expr, IntegerKind, Kind};
+use archive_core::string::ArchivedStr;
+use archive_core::traits::Portable;
+use std::alloc::Global;
+use std::process::Abort;
+
+#[test]
+fn distances_between_positions(rt: HostRuntime) {
+    let middle = isize::MAX as usize;
+    let rows = [
+        (0, 1, Ok(1)),
+        (1, 0, Ok(-1)),
+        (0, middle, Ok(isize::MAX)),
+        (0, middle + 1, Err(Error::IsizeOverflow)),
+        (middle + 1, 0, Ok(isize::MIN)),
+        (middle + 2, 0, Err(Error::IsizeOverflow)),
+    ];
+    for (from, to, distance) in rows {
+        let found = (from, to, signed_offset(from, to));
+        assert_same(&rt, "a distance", found, (from, to, distance));
+    }
+}
+
+#[test]
+fn offsets_of_distances(rt: HostRuntime) {
+    let overflow = Error::OffsetOverflow;
+    assert_same(&rt, "the least i8", i8::from_isize(-128), Ok(-128));
+    assert_same(&rt, "above i8", i8::from_isize(128), Err(overflow));
+    assert_same(&rt, "the greatest u8", u8::from_isize(255), Ok(255));
+    assert_same(&rt, "below u8", u8::from_isize(-1), Err(overflow));
+    let least = ArchivedI16::from_native(-32768);
+    assert_eq!(rt; ArchivedI16::from_isize(-32768), Ok(least));
+    assert_eq!(rt; ArchivedI16::from_isize(-32769), Err(overflow));
+    let distance = ArchivedI16::from_native(-2).to_isize();
+    assert_same(&rt, "of an i16", distance, -2);
+    assert_same(&rt, "of a u8", 255u8.to_isize(), 255);
+    let distance = ArchivedU64::from_native(u64::MAX).to_isize();
+    assert_same(&rt, "of a u64", distance, -1);
+}
+
+// A pointer is written as these bytes.
+fn assert_emplaced<const N: usize, O: Offset>(
+    rt: &impl Abort,
+    what: &str,
+    pos: usize,
+    to: usize,
+    wanted: [u8; N],
+)
+    requires { N ≡ byte_len O.Number.width }
+{
+    let mut bytes = [0xee; N];
+    let place: Place<'_, RawRelPtr<O>> = Place::new(pos, &mut bytes);
+    RawRelPtr::try_emplace(to, place).expect(rt, what);
+    assert_same(rt, what, bytes, wanted);
+}
+
+// A pointer isn't written, for this reason, and the bytes are ee as before.
+fn assert_not_emplaced<const N: usize, O: Offset>(
+    rt: &impl Abort,
+    what: &str,
+    pos: usize,
+    to: usize,
+    refusal: Error,
+)
+    requires { N ≡ byte_len O.Number.width }
+{
+    let mut bytes = [0xee; N];
+    let place: Place<'_, RawRelPtr<O>> = Place::new(pos, &mut bytes);
+    let answer = RawRelPtr::try_emplace(to, place);
+    assert_refusal(rt, what, answer, refusal);
+    assert_same(rt, what, bytes, [0xee; N]);
+}
+
+#[test]
+fn pointers_as_they_are_written(rt: HostRuntime) {
+    assert_emplaced::<1, i8>(&rt, "127 of i8", 0, 127, [0x7f]);
+    assert_emplaced::<1, i8>(&rt, "-128 of i8", 128, 0, [0x80]);
+    assert_emplaced::<2, ArchivedI16>(&rt, "-2 of i16", 2, 0, [0xfe, 0xff]);
+}
+
+#[test]
+fn pointers_that_cannot_be_written(rt: HostRuntime) {
+    let overflow = Error::OffsetOverflow;
+    assert_not_emplaced::<1, i8>(&rt, "128 of i8", 0, 128, overflow);
+    assert_not_emplaced::<1, i8>(&rt, "-129 of i8", 129, 0, overflow);
+    assert_not_emplaced::<1, u8>(&rt, "-1 of u8", 1, 0, overflow);
+    let far = Error::IsizeOverflow;
+    assert_not_emplaced::<1, u8>(&rt, "as far as can be", 0, usize::MAX, far);
+}
+
+#[test]
+fn invalid_pointers(rt: HostRuntime) {
+    let mut bytes = [0; 8];
+    let place: Place<'_, RawRelPtrI64> = Place::new(0, &mut bytes);
+    RawRelPtr::try_emplace_invalid(place).expect(&rt, "an invalid pointer");
+    assert_same(&rt, "the bytes", bytes, [1, 0, 0, 0, 0, 0, 0, 0]);
+    let view = viewed::<RawRelPtrI64>(&rt, rt.alloc(), &bytes);
+    let found = (view.is_invalid(), view.offset());
+    assert_same(&rt, "an offset of 1", found, (true, 1));
+    let view = viewed::<RawRelPtrI64>(&rt, rt.alloc(), &[0; 8]);
+    let found = (view.is_invalid(), view.offset());
+    assert_same(&rt, "an offset of 0", found, (false, 0));
+}
+
+// Where a pointer stands, its offset, and where it leads to.
+fn assert_pointed<O: Offset>(
+    rt: &impl Abort,
+    alloc: Global,
+    what: &str,
+    bytes: &[u8],
+    wanted: (usize, isize, i128),
+) {
+    let view = viewed::<RawRelPtr<O>>(rt, alloc, bytes);
+    let found = (view.pos(), view.offset(), view.target());
+    assert_same(rt, what, found, wanted);
+}
+
+#[test]
+fn pointers_as_they_are_read(rt: HostRuntime) {
+    let alloc = rt.alloc();
+    let bytes = &[0xff; 16];
+    assert_pointed::<ArchivedU64>(&rt, alloc, "u64", bytes, (8, -1, 7));
+    let long = (12, 4294967295, 4294967307);
+    assert_pointed::<ArchivedU32>(&rt, alloc, "u32", bytes, long);
+    assert_pointed::<ArchivedI32>(&rt, alloc, "i32", bytes, (12, -1, 11));
+    assert_pointed::<ArchivedU16>(&rt, alloc, "u16", bytes, (14, 65535, 65549));
+    assert_pointed::<ArchivedI16>(&rt, alloc, "i16", bytes, (14, -1, 13));
+    assert_pointed::<u8>(&rt, alloc, "u8", bytes, (15, 255, 270));
+    assert_pointed::<i8>(&rt, alloc, "i8", bytes, (15, -1, 14));
+    let mut least = [0; 16];
+    least[15] = 0x80;
+    let target = 8 - 9223372036854775808;
+    assert_pointed::<ArchivedI64>(&rt, alloc, "i64", &least, (8, isize::MIN, target));
+}
+
+// A pointer is a leaf of this number, with these many bytes.
+fn assert_leaf<P: Portable>(rt: &impl Abort, alloc: Global, kind: IntegerKind, size: usize) {
+    let expression = P::expr(alloc).expect(rt, "an expression");
+    let wanted = Expr::Leaf(Kind::RawRel(kind));
+    assert_same(rt, "the expression", expression, wanted);
+    let found = (kind, P::size(), P::align());
+    assert_same(rt, "its numbers", found, (kind, size, size));
+}
+
+#[test]
+fn pointers_are_leaves(rt: HostRuntime) {
+    let alloc = rt.alloc();
+    assert_leaf::<RawRelPtrI8>(&rt, alloc, IntegerKind::I8, 1);
+    assert_leaf::<RawRelPtrI16>(&rt, alloc, IntegerKind::I16, 2);
+    assert_leaf::<RawRelPtrI32>(&rt, alloc, IntegerKind::I32, 4);
+    assert_leaf::<RawRelPtrI64>(&rt, alloc, IntegerKind::I64, 8);
+    assert_leaf::<RawRelPtrU8>(&rt, alloc, IntegerKind::U8, 1);
+    assert_leaf::<RawRelPtrU16>(&rt, alloc, IntegerKind::U16, 2);
+    assert_leaf::<RawRelPtrU32>(&rt, alloc, IntegerKind::U32, 4);
+    assert_leaf::<RawRelPtrU64>(&rt, alloc, IntegerKind::U64, 8);
+}
+
+// The pointer to a text of 11 bytes, 16 bytes before it.
+fn pointer_to_text(rt: &impl Abort) -> [u8; 8] {
+    let mut bytes = [0; 8];
+    let place: Place<'_, RelPtr<ArchivedStr>> = Place::new(16, &mut bytes);
+    let length = ArchivedUsize::from_native(11);
+    RelPtr::try_emplace_unsized(0, length, place).expect(rt, "a pointer");
+    bytes
+}
+
+#[test]
+fn pointers_to_texts(rt: HostRuntime) {
+    let bytes = pointer_to_text(&rt);
+    let wanted = [0xf0, 0xff, 0xff, 0xff, 0x0b, 0, 0, 0];
+    assert_same(&rt, "the bytes", bytes, wanted);
+    let view = viewed::<RelPtr<ArchivedStr>>(&rt, rt.alloc(), &bytes);
+    assert_same(&rt, "the offset", view.offset(), -16);
+    assert_same(&rt, "the target", view.target(), -16);
+    assert_same(&rt, "the length", view.metadata().to_native(), 11);
+    assert_holds(&rt, "not invalid", !view.is_invalid());
+}
+
+#[test]
+fn a_pointer_to_a_text_is_made_invalid(rt: HostRuntime) {
+    let mut bytes = pointer_to_text(&rt);
+    let place: Place<'_, RelPtr<ArchivedStr>> = Place::new(16, &mut bytes);
+    RelPtr::try_emplace_invalid(place).expect(&rt, "an invalid pointer");
+    assert_same(&rt, "its bytes", bytes, [1, 0, 0, 0, 0, 0, 0, 0]);
+    let view = viewed::<RelPtr<ArchivedStr>>(&rt, rt.alloc(), &bytes);
+    assert_holds(&rt, "invalid", view.is_invalid());
+}
+
+#[test]
+fn pointers_to_one_value(rt: HostRuntime) {
+    let mut bytes = [0xee; 4];
+    let place: Place<'_, RelPtr<ArchivedU32>> = Place::new(4, &mut bytes);
+    let far = RelPtr::try_emplace(1 << 32, place);
+    assert_refusal(&rt, "too far", far, Error::OffsetOverflow);
+    assert_same(&rt, "the bytes after a refused emplace", bytes, [0xee; 4]);
+    let place: Place<'_, RelPtr<ArchivedU32>> = Place::new(4, &mut bytes);
+    RelPtr::try_emplace(0, place).expect(&rt, "a pointer");
+    assert_same(&rt, "the bytes", bytes, [0xfc, 0xff, 0xff, 0xff]);
+    let view = viewed::<RelPtr<ArchivedU32>>(&rt, rt.alloc(), &bytes);
+    assert_same(&rt, "metadata", view.metadata(), ());
+}
+
+#[test]
+fn a_length_stands_behind_padding(rt: HostRuntime) {
+    let mut bytes = [0; 8];
+    let place: Place<'_, rel_ptr::RelPtr<ArchivedStr, u8>> = Place::new(0, &mut bytes);
+    let length = ArchivedUsize::from_native(3);
+    rel_ptr::RelPtr::try_emplace_unsized(9, length, place).expect(&rt, "a pointer");
+    assert_same(&rt, "the bytes", bytes, [9, 0, 0, 0, 3, 0, 0, 0]);
+    let size = rel_ptr::RelPtr::<ArchivedStr, ArchivedU64>::size();
+    assert_same(&rt, "with a length", size, 16);
+    let size = rel_ptr::RelPtr::<ArchivedU32, ArchivedI32>::size();
+    assert_same(
+        &rt,
+        "the size of a relative pointer without a length",
+        size,
+        4,
+    );
+}

@@ -1,0 +1,110 @@
+"""Types that hold themselves."""
+
+from typing import Dict, Iterator, List, Optional, Tuple
+
+from .model import Declaration, Refused, Type
+
+POINTERS = {"Box", "BoxSlice", "Vec", "Shared", "SharedSlice", "WeakShared"}
+# For each parameter of a declaration that a value of it holds: whether only behind a pointer.
+Reach = Dict[str, bool]
+# A declaration that a field holds, whether behind a pointer, and the field's line.
+Edge = Tuple[Declaration, bool, int]
+
+
+def leaves(it: Type, behind: bool, reach: Dict[int, Reach]) -> Iterator[Tuple[Type, bool]]:
+    """The own types and parameters that a type holds, each with whether it is behind a pointer."""
+    if it.name == "PhantomData" and it.own is None:
+        return
+    if it.parameter:
+        yield it, behind
+        return
+    if it.own is None:
+        for x in it.args:
+            yield from leaves(x, behind or it.name in POINTERS, reach)
+        return
+    yield it, behind
+    held = reach.get(id(it.own), {})
+    for parameter, x in zip(it.own.parameters, it.args):
+        if parameter.name in held:
+            yield from leaves(x, behind or held[parameter.name], reach)
+
+
+def all_of(declarations: List[Declaration]) -> List[Declaration]:
+    """These and all that their fields name."""
+    out: List[Declaration] = []
+
+    def go(it: Declaration):
+        if not any(x is it for x in out):
+            out.append(it)
+            for field in it.all_fields():
+                go_type(field.type)
+
+    def go_type(it: Type):
+        if it.own is not None:
+            go(it.own)
+        for x in it.args:
+            go_type(x)
+
+    for it in declarations:
+        go(it)
+    return out
+
+
+def reach_of(declarations: List[Declaration]) -> Dict[int, Reach]:
+    """For each declaration, the parameters that it holds."""
+    reach: Dict[int, Reach] = {id(it): {} for it in declarations}
+    changed = True
+    while changed:
+        changed = False
+        for it in declarations:
+            for field in it.all_fields():
+                for leaf, behind in leaves(field.type, False, reach):
+                    held = reach[id(it)]
+                    if leaf.parameter and (leaf.name not in held or held[leaf.name] and not behind):
+                        held[leaf.name] = behind
+                        changed = True
+    return reach
+
+
+def circle(start: Declaration, edges: Dict[int, List[Edge]], behind: bool) -> Optional[List[Edge]]:
+    """The shortest way from a declaration back to itself; only over what isn't behind a pointer, unless `behind`."""
+    ways: List[List[Edge]] = [[]]
+    seen = set()
+    while ways:
+        way = ways.pop(0)
+        for edge in edges[id(way[-1][0] if way else start)]:
+            if edge[1] and not behind:
+                continue
+            if edge[0] is start:
+                return way + [edge]
+            if id(edge[0]) not in seen:
+                seen.add(id(edge[0]))
+                ways.append(way + [edge])
+    return None
+
+
+def check_circles(declarations: List[Declaration]):
+    every = all_of(declarations)
+    reach = reach_of(every)
+    edges: Dict[int, List[Edge]] = {
+        id(it): [
+            (leaf.own, behind, field.line) for field in it.all_fields() for leaf, behind in leaves(field.type, False, reach) if leaf.own is not None
+        ]
+        for it in every
+    }
+    for it in every:
+        way = circle(it, edges, False)
+        if way:
+            names = " > ".join([it.name] + [edge[0].name for edge in way])
+            raise Refused(it.path, way[0][2], f"`{it.name}` holds itself behind no pointer ({names}); put a `Box`, a `Vec` or a `Shared` between")
+    for it in every:
+        way = circle(it, edges, True)
+        it.recursive = way is not None
+        if way:
+            refuse_recursive(it, way)
+
+
+def refuse_recursive(it: Declaration, way: List[Edge]):
+    """Types that hold themselves behind a pointer aren't written yet; once they are, this goes."""
+    names = " > ".join([it.name] + [edge[0].name for edge in way])
+    raise Refused(it.path, way[0][2], f"`{it.name}` is recursive ({names}), which tools/derive doesn't write yet; write it by hand, as docs/OWN_TYPES.md shows")

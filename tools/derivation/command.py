@@ -1,0 +1,96 @@
+"""What the command `tools/derive` does with its arguments."""
+
+import os
+import sys
+from typing import List, Tuple
+
+from . import files, read
+from .model import MARK, Refused
+
+HELP = f"""Writes what archives your types.
+
+    tools/derive FILE.rt ..            writes the rest of each file, below what you declared
+    tools/derive --check FILE.rt ..    only looks whether that is done, and up to date
+    tools/derive --check               looks at each file of the folder `crates` here that has a written part
+
+A FILE.rt is a module of a crate, `crates/NAME/src/MODULE.rt`, that declares structs and enums in plain Rust. All of them are archived: move a type
+that isn't to be archived to another file. The files of types that hold each other are named together. What is written begins with the line
+
+    {MARK}
+
+and what is above it stays as it is, byte for byte. docs/OWN_TYPES.md shows what is written, and how it is used.
+
+Fields: whole numbers, `bool`, `char`, `()`, `String`, `Option`, `Result`, `Box`, `Vec`, `PhantomData`, tuples of up to {read.MOST_PARTS}, arrays; of the library
+`BoxSlice`, `BoxStr`, `OwnedArray`, `NonZero` (and `ArchivedNonZeroU8` ..), `Shared`, `SharedSlice`, `SharedStr`, `WeakShared`; and other types that this
+command wrote, of any module or crate of the repository. A struct or a variant has up to {read.MOST_FIELDS} fields, an enum up to {read.MOST_VARIANTS} variants.
+
+A field `x` is shown by the call `x()` of a view and by `x_mut()` of a seal, the field 0 of a tuple struct by `field_0()`. A field that is named as a call
+that each view has (`pos`, `part`, `field`, `eq`, `hash`, ..) is shown by `pos_field()` and `pos_field_mut()`.
+
+The archived type of `Point` is `ArchivedPoint`. A line `// name: Spot` above a declaration gives it the name `Spot` in place of that.
+
+Status: 0; 1 where --check finds a difference, with the first line that differs; 2 where a file can't be archived, with a line that says why and what to
+write instead. Nothing is written then.
+"""
+CRATES = "crates"
+USAGE = "tools/derive [--check] FILE.rt ..: writes what archives the types of these files (--help says more)"
+
+
+def main(arguments: List[str]) -> int:
+    if "--help" in arguments or "-h" in arguments:
+        print(HELP, end="")
+        return 0
+    check = "--check" in arguments
+    paths = [it for it in arguments if it != "--check"]
+    if check and not paths:
+        if not os.path.isdir(CRATES):
+            print(f"there is no folder `{CRATES}` here; name the files, or run this where the repository begins", file=sys.stderr)
+            return 2
+        paths = written_files()
+        if not paths:
+            return 0
+    if not paths or any(it.startswith("-") for it in paths):
+        print(USAGE, file=sys.stderr)
+        return 2
+    try:
+        differing = differences(paths)
+    except Refused as error:
+        print(error, file=sys.stderr)
+        return 2
+    except RecursionError:
+        print(f"{paths[0]}:1: a type or an item is nested too deep; write less at once", file=sys.stderr)
+        return 2
+    for path, text, told in differing:
+        if check:
+            print(told, file=sys.stderr)
+        elif not put(path, text):
+            return 2
+    return 1 if check and differing else 0
+
+
+def put(path: str, text: str) -> bool:
+    try:
+        files.put(path, text)
+        return True
+    except OSError as error:
+        print(f"{path}:1: this can't be written ({error.strerror}); give leave to write it", file=sys.stderr)
+        return False
+
+
+def written_files() -> List[str]:
+    """The files of the folder `crates` here that have a written part."""
+    found = []
+    for folder, folders, names in os.walk(CRATES):
+        folders[:] = sorted(it for it in folders if it not in ("out", "data"))
+        for path in sorted(os.path.join(folder, it) for it in names if it.endswith(".rt")):
+            with open(path, "rb") as text:
+                if MARK.encode() in text.read():
+                    found.append(path)
+    return found
+
+
+def differences(paths: List[str]) -> List[Tuple[str, str, str]]:
+    """The files that aren't as they should be: path, text, and where they differ."""
+    done = [(it, files.wanted(it)) for it in read.modules(paths)]
+    found = [(path, text, files.difference(it, path, text)) for it, wanted in done for path, text in wanted.items()]
+    return [it for it in found if it[2]]

@@ -1,0 +1,129 @@
+"""The files that a module comes to: its own, and short files of proofs in its crate."""
+
+import os
+import shutil
+from typing import Dict, List, Optional, Tuple
+
+from . import renames, write
+from .clashes import check_clashes
+from .model import MARK, Module
+from .names import text_of
+from .tokens import END, tokens
+
+# How much of a line is told, in characters.
+MOST_TOLD = 100
+PROOF_BEGINS = "-- Written by tools/derive: change the declaration, and run it again."
+
+
+def wanted(module: Module) -> Dict[str, str]:
+    """The files as they should be, by their paths. One that is no longer wanted is to be empty."""
+    written = renames.written(module)
+    check_clashes(module, written)
+    out = {module.path: above(module) + written.replace("\n", module.newline)}
+    crate = crate_folder(module)
+    out.update({path: "" for path in proofs_there(module, crate)})
+    out.update({os.path.normpath(os.path.join(crate, path)): text for path, text in write.proofs(module).items()})
+    return out
+
+
+def crate_folder(module: Module) -> str:
+    """The folder of the crate, of which the module's path is `src/a/b.rt`."""
+    folder = os.path.dirname(module.path)
+    for _ in module.module[:-1]:
+        folder = os.path.join(folder, "..")
+    return os.path.normpath(os.path.join(folder, ".."))
+
+
+def proofs_there(module: Module, crate: str) -> List[str]:
+    """The files of proofs that were written for the module before."""
+    found = []
+    for folder, folders, files in os.walk(os.path.join(crate, "proofs", *module.module)):
+        below = os.path.relpath(folder, os.path.join(crate, "proofs"))
+        folders[:] = sorted(it for it in folders if not os.path.isfile(os.path.join(crate, "src", below, f"{it}.rt")))
+        for path in (os.path.normpath(os.path.join(folder, it)) for it in sorted(files) if it.endswith(".antt")):
+            if text_of(path).startswith(PROOF_BEGINS):
+                found.append(path)
+    return found
+
+
+def above(module: Module) -> str:
+    """What is above the marker: it begins a line, and an empty one is before it."""
+    head, end = module.head, module.newline
+    if head and not head.endswith("\n"):
+        head += end
+    return head if not head or head.endswith(end + end) else head + end
+
+
+# ---- what differs ----
+
+
+def difference(module: Module, path: str, text: str) -> Optional[str]:
+    """Where a file isn't as it should be, if so."""
+    if path == module.path:
+        return module_difference(module, text)
+    now = text_of(path) if os.path.isfile(path) else ""
+    if now == text:
+        return None
+    lines = zip(now.split("\n") + [""], text.split("\n") + [""])
+    number = next((i for i, (one, other) in enumerate(lines, 1) if one != other), 1)
+    return f"{path}:{number}: {told(line_of(now, number), line_of(text, number))}"
+
+
+def module_difference(module: Module, text: str) -> Optional[str]:
+    if not module.written:
+        return f"{module.path}:{lines(module.head)}: nothing is written yet; run tools/derive on it"
+    before = lines(above(module)) - 1
+    if module.head != above(module):
+        return f"{module.path}:{before}: no empty line is above the marker; run tools/derive again"
+    wanted_text = text[len(module.head):]
+    is_now, should_be = words_of(module.written[len(MARK):]), words_of(wanted_text[len(MARK):])
+    for now, it in zip(is_now + [("", lines(module.written))], should_be + [("", 0)]):
+        if now[0] != it[0]:
+            found = line_of(module.written, now[1] if now[0] else 0)
+            return f"{module.path}:{before + now[1]}: {told(found, line_of(wanted_text, it[1]))}"
+    return None
+
+
+def words_of(text: str) -> List[Tuple[str, int]]:
+    """The words of a text with their lines. Where a line is broken doesn't count, nor does a comma before what closes a list."""
+    words = [(it.text, it.line) for it in tokens("", text).words if it.kind != END]
+    closed = [following[0] in (")", "]", "}", ">") for following in words[1:]] + [False]
+    return [it for it, is_last in zip(words, closed) if not (it[0] == "," and is_last)]
+
+
+def lines(text: str) -> int:
+    return text.count("\n") + 1
+
+
+def line_of(text: str, line: int) -> str:
+    """A line of a text; nothing where there is none."""
+    all_lines = text.split("\n")
+    return all_lines[line - 1].strip() if 0 < line <= len(all_lines) else ""
+
+
+def told(found: str, wanted: str) -> str:
+    """What is wrong with a line, of long ones where they begin to differ."""
+    start = len(os.path.commonprefix([found, wanted]))
+    return f"found {part_of(found, start)}; it should be {part_of(wanted, start)}: run tools/derive again"
+
+
+def part_of(line: str, start: int) -> str:
+    if not line:
+        return "nothing"
+    first = max(0, start - 30) if len(line) > MOST_TOLD else 0
+    part = line[first:first + MOST_TOLD]
+    return f"`{'..' if first else ''}{part}{'..' if first + MOST_TOLD < len(line) else ''}`"
+
+
+def put(path: str, text: str):
+    """Writes a file whole, or not at all; removes it where it is to be empty."""
+    if not text:
+        os.remove(path)
+        return
+    os.makedirs(os.path.dirname(path) or ".", exist_ok=True)
+    path = os.path.realpath(path)
+    with open(f"{path}.new", "w", encoding="utf-8", newline="") as file:
+        file.write(text)
+    if os.path.exists(path):
+        shutil.copymode(path, f"{path}.new")
+    os.replace(f"{path}.new", path)

@@ -1,0 +1,205 @@
+"""What a name stands for: a type of the library, a declaration of this file, of another module or of another crate, or an alias."""
+
+import os
+from dataclasses import dataclass, field
+from typing import Dict, List, Optional, Set, Tuple
+
+from .model import Refused
+from .parse import Alias, Declared, File, parsed
+
+PRIMITIVES = {f"{sign}{bits}" for sign in "ui" for bits in (8, 16, 32, 64, 128)} | {"bool", "char", "usize", "isize"}
+FLOATS = {"f32", "f64"}
+# Types of std that have a format, with the number of their arguments, and those that a file has without a `use`.
+STD = {"String": 0, "Vec": 1, "Option": 1, "Result": 2, "Box": 1, "PhantomData": 1}
+PRELUDE = {"String", "Vec", "Option", "Result", "Box"}
+STD_MODULES = {"String": "string", "Vec": "vec", "Option": "option", "Result": "result", "Box": "boxed", "PhantomData": "marker"}
+# Those of the library: the module of `archive_core` that has them, and the number of their arguments.
+LIBRARY: Dict[str, Tuple[str, int]] = {
+    "BoxSlice": ("boxed", 1),
+    "BoxStr": ("boxed", 0),
+    "OwnedArray": ("array", 2),
+    "NonZero": ("primitive", 1),
+    "Shared": ("rc", 1),
+    "SharedSlice": ("rc", 1),
+    "SharedStr": ("rc", 0),
+    "WeakShared": ("rc", 1),
+}
+# Names of the library for other types of it.
+ALIASES = {f"ArchivedNonZero{sign.upper()}{bits}": ("NonZero", f"{sign}{bits}") for sign in "ui" for bits in (8, 16, 32, 64, 128)}
+ALIASES.update({"ArchivedNonZeroUsize": ("NonZero", "u32"), "ArchivedNonZeroIsize": ("NonZero", "i32")})
+ALIASES.update({"FixedUsize": ("u32", ""), "FixedIsize": ("i32", "")})
+LIBRARY_CRATES = {f"archive_{it}" for it in "core types check num nonzero enum tuple write schema fields own seal shared api pointers".split()}
+STD_CRATES = {"std", "core", "alloc"}
+
+
+@dataclass
+class Source:
+    """A file of a crate."""
+
+    path: str
+    crate: str
+    module: Tuple[str, ...]
+    file: File
+    head: str
+    written: str
+    newline: str
+    is_given: bool = False
+    declared: Dict[str, Declared] = field(default_factory=dict)
+
+
+@dataclass
+class Found:
+    """What a name stands for: `kind` is `primitive`, `std`, `library`, `own` or `alias`."""
+
+    kind: str
+    name: str
+    source: Optional[Source] = None
+    declared: Optional[Declared] = None
+    alias: Optional[Alias] = None
+
+
+class World:
+    """The crates around the given files."""
+
+    def __init__(self):
+        self.sources: Dict[Tuple[str, Tuple[str, ...]], Optional[Source]] = {}
+        self.folders: Dict[str, str] = {}  # the `src` of each crate
+        self.given: Set[str] = set()
+
+    def give(self, path: str) -> Source:
+        """The source of a file that a module is wanted of."""
+        crate, module = self.place(path)
+        self.given.add(os.path.realpath(path))
+        source = self.source(crate, module, path)
+        source.is_given = True
+        return source
+
+    def place(self, path: str) -> Tuple[str, Tuple[str, ...]]:
+        """The crate and the module of a file."""
+        if not path.endswith(".rt"):
+            raise Refused(path, 1, "this is no file of a crate; name a file `crates/NAME/src/MODULE.rt`")
+        folder, parts = os.path.dirname(path), [os.path.basename(path)[:-3]]
+        whole = os.path.abspath(folder)
+        while os.path.basename(whole) != "src":
+            if os.path.dirname(whole) == whole:
+                raise Refused(path, 1, "this is in no crate; move it to `crates/NAME/src`")
+            parts.insert(0, os.path.basename(whole))
+            whole, folder = os.path.dirname(whole), os.path.join(folder, "..")
+        crate = os.path.basename(os.path.dirname(whole))
+        self.folders.setdefault(crate, os.path.normpath(folder))
+        return crate, () if parts in (["lib"], ["main"]) else tuple(parts)
+
+    def folder(self, crate: str) -> str:
+        """The `src` of a crate beside those that are known."""
+        if crate not in self.folders:
+            known = next(iter(self.folders.values()))
+            self.folders[crate] = os.path.normpath(os.path.join(known, "..", "..", crate, "src"))
+        return self.folders[crate]
+
+    def source(self, crate: str, module: Tuple[str, ...], path: str = "") -> Optional[Source]:
+        """The file of a module, or `None` where there is no such file."""
+        key = (crate, module)
+        if key not in self.sources:
+            tried = [path] if path else [os.path.join(self.folder(crate), *it) for it in self.file_names(module)]
+            found = path or next((it for it in tried if os.path.isfile(it)), "")
+            self.sources[key] = self.load(found, crate, module) if found else None
+        return self.sources[key]
+
+    @staticmethod
+    def file_names(module: Tuple[str, ...]) -> List[Tuple[str, ...]]:
+        return [module[:-1] + (f"{module[-1]}.rt",)] if module else [("lib.rt",), ("main.rt",)]
+
+    def load(self, path: str, crate: str, module: Tuple[str, ...]) -> Source:
+        text = text_of(path)
+        file = parsed(path, text)
+        head, written = text[: file.head_end], text[file.head_end:]
+        first = head.find("\n")
+        newline = "\r\n" if first > 0 and head[first - 1] == "\r" else "\n"
+        source = Source(path, crate, module, file, head, written, newline)
+        for it in file.declared:
+            if it.is_test:
+                continue
+            name = it.declaration.name
+            if name in source.declared:
+                raise Refused(path, it.declaration.line, f"`{name}` is declared twice; give one of them another name")
+            source.declared[name] = it
+        return source
+
+    # ---- names ----
+
+    def find(self, words: Tuple[str, ...], source: Source, passed: Tuple = ()) -> Optional[Found]:
+        """What a path stands for in a file."""
+        step = (source.crate, source.module, words)
+        if step in passed or len(passed) > 100:
+            return None
+        passed += (step,)
+        first, rest = words[0], words[1:]
+        if first in ("crate", "self", "super"):
+            module = {"crate": (), "self": source.module, "super": source.module[:-1]}[first]
+            while rest[:1] == ("super",):
+                module, rest = module[:-1], rest[1:]
+            return self.within(source.crate, module, rest, passed) if rest else None
+        here = self.item(words, source, passed)
+        return here or self.outside(words, source, passed)
+
+    def item(self, words: Tuple[str, ...], source: Source, passed: Tuple) -> Optional[Found]:
+        """What a path stands for among a file's own items and what it brings in."""
+        first, rest = words[0], words[1:]
+        if not rest and first in source.declared:
+            return Found("own", first, source, source.declared[first])
+        if not rest and first in source.file.aliases:
+            return Found("alias", first, source, alias=source.file.aliases[first])
+        if first in source.file.uses and source.file.uses[first]:
+            path = source.file.uses[first]
+            if path[0] == first and not self.is_child(first, source):
+                return self.outside(path + rest, source, passed)
+            return self.find(path + rest, source, passed)
+        for path in source.file.globs:
+            if path and (found := self.find(path + words, source, passed)):
+                return found
+        return None
+
+    def is_child(self, name: str, source: Source) -> bool:
+        return self.source(source.crate, source.module + (name,)) is not None
+
+    def outside(self, words: Tuple[str, ...], source: Source, passed: Tuple) -> Optional[Found]:
+        """What a path stands for that a file has no item for: a module below, another crate, or what every file has."""
+        first, rest = words[0], words[1:]
+        below = self.within(source.crate, source.module + (first,), rest, passed) if rest else None
+        if below:
+            return below
+        if rest and first in STD_CRATES:
+            return Found("std", rest[-1]) if rest[-1] in STD else Found("foreign", rest[-1])
+        if rest and first in LIBRARY_CRATES:
+            known = rest[-1] in LIBRARY or rest[-1] in ALIASES
+            return Found("library" if known else "foreign", rest[-1])
+        if rest and first != source.crate and os.path.isdir(self.folder(first)):
+            return self.within(first, (), rest, passed)
+        if rest:
+            return None
+        return Found("primitive", first) if first in PRIMITIVES else Found("std", first) if first in PRELUDE else None
+
+    def within(self, crate: str, module: Tuple[str, ...], words: Tuple[str, ...], passed: Tuple) -> Optional[Found]:
+        """What a path stands for in a module, without what every file has."""
+        for count in range(len(words) - 1, -1, -1):
+            source = self.source(crate, module + words[:count])
+            step = (crate, module, words, count)
+            if source is None or step in passed or len(passed) > 100:
+                continue
+            found = self.item(words[count:], source, passed + (step,))
+            if found:
+                return found
+        return None
+
+
+def text_of(path: str) -> str:
+    try:
+        with open(path, "rb") as file:
+            data = file.read()
+    except OSError as error:
+        raise Refused(path, 1, f"this can't be read ({error.strerror}); name a file that can")
+    try:
+        return data.decode("utf-8")
+    except UnicodeDecodeError as error:
+        line = data.count(b"\n", 0, error.start) + 1
+        raise Refused(path, line, "this isn't UTF-8; save the file as UTF-8")

@@ -1,0 +1,363 @@
+"""Reads declarations: each type of a field is looked up, and what can't be archived is refused, with the file, the line and what to write instead."""
+
+from typing import Dict, List, Optional, Sequence
+
+from .circles import check_circles
+from .formats import snake
+from .model import Declaration, Field, Module, Refused, Type
+from .names import ALIASES, FLOATS, LIBRARY, PRIMITIVES, STD, STD_MODULES, Found, Source, World
+from .parse import Declared
+from .items import number_of
+
+MOST_FIELDS = 8
+MOST_PARTS = 13
+MOST_VARIANTS = 256
+MOST_ITEMS = 2**32 - 1
+
+# What to write in place of types that have no format.
+OWNED = "write a type that owns what it holds, as a `String`, a `Vec` or a `Box`"
+NO_PATH = {
+    "&": f"a reference has no format; {OWNED}",
+    "*": f"a raw pointer has no format; {OWNED}",
+    "fn": "a function has no format; write an enum of what may be called",
+    "dyn": "`dyn` has no format; write an enum of what it may be",
+    "impl": "`impl` names no one type; write the type",
+    "[]": "a slice has no length of its own; write a `Vec`, or a `BoxSlice`",
+    "!": "`!` has no value; remove the field",
+    "<>": "only a type's own name is looked up; write the type",
+    "#": "a number is no type; write the type",
+    "macro": "a macro's type isn't looked up; write the type",
+    "_": "write the type in place of `_`",
+}
+INSTEAD = {
+    "Rc": "a `Shared`, of `archive_core::rc`",
+    "Arc": "a `Shared`, of `archive_core::rc`",
+    "Weak": "a `WeakShared`, of `archive_core::rc`",
+    "Cow": "a `String` or a `Vec`",
+    "str": "a `String`",
+    "VecDeque": "a `Vec`",
+    "LinkedList": "a `Vec`",
+    "BinaryHeap": "a `Vec`",
+    "Duration": "its number of nanoseconds, as a `u64`",
+    "Instant": "a number, as a `u64`",
+    "SystemTime": "its number of seconds, as a `u64`",
+    "PathBuf": "a `String`",
+    "OsString": "a `String`",
+    "Range": "a tuple of its two ends",
+    "Ordering": "an enum",
+    "Infallible": "`()`",
+}
+for it in ("HashMap", "BTreeMap", "IndexMap"):
+    INSTEAD[it] = "a `Vec` of pairs, as `Vec<(K, V)>`"
+for it in ("HashSet", "BTreeSet", "IndexSet"):
+    INSTEAD[it] = "a `Vec`"
+for it in ("Cell", "RefCell", "UnsafeCell", "OnceCell", "OnceLock", "Mutex", "RwLock", "ManuallyDrop", "MaybeUninit", "Pin"):
+    INSTEAD[it] = "what it holds"
+for it in ("Bool", "U8", "U16", "U32", "U64", "Usize", "I8", "I16", "I32", "I64", "Isize"):
+    INSTEAD[f"Atomic{it}"] = f"a `{it.lower()}`"
+    INSTEAD[f"NonZero{it}"] = f"an `ArchivedNonZero{it}`, of `archive_core::primitive`"
+
+
+class Scope:
+    """Where a type is written: a declaration's own, or an alias with what its parameters stand for."""
+
+    def __init__(self, source: Source, parameters: Dict[str, Optional[Type]], owner: Optional[Declaration], aliases=()):
+        self.source = source
+        self.parameters = parameters
+        self.owner = owner
+        self.aliases = aliases
+
+
+class Reader:
+    def __init__(self, world: World):
+        self.world = world
+        self.read: List[int] = []
+
+    def declaration(self, declared: Declared, source: Source) -> Declaration:
+        """The declaration with its types looked up. A type that holds itself meets itself here unfinished."""
+        it = declared.declaration
+        if id(it) in self.read:
+            return it
+        self.read.append(id(it))
+        it.crate, it.module = source.crate, source.module
+        self.check_is_written(it, source)
+        for fault in sorted(declared.faults, key=lambda x: x.line)[:1]:
+            raise fault
+        check_shape(it)
+        scope = Scope(source, {p.name: None for p in it.parameters}, it)
+        for field in it.all_fields():
+            field.type = self.type(field.type, scope)
+            field.accessor = accessor(field)
+        check_accessors(it)
+        return it
+
+    def check_is_written(self, it: Declaration, source: Source):
+        by_hand = ("Archive", it.name) in source.file.impls
+        if by_hand and source.is_given:
+            raise Refused(it.path, it.line, f"`{it.name}` has an `Archive` impl above the marker; remove it, or move both to a file of their own")
+        if by_hand:
+            raise Refused(it.path, it.line, f"`{it.name}` is archived by hand, so its format isn't known; hold what it holds, or let tools/derive write it")
+        if not source.is_given and not source.written:
+            raise Refused(it.path, it.line, f"`{it.name}` isn't archived yet; run tools/derive on both files together")
+
+    # ---- types ----
+
+    def type(self, it: Type, scope: Scope) -> Type:
+        if it.name in NO_PATH:
+            raise self.no_format(it, scope, NO_PATH[it.name])
+        if it.name.startswith("'"):
+            raise self.no_format(it, scope, f"the lifetime {it.name} borrows; {OWNED}")
+        if it.name == "()":
+            return Type("()", line=it.line, text="()")
+        if it.name == "tuple":
+            if len(it.args) > MOST_PARTS:
+                raise self.no_format(it, scope, f"a tuple of {len(it.args)} has no format, only up to {MOST_PARTS}; write a struct")
+            args = [self.type(x, scope) for x in it.args]
+            if any(has_tuple(x) for x in args):
+                raise self.no_format(it, scope, "a tuple in a tuple is too deep for the toolchain; write a struct in place of the inner one")
+            return shown(Type("tuple", args, it.line))
+        if it.name == "array":
+            length = self.length(it, it.length, scope)
+            return shown(Type("array", [self.type(it.args[0], scope)], it.line, length=length))
+        return self.path_type(it, scope)
+
+    def no_format(self, it: Type, scope: Scope, why: str) -> Refused:
+        return Refused(scope.source.path, it.line, why)
+
+    def path_type(self, it: Type, scope: Scope) -> Type:
+        if len(it.path) == 1 and it.name in scope.parameters:
+            stands_for = scope.parameters[it.name]
+            if it.args:
+                raise self.no_format(it, scope, f"`{it.name}` is a parameter and takes no arguments; write `{it.name}`")
+            return stands_for or Type(it.name, line=it.line, path=it.path, parameter=True, text=it.name)
+        if it.path == ("Self",) and scope.owner and not it.args:
+            args = [Type(p.name, line=it.line, path=(p.name,), parameter=True, text=p.name) for p in scope.owner.parameters]
+            return shown(Type(scope.owner.name, args, it.line, (scope.owner.name,), own=scope.owner))
+        if len(it.path) == 1 and it.name in FLOATS:
+            bits = it.name[1:]
+            raise self.no_format(it, scope, f"a float has no format; write its bits, a `u{bits}` of `to_bits`")
+        found = self.world.find(it.path, scope.source)
+        if found is None or found.kind == "foreign":
+            raise self.unknown(it, scope)
+        return getattr(self, f"{found.kind}_type")(it, found, scope)
+
+    def unknown(self, it: Type, scope: Scope) -> Refused:
+        name = it.name
+        if len(it.path) == 1 and name in STD and name not in scope.source.declared:
+            return self.no_format(it, scope, f"`{name}` isn't brought in; write `use std::{STD_MODULES[name]}::{name};`")
+        if len(it.path) == 1 and (name in LIBRARY or name in ALIASES):
+            module = LIBRARY[name][0] if name in LIBRARY else "primitive"
+            return self.no_format(it, scope, f"`{name}` isn't brought in; write `use archive_core::{module}::{name};`")
+        if name in INSTEAD:
+            return self.no_format(it, scope, f"`{name}` has no format; write {INSTEAD[name]}")
+        return self.no_format(it, scope, f"`{'::'.join(it.path)}` has no format here; declare it in a file of its own and run tools/derive on that, or bring it in by `use`")
+
+    def want_arguments(self, it: Type, scope: Scope, count: int):
+        if len(it.args) != count:
+            wanted = {0: "none", 1: "one", 2: "two"}.get(count, str(count))
+            raise self.no_format(it, scope, f"`{it.name}` takes {wanted} where {len(it.args)} arguments are written; write {wanted}")
+
+    def primitive_type(self, it: Type, found: Found, scope: Scope) -> Type:
+        self.want_arguments(it, scope, 0)
+        return Type(found.name, line=it.line, path=it.path, text="::".join(it.path))
+
+    def std_type(self, it: Type, found: Found, scope: Scope) -> Type:
+        self.want_arguments(it, scope, STD[found.name])
+        if found.name == "PhantomData":
+            return shown(Type("PhantomData", [self.unread(it.args[0], scope)], it.line, it.path))
+        if found.name == "Box":
+            inner = it.args[0]
+            if inner.name == "[]":
+                raise self.no_format(it, scope, "a boxed slice is a type of the library; write `BoxSlice`, of `archive_core::boxed`")
+            if inner.path == ("str",):
+                raise self.no_format(it, scope, "a boxed text is a type of the library; write `BoxStr`, of `archive_core::boxed`")
+        return shown(Type(found.name, [self.type(x, scope) for x in it.args], it.line, it.path))
+
+    def unread(self, it: Type, scope: Scope) -> Type:
+        """What a `PhantomData` names: it needs no format, but what it says has to stand in the written part, too."""
+        if it.name in NO_PATH or it.name.startswith("'"):
+            raise self.no_format(it, scope, "a `PhantomData` is written where it names a plain type; write one in place of this")
+        args = [self.unread(x, scope) for x in it.args]
+        parameter = len(it.path) == 1 and it.name in scope.parameters
+        if parameter and scope.parameters[it.name]:
+            return scope.parameters[it.name]
+        return shown(Type(it.name, args, it.line, it.path, it.length, parameter))
+
+    def library_type(self, it: Type, found: Found, scope: Scope) -> Type:
+        if found.name in ALIASES:
+            self.want_arguments(it, scope, 0)
+            name, number = ALIASES[found.name]
+            args = [Type(number, line=it.line, path=(number,), text=number)] if number else []
+            return Type(name, args, it.line, it.path, text="::".join(it.path))
+        self.want_arguments(it, scope, LIBRARY[found.name][1])
+        if found.name == "OwnedArray":
+            length = self.length(it, it.args[1].length or it.args[1].name, scope)
+            return shown(Type("OwnedArray", [self.type(it.args[0], scope)], it.line, it.path, length))
+        args = [self.type(x, scope) for x in it.args]
+        if found.name == "NonZero" and (args[0].name not in PRIMITIVES or args[0].name in ("bool", "char", "usize", "isize")):
+            raise self.no_format(it, scope, f"`NonZero` is of a number of one size; write `NonZero<u32>` in place of `{shown(Type('NonZero', args)).text}`")
+        return shown(Type(found.name, args, it.line, it.path))
+
+    def own_type(self, it: Type, found: Found, scope: Scope) -> Type:
+        declared = found.declared
+        self.want_arguments(it, scope, len(declared.declaration.parameters))
+        args = [self.type(x, scope) for x in it.args]
+        own = self.declaration(declared, found.source)
+        return shown(Type(own.name, args, it.line, it.path, own=own))
+
+    def alias_type(self, it: Type, found: Found, scope: Scope) -> Type:
+        alias = found.alias
+        if id(alias) in scope.aliases:
+            raise Refused(found.source.path, alias.line, f"the type `{alias.name}` is an alias of itself; write what it stands for")
+        self.want_arguments(it, scope, len(alias.parameters))
+        args = [self.type(x, scope) for x in it.args]
+        inner = Scope(found.source, dict(zip(alias.parameters, args)), None, scope.aliases + (id(alias),))
+        stands_for = self.type(alias.type, inner)
+        text = shown(Type(it.name, args, path=it.path)).text
+        return Type(stands_for.name, stands_for.args, it.line, stands_for.path, stands_for.length, stands_for.parameter, stands_for.own, text)
+
+    def length(self, it: Type, written: str, scope: Scope) -> str:
+        """The number of items of an array, written as a number or as a constant of the file."""
+        word = written.strip("{} ")
+        number = number_of(word)
+        if number is None:
+            number = scope.source.file.numbers.get(word)
+        if number is None:
+            raise self.no_format(it, scope, f"the number of items `{written}` isn't known; write a number, or a constant of this file whose value is one")
+        if not 0 <= number <= MOST_ITEMS:
+            raise self.no_format(it, scope, f"an array of {number} items is too long; write at most {MOST_ITEMS}")
+        return str(number)
+
+
+def has_tuple(it: Type) -> bool:
+    """Whether a tuple is in a type, other than in a type that the user declared."""
+    return it.own is None and (it.name == "tuple" or any(has_tuple(x) for x in it.args))
+
+
+def shown(it: Type) -> Type:
+    """The type with its text."""
+    inner = ", ".join(x.text for x in it.args)
+    if it.name == "tuple":
+        it.text = f"({inner},)" if len(it.args) == 1 else f"({inner})"
+    elif it.name == "array":
+        it.text = f"[{inner}; {it.length}]"
+    elif it.name == "()":
+        it.text = "()"
+    else:
+        words = "::".join(it.path) or it.name
+        inner += f", {it.length}" if it.name == "OwnedArray" else ""
+        it.text = f"{words}<{inner}>" if inner else words
+    return it
+
+
+# ---- what a declaration may be ----
+
+
+def check_shape(it: Declaration):
+    if it.kind == "enum":
+        if not it.variants:
+            raise Refused(it.path, it.line, f"`{it.name}` has no variant, so no value; give it one")
+        if len(it.variants) > MOST_VARIANTS:
+            line = it.variants[MOST_VARIANTS].line
+            raise Refused(it.path, line, f"`{it.name}` has {len(it.variants)} variants, and a tag of one byte counts {MOST_VARIANTS}; put some into an enum of their own")
+        check_names(it, it.variants, "variant")
+    for of, fields in [(it.name, it.fields)] + [(f"{it.name}::{v.name}", v.fields) for v in it.variants]:
+        check_names(it, fields, "field")
+        for x in fields:
+            if x.name == "now" and it.kind == "struct":
+                raise Refused(it.path, x.line, "`now` has a meaning in contracts; choose another name for the field")
+        if len(fields) > MOST_FIELDS:
+            raise Refused(it.path, fields[MOST_FIELDS].line, f"`{of}` has {len(fields)} fields, and {MOST_FIELDS} are the most; put some into a struct of their own")
+    check_name(it, it.name, it.line)
+    for p in it.parameters:
+        check_name(it, p.name, it.line)
+
+
+def check_names(it: Declaration, those: Sequence, what: str):
+    seen: Dict[str, str] = {}
+    for x in those:
+        check_name(it, x.name, x.line)
+        if x.name.lower() in seen:
+            other = seen[x.name.lower()]
+            same = "are two" if other == x.name else f"and `{other}` differ only in case"
+            raise Refused(it.path, x.line, f"the {what}s `{x.name}` {same}; give one of them another name")
+        seen[x.name.lower()] = x.name
+
+
+def check_name(it: Declaration, name: str, line: int):
+    if not name.isascii():
+        raise Refused(it.path, line, f"`{name}` isn't written in ASCII; choose another name")
+    if name in TAKEN:
+        raise Refused(it.path, line, f"the toolchain has a meaning for `{name}`; choose another name")
+    if name.startswith("__"):
+        raise Refused(it.path, line, f"`{name}` begins with two underscores; choose another name")
+
+
+# Names that the toolchain keeps for itself.
+TAKEN = {"deriving", "TheVariants", "TheLinks", "TheBound", "TheImpl", "TheOwn", "TheLaws", "Prim", "Lib"}
+# Calls that each view has, of its own or of the traits of std: a field so named is shown by an accessor under another name.
+CALLS = set(
+    """pos part field clone clone_from drop eq ne lt le gt ge cmp partial_cmp max min clamp hash cmp_native eq_native compare_said
+    into try_into""".split()
+)
+
+
+def accessor(it: Field) -> str:
+    """The call of a view that shows the field: its name, or `field_0` for `0` and `pos_field` for `pos`."""
+    if it.name.isdigit():
+        return f"field_{it.name}"
+    return f"{it.name}_field" if it.name in CALLS else it.name
+
+
+def check_accessors(it: Declaration):
+    calls = [(x, call) for x in it.fields for call in (x.accessor, f"{x.accessor}_mut")]
+    calls += [(x, f"{snake(v.name)}_{x.name}_mut") for v in it.variants for x in v.fields]
+    seen = {}
+    for x, call in calls:
+        if call.lower() in seen:
+            raise Refused(it.path, x.line, f"`{x.name}` and `{seen[call.lower()]}` are both shown by `{call}`; give one of them another name")
+        seen[call.lower()] = x.name
+
+
+# ---- modules ----
+
+
+def modules(paths: Sequence[str]) -> List[Module]:
+    """A module for each file, in order. Raises `Refused` for what comes first."""
+    world = World()
+    sources: List[Source] = []
+    for path in paths:
+        source = world.give(path)
+        if source not in sources:
+            sources.append(source)
+    reader = Reader(world)
+    return [module(reader, it) for it in sources]
+
+
+def module(reader: Reader, source: Source) -> Module:
+    out = Module(source.path, source.crate, source.module, source.head, source.written, source.newline)
+    out.uses, out.ghost_uses = dict(source.file.uses), dict(source.file.ghost_uses)
+    out.names = dict(source.file.items)
+    out.declarations = [reader.declaration(it, source) for it in source.declared.values()]
+    if not out.declarations:
+        raise Refused(source.path, 1, "no struct and no enum is declared here; declare one above the marker")
+    check_circles(out.declarations)
+    check_own_names(out)
+    return out
+
+
+def check_own_names(module: Module):
+    """Two types under one name can't be told apart in one file."""
+    seen: Dict[str, Declaration] = {it.name: it for it in module.declarations}
+
+    def pass_type(it: Type, line: int):
+        if it.own is not None:
+            other = seen.setdefault(it.own.name, it.own)
+            if other is not it.own:
+                raise Refused(module.path, line, f"`{it.own.name}` is also the type of {other.path}:{other.line}; give one of them another name")
+        for x in it.args:
+            pass_type(x, line)
+
+    for it in module.declarations:
+        for field in it.all_fields():
+            pass_type(field.type, field.line)

@@ -1,0 +1,299 @@
+"""The impls of a struct without type parameters."""
+
+from .common import (
+    Source,
+    archive_pointee,
+    chain,
+    deserialize,
+    doc_lines,
+    infix,
+    ok_arm,
+    own_check,
+    portable,
+    region,
+    resolve_head,
+    sealed_clauses,
+    view_clauses,
+)
+from .formats import layout_of, snake
+from .layout import Generic, Group, flat, implementation, literal, pair, signature, statement
+
+
+# Up to so many fields a value is made where it is read.
+SHORT_RECORD = 6
+SIGNED = ("i8", "i16", "i32", "i64", "i128", "isize")
+WRITTEN = "Written by tools/derive: change the declaration, and run it again."
+
+
+class Record(Source):
+    """What a struct's impls say."""
+
+    def __init__(self, formats, declaration):
+        super().__init__(formats, declaration)
+        self.fields = declaration.fields
+        self.types = [field.type for field in self.fields]
+        self.count = len(self.types)
+        self.formats_of = [formats.archived(type) for type in self.types]
+        self.rust = [formats.rust(type) for type in self.types]
+        self.size, self.align, self.offsets, self.end = layout_of([formats.layout(type) for type in self.types])
+        self.span = self.end
+        self.parts = chain("part", [formats.shape(type) for type in self.types], "no_part")
+        self.shape = f"parts {self.parts}"
+        self.defined = chain("both", [formats.definitions(type) for type in self.types], "no_definition")
+        self.names = [f"a{i}" for i in range(self.count)]
+        self.values = [f"v.{field.name}" for field in self.fields]
+
+    def built(self):
+        if self.declaration.form == "unit":
+            return self.name
+        if self.declaration.form == "tuple":
+            return Group(f"{self.name}(", self.names, ")")
+        return literal(self.name, [f"{field.name}: {name}" for field, name in zip(self.fields, self.names)])
+
+
+def text(formats, declaration):
+    record = Record(formats, declaration)
+    formats.use("archive_core::fields", f"serialize_record_{record.count}", f"resolve_record_{record.count}")
+    pieces = [
+        struct(record),
+        archive_pointee(record),
+        portable(record, f"expr_of_record::<{record.name}Parts>(alloc)"),
+        check_of(record),
+        is_record(record),
+        resolver(record),
+        archive(record),
+        serialize(record),
+        region(record),
+        read(record),
+        views(record),
+        seals(record),
+    ]
+    return "\n".join(piece for piece in pieces if piece)
+
+
+def struct(record):
+    archived = record.archived
+    parts = statement(0, f"type {record.name}Parts = ", pair(record.formats_of), ";")
+    owned = statement(0, f"type {record.name}Owned = ", pair(record.rust), ";")
+    return f"""/// An archived `{record.name}`: {record.size} bytes at a multiple of {record.align}.
+{record.visibility}struct {archived};
+
+{parts}
+{owned}"""
+
+
+def check_of(record):
+    if record.shares:
+        return ""
+    record.formats.use("archive_core::self_check", "RecordCheck")
+    return own_check(record, f"RecordCheck::<{record.name}Parts>::check_at(bytes, at, refusal, context)")
+
+
+def is_record(record):
+    record.formats.ghost("Plain", "plain_record")
+    record.formats.ghost("std.proofs.Common", "lit≤")
+    record.formats.use("archive_core::traits", "Record")
+    return f"""impl Record for {record.archived} {{
+    type Parts = {record.name}Parts;
+
+    ghost has_parts = {{ plain_record {record.parts} {record.defined} refl }};
+
+    ghost holds = {{ lit≤ tt }};
+}}
+"""
+
+
+def resolver(record):
+    if not record.count:
+        return ""
+    kept = pair([f"<{rust} as Archive>::Resolver" for rust in record.rust])
+    return f"""/// What is kept of `{record.name}` from its serialization until it is resolved.
+#[derive(Drop)]
+{record.declared}struct {record.resolver} {{
+{statement(4, "kept: ", kept, ",")}}}
+"""
+
+
+def archive(record):
+    f, values, types = record.formats, record.values, record.types
+    f.ghost("Value", "product", "value", "no_value")
+    f.ghost("Keyed", "record_keyed", "part_keyed", "nothing_keyed")
+    f.ghost("PartsPlanned", "part_planned", "no_part_planned")
+    f.ghost("Plain", "plain_record_planned")
+    sources = [f.source(type) for type in types]
+    meanings = chain("value", [f"({q}.meaning {v})" for q, v in zip(sources, values)], "no_value")
+    flats = chain("value", [f"({q}.flat {v} r.kept{'.1' * i}.0)" for i, (q, v) in enumerate(zip(sources, values))], "no_value")
+    keys = infix("++", [f"{q}.keys {v}" for q, v in zip(sources, values)], "[]")
+    belongs = infix("×", [f"{q}.belongs {v} r.kept{'.1' * i}.0" for i, (q, v) in enumerate(zip(sources, values))], "Unit {0}")
+    keyed = chain("part_keyed", [f.keyed(type, v) for type, v in zip(types, values)], "nothing_keyed")
+    planned = "no_part_planned"
+    for type, q, v in reversed(list(zip(types, sources, values))):
+        planned = f"(part_planned {f.definitions(type)} {f.shape(type)} ({q}.keys {v}) ({q}.meaning {v}) {f.planned(type, v)} {planned})"
+    kept = "kept" if record.count else "resolver"
+    opened = f"        let {record.resolver} {{ kept }} = resolver;\n" if record.count else ""
+    arguments = [f"&self.{field.name}" for field in record.fields] + [kept, "Place::new(pos, bytes)"]
+    call = Generic(f"resolve_record_{record.count}", record.rust + [record.archived], arguments)
+    return f"""impl Archive for {record.name} {{
+{f.law_lines()}    type Archived = {record.archived};
+
+    type Resolver = {record.resolver if record.count else "()"};
+
+    ghost meaning = {{ λ v. product {meanings} }};
+
+    ghost flat = {{ λ v r. product {flats} }};
+
+    ghost keys = {{ λ v. {keys} }};
+
+    ghost belongs = {{ λ v r. {belongs} }};
+
+    ghost keyed = {{ λ v. record_keyed {keyed} }};
+
+    ghost planned = {{ λ v. plain_record_planned {record.defined} {record.parts} _ _ {planned} refl }};
+
+{resolve_head(record)}    {{
+        let Place {{ bytes, pos, .. }} = place;
+{opened}{statement(8, "", call, "")}    }}
+}}
+"""
+
+
+def serialize(record):
+    bound = record.formats.writer_bound(record.types)
+    arguments = [f"&self.{field.name}" for field in record.fields] + ["serializer"]
+    call = Generic(f"serialize_record_{record.count}", record.rust + [record.archived, "S"], arguments)
+    if record.count:
+        body = f"""{statement(8, "match ", call, " {")}            Ok(kept) => Ok({record.resolver} {{ kept }}),
+            Err(error) => Err(error),
+        }}
+"""
+    else:
+        body = statement(8, "", call, "")
+    return f"""{implementation([f"S: {bound}"], "Serialize", ["S"], record.name)}
+    fn serialize(&self, serializer: &mut S) -> Result<Self::Resolver, Error> {{
+{body}    }}
+}}
+"""
+
+
+def is_long(record):
+    """Whether a value is made of those of its fields by a function of its own, whose proof is written beside the module."""
+    return record.count > SHORT_RECORD
+
+
+def read(record):
+    record.formats.use("archive_core::record", "deserialize_record")
+    call = Generic("deserialize_record", ["Self", f"{record.name}Owned", "D"], ["alloc", "part", "deserializer"])
+    if is_long(record):
+        ok = f"            Ok(values) => Ok({snake(record.name)}_of(values)),\n"
+    else:
+        ok = ok_arm(flat(pair(record.names)), record.built(), 12)
+    impl = deserialize(record, f"""{statement(8, "match ", call, " {")}{ok}            Err(error) => Err(error),
+        }}
+""")
+    return f"{made_of(record)}\n{impl}" if is_long(record) else impl
+
+
+def made_of(record):
+    sources = [record.formats.source(type) for type in record.types]
+    values = [f"values{'.1' * i}.0" for i in range(record.count)]
+    meanings = chain("value", [f"({q}.meaning {v})" for q, v in zip(sources, values)], "no_value")
+    keys = infix("++", [f"{q}.keys {v}" for q, v in zip(sources, values)], "[]")
+    return f"""// The `{record.name}` of these values, one after another.
+fn {snake(record.name)}_of(values: {record.name}Owned) -> {record.name}
+    ensures meaning {{ ⟦<{record.name} as Archive>⟧.meaning result ≡ product {meanings} }}
+    ensures keys {{ ⟦<{record.name} as Archive>⟧.keys result ≡ {keys} }}
+{{
+{statement(4, "let ", pair(record.names), " = values;")}{statement(4, "", record.built(), "")}}}
+"""
+
+
+def proofs(formats, declaration):
+    """The proofs that are written beside the module, by their paths in the crate."""
+    record = Record(formats, declaration)
+    if not is_long(record):
+        return {}
+    module = "/".join(declaration.module)
+    dotted = ".".join((declaration.crate, "proofs") + tuple(declaration.module))
+    name = f"{snake(record.name)}_of"
+    impl = f"{record.archived}Deserialize{record.name}"
+    out = {}
+    signed = [
+        (f"w{8 * formats.layout(type)[0]}", f"c.args.values{'.1' * i}.0")
+        for i, type in enumerate(record.types)
+        if type.name in SIGNED and type.own is None
+    ]
+    if signed:
+        widths = sorted({width for width, _ in signed})
+        lets = "".join(f"    let e{i} : SFits {width} {value} = search rules in\n" for i, (width, value) in enumerate(signed))
+        steps = ", ".join(f"to_z-of_z {width} {value} e{i}" for i, (width, value) in enumerate(signed))
+        out[f"proofs/{module}/{name}/Answers.antt"] = f"""-- {WRITTEN}
+use Rattle.std.proofs.Common.{{◌≡◌, refl, arith, rules}}
+use Rattle.std.proofs.lemmas.Int.{{to_z-of_z}}
+use mir.Syntax.{{{', '.join(widths)}}}
+use mir.Val.{{SFits}}
+use Rattle.{dotted}.{name}.Goals as goal
+
+pub returns-clause-meaning : goal.returns-clause-meaning
+returns-clause-meaning c =
+{lets}    rw ({steps}) refl
+"""
+    out[f"proofs/{module}/{impl}/deserialize_part/Answers.antt"] = f"""-- {WRITTEN}
+use Rattle.{dotted}.{impl}.deserialize_part.Goals as goal
+
+pub returns-in-Ok-clause-read : goal.returns-in-Ok-clause-read
+returns-in-Ok-clause-read g c = rw (c.{name}.ensures.meaning, c.{name}.ensures.keys) c.in-Ok.ensures.read
+"""
+    return out
+
+
+def views(record):
+    if not record.count:
+        return ""
+    f = record.formats
+    f.use("archive_core::view", "Ref")
+    f.use("archive_core::fields", "part_in_record")
+    f.ghost("Fields", "field_in")
+    f.ghost("Seen", "ShowsValueOf")
+    heads, bodies = [], []
+    for i, (field, format, offset) in enumerate(zip(record.fields, record.formats_of, record.offsets)):
+        head = signature(f"fn {field.accessor}", [], ["self"], f"Ref<'a, {format}>", 4)
+        heads.append(f"{doc_lines(field.docs, f'The field `{field.name}`.', 4)}{head};\n")
+        body = statement(8, "", Generic("part_in_record", [record.archived, format], ["self", str(i), str(offset)]), "")
+        bodies.append(f"{head}\n{view_clauses('self.entry', 'result', offset, f'field_in {i}')}    {{\n{body}    }}\n")
+    lines = "\n".join(bodies)
+    return f"""/// The fields of an archived `{record.name}`, where they lie.
+{record.visibility}trait {record.name}View<'a> {{
+{chr(10).join(heads)}}}
+
+{implementation(["'a"], f"{record.name}View", ["'a"], f"Ref<'a, {record.archived}>")}
+{lines}}}
+"""
+
+
+def seals(record):
+    if not record.count:
+        return ""
+    f = record.formats
+    f.use("archive_core::seal", "Seal", "sealed_part_in_record")
+    f.ghost("Viewed", "Viewed")
+    f.ghost("SealsWritten", "SealsBeside")
+    pointee = f"(one ⟦<{record.archived} as Portable>⟧.shape)"
+    heads, bodies = [], []
+    for i, (field, format, offset) in enumerate(zip(record.fields, record.formats_of, record.offsets)):
+        call = Generic("sealed_part_in_record", [record.archived, format], ["self", str(i), str(offset)])
+        definitions = f.definitions(field.type)
+        head = signature(f"fn {field.accessor}_mut", [], ["self"], f"Seal<'a, {format}>", 4)
+        heads.append(f"{doc_lines(field.docs, f'The field `{field.name}`.', 4)}{head}\n        requires {{ sealed self }};\n")
+        bodies.append(f"{head}\n{sealed_clauses(pointee, format, offset, definitions)}    {{\n{statement(8, '', call, '')}    }}\n")
+    return f"""/// The fields of an archived `{record.name}`, sealed where they lie.
+{record.visibility}trait {record.name}Seal<'a> {{
+    // The seal shows a part of a buffer that was checked.
+    ghost sealed: {{ Self → Type 0 }};
+
+{chr(10).join(heads)}}}
+
+{implementation(["'a"], f"{record.name}Seal", ["'a"], f"Seal<'a, {record.archived}>")}
+    ghost sealed = {{ λ s. Viewed no_definition s.bytes.now s.pos {pointee} s.len }};
+
+{chr(10).join(bodies)}}}
+"""

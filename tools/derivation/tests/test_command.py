@@ -1,0 +1,237 @@
+"""The command: what it writes, and what it leaves as it is."""
+
+import os
+from unittest import mock
+
+from derivation.files import PROOF_BEGINS
+from derivation.model import MARK
+
+from .repository import RepositoryTest
+
+POINT = "/// A point.\n#[derive(Debug, PartialEq, Drop)]\npub struct Point {\n    pub x: i32,\n    pub name: String,\n}\n"
+EVENT = "#[derive(Drop)]\npub enum Event { Quit, Key(char), Move { x: i32, y: Point } }\n"
+
+
+class Writing(RepositoryTest):
+    def test_what_is_above_stays(self):
+        for head in (POINT, POINT + "\n", "\ufeff" + POINT, "//! Words.  \n\n\n" + POINT + EVENT + "// The end."):
+            with self.subTest(head):
+                path = self.put(head)
+                self.assertEqual(self.run_command(path), (0, ""))
+                text = self.text(path)
+                self.assertTrue(text.startswith(head))
+                self.assertRegex(text[len(head):], r"^\n{0,2}// Below this line")
+                self.assertEqual(text.count(MARK), 1)
+                self.assertIn("pub struct ArchivedPoint", text)
+
+    def test_the_same_text_twice(self):
+        path = self.put(POINT + EVENT)
+        self.run_command(path)
+        first = self.text(path)
+        self.assertEqual(self.run_command(path), (0, ""))
+        self.assertEqual(self.text(path), first)
+        other = self.put(POINT + EVENT, crate="game")
+        self.run_command(other)
+        self.assertEqual(self.text(other), first)
+
+    def test_lines_end_as_above(self):
+        path = self.put(POINT.replace("\n", "\r\n"))
+        self.assertEqual(self.run_command(path), (0, ""))
+        text = self.text(path)
+        self.assertTrue(text.startswith(POINT.replace("\n", "\r\n")))
+        self.assertEqual(text.count("\n"), text.count("\r\n"))
+        self.assertEqual(self.run_command("--check", path), (0, ""))
+
+    def test_a_changed_declaration_is_written_anew(self):
+        path = self.put(POINT)
+        self.run_command(path)
+        changed = self.text(path).replace("pub x: i32", "pub x: i64, pub y: u8")
+        self.put(changed)
+        self.run_command(path)
+        fresh = self.put(POINT.replace("pub x: i32", "pub x: i64, pub y: u8"), "fresh")
+        self.run_command(fresh)
+        self.assertEqual(self.text(path), self.text(fresh).replace(".fresh.", ".types."))
+
+    def test_nothing_is_written_where_a_file_is_refused(self):
+        good, bad = self.put(POINT, "good"), self.put("pub struct A(f64);", "bad")
+        status, said = self.run_command(good, bad)
+        self.assertEqual((status, said), (2, "crates/game/src/bad.rt:1: a float has no format; write its bits, a `u64` of `to_bits`\n"))
+        self.assertEqual((self.text(good), self.text(bad)), (POINT, "pub struct A(f64);"))
+
+    def test_names_that_are_there_already(self):
+        for more, why in [
+            ("struct ArchivedPoint;\n", "`ArchivedPoint` is written by tools/derive; give this one another name"),
+            ("enum A { BC(u8) }\nenum AB { C(u8) }\n", "`ABCParts` would be written twice; give one of the types another name"),
+            ("fn pointview() {}\n", "`PointView`, which differs from `pointview` only in case, is written by tools/derive; give this one another name"),
+        ]:
+            with self.subTest(more):
+                status, said = self.run_command(self.put(POINT + more))
+                self.assertEqual(status, 2)
+                self.assertIn(why, said)
+
+    def test_names_that_the_library_has_too(self):
+        text = "use std::fmt::Error;\n/// A Choice of these.\n#[derive(Drop)]\npub enum Choice { Record(Record), Choice }\n#[derive(Drop)]\npub struct Record { pub x: u8 }\n"
+        path = self.put(text)
+        self.assertEqual(self.run_command(path), (0, ""))
+        written = self.text(path)[len(text):]
+        for name, module in (("Error", "error"), ("Choice", "traits"), ("Record", "traits")):
+            self.assertIn(f"{name} as Core{name}", written)
+            self.assertIn(f"-> Result<usize, CoreError>", written)
+        self.assertIn("impl CoreChoice for ArchivedChoice", written)
+        self.assertIn("impl CoreRecord for ArchivedRecord", written)
+        self.assertIn("impl Archive for Choice", written)
+        self.assertIn("Choice::Record(", written)
+        self.assertIn("Choice::Choice", written)
+        self.assertNotIn("\ue000", written)
+        self.assertEqual(self.run_command("--check", path), (0, ""))
+
+    def test_a_file_keeps_its_mode_and_a_link_stays(self):
+        path = self.put(POINT)
+        os.chmod(path, 0o640)
+        link = self.path("game", "link")
+        os.symlink(path, link)
+        self.assertEqual(self.run_command(link), (0, ""))
+        self.assertTrue(os.path.islink(link))
+        self.assertEqual(os.stat(path).st_mode & 0o777, 0o640)
+        self.assertIn("pub struct ArchivedPoint", self.text(path))
+
+    def test_what_the_head_brings_in_is_not_brought_in_again(self):
+        path = self.put("use archive_core::error::Error;\nuse std::alloc::Global;\n" + POINT)
+        self.assertEqual(self.run_command(path), (0, ""))
+        self.assertEqual(self.text(path).count("use archive_core::error::Error;"), 1)
+
+
+class Proofs(RepositoryTest):
+    """Short files of proofs beside a module, where a record needs some."""
+
+    def files(self):
+        top = os.path.join(self.top, "crates", "game", "proofs")
+        return sorted(os.path.relpath(os.path.join(folder, it), top) for folder, _, names in os.walk(top) for it in names)
+
+    def given(self, *words):
+        """Each record has these, from now on."""
+        made = {f"proofs/deep/long/{it}/Answers.antt": f"{PROOF_BEGINS}\nuse {it}\n" for it in words}
+        patch = mock.patch("derivation.write.proofs", lambda module: made)
+        patch.start()
+        self.addCleanup(patch.stop)
+
+    def test_written_compared_and_removed(self):
+        path = self.put(POINT, "deep/long")
+        self.given("a", "b")
+        self.assertEqual(self.run_command("--check", path)[0], 1)
+        self.assertEqual(self.run_command(path), (0, ""))
+        self.assertEqual(self.files(), ["deep/long/a/Answers.antt", "deep/long/b/Answers.antt"])
+        self.assertEqual(self.run_command("--check", path), (0, ""))
+        with open(os.path.join(self.top, "crates/game/proofs/deep/long/a/Answers.antt"), "a", encoding="utf-8") as file:
+            file.write("more\n")
+        told = "crates/game/proofs/deep/long/a/Answers.antt:3: found `more`; it should be nothing: run tools/derive again\n"
+        self.assertEqual(self.run_command("--check", path), (1, told))
+        self.run_command(path)
+        self.assertEqual(self.run_command("--check", path), (0, ""))
+
+    def test_what_is_by_hand_stays(self):
+        path = self.put(POINT, "deep/long")
+        self.given("a")
+        self.run_command(path)
+        hand = os.path.join(self.top, "crates/game/proofs/deep/long/hand/Answers.antt")
+        os.makedirs(os.path.dirname(hand))
+        with open(hand, "w", encoding="utf-8") as file:
+            file.write("use x\n")
+        self.put("pub struct A;", "deep/long/other")
+        other = os.path.join(self.top, "crates/game/proofs/deep/long/other/Answers.antt")
+        os.makedirs(os.path.dirname(other))
+        with open(other, "w", encoding="utf-8") as file:
+            file.write(f"{PROOF_BEGINS}\n")
+        self.given()
+        self.assertEqual(self.run_command("--check", path)[0], 1)
+        self.run_command(path)
+        self.assertEqual(self.files(), ["deep/long/hand/Answers.antt", "deep/long/other/Answers.antt"])
+
+
+class Checking(RepositoryTest):
+    def setUp(self):
+        super().setUp()
+        self.file = self.put(POINT)
+
+    def check(self):
+        return self.run_command("--check", self.file)
+
+    def test_not_written(self):
+        self.assertEqual(self.check(), (1, "crates/game/src/types.rt:7: nothing is written yet; run tools/derive on it\n"))
+        self.assertEqual(self.text(self.file), POINT)
+
+    def test_written(self):
+        self.run_command(self.file)
+        self.assertEqual(self.check(), (0, ""))
+
+    def test_the_layout_does_not_count(self):
+        self.run_command(self.file)
+        text = self.text(self.file).replace("fn size() -> usize {\n        ", "fn size(  ) -> usize { ").replace("Prelude.{", "Prelude.{ ")
+        self.put(text)
+        self.assertEqual(self.check(), (0, ""))
+        self.assertEqual(self.run_command(self.file), (0, ""))
+        self.assertEqual(self.text(self.file), text)
+
+    def test_the_first_line_that_differs(self):
+        self.run_command(self.file)
+        text = self.text(self.file)
+        line = text[: text.index("        12\n")].count("\n") + 1
+        self.put(text.replace("        12\n", "        16\n", 1))
+        self.assertEqual(self.check(), (1, f"crates/game/src/types.rt:{line}: found `16`; it should be `12`: run tools/derive again\n"))
+
+    def test_of_a_long_line_what_differs(self):
+        self.run_command(self.file)
+        text = self.text(self.file)
+        self.put(text.replace("value (⟦<String as Archive>⟧.meaning v.name)", "value (⟦<String as Archive>⟧.meaning v.game)", 1))
+        status, said = self.check()
+        self.assertEqual(status, 1)
+        self.assertRegex(said, r"found `\.\.[^`]*meaning v\.game\)[^`]*`; it should be `\.\.[^`]*meaning v\.name\)[^`]*`: run tools/derive again\n")
+        self.assertLess(len(said), 400)
+
+    def test_the_end_is_missing_or_too_long(self):
+        self.run_command(self.file)
+        text = self.text(self.file)
+        self.put(text.rstrip().rstrip("}"))
+        self.assertIn("found nothing; it should be `}`: run tools/derive again", self.check()[1])
+        self.put(text + "fn more() {}\n")
+        self.assertIn("found `fn more() {}`; it should be nothing: run tools/derive again", self.check()[1])
+
+    def test_a_changed_declaration(self):
+        self.run_command(self.file)
+        self.put(self.text(self.file).replace("pub x: i32", "pub x: i64"))
+        self.assertEqual(self.check()[0], 1)
+
+
+class CheckingAll(RepositoryTest):
+    def in_folder(self, folder):
+        before = os.getcwd()
+        self.addCleanup(os.chdir, before)
+        os.chdir(folder)
+
+    def test_all_written_files_are_looked_at(self):
+        good, bad = self.put(POINT, "good"), self.put(POINT, "deep/bad", "other")
+        self.put("pub struct Alone;\n", "plain")
+        self.run_command(good, bad)
+        self.in_folder(self.top)
+        self.assertEqual(self.run_command("--check"), (0, ""))
+        self.put(self.text(bad) + "more\n", "deep/bad", "other")
+        status, said = self.run_command("--check")
+        self.assertEqual(status, 1)
+        self.assertRegex(said, r"\Acrates/other/src/deep/bad.rt:\d+: found `more`; it should be nothing: run tools/derive again\n\Z")
+
+    def test_there_are_no_crates(self):
+        self.in_folder(self.top)
+        self.assertEqual(self.run_command("--check"), (2, "there is no folder `crates` here; name the files, or run this where the repository begins\n"))
+
+
+class Arguments(RepositoryTest):
+    def test_help(self):
+        status, said = self.run_command("--help")
+        self.assertEqual(status, 0)
+        self.assertIn("tools/derive --check", said)
+
+    def test_usage(self):
+        for arguments in ([], ["--new"], ["--check", "-x"]):
+            status, said = self.run_command(*arguments)
+            self.assertEqual(status, 2)
+            self.assertTrue(said.startswith("tools/derive [--check] FILE.rt .."))

@@ -1,0 +1,178 @@
+"""What is refused, with the line and what to write instead."""
+
+from derivation.model import MARK
+from derivation.read import MOST_FIELDS as MOST
+
+from .repository import RepositoryTest
+
+LIST = ",\n"
+# A type of a field, and how its refusal begins.
+FIELDS = [
+    ("f64", "a float has no format; write its bits, a `u64` of `to_bits`"),
+    ("Vec<f32>", "a float has no format; write its bits, a `u32` of `to_bits`"),
+    ("&'static str", "a reference has no format; write a type that owns what it holds, as a `String`, a `Vec` or a `Box`"),
+    ("Option<&u8>", "a reference has no format; write a type that owns"),
+    ("*const u8", "a raw pointer has no format; write"),
+    ("[u8]", "a slice has no length of its own; write a `Vec`, or a `BoxSlice`"),
+    ("Box<[u8]>", "a boxed slice is a type of the library; write `BoxSlice`, of `archive_core::boxed`"),
+    ("Box<str>", "a boxed text is a type of the library; write `BoxStr`, of `archive_core::boxed`"),
+    ("Box<dyn Fn(u8) -> u8>", "`dyn` has no format; write an enum of what it may be"),
+    ("fn(u8) -> u8", "a function has no format; write"),
+    ("impl Copy", "`impl` names no one type; write the type"),
+    ("!", "`!` has no value; remove the field"),
+    ("_", "write the type in place of `_`"),
+    ("<u8 as Copy>::X", "only a type's own name is looked up; write the type"),
+    ("vec![u8]", "a macro's type isn't looked up; write the type"),
+    ("std::collections::HashMap<u8, u8>", "`HashMap` has no format; write a `Vec` of pairs, as `Vec<(K, V)>`"),
+    ("std::collections::BTreeSet<u8>", "`BTreeSet` has no format; write a `Vec`"),
+    ("std::cell::Cell<u8>", "`Cell` has no format; write what it holds"),
+    ("std::rc::Rc<u8>", "`Rc` has no format; write a `Shared`, of `archive_core::rc`"),
+    ("std::sync::Arc<u8>", "`Arc` has no format; write a `Shared`, of `archive_core::rc`"),
+    ("std::num::NonZeroU16", "`NonZeroU16` has no format; write an `ArchivedNonZeroU16`, of `archive_core::primitive`"),
+    ("str", "`str` has no format; write a `String`"),
+    ("BoxSlice<u8>", "`BoxSlice` isn't brought in; write `use archive_core::boxed::BoxSlice;`"),
+    ("PhantomData<u8>", "`PhantomData` isn't brought in; write `use std::marker::PhantomData;`"),
+    ("ArchivedNonZeroU8", "`ArchivedNonZeroU8` isn't brought in; write `use archive_core::primitive::ArchivedNonZeroU8;`"),
+    ("Nowhere", "`Nowhere` has no format here; declare it in a file of its own"),
+    ("nowhere::Point", "`nowhere::Point` has no format here; declare it"),
+    ("Vec<u8, Global>", "`Vec` takes one where 2 arguments are written; write one"),
+    ("u8<u8>", "`u8` takes none where 1 arguments are written; write none"),
+    ("[u8; COUNT]", "the number of items `COUNT` isn't known; write a number, or a constant of this file whose value is one"),
+    ("[u8; 5000000000]", "an array of 5000000000 items is too long; write at most 4294967295"),
+    ("archive_core::primitive::NonZero<bool>", "`NonZero` is of a number of one size; write `NonZero<u32>`"),
+    ("archive_core::string::ArchivedString", "`archive_core::string::ArchivedString` has no format here"),
+    ("Vec<(u8, Option<(u8, u8)>)>", "a tuple in a tuple is too deep for the toolchain; write a struct in place of the inner one"),
+    (f"({', '.join(['u8'] * 14)})", "a tuple of 14 has no format, only up to 13; write a struct"),
+    (f"{'Option<' * 200}u8{'>' * 200}", "this type is nested more than 100 deep; give a part of it a name"),
+]
+# A declaration, and what its refusal has.
+DECLARATIONS = [
+    ("enum Never {}", "1: `Never` has no variant, so no value; give it one"),
+    ("\nunion Either { a: u8 }", "2: a union has no format; write an enum in place of `Either`"),
+    ("enum Op { Push = 1 }", "1: `Push` has a number of its own, and tags count from 0; remove `= ..`"),
+    (f"enum Many {{\n{LIST.join(f'V{i}' for i in range(257))} }}", "258: `Many` has 257 variants, and a tag of one byte counts 256; put some into an enum of their own"),
+    ("struct A<'a> { x: &'a u8 }", "1: a lifetime has no place in an archived type; remove 'a and own what it borrows"),
+    ("struct A<const N: usize> { x: [u8; N] }", "1: a const parameter has no archived type; in place of `N` write one type for each number"),
+    ("struct A<T = u8>(T);", "1: `T` has a default; write the type at each use instead"),
+    (f"struct A {{\n{LIST.join(f'f{i}: u8' for i in range(MOST + 1))} }}", f"{MOST + 2}: `A` has {MOST + 1} fields, and {MOST} are the most; put some into a struct of their own"),
+    ("struct A { x: u8, X: u8 }", "1: the fields `X` and `x` differ only in case; give one of them another name"),
+    ("struct A { x: u8,\nx: u8 }", "2: the fields `x` are two; give one of them another name"),
+    ("enum A { One, one }", "1: the variants `one` and `One` differ only in case; give one of them another name"),
+    ("struct A { pos: u8, pos_field: u8 }", "1: `pos_field` and `pos` are both shown by `pos_field`; give one of them another name"),
+    ("struct A { x: u8, x_mut: u8 }", "1: `x_mut` and `x` are both shown by `x_mut`; give one of them another name"),
+    ("enum A { Key { x_y: u8 }, KeyX { y: u8 } }", "1: `y` and `x_y` are both shown by `key_x_y_mut`; give one of them another name"),
+    ("struct A { now: u8 }", "1: `now` has a meaning in contracts; choose another name for the field"),
+    ("struct A { r#type: u8 }", "1: `r#type` is a keyword; choose another name"),
+    ("struct A { é: u8 }", "1: `é` isn't written in ASCII; choose another name"),
+    ("struct deriving;", "1: the toolchain has a meaning for `deriving`; choose another name"),
+    ("struct __A;", "1: `__A` begins with two underscores; choose another name"),
+    ("struct A { value: u8, ghost small: { value ≤ 100 } }", "1: `A` has a ghost field, which bytes can't promise; archive a struct without it"),
+    ("struct A { #[cfg(test)] x: u8 }", "1: a field of `A` that is there only sometimes has no place; remove its `cfg`"),
+    ("struct A;\nstruct A;", "2: `A` is declared twice; give one of them another name"),
+    ("struct A;\nimpl Archive for A {}", "1: `A` has an `Archive` impl above the marker; remove it, or move both to a file of their own"),
+    ("// name: a-b\nstruct A;", "1: `a-b` is no name; write `// name: ArchivedA`, or remove the line"),
+    ("fn f() {}", "1: no struct and no enum is declared here; declare one above the marker"),
+    ("", "1: no struct and no enum is declared here"),
+    (f"{MARK}\nstruct A;", "1: no struct and no enum is declared here"),
+    ("type T = U;\ntype U = T;\nstruct A(T);", "the type `T` is an alias of itself; write what it stands for"),
+]
+# A text that ends too soon, or has something too much, and how its refusal begins.
+HALVES = [
+    ("struct", "1: found the end; write the name of the struct here"),
+    ("struct A", "1: found the end behind the struct `A`; write `;` here"),
+    ("struct A(u8)", "1: found the end behind the struct `A`; write `;` here"),
+    ("struct A {\n x: u8", "2: found the end behind the field `x` of `A`; write `}` here"),
+    ("struct A { x }", "1: found `}` behind the field `x`; write `:` here"),
+    ("struct A { x: }", "1: found `}`; write a type here"),
+    ("struct A { x: Vec<u8 }", "1: found `}`; write `>` here"),
+    ("struct A { x: (u8, }", "1: found `}`; write a type here"),
+    ("struct A; }", "1: found `}`; write an item here, as `struct Point { .. }`"),
+    ("enum A { B", "1: found the end behind the variant `B`; write `}` here"),
+    ("enum A { B(u8 }", "1: found `}` behind the field `0` of `A::B`; write `)` here"),
+    ("fn f() {", "1: `{` is never closed; write `}` where it ends"),
+    ("fn f() { ( }", "1: found `}`; write `)` here, which closes what is open"),
+    ("/* struct A;", "1: this comment has no `*/`; write it where the comment ends"),
+    ('const A: &str = "x;', "1: this text has no end; close it by `\"`"),
+    ('const A: &str = r#"x";', '1: this text has no end; close it by `"#`'),
+    ("use std::{vec", "1: found the end in a `use` item; write `}` here"),
+    ("pub", "1: found the end behind `the end`; write what it begins"),
+    ("#", "1: `#` begins an attribute; write `[` behind it"),
+    (f"struct A;\n{MARK[:-1]}\n", "2: this is nearly the line that tools/derive looks for; write it as"),
+]
+
+
+class Refusals(RepositoryTest):
+    def test_types_of_fields(self):
+        for type, why in FIELDS:
+            with self.subTest(type):
+                said = self.refusal(f"\nstruct A {{\n x: u8, y:\n {type} }}\n")
+                self.assertTrue(said.startswith(f"4: {why}"), said)
+
+    def test_declarations(self):
+        for text, why in DECLARATIONS:
+            with self.subTest(text[:60]):
+                said = self.refusal(text)
+                self.assertIn(why, said)
+
+    def test_halves(self):
+        for text, why in HALVES:
+            with self.subTest(text):
+                said = self.refusal(text)
+                self.assertTrue(said.startswith(why), said)
+
+    def test_files(self):
+        missing = self.path("game", "missing")
+        self.assertEqual(self.refusal("", missing), "1: this can't be read (No such file or directory); name a file that can")
+        self.assertEqual(self.refusal("", self.put(b"struct A;\n\xff\n")), "2: this isn't UTF-8; save the file as UTF-8")
+        self.assertIn("this is no file of a crate", self.refusal("", "/tmp/types.rs"))
+        self.assertIn("this is in no crate", self.refusal("", "/tmp/types.rt"))
+
+
+class Circles(RepositoryTest):
+    def test_behind_no_pointer(self):
+        for text, names in [
+            ("struct A { a: Option<A> }", "A > A"),
+            ("struct A { b: B }\nenum B { C([D; 2]) }\nstruct D { a: (u8, A) }", "A > B > D > A"),
+            ("struct W<T>(T);\nstruct A { x: W<A> }", "A > A"),
+            ("struct A(Result<u8, Self>);", "A > A"),
+        ]:
+            with self.subTest(text):
+                self.assertIn(f"holds itself behind no pointer ({names}); put a `Box`, a `Vec` or a `Shared` between", self.refusal(text))
+
+    def test_behind_a_pointer(self):
+        for text, names in [
+            ("enum Node { Nil, Cons(Box<Node>) }", "Node > Node"),
+            ("struct A { b: B }\nstruct B { a: Vec<A> }", "A > B > A"),
+            ("struct W<T>(Box<T>);\nstruct A { x: W<A> }", "A > A"),
+        ]:
+            with self.subTest(text):
+                self.assertIn(f"is recursive ({names}), which tools/derive doesn't write yet; write it by hand", self.refusal(text))
+
+
+class Others(RepositoryTest):
+    """Types of other files."""
+
+    def refusal_with(self, other):
+        self.put(other, "other")
+        path = self.put("use crate::other::B;\nstruct A { b: B }")
+        from derivation import read
+        from derivation.model import Refused
+
+        with self.assertRaises(Refused) as refused:
+            read.modules([path])
+        return str(refused.exception).replace(self.top, "")
+
+    def test_not_written_yet(self):
+        self.assertEqual(self.refusal_with("pub struct B;"), "/crates/game/src/other.rt:1: `B` isn't archived yet; run tools/derive on both files together")
+
+    def test_by_hand(self):
+        said = self.refusal_with("pub struct B;\nimpl Archive for B {}")
+        self.assertEqual(said, "/crates/game/src/other.rt:1: `B` is archived by hand, so its format isn't known; hold what it holds, or let tools/derive write it")
+
+    def test_a_fault_is_told_where_it_is(self):
+        self.assertIn("/crates/game/src/other.rt:2: a float has no format", self.refusal_with(f"\npub struct B(f32);\n\n{MARK}\n"))
+
+    def test_two_types_of_one_name(self):
+        self.put(f"pub struct B;\n\n{MARK}\n", "other")
+        said = self.refusal("struct B;\nstruct A { a: B,\n b: crate::other::B }")
+        self.assertIn("3: `B` is also the type of", said)

@@ -1,0 +1,395 @@
+"""The impls of an enum without type parameters."""
+
+from .common import (
+    Source,
+    archive_pointee,
+    chain,
+    deserialize,
+    doc_lines,
+    infix,
+    ok_arm,
+    own_check,
+    portable,
+    region,
+    resolve_head,
+    sealed_clauses,
+    viewed,
+)
+from .formats import layout_of, snake
+from .layout import Generic, Group, WIDTH, ended, flat, implementation, lay, literal, pair, signature, statement
+
+
+class Case:
+    """A variant: its fields, and what is said of them."""
+
+    def __init__(self, choice, tag, variant):
+        formats = choice.formats
+        self.choice = choice
+        self.tag = tag
+        self.name = variant.name
+        self.form = variant.form
+        self.docs = variant.docs
+        self.fields = variant.fields
+        self.types = [field.type for field in variant.fields]
+        self.count = len(self.types)
+        self.archived = [formats.archived(type) for type in self.types]
+        self.rust = [formats.rust(type) for type in self.types]
+        self.sources = [formats.source(type) for type in self.types]
+        sizes = layout_of([formats.layout(type) for type in self.types], 1)
+        self.align, self.offsets, self.end = sizes[1:]
+        self.parts = chain("part", [formats.shape(type) for type in self.types], "no_part")
+        self.defined = chain("both", [formats.definitions(type) for type in self.types], "no_definition")
+        self.binders = [f"a{i}" for i in range(self.count)]
+        self.names = self.binders
+        self.word = f"{choice.name}{self.name}"
+
+    def pattern(self, of=None):
+        """The variant with a name for each field."""
+        path = f"{of or self.choice.name}::{self.name}"
+        if self.form == "struct":
+            return literal(path, [f"{field.name}: {name}" for field, name in zip(self.fields, self.names)])
+        return Group(f"{path}(", self.names, ")") if self.form == "tuple" else path
+
+    def bound(self, end=""):
+        return " ".join([self.word + end] + self.binders)
+
+
+class Choice(Source):
+    def __init__(self, formats, declaration):
+        super().__init__(formats, declaration)
+        self.view = f"ViewOf{self.name}"
+        self.cases = [Case(self, tag, variant) for tag, variant in enumerate(declaration.variants)]
+        self.align = max(case.align for case in self.cases)
+        self.span = max(case.end for case in self.cases)
+        self.size = -(-self.span // self.align) * self.align
+        self.variants = chain("variant", [case.parts for case in self.cases], "no_variant")
+        self.shape = f'choice (codes "{self.archived}") {self.variants}'
+        self.defined = chain("both", [case.defined for case in self.cases], "no_definition")
+
+    def brought(self, **of):
+        """The lines of an impl that bring in variants, by what their names end in. Within the impl, since at the head of the file they may go in a circle."""
+        declared = ".".join((self.declaration.crate, "specs", "declared") + tuple(self.declaration.module))
+        lines = ""
+        for suffix, path in of.items():
+            suffix = "" if suffix == "own" else suffix
+            names = sorted(f"{case.name} as {case.word}{suffix}" for case in self.cases)
+            lines += f"    ghost use Rattle.{declared}.{path}.TheVariants.{{{', '.join(names)}}};\n"
+        return lines + "\n"
+
+    def elim(self, of, f):
+        head = f"elim {of} [ " if of else "elim [ "
+        return head + " | ".join(f"{case.bound()} ↦ {f(case)}" for case in self.cases) + " ]"
+
+    def kept(self, case, yes, no):
+        """By a resolver that has to be of the same variant."""
+        bound = f"{case.word}Kept s" if case.count else f"{case.word}Kept"
+        other = f" | _ ↦ {no}" if len(self.cases) > 1 else ""
+        return f"elim r [ {bound} ↦ {yes}{other} ]"
+
+
+def text(formats, declaration):
+    choice = Choice(formats, declaration)
+    for case in choice.cases:
+        formats.use("archive_core::fields", f"serialize_case_{case.count}", f"resolve_case_{case.count}")
+    pieces = [
+        enum(choice),
+        archive_pointee(choice),
+        portable(choice, f'expr_of_choice::<{choice.name}Variants>(alloc, "{choice.archived}")'),
+        check_of(choice),
+        is_choice(choice),
+        resolver(choice),
+        archive(choice),
+        serialize(choice),
+        region(choice),
+        read(choice),
+        views(choice),
+        seals(choice),
+    ]
+    return "\n".join(piece for piece in pieces if piece)
+
+
+def enum(choice):
+    lines = []
+    for case in choice.cases:
+        if case.count:
+            lines.append(statement(0, f"type {case.word}Parts = ", pair(case.archived), ";"))
+            lines.append(statement(0, f"type {case.word}Owned = ", pair(case.rust), ";"))
+    parts = [f"{case.word}Parts" if case.count else "()" for case in choice.cases]
+    lines.append(statement(0, f"type {choice.name}Variants = ", pair(parts), ";"))
+    return f"""/// An archived `{choice.name}`: {choice.size} bytes at a multiple of {choice.align}.
+{choice.visibility}struct {choice.archived};
+
+{chr(10).join(lines)}"""
+
+
+def check_of(choice):
+    if choice.shares:
+        return ""
+    choice.formats.use("archive_core::self_check", "check_choice")
+    call = Generic("check_choice", [f"{choice.name}Variants", "C"], [f'"{choice.archived}"', "bytes", "at", "refusal", "context"])
+    return own_check(choice, lay(call, 8, 8))
+
+
+def is_choice(choice):
+    choice.formats.ghost("Plain", "plain_choice")
+    choice.formats.ghost("std.proofs.Common", "lit≤")
+    choice.formats.use("archive_core::traits", "Choice")
+    return f"""impl Choice for {choice.archived} {{
+    type Variants = {choice.name}Variants;
+
+    ghost name = {{ codes "{choice.archived}" }};
+
+    ghost has_variants = {{ plain_choice (codes "{choice.archived}") {choice.variants} {choice.defined} refl }};
+
+    ghost holds = {{ lit≤ tt }};
+}}
+"""
+
+
+def resolver(choice):
+    lines = []
+    for case in choice.cases:
+        kept = pair([f"<{rust} as Archive>::Resolver" for rust in case.rust])
+        doc = f"    /// Of `{case.name}`.\n"
+        lines.append(doc + (statement(4, "", Group(f"{case.name}(", [kept], ")"), ",") if case.count else f"    {case.name},\n"))
+    return f"""/// What is kept of `{choice.name}` from its serialization until it is resolved.
+#[derive(Drop)]
+{choice.declared}enum {choice.resolver} {{
+{"".join(lines)}}}
+"""
+
+
+def archive(choice):
+    f = choice.formats
+    f.ghost("Value", "case", "value", "no_value")
+    f.ghost("Keyed", "case_keyed", "part_keyed", "nothing_keyed")
+    f.ghost("PartsPlanned", "part_planned", "no_part_planned")
+    f.ghost("Plain", "plain_variant_planned")
+
+    def meaning(case):
+        return f"case {case.tag} " + chain("value", [f"({q}.meaning {a})" for q, a in zip(case.sources, case.binders)], "no_value")
+
+    def flats(case):
+        those = [f"({q}.flat {a} s{'.1' * i}.0)" for i, (q, a) in enumerate(zip(case.sources, case.binders))]
+        yes = f"case {case.tag} " + chain("value", those, "no_value")
+        return choice.kept(case, yes, f"case {case.tag} no_value") if case.count else yes
+
+    def keys(case):
+        return infix("++", [f"{q}.keys {a}" for q, a in zip(case.sources, case.binders)], "[]")
+
+    def belongs(case):
+        those = [f"{q}.belongs {a} s{'.1' * i}.0" for i, (q, a) in enumerate(zip(case.sources, case.binders))]
+        return choice.kept(case, infix("×", those, "Unit {0}"), "⊥")
+
+    def keyed(case):
+        those = [f.keyed(type, a) for type, a in zip(case.types, case.binders)]
+        return f"case_keyed _ {case.tag} _ " + chain("part_keyed", those, "nothing_keyed")
+
+    def planned(case):
+        out = "no_part_planned"
+        for type, q, a in reversed(list(zip(case.types, case.sources, case.binders))):
+            out = f"(part_planned {f.definitions(type)} {f.shape(type)} ({q}.keys {a}) ({q}.meaning {a}) {f.planned(type, a)} {out})"
+        return f"plain_variant_planned _ _ {case.tag} {case.parts} refl {case.defined} _ _ {out} refl"
+
+    arms = "".join(resolve_arm(choice, case) for case in choice.cases)
+    laws = (choice.elim("", keyed), choice.elim("", planned))
+    brought = (f.law_lines() + choice.brought(own=choice.name, Kept=choice.resolver)).replace("\n\n    ghost", "\n    ghost")
+    return f"""impl Archive for {choice.name} {{
+{brought}    type Archived = {choice.archived};
+
+    type Resolver = {choice.resolver};
+
+    ghost meaning = {{ {choice.elim("", meaning)} }};
+
+    ghost flat = {{ λ v r. {choice.elim("v", flats)} }};
+
+    ghost keys = {{ {choice.elim("", keys)} }};
+
+    ghost belongs = {{ λ v r. {choice.elim("v", belongs)} }};
+
+    ghost keyed = {{ {laws[0]} }};
+
+    ghost planned = {{ {laws[1]} }};
+
+{resolve_head(choice)}    {{
+        let Place {{ bytes, pos, .. }} = place;
+        match self {{
+{arms}        }}
+    }}
+}}
+"""
+
+
+def resolve_arm(choice, case):
+    place = "Place::new(pos, bytes)"
+    pattern = flat(case.pattern())
+    call = Generic(f"resolve_case_{case.count}", case.rust + [choice.archived], [str(case.tag)] + case.names + ["kept" if case.count else "()", place])
+    if not case.count:
+        one = f"            {pattern} => {flat(call)},\n"
+        if len(one) <= WIDTH + 1:
+            return one
+        return f"            {pattern} => {{\n{statement(16, '', call, '')}            }}\n"
+    opened = f"let {choice.resolver}::{case.name}(kept) = resolver"
+    other = " else {\n                    unreachable!();\n                }" if len(choice.cases) > 1 else ""
+    return f"""            {pattern} => {{
+                {opened}{other};
+{statement(16, "", call, "")}            }}
+"""
+
+
+def match_arm(pattern, call, values, made):
+    """An arm that answers what a call answers, by another name."""
+    before = f"{flat(pattern)} => match "
+    whole = lay(call, 12, 12 + len(before), 2)
+    if 12 + len(before) + len(whole.split("\n")[0]) <= WIDTH:
+        return f"""            {before}{ended(whole, 12, " {")}
+{ok_arm(values, made, 16)}                Err(error) => Err(error),
+            }},
+"""
+    return f"""            {flat(pattern)} => {{
+{statement(16, "match ", call, " {")}{ok_arm(values, made, 20)}                    Err(error) => Err(error),
+                }}
+            }}
+"""
+
+
+def serialize(choice):
+    bound = choice.formats.writer_bound(choice.all_types)
+    arms = []
+    for case in choice.cases:
+        call = Generic(f"serialize_case_{case.count}", case.rust + [choice.archived, "S"], [str(case.tag)] + case.names + ["serializer"])
+        made = f"{choice.resolver}::{case.name}" + ("(kept)" if case.count else "")
+        arms.append(match_arm(case.pattern(), call, "kept" if case.count else "()", made))
+    return f"""{implementation([f"S: {bound}"], "Serialize", ["S"], choice.name)}
+    fn serialize(&self, serializer: &mut S) -> Result<Self::Resolver, Error> {{
+        match self {{
+{"".join(arms)}        }}
+    }}
+}}
+"""
+
+
+def read(choice):
+    f = choice.formats
+    f.use("archive_core::fields", "known_tag", "read_case")
+    arms = []
+    for case in choice.cases:
+        its = [f"{case.word}Parts", f"{case.word}Owned"] if case.count else ["()", "()"]
+        call = Generic("read_case", ["Self"] + its + ["D"], [str(case.tag), "alloc", "part", "deserializer"])
+        tag = "_" if case is choice.cases[-1] else str(case.tag)
+        arms.append(match_arm(tag, call, flat(pair(case.names)), case.pattern()))
+    return deserialize(choice, f"        match known_tag::<Self>(part) {{\n{''.join(arms)}        }}\n")
+
+
+def views(choice):
+    f = choice.formats
+    f.use("archive_core::view", "Ref")
+    f.use("archive_core::fields", "tag_in", "part_in_case")
+    f.ghost("Seen", "ShowsValueOf", "tag_of")
+    f.ghost("Payloads", "payload_in")
+    life = "<'a>" if any(case.count for case in choice.cases) else ""
+    variants, arms, shown = [], [], []
+    for case in choice.cases:
+        doc = doc_lines(case.docs, f"The variant `{case.name}`.", 4)
+        types = [f"Ref<'a, {archived}>" for archived in case.archived]
+        if case.form == "struct" and case.count:
+            inner = "".join(
+                f"{doc_lines(field.docs, f'The field `{field.name}`.', 8)}        {field.name}: {type},\n"
+                for field, type in zip(case.fields, types)
+            )
+            variants.append(f"{doc}    {case.name} {{\n{inner}    }},\n")
+        else:
+            variants.append(doc + statement(4, "", Group(f"{case.name}(", types, ")") if types else case.name, ","))
+        calls = [
+            Generic("part_in_case", [choice.archived, archived], ["self", str(case.tag), str(i), str(offset)])
+            for i, (archived, offset) in enumerate(zip(case.archived, case.offsets))
+        ]
+        tag = "_" if case is choice.cases[-1] else str(case.tag)
+        arms.append(view_arm(choice, case, tag, calls))
+        facts = [f"(tag_of self.entry ≡ {case.tag})"]
+        for i, offset in enumerate(case.offsets):
+            facts += [
+                f"(a{i}.bytes.now ≡ self.entry.bytes.now)",
+                f"(a{i}.pos ≡ self.entry.pos + {offset})",
+                f"(a{i}.len ≡ 0)",
+                f"ShowsValueOf a{i} self.entry (payload_in {i})",
+            ]
+        shown.append(f"{case.bound('Shown')} ↦ {' × '.join(facts)}")
+    return f"""/// What a view of an archived `{choice.name}` shows, by its tag.
+#[derive(Drop)]
+{choice.visibility}enum {choice.view}{life} {{
+{"".join(variants)}}}
+
+/// The variant of an archived `{choice.name}`, where it lies.
+{choice.visibility}trait {choice.name}View<'a> {{
+    /// The variant that the tag names, with views of its fields.
+    fn variant(self) -> {choice.view}{life};
+}}
+
+{implementation(["'a"], f"{choice.name}View", ["'a"], f"Ref<'a, {choice.archived}>")}
+{choice.brought(Shown=choice.view)}    fn variant(self) -> {choice.view}{life}
+        ensures shows {{ elim result [ {" | ".join(shown)} ] }}
+    {{
+        match tag_in(self) {{
+{"".join(arms)}        }}
+    }}
+}}
+"""
+
+
+def view_arm(choice, case, tag, calls):
+    path = f"{choice.view}::{case.name}"
+    if not case.count:
+        return f"            {tag} => {path},\n"
+    if case.form == "struct" and case.count:
+        lines = "".join(statement(16, f"{name}: ", call, ",") for name, call in zip([field.name for field in case.fields], calls))
+        return f"            {tag} => {path} {{\n{lines}            }},\n"
+    if len(calls) == 1:
+        call = calls[0]
+        one = f"            {tag} => {path}({flat(call)}),\n"
+        if len(one) <= WIDTH + 1 and len(flat(call)) <= 60:
+            return one
+    lines = "".join(statement(16, f"let {name} = ", call, ";") for name, call in zip(case.names, calls))
+    made = statement(16, "", Group(f"{path}(", case.names, ")"), "")
+    return f"            {tag} => {{\n{lines}{made}            }}\n"
+
+
+def seals(choice):
+    f = choice.formats
+    if not any(case.count for case in choice.cases):
+        return ""
+    f.use("archive_core::seal", "Seal", "sealed_part_in_case")
+    f.ghost("Viewed", "Viewed")
+    f.ghost("SealsWritten", "SealsBeside", "seal_tag")
+    f.ghost("std.specs.Prelude", "ℕ")
+    pointee = f"(one ⟦<{choice.archived} as Portable>⟧.shape)"
+    heads, bodies, names = [], [], {}
+    for case in choice.cases:
+        for i, (field, format, offset) in enumerate(zip(case.fields, case.archived, case.offsets)):
+            name = f"{snake(case.name)}_{field.name}_mut"
+            if name in names:
+                f.refuse(field.type, f"the seals of `{names[name]}` and `{case.name}` are both called `{name}`: name the field otherwise")
+            names[name] = case.name
+            head = signature(f"fn {name}", [], ["self"], f"Seal<'a, {format}>", 4)
+            doc = doc_lines(field.docs, f"The field `{field.name}` of `{case.name}`.", 4)
+            heads.append(f"{doc}{head}\n        requires viewed {{ sealed self }}\n        requires tag {{ tag self ≡ {case.tag} }};\n")
+            call = Generic("sealed_part_in_case", [choice.archived, format], ["self", str(case.tag), str(i), str(offset)])
+            clauses = sealed_clauses(pointee, format, offset, f.definitions(field.type)).replace("        ensures", f"        requires tag {{ seal_tag self ≡ {case.tag} }}\n        ensures", 1)
+            bodies.append(f"{head}\n{clauses}    {{\n{statement(8, '', call, '')}    }}\n")
+    return f"""/// The fields of an archived `{choice.name}`, sealed where they lie. Each call asks that the tag is its variant's.
+{choice.visibility}trait {choice.name}Seal<'a> {{
+    // The seal shows a part of a buffer that was checked.
+    ghost sealed: {{ Self → Type 0 }};
+
+    // The tag that it shows.
+    ghost tag: {{ Self → ℕ }};
+
+{chr(10).join(heads)}}}
+
+{implementation(["'a"], f"{choice.name}Seal", ["'a"], f"Seal<'a, {choice.archived}>")}
+    ghost sealed = {{ λ s. {viewed("s", pointee)} }};
+
+    ghost tag = {{ λ s. seal_tag s }};
+
+{chr(10).join(bodies)}}}
+"""
