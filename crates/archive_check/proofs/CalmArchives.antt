@@ -8,7 +8,7 @@ use Rattle.std.proofs.lemmas.Bool.{cases_eq}
 use Rattle.archive_check.specs.Shape.{Flavor, Shape, Pointee, Parts}
 use Rattle.archive_check.specs.Layout.{up, align_of, size_of, parts_end, parts_align, variants_end, variants_align}
 use Rattle.archive_check.specs.Value.{Pointer, Value, Values, pointers, all_pointers}
-use Rattle.archive_check.specs.Reads.{Schema, LaidOut, Reads, reads_leaf, reads_parts, reads_choice, reads_array, reads_boxed, reads_vec, reads_inline, reads_out_of_line, reads_shared, reads_null, reads_weak, reads_named, ReadsParts, reads_no_part, reads_part, ReadsRun, reads_none, reads_element}
+use Rattle.archive_check.specs.Reads.{Schema, LaidOut, Reads, reads_leaf, reads_parts, reads_choice, reads_array, reads_boxed, reads_vec, reads_map, reads_inline, reads_out_of_line, reads_shared, reads_null, reads_weak, reads_named, ReadsParts, reads_no_part, reads_part, ReadsRun, reads_none, reads_element}
 use Rattle.archive_check.specs.Tour.{Region, region_of, root_region, pointee_size, Rising, Contents, contents_one, contents_run, contents_text, Entry, entry, Seen, Tour, tour_end, tour_unique, tour_new, tour_again, Accepted}
 use Rattle.archive_check.specs.Leaves.{regions_of}
 use Rattle.archive_check.specs.Pooled.{Entries}
@@ -33,6 +33,7 @@ module _ (s : Schema) (laid : LaidOut s) (bytes : List ℕ) where
     reads_takes (reads_array r) c = run_takes r c
     reads_takes (reads_boxed {P = P}) c = omega (arith, pointer_few P)
     reads_takes reads_vec c = omega arith
+    reads_takes reads_map c = omega arith
     reads_takes (reads_inline o u) c = omega arith
     reads_takes (reads_out_of_line o l) c = omega arith
     reads_takes (reads_shared {P = P}) c = omega (arith, pointer_few P)

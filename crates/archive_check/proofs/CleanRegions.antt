@@ -7,7 +7,7 @@ use Rattle.archive_check.specs.Reads.{Schema, i32_at, length_at, IsOutOfLine}
 use Rattle.archive_check.specs.Tour.{Region, pointee_size}
 use Rattle.archive_check.specs.Within.{IsPart, first_part, later_part, Within, whole, in_parts, in_choice, in_array, in_named, PartOf, whole_region, in_one, in_run, in_string, PartOfSome}
 use Rattle.archive_check.specs.Tightness.{after, Tight, own_size, Owned, owned_part, owned_text, Clean}
-use Rattle.archive_check.specs.CleanRegions.{IsFilled, CleanValue, clean_leaf, clean_parts, clean_choice, clean_array, clean_boxed, clean_vec, clean_inline, clean_out_of_line, clean_shared, clean_null, clean_weak, clean_named, CleanParts, clean_no_part, clean_part, CleanRun, clean_none, clean_element, CleanPointee, clean_one, clean_run, clean_text, CleanRegions}
+use Rattle.archive_check.specs.CleanRegions.{IsFilled, CleanValue, clean_leaf, clean_parts, clean_choice, clean_array, clean_boxed, clean_vec, clean_map, clean_inline, clean_out_of_line, clean_shared, clean_null, clean_weak, clean_named, CleanParts, clean_no_part, clean_part, CleanRun, clean_none, clean_element, CleanPointee, clean_one, clean_run, clean_text, CleanRegions}
 use Rattle.archive_check.proofs.ReachedParts.{within_trans}
 use Rattle.archive_check.proofs.Elements.{contains_first, contains_later}
 
@@ -65,6 +65,7 @@ module _ (s : Schema) (bytes : List ℕ) where
       clean_zero i (clean_array {n = n} {X = X} h) above below free = run_zero i n 0 h above below (λ k less. λ r Z w. free r Z (within_trans s bytes (in_array whole less) w))
       clean_zero i clean_boxed above below free = absurd (free _ _ whole above below)
       clean_zero i clean_vec above below free = absurd (free _ _ whole above below)
+      clean_zero i clean_map above below free = absurd (free _ _ whole above below)
       clean_zero i (clean_inline o f) above below free = absurd (free _ _ whole above below)
       clean_zero i (clean_out_of_line o) above below free = absurd (free _ _ whole above below)
       clean_zero i clean_shared above below free = absurd (free _ _ whole above below)

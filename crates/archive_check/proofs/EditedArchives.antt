@@ -6,7 +6,7 @@ use Rattle.std.specs.FinMap.{empty}
 use Rattle.archive_check.specs.Shape.{Kind, Shape, leaf, choice, str, Parts, part, Pointee, text}
 use Rattle.archive_check.specs.Layout.{up, kind_size, align_of, size_of, parts_end}
 use Rattle.archive_check.specs.Value.{Pointer, Value, Values, number, product, case, list, text_value, value, pointers, all_pointers}
-use Rattle.archive_check.specs.Reads.{Schema, LaidOut, bytes_at, before_end, IsLegal, IsOutOfLine, kind_value, Reads, reads_leaf, reads_parts, reads_choice, reads_array, reads_boxed, reads_vec, reads_inline, reads_out_of_line, reads_shared, reads_null, reads_weak, reads_named, ReadsParts, reads_no_part, reads_part, ReadsRun, reads_none, reads_element}
+use Rattle.archive_check.specs.Reads.{Schema, LaidOut, bytes_at, before_end, IsLegal, IsOutOfLine, kind_value, Reads, reads_leaf, reads_parts, reads_choice, reads_array, reads_boxed, reads_vec, reads_map, reads_inline, reads_out_of_line, reads_shared, reads_null, reads_weak, reads_named, ReadsParts, reads_no_part, reads_part, ReadsRun, reads_none, reads_element}
 use Rattle.archive_check.specs.Tour.{Region, region_of, root_region, pointee_size, Rising, Contents, contents_one, contents_run, contents_text, Leads, Seen, Tour, tour_end, tour_unique, tour_new, tour_again, Accepted}
 use Rattle.archive_check.specs.Leaves.{Leaf, number_leaf, text_leaf, leaf_begin, leaf_size, leaves, leaves_of_parts, leaves_of_run, leaves_of_contents, leaves_of_tour, leaves_of, edit, Overwrites, overwrites_number, overwrites_text, Replaced, replaced_here, replaced_later, Altered, altered_here, altered_product, altered_case, altered_list, AlteredAmong, altered_first, altered_later, StillAccepted}
 use Rattle.archive_check.proofs.JoinedTours.{rising_le, rising_front, rising_back}
@@ -161,6 +161,7 @@ module _ (s : Schema) (laid : LaidOut s) (bytes new b : List ℕ) where
         let q = run_renewed r k o e in record { found = list q.found; reads = reads_array q.reads; are = q.are; holes = q.holes; altered = altered_list q.altered }
     renewed reads_boxed k o e = absurd (replaced_none k)
     renewed reads_vec k o e = absurd (replaced_none k)
+    renewed reads_map k o e = absurd (replaced_none k)
     renewed (reads_inline l h) replaced_here (overwrites_text u size) e = text_renewed l u size e
     renewed (reads_inline l h) (replaced_later k) o e = absurd (replaced_none k)
     renewed (reads_out_of_line l h) k o e = absurd (replaced_none k)

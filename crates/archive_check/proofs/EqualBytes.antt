@@ -2,10 +2,10 @@
 use Rattle.std.proofs.Common.{◌≡◌, ℕ, pos, refl, List, [], ◌∷◌, ◌++◌, take, drop, ◌+◌, ◌-◌, ◌*◌, ◌<◌, ◌≤◌, Option, Some, None, arith, sym, ap, ap₂, subst, ◌∙◌, slice_index, IsUtf8, ◌+ℤ◌, w32, add-zero, get_or-take, get_or-drop}
 use Rattle.std.specs.Int.{from_le_bytes, cast_signed}
 use Rattle.std.proofs.lemmas.List.{drop-take, drop-drop, take-take}
-use Rattle.archive_check.specs.Shape.{Flavor, Shape, leaf, choice, boxed, vec, str, shared, weak, Pointee, one, run, text, Parts}
+use Rattle.archive_check.specs.Shape.{Flavor, Key, entry_of, Shape, leaf, choice, boxed, vec, sorted_map, str, shared, weak, Pointee, one, run, text, Parts}
 use Rattle.archive_check.specs.Layout.{up, align_of, parts_align, variants_align, size_of, parts_end, variants_end, pointer_size}
 use Rattle.archive_check.specs.Value.{Value, Values, number, case, text_value, box, hole}
-use Rattle.archive_check.specs.Reads.{Schema, LaidOut, bytes_at, u32_at, i32_at, IsLegal, kind_value, before_end, decoded_length, length_at, pointer_at, string_at, Reads, reads_leaf, reads_parts, reads_choice, reads_array, reads_boxed, reads_vec, reads_inline, reads_out_of_line, reads_shared, reads_null, reads_weak, reads_named, ReadsParts, reads_no_part, reads_part, ReadsRun, reads_none, reads_element}
+use Rattle.archive_check.specs.Reads.{Schema, LaidOut, bytes_at, u32_at, i32_at, IsLegal, kind_value, before_end, decoded_length, length_at, pointer_at, map_at, string_at, Reads, reads_leaf, reads_parts, reads_choice, reads_array, reads_boxed, reads_vec, reads_map, reads_inline, reads_out_of_line, reads_shared, reads_null, reads_weak, reads_named, ReadsParts, reads_no_part, reads_part, ReadsRun, reads_none, reads_element}
 use Rattle.archive_check.specs.Leaves.{Leaf, number_leaf, text_leaf, leaves, leaves_of_parts, leaves_of_run}
 use Rattle.archive_check.proofs.PartsInside.{up_le, pointer_few, positive, parts_end_le, variant_end_le}
 use Rattle.archive_check.proofs.PositiveAlignments.{parts_align_pos, variants_align_pos}
@@ -49,12 +49,17 @@ module _ (bytes new : List ℕ) where
   pointer_same : {p n : ℕ} (sharing : Option Flavor) (P : Pointee) → pointer_size P ≤ n → Agrees bytes new p n → pointer_at new p sharing P ≡ pointer_at bytes p sharing P
   pointer_same {p = p} sharing P few h =
       let target = i32_same p (omega arith) (omega (arith, pointer_few P)) h in let length = length_same P few h in
-      λ i. record { target = pos p +ℤ target i; sharing = sharing; pointee = P; length = length i }
+      λ i. record { target = pos p +ℤ target i; sharing = sharing; order = None; pointee = P; length = length i }
+
+  map_same : {p n : ℕ} (K : Key) (V : Shape) → 8 ≤ n → Agrees bytes new p n → map_at new p K V ≡ map_at bytes p K V
+  map_same {p = p} K V few h =
+      let target = i32_same p (omega arith) (omega arith) h in let length = u32_same (p + 4) (omega arith) (omega arith) h in
+      λ i. record { target = pos p +ℤ target i; sharing = None; order = Some K; pointee = run (entry_of K V); length = length i }
 
   string_same : {p n : ℕ} → 8 ≤ n → Agrees bytes new p n → string_at new p ≡ string_at bytes p
   string_same {p = p} few h =
       let target = i32_same (p + 4) (omega arith) (omega arith) h in let length = u32_same p (omega arith) (omega arith) h in
-      λ i. record { target = pos p +ℤ target i; sharing = None; pointee = text; length = decoded_length (length i) }
+      λ i. record { target = pos p +ℤ target i; sharing = None; order = None; pointee = text; length = decoded_length (length i) }
 
   module _ (s : Schema) (laid : LaidOut s) where
     -- the bytes read so, with these leaves
@@ -77,6 +82,7 @@ module _ (bytes new : List ℕ) where
       reads_agree (reads_array r) h = let q = run_agree r h in (reads_array (q.0), q.1)
       reads_agree (reads_boxed {p = p} {P = P}) h = subst (λ q. ReadsWith p (boxed P) (box (hole q)) []) (pointer_same None P (omega arith) h) (reads_boxed, refl)
       reads_agree (reads_vec {p = p} {X = X}) h = subst (λ q. ReadsWith p (vec X) (hole q) []) (pointer_same None (run X) (omega arith) h) (reads_vec, refl)
+      reads_agree (reads_map {p = p} {K = K} {V = V}) h = subst (λ q. ReadsWith p (sorted_map K V) (hole q) []) (map_same K V (omega arith) h) (reads_map, refl)
       reads_agree (reads_inline {p = p} o u) h =
           let first = byte_same (omega arith) h in
           subst (λ b. ReadsWith p str (text_value (before_end b)) (text_leaf p (before_end b) ∷ [])) h.same (reads_inline (rw first o) (subst (λ b. IsUtf8 (before_end b)) (sym h.same) u), refl)

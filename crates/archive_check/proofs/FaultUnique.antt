@@ -1,11 +1,12 @@
 -- A check finds one fault.
 use Rattle.std.proofs.Common.{◌≡◌, ℕ, refl, List, length, Option, ◌<◌, ◌^◌, arith, sym, ap, ◌∙◌}
-use Rattle.archive_check.specs.Shape.{Shape, Parts, Pointee}
+use Rattle.archive_check.specs.Shape.{Shape, Key, Parts, Pointee}
 use Rattle.archive_check.specs.Value.{Pointer}
 use Rattle.archive_check.specs.Reads.{Schema}
 use Rattle.archive_check.specs.Tour.{Seen, entry}
-use Rattle.archive_check.specs.Trail.{RootTrips, Fault, Trips, trips_leaf, trips_parts, trips_tag, trips_choice, trips_array, trips_boxed, trips_vec, trips_inline, trips_short, trips_out_of_line, trips_shared, trips_weak, trips_named, TripsParts, trips_first, trips_later, TripsRun, trips_element, trips_later_element, TripsFollow, trips_unique, trips_before, trips_new, trips_type, trips_length, trips_cycle, TripsEnter, trips_size, trips_range, trips_align, trips_depth, trips_within, TripsContents, trips_one, trips_run, trips_text}
+use Rattle.archive_check.specs.Trail.{RootTrips, Fault, Trips, trips_leaf, trips_parts, trips_tag, trips_choice, trips_array, trips_boxed, trips_vec, trips_map, trips_inline, trips_short, trips_out_of_line, trips_shared, trips_weak, trips_named, TripsParts, trips_first, trips_later, TripsRun, trips_element, trips_later_element, TripsEntries, trips_key, trips_order, trips_value, trips_later_entry, TripsFollow, trips_unique, trips_before, trips_new, trips_type, trips_length, trips_cycle, TripsEnter, trips_size, trips_range, trips_align, trips_depth, trips_within, TripsContents, trips_one, trips_run, trips_entries, trips_text}
 use Rattle.archive_check.proofs.ReadingUnique.{pos_one}
+use Rattle.archive_check.proofs.Entries.{entry_walk}
 use Rattle.archive_check.proofs.FaultyNotWalked.{one_walk, trips_no_walk}
 
 module _ (s : Schema) (bytes : List ℕ) where
@@ -20,6 +21,7 @@ module _ (s : Schema) (bytes : List ℕ) where
     fault_unique room (trips_array t) (trips_array u) = run_fault room t u
     fault_unique room (trips_boxed t) (trips_boxed u) = follow_fault room t u
     fault_unique room (trips_vec t) (trips_vec u) = follow_fault room t u
+    fault_unique room (trips_map t) (trips_map u) = follow_fault room t u
     fault_unique room (trips_inline o h) (trips_inline q k) = refl
     fault_unique room (trips_inline o h) (trips_short q k) = absurd (o q)
     fault_unique room (trips_inline o h) (trips_out_of_line q k u) = absurd (o q)
@@ -44,6 +46,27 @@ module _ (s : Schema) (bytes : List ℕ) where
     run_fault room (trips_element t) (trips_later_element w u) = absurd (trips_no_walk s bytes room t w)
     run_fault room (trips_later_element v t) (trips_element u) = absurd (trips_no_walk s bytes room u v)
     run_fault room (trips_later_element v t) (trips_later_element w u) = let here = one_walk s bytes v w in run_fault room t (rw (here.0, here.1) at u)
+
+    pub entries_fault : {pending : List ℕ} {depth : Option ℕ} {stop p n a : ℕ} {before : Option ℕ} {K : Key} {V : Shape} {l : Seen} {e f : Fault} → stop < 2 ^ 64
+        → TripsEntries s bytes pending depth stop before p n K V a l e → TripsEntries s bytes pending depth stop before p n K V a l f → e ≡ f
+    entries_fault room (trips_key t) (trips_key u) = fault_unique room t u
+    entries_fault room (trips_key t) (trips_order w k) = absurd (trips_no_walk s bytes room t w)
+    entries_fault room (trips_key t) (trips_value w k u) = absurd (trips_no_walk s bytes room t w)
+    entries_fault {K = K} {V = V} room (trips_key t) (trips_later_entry w k u) = let q = entry_walk s bytes K V w in absurd (trips_no_walk s bytes room t q.key)
+    entries_fault room (trips_order v h) (trips_key u) = absurd (trips_no_walk s bytes room u v)
+    entries_fault room (trips_order v h) (trips_order w k) = refl
+    entries_fault room (trips_order v h) (trips_value w k u) = absurd (h k)
+    entries_fault room (trips_order v h) (trips_later_entry w k u) = absurd (h k)
+    entries_fault room (trips_value v h t) (trips_key u) = absurd (trips_no_walk s bytes room u v)
+    entries_fault room (trips_value v h t) (trips_order w k) = absurd (k h)
+    entries_fault room (trips_value v h t) (trips_value w k u) = let here = one_walk s bytes v w in fault_unique room t (rw (here.0, here.1) at u)
+    entries_fault {K = K} {V = V} room (trips_value v h t) (trips_later_entry w k u) =
+        let q = entry_walk s bytes K V w in let here = one_walk s bytes v q.key in absurd (trips_no_walk s bytes room t (rw (here.0, here.1) at q.value))
+    entries_fault {K = K} {V = V} room (trips_later_entry v h t) (trips_key u) = let q = entry_walk s bytes K V v in absurd (trips_no_walk s bytes room u q.key)
+    entries_fault room (trips_later_entry v h t) (trips_order w k) = absurd (k h)
+    entries_fault {K = K} {V = V} room (trips_later_entry v h t) (trips_value w k u) =
+        let q = entry_walk s bytes K V v in let here = one_walk s bytes w q.key in absurd (trips_no_walk s bytes room u (rw (here.0, here.1) at q.value))
+    entries_fault room (trips_later_entry v h t) (trips_later_entry w k u) = let here = one_walk s bytes v w in entries_fault room t (rw (here.0, here.1) at u)
 
     pub follow_fault : {pending : List ℕ} {depth : Option ℕ} {stop a : ℕ} {p : Pointer} {l : Seen} {e f : Fault} → stop < 2 ^ 64 → TripsFollow s bytes pending depth stop p a l e → TripsFollow s bytes pending depth stop p a l f → e ≡ f
     follow_fault room (trips_unique c t) (trips_unique d u) = enter_fault room t u
@@ -110,9 +133,10 @@ module _ (s : Schema) (bytes : List ℕ) where
     enter_fault room (trips_within c above below straight room_left i) (trips_depth d over under level low) = absurd (low room_left)
     enter_fault room (trips_within {t = t} c above below straight room_left i) (trips_within {t = u} d over under level enough v) = let here : u ≡ t = pos_one (sym d ∙ c) in contents_fault (omega arith) i (rw here at v)
 
-    pub contents_fault : {pending : List ℕ} {depth : Option ℕ} {stop t n a : ℕ} {P : Pointee} {l : Seen} {e f : Fault} → stop < 2 ^ 64 → TripsContents s bytes pending depth stop t P n a l e → TripsContents s bytes pending depth stop t P n a l f → e ≡ f
+    pub contents_fault : {pending : List ℕ} {depth : Option ℕ} {stop t n a : ℕ} {o : Option Key} {P : Pointee} {l : Seen} {e f : Fault} → stop < 2 ^ 64 → TripsContents s bytes pending depth stop t o P n a l e → TripsContents s bytes pending depth stop t o P n a l f → e ≡ f
     contents_fault room (trips_one t) (trips_one u) = fault_unique room t u
     contents_fault room (trips_run t) (trips_run u) = run_fault room t u
+    contents_fault room (trips_entries t) (trips_entries u) = entries_fault room t u
     contents_fault room (trips_text h) (trips_text k) = refl
 
   pub root_one_fault : {limit : Option ℕ} {root : ℕ} {X : Shape} {e f : Fault} → length bytes < 2 ^ 64 → RootTrips s bytes limit root X e → RootTrips s bytes limit root X f → e ≡ f

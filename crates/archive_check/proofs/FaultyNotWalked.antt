@@ -1,13 +1,16 @@
 -- A check that finds a fault finds no walk.
 use Rattle.std.proofs.Common.{◌≡◌, ℕ, pos, refl, List, length, Option, ◌<◌, ◌^◌, Contains, IsTrue, false, arith, sym, ap, ◌∙◌, inl, inr, ◌⊎◌}
-use Rattle.archive_check.specs.Shape.{Shape, Parts, Pointee, Flavor}
+use Rattle.archive_check.specs.Shape.{Shape, Key, entry_of, Parts, Pointee, Flavor}
 use Rattle.archive_check.specs.Value.{Pointer}
 use Rattle.archive_check.specs.Reads.{Schema}
 use Rattle.archive_check.specs.Tour.{Seen, entry}
-use Rattle.archive_check.specs.Walk.{RootWalk, Walk, walk_leaf, walk_parts, walk_choice, walk_array, walk_boxed, walk_vec, walk_inline, walk_out_of_line, walk_shared, walk_null, walk_weak, walk_named, WalkParts, walk_no_part, walk_part, WalkRun, walk_none, walk_element, Follow, follow_unique, follow_new, follow_again, Enter, enter, WalkContents, walk_one, walk_run, walk_text}
+use Rattle.archive_check.specs.Walk.{RootWalk, Walk, walk_leaf, walk_parts, walk_choice, walk_array, walk_boxed, walk_vec, walk_map, walk_inline, walk_out_of_line, walk_shared, walk_null, walk_weak, walk_named, WalkParts, walk_no_part, walk_part, WalkRun, walk_none, walk_element, Follow, follow_unique, follow_new, follow_again, Enter, enter, WalkContents, walk_one, walk_run, walk_entries, walk_text}
 use Rattle.archive_check.specs.Depth.{inside}
-use Rattle.archive_check.specs.Trail.{RootTrips, Fault, Trips, trips_leaf, trips_parts, trips_tag, trips_choice, trips_array, trips_boxed, trips_vec, trips_inline, trips_short, trips_out_of_line, trips_shared, trips_weak, trips_named, TripsParts, trips_first, trips_later, TripsRun, trips_element, trips_later_element, TripsFollow, trips_unique, trips_before, trips_new, trips_type, trips_length, trips_cycle, TripsEnter, trips_size, trips_range, trips_align, trips_depth, trips_within, TripsContents, trips_one, trips_run, trips_text}
+use Rattle.archive_check.specs.Trail.{RootTrips, Fault, Trips, trips_leaf, trips_parts, trips_tag, trips_choice, trips_array, trips_boxed, trips_vec, trips_map, trips_inline, trips_short, trips_out_of_line, trips_shared, trips_weak, trips_named, TripsParts, trips_first, trips_later, TripsRun, trips_element, trips_later_element, TripsEntries, trips_key, trips_order, trips_value, trips_later_entry, TripsFollow, trips_unique, trips_before, trips_new, trips_type, trips_length, trips_cycle, TripsEnter, trips_size, trips_range, trips_align, trips_depth, trips_within, TripsContents, trips_one, trips_run, trips_entries, trips_text}
 use Rattle.archive_check.proofs.ReadingUnique.{pos_one}
+use Rattle.archive_check.proofs.Entries.{entry_walk}
+use Rattle.archive_check.specs.Keys.{Ascend}
+use Rattle.archive_check.specs.Layout.{size_of}
 
 -- where two walks come to
 abbrev Meets : ℕ → Seen → ℕ → Seen → Type 0
@@ -32,6 +35,7 @@ module _ (s : Schema) (bytes : List ℕ) where
     one_walk (walk_array v) (walk_array w) = one_run v w
     one_walk (walk_boxed v) (walk_boxed w) = one_follow v w
     one_walk (walk_vec v) (walk_vec w) = one_follow v w
+    one_walk (walk_map v) (walk_map w) = one_follow v w
     one_walk (walk_inline o h) (walk_inline q k) = (refl, refl)
     one_walk (walk_inline o h) (walk_out_of_line q k w) = absurd (o q)
     one_walk (walk_out_of_line o h v) (walk_inline q k) = absurd (q o)
@@ -68,9 +72,10 @@ module _ (s : Schema) (bytes : List ℕ) where
     pub one_enter : {pending : List ℕ} {depth : Option ℕ} {stop t a : ℕ} {p : Pointer} {b : ℕ} {l m : Seen} {c : ℕ} {n : Seen} → Enter s bytes pending depth stop p t a l b m → Enter s bytes pending depth stop p t a l c n → Meets b m c n
     one_enter (enter e above below aligned enough v) (enter f over under straight allowed w) = (refl, (one_contents v w).1)
 
-    pub one_contents : {pending : List ℕ} {depth : Option ℕ} {stop t k a b : ℕ} {P : Pointee} {l m : Seen} {c : ℕ} {n : Seen} → WalkContents s bytes pending depth stop t P k a l b m → WalkContents s bytes pending depth stop t P k a l c n → Meets b m c n
+    pub one_contents : {pending : List ℕ} {depth : Option ℕ} {stop t k a b : ℕ} {o : Option Key} {P : Pointee} {l m : Seen} {c : ℕ} {n : Seen} → WalkContents s bytes pending depth stop t o P k a l b m → WalkContents s bytes pending depth stop t o P k a l c n → Meets b m c n
     one_contents (walk_one v) (walk_one w) = one_walk v w
     one_contents (walk_run v) (walk_run w) = one_run v w
+    one_contents (walk_entries v h) (walk_entries w k) = one_run v w
     one_contents (walk_text u) (walk_text v) = (refl, refl)
 
   mutual
@@ -82,6 +87,7 @@ module _ (s : Schema) (bytes : List ℕ) where
     trips_no_walk room (trips_array t) (walk_array w) = run_no_walk room t w
     trips_no_walk room (trips_boxed t) (walk_boxed w) = follow_no_walk room t w
     trips_no_walk room (trips_vec t) (walk_vec w) = follow_no_walk room t w
+    trips_no_walk room (trips_map t) (walk_map w) = follow_no_walk room t w
     trips_no_walk room (trips_inline o h) (walk_inline q k) = h k
     trips_no_walk room (trips_inline o h) (walk_out_of_line q k w) = o q
     trips_no_walk room (trips_short o h) (walk_inline q k) = q o
@@ -100,6 +106,14 @@ module _ (s : Schema) (bytes : List ℕ) where
     pub run_no_walk : {pending : List ℕ} {depth : Option ℕ} {stop p k a : ℕ} {X : Shape} {l : Seen} {e : Fault} {b : ℕ} {m : Seen} → stop < 2 ^ 64 → TripsRun s bytes pending depth stop p k X a l e → WalkRun s bytes pending depth stop p k X a l b m → ⊥
     run_no_walk room (trips_element t) (walk_element w ws) = trips_no_walk room t w
     run_no_walk room (trips_later_element v t) (walk_element w ws) = let here = one_walk v w in run_no_walk room t (rw (here.0, here.1) at ws)
+
+    pub entries_no_walk : {pending : List ℕ} {depth : Option ℕ} {stop p k a : ℕ} {before : Option ℕ} {K : Key} {V : Shape} {l : Seen} {e : Fault} {b : ℕ} {m : Seen} → stop < 2 ^ 64 → TripsEntries s bytes pending depth stop before p k K V a l e
+        → WalkRun s bytes pending depth stop p k (entry_of K V) a l b m → Ascend K bytes before p (size_of s.layouts (entry_of K V)) k → ⊥
+    entries_no_walk {K = K} {V = V} room (trips_key t) (walk_element w ws) h = let q = entry_walk s bytes K V w in trips_no_walk room t q.key
+    entries_no_walk room (trips_order v other) (walk_element w ws) h = other h.0
+    entries_no_walk {K = K} {V = V} room (trips_value v k t) (walk_element w ws) h =
+        let q = entry_walk s bytes K V w in let here = one_walk v q.key in trips_no_walk room t (rw (here.0, here.1) at q.value)
+    entries_no_walk room (trips_later_entry v k t) (walk_element w ws) h = let here = one_walk v w in entries_no_walk room t (rw (here.0, here.1) at ws) h.1
 
     pub follow_no_walk : {pending : List ℕ} {depth : Option ℕ} {stop a : ℕ} {p : Pointer} {l : Seen} {e : Fault} {b : ℕ} {m : Seen} → stop < 2 ^ 64 → TripsFollow s bytes pending depth stop p a l e → Follow s bytes pending depth stop p a l b m → ⊥
     follow_no_walk room (trips_unique f t) (follow_unique g w) = enter_no_walk room t w
@@ -140,9 +154,10 @@ module _ (s : Schema) (bytes : List ℕ) where
     enter_no_walk room (trips_within {t = u} e above below aligned enough i) (enter {t = t} f over under straight allowed w) =
         let here : t ≡ u = pos_one (sym f ∙ e) in contents_no_walk (omega arith) i (rw here at w)
 
-    pub contents_no_walk : {pending : List ℕ} {depth : Option ℕ} {stop t k a : ℕ} {P : Pointee} {l : Seen} {e : Fault} {b : ℕ} {m : Seen} → stop < 2 ^ 64 → TripsContents s bytes pending depth stop t P k a l e → WalkContents s bytes pending depth stop t P k a l b m → ⊥
+    pub contents_no_walk : {pending : List ℕ} {depth : Option ℕ} {stop t k a : ℕ} {o : Option Key} {P : Pointee} {l : Seen} {e : Fault} {b : ℕ} {m : Seen} → stop < 2 ^ 64 → TripsContents s bytes pending depth stop t o P k a l e → WalkContents s bytes pending depth stop t o P k a l b m → ⊥
     contents_no_walk room (trips_one t) (walk_one w) = trips_no_walk room t w
     contents_no_walk room (trips_run t) (walk_run w) = run_no_walk room t w
+    contents_no_walk room (trips_entries t) (walk_entries w h) = entries_no_walk room t w h
     contents_no_walk room (trips_text h) (walk_text k) = h k
 
 module _ (s : Schema) (bytes : List ℕ) where

@@ -27,6 +27,7 @@ pub mod AcceptedWalks
 pub mod PartsInside
 pub mod EqualBytes
 pub mod EqualTours
+pub mod Entries
 pub mod FaultyNotWalked
 pub mod WithoutLimit
 pub mod NamesKnown

@@ -1,7 +1,7 @@
 -- The names in an expression that have no definition.
 use Rattle.std.proofs.Common.{◌≡◌, ◌⊎◌, inl, inr, ⊎_elim, refl, ap, Bool, true, false, cond, Option, Some, None, is_some}
-use Rattle.archive_check.specs.Shape.{Name, Shape, leaf, parts, choice, array, boxed, vec, str, shared, weak, named, Pointee, one, run, text, Parts, no_part, part, Variants, no_variant, variant, Table, definition}
-use Rattle.archive_check.specs.Defined.{Holds, holds_name, holds_parts, holds_choice, holds_array, PartsHold, holds_first, holds_later, VariantsHold, holds_variant, holds_other, Mentions, mentions_held, mentions_array, mentions_parts, mentions_choice, mentions_boxed, mentions_vec, mentions_shared, mentions_weak, PointeeMentions, mentions_one, mentions_run, PartsMention, mentions_first, mentions_later, VariantsMention, mentions_variant, mentions_other}
+use Rattle.archive_check.specs.Shape.{Name, Shape, leaf, parts, choice, array, boxed, vec, sorted_map, str, shared, weak, named, Pointee, one, run, text, Parts, no_part, part, Variants, no_variant, variant, Table, definition}
+use Rattle.archive_check.specs.Defined.{Holds, holds_name, holds_parts, holds_choice, holds_array, PartsHold, holds_first, holds_later, VariantsHold, holds_variant, holds_other, Mentions, mentions_held, mentions_array, mentions_parts, mentions_choice, mentions_boxed, mentions_vec, mentions_map, mentions_shared, mentions_weak, PointeeMentions, mentions_one, mentions_run, PartsMention, mentions_first, mentions_later, VariantsMention, mentions_variant, mentions_other}
 use Rattle.archive_check.specs.MissingNames.{or_else, missing, pointee_missing, parts_missing, variants_missing}
 
 -- the name has a definition
@@ -39,6 +39,7 @@ module _ (table : Table) where
     missed_held (leaf kind) n e = cc
     missed_held (boxed P) n e = cc
     missed_held (vec X) n e = cc
+    missed_held (sorted_map K X) n e = cc
     missed_held str n e = cc
     missed_held (shared flavor P) n e = cc
     missed_held (weak flavor P) n e = cc
@@ -65,6 +66,7 @@ module _ (table : Table) where
     missed_mentioned (array k X) n e = let h = missed_mentioned X n e in (mentions_array h.0, h.1)
     missed_mentioned (boxed P) n e = let h = pointee_missed P n e in (mentions_boxed h.0, h.1)
     missed_mentioned (vec X) n e = let h = missed_mentioned X n e in (mentions_vec h.0, h.1)
+    missed_mentioned (sorted_map K X) n e = let h = missed_mentioned X n e in (mentions_map h.0, h.1)
     missed_mentioned (shared flavor P) n e = let h = pointee_missed P n e in (mentions_shared h.0, h.1)
     missed_mentioned (weak flavor P) n e = let h = pointee_missed P n e in (mentions_weak h.0, h.1)
     missed_mentioned (named m) n e = let h = unknown_name (definition table m) m n e in rw (← h.0) (mentions_held holds_name, h.1)
@@ -117,6 +119,7 @@ module _ (table : Table) where
       mentioned_defined (mentions_choice h) e = variants_known h e
       mentioned_defined (mentions_boxed h) e = pointee_known h e
       mentioned_defined (mentions_vec h) e = mentioned_defined h e
+      mentioned_defined (mentions_map h) e = mentioned_defined h e
       mentioned_defined (mentions_shared h) e = pointee_known h e
       mentioned_defined (mentions_weak h) e = pointee_known h e
 
@@ -149,6 +152,8 @@ module _ (old new : Table) (more : (n : Name) (Y : Shape) → definition old n �
     none_missed false (boxed P) e = refl
     none_missed true (vec X) e = none_missed true X e
     none_missed false (vec X) e = refl
+    none_missed true (sorted_map K X) e = none_missed true X e
+    none_missed false (sorted_map K X) e = refl
     none_missed true (shared flavor P) e = no_pointee_missed true P e
     none_missed false (shared flavor P) e = refl
     none_missed true (weak flavor P) e = no_pointee_missed true P e
@@ -184,6 +189,7 @@ module _ (table : Table) where
     none_near (named m) e = e
     none_near (boxed P) e = refl
     none_near (vec X) e = refl
+    none_near (sorted_map K X) e = refl
     none_near (shared flavor P) e = refl
     none_near (weak flavor P) e = refl
     none_near (leaf kind) e = refl

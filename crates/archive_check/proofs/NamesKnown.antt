@@ -5,7 +5,7 @@ use Rattle.std.specs.Cmp.{nat_cmp_total}
 use Rattle.std.specs.Ordering.{eq_by_cmp}
 use Rattle.archive_check.specs.Shape.{Shape, Parts, Pointee, Flavor}
 use Rattle.archive_check.specs.Value.{Pointer, Value, Values, hole, pointers, all_pointers}
-use Rattle.archive_check.specs.Reads.{Schema, Reads, reads_leaf, reads_parts, reads_choice, reads_array, reads_boxed, reads_vec, reads_inline, reads_out_of_line, reads_shared, reads_null, reads_weak, reads_named, ReadsParts, reads_no_part, reads_part, ReadsRun, reads_none, reads_element}
+use Rattle.archive_check.specs.Reads.{Schema, Reads, reads_leaf, reads_parts, reads_choice, reads_array, reads_boxed, reads_vec, reads_map, reads_inline, reads_out_of_line, reads_shared, reads_null, reads_weak, reads_named, ReadsParts, reads_no_part, reads_part, ReadsRun, reads_none, reads_element}
 use Rattle.archive_check.specs.Tour.{Region, Contents, contents_one, contents_run, contents_text, Leads, Entry, Seen, entry, Tour, tour_end, tour_unique, tour_new, tour_again}
 use Rattle.archive_check.specs.Denotes.{Fills, fills_number, fills_product, fills_case, fills_list, fills_text, fills_box, fills_null, fills_shared_value, fills_unique, fills_shared, FillsAll, fills_no_value, fills_value}
 use Rattle.archive_check.specs.Reached.{Names, names_itself, names_product, names_case, names_list, names_box, NamesAmong, names_first, names_later}
@@ -31,6 +31,7 @@ module _ (s : Schema) (bytes : List ℕ) where
     reads_no_names (reads_named d r) n = reads_no_names r n
     reads_no_names (reads_leaf h) n = elim n [ ]
     reads_no_names reads_vec n = hole_no_names n refl
+    reads_no_names reads_map n = hole_no_names n refl
     reads_no_names (reads_inline o u) n = elim n [ ]
     reads_no_names (reads_out_of_line o l) n = hole_no_names n refl
     reads_no_names reads_shared n = hole_no_names n refl

@@ -1,10 +1,10 @@
 -- Runs that a check passes in one step.
 use Rattle.std.proofs.Common.{◌≡◌, ℕ, zero, suc, ◌+◌, ◌*◌, ◌≤◌, List, length, Option, IsTrue, Bool, true, false, ◌&&◌, arith, refl, ap}
-use Rattle.archive_check.specs.Shape.{Kind, unit, bool, char, number, non_zero, raw_rel, Shape, leaf, parts, choice, array, boxed, vec, str, shared, weak, named, Parts, no_part, part}
+use Rattle.archive_check.specs.Shape.{Kind, unit, bool, char, number, non_zero, raw_rel, Shape, leaf, parts, choice, array, boxed, vec, sorted_map, str, shared, weak, named, Parts, no_part, part}
 use Rattle.archive_check.specs.Layout.{up, kind_size, align_of, size_of, parts_align, parts_end, variants_align, variants_end}
 use Rattle.archive_check.specs.Reads.{Schema, LaidOut, bytes_at, IsLegalNumber, kind_number}
 use Rattle.archive_check.specs.Tour.{Seen}
-use Rattle.archive_check.specs.Walk.{Walk, walk_leaf, walk_parts, walk_choice, walk_array, walk_boxed, walk_vec, walk_inline, walk_out_of_line, walk_shared, walk_null, walk_weak, walk_named, WalkParts, walk_no_part, walk_part, WalkRun, walk_none, walk_element}
+use Rattle.archive_check.specs.Walk.{Walk, walk_leaf, walk_parts, walk_choice, walk_array, walk_boxed, walk_vec, walk_map, walk_inline, walk_out_of_line, walk_shared, walk_null, walk_weak, walk_named, WalkParts, walk_no_part, walk_part, WalkRun, walk_none, walk_element}
 use Rattle.archive_check.specs.PlainData.{is_plain_kind}
 use Rattle.archive_check.proofs.PartsInside.{up_le, pointer_few, positive, parts_end_le, variant_end_le}
 use Rattle.archive_check.proofs.EditedBytes.{bytes_long}
@@ -45,6 +45,7 @@ module _ (s : Schema) (laid : LaidOut s) (bytes : List ℕ) {pending : List ℕ}
     plain_walk (choice name vs) p h fits = cc
     plain_walk (boxed P) p h fits = cc
     plain_walk (vec X) p h fits = cc
+    plain_walk (sorted_map K X) p h fits = cc
     plain_walk str p h fits = cc
     plain_walk (shared flavor P) p h fits = cc
     plain_walk (weak flavor P) p h fits = cc
@@ -73,6 +74,7 @@ module _ (s : Schema) (laid : LaidOut s) (bytes : List ℕ) where
     empty_stays (walk_array w) e = run_stays w e
     empty_stays (walk_boxed {P = P} w) e = absurd (omega (arith, pointer_few P))
     empty_stays (walk_vec w) e = absurd (omega arith)
+    empty_stays (walk_map w) e = absurd (omega arith)
     empty_stays (walk_inline o h) e = absurd (omega arith)
     empty_stays (walk_out_of_line o h w) e = absurd (omega arith)
     empty_stays (walk_shared {P = P} w) e = absurd (omega (arith, pointer_few P))

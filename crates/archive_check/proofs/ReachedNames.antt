@@ -1,14 +1,16 @@
 -- Whether a buffer is accepted is told by the definitions of the names that the expression reaches, and by no other ones.
-use Rattle.std.proofs.Common.{◌≡◌, ◌≢◌, ◌↔◌, ℕ, zero, suc, refl, sym, ap, ◌∙◌, ◌+◌, ◌*◌, ◌%◌, ◌^◌, ◌<◌, ◌≤◌, pos, List, Option, Some}
-use Rattle.archive_check.specs.Shape.{Name, Shape, Pointee, one, run, text, Parts, part, Variants, variant, no_variant, variant_at, definition, vec}
+use Rattle.std.proofs.Common.{◌≡◌, ◌≢◌, ◌↔◌, ℕ, zero, suc, refl, sym, ap, ◌∙◌, subst, ◌+◌, ◌*◌, ◌%◌, ◌^◌, ◌<◌, ◌≤◌, pos, List, Option, Some, None}
+use Rattle.archive_check.specs.Shape.{Name, Shape, Key, leaf_key, str_key, key_shape, entry_of, Pointee, one, run, text, Parts, part, Variants, variant, no_variant, variant_at, definition, vec, sorted_map}
 use Rattle.archive_check.specs.Layout.{up, size_of, align_of}
 use Rattle.archive_check.specs.Value.{Pointer}
 use Rattle.archive_check.specs.Reads.{Schema}
 use Rattle.archive_check.specs.Tour.{Seen, pointee_size, pointee_align}
+use Rattle.archive_check.specs.Keys.{order_of, ComesBehind, Ascend}
+use Rattle.archive_check.proofs.Entries.{entry_mentions, value_at}
 use Rattle.archive_check.specs.Depth.{Allows, inside, AcceptedWithin}
-use Rattle.archive_check.specs.Defined.{holds_name, Mentions, mentions_held, mentions_array, mentions_parts, mentions_choice, mentions_boxed, mentions_vec, mentions_shared, mentions_weak, PointeeMentions, mentions_one, mentions_run, PartsMention, mentions_first, mentions_later, VariantsMention, mentions_variant, mentions_other, Reaches, reaches, reaches_through}
-use Rattle.archive_check.specs.Walk.{Walk, walk_leaf, walk_parts, walk_choice, walk_array, walk_boxed, walk_vec, walk_inline, walk_out_of_line, walk_shared, walk_null, walk_weak, walk_named, WalkParts, walk_no_part, walk_part, WalkRun, walk_none, walk_element, Follow, follow_unique, follow_new, follow_again, Enter, enter, WalkContents, walk_one, walk_run, walk_text, RootWalk}
-use Rattle.archive_check.specs.Trail.{Fault, too_large, outside, unaligned, too_deep, Trips, trips_leaf, trips_parts, trips_tag, trips_choice, trips_array, trips_boxed, trips_vec, trips_inline, trips_short, trips_out_of_line, trips_shared, trips_weak, trips_named, TripsParts, trips_first, trips_later, TripsRun, trips_element, trips_later_element, TripsFollow, trips_unique, trips_before, trips_new, trips_type, trips_length, trips_cycle, TripsEnter, trips_size, trips_range, trips_align, trips_depth, trips_within, TripsContents, trips_one, trips_run, trips_text, RootTrips}
+use Rattle.archive_check.specs.Defined.{holds_name, Mentions, mentions_held, mentions_array, mentions_parts, mentions_choice, mentions_boxed, mentions_vec, mentions_map, mentions_shared, mentions_weak, PointeeMentions, mentions_one, mentions_run, PartsMention, mentions_first, mentions_later, VariantsMention, mentions_variant, mentions_other, Reaches, reaches, reaches_through}
+use Rattle.archive_check.specs.Walk.{Walk, walk_leaf, walk_parts, walk_choice, walk_array, walk_boxed, walk_vec, walk_map, walk_inline, walk_out_of_line, walk_shared, walk_null, walk_weak, walk_named, WalkParts, walk_no_part, walk_part, WalkRun, walk_none, walk_element, Follow, follow_unique, follow_new, follow_again, Enter, enter, WalkContents, walk_one, walk_run, walk_entries, walk_text, RootWalk}
+use Rattle.archive_check.specs.Trail.{Fault, too_large, outside, unaligned, too_deep, Trips, trips_leaf, trips_parts, trips_tag, trips_choice, trips_array, trips_boxed, trips_vec, trips_map, trips_inline, trips_short, trips_out_of_line, trips_shared, trips_weak, trips_named, TripsParts, trips_first, trips_later, TripsRun, trips_element, trips_later_element, TripsEntries, trips_key, trips_order, trips_value, trips_later_entry, TripsFollow, trips_unique, trips_before, trips_new, trips_type, trips_length, trips_cycle, TripsEnter, trips_size, trips_range, trips_align, trips_depth, trips_within, TripsContents, trips_one, trips_run, trips_entries, trips_text, RootTrips}
 use Rattle.archive_check.proofs.AcceptedWalks.{walked, walks}
 use Rattle.archive_check.proofs.SameLayouts.{align_same, size_same}
 use Rattle.archive_check.proofs.LaidOutNames.{reaches_next}
@@ -42,6 +44,15 @@ module _ (s s' : Schema) (X : Shape) where
 
   known_run : {Y : Shape} → ((n : Name) → Mentions n (vec Y) → Reaches s.table n X) → KnownPointee (run Y)
   known_run k n (mentions_run h) = k n (mentions_vec h)
+
+  known_entries : {K : Key} {V : Shape} → ((n : Name) → Mentions n (sorted_map K V) → Reaches s.table n X) → KnownPointee (run (entry_of K V))
+  known_entries k n (mentions_run h) = k n (mentions_map (entry_mentions h))
+
+  known_key : (K : Key) (V : Shape) → Known (entry_of K V) → Known (key_shape K)
+  known_key K V k n h = k n (mentions_parts (mentions_first h))
+
+  known_value : (K : Key) (V : Shape) → Known (entry_of K V) → Known V
+  known_value K V k n h = k n (mentions_parts (mentions_later (mentions_first h)))
 
   known_defined : (name : Name) (Y : Shape) → Reaches s.table name X → definition s.table name ≡ Some Y → Known Y
   known_defined name Y r d n h = reaches_next s.table r d h
@@ -77,7 +88,7 @@ module _ (s s' : Schema) (X : Shape) where
 
     enter_again : {pending : List ℕ} {depth : Option ℕ} {stop start mid : ℕ} {seen last : Seen} (t : ℕ) (p : Pointer) → KnownPointee p.pointee
         → p.target ≡ pos t → start ≤ t → t + pointee_size s p.pointee p.length ≤ stop → t % pointee_align s p.pointee ≡ 0 → Allows depth 1
-        → WalkContents s' bytes pending (inside depth) t t p.pointee p.length start seen mid last
+        → WalkContents s' bytes pending (inside depth) t t (order_of p) p.pointee p.length start seen mid last
         → Enter s' bytes pending depth stop p t start seen (t + pointee_size s p.pointee p.length) last
     enter_again t p k e above below aligned allowed w =
         let a = same_pointee_align p.pointee k in
@@ -92,6 +103,7 @@ module _ (s s' : Schema) (X : Shape) where
       walk_again (walk_array w) k = walk_array (run_again w (λ n h. k n (mentions_array h)))
       walk_again (walk_boxed w) k = walk_boxed (follow_same w (λ n h. k n (mentions_boxed h)))
       walk_again (walk_vec w) k = walk_vec (follow_same w (λ n h. known_run k n h))
+      walk_again (walk_map w) k = walk_map (follow_same w (λ n h. known_entries k n h))
       walk_again (walk_inline o h) k = walk_inline o h
       walk_again (walk_out_of_line o h w) k = walk_out_of_line o h (follow_same w known_text)
       walk_again (walk_shared w) k = walk_shared (follow_same w (λ n h. k n (mentions_shared h)))
@@ -117,9 +129,11 @@ module _ (s s' : Schema) (X : Shape) where
       enter_same : {pending : List ℕ} {depth : Option ℕ} {stop t start : ℕ} {p : Pointer} {seen last : Seen} {later : ℕ} → Enter s bytes pending depth stop p t start seen later last → KnownPointee p.pointee → Enter s' bytes pending depth stop p t start seen later last
       enter_same (enter {t = t} {p = p} e above below aligned allowed w) k = enter_again t p k e above below aligned allowed (contents_again w k)
 
-      contents_again : {pending : List ℕ} {depth : Option ℕ} {stop t n start later : ℕ} {seen last : Seen} {P : Pointee} → WalkContents s bytes pending depth stop t P n start seen later last → KnownPointee P → WalkContents s' bytes pending depth stop t P n start seen later last
+      contents_again : {pending : List ℕ} {depth : Option ℕ} {stop t n start later : ℕ} {seen last : Seen} {o : Option Key} {P : Pointee} → WalkContents s bytes pending depth stop t o P n start seen later last → KnownPointee P → WalkContents s' bytes pending depth stop t o P n start seen later last
       contents_again (walk_one w) k = walk_one (walk_again w (λ n h. k n (mentions_one h)))
       contents_again (walk_run w) k = walk_run (run_again w (λ n h. k n (mentions_run h)))
+      contents_again (walk_entries {t = t} {n = n} {K = K} {V = V} w h) k =
+          let z = same_size (entry_of K V) (λ n h. k n (mentions_run h)) in walk_entries (run_again w (λ n h. k n (mentions_run h))) (subst (λ m. Ascend K bytes None t m n) z h)
       contents_again (walk_text h) k = walk_text h
 
     first_trips : {pending : List ℕ} {depth : Option ℕ} {stop start : ℕ} {seen : Seen} {e : Fault} (p at : ℕ) (Y : Shape) (ps : Parts) → Known Y
@@ -137,6 +151,20 @@ module _ (s s' : Schema) (X : Shape) where
         → TripsRun s' bytes pending depth stop (p + size_of s.layouts Y) n Y mid known e
         → TripsRun s' bytes pending depth stop p (suc n) Y start seen e
     element_trips p n Y k w t = trips_later_element w (rw (same_size Y k) at t)
+
+    value_trips : {pending : List ℕ} {depth : Option ℕ} {stop start mid : ℕ} {seen known : Seen} {e : Fault} (before : Option ℕ) (p n : ℕ) (K : Key) (V : Shape) → Known (entry_of K V)
+        → Walk s' bytes pending depth stop p (key_shape K) start seen mid known
+        → ComesBehind K bytes before p
+        → Trips s' bytes pending depth stop (p + up (size_of s.layouts (key_shape K)) (align_of s.layouts V)) V mid known e
+        → TripsEntries s' bytes pending depth stop before p (suc n) K V start seen e
+    value_trips before p n K V k w h t = let z = same_size (key_shape K) (known_key K V k) in let a = same_align V (known_value K V k) in trips_value w h (rw (z, a) at t)
+
+    later_entry_trips : {pending : List ℕ} {depth : Option ℕ} {stop start mid : ℕ} {seen known : Seen} {e : Fault} (before : Option ℕ) (p n : ℕ) (K : Key) (V : Shape) → Known (entry_of K V)
+        → Walk s' bytes pending depth stop p (entry_of K V) start seen mid known
+        → ComesBehind K bytes before p
+        → TripsEntries s' bytes pending depth stop (Some p) (p + size_of s.layouts (entry_of K V)) n K V mid known e
+        → TripsEntries s' bytes pending depth stop before p (suc n) K V start seen e
+    later_entry_trips before p n K V k w h t = let z = same_size (entry_of K V) k in trips_later_entry w h (subst (λ m. TripsEntries s' bytes _ _ _ (Some p) (p + m) n K V _ _ _) z t)
 
     large_trips : {pending : List ℕ} {depth : Option ℕ} {stop start : ℕ} {seen : Seen} (p : Pointer) → KnownPointee p.pointee → 2 ^ 64 ≤ pointee_size s p.pointee p.length → TripsEnter s' bytes pending depth stop p start seen too_large
     large_trips p k h = trips_size (rw (same_pointee_size p.pointee p.length k) at h)
@@ -160,7 +188,7 @@ module _ (s s' : Schema) (X : Shape) where
         trips_depth {p = p} e above (rw (same_pointee_size p.pointee p.length k) at below) (rw (same_pointee_align p.pointee k) at aligned) h
 
     within_trips : {pending : List ℕ} {depth : Option ℕ} {stop start : ℕ} {seen : Seen} {f : Fault} (t : ℕ) (p : Pointer) → KnownPointee p.pointee → p.target ≡ pos t → start ≤ t → t + pointee_size s p.pointee p.length ≤ stop
-        → t % pointee_align s p.pointee ≡ 0 → Allows depth 1 → TripsContents s' bytes pending (inside depth) t t p.pointee p.length start seen f → TripsEnter s' bytes pending depth stop p start seen f
+        → t % pointee_align s p.pointee ≡ 0 → Allows depth 1 → TripsContents s' bytes pending (inside depth) t t (order_of p) p.pointee p.length start seen f → TripsEnter s' bytes pending depth stop p start seen f
     within_trips t p k e above below aligned allowed w =
         trips_within {p = p} e above (rw (same_pointee_size p.pointee p.length k) at below) (rw (same_pointee_align p.pointee k) at aligned) allowed w
 
@@ -173,6 +201,7 @@ module _ (s s' : Schema) (X : Shape) where
       trips_again (trips_array t) k = trips_array (run_trips t (λ n h. k n (mentions_array h)))
       trips_again (trips_boxed t) k = trips_boxed (follow_trips t (λ n h. k n (mentions_boxed h)))
       trips_again (trips_vec t) k = trips_vec (follow_trips t (λ n h. known_run k n h))
+      trips_again (trips_map t) k = trips_map (follow_trips t (λ n h. known_entries k n h))
       trips_again (trips_inline o h) k = trips_inline o h
       trips_again (trips_short o h) k = trips_short o h
       trips_again (trips_out_of_line o h t) k = trips_out_of_line o h (follow_trips t known_text)
@@ -190,6 +219,12 @@ module _ (s s' : Schema) (X : Shape) where
       run_trips (trips_element t) k = trips_element (trips_again t k)
       run_trips (trips_later_element {p = p} {n = n} {X = Y} w t) k = element_trips p n Y k (walk_again w k) (run_trips t k)
 
+      entries_trip : {pending : List ℕ} {depth : Option ℕ} {stop p n start : ℕ} {before : Option ℕ} {seen : Seen} {K : Key} {V : Shape} {e : Fault} → TripsEntries s bytes pending depth stop before p n K V start seen e → Known (entry_of K V) → TripsEntries s' bytes pending depth stop before p n K V start seen e
+      entries_trip (trips_key {K = K} {V = V} t) k = trips_key (trips_again t (known_key K V k))
+      entries_trip (trips_order {K = K} {V = V} w h) k = trips_order (walk_again w (known_key K V k)) h
+      entries_trip (trips_value {p = p} {n = n} {before = before} {K = K} {V = V} w h t) k = value_trips before p n K V k (walk_again w (known_key K V k)) h (trips_again t (known_value K V k))
+      entries_trip (trips_later_entry {p = p} {n = n} {before = before} {K = K} {V = V} w h t) k = later_entry_trips before p n K V k (walk_again w k) h (entries_trip t k)
+
       follow_trips : {pending : List ℕ} {depth : Option ℕ} {stop start : ℕ} {seen : Seen} {p : Pointer} {e : Fault} → TripsFollow s bytes pending depth stop p start seen e → KnownPointee p.pointee → TripsFollow s' bytes pending depth stop p start seen e
       follow_trips (trips_unique e t) k = trips_unique e (enter_trips t k)
       follow_trips (trips_before e nowhere t) k = trips_before e nowhere (enter_trips t k)
@@ -205,9 +240,10 @@ module _ (s s' : Schema) (X : Shape) where
       enter_trips (trips_depth {t = t} {p = p} e above below aligned h) k = deep_trips t p k e above below aligned h
       enter_trips (trips_within {t = t} {p = p} e above below aligned allowed w) k = within_trips t p k e above below aligned allowed (contents_trip w k)
 
-      contents_trip : {pending : List ℕ} {depth : Option ℕ} {stop t n start : ℕ} {seen : Seen} {P : Pointee} {e : Fault} → TripsContents s bytes pending depth stop t P n start seen e → KnownPointee P → TripsContents s' bytes pending depth stop t P n start seen e
+      contents_trip : {pending : List ℕ} {depth : Option ℕ} {stop t n start : ℕ} {seen : Seen} {o : Option Key} {P : Pointee} {e : Fault} → TripsContents s bytes pending depth stop t o P n start seen e → KnownPointee P → TripsContents s' bytes pending depth stop t o P n start seen e
       contents_trip (trips_one t) k = trips_one (trips_again t (λ n h. k n (mentions_one h)))
       contents_trip (trips_run t) k = trips_run (run_trips t (λ n h. k n (mentions_run h)))
+      contents_trip (trips_entries t) k = trips_entries (entries_trip t (λ n h. k n (mentions_run h)))
       contents_trip (trips_text h) k = trips_text h
 
     root_known : KnownPointee (one X)

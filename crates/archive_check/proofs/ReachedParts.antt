@@ -15,6 +15,7 @@ use Rattle.archive_check.specs.Denotes.{Meaning, Denotes, fills_unique, fills_sh
 use Rattle.archive_check.specs.Reached.{Reached}
 use Rattle.archive_check.proofs.ReadingUnique.{contents_one_value}
 use Rattle.archive_check.proofs.MeaningUnique.{Filled, AllFilled, fill, tour_fills, fills_one}
+use Rattle.archive_check.proofs.Entries.{shared_ordered}
 use Rattle.archive_check.proofs.Seen.{same_key}
 use Rattle.archive_check.proofs.Texts.{inline_bytes}
 
@@ -81,7 +82,7 @@ module _ (s : Schema) (bytes : List ℕ) where
       let (v, fits, c, here) = h t (entry flavor p) known in
       let there : Contains E (region_of s p t) = rw (shared_region p t e) here in
       let rest = tour_closed j E sub h in
-      (All-cons (LeadsInto E) p O (t, v, record { target = g; fits = fits; contents = c }, there, (_, fills_shared e g)) (rest.0), rest.1)
+      (All-cons (LeadsInto E) p O (t, v, record { target = g; fits = fits; contents = c; ordered = shared_ordered p e }, there, (_, fills_shared e g)) (rest.0), rest.1)
 
   pub accepted_closed : {root : ℕ} {X : Shape} (a : Accepted s bytes root X) → All (Closed (regions_of a)) (regions_of a)
   accepted_closed {root = root} {X = X} a =
@@ -170,6 +171,15 @@ module _ (s : Schema) (bytes : List ℕ) where
       let same : h.value ≡ w = contents_one_value h.reads m in
       let (t, x, l, e, y) = All-contains (LeadsInto (regions_of h.accepted)) (pointers v) q leads (f q (rw same at c)) in
       let z = part_reached h.accepted {p = t} {P = q.pointee} {n = q.length} (region_of s q t, e, whole_region) in (t, l.target, z.0, z.1)
+
+  -- whose pointee is in its order
+  pub pointer_leads : {root : ℕ} {X : Shape} {p : ℕ} {P : Pointee} {n : ℕ} {w : Value} (h : Reached s bytes root X p P n w) (q : Pointer) → Contains (pointers h.value) q → (t : ℕ) × (u : Value) × Leads s bytes q t u
+  pointer_leads h q c =
+      let (r, d, i) = h.part in
+      let (v, k, leads) = All-contains (Closed (regions_of h.accepted)) (regions_of h.accepted) r (accepted_closed h.accepted) d in
+      let (w, m, f) = part_of_reads i k in
+      let same : h.value ≡ w = contents_one_value h.reads m in
+      let (t, x, l, e, y) = All-contains (LeadsInto (regions_of h.accepted)) (pointers v) q leads (f q (rw same at c)) in (t, x, l)
 
   pub root_reached : {root : ℕ} {X : Shape} {m : Meaning} → Denotes s bytes root X m → Reached s bytes root X root (one X) 0 m.value
   root_reached {root = root} {X = X} h = record {

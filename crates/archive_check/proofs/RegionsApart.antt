@@ -5,7 +5,7 @@ use Rattle.std.proofs.lemmas.List.Elements.{All-nil, All-cons, All-append, All-c
 use Rattle.archive_check.specs.Shape.{Shape, Parts, part, Pointee}
 use Rattle.archive_check.specs.Layout.{up, kind_size, align_of, size_of, parts_align, parts_end, variants_align, variants_end}
 use Rattle.archive_check.specs.Value.{Pointer, Value, Values}
-use Rattle.archive_check.specs.Reads.{Schema, LaidOut, bytes_at, before_end, Reads, reads_leaf, reads_parts, reads_choice, reads_array, reads_boxed, reads_vec, reads_inline, reads_out_of_line, reads_shared, reads_null, reads_weak, reads_named, ReadsParts, reads_no_part, reads_part, ReadsRun, reads_none, reads_element}
+use Rattle.archive_check.specs.Reads.{Schema, LaidOut, bytes_at, before_end, Reads, reads_leaf, reads_parts, reads_choice, reads_array, reads_boxed, reads_vec, reads_map, reads_inline, reads_out_of_line, reads_shared, reads_null, reads_weak, reads_named, ReadsParts, reads_no_part, reads_part, ReadsRun, reads_none, reads_element}
 use Rattle.archive_check.specs.Tour.{Region, region_of, root_region, pointee_size, Rising, Contents, contents_one, contents_run, contents_text, Seen, Tour, tour_end, tour_unique, tour_new, tour_again, Accepted}
 use Rattle.archive_check.specs.Leaves.{Leaf, text_leaf, leaf_begin, leaf_size, leaves, leaves_of_parts, leaves_of_run, leaves_of_contents, leaves_of_tour, leaves_of, regions_of, Disjoint, PairwiseDisjoint, LiesIn, LiesInOne}
 use Rattle.archive_check.proofs.PartsInside.{up_le, positive, parts_end_le, variant_end_le}
@@ -43,6 +43,7 @@ module _ (s : Schema) (laid : LaidOut s) (bytes : List ℕ) where
     leaves_between (reads_array r) = run_between r
     leaves_between reads_boxed = All-nil _
     leaves_between reads_vec = All-nil _
+    leaves_between reads_map = All-nil _
     leaves_between (reads_inline {p = p} o h) = between_one p (p + 8) (text_leaf p (before_end (bytes_at bytes p 8))) (omega (arith, before_end_le (bytes_at bytes p 8), bytes_few bytes p 8))
     leaves_between (reads_out_of_line o h) = All-nil _
     leaves_between reads_shared = All-nil _

@@ -5,7 +5,7 @@ use Rattle.std.proofs.lemmas.List.Elements.{All-nil, All-cons, All-append, All-c
 use Rattle.std.proofs.lemmas.Bool.{and_parts}
 use Rattle.archive_check.specs.Shape.{Name, Flavor, Shape, Pointee, one, run, Parts, Variants, no_variant, variant, definition, variant_at}
 use Rattle.archive_check.specs.Value.{Pointer, Value, Values, pointers, all_pointers}
-use Rattle.archive_check.specs.Reads.{Schema, pointer_at, string_at, Reads, reads_leaf, reads_parts, reads_choice, reads_array, reads_boxed, reads_vec, reads_inline, reads_out_of_line, reads_shared, reads_null, reads_weak, reads_named, ReadsParts, reads_no_part, reads_part, ReadsRun, reads_none, reads_element}
+use Rattle.archive_check.specs.Reads.{Schema, pointer_at, map_at, string_at, Reads, reads_leaf, reads_parts, reads_choice, reads_array, reads_boxed, reads_vec, reads_map, reads_inline, reads_out_of_line, reads_shared, reads_null, reads_weak, reads_named, ReadsParts, reads_no_part, reads_part, ReadsRun, reads_none, reads_element}
 use Rattle.archive_check.specs.Tour.{Contents, contents_one, contents_run, contents_text, root_region, Accepted}
 use Rattle.archive_check.specs.Definitions.{Definitions, listed, Has, Knows}
 use Rattle.archive_check.specs.Pooled.{Entries}
@@ -49,6 +49,11 @@ module _ (right : Flavor → Bool) (D : Definitions) (each : (name : Name) (Y : 
   chosen (variant qs vs) zero ps e h = let same : qs ≡ ps = cc in rw same at ((and_parts (parts_have_flavors right (listed D) qs) (variants_have_flavors right (listed D) vs) h).0)
   chosen (variant qs vs) (suc tag) ps e h = chosen vs tag ps e ((and_parts (parts_have_flavors right (listed D) qs) (variants_have_flavors right (listed D) vs) h).1)
 
+  -- an entry has the flavors of its value
+  entries_right : (K : Key) (V : Shape) → IsTrue (has_flavors right (listed D) V) → IsTrue (has_flavors right (listed D) (entry_of K V))
+  entries_right (leaf_key kind) V h = rw h refl
+  entries_right str_key V h = rw h refl
+
   mutual
     reads_right : {p : ℕ} {X : Shape} {v : Value} → Reads s bytes p X v → IsTrue (has_flavors right (listed D) X) → All Right (pointers v)
     reads_right (reads_leaf l) h = All-nil Right
@@ -57,6 +62,7 @@ module _ (right : Flavor → Bool) (D : Definitions) (each : (name : Name) (Y : 
     reads_right (reads_array r) h = run_right r h
     reads_right (reads_boxed {p = p} {P = P}) h = let z = pointer_at bytes p None P in single z (unique z refl h)
     reads_right (reads_vec {p = p} {X = X}) h = let z = pointer_at bytes p None (run X) in single z (unique z refl h)
+    reads_right (reads_map {p = p} {K = K} {V = V}) h = let z = map_at bytes p K V in single z (unique z refl (entries_right K V h))
     reads_right (reads_inline o u) h = All-nil Right
     reads_right (reads_out_of_line {p = p} o l) h = single (string_at bytes p) (unique (string_at bytes p) refl refl)
     reads_right (reads_shared {p = p} {flavor = flavor} {P = P}) h = let z = pointer_at bytes p (Some flavor) P in single z (same z flavor refl h)

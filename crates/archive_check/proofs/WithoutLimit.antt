@@ -1,11 +1,11 @@
 -- What a check with a limit of depth comes to, but for a region that is too deep, one without a limit comes to as well.
 use Rattle.std.proofs.Common.{◌≡◌, ℕ, refl, List, Option, None}
-use Rattle.archive_check.specs.Shape.{Shape, Parts, Pointee}
+use Rattle.archive_check.specs.Shape.{Shape, Key, Parts, Pointee}
 use Rattle.archive_check.specs.Value.{Pointer}
 use Rattle.archive_check.specs.Reads.{Schema}
 use Rattle.archive_check.specs.Tour.{Seen}
-use Rattle.archive_check.specs.Walk.{Walk, walk_leaf, walk_parts, walk_choice, walk_array, walk_boxed, walk_vec, walk_inline, walk_out_of_line, walk_shared, walk_null, walk_weak, walk_named, WalkParts, walk_no_part, walk_part, WalkRun, walk_none, walk_element, Follow, follow_unique, follow_new, follow_again, Enter, enter, WalkContents, walk_one, walk_run, walk_text}
-use Rattle.archive_check.specs.Trail.{RootTrips, Fault, too_deep, Trips, trips_leaf, trips_parts, trips_tag, trips_choice, trips_array, trips_boxed, trips_vec, trips_inline, trips_short, trips_out_of_line, trips_shared, trips_weak, trips_named, TripsParts, trips_first, trips_later, TripsRun, trips_element, trips_later_element, TripsFollow, trips_unique, trips_before, trips_new, trips_type, trips_length, trips_cycle, TripsEnter, trips_size, trips_range, trips_align, trips_depth, trips_within, TripsContents, trips_one, trips_run, trips_text}
+use Rattle.archive_check.specs.Walk.{Walk, walk_leaf, walk_parts, walk_choice, walk_array, walk_boxed, walk_vec, walk_map, walk_inline, walk_out_of_line, walk_shared, walk_null, walk_weak, walk_named, WalkParts, walk_no_part, walk_part, WalkRun, walk_none, walk_element, Follow, follow_unique, follow_new, follow_again, Enter, enter, WalkContents, walk_one, walk_run, walk_entries, walk_text}
+use Rattle.archive_check.specs.Trail.{RootTrips, Fault, too_deep, Trips, trips_leaf, trips_parts, trips_tag, trips_choice, trips_array, trips_boxed, trips_vec, trips_map, trips_inline, trips_short, trips_out_of_line, trips_shared, trips_weak, trips_named, TripsParts, trips_first, trips_later, TripsRun, trips_element, trips_later_element, TripsEntries, trips_key, trips_order, trips_value, trips_later_entry, TripsFollow, trips_unique, trips_before, trips_new, trips_type, trips_length, trips_cycle, TripsEnter, trips_size, trips_range, trips_align, trips_depth, trips_within, TripsContents, trips_one, trips_run, trips_entries, trips_text}
 
 module _ (s : Schema) (bytes : List ℕ) where
   mutual
@@ -16,6 +16,7 @@ module _ (s : Schema) (bytes : List ℕ) where
     walk_free (walk_array w) = walk_array (run_free w)
     walk_free (walk_boxed w) = walk_boxed (follow_free w)
     walk_free (walk_vec w) = walk_vec (follow_free w)
+    walk_free (walk_map w) = walk_map (follow_free w)
     walk_free (walk_inline o h) = walk_inline o h
     walk_free (walk_out_of_line o h w) = walk_out_of_line o h (follow_free w)
     walk_free (walk_shared w) = walk_shared (follow_free w)
@@ -39,9 +40,10 @@ module _ (s : Schema) (bytes : List ℕ) where
     enter_free : {pending : List ℕ} {depth : Option ℕ} {stop t a b : ℕ} {p : Pointer} {l m : Seen} → Enter s bytes pending depth stop p t a l b m → Enter s bytes pending None stop p t a l b m
     enter_free (enter e above below aligned allowed w) = enter e above below aligned tt (contents_free w)
 
-    contents_free : {pending : List ℕ} {depth : Option ℕ} {stop t n a b : ℕ} {P : Pointee} {l m : Seen} → WalkContents s bytes pending depth stop t P n a l b m → WalkContents s bytes pending None stop t P n a l b m
+    contents_free : {pending : List ℕ} {depth : Option ℕ} {stop t n a b : ℕ} {o : Option Key} {P : Pointee} {l m : Seen} → WalkContents s bytes pending depth stop t o P n a l b m → WalkContents s bytes pending None stop t o P n a l b m
     contents_free (walk_one w) = walk_one (walk_free w)
     contents_free (walk_run w) = walk_run (run_free w)
+    contents_free (walk_entries w h) = walk_entries (run_free w) h
     contents_free (walk_text u) = walk_text u
 
   mutual
@@ -53,6 +55,7 @@ module _ (s : Schema) (bytes : List ℕ) where
     trips_free other (trips_array t) = trips_array (run_trips other t)
     trips_free other (trips_boxed t) = trips_boxed (follow_trips other t)
     trips_free other (trips_vec t) = trips_vec (follow_trips other t)
+    trips_free other (trips_map t) = trips_map (follow_trips other t)
     trips_free other (trips_inline o h) = trips_inline o h
     trips_free other (trips_short o h) = trips_short o h
     trips_free other (trips_out_of_line o h t) = trips_out_of_line o h (follow_trips other t)
@@ -67,6 +70,12 @@ module _ (s : Schema) (bytes : List ℕ) where
     run_trips : {pending : List ℕ} {depth : Option ℕ} {stop p n a : ℕ} {X : Shape} {l : Seen} {f : Fault} → (f ≡ too_deep → ⊥) → TripsRun s bytes pending depth stop p n X a l f → TripsRun s bytes pending None stop p n X a l f
     run_trips other (trips_element t) = trips_element (trips_free other t)
     run_trips other (trips_later_element w t) = trips_later_element (walk_free w) (run_trips other t)
+
+    entries_trip : {pending : List ℕ} {depth : Option ℕ} {stop p n a : ℕ} {before : Option ℕ} {K : Key} {V : Shape} {l : Seen} {f : Fault} → (f ≡ too_deep → ⊥) → TripsEntries s bytes pending depth stop before p n K V a l f → TripsEntries s bytes pending None stop before p n K V a l f
+    entries_trip other (trips_key t) = trips_key (trips_free other t)
+    entries_trip other (trips_order w h) = trips_order (walk_free w) h
+    entries_trip other (trips_value w h t) = trips_value (walk_free w) h (trips_free other t)
+    entries_trip other (trips_later_entry w h t) = trips_later_entry (walk_free w) h (entries_trip other t)
 
     follow_trips : {pending : List ℕ} {depth : Option ℕ} {stop a : ℕ} {p : Pointer} {l : Seen} {f : Fault} → (f ≡ too_deep → ⊥) → TripsFollow s bytes pending depth stop p a l f → TripsFollow s bytes pending None stop p a l f
     follow_trips other (trips_unique c t) = trips_unique c (enter_trips other t)
@@ -83,9 +92,10 @@ module _ (s : Schema) (bytes : List ℕ) where
     enter_trips other (trips_depth c above below straight deep) = absurd (other refl)
     enter_trips other (trips_within c above below straight room t) = trips_within c above below straight tt (contents_trip other t)
 
-    contents_trip : {pending : List ℕ} {depth : Option ℕ} {stop t n a : ℕ} {P : Pointee} {l : Seen} {f : Fault} → (f ≡ too_deep → ⊥) → TripsContents s bytes pending depth stop t P n a l f → TripsContents s bytes pending None stop t P n a l f
+    contents_trip : {pending : List ℕ} {depth : Option ℕ} {stop t n a : ℕ} {o : Option Key} {P : Pointee} {l : Seen} {f : Fault} → (f ≡ too_deep → ⊥) → TripsContents s bytes pending depth stop t o P n a l f → TripsContents s bytes pending None stop t o P n a l f
     contents_trip other (trips_one t) = trips_one (trips_free other t)
     contents_trip other (trips_run t) = trips_run (run_trips other t)
+    contents_trip other (trips_entries t) = trips_entries (entries_trip other t)
     contents_trip other (trips_text h) = trips_text h
 
   -- what trips from the root trips there without a limit, too

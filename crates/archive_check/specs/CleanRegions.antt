@@ -1,6 +1,6 @@
 -- Clean bytes, region by region and format by format: padding and the rest of a choice are 0, unused bytes of a string 0xff, a null's length 0.
 use Rattle.std.specs.Prelude.{◌≡◌, ◌≢◌, ℕ, zero, suc, ◌+◌, ◌<◌, ◌≤◌, pos, List, [], ◌∷◌, ◌++◌, length, slice_index, Some}
-use Rattle.archive_check.specs.Shape.{Name, Kind, Flavor, Shape, leaf, parts, choice, array, boxed, vec, str, shared, weak, named, Pointee, one, run, text, Parts, no_part, part, Variants, definition, variant_at}
+use Rattle.archive_check.specs.Shape.{Name, Kind, Key, Flavor, Shape, leaf, parts, choice, array, boxed, vec, sorted_map, str, shared, weak, named, Pointee, one, run, text, Parts, no_part, part, Variants, definition, variant_at}
 use Rattle.archive_check.specs.Layout.{up, size_of, align_of}
 use Rattle.archive_check.specs.Reads.{Schema, bytes_at, i32_at, length_at, before_end, IsOutOfLine}
 use Rattle.archive_check.specs.Tour.{Region}
@@ -37,6 +37,7 @@ mutual
     clean_array : {p n : ℕ} {X : Shape} → CleanRun s bytes p n X → CleanValue s bytes p (array n X)
     clean_boxed : {p : ℕ} {P : Pointee} → CleanValue s bytes p (boxed P)
     clean_vec : {p : ℕ} {X : Shape} → CleanValue s bytes p (vec X)
+    clean_map : {p : ℕ} {K : Key} {V : Shape} → CleanValue s bytes p (sorted_map K V)
     clean_inline : {p : ℕ} → (IsOutOfLine bytes p → ⊥) → IsFilled bytes p → CleanValue s bytes p str
     clean_out_of_line : {p : ℕ} → IsOutOfLine bytes p → CleanValue s bytes p str
     clean_shared : {p : ℕ} {flavor : Flavor} {P : Pointee} → CleanValue s bytes p (shared flavor P)

@@ -6,7 +6,7 @@ use Rattle.std.specs.Cmp.Lexicographic.{bytes_decides}
 use Rattle.std.specs.Int.{Width, w8, w16, w32, w64, w128}
 use Rattle.std.proofs.Common.{sym, subst}
 use mathlib.Core.Bool.{true≢false}
-use Rattle.archive_check.specs.Shape.{Name, Sign, unsigned, signed, Kind, unit, bool, char, number, non_zero, raw_rel, Flavor, Shape, leaf, parts, choice, array, boxed, vec, str, shared, weak, named, Pointee, one, run, text, Parts, no_part, part, Variants, no_variant, variant}
+use Rattle.archive_check.specs.Shape.{Name, Sign, unsigned, signed, Kind, unit, bool, char, number, non_zero, raw_rel, Key, leaf_key, str_key, Flavor, Shape, leaf, parts, choice, array, boxed, vec, sorted_map, str, shared, weak, named, Pointee, one, run, text, Parts, no_part, part, Variants, no_variant, variant}
 
 abbrev pub same_sign : Sign → Sign → Bool
 same_sign unsigned unsigned = true
@@ -30,6 +30,11 @@ same_kind (non_zero s w) (non_zero t v) = same_sign s t && same_width w v
 same_kind (raw_rel s w) (raw_rel t v) = same_sign s t && same_width w v
 same_kind _ _ = false
 
+abbrev pub same_key : Key → Key → Bool
+same_key (leaf_key k) (leaf_key l) = same_kind k l
+same_key str_key str_key = true
+same_key _ _ = false
+
 abbrev pub same_flavor : Flavor → Flavor → Bool
 same_flavor f g = bytes_eq f.name g.name && beq f.cycles g.cycles
 
@@ -41,6 +46,7 @@ abbrev mutual
   same_shape (array m x) (array n y) = (m == n) && same_shape x y
   same_shape (boxed x) (boxed y) = same_pointee x y
   same_shape (vec x) (vec y) = same_shape x y
+  same_shape (sorted_map k x) (sorted_map l y) = same_key k l && same_shape x y
   same_shape str str = true
   same_shape (shared f x) (shared g y) = same_flavor f g && same_pointee x y
   same_shape (weak f x) (weak g y) = same_flavor f g && same_pointee x y
@@ -139,6 +145,7 @@ mutual
   one_shape (array m x) (array n y) h = λ i. array ((unsigned_Decides m n).0 (first_so _ _ h) i) (one_shape x y (second_so (m == n) _ h) i)
   one_shape (boxed x) (boxed y) h = λ i. boxed (one_pointee x y h i)
   one_shape (vec x) (vec y) h = λ i. vec (one_shape x y h i)
+  one_shape (sorted_map k x) (sorted_map l y) h = λ i. sorted_map (one_key k l (first_so _ _ h) i) (one_shape x y (second_so (same_key k l) _ h) i)
   one_shape str str h = refl
   one_shape (shared f x) (shared g y) h = λ i. shared (one_flavor f g (first_so _ _ h) i) (one_pointee x y (second_so (same_flavor f g) _ h) i)
   one_shape (weak f x) (weak g y) h = λ i. weak (one_flavor f g (first_so _ _ h) i) (one_pointee x y (second_so (same_flavor f g) _ h) i)
@@ -169,6 +176,7 @@ mutual
   own_shape (array n x) = λ i. (unsigned_Decides n n).1 refl i && own_shape x i
   own_shape (boxed x) = own_pointee x
   own_shape (vec x) = own_shape x
+  own_shape (sorted_map k x) = λ i. own_key k i && own_shape x i
   own_shape str = refl
   own_shape (shared f x) = λ i. own_flavor f i && own_pointee x i
   own_shape (weak f x) = λ i. own_flavor f i && own_pointee x i

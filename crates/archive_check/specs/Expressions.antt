@@ -7,6 +7,8 @@ use Rattle.archive_check.specs.declared.format.expr.IntegerKind.{IntegerKind}
 use Rattle.archive_check.specs.declared.format.expr.IntegerKind.TheVariants.{U8, I8, U16, I16, U32, I32, U64, I64, U128, I128}
 use Rattle.archive_check.specs.declared.format.expr.Kind.{Kind as KindExpr}
 use Rattle.archive_check.specs.declared.format.expr.Kind.TheVariants.{Unit as UnitKind, Bool as BoolKind, Char as CharKind, Number, NonZero, RawRel}
+use Rattle.archive_check.specs.declared.format.expr.Key.{Key as KeyExpr}
+use Rattle.archive_check.specs.declared.format.expr.Key.TheVariants as key
 use Rattle.archive_check.specs.declared.format.expr.FlavorInfo.{FlavorInfo}
 use Rattle.archive_check.specs.declared.format.expr.Pointee.{Pointee as PointeeExpr}
 use Rattle.archive_check.specs.declared.format.expr.Pointee.TheVariants as pointee
@@ -14,7 +16,7 @@ use Rattle.archive_check.specs.declared.format.expr.Expr.{Expr, Row_of-Expr, end
 use Rattle.archive_check.specs.declared.format.expr.Expr.TheVariants as expr
 use Rattle.archive_check.specs.declared.format.defs.Def.{Def}
 use Rattle.archive_check.specs.declared.format.defs.Defs.{Defs}
-use Rattle.archive_check.specs.Shape.{Sign, unsigned, signed, Kind, unit, bool, char, number, non_zero, raw_rel, Flavor, Shape, leaf, parts, choice, array, boxed, vec, str, shared, weak, named, Pointee, one, run, text, Parts, no_part, part, Variants, no_variant, variant, Table}
+use Rattle.archive_check.specs.Shape.{Sign, unsigned, signed, Kind, unit, bool, char, number, non_zero, raw_rel, Key, leaf_key, str_key, Flavor, Shape, leaf, parts, choice, array, boxed, vec, sorted_map, str, shared, weak, named, Pointee, one, run, text, Parts, no_part, part, Variants, no_variant, variant, Table}
 
 -- the sign of an integer, and its width
 abbrev pub integer_of : IntegerKind → Sign × Width
@@ -38,6 +40,11 @@ kind_of (Number integer) = number (integer_of integer).0 (integer_of integer).1
 kind_of (NonZero integer) = non_zero (integer_of integer).0 (integer_of integer).1
 kind_of (RawRel integer) = raw_rel (integer_of integer).0 (integer_of integer).1
 
+-- the key
+abbrev pub key_of : KeyExpr → Key
+key_of (key.Leaf kind) = leaf_key (kind_of kind)
+key_of key.Str = str_key
+
 abbrev pub flavor_of : FlavorInfo → Flavor
 flavor_of f = record { name = f.name.now; cycles = f.cycles }
 
@@ -50,6 +57,7 @@ abbrev mutual
   shape_of (expr.Array' n p x) = array n (shape_of x)
   shape_of (expr.Box' p x) = boxed (pointee_of x)
   shape_of (expr.Vec' p x) = vec (shape_of x)
+  shape_of (expr.Map' k p x) = sorted_map (key_of k) (shape_of x)
   shape_of expr.Str = str
   shape_of (expr.Shared' f p x) = shared (flavor_of f) (pointee_of x)
   shape_of (expr.Weak' f p x) = weak (flavor_of f) (pointee_of x)

@@ -2,9 +2,9 @@
 use Rattle.std.specs.Prelude.{◌≡◌, ◌⊎◌, ℕ, pos, List}
 use Rattle.std.specs.Borrow.{Bor}
 use Rattle.archive_check.specs.declared.format.error.Error.{Error}
-use Rattle.archive_check.specs.declared.format.error.Error.TheVariants.{OutOfMemory, InvalidSubtreePointer, UnalignedPointer, ExceededMaximumSubtreeDepth, CyclicValidate, TypeMismatch, MetadataMismatch, LayoutTooLarge, InvalidDiscriminant, InvalidBool, InvalidChar, ZeroNumber, InvalidUtf8, InvalidStringRepr}
+use Rattle.archive_check.specs.declared.format.error.Error.TheVariants.{OutOfMemory, InvalidSubtreePointer, UnalignedPointer, ExceededMaximumSubtreeDepth, CyclicValidate, TypeMismatch, MetadataMismatch, LayoutTooLarge, InvalidDiscriminant, InvalidBool, InvalidChar, ZeroNumber, InvalidUtf8, InvalidStringRepr, UnsortedKeys}
 use Rattle.archive_check.specs.Shape.{Kind, bool, char, non_zero}
-use Rattle.archive_check.specs.Trail.{Fault, too_large, outside, unaligned, too_deep, cyclic, other_type, other_length, illegal, no_such_variant, no_text, no_string}
+use Rattle.archive_check.specs.Trail.{Fault, too_large, outside, unaligned, too_deep, cyclic, other_type, other_length, illegal, no_such_variant, no_text, no_string, unsorted}
 
 -- the refusal of an illegal leaf; no bytes of a unit, a number or an offset are illegal
 abbrev pub illegal_error : Kind → Error
@@ -26,6 +26,7 @@ IsFor (illegal kind) e = e ≡ illegal_error kind
 IsFor (no_such_variant name tag) e = (b : Bor (List ℕ)) × (e ≡ InvalidDiscriminant b tag) × (b.now ≡ name)
 IsFor no_text e = e ≡ InvalidUtf8
 IsFor no_string e = e ≡ InvalidStringRepr
+IsFor unsorted e = e ≡ UnsortedKeys
 
 -- a refusal that a check can answer, in whatever context: memory was refused, or a fault is said
 abbrev pub IsOfCheck : Error → Type 0

@@ -11,6 +11,7 @@ pub mod Measure
 pub mod AddAnswer
 pub mod Value
 pub mod Reads
+pub mod Keys
 pub mod Tour
 pub mod Depth
 pub mod Walk

@@ -1,6 +1,6 @@
 -- A measure of expressions, in no unit: it falls with each step down, so what goes down an expression ends.
 use Rattle.std.specs.Prelude.{ℕ, ◌+◌}
-use Rattle.archive_check.specs.Shape.{Shape, parts, choice, array, boxed, vec, shared, weak, Pointee, one, run, text, Parts, no_part, part, Variants, no_variant, variant}
+use Rattle.archive_check.specs.Shape.{Shape, parts, choice, array, boxed, vec, sorted_map, shared, weak, Pointee, one, run, text, Parts, no_part, part, Variants, no_variant, variant}
 
 abbrev mutual
   pub measure_of : Shape → ℕ
@@ -9,6 +9,8 @@ abbrev mutual
   measure_of (array n x) = measure_of x + 1
   measure_of (boxed x) = measure_of_pointee x + 1
   measure_of (vec x) = measure_of x + 2
+  -- its entries wait, and are records of a key and an x
+  measure_of (sorted_map K x) = measure_of x + 6
   measure_of (shared f x) = measure_of_pointee x + 1
   measure_of (weak f x) = measure_of_pointee x + 1
   measure_of _ = 1

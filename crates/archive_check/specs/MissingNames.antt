@@ -1,7 +1,7 @@
 -- The names in an expression that have no definition, and the definitions that a shape reaches, in order.
 use Rattle.std.specs.Prelude.{◌≡◌, ℕ, ◌<◌, Bool, true, false, Option, Some, None, cond, is_some, length, take, get_or, Contains}
 use Rattle.archive_check.specs.Defined.{Reaches}
-use Rattle.archive_check.specs.Shape.{Name, Shape, parts, choice, array, boxed, vec, shared, weak, named, Pointee, one, run, text, Parts, no_part, part, Variants, no_variant, variant, Table, definition}
+use Rattle.archive_check.specs.Shape.{Name, Shape, parts, choice, array, boxed, vec, sorted_map, shared, weak, named, Pointee, one, run, text, Parts, no_part, part, Variants, no_variant, variant, Table, definition}
 
 -- the first of two
 abbrev pub or_else : Option Name → Option Name → Option Name
@@ -16,6 +16,7 @@ abbrev mutual
   missing far table (array n X) = missing far table X
   missing far table (boxed P) = cond far (pointee_missing far table P) None
   missing far table (vec X) = cond far (missing far table X) None
+  missing far table (sorted_map K V) = cond far (missing far table V) None
   missing far table (shared flavor P) = cond far (pointee_missing far table P) None
   missing far table (weak flavor P) = cond far (pointee_missing far table P) None
   missing far table (named name) = cond (is_some (definition table name)) None (Some name)

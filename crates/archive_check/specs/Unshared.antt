@@ -1,6 +1,6 @@
 -- Types whose flavors are as they should: in which nothing is shared, or nothing may hold itself.
 use Rattle.std.specs.Prelude.{◌≡◌, ◌⊎◌, ℕ, Bool, true, false, not, ◌&&◌, is_some, IsTrue, Some, None, Contains}
-use Rattle.archive_check.specs.Shape.{Name, Flavor, Shape, leaf, parts, choice, array, boxed, vec, str, shared, weak, named, Pointee, one, run, text, Parts, no_part, part, Variants, no_variant, variant, Table, definition}
+use Rattle.archive_check.specs.Shape.{Name, Flavor, Shape, leaf, parts, choice, array, boxed, vec, sorted_map, str, shared, weak, named, Pointee, one, run, text, Parts, no_part, part, Variants, no_variant, variant, Table, definition}
 use Rattle.archive_check.specs.Definitions.{Definitions, listed}
 use Rattle.archive_check.specs.Pooled.{Entries}
 
@@ -13,6 +13,7 @@ abbrev mutual
   has_flavors right table (array n X) = has_flavors right table X
   has_flavors right table (boxed P) = pointee_has_flavors right table P
   has_flavors right table (vec X) = has_flavors right table X
+  has_flavors right table (sorted_map K V) = has_flavors right table V
   has_flavors right table str = true
   has_flavors right table (shared flavor P) = right flavor && pointee_has_flavors right table P
   has_flavors right table (weak flavor P) = right flavor && pointee_has_flavors right table P

@@ -3,10 +3,10 @@ use Rattle.std.proofs.Common.{◌≡◌, ⊎_elim, ℕ, suc, ◌+◌, ◌-◌, �
 use Rattle.std.proofs.Math.IntN.{◌-ℤ◌, +ℤ_comm, +ℤ-neg_ℤ_cancel}
 use Rattle.std.proofs.lemmas.Bool.{cases_lt}
 use Rattle.std.proofs.lemmas.List.Elements.{All-take, All-drop}
-use Rattle.archive_check.specs.Shape.{signed, Flavor, Shape, str, weak, Pointee, one, run, text}
+use Rattle.archive_check.specs.Shape.{signed, Flavor, Key, entry_of, Shape, str, weak, Pointee, one, run, text}
 use Rattle.archive_check.specs.Layout.{kind_size, size_of, pointer_size}
 use Rattle.archive_check.specs.Value.{Value}
-use Rattle.archive_check.specs.Reads.{Schema, bytes_at, u32_at, i32_at, IsOutOfLine, before_end, decoded_length, length_at, pointer_at, string_at, Reads, reads_leaf, reads_parts, reads_choice, reads_array, reads_boxed, reads_vec, reads_inline, reads_out_of_line, reads_shared, reads_null, reads_weak, reads_named}
+use Rattle.archive_check.specs.Reads.{Schema, bytes_at, u32_at, i32_at, IsOutOfLine, before_end, decoded_length, length_at, pointer_at, map_at, string_at, Reads, reads_leaf, reads_parts, reads_choice, reads_array, reads_boxed, reads_vec, reads_map, reads_inline, reads_out_of_line, reads_shared, reads_null, reads_weak, reads_named}
 use Rattle.archive_check.specs.LittleEndian.{little_number, AreBytes}
 use Rattle.archive_check.specs.Tightness.{own_size}
 use Rattle.archive_check.proofs.format.BytesAt.{byte_in}
@@ -68,6 +68,9 @@ module _ (a b : List ℕ) where
     pointer_bytes : (p : ℕ) (sharing : Option Flavor) (P : Pointee) → pointer_at a p sharing P ≡ pointer_at b p sharing P → p + pointer_size P ≤ length a → p + pointer_size P ≤ length b → Same p (pointer_size P)
     pointer_bytes p sharing P e fits room = offset_bytes p P (add_one p (i32_at a p) (i32_at b p) (ap (λ z. z.target) e)) (ap (λ z. z.length) e) fits room
 
+    map_bytes : (p : ℕ) (K : Key) (V : Shape) → map_at a p K V ≡ map_at b p K V → p + 8 ≤ length a → p + 8 ≤ length b → Same p 8
+    map_bytes p K V e fits room = offset_bytes p (run (entry_of K V)) (add_one p (i32_at a p) (i32_at b p) (ap (λ z. z.target) e)) (ap (λ z. z.length) e) fits room
+
     string_bytes : (p : ℕ) → IsOutOfLine a p → IsOutOfLine b p → string_at a p ≡ string_at b p → p + 8 ≤ length a → p + 8 ≤ length b → Same p 8
     unfolding decoded_length
     string_bytes p o q e fits room =
@@ -104,6 +107,7 @@ module _ (a b : List ℕ) where
   own_bytes h k (reads_array r) q e fits room t u i low high = absurd (omega arith)
   own_bytes h k (reads_boxed {p = p} {P = P}) reads_boxed e fits room t u i low high = pointer_bytes a b h k p None P (cc) fits room i low high
   own_bytes h k (reads_vec {p = p} {X = X}) reads_vec e fits room t u i low high = pointer_bytes a b h k p None (run X) (cc) fits room i low high
+  own_bytes h k (reads_map {p = p} {K = K} {V = V}) reads_map e fits room t u i low high = map_bytes a b h k p K V (cc) fits room i low high
   own_bytes h k (reads_inline {p = p} o r) (reads_inline q x) e fits room t u i low high =
       let j : ℕ = i - p in let here : p + j ≡ i = omega arith in
       subst (λ m. slice_index a m ≡ slice_index b m) here (inline_byte p j (cc) (t.strings refl o) (u.strings refl q) (omega arith))

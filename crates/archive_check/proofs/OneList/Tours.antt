@@ -54,8 +54,8 @@ module _ (s : Schema) (a b : List ℕ) (to : ℕ → ℕ) where
   moved : {t u n m : ℕ} {P Q : Pointee} {v : Value} → t ≡ u → P ≡ Q → n ≡ m → Contents s b u Q m v → Contents s b t P n v
   moved e f g c = rw (e, f, g) c
 
-  same_pointer : (p q : Pointer) → p.target ≡ q.target → p.sharing ≡ q.sharing → p.pointee ≡ q.pointee → p.length ≡ q.length → p ≡ q
-  same_pointer p q e f g h = λ i. record { target = e i; sharing = f i; pointee = g i; length = h i }
+  same_pointer : (p q : Pointer) → p.target ≡ q.target → p.sharing ≡ q.sharing → p.order ≡ q.order → p.pointee ≡ q.pointee → p.length ≡ q.length → p ≡ q
+  same_pointer p q e f o g h = λ i. record { target = e i; sharing = f i; order = o i; pointee = g i; length = h i }
 
   joined : {p q : Pointer} {O Q : List Pointer} {t u : ℕ} {C D E F : List Region} {last other : Seen} → p ≡ q → t ≡ u → C ≡ E → All (Alike s a b) C → Alike s a b (region_of s p t) → SameTours s a b O Q D F last other
       → SameTours s a b (p ∷ O) (q ∷ Q) (C ++ region_of s p t ∷ D) (E ++ region_of s q u ∷ F) last other
@@ -76,7 +76,7 @@ module _ (s : Schema) (a b : List ℕ) (to : ℕ → ℕ) where
       → (middle ≡ mid → Tight (after (region_of s p t)) D m → Tight (after (region_of s p t)) F n → SameTours s a b O Q D F last other)
       → SameTours s a b (p ∷ O) (q ∷ Q) (C ++ region_of s p t ∷ D) (E ++ region_of s q u ∷ F) last other
   go_on {p = p} {q = q} {v = v} {w = w} {F = F} m n z l r long like here inner hd kd rest =
-      let this : p ≡ q = same_pointer p q (l.target ∙ ap pos here ∙ sym r.target) z.sharing z.pointee long in
+      let this : p ≡ q = same_pointer p q (l.target ∙ ap pos here ∙ sym r.target) z.sharing z.order z.pointee long in
       joined this here inner.visited inner.alike (record { value = v; other = w; left = l.contents; right = moved here z.pointee long r.contents; same = like.1 inner.followed })
       (rest (sym inner.met) hd (subst (λ r. Tight (after r) F n) (sym (ap₂ (region_of s) this here)) kd))
 

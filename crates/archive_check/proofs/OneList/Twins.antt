@@ -1,8 +1,8 @@
 -- Two buffers that say the same, each hole filled, but for names: their pointers stand in the same order, and lead to the same.
 use Rattle.std.proofs.Common.{◌≡◌, ℕ, suc, ◌+◌, ◌<◌, ◌≤◌, ℤ, pos, List, [], ◌∷◌, ◌++◌, length, Some, None, arith, refl, sym, ap, ap₂, ◌∙◌}
-use Rattle.archive_check.specs.Shape.{Flavor, Shape, Pointee, one, run, text, Parts}
+use Rattle.archive_check.specs.Shape.{Flavor, Key, entry_of, Shape, Pointee, one, run, text, Parts}
 use Rattle.archive_check.specs.Value.{Pointer, Value, Values, number, product, case, list, text_value, box, null, shared_value, hole, no_value, value, pointers, all_pointers}
-use Rattle.archive_check.specs.Reads.{Schema, bytes_at, u32_at, before_end, decoded_length, length_at, pointer_at, string_at, Reads, reads_leaf, reads_parts, reads_choice, reads_array, reads_boxed, reads_vec, reads_inline, reads_out_of_line, reads_shared, reads_null, reads_weak, reads_named, ReadsParts, reads_no_part, reads_part, ReadsRun, reads_none, reads_element}
+use Rattle.archive_check.specs.Reads.{Schema, bytes_at, u32_at, before_end, decoded_length, length_at, pointer_at, map_at, string_at, Reads, reads_leaf, reads_parts, reads_choice, reads_array, reads_boxed, reads_vec, reads_map, reads_inline, reads_out_of_line, reads_shared, reads_null, reads_weak, reads_named, ReadsParts, reads_no_part, reads_part, ReadsRun, reads_none, reads_element}
 use Rattle.archive_check.specs.Tour.{Contents, contents_one, contents_run, contents_text, Leads, pointee_size}
 use Rattle.archive_check.specs.Denotes.{rename, rename_all, Fills, fills_number, fills_product, fills_case, fills_list, fills_text, fills_box, fills_null, fills_unique, fills_shared, FillsAll, fills_no_value, fills_value}
 use Rattle.archive_check.proofs.ReadingUnique.{leads_position, leads_value}
@@ -19,6 +19,7 @@ pub record AllRenamed (to : ℕ → ℕ) (xs ys : Values) : Type 0 where
 -- pointers to the same pointee, one in each buffer, whose holes are filled alike but for names
 pub record Twin (s : Schema) (a b : List ℕ) (to : ℕ → ℕ) (p q : Pointer) : Type 0 where
   pub sharing : p.sharing ≡ q.sharing
+  pub order : p.order ≡ q.order
   pub pointee : p.pointee ≡ q.pointee
   pub length : p.sharing ≡ None → p.length ≡ q.length
   pub filled : Value
@@ -158,15 +159,29 @@ module _ (s : Schema) (a b : List ℕ) (to : ℕ → ℕ) where
   pointers_long p q text f g z = unique_long (pointer_at a p None text) (pointer_at b q None text) text refl refl refl refl f g z
 
   unique_twin : (p q : ℕ) (P : Pointee) {x y : Value} → Fills s a (hole (pointer_at a p None P)) x → Fills s b (hole (pointer_at b q None P)) y → Renamed to x y → Twin s a b to (pointer_at a p None P) (pointer_at b q None P)
-  unique_twin p q P {x} {y} f g z = record { sharing = refl; pointee = refl; length = λ e. pointers_long p q P f g z; filled = x; other = y; left = f; right = g; renamed = z }
+  unique_twin p q P {x} {y} f g z = record { sharing = refl; order = refl; pointee = refl; length = λ e. pointers_long p q P f g z; filled = x; other = y; left = f; right = g; renamed = z }
+
+  map_twin : (p q : ℕ) (K : Key) (V : Shape) {x y : Value} → Fills s a (hole (map_at a p K V)) x → Fills s b (hole (map_at b q K V)) y → Renamed to x y → Twin s a b to (map_at a p K V) (map_at b q K V)
+  map_twin p q K V {x} {y} f g z = record {
+    sharing = refl;
+    order = refl;
+    pointee = refl;
+    filled = x;
+    other = y;
+    left = f;
+    right = g;
+    renamed = z;
+    length = λ e. unique_long (map_at a p K V) (map_at b q K V) (run (entry_of K V)) refl refl refl refl f g z;
+  }
 
   shared_twin : (p q : ℕ) (flavor : Flavor) (P : Pointee) {x y : Value} → Fills s a (hole (pointer_at a p (Some flavor) P)) x → Fills s b (hole (pointer_at b q (Some flavor) P)) y → Renamed to x y
       → Twin s a b to (pointer_at a p (Some flavor) P) (pointer_at b q (Some flavor) P)
-  shared_twin p q flavor P {x} {y} f g z = record { sharing = refl; pointee = refl; length = λ e. cc; filled = x; other = y; left = f; right = g; renamed = z }
+  shared_twin p q flavor P {x} {y} f g z = record { sharing = refl; order = refl; pointee = refl; length = λ e. cc; filled = x; other = y; left = f; right = g; renamed = z }
 
   string_twin : (p q : ℕ) {x y : Value} → Fills s a (hole (string_at a p)) x → Fills s b (hole (string_at b q)) y → Renamed to x y → Twin s a b to (string_at a p) (string_at b q)
   string_twin p q {x} {y} f g z = record {
     sharing = refl;
+    order = refl;
     pointee = refl;
     filled = x;
     other = y;
@@ -221,6 +236,7 @@ module _ (s : Schema) (a b : List ℕ) (to : ℕ → ℕ) where
         let (x, e, fs) = box_filled s a f in let (y, d, gs) = box_filled s b g in
         let r = hole_like (pointer_at a p None P) (pointer_at b q None P) (unique_twin s a b to p q P fs gs (boxes to e d z)) in (r.0, λ z. ap box (r.1 z))
     reads_like (reads_vec {p = p} {X = X}) (reads_vec {p = q}) f g z = hole_like (pointer_at a p None (run X)) (pointer_at b q None (run X)) (unique_twin s a b to p q (run X) f g z)
+    reads_like (reads_map {p = p} {K = K} {V = V}) (reads_map {p = q}) f g z = hole_like (map_at a p K V) (map_at b q K V) (map_twin s a b to p q K V f g z)
     reads_like (reads_inline o h) (reads_inline i k) f g z = (twins_none, λ e. ap text_value (texts to (text_filled s a f) (text_filled s b g) z))
     reads_like (reads_inline {p = p} o h) (reads_out_of_line {p = q} i long) f g z = absurd (inline_short s a b p q f g (λ t u e d. texts to e d z) long)
     reads_like (reads_out_of_line {p = p} i long) (reads_inline {p = q} o h) f g z = absurd (inline_short s b a q p g f (λ t u e d. sym (texts to d e z)) long)

@@ -4,7 +4,7 @@ use Rattle.std.proofs.Common.{refl, ap, ◌∙◌, inl, inr, ⊎_elim, subst, ar
 use Rattle.std.proofs.lemmas.Bool.{and_parts}
 use Rattle.std.proofs.lemmas.Bool.Decides.{nat_tests}
 use Rattle.std.proofs.lemmas.List.{append-nil}
-use Rattle.archive_check.specs.Shape.{Name, Shape, leaf, parts, choice, array, boxed, vec, str, shared, weak, named, Pointee, one, run, text, Parts, no_part, part, Variants, no_variant, variant, Table}
+use Rattle.archive_check.specs.Shape.{Name, Shape, leaf, parts, choice, array, boxed, vec, sorted_map, str, shared, weak, named, Pointee, one, run, text, Parts, no_part, part, Variants, no_variant, variant, Table}
 use Rattle.archive_check.specs.Definitions.{Definitions, no_definition, both, listed}
 use Rattle.archive_check.specs.MissingNames.{or_else, missing, pointee_missing, parts_missing, variants_missing}
 use Rattle.archive_check.specs.BoundedSizes.{fits}
@@ -42,6 +42,7 @@ module _ (table : Table) where
     none_missing (array n X) e = none_missing X e
     none_missing (boxed P) e = none_behind P e
     none_missing (vec X) e = none_missing X e
+    none_missing (sorted_map K X) e = none_missing X e
     none_missing str e = refl
     none_missing (shared flavor P) e = none_behind P e
     none_missing (weak flavor P) e = none_behind P e

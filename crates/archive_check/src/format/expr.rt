@@ -92,6 +92,15 @@ impl Kind {
     }
 }
 
+/// What the keys of a sorted map are. Our own.
+#[derive(Debug, Clone, Copy, PartialEq, Eq)]
+pub enum Key {
+    /// Leaves of a kind, which are ordered by their values: numbers as numbers, chars by their codes, `false` before `true`.
+    Leaf(Kind),
+    /// Strings, which are ordered by the bytes of their texts.
+    Str,
+}
+
 /// A flavor of shared pointers, as rkyv 0.8.18's `Flavor`: its name, which is our own, and whether a value may lie within itself.
 #[derive(Debug, Clone, Copy, PartialEq, Eq)]
 pub struct FlavorInfo {
@@ -117,6 +126,8 @@ pub enum Expr {
     Box(Box<Pointee>),
     /// A pointer to elements of its own, with their number.
     Vec(Box<Expr>),
+    /// A pointer to entries of its own, with their number: records of a key and a value, whose keys ascend strictly. Our own.
+    Map(Key, Box<Expr>),
     /// A string of eight bytes, whose text stands in them or elsewhere.
     Str,
     /// A pointer to what others may point to as well.
@@ -223,6 +234,7 @@ fn same_expressions(a: &Expr, b: &Expr) -> bool
         (Expr::Array(m, x), Expr::Array(n, y)) => m == n && same_expressions(x, y),
         (Expr::Box(x), Expr::Box(y)) => same_pointees(x, y),
         (Expr::Vec(x), Expr::Vec(y)) => same_expressions(x, y),
+        (Expr::Map(k, x), Expr::Map(l, y)) => k == l && same_expressions(x, y),
         (Expr::Str, Expr::Str) => true,
         (Expr::Shared(f, x), Expr::Shared(g, y)) => f == g && same_pointees(x, y),
         (Expr::Weak(f, x), Expr::Weak(g, y)) => f == g && same_pointees(x, y),
@@ -288,6 +300,7 @@ fn copy_expression(expr: &Expr) -> Result<Expr, AllocError>
         Expr::Array(count, x) => Ok(Expr::Array(*count, copy_boxed(x)?)),
         Expr::Box(x) => Ok(Expr::Box(copy_target(x)?)),
         Expr::Vec(x) => Ok(Expr::Vec(copy_boxed(x)?)),
+        Expr::Map(key, x) => Ok(Expr::Map(*key, copy_boxed(x)?)),
         Expr::Str => Ok(Expr::Str),
         Expr::Shared(f, x) => Ok(Expr::Shared(*f, copy_target(x)?)),
         Expr::Weak(f, x) => Ok(Expr::Weak(*f, copy_target(x)?)),

@@ -1,0 +1,85 @@
+-- The entries of maps: where an entry's key and value stand, what it mentions, and its walk.
+use Rattle.std.proofs.Common.{◌≡◌, ℕ, ◌+◌, List, Option, Some, None, cond, is_some, refl, ap, ap₂, arith, w8, w16, w32, w64, w128}
+use Rattle.archive_check.specs.Shape.{Name, Kind, unit, bool, char, number, non_zero, raw_rel, Key, leaf_key, str_key, Flavor, Shape, leaf, str, Parts, no_part, part, key_shape, entry_of}
+use Rattle.archive_check.specs.Layout.{Layouts, up, kind_align, size_of, align_of}
+use Rattle.archive_check.specs.Defined.{Holds, holds_parts, PartsHold, holds_first, holds_later, Mentions, mentions_held, mentions_parts, mentions_first, mentions_later, PartsMention}
+use Rattle.archive_check.specs.Value.{Pointer}
+use Rattle.archive_check.specs.Reads.{Schema}
+use Rattle.archive_check.specs.Tour.{Seen}
+use Rattle.archive_check.specs.Keys.{order_of, Ordered, in_any_order}
+use Rattle.archive_check.specs.Walk.{Walk, walk_parts, WalkParts, walk_no_part, walk_part}
+
+-- a key begins where its entry does
+kind_first : (kind : Kind) → up 0 (kind_align kind) ≡ 0
+kind_first unit = refl
+kind_first bool = refl
+kind_first char = refl
+kind_first (number sign w8) = refl
+kind_first (number sign w16) = refl
+kind_first (number sign w32) = refl
+kind_first (number sign w64) = refl
+kind_first (number sign w128) = refl
+kind_first (non_zero sign w8) = refl
+kind_first (non_zero sign w16) = refl
+kind_first (non_zero sign w32) = refl
+kind_first (non_zero sign w64) = refl
+kind_first (non_zero sign w128) = refl
+kind_first (raw_rel sign w8) = refl
+kind_first (raw_rel sign w16) = refl
+kind_first (raw_rel sign w32) = refl
+kind_first (raw_rel sign w64) = refl
+kind_first (raw_rel sign w128) = refl
+
+pub key_first : (names : Layouts) (K : Key) → up 0 (align_of names (key_shape K)) ≡ 0
+key_first names (leaf_key kind) = kind_first kind
+key_first names str_key = refl
+
+pub key_at : (names : Layouts) (K : Key) (p : ℕ) → p + up 0 (align_of names (key_shape K)) ≡ p
+key_at names K p = omega (arith, key_first names K)
+
+-- and its value behind it
+pub value_at : (names : Layouts) (K : Key) (V : Shape) → up (up 0 (align_of names (key_shape K)) + size_of names (key_shape K)) (align_of names V) ≡ up (size_of names (key_shape K)) (align_of names V)
+value_at names K V = let none = key_first names K in ap (λ n. up n (align_of names V)) (omega (arith, none))
+
+-- a key mentions no name, so an entry mentions those of its value
+no_name_held : {n : Name} (K : Key) → Holds n (key_shape K) → ⊥
+no_name_held (leaf_key kind) h = elim h [ ]
+no_name_held str_key h = elim h [ ]
+
+no_name : {n : Name} (K : Key) → Mentions n (key_shape K) → ⊥
+no_name K (mentions_held h) = no_name_held K h
+no_name (leaf_key kind) m = elim m [ | mentions_held h ↦ elim h [ ] ]
+no_name str_key m = elim m [ | mentions_held h ↦ elim h [ ] ]
+
+entry_holds : {n : Name} {K : Key} {V : Shape} → Holds n (entry_of K V) → Holds n V
+entry_holds {K = K} (holds_parts (holds_first h)) = absurd (no_name_held K h)
+entry_holds (holds_parts (holds_later (holds_first h))) = h
+
+pub entry_mentions : {n : Name} {K : Key} {V : Shape} → Mentions n (entry_of K V) → Mentions n V
+entry_mentions (mentions_held h) = mentions_held (entry_holds h)
+entry_mentions {K = K} (mentions_parts (mentions_first m)) = absurd (no_name K m)
+entry_mentions (mentions_parts (mentions_later (mentions_first m))) = m
+
+-- nothing is asked of the order where others may point, too
+pub shared_ordered : {s : Schema} {bytes : List ℕ} {t n : ℕ} (p : Pointer) {flavor : Flavor} → p.sharing ≡ Some flavor → Ordered s bytes t n (order_of p) p.pointee
+shared_ordered p e = let none : order_of p ≡ None = ap (λ x. cond (is_some x) None p.order) e in rw none in_any_order
+
+module _ (s : Schema) (bytes : List ℕ) (K : Key) (V : Shape) where
+  -- the walk of an entry: that of its key, and then that of its value
+  pub record EntryWalk (pending : List ℕ) (depth : Option ℕ) (stop p start : ℕ) (seen : Seen) (later : ℕ) (last : Seen) : Type 0 where
+    pub mid : ℕ
+    pub known : Seen
+    pub key : Walk s bytes pending depth stop p (key_shape K) start seen mid known
+    pub value : Walk s bytes pending depth stop (p + up (size_of s.layouts (key_shape K)) (align_of s.layouts V)) V mid known later last
+
+  pub entry_walk : {pending : List ℕ} {depth : Option ℕ} {stop p start later : ℕ} {seen last : Seen} → Walk s bytes pending depth stop p (entry_of K V) start seen later last → EntryWalk pending depth stop p start seen later last
+  entry_walk {p = p} (walk_parts (walk_part {mid = mid} {known = known} k (walk_part v walk_no_part))) = record {
+    mid = mid;
+    known = known;
+    key = rw (key_at s.layouts K p) at k;
+    value = rw (value_at s.layouts K V) at v;
+  }
+
+  pub walk_entry : {pending : List ℕ} {depth : Option ℕ} {stop p start mid later : ℕ} {seen known last : Seen} → Walk s bytes pending depth stop p (key_shape K) start seen mid known
+      → Walk s bytes pending depth stop (p + up (size_of s.layouts (key_shape K)) (align_of s.layouts V)) V mid known later last → Walk s bytes pending depth stop p (entry_of K V) start seen later last
+  walk_entry {p = p} k v = walk_parts (walk_part (rw (key_at s.layouts K p) k) (walk_part (rw (value_at s.layouts K V) v) walk_no_part))
