@@ -4,12 +4,13 @@ use Rattle.std.specs.FinMap.{empty}
 use Rattle.archive_check.specs.Shape.{Name, Shape, array, boxed, vec, choice, named, one, run, no_part, part, no_variant, variant}
 use Rattle.archive_check.specs.Value.{Pointer, case, list, box, hole, no_value, value}
 use Rattle.archive_check.specs.Reads.{Schema, LaidOut, bytes_at, u32_at, i32_at, kind_value, pointer_at, Reads, reads_leaf, reads_choice, reads_boxed, reads_vec, reads_named, reads_no_part, reads_part, reads_none, reads_element}
+use Rattle.archive_check.specs.Keys.{in_any_order}
 use Rattle.archive_check.specs.Tour.{Region, region_at, root_region, Contents, contents_one, contents_run, Tour, tour_end, tour_unique, Rising, Accepted}
 use Rattle.archive_check.specs.Walk.{walk_leaf, walk_boxed, walk_vec, follow_unique, enter, walk_one, walk_run, RootWalk}
 use Rattle.archive_check.specs.Trail.{outside, no_such_variant, trips_within, trips_one, trips_array, trips_later_element, trips_element, trips_boxed, trips_unique, trips_range, trips_named, trips_choice, trips_tag, trips_first}
 use Rattle.archive_check.specs.Denotes.{fills_number, fills_case, fills_list, fills_box, fills_unique, fills_no_value, fills_value}
-use Rattle.archive_check.proofs.AcceptedWalks.{walked}
-use Rattle.archive_check.proofs.PlainRuns.{empty_run, plain_run}
+use Rattle.archive_check.proofs.Checks.AcceptedWalks.{walked}
+use Rattle.archive_check.proofs.Checks.PlainRuns.{empty_run, plain_run}
 use Rattle.archive_check.proofs.Examples.Terms.{u8, u32, nothing, option, numbers, no_names, Says, Refused, refused, shares_nothing, laid_out, one_definition}
 
 -- two numbers, and at 8 their vector
@@ -31,7 +32,7 @@ abbrev pub units : List ℕ
 units = 0x00 ∷ 0x00 ∷ 0x00 ∷ 0x00 ∷ 0xff ∷ 0xff ∷ 0xff ∷ 0xff ∷ []
 
 abbrev pub units_pointer : Pointer
-units_pointer = record { target = pos 0; sharing = None; pointee = run nothing; length = 4294967295 }
+units_pointer = record { target = pos 0; sharing = None; order = None; pointee = run nothing; length = 4294967295 }
 
 abbrev pub ManyUnits : Type 0
 ManyUnits = Accepted no_names units 0 (vec nothing) × Reads no_names units 0 (vec nothing) (hole units_pointer)
@@ -114,10 +115,10 @@ two_numbers = record {
     regions = _;
     seen = empty;
     flat = record { fits = lit≤ tt; reads = reads_vec; holes = refl };
-    tour = tour_unique {t = 0} refl (record { target = refl; fits = lit≤ tt; contents = contents_run (reads_element (reads_leaf (record { size = refl; number = tt })) (reads_element (reads_leaf (record { size = refl; number = tt })) reads_none)) }) tour_end tour_end;
+    tour = tour_unique {t = 0} refl (record { target = refl; fits = lit≤ tt; ordered = in_any_order; contents = contents_run (reads_element (reads_leaf (record { size = refl; number = tt })) (reads_element (reads_leaf (record { size = refl; number = tt })) reads_none)) }) tour_end tour_end;
     rising = (lit≤ tt, refl, (lit≤ tt, refl, lit≤ tt));
   };
-  root_value = fills_unique {t = 0} refl (record { target = refl; fits = lit≤ tt; contents = contents_run (reads_element (reads_leaf (record { size = refl; number = tt })) (reads_element (reads_leaf (record { size = refl; number = tt })) reads_none)) })
+  root_value = fills_unique {t = 0} refl (record { target = refl; fits = lit≤ tt; ordered = in_any_order; contents = contents_run (reads_element (reads_leaf (record { size = refl; number = tt })) (reads_element (reads_leaf (record { size = refl; number = tt })) reads_none)) })
       (fills_list (fills_value fills_number (fills_value fills_number fills_no_value)));
   shared = shares_nothing no_names one_two;
 }
@@ -130,10 +131,10 @@ no_numbers = record {
     regions = _;
     seen = empty;
     flat = record { fits = lit≤ tt; reads = reads_vec; holes = refl };
-    tour = tour_unique {t = 0} refl (record { target = refl; fits = lit≤ tt; contents = contents_run reads_none }) tour_end tour_end;
+    tour = tour_unique {t = 0} refl (record { target = refl; fits = lit≤ tt; ordered = in_any_order; contents = contents_run reads_none }) tour_end tour_end;
     rising = (lit≤ tt, refl, (lit≤ tt, refl, lit≤ tt));
   };
-  root_value = fills_unique {t = 0} refl (record { target = refl; fits = lit≤ tt; contents = contents_run reads_none }) (fills_list fills_no_value);
+  root_value = fills_unique {t = 0} refl (record { target = refl; fits = lit≤ tt; ordered = in_any_order; contents = contents_run reads_none }) (fills_list fills_no_value);
   shared = shares_nothing no_names zeros;
 }
 
@@ -162,8 +163,8 @@ eleven_bytes = contents_run (reads_element (reads_leaf (record { size = refl; nu
 
 pub visited_twice : VisitedTwice
 unfolding bytes_at u32_at i32_at
-visited_twice = tour_unique {t = 0} refl (record { target = refl; fits = lit≤ tt; contents = eleven_bytes }) tour_end
-    (tour_unique {t = 0} refl (record { target = refl; fits = lit≤ tt; contents = eleven_bytes }) tour_end tour_end)
+visited_twice = tour_unique {t = 0} refl (record { target = refl; fits = lit≤ tt; ordered = in_any_order; contents = eleven_bytes }) tour_end
+    (tour_unique {t = 0} refl (record { target = refl; fits = lit≤ tt; ordered = in_any_order; contents = eleven_bytes }) tour_end tour_end)
 
 pub twice_is_not_rising : TwiceIsNotRising
 twice_is_not_rising h = omega arith
@@ -202,10 +203,10 @@ one_node_accepted = record {
     regions = _;
     seen = empty;
     flat = record { fits = lit≤ tt; reads = reads_named refl (reads_choice refl (reads_part reads_boxed reads_no_part)); holes = refl };
-    tour = tour_unique {t = 0} refl (record { target = refl; fits = lit≤ tt; contents = contents_one (reads_named refl (reads_choice refl reads_no_part)) }) tour_end tour_end;
+    tour = tour_unique {t = 0} refl (record { target = refl; fits = lit≤ tt; ordered = in_any_order; contents = contents_one (reads_named refl (reads_choice refl reads_no_part)) }) tour_end tour_end;
     rising = (lit≤ tt, refl, (lit≤ tt, refl, lit≤ tt));
   };
-  root_value = fills_case (fills_value (fills_box (fills_unique {t = 0} refl (record { target = refl; fits = lit≤ tt; contents = contents_one (reads_named refl (reads_choice refl reads_no_part)) }) (fills_case fills_no_value))) fills_no_value);
+  root_value = fills_case (fills_value (fills_box (fills_unique {t = 0} refl (record { target = refl; fits = lit≤ tt; ordered = in_any_order; contents = contents_one (reads_named refl (reads_choice refl reads_no_part)) }) (fills_case fills_no_value))) fills_no_value);
   shared = shares_nothing nodes one_node;
 }
 

@@ -6,14 +6,15 @@ use Rattle.std.specs.FinMap.{empty, insert, get, get-insert, get-empty}
 use Rattle.archive_check.specs.Shape.{Name, Flavor, choice, shared, weak, named, Pointee, one, run, no_part, part, no_variant, variant}
 use Rattle.archive_check.specs.Value.{number, case, list, null, shared_value, no_value, value}
 use Rattle.archive_check.specs.Reads.{Schema, LaidOut, bytes_at, u32_at, i32_at, kind_value, reads_leaf, reads_parts, reads_choice, reads_shared, reads_null, reads_named, reads_no_part, reads_part, reads_none, reads_element}
+use Rattle.archive_check.specs.Keys.{in_any_order}
 use Rattle.archive_check.specs.Tour.{Entry, contents_one, contents_run, tour_end, tour_new, tour_again}
 use Rattle.archive_check.specs.Walk.{walk_leaf, walk_shared, follow_new, enter, walk_one, walk_run}
 use Rattle.archive_check.specs.Leaves.{edit}
 use Rattle.archive_check.specs.Tightness.{TightFrom}
 use Rattle.archive_check.specs.Trail.{cyclic, other_type, other_length, trips_within, trips_one, trips_parts, trips_later, trips_first, trips_shared, trips_type, trips_length, trips_cycle, trips_new, trips_named, trips_choice}
 use Rattle.archive_check.specs.Denotes.{Denotes, fills_number, fills_product, fills_case, fills_list, fills_null, fills_shared, fills_no_value, fills_value}
-use Rattle.archive_check.proofs.MeaningExists.{knows_insert}
-use Rattle.archive_check.proofs.PlainRuns.{plain_run}
+use Rattle.archive_check.proofs.Meanings.MeaningExists.{knows_insert}
+use Rattle.archive_check.proofs.Checks.PlainRuns.{plain_run}
 use Rattle.archive_check.proofs.Examples.Terms.{u8, u32, i32, nothing, pair, both, numbers, rc, no_names, Refused, refused, shares_nothing, laid_out, one_definition}
 
 -- how a pointer of the flavor knows a shared pointee
@@ -128,7 +129,7 @@ one_ten = record {
     regions = _;
     seen = _;
     flat = record { fits = lit≤ tt; reads = reads_parts (reads_part reads_shared (reads_part reads_shared reads_no_part)); holes = refl };
-    tour = tour_new {t = 0} refl unmet (record { target = refl; fits = lit≤ tt; contents = contents_one (reads_leaf (record { size = refl; number = tt })) }) tour_end
+    tour = tour_new {t = 0} refl unmet (record { target = refl; fits = lit≤ tt; ordered = in_any_order; contents = contents_one (reads_leaf (record { size = refl; number = tt })) }) tour_end
         (tour_again refl refl (met _) (inl (not_within 0)) tour_end);
     rising = (lit≤ tt, refl, (lit≤ tt, refl, lit≤ tt));
   };
@@ -147,7 +148,7 @@ one_forty_two = record {
     regions = _;
     seen = _;
     flat = record { fits = lit≤ tt; reads = reads_parts (reads_part reads_shared (reads_part reads_shared reads_no_part)); holes = refl };
-    tour = tour_new {t = 0} refl unmet (record { target = refl; fits = lit≤ tt; contents = contents_one (reads_leaf (record { size = refl; number = tt })) }) tour_end
+    tour = tour_new {t = 0} refl unmet (record { target = refl; fits = lit≤ tt; ordered = in_any_order; contents = contents_one (reads_leaf (record { size = refl; number = tt })) }) tour_end
         (tour_again refl refl (met _) (inl (not_within 0)) tour_end);
     rising = (lit≤ tt, refl, (lit≤ tt, refl, lit≤ tt));
   };
@@ -169,7 +170,7 @@ one_unit = record {
     regions = _;
     seen = _;
     flat = record { fits = lit≤ tt; reads = reads_parts (reads_part reads_shared (reads_part reads_shared reads_no_part)); holes = refl };
-    tour = tour_new {t = 0} refl unmet (record { target = refl; fits = lit≤ tt; contents = contents_one (reads_leaf (record { size = refl; number = tt })) }) tour_end
+    tour = tour_new {t = 0} refl unmet (record { target = refl; fits = lit≤ tt; ordered = in_any_order; contents = contents_one (reads_leaf (record { size = refl; number = tt })) }) tour_end
         (tour_again refl refl (met _) (inl (not_within 0)) tour_end);
     rising = (lit≤ tt, refl, (lit≤ tt, refl, lit≤ tt));
   };
@@ -188,8 +189,8 @@ none_and_one_accepted = record {
     regions = _;
     seen = _;
     flat = record { fits = lit≤ tt; reads = reads_parts (reads_part reads_shared (reads_part reads_shared reads_no_part)); holes = refl };
-    tour = tour_new {t = 0} refl unmet (record { target = refl; fits = lit≤ tt; contents = contents_run reads_none }) tour_end
-        (tour_new {t = 4} refl (not_met _) (record { target = refl; fits = lit≤ tt; contents = contents_run (reads_element (reads_leaf (record { size = refl; number = tt })) reads_none) }) tour_end tour_end);
+    tour = tour_new {t = 0} refl unmet (record { target = refl; fits = lit≤ tt; ordered = in_any_order; contents = contents_run reads_none }) tour_end
+        (tour_new {t = 4} refl (not_met _) (record { target = refl; fits = lit≤ tt; ordered = in_any_order; contents = contents_run (reads_element (reads_leaf (record { size = refl; number = tt })) reads_none) }) tour_end tour_end);
     rising = (lit≤ tt, refl, (lit≤ tt, refl, (lit≤ tt, refl, lit≤ tt)));
   };
   root_value = fills_product (fills_value (fills_shared refl refl) (fills_value (fills_shared refl refl) fills_no_value));
@@ -212,7 +213,7 @@ weak_null = record {
     regions = _;
     seen = _;
     flat = record { fits = lit≤ tt; reads = reads_parts (reads_part reads_shared (reads_part (reads_null refl) reads_no_part)); holes = refl };
-    tour = tour_new {t = 0} refl unmet (record { target = refl; fits = lit≤ tt; contents = contents_one (reads_leaf (record { size = refl; number = tt })) }) tour_end tour_end;
+    tour = tour_new {t = 0} refl unmet (record { target = refl; fits = lit≤ tt; ordered = in_any_order; contents = contents_one (reads_leaf (record { size = refl; number = tt })) }) tour_end tour_end;
     rising = (lit≤ tt, refl, (lit≤ tt, refl, lit≤ tt));
   };
   root_value = fills_product (fills_value (fills_shared refl refl) (fills_value fills_null fills_no_value));
@@ -235,7 +236,7 @@ cyclic_accepted = record {
     regions = _;
     seen = _;
     flat = record { fits = lit≤ tt; reads = reads_named refl (reads_choice refl (reads_part reads_shared reads_no_part)); holes = refl };
-    tour = tour_new {t = 0} refl unmet (record { target = refl; fits = lit≤ tt; contents = contents_one (reads_named refl (reads_choice refl (reads_part reads_shared reads_no_part))) })
+    tour = tour_new {t = 0} refl unmet (record { target = refl; fits = lit≤ tt; ordered = in_any_order; contents = contents_one (reads_named refl (reads_choice refl (reads_part reads_shared reads_no_part))) })
         (tour_again refl refl (met _) (inr refl) tour_end) tour_end;
     rising = (lit≤ tt, refl, (lit≤ tt, refl, lit≤ tt));
   };

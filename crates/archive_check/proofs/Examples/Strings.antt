@@ -6,6 +6,7 @@ use Rattle.std.proofs.lemmas.Str.{is_utf8-from_IsUtf8}
 use Rattle.archive_check.specs.Shape.{str}
 use Rattle.archive_check.specs.Value.{text_value}
 use Rattle.archive_check.specs.Reads.{bytes_at, u32_at, i32_at, decoded_length, reads_out_of_line, reads_inline, IsOutOfLine, before_end}
+use Rattle.archive_check.specs.Keys.{in_any_order}
 use Rattle.archive_check.specs.Tour.{contents_text, tour_end, tour_unique}
 use Rattle.archive_check.specs.Denotes.{fills_text, fills_unique}
 use Rattle.archive_check.specs.Tightness.{TightFrom}
@@ -77,10 +78,10 @@ out_of_line = record {
     regions = _;
     seen = empty;
     flat = record { fits = lit≤ tt; reads = reads_out_of_line refl (lit≤ tt); holes = refl };
-    tour = tour_unique {t = 0} refl (record { target = refl; fits = lit≤ tt; contents = contents_text is_hello }) tour_end tour_end;
+    tour = tour_unique {t = 0} refl (record { target = refl; fits = lit≤ tt; ordered = in_any_order; contents = contents_text is_hello }) tour_end tour_end;
     rising = (lit≤ tt, refl, (lit≤ tt, refl, lit≤ tt));
   };
-  root_value = fills_unique {t = 0} refl (record { target = refl; fits = lit≤ tt; contents = contents_text is_hello }) fills_text;
+  root_value = fills_unique {t = 0} refl (record { target = refl; fits = lit≤ tt; ordered = in_any_order; contents = contents_text is_hello }) fills_text;
   shared = shares_nothing no_names hello;
 }
 

@@ -4,20 +4,21 @@ use Rattle.archive_check.specs.declared.format.error.Error.{Error}
 use Rattle.archive_check.specs.declared.context.range.Region.{Region}
 use Rattle.archive_check.specs.Value.{Pointer}
 use Rattle.archive_check.specs.Reads.{Schema}
-use Rattle.archive_check.specs.Ranges.{RangeState, one_more, pop_answer, popped}
+use Rattle.archive_check.specs.context.Ranges.{RangeState, one_more, pop_answer, popped}
 use Rattle.archive_check.specs.Tour.{Seen, region_of, pointee_size, pointee_align}
+use Rattle.archive_check.specs.Keys.{order_of}
 use Rattle.archive_check.specs.Walk.{enter}
 use Rattle.archive_check.specs.Trail.{Fault, TripsEnter, trips_size, trips_range, trips_align, trips_depth, trips_within}
 use Rattle.archive_check.specs.Definitions.{Definitions, Knows}
 use Rattle.archive_check.specs.Outcomes.{refused}
-use Rattle.archive_check.specs.FreshContexts.{HasLevels}
-use Rattle.archive_check.specs.BoundedSizes.{fits}
-use Rattle.archive_check.specs.EnteredRegions.{NotEntered, not_sized, not_within, not_aligned, not_allowed, EntersNot, Begun}
+use Rattle.archive_check.specs.context.FreshContexts.{HasLevels}
+use Rattle.archive_check.specs.Words.BoundedSizes.{fits}
+use Rattle.archive_check.specs.context.EnteredRegions.{NotEntered, not_sized, not_within, not_aligned, not_allowed, EntersNot, Begun}
 use Rattle.archive_check.specs.SelfCheck.Ways.{Goes, Halts, enter_way}
 use Rattle.archive_check.specs.SelfCheck.Regions.{contents_way}
 use Rattle.archive_check.proofs.BoundedSizes.{some_is, some_below, none_is}
-use Rattle.archive_check.proofs.RangeLevels.{taken_back, not_taken, levels_inside, inside_few, level_back}
-use Rattle.archive_check.proofs.Depths.{levels_allow}
+use Rattle.archive_check.proofs.Checks.RangeLevels.{taken_back, not_taken, levels_inside, inside_few, level_back}
+use Rattle.archive_check.proofs.Checks.Depths.{levels_allow}
 
 -- a region of N bytes, aligned so, whatever schema knows the definitions
 module _ (D : Definitions) (bytes : List ℕ) (p : Pointer) (N align : ℕ)
@@ -49,7 +50,7 @@ module _ (D : Definitions) (bytes : List ℕ) (p : Pointer) (N align : ℕ)
     room t k = omega (arith, sized t k, some_is (sym is), h.lands.below)
 
     -- what the region holds is gone through, and it is left
-    pub region_goes : (s1 s2 : RangeState) → Goes D (contents_way bytes r.begin p.pointee p.length) s' s1 → s2 ≡ popped s1 r.outer_start r.outer_end → Goes D (enter_way bytes p) s s2
+    pub region_goes : (s1 s2 : RangeState) → Goes D (contents_way bytes r.begin (order_of p) p.pointee p.length) s' s1 → s2 ≡ popped s1 r.outer_start r.outer_end → Goes D (enter_way bytes p) s s2
     region_goes s1 s2 goes left = record {
       end = ap (λ q. q.end) left ∙ h.outer_end;
       depth = λ some. ap (λ q. q.depth) left ∙ ap one_more (goes.depth (within some) ∙ h.depth) ∙ level_back s.depth some.levels;
@@ -61,17 +62,17 @@ module _ (D : Definitions) (bytes : List ℕ) (p : Pointer) (N align : ℕ)
     }
 
     -- a region whose contents are gone through can be left
-    pub region_left : (s1 : RangeState) (e : Error) → Goes D (contents_way bytes r.begin p.pointee p.length) s' s1 → pop_answer s1 r.outer_start ≡ Err e → Halts D (enter_way bytes p) s e
+    pub region_left : (s1 : RangeState) (e : Error) → Goes D (contents_way bytes r.begin (order_of p) p.pointee p.length) s' s1 → pop_answer s1 r.outer_start ≡ Err e → Halts D (enter_way bytes p) s e
     region_left s1 e goes fails some =
         let end : s1.end ≡ r.begin = goes.end ∙ h.end in
         let fine = taken_back s1 r.outer_start (omega (arith, end, h.outer_start)) (λ d f. inside_few s.depth some d (sym (goes.depth (within some) ∙ h.depth) ∙ f)) in
         absurd (not_taken s1 r.outer_start e fails fine)
 
     -- what the region holds is refused
-    trips_inner : HasLevels s.depth → (f : Fault) (t : Schema) → Knows t D → (pending : List ℕ) (seen : Seen) → contents_way bytes r.begin p.pointee p.length t pending s'.depth s'.end s'.start seen (refused f) → TripsEnter t bytes pending s.depth s.end p s.start seen f
+    trips_inner : HasLevels s.depth → (f : Fault) (t : Schema) → Knows t D → (pending : List ℕ) (seen : Seen) → contents_way bytes r.begin (order_of p) p.pointee p.length t pending s'.depth s'.end s'.start seen (refused f) → TripsEnter t bytes pending s.depth s.end p s.start seen f
     trips_inner some f t k pending seen w =
         let al : pointee_align t p.pointee ≡ align = aligned t k in
         trips_within {p = p} h.lands.target h.lands.above (room t k) (rw al h.lands.aligned) (levels_allow s.depth some.levels h.deep) (rw (h.depth, h.end, h.start) at w)
 
-    pub region_halts : (e : Error) → Halts D (contents_way bytes r.begin p.pointee p.length) s' e → Halts D (enter_way bytes p) s e
+    pub region_halts : (e : Error) → Halts D (contents_way bytes r.begin (order_of p) p.pointee p.length) s' e → Halts D (enter_way bytes p) s e
     region_halts e halts some = let f = halts (within some) in (f.0, f.1, λ t k pending seen. trips_inner some f.0 t k pending seen (f.2 t k pending seen))

@@ -5,14 +5,14 @@ use Rattle.archive_check.specs.declared.format.error.Error.{Error}
 use Rattle.archive_check.specs.Shape.{Shape, Pointee, Parts, Variants, variant_at}
 use Rattle.archive_check.specs.Value.{Pointer}
 use Rattle.archive_check.specs.Reads.{Schema}
-use Rattle.archive_check.specs.Ranges.{RangeState}
+use Rattle.archive_check.specs.context.Ranges.{RangeState}
 use Rattle.archive_check.specs.Tour.{Seen}
 use Rattle.archive_check.specs.Walk.{Walk, WalkParts, WalkRun, Enter}
 use Rattle.archive_check.specs.Trail.{Fault, Trips, TripsParts, TripsRun, TripsEnter}
-use Rattle.archive_check.specs.Faults.{IsFor}
+use Rattle.archive_check.specs.Words.Faults.{IsFor}
 use Rattle.archive_check.specs.Definitions.{Definitions, Knows}
 use Rattle.archive_check.specs.Outcomes.{Outcome, done, refused}
-use Rattle.archive_check.specs.FreshContexts.{HasLevels}
+use Rattle.archive_check.specs.context.FreshContexts.{HasLevels}
 
 -- a way through an archive, under a schema: by what is pending, the levels left, the range's end and start, what is seen, and the outcome
 abbrev pub Way : Type 1
@@ -35,7 +35,7 @@ run_way bytes p n X s pending depth stop start seen (refused f) = TripsRun s byt
 
 -- a pointer to a region that is its own alone
 abbrev pub owned : ℤ → Pointee → ℕ → Pointer
-owned z P n = record { target = z; sharing = None; pointee = P; length = n }
+owned z P n = record { target = z; sharing = None; order = None; pointee = P; length = n }
 
 -- the region is entered that the pointer leads to
 abbrev pub enter_way : List ℕ → Pointer → Way

@@ -14,7 +14,7 @@ returns-clause-through g c =
     let b = c.args.bytes.now in
     let s = g.C.Context.state c.args.context.now in
     let z = to_z w128 (of_z w128 c.read_position.result) in
-    let p : Pointer = record { target = z; sharing = None; pointee = text; length = c.read_u32-count.result } in
+    let p : Pointer = record { target = z; sharing = None; order = None; pointee = text; length = c.read_u32-count.result } in
     let fits : SFits w128 c.read_position.result = record { sfits = c.read_position.type_inv } in
     let z_is = to_z-of_z w128 c.read_position.result fits ∙ c.read_position.ensures in
     goes_by no_definition no_definition (enter_way b p) (shape_way b c.args.at (boxed text)) s (λ t k. k) (λ t k pending seen o w. boxed_way b t pending s.depth s.end s.start seen c.args.at text o (rw (z_is, c.read_u32-count.ensures) at w)) (g.C.Context.state c.check_text.new.context) c.check_text.result c.check_text.ensures.through
@@ -24,7 +24,7 @@ returns-clause-stops g c d =
     let b = c.args.bytes.now in
     let s = g.C.Context.state c.args.context.now in
     let z = to_z w128 (of_z w128 c.read_position.result) in
-    let p : Pointer = record { target = z; sharing = None; pointee = text; length = c.read_u32-count.result } in
+    let p : Pointer = record { target = z; sharing = None; order = None; pointee = text; length = c.read_u32-count.result } in
     let fits : SFits w128 c.read_position.result = record { sfits = c.read_position.type_inv } in
     let z_is = to_z-of_z w128 c.read_position.result fits ∙ c.read_position.ensures in
     halts_by no_definition no_definition (enter_way b p) (shape_way b c.args.at (boxed text)) s (λ t k. k) (λ t k pending seen o w. boxed_way b t pending s.depth s.end s.start seen c.args.at text o (rw (z_is, c.read_u32-count.ensures) at w)) c.check_text.new.refusal c.check_text.result c.check_text.ensures.stops

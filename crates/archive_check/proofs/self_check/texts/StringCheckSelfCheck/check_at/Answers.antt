@@ -9,7 +9,7 @@ use Rattle.archive_check.specs.Walk.{walk_inline}
 use Rattle.archive_check.specs.Trail.{no_text, no_string, trips_short, trips_inline}
 use Rattle.archive_check.specs.SelfCheck.Ways.{Halts, enter_way, shape_way}
 use Rattle.archive_check.proofs.SelfCheck.Outcomes.{if_none}
-use Rattle.archive_check.proofs.TestedAnswers.{not_true, is_true}
+use Rattle.archive_check.proofs.Checks.TestedAnswers.{not_true, is_true}
 use Rattle.archive_check.proofs.SelfCheck.Ways.{goes_same, goes_by, halts_by}
 use Rattle.archive_check.proofs.SelfCheck.Steps.{string_way}
 use Rattle.archive_check.proofs.self_check.texts.StringCheckSelfCheck.check_at.Goals as goal
@@ -26,7 +26,7 @@ returns-then-is_out_of_line-clause-through g c =
     let s = g.C.Context.state c.args.context.now in
     let z = to_z w128 (of_z w128 c.read_position-position.result) in
     let n = c.read_coded_length-length.result in
-    let p : Pointer = record { target = z; sharing = None; pointee = text; length = n } in
+    let p : Pointer = record { target = z; sharing = None; order = None; pointee = text; length = n } in
     let fits : SFits w128 c.read_position-position.result = record { sfits = c.read_position-position.type_inv } in
     let z_is = to_z-of_z w128 c.read_position-position.result fits ∙ c.read_position-position.ensures in
     goes_by no_definition no_definition (enter_way b p) (shape_way b c.args.at str) s (λ t k. k) (λ t k pending seen o w. string_way b t pending s.depth s.end s.start seen c.args.at o (c.is_out_of_line.ensures.0 (is_true c.is_out_of_line.result c.if-is_out_of_line.true)) (rw c.read_coded_length-length.ensures at c.if-length-le8.false) (rw (z_is, c.read_coded_length-length.ensures) at w)) (g.C.Context.state c.check_text.new.context) c.check_text.result c.check_text.ensures.through
@@ -37,7 +37,7 @@ returns-then-is_out_of_line-clause-stops g c d =
     let s = g.C.Context.state c.args.context.now in
     let z = to_z w128 (of_z w128 c.read_position-position.result) in
     let n = c.read_coded_length-length.result in
-    let p : Pointer = record { target = z; sharing = None; pointee = text; length = n } in
+    let p : Pointer = record { target = z; sharing = None; order = None; pointee = text; length = n } in
     let fits : SFits w128 c.read_position-position.result = record { sfits = c.read_position-position.type_inv } in
     let z_is = to_z-of_z w128 c.read_position-position.result fits ∙ c.read_position-position.ensures in
     halts_by no_definition no_definition (enter_way b p) (shape_way b c.args.at str) s (λ t k. k) (λ t k pending seen o w. string_way b t pending s.depth s.end s.start seen c.args.at o (c.is_out_of_line.ensures.0 (is_true c.is_out_of_line.result c.if-is_out_of_line.true)) (rw c.read_coded_length-length.ensures at c.if-length-le8.false) (rw (z_is, c.read_coded_length-length.ensures) at w)) c.check_text.new.refusal c.check_text.result c.check_text.ensures.stops

@@ -1,0 +1,3 @@
+-- Maps: their entries, and the order of their keys.
+pub mod Entries
+pub mod KeptOrder
