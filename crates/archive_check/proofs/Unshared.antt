@@ -3,7 +3,7 @@ use Rattle.std.proofs.Common.{◌≡◌, ◌∙◌, ⊎_elim, ℕ, zero, suc, Li
 use Rattle.std.proofs.Math.Logic.{∥∥₁_elim}
 use Rattle.std.proofs.lemmas.List.Elements.{All-nil, All-cons, All-append, All-contains, Contains-push}
 use Rattle.std.proofs.lemmas.Bool.{and_parts}
-use Rattle.archive_check.specs.Shape.{Name, Flavor, Shape, Pointee, one, run, Parts, Variants, no_variant, variant, definition, variant_at}
+use Rattle.archive_check.specs.Shape.{Name, Key, leaf_key, str_key, entry_of, Flavor, Shape, Pointee, one, run, Parts, Variants, no_variant, variant, definition, variant_at}
 use Rattle.archive_check.specs.Value.{Pointer, Value, Values, pointers, all_pointers}
 use Rattle.archive_check.specs.Reads.{Schema, pointer_at, map_at, string_at, Reads, reads_leaf, reads_parts, reads_choice, reads_array, reads_boxed, reads_vec, reads_map, reads_inline, reads_out_of_line, reads_shared, reads_null, reads_weak, reads_named, ReadsParts, reads_no_part, reads_part, ReadsRun, reads_none, reads_element}
 use Rattle.archive_check.specs.Tour.{Contents, contents_one, contents_run, contents_text, root_region, Accepted}

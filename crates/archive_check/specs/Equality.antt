@@ -122,6 +122,15 @@ own_kind (number s w) = own_number s w
 own_kind (non_zero s w) = own_number s w
 own_kind (raw_rel s w) = own_number s w
 
+one_key : (k l : Key) → same_key k l ≡ true → k ≡ l
+one_key (leaf_key k) (leaf_key l) h = λ i. leaf_key (one_kind k l h i)
+one_key str_key str_key h = refl
+one_key _ _ h = never h
+
+own_key : (k : Key) → same_key k k ≡ true
+own_key (leaf_key k) = own_kind k
+own_key str_key = refl
+
 one_name : (m n : Name) → bytes_eq m n ≡ true → m ≡ n
 one_name m n h = (bytes_decides m n).0 h
 

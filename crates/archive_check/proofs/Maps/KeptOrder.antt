@@ -1,20 +1,18 @@
 -- Keys that stay as they are stay in their order.
-use Rattle.std.proofs.Common.{◌≡◌, ◌⊎◌, inl, inr, ℕ, zero, suc, ◌+◌, ◌-◌, ◌*◌, ◌/◌, ◌≤◌, ◌==◌, if◌then◌else◌, ℤ, pos, ◌+ℤ◌, List, [], ◌∷◌, ◌++◌, length, slice_index, Option, Some, None, Bool, true, false, All, Contains, refl, sym, ap, ap₂, ◌∙◌, subst, arith, nat_cmp, nat_eq, nat_tests}
-use Rattle.std.proofs.lemmas.List.Elements.{All-nil, All-cons, All-contains, Contains-append_left, Contains-push}
-use Rattle.std.specs.Ordering.{int_cmp}
+use Rattle.std.proofs.Common.{◌≡◌, inl, inr, ℕ, zero, suc, ◌+◌, ◌/◌, ◌==◌, if◌then◌else◌, pos, ◌+ℤ◌, List, length, slice_index, Option, Some, None, Bool, true, false, refl, ap, ◌∙◌, arith, nat_eq}
+use Rattle.std.proofs.lemmas.Bool.Decides.{nat_tests}
+use Rattle.std.specs.Ordering.{int_cmp, nat_cmp}
 use Rattle.std.specs.Cmp.Lexicographic.{slice_cmp}
-use Rattle.archive_check.specs.Shape.{Kind, Key, leaf_key, str_key, Flavor, Shape, parts, str, Pointee, one, run, text, key_shape, entry_of}
+use Rattle.archive_check.specs.Shape.{Key, leaf_key, str_key, Pointee, one, run, text}
 use Rattle.archive_check.specs.Layout.{kind_size, size_of}
-use Rattle.archive_check.specs.Value.{Pointer, Value, Values, list, product, hole, value, pointers, all_pointers}
-use Rattle.archive_check.specs.Reads.{Schema, LaidOut, bytes_at, u32_at, i32_at, kind_value, IsOutOfLine, before_end, decoded_length, string_at, Reads, reads_parts, reads_inline, reads_out_of_line, ReadsParts, reads_part, ReadsRun, reads_none, reads_element}
+use Rattle.archive_check.specs.Value.{Pointer}
+use Rattle.archive_check.specs.Reads.{Schema, bytes_at, u32_at, i32_at, kind_value, IsOutOfLine, before_end, decoded_length}
 use Rattle.archive_check.specs.Readable.{position, target_from, string_text}
 use Rattle.archive_check.specs.Keys.{order_of, key_cmp, ComesBehind, Ascend, Ordered, in_any_order, in_key_order}
-use Rattle.archive_check.specs.Tour.{Region, region_of, pointee_size, Rising, Contents, contents_one, contents_run, contents_text, Leads, Seen, Tour, tour_end, tour_unique, tour_new, tour_again}
+use Rattle.archive_check.specs.Tour.{Region, Seen, Tour, tour_end, tour_unique, tour_new, tour_again}
 use Rattle.archive_check.specs.Leaves.{Leaf, leaf_begin, leaf_size, Beside, IsBesideKey, AreBesideKeys, IsBesideKeysOf, IsFreeOn}
-use Rattle.archive_check.proofs.Tours.EqualBytes.{Agrees, agrees_part, byte_same, u32_same, i32_same}
-use Rattle.archive_check.proofs.Tours.JoinedTours.{rising_le, rising_front, rising_back}
+use Rattle.archive_check.proofs.Tours.EqualBytes.{Agrees, byte_same, u32_same, i32_same}
 use Rattle.archive_check.proofs.Editing.EditedBytes.{Edits}
-use Rattle.archive_check.proofs.Maps.Entries.{key_at}
 
 module _ (bytes new : List ℕ) where
   -- the text of the string at q is as it was, wherever it stands
@@ -102,41 +100,3 @@ module _ (bytes new b : List ℕ) (x : Leaf) (d : Edits bytes new (leaf_begin x)
   free_keeps {s} (tour_unique {p = p} {t = t} e h i j) f = (order_same bytes new (order_beside s t p.length (order_of p) p.pointee f.0) h.ordered, free_keeps i f.1, free_keeps j f.2)
   free_keeps {s} (tour_new {p = p} {t = t} e none h i j) f = (order_same bytes new (order_beside s t p.length (order_of p) p.pointee f.0) h.ordered, free_keeps i f.1, free_keeps j f.2)
   free_keeps (tour_again e t known free j) f = free_keeps j f
-
--- where the bytes of a tour's regions stay, as when more are written behind them
-
--- the pointer, where it is unique, leads to what lies between two positions
-record Spans (s : Schema) (start stop : ℕ) (p : Pointer) : Type 0 where
-  at : p.sharing ≡ None → (t : ℕ) × (p.target ≡ pos t) × (start ≤ t) × (t + pointee_size s p.pointee p.length ≤ stop)
-
-module _ (s : Schema) (bytes new : List ℕ) where
-  spans_more : (a b c d : ℕ) → c ≤ a → b ≤ d → (O : List Pointer) → All (Spans s a b) O → All (Spans s c d) O
-  spans_more a b c d low high O h = λ k p l. record { at = λ e. let (t, there, above, below) = (h k p l).at e in (t, there, omega (arith, above), omega (arith, below)) }
-
-  tour_spans : {pending : List ℕ} {seen last : Seen} {O : List Pointer} {C : List Region} (i : Tour s bytes pending seen O C last) (start stop : ℕ) → Rising start C stop → All (Spans s start stop) O
-  tour_spans tour_end start stop rising = All-nil _
-  tour_spans (tour_unique {p = p} {ps = ps} {t = t} {C = C} {D = D} e h i j) start stop rising =
-      let back = rising_back start C (region_of s p t) D stop rising in
-      let above = rising_le start C t (rising_front start C (region_of s p t) D stop rising) in
-      let below = rising_le (t + pointee_size s p.pointee p.length) D stop back in
-      All-cons (Spans s start stop) p ps (record { at = λ f. (t, h.target, above, below) }) (spans_more (t + pointee_size s p.pointee p.length) stop start stop (omega arith) (omega arith) ps (tour_spans j (t + pointee_size s p.pointee p.length) stop back))
-  tour_spans (tour_new {p = p} {ps = ps} {t = t} {C = C} {D = D} e none h i j) start stop rising =
-      let back = rising_back start C (region_of s p t) D stop rising in
-      let above = rising_le start C t (rising_front start C (region_of s p t) D stop rising) in
-      let below = rising_le (t + pointee_size s p.pointee p.length) D stop back in
-      All-cons (Spans s start stop) p ps (record { at = λ f. (t, h.target, above, below) }) (spans_more (t + pointee_size s p.pointee p.length) stop start stop (omega arith) (omega arith) ps (tour_spans j (t + pointee_size s p.pointee p.length) stop back))
-  tour_spans (tour_again {p = p} {ps = ps} e t known free j) start stop rising =
-      All-cons (Spans s start stop) p ps (record { at = λ f. let never : Some _ ≡ None = sym e ∙ f in cc }) (tour_spans j start stop rising)
-
-  -- a string's text lies in the string or between those positions
-  text_stays : {q : ℕ} {v : Value} (start stop a c : ℕ) → a ≤ start → stop ≤ c → Reads s bytes q str v → All (Spans s start stop) (pointers v) → Agrees bytes new a (c - a) → TextStays bytes new q
-  text_stays start stop a c low high (reads_inline o u) h same out = absurd (o out)
-  text_stays {q = q} start stop a c low high (reads_out_of_line o long) h same out =
-      let (t, there, above, below) = (All-contains (Spans s start stop) (string_at bytes q ∷ []) (string_at bytes q) h (Contains-push [] (string_at bytes q))).at refl in
-      let target : target_from bytes q (q + 4) ≡ t = ap position there in
-      rw target (agrees_part bytes new {p = a} {n = c - a} t (decoded_length (u32_at bytes q)) (omega (arith, above, low)) (omega (arith, below, above, low, high)) same)
-
-  key_stays : (K : Key) {q : ℕ} {v : Value} (start stop a c : ℕ) → a ≤ start → stop ≤ c → a ≤ q → q + size_of s.layouts (key_shape K) ≤ c → Reads s bytes q (key_shape K) v → All (Spans s start stop) (pointers v) → Agrees bytes new a (c - a)
-      → KeyStays bytes new K q
-  key_stays (leaf_key kind) {q = q} start stop a c low high from upto r h same = agrees_part bytes new {p = a} {n = c - a} q (kind_size kind) from (omega (arith, upto)) same
-  key_stays str_key {q = q} start stop a c low high from upto r h same = (agrees_part bytes new {p = a} {n = c - a} q 8 from (omega (arith, upto)) same, text_stays start stop a c low high r h same)
