@@ -17,6 +17,7 @@ pub mod Outcomes
 pub mod Denotes
 pub mod Leaves
 pub mod Within
+pub mod ComesTo
 pub mod Reached
 pub mod Tightness
 pub mod Tidy

@@ -7,3 +7,4 @@ pub mod Owners
 pub mod Arrays
 pub mod Lone
 pub mod Steps
+pub mod Maps

@@ -5,6 +5,7 @@ pub mod defs;
 pub mod error;
 pub mod expr;
 pub mod extents;
+pub mod keys;
 pub mod layout;
 pub mod leaf;
 pub mod traits;

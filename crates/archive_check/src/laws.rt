@@ -2,7 +2,7 @@
 //! definitions, which `specs/Laws.antt` states and docs/DEFINITIONS.md lists.
 
 ghost use Rattle.archive_check.specs.LittleEndian.{AreBytes};
-ghost use Rattle.archive_check.specs.Laws.{MeaningExists, MeaningUnique, AcceptedWhereWalked, FaultyNotWalked, RegionsDisjoint, LeavesInRegions, LeafWritten, PartsReached, ReachedUnique, RootReached, PointersReached, WithinReached, ElementsReached, EncodingUnique, PartsInside, LayoutsExist, LayoutUnique, ReadingUnique, TourUnique, FaultWithoutLimit, FaultUnique, SameReflexive, SameSymmetric, SameTransitive, PartsReachedMeaning, ReachedMeaningUnique, NamesKnown, RootReachedMeaning, SaidReached, UniqueBefore, KnownWhereWellFormed, NeverCyclic, SharedKnown, TidyUnique, OneList};
+ghost use Rattle.archive_check.specs.Laws.{MeaningExists, MeaningUnique, AcceptedWhereWalked, FaultyNotWalked, RegionsDisjoint, LeavesInRegions, LeafWritten, ComeToFree, PartsReached, ReachedUnique, RootReached, PointersReached, WithinReached, ElementsReached, EncodingUnique, PartsInside, LayoutsExist, LayoutUnique, ReadingUnique, TourUnique, FaultWithoutLimit, FaultUnique, SameReflexive, SameSymmetric, SameTransitive, PartsReachedMeaning, ReachedMeaningUnique, NamesKnown, RootReachedMeaning, SaidReached, UniqueBefore, KnownWhereWellFormed, NeverCyclic, SharedKnown, TidyUnique, OneList};
 
 /// An accepted buffer has a meaning.
 pub fn meaning_exists()
@@ -34,9 +34,15 @@ pub fn leaves_in_regions()
     ensures { LeavesInRegions }
 {}
 
-/// Where legal bytes are written over a leaf, every archive in which it stands stays one, with the same tour, and changes in that leaf alone.
+/// Where legal bytes are written over a leaf that is no key's, every archive in which it stands stays one, with the same tour, and changes in that
+/// leaf alone.
 pub fn leaf_written()
     ensures { LeafWritten }
+{}
+
+/// What seals come to has no byte of a key, nor of a key's text: a leaf that lies there is free to be written over.
+pub fn come_to_free()
+    ensures { ComeToFree }
 {}
 
 /// Each part of an archive says something.

@@ -14,6 +14,7 @@ use crate::format::error::Error;
 
 mod arrays;
 mod elements;
+mod entries;
 mod leaves;
 mod parts;
 mod roots;
@@ -24,6 +25,7 @@ mod variants;
 
 pub use arrays::ArrayCheck;
 pub use elements::VecCheck;
+pub use entries::MapCheck;
 pub use leaves::check_leaf;
 pub use parts::{CheckedParts, RecordCheck};
 pub use roots::check_root;

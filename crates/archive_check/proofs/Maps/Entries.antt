@@ -1,8 +1,8 @@
 -- The entries of maps: where an entry's key and value stand, what it mentions, and its walk.
 use Rattle.std.proofs.Common.{◌≡◌, ℕ, ◌+◌, List, Option, Some, None, cond, is_some, refl, ap, ap₂, arith, w8, w16, w32, w64, w128}
-use Rattle.archive_check.specs.Shape.{Name, Kind, unit, bool, char, number, non_zero, raw_rel, Key, leaf_key, str_key, Flavor, Shape, leaf, str, Parts, no_part, part, key_shape, entry_of}
+use Rattle.archive_check.specs.Shape.{Kind, unit, bool, char, number, non_zero, raw_rel, Key, leaf_key, str_key, Flavor, Shape, key_shape, entry_of}
 use Rattle.archive_check.specs.Layout.{Layouts, up, kind_align, size_of, align_of}
-use Rattle.archive_check.specs.Defined.{Holds, holds_parts, PartsHold, holds_first, holds_later, Mentions, mentions_held, mentions_parts, mentions_first, mentions_later, PartsMention}
+pub use Rattle.archive_check.specs.SelfCheck.Maps.{entry_mentions}
 use Rattle.archive_check.specs.Value.{Pointer}
 use Rattle.archive_check.specs.Reads.{Schema}
 use Rattle.archive_check.specs.Tour.{Seen}
@@ -10,7 +10,7 @@ use Rattle.archive_check.specs.Keys.{order_of, Ordered, in_any_order}
 use Rattle.archive_check.specs.Walk.{Walk, walk_parts, WalkParts, walk_no_part, walk_part}
 
 -- a key begins where its entry does
-kind_first : (kind : Kind) → up 0 (kind_align kind) ≡ 0
+pub kind_first : (kind : Kind) → up 0 (kind_align kind) ≡ 0
 kind_first unit = refl
 kind_first bool = refl
 kind_first char = refl
@@ -40,25 +40,6 @@ key_at names K p = omega (arith, key_first names K)
 -- and its value behind it
 pub value_at : (names : Layouts) (K : Key) (V : Shape) → up (up 0 (align_of names (key_shape K)) + size_of names (key_shape K)) (align_of names V) ≡ up (size_of names (key_shape K)) (align_of names V)
 value_at names K V = let none = key_first names K in ap (λ n. up n (align_of names V)) (omega (arith, none))
-
--- a key mentions no name, so an entry mentions those of its value
-no_name_held : {n : Name} (K : Key) → Holds n (key_shape K) → ⊥
-no_name_held (leaf_key kind) h = elim h [ ]
-no_name_held str_key h = elim h [ ]
-
-no_name : {n : Name} (K : Key) → Mentions n (key_shape K) → ⊥
-no_name K (mentions_held h) = no_name_held K h
-no_name (leaf_key kind) m = elim m [ | mentions_held h ↦ elim h [ ] ]
-no_name str_key m = elim m [ | mentions_held h ↦ elim h [ ] ]
-
-entry_holds : {n : Name} {K : Key} {V : Shape} → Holds n (entry_of K V) → Holds n V
-entry_holds {K = K} (holds_parts (holds_first h)) = absurd (no_name_held K h)
-entry_holds (holds_parts (holds_later (holds_first h))) = h
-
-pub entry_mentions : {n : Name} {K : Key} {V : Shape} → Mentions n (entry_of K V) → Mentions n V
-entry_mentions (mentions_held h) = mentions_held (entry_holds h)
-entry_mentions {K = K} (mentions_parts (mentions_first m)) = absurd (no_name K m)
-entry_mentions (mentions_parts (mentions_later (mentions_first m))) = m
 
 -- nothing is asked of the order where others may point, too
 pub shared_ordered : {s : Schema} {bytes : List ℕ} {t n : ℕ} (p : Pointer) {flavor : Flavor} → p.sharing ≡ Some flavor → Ordered s bytes t n (order_of p) p.pointee

@@ -197,13 +197,13 @@ module _ (s : Schema) (bytes : List ℕ) where
   within_trans w (in_array v below) = in_array (within_trans w v) below
   within_trans w (in_named v d) = in_named (within_trans w v) d
 
-  part_within : {r : Region} {q : ℕ} {P : Pointee} {n : ℕ} {Y : Shape} {z : ℕ} {Z : Shape} → PartOf s bytes r q P n → P ≡ one Y → Within s bytes q Y z Z → PartOf s bytes r z (one Z) 0
+  pub part_within : {r : Region} {q : ℕ} {P : Pointee} {n : ℕ} {Y : Shape} {z : ℕ} {Z : Shape} → PartOf s bytes r q P n → P ≡ one Y → Within s bytes q Y z Z → PartOf s bytes r z (one Z) 0
   part_within whole_region same w = in_one same w
   part_within {Y = Y} (in_one {Y = V} e v) same w = let here : V ≡ Y = cc in in_one e (within_trans (rw here at v) w)
   part_within {Y = Y} (in_run {Y = V} e below v) same w = let here : V ≡ Y = cc in in_run e below (within_trans (rw here at v) w)
   part_within (in_string i inline) same w = cc
 
-  part_element : {r : Region} {q : ℕ} {P : Pointee} {n : ℕ} {Y : Shape} {k : ℕ} → PartOf s bytes r q P n → P ≡ run Y → k < n → PartOf s bytes r (q + k * size_of s.layouts Y) (one Y) 0
+  pub part_element : {r : Region} {q : ℕ} {P : Pointee} {n : ℕ} {Y : Shape} {k : ℕ} → PartOf s bytes r q P n → P ≡ run Y → k < n → PartOf s bytes r (q + k * size_of s.layouts Y) (one Y) 0
   part_element whole_region same below = in_run same below whole
   part_element (in_one e v) same below = cc
   part_element (in_run e under v) same below = cc
