@@ -1,6 +1,8 @@
 -- The order of a map's keys: how two of them compare, and when those of a region ascend.
 use Rattle.std.specs.Prelude.{◌≡◌, ℕ, zero, suc, ◌+◌, List, Option, Some, None, cond, is_some}
-use Rattle.std.specs.Ordering.{Ordering, Less, int_cmp, nat_cmp}
+use Rattle.std.specs.declared.cmp.Ordering.{Ordering}
+use Rattle.std.specs.declared.cmp.Ordering.TheVariants.{Less}
+use Rattle.std.specs.Ordering.{int_cmp, nat_cmp}
 use Rattle.std.specs.Cmp.Lexicographic.{slice_cmp}
 use Rattle.archive_check.specs.Shape.{Kind, Key, leaf_key, str_key, Shape, Pointee, run, entry_of}
 use Rattle.archive_check.specs.Layout.{kind_size, size_of}

@@ -72,7 +72,7 @@ module _ (s : Schema) (laid : LaidOut s) (bytes new b : List ℕ) (x y : Leaf) (
   pub tour_same : {pending : List ℕ} {seen last : Seen} {O : List Pointer} {C : List Region} (i : Tour s bytes pending seen O C last) → StaysOrdered new i → (start stop : ℕ) → Rising start C stop → Stay start stop
       → SameAll s bytes new x y O × ((but : Option ℕ) → Known but seen → Known but last)
   tour_same tour_end f start stop rising stay = (tt, λ but h. h)
-  tour_same (tour_unique {p = p} {t = t} {v = v} {C = C} {D = De h i j) k start stop rising stay =
+  tour_same (tour_unique {p = p} {t = t} {v = v} {C = C} {D = D} e h i j) k start stop rising stay =
       let size : ℕ = pointee_size s p.pointee p.length in
       let front = rising_front start C (region_of s p t) D stop rising in
       let back = rising_back start C (region_of s p t) D stop rising in
@@ -194,7 +194,7 @@ module _ (s : Schema) (laid : LaidOut s) (bytes new b : List ℕ) (x y : Leaf) (
 
   pub tour_turns : {pending : List ℕ} {seen last : Seen} {O : List Pointer} {C : List Region} (i : Tour s bytes pending seen O C last) → StaysOrdered new i → (start stop : ℕ) → Rising start C stop → {ms : List Leaf} → Replaced x y (leaves_of_tour i) ms → Outcome O seen last
   tour_turns tour_end f start stop rising k = absurd (replaced_none k)
-  tour_turns (tour_unique {p = p} {t = t} {C = C} {D = De h i j) f start stop rising k =
+  tour_turns (tour_unique {p = p} {t = t} {C = C} {D = D} e h i j) f start stop rising k =
       let front = rising_front start C (region_of s p t) D stop rising in
       let back = rising_back start C (region_of s p t) D stop rising in
       unique_join h i j f.0 f.1 f.2 start stop front back e (split (leaves_of_tour i) {zs = leaves_of_contents h.contents ++ leaves_of_tour j} k)

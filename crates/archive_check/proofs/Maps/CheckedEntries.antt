@@ -1,5 +1,9 @@
 -- The entries of a map, one after another, as a type's own check goes over them.
-use Rattle.std.proofs.Common.{◌≡◌, ℕ, suc, refl, sym, ap, ◌∙◌, ◌+◌, ◌-◌, ◌*◌, ◌<◌, ◌≤◌, min, max, arith, List, Option, Some, None}
+use Rattle.std.proofs.Common.{◌≡◌, ℕ, suc, refl, sym, ap, ◌∙◌, ◌+◌, ◌-◌, ◌*◌, ◌<◌, ◌≤◌, min, max, arith, List, Option, Some, None, Bool, ◌&&◌, IsTrue, nat_lt}
+use Rattle.std.proofs.lemmas.Bool.{and_parts}
+use Rattle.std.proofs.lemmas.Bool.Decides.{nat_tests}
+use Rattle.archive_check.specs.Words.BoundedSizes.{fits}
+use Rattle.archive_check.specs.SelfCheck.Lone.{tuple_direct, small_fits}
 use Rattle.std.specs.Int.{Width, w8, w16, w32, w64, w128, byte_len}
 use Rattle.archive_check.specs.Shape.{Kind, unit, bool, char, number, non_zero, raw_rel, Key, leaf_key, str_key, Shape, no_part, part, key_shape, entry_of}
 use Rattle.archive_check.specs.Layout.{Layout, up, kind_size, key_size, key_align, size_of, align_of}
@@ -86,6 +90,17 @@ module _ (D E : Definitions) (K : Key) (L : Layout) (laid : HasLayout D (key_sha
       let a : align_of t.layouts (key_shape K) ≡ L.align = its_align D (key_shape K) L laid L.align refl t left in
       let c : align_of t.layouts V ≡ M.align = its_align E V M valued M.align refl t right in
       λ i. max (a i) (max (c i) 1)
+
+-- the size of an entry, where that fits
+module _ (direct lone : Bool) (Z size : ℕ) (says : IsTrue (tuple_direct direct lone Z)) (is : size ≡ min Z 18446744073709551615) where
+  few : IsTrue (nat_lt Z 18446744073709551615)
+  few = (and_parts (direct && lone) (nat_lt Z 18446744073709551615) says).1
+
+  pub entry_exact : size ≡ Z
+  entry_exact = let small : Z < 18446744073709551615 = grind (arith, nat_tests, few) in omega (arith, is, small)
+
+  pub entry_whole : Some size ≡ fits Z
+  entry_whole = ap Some entry_exact ∙ sym (small_fits Z few)
 
 -- of a part alone the trail is its own
 only_part : {s : Schema} {b pending : List ℕ} {depth : Option ℕ} {stop p at start : ℕ} {seen : Seen} {X : Shape} {f : Fault} → TripsParts s b pending depth stop p at (part X no_part) start seen f

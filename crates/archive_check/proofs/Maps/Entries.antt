@@ -1,5 +1,6 @@
 -- The entries of maps: where an entry's key and value stand, what it mentions, and its walk.
-use Rattle.std.proofs.Common.{◌≡◌, ℕ, ◌+◌, List, Option, Some, None, cond, is_some, refl, ap, ap₂, arith, w8, w16, w32, w64, w128}
+use Rattle.std.proofs.Common.{◌≡◌, ℕ, ◌+◌, List, Option, Some, None, cond, is_some, refl, ap, ap₂, arith}
+use Rattle.std.specs.Int.{w8, w16, w32, w64, w128}
 use Rattle.archive_check.specs.Shape.{Kind, unit, bool, char, number, non_zero, raw_rel, Key, leaf_key, str_key, Flavor, Shape, key_shape, entry_of}
 use Rattle.archive_check.specs.Layout.{Layouts, up, kind_align, size_of, align_of}
 pub use Rattle.archive_check.specs.SelfCheck.Maps.{entry_mentions}

@@ -1,6 +1,8 @@
 -- When a key is below another one, as a test tells.
 use Rattle.std.proofs.Common.{◌≡◌, ◌↔◌, ℕ, ℤ, pos, refl, Bool, true, false, cond, IsTrue, nat_lt}
-use Rattle.std.specs.Ordering.{Ordering, Less, Equal, Greater, is_lt, int_cmp}
+use Rattle.std.specs.declared.cmp.Ordering.{Ordering}
+use Rattle.std.specs.declared.cmp.Ordering.TheVariants.{Less, Equal, Greater}
+use Rattle.std.specs.Ordering.{is_lt, int_cmp}
 use Rattle.std.specs.Prelude.{int_lt}
 
 below : (t u : Bool) → IsTrue t ↔ cond t Less (cond u Greater Equal) ≡ Less

@@ -3,7 +3,8 @@
 
 ghost use Rattle.std.specs.Prelude.{◌≡◌, ◌↔◌, ◌+◌, ◌≤◌, length, IfSome, IsTrue};
 ghost use Rattle.std.specs.Int.{w8, w16, w64, w128, byte_len, from_le_bytes, cast_signed};
-ghost use Rattle.std.specs.Ordering.{Less, int_cmp};
+ghost use Rattle.std.specs.declared.cmp.Ordering.TheVariants.{Less};
+ghost use Rattle.std.specs.Ordering.{int_cmp};
 ghost use Rattle.archive_check.specs.Expressions.{integer_of, kind_of, key_of};
 ghost use Rattle.archive_check.specs.Layout.{kind_size, kind_align, key_size, key_align};
 ghost use Rattle.archive_check.specs.Reads.{bytes_at, u32_at, decoded_length, with_sign, kind_value};
