@@ -1,9 +1,10 @@
 -- The entries of a map, one after another, as a type's own check goes over them.
-use Rattle.std.proofs.Common.{◌≡◌, ℕ, suc, refl, sym, ap, ◌∙◌, ◌+◌, ◌-◌, ◌*◌, ◌<◌, ◌≤◌, min, max, arith, List, Option, Some, None, Bool, ◌&&◌, IsTrue, nat_lt}
+use Rattle.std.proofs.Common.{◌≡◌, ℕ, suc, refl, sym, ap, ◌∙◌, subst, ◌+◌, ◌-◌, ◌*◌, ◌<◌, ◌≤◌, min, max, arith, List, Option, Some, None, Bool, ◌&&◌, IsTrue, nat_lt}
 use Rattle.std.proofs.lemmas.Bool.{and_parts}
 use Rattle.std.proofs.lemmas.Bool.Decides.{nat_tests}
 use Rattle.archive_check.specs.Words.BoundedSizes.{fits}
 use Rattle.archive_check.specs.SelfCheck.Lone.{tuple_direct, small_fits}
+use Rattle.std.proofs.Math.Nat.{mul-le-mul_right}
 use Rattle.std.specs.Int.{Width, w8, w16, w32, w64, w128, byte_len}
 use Rattle.archive_check.specs.Shape.{Kind, unit, bool, char, number, non_zero, raw_rel, Key, leaf_key, str_key, Shape, no_part, part, key_shape, entry_of}
 use Rattle.archive_check.specs.Layout.{Layout, up, kind_size, key_size, key_align, size_of, align_of}
@@ -15,7 +16,7 @@ use Rattle.archive_check.specs.declared.format.error.Error.TheVariants.{Unsorted
 use Rattle.archive_check.specs.context.Ranges.{RangeState}
 use Rattle.archive_check.specs.context.FreshContexts.{HasLevels}
 use Rattle.archive_check.specs.Definitions.{Definitions, no_definition, both, Knows, HasLayout}
-use Rattle.archive_check.specs.Walk.{walk_parts, walk_part}
+use Rattle.archive_check.specs.Walk.{Walk, walk_parts, WalkParts, walk_part}
 use Rattle.archive_check.specs.Trail.{Fault, unsorted, Trips, TripsParts, trips_first, trips_later}
 use Rattle.archive_check.specs.Outcomes.{refused}
 use Rattle.archive_check.specs.SelfCheck.Ways.{Way, Goes, Halts, shape_way, parts_way}
@@ -64,12 +65,12 @@ key_first_aligned str_key = refl
 -- so an entry has room for a key, and for a value behind it
 pub entry_room : (L M : Layout) → up 0 L.align ≡ 0 → 1 ≤ M.align → (L.size ≤ up L.size M.align) × (up L.size M.align + M.size ≤ entry_size L M)
 entry_room L M none some =
-    let end : entry_end L M ≡ up L.size M.align + M.size = ap (λ n. up n M.align + M.size) (omega (arith, none)) in
+    let end : entry_end L M ≡ up L.size M.align + M.size = ap (λ n. up (n + L.size) M.align + M.size) none ∙ ap (λ n. up n M.align + M.size) (omega arith) in
     (up_le L.size M.align some, omega (arith, end, up_le (entry_end L M) (entry_align L M) (omega arith)))
 
 -- the next of some entries lies in their bytes
 pub next_room : (z n k at len : ℕ) → k < n → at + n * z ≤ len → at + k * z + z ≤ len
-next_room z n k at len lt fits = let more : n ≡ suc k + (n - suc k) = omega arith in let whole : n * z ≡ suc k * z + (n - suc k) * z = rw more (omega arith) in omega (arith, whole, fits)
+next_room z n k at len lt fits = let more : (k + 1) * z ≤ n * z = mul-le-mul_right z (omega arith) in omega (arith, more, fits)
 
 module _ (D E : Definitions) (K : Key) (L : Layout) (laid : HasLayout D (key_shape K) L) (V : Shape) (M : Layout) (valued : HasLayout E V M) where
   -- what a key takes, and an entry, under each schema
@@ -155,8 +156,9 @@ module _ (D E : Definitions) (K : Key) (V : Shape) (b : List ℕ) (R : Way) (bef
           let v = rw (key.depth some, key.end) at (g.runs (within some) t (knows_right t D (both E no_definition) k) pending seen) in
           let here = key_at t.layouts K p in
           let is = (sized t k).0 in
-          let next : up 0 (align_of t.layouts (key_shape K)) + size_of t.layouts (key_shape K) ≡ size = omega (arith, key_first t.layouts K, is) in
-          walk_parts (walk_part (rw here w) (rw next v));
+          let next : up 0 (align_of t.layouts (key_shape K)) + size_of t.layouts (key_shape K) ≡ size = ap (λ m. m + size_of t.layouts (key_shape K)) (key_first t.layouts K) ∙ omega (arith, is) in
+          walk_parts (walk_part {mid = s2.start} {known = seen} (subst (λ q. Walk t b pending s1.depth s1.end q (key_shape K) s1.start seen s2.start seen) (sym here) w)
+              (subst (λ m. WalkParts t b pending s1.depth s1.end p m (part V no_part) s2.start seen s3.start seen) (sym next) v));
     }
 
     -- it is gone through, and the next one stands behind it

@@ -1,5 +1,5 @@
 -- The entries of maps: where an entry's key and value stand, what it mentions, and its walk.
-use Rattle.std.proofs.Common.{◌≡◌, ℕ, ◌+◌, List, Option, Some, None, cond, is_some, refl, ap, ap₂, arith}
+use Rattle.std.proofs.Common.{◌≡◌, ℕ, ◌+◌, List, Option, Some, None, cond, is_some, refl, sym, ap, ◌∙◌, subst, add-zero, arith}
 use Rattle.std.specs.Int.{w8, w16, w32, w64, w128}
 use Rattle.archive_check.specs.Shape.{Kind, unit, bool, char, number, non_zero, raw_rel, Key, leaf_key, str_key, Flavor, Shape, key_shape, entry_of}
 use Rattle.archive_check.specs.Layout.{Layouts, up, kind_align, size_of, align_of}
@@ -36,15 +36,15 @@ key_first names (leaf_key kind) = kind_first kind
 key_first names str_key = refl
 
 pub key_at : (names : Layouts) (K : Key) (p : ℕ) → p + up 0 (align_of names (key_shape K)) ≡ p
-key_at names K p = omega (arith, key_first names K)
+key_at names K p = ap (λ n. p + n) (key_first names K) ∙ add-zero p
 
 -- and its value behind it
 pub value_at : (names : Layouts) (K : Key) (V : Shape) → up (up 0 (align_of names (key_shape K)) + size_of names (key_shape K)) (align_of names V) ≡ up (size_of names (key_shape K)) (align_of names V)
-value_at names K V = let none = key_first names K in ap (λ n. up n (align_of names V)) (omega (arith, none))
+value_at names K V = ap (λ n. up (n + size_of names (key_shape K)) (align_of names V)) (key_first names K) ∙ ap (λ n. up n (align_of names V)) (omega arith)
 
 -- nothing is asked of the order where others may point, too
 pub shared_ordered : {s : Schema} {bytes : List ℕ} {t n : ℕ} (p : Pointer) {flavor : Flavor} → p.sharing ≡ Some flavor → Ordered s bytes t n (order_of p) p.pointee
-shared_ordered p e = let none : order_of p ≡ None = ap (λ x. cond (is_some x) None p.order) e in rw none in_any_order
+shared_ordered {s} {bytes} {t} {n} p e = let none : order_of p ≡ None = ap (λ x. cond (is_some x) None p.order) e in subst (λ o. Ordered s bytes t n o p.pointee) (sym none) in_any_order
 
 module _ (s : Schema) (bytes : List ℕ) (K : Key) (V : Shape) where
   -- the walk of an entry: that of its key, and then that of its value
@@ -61,7 +61,3 @@ module _ (s : Schema) (bytes : List ℕ) (K : Key) (V : Shape) where
     key = rw (key_at s.layouts K p) at k;
     value = rw (value_at s.layouts K V) at v;
   }
-
-  pub walk_entry : {pending : List ℕ} {depth : Option ℕ} {stop p start mid later : ℕ} {seen known last : Seen} → Walk s bytes pending depth stop p (key_shape K) start seen mid known
-      → Walk s bytes pending depth stop (p + up (size_of s.layouts (key_shape K)) (align_of s.layouts V)) V mid known later last → Walk s bytes pending depth stop p (entry_of K V) start seen later last
-  walk_entry {p = p} k v = walk_parts (walk_part (rw (key_at s.layouts K p) k) (walk_part (rw (value_at s.layouts K V) v) walk_no_part))

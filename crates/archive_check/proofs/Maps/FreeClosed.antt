@@ -7,7 +7,7 @@ use Rattle.std.specs.Cmp.{nat_cmp_total}
 use Rattle.std.specs.Ordering.{eq_by_cmp}
 use Rattle.archive_check.specs.Shape.{Flavor, Kind, Key, leaf_key, str_key, Shape, leaf, str, parts, Pointee, one, run, text, Parts, part, no_part, key_shape, entry_of}
 use Rattle.archive_check.specs.Value.{Pointer, Value, Values, list, product, no_value, value, hole, pointers, all_pointers}
-use Rattle.archive_check.specs.Reads.{Schema, Reads, reads_leaf, reads_parts, reads_inline, reads_out_of_line, ReadsParts, reads_no_part, reads_part, ReadsRun, reads_none, reads_element}
+use Rattle.archive_check.specs.Reads.{Schema, string_at, Reads, reads_leaf, reads_parts, reads_inline, reads_out_of_line, ReadsParts, reads_no_part, reads_part, ReadsRun, reads_none, reads_element}
 use Rattle.archive_check.specs.Keys.{order_of, Ordered, in_any_order, in_key_order}
 use Rattle.archive_check.specs.Tour.{Region, region_at, region_of, root_region, pointee_size, Contents, contents_one, contents_run, contents_text, Leads, Entry, Seen, entry, Tour, tour_end, tour_unique, tour_new, tour_again, Accepted}
 use Rattle.archive_check.proofs.Elements.{contains_first, contains_later, contains_cases}
@@ -39,7 +39,7 @@ module _ (s : Schema) (bytes : List ℕ) where
   key_texts : {q : ℕ} {v : Value} (K : Key) → Reads s bytes q (key_shape K) v → (p : Pointer) → Contains (pointers v) p → IsText p
   key_texts (leaf_key kind) (reads_leaf h) p c = none_in c
   key_texts str_key (reads_inline o h) p c = none_in c
-  key_texts str_key (reads_out_of_line o h) p c = ⊎_elim (λ e. rw (← e) (refl, refl, refl)) (λ m. none_in m) (contains_cases _ [] p c)
+  key_texts {q = q} str_key (reads_out_of_line o h) p c = ⊎_elim (λ e. rw (← e) (refl, refl, refl)) (λ m. none_in m) (contains_cases (string_at bytes q) [] p c)
 
   entries_texts : {p n : ℕ} {K : Key} {V : Shape} {vs : Values} → ReadsRun s bytes p n (entry_of K V) vs → AllMarked IsText Any (marks_of_entries vs) (all_pointers vs)
   entries_texts reads_none = tt
@@ -56,7 +56,7 @@ module _ (s : Schema) (bytes : List ℕ) where
   marks_texts (contents_run r) (in_key_order h) = entries_texts r
 
   -- a text leads nowhere
-  pub text_leads : {p : Pointer} {t n : ℕ} {P : Pointee} {v : Value} → P ≡ text → Contents s bytes t P n v → pointers v ≡ []
+  pub text_leads : {t n : ℕ} {P : Pointee} {v : Value} → P ≡ text → Contents s bytes t P n v → pointers v ≡ []
   text_leads e (contents_one r) = cc
   text_leads e (contents_run r) = cc
   text_leads e (contents_text u) = refl
@@ -124,7 +124,7 @@ module _ (s : Schema) (bytes : List ℕ) where
     tour_seen M tour_end texts sub h = h
     tour_seen {seen = seen} M (tour_unique {mid = mid} {p = p} {t = t} {v = v} e l i j) texts sub h =
         let known = seen_by {mid = mid} {seen = seen} (first_mark M) (free_of (marks (order_of p) v) i) (free_of (later_marks M) j) (region_of s p t, order_of p) sub
-            (λ is z. let none : mid ≡ seen = no_tour (text_leads {p = p} ((texts.0 is).1) l.contents) i in subst (λ x. SeenFree x) (sym none) z)
+            (λ is z. let none : mid ≡ seen = no_tour (text_leads ((texts.0 is).1) l.contents) i in subst (λ x. SeenFree x) (sym none) z)
             (λ left z. tour_seen (marks (order_of p) v) i (marks_texts l.contents l.ordered) left z) h in
         tour_seen (later_marks M) j (texts.2) (known.0) (known.1)
     tour_seen M (tour_new {seen = seen} {p = p} {t = t} {v = v} {flavor = flavor} e none l i j) texts sub h =
@@ -161,7 +161,7 @@ module _ (s : Schema) (bytes : List ℕ) where
         let own = free_of (marks (order_of p) v) i in
         let rest = free_of (later_marks M) j in
         let known = seen_by {mid = mid} {seen = seen} (first_mark M) own rest (region_of s p t, order_of p) sub
-            (λ is z. let none : mid ≡ seen = no_tour (text_leads {p = p} ((texts.0 is).1) l.contents) i in subst (λ x. SeenFree x) (sym none) z)
+            (λ is z. let none : mid ≡ seen = no_tour (text_leads ((texts.0 is).1) l.contents) i in subst (λ x. SeenFree x) (sym none) z)
             (λ left z. tour_seen (marks (order_of p) v) i (marks_texts l.contents l.ordered) left z) h in
         unique_by {O = O} M (first_mark M) refl own rest (keys_of (marks (order_of p) v) i) (keys_of (later_marks M) j) e l sub ksub
         (λ left kleft. tour_closed (marks (order_of p) v) i (marks_texts l.contents l.ordered) left kleft h)

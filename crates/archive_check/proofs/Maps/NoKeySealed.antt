@@ -226,8 +226,8 @@ module _ (s : Schema) (laid : LaidOut s) (bytes : List ℕ) where
           (subst (λ q. IsBesideKey K bytes q x) here (h 0 (omega arith)), each_beside K z (p + z) m (λ i below. let there : p + (i + 1) * z ≡ p + z + i * z = omega arith in subst (λ q. IsBesideKey K bytes q x) there (h (i + 1) (omega (arith, below)))))
 
       beside_by : (g : Free) → Contains (free_regions s bytes a) g → (o : Option Key) (Y : Pointee) → g.1 ≡ o → (g.0).pointee ≡ Y → Ordered s bytes (g.0).begin (g.0).length o Y → IsBesideKeysOf s bytes (g.0).begin (g.0).length o Y x
-      beside_by g c None Y e d h = tt
-      beside_by g c (Some K) (run W) e d (in_key_order {V = V} h) = each_beside K (size_of s.layouts (entry_of K V)) (g.0).begin (g.0).length (λ i below. beside_key {V = V} c e d i below)
+      beside_by g c o Y e d in_any_order = tt
+      beside_by g c o Y e d (in_key_order {K = K} {V = V} h) = each_beside K (size_of s.layouts (entry_of K V)) (g.0).begin (g.0).length (λ i below. beside_key {V = V} c e d i below)
 
       beside_keys : (g : Free) → Contains (free_regions s bytes a) g → IsBesideKeysOf s bytes (g.0).begin (g.0).length (g.1) (g.0).pointee x
       beside_keys g c = beside_by g c (g.1) (g.0).pointee refl refl ((accepted_closed s bytes a g c).2)
@@ -257,7 +257,7 @@ module _ (s : Schema) (laid : LaidOut s) (bytes : List ℕ) where
           → ((g : Free) → Contains (free_of M i) g → IsBesideKeysOf s bytes (g.0).begin (g.0).length (g.1) (g.0).pointee x) → IsFreeOn x i
       tour_free M tour_end texts all = tt
       tour_free M (tour_unique {p = p} {t = t} {v = v} e l i j) texts all =
-          free_by (first_mark M) p t (free_of (marks (order_of p) v) i) (free_of (later_marks M) j) (λ is. let text_is = texts.0 is in (text_is.2, nothing_free (text_leads s bytes {p = p} (text_is.1) l.contents) i))
+          free_by (first_mark M) p t (free_of (marks (order_of p) v) i) (free_of (later_marks M) j) (λ is. let text_is = texts.0 is in (text_is.2, nothing_free (text_leads s bytes (text_is.1) l.contents) i))
           (λ own. tour_free (marks (order_of p) v) i (marks_texts s bytes l.contents l.ordered) own) (λ rest. tour_free (later_marks M) j (texts.2) rest) all
       tour_free M (tour_new {p = p} {t = t} {v = v} e none l i j) texts all =
           free_by false p t (free_of (marks (order_of p) v) i) (free_of (later_marks M) j) (λ is. cc is)

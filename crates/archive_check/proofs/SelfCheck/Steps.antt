@@ -5,7 +5,6 @@ use Rattle.archive_check.specs.Layout.{up, size_of, align_of}
 use Rattle.archive_check.specs.Value.{Pointer}
 use Rattle.archive_check.specs.Reads.{Schema, u32_at, IsOutOfLine, decoded_length, pointer_at, map_at, string_at}
 use Rattle.archive_check.specs.Keys.{ComesBehind}
-use Rattle.archive_check.proofs.Maps.Entries.{walk_entry}
 use Rattle.archive_check.specs.Tour.{Seen}
 use Rattle.archive_check.specs.Walk.{walk_parts, walk_boxed, walk_vec, walk_map, walk_out_of_line, walk_part, walk_none, walk_element, follow_unique, walk_one, walk_run, walk_entries}
 use Rattle.archive_check.specs.Trail.{Fault, unsorted, trips_parts, trips_boxed, trips_vec, trips_map, trips_out_of_line, trips_first, trips_later, trips_element, trips_later_element, trips_unique, trips_one, trips_run, trips_entries, trips_key, trips_order, trips_value, trips_later_entry}
@@ -76,11 +75,6 @@ module _ (bytes : List ℕ) (s : Schema) (pending : List ℕ) (depth : Option �
       → shape_way bytes p (entry_of K V) s pending depth stop start seen (done mid seen) → entries_way bytes (Some p) q n K V s pending depth stop mid seen o → entries_way bytes before p m K V s pending depth stop start seen o
   entry_way before p q n m mid K V (done l k) e here behind w v = rw e (walk_element w (rw here at v.0), (behind, rw here at v.1))
   entry_way before p q n m mid K V (refused f) e here behind w v = rw e (trips_later_entry w behind (rw here at v))
-
-  -- a key and a value are an entry
-  pub both_way : (p at mid : ℕ) (later : ℕ) (K : Key) (V : Shape) → at ≡ p + up (size_of s.layouts (key_shape K)) (align_of s.layouts V)
-      → shape_way bytes p (key_shape K) s pending depth stop start seen (done mid seen) → shape_way bytes at V s pending depth stop mid seen (done later seen) → shape_way bytes p (entry_of K V) s pending depth stop start seen (done later seen)
-  both_way p at mid later K V here k v = walk_entry s bytes K V k (rw here at v)
 
   pub key_stop : (before : Option ℕ) (p n m : ℕ) (K : Key) (V : Shape) (f : Fault) → m ≡ suc n → shape_way bytes p (key_shape K) s pending depth stop start seen (refused f) → entries_way bytes before p m K V s pending depth stop start seen (refused f)
   key_stop before p n m K V f e w = rw e (trips_key w)

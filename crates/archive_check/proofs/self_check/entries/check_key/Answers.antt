@@ -1,4 +1,5 @@
-use Rattle.std.proofs.Common.{◌+◌, ◌≤◌, ap, arith, length, IfSome}
+use Rattle.std.proofs.Common.{◌≡◌, ◌+◌, ◌≤◌, suc, sym, ap, ◌∙◌, length, IfSome}
+use Rattle.archive_check.specs.Expressions.{key_of}
 use Rattle.archive_check.specs.declared.format.error.Error.TheVariants.{UnsortedKeys}
 use Rattle.archive_check.specs.Layout.{key_size}
 use Rattle.archive_check.specs.Keys.{ComesBehind}
@@ -8,6 +9,15 @@ use Rattle.archive_check.proofs.SelfCheck.Outcomes.{if_none}
 use Rattle.archive_check.proofs.Checks.TestedAnswers.{not_true, is_true}
 use Rattle.archive_check.proofs.Maps.CheckedEntries.{key_halts, order_halts}
 use Rattle.archive_check.proofs.self_check.entries.check_key.Goals as goal
+
+-- what a key takes, as a key
+pub comes_behind-requires-clause-front : goal.comes_behind-requires-clause-front
+comes_behind-requires-clause-front g c =
+    let same : key_size (key_of c.key.result) ≡ g.K.Portable.layout.size = ap key_size c.key.ensures ∙ sym (ap (λ l. l.size) g.met.K.MapKey.key_laid) in rw same c.requires.earlier
+
+pub comes_behind-requires-clause-back : goal.comes_behind-requires-clause-back
+comes_behind-requires-clause-back g c =
+    let same : key_size (key_of c.key.result) ≡ g.K.Portable.layout.size = ap key_size c.key.ensures ∙ sym (ap (λ l. l.size) g.met.K.MapKey.key_laid) in rw same c.requires.fits
 
 pub returns-in_err-check_value-clause-stops : goal.returns-in_err-check_value-clause-stops
 returns-in_err-check_value-clause-stops g c d n V =
