@@ -173,7 +173,7 @@ pub record Archives (definitions : Definitions) (old new : List ℕ) (root : ℕ
 
 -- the pointer to a pointee of n elements or bytes that has its region for itself
 abbrev pub to_pointee : ℕ → Pointee → ℕ → Pointer
-to_pointee t P n = record { target = pos t; sharing = None; pointee = P; length = n }
+to_pointee t P n = record { target = pos t; sharing = None; order = None; pointee = P; length = n }
 
 -- What a pointee owns was appended, and then its own region, which stands at p.
 pub record LaysOut (definitions : Definitions) (old new : WriterState) (keys : List Naming) (p : ℕ) (P : Pointee) (n : ℕ) (value : Value) : Type 0 where
@@ -193,7 +193,7 @@ pub record LaysOut (definitions : Definitions) (old new : WriterState) (keys : L
 
 -- the pointer to a shared pointee
 abbrev pub to_shared : ℕ → Flavor → Pointee → ℕ → Pointer
-to_shared t flavor P n = record { target = pos t; sharing = Some flavor; pointee = P; length = n }
+to_shared t flavor P n = record { target = pos t; sharing = Some flavor; order = None; pointee = P; length = n }
 
 -- What an unknown key names was laid out at p, the key pending meanwhile and finished there in the end.
 pub record LaysOutShared (definitions : Definitions) (old new : WriterState) (key : ℕ) (keys : List Naming) (p : ℕ) (P : Pointee) (n : ℕ) (value : Value) : Type 0 where

@@ -7,6 +7,7 @@ use Rattle.std.proofs.lemmas.List.Elements.{All-nil, All-cons, All-append, All-c
 use Rattle.archive_check.specs.Shape.{Flavor, Shape}
 use Rattle.archive_check.specs.Value.{Pointer, Value, number, product, case, list, text_value, box, null, shared_value, hole, Values, no_value, value, pointers, all_pointers}
 use Rattle.archive_check.specs.Reads.{Schema}
+use Rattle.archive_check.proofs.Maps.Entries.{shared_ordered}
 use Rattle.archive_check.specs.Tour.{Region, region_of, root_region, Contents, contents_one, Leads, Entry, entry, Seen, Tour, tour_end, tour_unique, tour_new, tour_again, Accepted}
 use Rattle.archive_check.specs.Leaves.{regions_of}
 use Rattle.archive_check.specs.Reached.{Names, names_itself, names_product, names_case, names_list, names_box, NamesAmong, names_first, names_later}
@@ -72,15 +73,15 @@ module _ (s : Schema) (bytes : List ℕ) (Allowed : Pointer → Type 0)
   ]
 
   -- another pointer to the same position leads there, too
-  leads_too : {p : Pointer} {t : ℕ} {v : Value} (q : Pointer) → Leads s bytes p t v → q.target ≡ pos t → p.pointee ≡ q.pointee → p.length ≡ q.length → Leads s bytes q t v
-  leads_too q l there e f = record { target = there; fits = rw (e, f) at l.fits; contents = rw (e, f) at l.contents }
+  leads_too : {p : Pointer} {t : ℕ} {v : Value} (q : Pointer) {flavor : Flavor} → q.sharing ≡ Some flavor → Leads s bytes p t v → q.target ≡ pos t → p.pointee ≡ q.pointee → p.length ≡ q.length → Leads s bytes q t v
+  leads_too q shared l there e f = record { target = there; fits = rw (e, f) at l.fits; contents = rw (e, f) at l.contents; ordered = shared_ordered q shared }
 
   settled_behind : (pending : List ℕ) (mid : Seen) {p : Pointer} {t : ℕ} {v : Value} (flavor : Flavor) → get mid t ≡ Some (entry flavor p) → Leads s bytes p t v → AllFollowed (pointers v) → Settled (t ∷ pending) mid → Settled pending mid
   settled_behind pending mid {p = p} {t = t} flavor known l own h u q other is there met ok out = elim (cases_eq u t) [
     | inl eq ↦ (
         let here : get mid t ≡ Some (entry other q) = rw eq at met in
         let same : entry flavor p ≡ entry other q = same_some (sym known ∙ here) in
-        led (leads_too q l (rw eq at there) (ap (λ (e : Entry). e.pointee) same) (ap (λ (e : Entry). e.length) same)) own ok
+        led (leads_too q is l (rw eq at there) (ap (λ (e : Entry). e.pointee) same) (ap (λ (e : Entry). e.length) same)) own ok
         )
     | inr n ↦ h u q other is there met ok (λ c. ⊎_elim (λ same. n (sym same)) out (contains_cases t pending u c))
   ]

@@ -1,10 +1,11 @@
 -- Schemas that know some definitions read alike what names these alone: it has one layout, and the bytes say one thing.
-use Rattle.std.proofs.Common.{◌≡◌, ℕ, suc, ◌+◌, ◌*◌, List, length, Bool, IsTrue, Some, is_some, Contains, refl, sym, ap, ◌∙◌}
+use Rattle.std.proofs.Common.{◌≡◌, ℕ, suc, ◌+◌, ◌*◌, List, length, Bool, IsTrue, Option, Some, None, is_some, Contains, refl, sym, ap, subst, ◌∙◌}
 use Rattle.std.proofs.lemmas.Bool.{and_parts}
-use Rattle.archive_check.specs.Shape.{Name, Flavor, Shape, Pointee, one, run, text, Parts, part, Variants, variant, definition}
+use Rattle.archive_check.specs.Shape.{Name, Key, Flavor, Shape, Pointee, one, run, text, Parts, part, Variants, variant, entry_of, definition}
 use Rattle.archive_check.specs.Layout.{up, size_of, align_of}
 use Rattle.archive_check.specs.Value.{Pointer, Value, Values, value}
-use Rattle.archive_check.specs.Reads.{Schema, Reads, reads_leaf, reads_parts, reads_choice, reads_array, reads_boxed, reads_vec, reads_inline, reads_out_of_line, reads_shared, reads_null, reads_weak, reads_named, ReadsParts, reads_no_part, reads_part, ReadsRun, reads_none, reads_element}
+use Rattle.archive_check.specs.Reads.{Schema, Reads, reads_leaf, reads_parts, reads_choice, reads_array, reads_boxed, reads_vec, reads_map, reads_inline, reads_out_of_line, reads_shared, reads_null, reads_weak, reads_named, ReadsParts, reads_no_part, reads_part, ReadsRun, reads_none, reads_element}
+use Rattle.archive_check.specs.Keys.{Ascend, Ordered, in_any_order, in_key_order}
 use Rattle.archive_check.specs.Tour.{Contents, contents_one, contents_run, contents_text, pointee_size, Leads}
 use Rattle.archive_check.specs.Defined.{Holds, holds_name, holds_parts, holds_choice, holds_array, PartsHold, holds_first, holds_later, VariantsHold, holds_variant, holds_other}
 use Rattle.archive_check.specs.Definitions.{Definitions, listed, Knows}
@@ -124,6 +125,7 @@ module _ (right : Flavor → Bool) (D : Definitions) where
         reads_again (reads_array r) h = reads_array (run_again r h)
         reads_again reads_boxed h = reads_boxed
         reads_again reads_vec h = reads_vec
+        reads_again reads_map h = reads_map
         reads_again (reads_inline o u) h = reads_inline o u
         reads_again (reads_out_of_line o i) h = reads_out_of_line o i
         reads_again reads_shared h = reads_shared
@@ -145,5 +147,9 @@ module _ (right : Flavor → Bool) (D : Definitions) where
       contents_again (contents_run r) h = contents_run (run_again r h)
       contents_again (contents_text u) h = contents_text u
 
+      ordered_again : {t n : ℕ} {o : Option Key} {P : Pointee} → Ordered s bytes t n o P → IsTrue (pointee_has_flavors right (listed D) P) → Ordered s' bytes t n o P
+      ordered_again in_any_order h = in_any_order
+      ordered_again {t = t} {n = n} (in_key_order {K = K} {V = V} g) h = let z = same_size (entry_of K V) h in in_key_order (subst (λ m. Ascend K bytes None t m n) z g)
+
       pub leads_again : {p : Pointer} {t : ℕ} {v : Value} → Leads s bytes p t v → IsTrue (pointee_has_flavors right (listed D) p.pointee) → Leads s' bytes p t v
-      leads_again {p = p} i h = record { target = i.target; fits = rw (same_pointee_size p.pointee p.length h) at i.fits; contents = contents_again i.contents h }
+      leads_again {p = p} i h = record { target = i.target; fits = rw (same_pointee_size p.pointee p.length h) at i.fits; contents = contents_again i.contents h; ordered = ordered_again i.ordered h }

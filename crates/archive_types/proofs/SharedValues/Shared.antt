@@ -5,6 +5,7 @@ use Rattle.archive_check.specs.Shape.{Flavor, Pointee}
 use Rattle.archive_check.specs.Layout.{up}
 use Rattle.archive_check.specs.Definitions.{Definitions}
 use Rattle.archive_check.specs.Value.{Value, hole, shared_value, pointers}
+use Rattle.archive_check.specs.Keys.{in_any_order}
 use Rattle.archive_check.specs.Tour.{Region, Leads, Entry, entry, Seen, tour_end, tour_new, tour_again, region_of, pointee_size, pointee_align}
 use Rattle.archive_check.specs.Denotes.{Fills, fills_shared, rename}
 use Rattle.archive_check.specs.Reached.{names_itself}
@@ -197,7 +198,7 @@ writes_shared_new D old mid new ks x P n flavor t key tail s more tailz taill sa
     let stands : (w : World) → Covers w D new.bytes new.states ((key, (e, x)) ∷ ks) → Occurs w.bytes t h.region
     = λ w k. record { before = m.bytes ++ h.zeros; behind = tail ++ k.rest; is = apart w k; at = length-append m.bytes h.zeros ∙ sym h.at } in
     let leads : (w : World) → Covers w D new.bytes new.states ((key, (e, x)) ∷ ks) → Leads w.schema w.bytes (to_shared t flavor P n) t v
-    = λ w k. record { target = refl; fits = omega (arith, h.sized w.schema k.knows, stands_fits _ _ _ (stands w k)); contents = h.contents w.schema w.bytes k.knows (stands w k) } in
+    = λ w k. record { target = refl; fits = omega (arith, h.sized w.schema k.knows, stands_fits _ _ _ (stands w k)); contents = h.contents w.schema w.bytes k.knows (stands w k); ordered = in_any_order } in
     record {
       added = o.added ++ ((h.zeros ++ h.region) ++ tail);
       grown = whole ∙ ap (λ z. z ++ ((h.zeros ++ h.region) ++ tail)) o.grown ∙ append_assoc old.bytes o.added ((h.zeros ++ h.region) ++ tail);

@@ -3,11 +3,11 @@ use Rattle.std.proofs.Common.{◌≡◌, ℕ, List, [], ◌∷◌, ◌++◌, All
 use Rattle.std.proofs.Math.Logic.{∥∥₁_elim}
 use Rattle.std.proofs.Math.Nat.{ℕ_set}
 use Rattle.std.proofs.lemmas.List.Elements.{All-nil, All-cons, All-head, All-tail, All-append, All-contains}
-use Rattle.archive_check.specs.Shape.{Shape, Parts, Pointee, one, run, text}
+use Rattle.archive_check.specs.Shape.{Shape, Parts, Pointee, one, run, text, entry_of}
 use Rattle.archive_check.specs.Layout.{has_length}
 use Rattle.archive_check.specs.Definitions.{Definitions}
 use Rattle.archive_check.specs.Value.{Pointer, Value, Values, value, pointers, all_pointers}
-use Rattle.archive_check.specs.Reads.{Schema, length_at, pointer_at, string_at, Reads, reads_leaf, reads_parts, reads_choice, reads_array, reads_boxed, reads_vec, reads_inline, reads_out_of_line, reads_shared, reads_null, reads_weak, reads_named, ReadsParts, reads_no_part, reads_part, ReadsRun, reads_none, reads_element}
+use Rattle.archive_check.specs.Reads.{Schema, length_at, pointer_at, string_at, Reads, reads_leaf, reads_parts, reads_choice, reads_array, reads_boxed, reads_vec, reads_map, reads_inline, reads_out_of_line, reads_shared, reads_null, reads_weak, reads_named, ReadsParts, reads_no_part, reads_part, ReadsRun, reads_none, reads_element}
 use Rattle.archive_check.specs.Tour.{Region, region_of, root_region, Contents, contents_one, contents_run, contents_text, Seen, Tour, tour_end, tour_unique, tour_new, tour_again, Accepted}
 use Rattle.archive_check.specs.Leaves.{regions_of}
 use Rattle.archive_check.specs.Within.{PartOf, whole_region, in_one, in_run, in_string}
@@ -40,6 +40,7 @@ module _ (s : Schema) (bytes : List ℕ) where
     reads_lengths (reads_array h) = run_lengths h
     reads_lengths (reads_boxed {p = p} {P = P}) = hole_of_length _ (length_of_one bytes p P)
     reads_lengths (reads_vec {p = p} {X = X}) = hole_of_length _ (length_of_one bytes p (run X))
+    reads_lengths (reads_map {p = p} {K = K} {V = V}) = hole_of_length _ (length_of_one bytes p (run (entry_of K V)))
     reads_lengths (reads_inline i u) = All-nil IsOfLength
     reads_lengths (reads_out_of_line {p = p} i long) = hole_of_length (string_at bytes p) (λ e. cc)
     reads_lengths (reads_shared {p = p} {P = P}) = hole_of_length _ (length_of_one bytes p P)

@@ -7,6 +7,7 @@ use Rattle.archive_check.specs.Layout.{Layout, up, size_of, align_of}
 use Rattle.archive_check.specs.Definitions.{Definitions, both, Knows, HasLayout}
 use Rattle.archive_check.specs.Value.{Pointer, Value, number, Values, value, no_value, product, case, box, hole, pointers}
 use Rattle.archive_check.specs.Reads.{Schema}
+use Rattle.archive_check.specs.Keys.{in_any_order}
 use Rattle.archive_check.specs.Tour.{Region, contents_one, Leads, Entry, Seen, tour_end, tour_unique, pointee_size, pointee_align, region_of}
 use Rattle.archive_check.specs.Denotes.{Fills, rename, fills_number, fills_box, fills_unique, fills_product, fills_case, fills_no_value, fills_value}
 use Rattle.archive_check.specs.Reached.{Names, names_product, names_case, names_box, names_first, names_later}
@@ -226,7 +227,7 @@ writes_laid D old new ks p P n x h =
     let stands : (w : World) → Covers w D new.bytes new.states ks → Occurs w.bytes p h.region
     = λ w k. record { before = h.mid.bytes ++ h.zeros; behind = k.rest; is = begins w k; at = length-append h.mid.bytes h.zeros ∙ sym h.at } in
     let leads : (w : World) → Covers w D new.bytes new.states ks → Leads w.schema w.bytes (to_pointee p P n) p h.flat
-    = λ w k. record { target = refl; fits = omega (arith, h.sized w.schema k.knows, stands_fits _ _ _ (stands w k)); contents = h.contents w.schema w.bytes k.knows (stands w k) } in
+    = λ w k. record { target = refl; fits = omega (arith, h.sized w.schema k.knows, stands_fits _ _ _ (stands w k)); contents = h.contents w.schema w.bytes k.knows (stands w k); ordered = in_any_order } in
     record {
       added = m.added ++ (h.zeros ++ h.region);
       grown = h.grown ∙ ap (λ z. z ++ (h.zeros ++ h.region)) m.grown ∙ append_assoc old.bytes m.added (h.zeros ++ h.region);

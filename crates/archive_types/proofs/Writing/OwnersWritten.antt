@@ -35,17 +35,17 @@ length_there bytes p n small stands = ap (from_le_bytes w32) (stands_bytes bytes
 
 -- the pointer that stands there
 abbrev pub pointer_to : ℕ → Option Flavor → Pointee → ℕ → Pointer
-pointer_to t sharing P n = record { target = pos t; sharing = sharing; pointee = P; length = n }
+pointer_to t sharing P n = record { target = pos t; sharing = sharing; order = None; pointee = P; length = n }
 
 module _ (bytes : List ℕ) (p t n : ℕ) (sharing : Option Flavor) (small : FitsSigned w32 (distance p t)) (few : n < 2 ^ 32) where
   without_length : (P : Pointee) → length_at bytes p P ≡ n → Occurs bytes p (owner_bytes false (distance p t) n) → pointer_at bytes p sharing P ≡ pointer_to t sharing P n
-  without_length P e stands i = record { target = offset_there bytes p t small stands i; sharing = sharing; pointee = P; length = e i }
+  without_length P e stands i = record { target = offset_there bytes p t small stands i; sharing = sharing; order = None; pointee = P; length = e i }
 
   with_length : (P : Pointee) → length_at bytes p P ≡ u32_at bytes (p + 4) → Occurs bytes p (owner_bytes true (distance p t) n) → pointer_at bytes p sharing P ≡ pointer_to t sharing P n
   with_length P e stands =
       let offset : List ℕ = to_le_bytes w32 (cast_unsigned w32 (distance p t)) in
       let many : length_at bytes p P ≡ n = e ∙ length_there bytes p n few (stands_back bytes p (p + 4) offset (to_le_bytes w32 n) refl stands) in
-      λ i. record { target = offset_there bytes p t small (stands_front bytes p offset (to_le_bytes w32 n) stands) i; sharing = sharing; pointee = P; length = many i }
+      λ i. record { target = offset_there bytes p t small (stands_front bytes p offset (to_le_bytes w32 n) stands) i; sharing = sharing; order = None; pointee = P; length = many i }
 
   pub pointer_there : (P : Pointee) → (has_length P ≡ false → n ≡ 0) → Occurs bytes p (owner_bytes (has_length P) (distance p t) n) → pointer_at bytes p sharing P ≡ pointer_to t sharing P n
   pointer_there (one X) none stands = without_length (one X) (sym (none refl)) stands

@@ -105,7 +105,7 @@ resolves_out_of_line D p t n z a long few small there e =
     ap (λ x. x / 64) (sym plain ∙ at ∙ same) ∙ coded_first n few) in
     record {
       reads = λ s bytes knows stands. (
-          let v : string_at bytes p ≡ to_text t n = λ i. record { target = offset bytes stands i; sharing = None; pointee = text; length = many bytes stands i } in
+          let v : string_at bytes p ≡ to_text t n = λ i. record { target = offset bytes stands i; sharing = None; order = None; pointee = text; length = many bytes stands i } in
           subst (λ q. Reads s bytes p str (hole q)) v (reads_out_of_line (first bytes stands) (rw (many bytes stands) long)));
       clean = λ s bytes knows stands. clean_out_of_line (first bytes stands);
     }
