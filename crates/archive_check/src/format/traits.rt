@@ -18,7 +18,7 @@ use std::alloc::{Allocator, Global};
 
 mod arrays;
 mod four_parts;
-mod keys;
+mod map_keys;
 mod layouts;
 mod leaves;
 mod parts;
@@ -27,7 +27,7 @@ mod pointees;
 mod variants;
 
 pub use four_parts::FourParts;
-pub use keys::MapKey;
+pub use map_keys::MapKey;
 pub use layouts::{LayoutRaw, layout_of_run};
 pub use parts::{PortableParts, Record, define_record, expr_of_record, size_of_record};
 pub use pointees::PortablePointee;
