@@ -36,24 +36,31 @@ module _ (Q P : Pointer → Type 0) where
   marked_none (p ∷ O) h = (λ e. cc e, λ e. h p, marked_none O h)
 
 module _ (s : Schema) (bytes : List ℕ) where
-  key_texts : {q : ℕ} {v : Value} (K : Key) → Reads s bytes q (key_shape K) v → (p : Pointer) → Contains (pointers v) p → IsText p
-  key_texts (leaf_key kind) (reads_leaf h) p c = none_in c
-  key_texts str_key (reads_inline o h) p c = none_in c
-  key_texts {q = q} str_key (reads_out_of_line o h) p c = ⊎_elim (λ e. rw (← e) (refl, refl, refl)) (λ m. none_in m) (contains_cases (string_at bytes q) [] p c)
+  leaf_texts : {q : ℕ} {kind : Kind} {v : Value} → Reads s bytes q (leaf kind) v → (p : Pointer) → Contains (pointers v) p → IsText p
+  leaf_texts (reads_leaf h) p c = none_in c
 
-  entries_texts : {p n : ℕ} {K : Key} {V : Shape} {vs : Values} → ReadsRun s bytes p n (entry_of K V) vs → AllMarked IsText Any (marks_of_entries vs) (all_pointers vs)
-  entries_texts reads_none = tt
-  entries_texts {K = K} (reads_element {vs = vs} (reads_parts (reads_part {v = u} r (reads_part {v = w} r' reads_no_part))) rs) =
-      let same : (pointers u ++ (pointers w ++ [])) ++ all_pointers vs ≡ pointers u ++ (pointers w ++ all_pointers vs)
-          = append_assoc (pointers u) (pointers w ++ []) (all_pointers vs) ∙ ap (λ x. pointers u ++ (x ++ all_pointers vs)) (append-nil (pointers w)) in
-      subst (λ O. AllMarked IsText Any (each_marked true (pointers u) ++ (each_marked false (pointers w) ++ marks_of_entries vs)) O) (sym same)
-      (marked_keys IsText Any (pointers u) (each_marked false (pointers w) ++ marks_of_entries vs) (pointers w ++ all_pointers vs) (key_texts K r)
-      (marked_values IsText Any (pointers w) (marks_of_entries vs) (all_pointers vs) (λ p. tt) (entries_texts rs)))
+  str_texts : {q : ℕ} {v : Value} → Reads s bytes q str v → (p : Pointer) → Contains (pointers v) p → IsText p
+  str_texts (reads_inline o h) p c = none_in c
+  str_texts {q = q} (reads_out_of_line o h) p c = ⊎_elim (λ e. rw (← e) (refl, refl, refl)) (λ m. none_in m) (contains_cases (string_at bytes q) [] p c)
+
+  key_texts : {q : ℕ} {v : Value} (K : Key) → Reads s bytes q (key_shape K) v → (p : Pointer) → Contains (pointers v) p → IsText p
+  key_texts (leaf_key kind) r p c = leaf_texts r p c
+  key_texts str_key r p c = str_texts r p c
+
+  module _ (K : Key) (V : Shape) where
+    entries_texts : {p n : ℕ} {vs : Values} → ReadsRun s bytes p n (entry_of K V) vs → AllMarked IsText Any (marks_of_entries vs) (all_pointers vs)
+    entries_texts reads_none = tt
+    entries_texts (reads_element {vs = vs} (reads_parts (reads_part {v = u} r (reads_part {v = w} r' reads_no_part))) rs) =
+        let same : (pointers u ++ (pointers w ++ [])) ++ all_pointers vs ≡ pointers u ++ (pointers w ++ all_pointers vs)
+            = append_assoc (pointers u) (pointers w ++ []) (all_pointers vs) ∙ ap (λ x. pointers u ++ (x ++ all_pointers vs)) (append-nil (pointers w)) in
+        subst (λ O. AllMarked IsText Any (each_marked true (pointers u) ++ (each_marked false (pointers w) ++ marks_of_entries vs)) O) (sym same)
+        (marked_keys IsText Any (pointers u) (each_marked false (pointers w) ++ marks_of_entries vs) (pointers w ++ all_pointers vs) (key_texts K r)
+        (marked_values IsText Any (pointers w) (marks_of_entries vs) (all_pointers vs) (λ p. tt) (entries_texts rs)))
 
   -- the marked pointers of what a region says are keys'
   pub marks_texts : {t n : ℕ} {o : Option Key} {P : Pointee} {v : Value} → Contents s bytes t P n v → Ordered s bytes t n o P → AllMarked IsText Any (marks o v) (pointers v)
   marks_texts {v = v} c in_any_order = marked_none IsText Any (pointers v) (λ p. tt)
-  marks_texts (contents_run r) (in_key_order h) = entries_texts r
+  marks_texts (contents_run r) (in_key_order {K = K} {V = V} h) = entries_texts K V r
 
   -- a text leads nowhere
   pub text_leads : {t n : ℕ} {P : Pointee} {v : Value} → P ≡ text → Contents s bytes t P n v → pointers v ≡ []
@@ -101,7 +108,7 @@ module _ (s : Schema) (bytes : List ℕ) where
         by_key false is g = h q f g
 
     -- a shared pointer's region, in any order
-    shared_free : (p : Pointer) (t : ℕ) {flavor : Flavor} → p.sharing ≡ Some flavor → (region_of s p t, order_of p) ≡ (region_at s t p.pointee p.length true, None)
+    shared_free : (p : Pointer) (t : ℕ) {flavor : Flavor} → p.sharing ≡ Some flavor → ◌≡◌ {A = Free} (region_of s p t, order_of p) (region_at s t p.pointee p.length true, None)
     shared_free p t e i = (region_at s t p.pointee p.length (is_some (e i)), cond (is_some (e i)) None p.order)
 
     left_free : (G H : List Free) → FreeAmong (G ++ H) → FreeAmong G
@@ -116,14 +123,14 @@ module _ (s : Schema) (bytes : List ℕ) where
     rest_free : (G H : List Free) (f : Free) → FreeAmong (G ++ f ∷ H) → FreeAmong H
     rest_free G H f sub g c = sub g (Contains-append_right G (f ∷ H) g (contains_later f H g c))
 
-    seen_by : {mid seen : Seen} (mark : Bool) (own rest : List Free) (f : Free) → FreeAmong (cond mark rest (own ++ f ∷ rest)) → (mark ≡ true → SeenFree seen → SeenFree mid) → (FreeAmong own → SeenFree seen → SeenFree mid) → SeenFree seen → FreeAmong rest × SeenFree mid
-    seen_by true own rest f sub key value h = (sub, key refl h)
-    seen_by false own rest f sub key value h = (rest_free own rest f sub, value (left_free own (f ∷ rest) sub) h)
+    seen_by : (mid seen : Seen) (mark : Bool) (own rest : List Free) (f : Free) → FreeAmong (cond mark rest (own ++ f ∷ rest)) → (mark ≡ true → SeenFree seen → SeenFree mid) → (FreeAmong own → SeenFree seen → SeenFree mid) → SeenFree seen → FreeAmong rest × SeenFree mid
+    seen_by mid seen true own rest f sub key other h = (sub, key refl h)
+    seen_by mid seen false own rest f sub key other h = (rest_free own rest f sub, other (left_free own (f ∷ rest) sub) h)
 
     pub tour_seen : {pending : List ℕ} {seen last : Seen} {O : List Pointer} {C : List Region} (M : List Bool) (i : Tour s bytes pending seen O C last) → AllMarked IsText Any M O → FreeAmong (free_of M i) → SeenFree seen → SeenFree last
     tour_seen M tour_end texts sub h = h
     tour_seen {seen = seen} M (tour_unique {mid = mid} {p = p} {t = t} {v = v} e l i j) texts sub h =
-        let known = seen_by {mid = mid} {seen = seen} (first_mark M) (free_of (marks (order_of p) v) i) (free_of (later_marks M) j) (region_of s p t, order_of p) sub
+        let known = seen_by mid seen (first_mark M) (free_of (marks (order_of p) v) i) (free_of (later_marks M) j) (region_of s p t, order_of p) sub
             (λ is z. let none : mid ≡ seen = no_tour (text_leads ((texts.0 is).1) l.contents) i in subst (λ x. SeenFree x) (sym none) z)
             (λ left z. tour_seen (marks (order_of p) v) i (marks_texts l.contents l.ordered) left z) h in
         tour_seen (later_marks M) j (texts.2) (known.0) (known.1)
@@ -140,15 +147,15 @@ module _ (s : Schema) (bytes : List ℕ) where
     closed_join G H f h c k g m = ⊎_elim (λ l. h g l) (λ l. ⊎_elim (λ e. rw (← e) c) (λ o. k g o) (contains_cases f H g l)) (Contains-append_cases G (f ∷ H) g m)
 
     -- what comes of a unique pointer, by its mark
-    unique_by : {O : List Pointer} {p : Pointer} {t : ℕ} {v : Value} (M : List Bool) (mark : Bool) → first_mark M ≡ mark → (own rest : List Free) (kown krest : List Region) → p.sharing ≡ None → Leads s bytes p t v
+    unique_by : (O : List Pointer) {p : Pointer} {t : ℕ} {v : Value} (M : List Bool) (mark : Bool) → first_mark M ≡ mark → (own rest : List Free) (kown krest : List Region) → p.sharing ≡ None → Leads s bytes p t v
         → FreeAmong (cond mark rest (own ++ (region_of s p t, order_of p) ∷ rest)) → KeysAmong (cond mark (region_of s p t ∷ krest) (kown ++ krest))
         → (FreeAmong own → KeysAmong kown → AllMarked LeadsKey LeadsFree (marks (order_of p) v) (pointers v) × AreClosed own)
         → (FreeAmong rest → KeysAmong krest → AllMarked LeadsKey LeadsFree (later_marks M) O × AreClosed rest)
         → AllMarked LeadsKey LeadsFree M (p ∷ O) × AreClosed (cond mark rest (own ++ (region_of s p t, order_of p) ∷ rest))
-    unique_by {p = p} {t = t} {v = v} M true is own rest kown krest e l sub ksub inner outer =
+    unique_by O {p = p} {t = t} {v = v} M true is own rest kown krest e l sub ksub inner outer =
         let o = outer sub (λ r c. ksub r (contains_later (region_of s p t) krest r c)) in
         ((λ z f. (t, v, l, ksub (region_of s p t) (contains_first krest (region_of s p t))), λ z. (let never : true ≡ false = sym is ∙ z in cc), o.0), o.1)
-    unique_by {p = p} {t = t} {v = v} M false is own rest kown krest e l sub ksub inner outer =
+    unique_by O {p = p} {t = t} {v = v} M false is own rest kown krest e l sub ksub inner outer =
         let n = inner (left_free own ((region_of s p t, order_of p) ∷ rest) sub) (λ r c. ksub r (Contains-append_left kown krest r c)) in
         let o = outer (rest_free own rest (region_of s p t, order_of p) sub) (λ r c. ksub r (Contains-append_right kown krest r c)) in
         ((λ z. (let never : true ≡ false = sym z ∙ is in cc), λ z. (t, v, l, this_free own rest (region_of s p t, order_of p) sub), o.0),
@@ -160,10 +167,10 @@ module _ (s : Schema) (bytes : List ℕ) where
     tour_closed {seen = seen} M (tour_unique {mid = mid} {p = p} {ps = O} {t = t} {v = v} e l i j) texts sub ksub h =
         let own = free_of (marks (order_of p) v) i in
         let rest = free_of (later_marks M) j in
-        let known = seen_by {mid = mid} {seen = seen} (first_mark M) own rest (region_of s p t, order_of p) sub
+        let known = seen_by mid seen (first_mark M) own rest (region_of s p t, order_of p) sub
             (λ is z. let none : mid ≡ seen = no_tour (text_leads ((texts.0 is).1) l.contents) i in subst (λ x. SeenFree x) (sym none) z)
             (λ left z. tour_seen (marks (order_of p) v) i (marks_texts l.contents l.ordered) left z) h in
-        unique_by {O = O} M (first_mark M) refl own rest (keys_of (marks (order_of p) v) i) (keys_of (later_marks M) j) e l sub ksub
+        unique_by O M (first_mark M) refl own rest (keys_of (marks (order_of p) v) i) (keys_of (later_marks M) j) e l sub ksub
         (λ left kleft. tour_closed (marks (order_of p) v) i (marks_texts l.contents l.ordered) left kleft h)
         (λ right kright. tour_closed (later_marks M) j (texts.2) right kright (known.1))
     tour_closed M (tour_new {seen = seen} {p = p} {ps = O} {t = t} {v = v} {flavor = flavor} e none l i j) texts sub ksub h =

@@ -87,7 +87,7 @@ module _ (s : Schema) (laid : LaidOut s) (bytes : List ℕ) where
     part_says (in_entry {f = f} {K = K} {V = V} {k = k} c o e below i) =
         let (v, h, ordered, marked, size) = accepted_closed s bytes a f c in
         let keyed = subst (λ x. AllMarked (LeadsKey s bytes (free_regions s bytes a) (key_regions s bytes a)) (LeadsFree s bytes (free_regions s bytes a) (key_regions s bytes a)) (marks x v) (pointers v)) o marked in
-        let there : Contents s bytes (f.0).begin (run (entry_of K V)) (f.0).length v = rw e at h in
+        let there : Contents s bytes (f.0).begin (run (entry_of K V)) (f.0).length v = subst (λ Y. Contents s bytes (f.0).begin Y (f.0).length v) e h in
         let m = entry_says (LeadsKey s bytes (free_regions s bytes a) (key_regions s bytes a)) (LeadsFree s bytes (free_regions s bytes a) (key_regions s bytes a)) K V there keyed k below in
         let (w, l, g) = part_of_reads s bytes i (contents_one m.value_reads) in
         (w, l, λ z d. All-contains (LeadsFree s bytes (free_regions s bytes a) (key_regions s bytes a)) (pointers m.value) z m.values (g z d))
@@ -107,7 +107,7 @@ module _ (s : Schema) (laid : LaidOut s) (bytes : List ℕ) where
     comes (to_value {q = q} {K = K} {V = V} h there below) =
         let (w, c, leads) = part_says (comes h) in
         let same : hole (map_at bytes q K V) ≡ w = sym (map_says c) in
-        let (u, x, l, free) = leads (map_at bytes q K V) (rw same at (Contains-push [] (map_at bytes q K V))) in
+        let (u, x, l, free) = leads (map_at bytes q K V) (subst (λ z. Contains (pointers z) (map_at bytes q K V)) same (Contains-push [] (map_at bytes q K V))) in
         let here : u ≡ _ = pos_one (sym l.target ∙ there) in
         rw (← here) (in_entry free refl refl below whole_region)
 
@@ -124,7 +124,7 @@ module _ (s : Schema) (laid : LaidOut s) (bytes : List ℕ) where
       -- it lies in a free region, and of the entries of a map in a value
       data Home (f : Free) : Type 0 where
         home_plain : f.1 ≡ None → Home f
-        home_value : {K : Key} {V : Shape} {k : ℕ} → f.1 ≡ Some K → (f.0).pointee ≡ run (entry_of K V)
+        home_value : (K : Key) (V : Shape) (k : ℕ) → f.1 ≡ Some K → (f.0).pointee ≡ run (entry_of K V)
             → (f.0).begin + k * size_of s.layouts (entry_of K V) + up (size_of s.layouts (key_shape K)) (align_of s.layouts V) ≤ leaf_begin x
             → leaf_begin x + leaf_size x ≤ (f.0).begin + (k + 1) * size_of s.layouts (entry_of K V) → Home f
 
@@ -153,7 +153,7 @@ module _ (s : Schema) (laid : LaidOut s) (bytes : List ℕ) where
                 among = c;
                 above = omega (arith, inside.0, low);
                 below = omega (arith, inside.1, high, spans.1, one_more, more, size);
-                home = home_value o e (omega (arith, inside.0, low)) (omega (arith, inside.1, high, spans.1, one_more));
+                home = home_value K V k o e (omega (arith, inside.0, low)) (omega (arith, inside.1, high, spans.1, one_more));
               }
 
       module _ {g : Free} {K : Key} {V : Shape} (c : Contains (free_regions s bytes a) g) (o : g.1 ≡ Some K) (e : (g.0).pointee ≡ run (entry_of K V)) (i : ℕ) (less : i < (g.0).length) where
@@ -167,11 +167,11 @@ module _ (s : Schema) (laid : LaidOut s) (bytes : List ℕ) where
             omega (arith, more, size)
 
         -- in a value of the map itself
-        beside_own : {L : Key} {W : Shape} {k : ℕ} → L ≡ K → W ≡ V → (g.0).begin + k * size_of s.layouts (entry_of L W) + up (size_of s.layouts (key_shape L)) (align_of s.layouts W) ≤ leaf_begin x
+        beside_own : {L : Key} {W : Shape} (k : ℕ) → L ≡ K → W ≡ V → (g.0).begin + k * size_of s.layouts (entry_of L W) + up (size_of s.layouts (key_shape L)) (align_of s.layouts W) ≤ leaf_begin x
             → leaf_begin x + leaf_size x ≤ (g.0).begin + (k + 1) * size_of s.layouts (entry_of L W) → Beside x ((g.0).begin + i * size_of s.layouts (entry_of K V)) (size_of s.layouts (key_shape K))
-        beside_own {k = k} one two from upto =
-            let above = rw (one, two) at from in
-            let under = rw (one, two) at upto in
+        beside_own k keyed valued from upto =
+            let above = rw (keyed, valued) at from in
+            let under = rw (keyed, valued) at upto in
             let spans = entry_spans K V in
             ⊎_elim
             (λ lt. let more : (k + 1) * size_of s.layouts (entry_of K V) ≤ i * size_of s.layouts (entry_of K V) = mul-le-mul_right (size_of s.layouts (entry_of K V)) (omega (arith, lt)) in inl (omega (arith, under, more)))
@@ -180,10 +180,10 @@ module _ (s : Schema) (laid : LaidOut s) (bytes : List ℕ) where
 
         beside_home : {f : Free} → f ≡ g → Home f → Beside x ((g.0).begin + i * size_of s.layouts (entry_of K V)) (size_of s.layouts (key_shape K))
         beside_home same (home_plain p) = (let never : Some K ≡ None = sym o ∙ ap (λ (z : Free). z.1) (sym same) ∙ p in cc)
-        beside_home same (home_value {K = L} {V = W} p h from upto) =
+        beside_home same (home_value L W k p h from upto) =
             let keys : Some L ≡ Some K = sym p ∙ ap (λ (z : Free). z.1) same ∙ o in
             let pointees : run (entry_of L W) ≡ run (entry_of K V) = sym h ∙ ap (λ (z : Free). (z.0).pointee) same ∙ e in
-            beside_own (cc keys) (cc pointees) (rw (ap (λ (z : Free). (z.0).begin) same) at from) (rw (ap (λ (z : Free). (z.0).begin) same) at upto)
+            beside_own {L = L} {W = W} k (cc keys) (cc pointees) (rw (ap (λ (z : Free). (z.0).begin) same) at from) (rw (ap (λ (z : Free). (z.0).begin) same) at upto)
 
         -- the leaf has no byte of the key where it lies
         in_place : Beside x ((g.0).begin + i * size_of s.layouts (entry_of K V)) (size_of s.layouts (key_shape K))
@@ -205,7 +205,7 @@ module _ (s : Schema) (laid : LaidOut s) (bytes : List ℕ) where
         elsewhere is far =
             let (v, h, ordered, marked, size) = accepted_closed s bytes a g c in
             let keyed = subst (λ z. AllMarked (LeadsKey s bytes (free_regions s bytes a) (key_regions s bytes a)) (LeadsFree s bytes (free_regions s bytes a) (key_regions s bytes a)) (marks z v) (pointers v)) o marked in
-            let there : Contents s bytes (g.0).begin (run (entry_of K V)) (g.0).length v = rw e at h in
+            let there : Contents s bytes (g.0).begin (run (entry_of K V)) (g.0).length v = subst (λ Y. Contents s bytes (g.0).begin Y (g.0).length v) e h in
             let m = entry_says (LeadsKey s bytes (free_regions s bytes a) (key_regions s bytes a)) (LeadsFree s bytes (free_regions s bytes a) (key_regions s bytes a)) K V there keyed i less in
             let key : Reads s bytes ((g.0).begin + i * size_of s.layouts (entry_of K V)) str m.key = subst (λ Y. Reads s bytes ((g.0).begin + i * size_of s.layouts (entry_of K V)) Y m.key) (ap key_shape is) m.key_reads in
             let pointer = string_at bytes ((g.0).begin + i * size_of s.layouts (entry_of K V)) in
@@ -264,7 +264,7 @@ module _ (s : Schema) (laid : LaidOut s) (bytes : List ℕ) where
           (λ own. tour_free (marks (order_of p) v) i (marks_texts s bytes l.contents l.ordered) own) (λ rest. tour_free (later_marks M) j (texts.2) rest) all
       tour_free M (tour_again e t known free j) texts all = tour_free (later_marks M) j (texts.2) all
 
-      pub part_free : IsFree a x
+      part_free : IsFree a x
       part_free = tour_free [] a.tour (marked_none IsText Any (pointers a.value) (λ p. tt)) (λ g m. beside_keys g (Contains-append_left (free_of [] a.tour) ((root_region s root X, None) ∷ []) g m))
 
     -- what seals come to is free to be written over

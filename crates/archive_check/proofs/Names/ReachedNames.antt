@@ -46,7 +46,7 @@ module _ (s s' : Schema) (X : Shape) where
   known_run k n (mentions_run h) = k n (mentions_vec h)
 
   known_entries : {K : Key} {V : Shape} → ((n : Name) → Mentions n (sorted_map K V) → Reaches s.table n X) → KnownPointee (run (entry_of K V))
-  known_entries k n (mentions_run h) = k n (mentions_map (entry_mentions h))
+  known_entries {K} k n (mentions_run h) = k n (mentions_map (entry_mentions K h))
 
   known_key : (K : Key) (V : Shape) → Known (entry_of K V) → Known (key_shape K)
   known_key K V k n h = k n (mentions_parts (mentions_first h))

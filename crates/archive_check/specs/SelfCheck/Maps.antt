@@ -1,6 +1,6 @@
 -- The check of a map: how its entries lie, and the law of its type, from those of its key and its value.
 use Rattle.std.specs.Prelude.{◌≡◌, ℕ, ℤ, ◌+◌, max, Bool, true, ◌&&◌, ◌||◌, Option, Some, None, IsTrue, nat_lt, List}
-use Rattle.std.proofs.Common.{refl, sym, ◌∙◌}
+use Rattle.std.proofs.Common.{refl, sym, ap, ◌∙◌}
 use Rattle.std.proofs.lemmas.Bool.{and_parts}
 use Rattle.archive_check.specs.Shape.{Name, Kind, Key, leaf_key, str_key, Shape, leaf, str, parts, sorted_map, Pointee, run, Parts, no_part, part, Table, key_shape, entry_of}
 use Rattle.archive_check.specs.Layout.{Layout, up}
@@ -53,18 +53,19 @@ no_name_held (leaf_key kind) h = elim h [ ]
 no_name_held str_key h = elim h [ ]
 
 no_name : {n : Name} (K : Key) → Mentions n (key_shape K) → ⊥
-no_name K (mentions_held h) = no_name_held K h
-no_name (leaf_key kind) m = elim m [ | mentions_held h ↦ elim h [ ] ]
-no_name str_key m = elim m [ | mentions_held h ↦ elim h [ ] ]
+no_name (leaf_key kind) (mentions_held h) = elim h [ ]
+no_name str_key (mentions_held h) = elim h [ ]
 
-entry_holds : {n : Name} {K : Key} {V : Shape} → Holds n (entry_of K V) → Holds n V
-entry_holds {K = K} (holds_parts (holds_first h)) = absurd (no_name_held K h)
-entry_holds (holds_parts (holds_later (holds_first h))) = h
+entry_holds : {n : Name} (K : Key) {V : Shape} → Holds n (entry_of K V) → Holds n V
+entry_holds K (holds_parts (holds_first h)) = absurd (no_name_held K h)
+entry_holds K (holds_parts (holds_later (holds_first h))) = h
+entry_holds K (holds_parts (holds_later (holds_later h))) = elim h [ ]
 
-pub entry_mentions : {n : Name} {K : Key} {V : Shape} → Mentions n (entry_of K V) → Mentions n V
-entry_mentions (mentions_held h) = mentions_held (entry_holds h)
-entry_mentions {K = K} (mentions_parts (mentions_first m)) = absurd (no_name K m)
-entry_mentions (mentions_parts (mentions_later (mentions_first m))) = m
+pub entry_mentions : {n : Name} (K : Key) {V : Shape} → Mentions n (entry_of K V) → Mentions n V
+entry_mentions K (mentions_held h) = mentions_held (entry_holds K h)
+entry_mentions K (mentions_parts (mentions_first m)) = absurd (no_name K m)
+entry_mentions K (mentions_parts (mentions_later (mentions_first m))) = m
+entry_mentions K (mentions_parts (mentions_later (mentions_later m))) = elim m [ ]
 
 or_nothing : (o : Option Name) → o ≡ or_else o None
 or_nothing None = refl
@@ -84,9 +85,9 @@ module _ (D : Definitions) (K : Key) (V : Shape) (ps : Parts) (is : parts ps ≡
       let (own, alone) = and_parts direct lone each in
       let r = h own in
       let o = r.ordered alone in
-      let root : missing true o.0 (sorted_map K V) ≡ missing true o.0 (parts ps) = rw is (entry_misses o.0 K V) in
+      let root : missing true o.0 (sorted_map K V) ≡ missing true o.0 (parts ps) = entry_misses o.0 K V ∙ sym (ap (λ Y. missing true o.0 Y) is) in
       own_check D (sorted_map K V) 8 o.0 nameless refl (owned_order D (parts ps) (sorted_map K V) o.0 root o.1) (λ none. none_listed (listed D) (r.plain none).has)
 
   -- it reaches what its entries do
   pub map_reaches : NoOthers D (parts ps) → NoOthers D (sorted_map K V)
-  map_reaches h = around_reached D (entry_of K V) (sorted_map K V) (λ n m. mentions_map (entry_mentions m)) (rw is at h)
+  map_reaches h = around_reached D (entry_of K V) (sorted_map K V) (λ n m. mentions_map (entry_mentions K m)) (rw is at h)

@@ -1,5 +1,5 @@
 //! The keys of sorted maps: what they take, and how they are ordered where they lie. Our own.
-#![tactic(auto, using(crate::proofs::Maps::KeyOrder::key_order), unfolding(crate::specs::Reads::bytes_at, crate::specs::Reads::kind_value, crate::specs::Reads::kind_number))]
+#![tactic(auto, using(crate::proofs::Maps::KeyOrder::key_order), unfolding(crate::specs::Reads::bytes_at, crate::specs::Reads::u32_at, crate::specs::Reads::i32_at, crate::specs::Reads::kind_value, crate::specs::Reads::kind_number))]
 
 ghost use Rattle.std.specs.Prelude.{◌≡◌, ◌↔◌, ◌+◌, ◌≤◌, length, IfSome, IsTrue};
 ghost use Rattle.std.specs.Int.{w8, w16, w64, w128, byte_len, from_le_bytes, cast_signed};
