@@ -32,7 +32,7 @@ returns-in_err-check_key-clause-stops g c d =
     let count : c.args.count - c.loop-index.index ≡ suc (c.args.count - (c.loop-index.index + 1)) = omega (arith, c.loop-index-test.true) in
     rw c.from_residual.ensures (key_refused g.K.ArchivePointee.definitions g.V.ArchivePointee.definitions g.K.MapKey.key g.V.Portable.shape c.args.bytes.now (entries_way c.args.bytes.now None c.args.at c.args.count g.K.MapKey.key g.V.Portable.shape)
     c.loop-index.before (c.args.at + c.loop-index.index * c.args.size) (c.args.count - c.loop-index.index) n count (g.C.Context.state c.args.context.now) (g.C.Context.state c.loop-index.context) c.loop-index.invariant.1
-    c.check_key.new.refusal (c.in_err-check_key.ensures.stops (and_parts g.K.Check.direct (g.V.Check.direct && true) d).0 n g.V.Portable.shape))
+    c.check_key.new.refusal (c.in_err-check_key.ensures.stops (and_parts g.K.Check.SelfCheck.direct (g.V.Check.SelfCheck.direct && true) d).0 n g.V.Portable.shape))
 
 pub returns-in_err-check_parts-clause-stops : goal.returns-in_err-check_parts-clause-stops
 returns-in_err-check_parts-clause-stops g c d =
@@ -42,7 +42,7 @@ returns-in_err-check_parts-clause-stops g c d =
     c.loop-index.before (c.args.at + c.loop-index.index * c.args.size) (c.args.count - c.loop-index.index) n count (g.C.Context.state c.args.context.now) (g.C.Context.state c.loop-index.context) c.loop-index.invariant.1
     c.size.result c.args.size (sizes g.K.ArchivePointee.definitions g.V.ArchivePointee.definitions g.K.MapKey.key g.K.Portable.layout g.met.K.MapKey.key_laid (rw g.met.K.MapKey.is_key at g.met.K.Portable.has_layout) g.V.Portable.shape g.V.Portable.layout g.met.V.Portable.has_layout c.size.result c.args.size c.size.ensures c.requires.sized)
     (g.C.Context.state c.check_key.new.context) (rw g.met.K.MapKey.is_key at c.in_ok-check_key.ensures.through) c.in_ok-check_key.ensures.behind
-    c.check_parts.new.refusal (c.in_err-check_parts.ensures.stops (and_parts g.K.Check.direct (g.V.Check.direct && true) d).1))
+    c.check_parts.new.refusal (c.in_err-check_parts.ensures.stops (and_parts g.K.Check.SelfCheck.direct (g.V.Check.SelfCheck.direct && true) d).1))
 
 pub loop-index-preserved : goal.loop-index-preserved
 loop-index-preserved g c =
