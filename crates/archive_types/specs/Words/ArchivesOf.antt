@@ -26,9 +26,11 @@ use Rattle.archive_write.specs.Written.{GoesOn}
 abbrev pub Leaves : {T A R M C W : Type 0} → Archive.Ghosts T A R C M → FormatOf M → T → Keys.Ghosts W → W → W → ℕ → Type 0
 Leaves a f v k old new root = Archives f.definitions (k.state old).bytes (k.state new).bytes root f.shape f.layout.size (a.keys v) (a.meaning v)
 
+-- behind what the writer held, an archive of the value was written
 abbrev pub LeavesOne : {T A R M C W : Type 0} → Archive.Ghosts T A R C M → FormatOf M → T → Keys.Ghosts W → W → W → Type 0
 LeavesOne a f v k old new = (root : ℕ) × Leaves a f v k old new root
 
+-- behind what the lent writer held, an archive of the value was written, with its root there
 abbrev pub LeavesIn : {T A R M C W : Type 0} → Archive.Ghosts T A R C M → FormatOf M → T → Keys.Ghosts W → Both (MutBor W) (MutBor W) → ℕ → Type 0
 LeavesIn a f v k w root = Leaves a f v k w.entry.now w.exit.now root
 
@@ -44,6 +46,7 @@ NoArchiveOf a f v e = (e ≡ OutOfMemory) ⊎ HindersRegion f.definitions (one f
 abbrev pub WholeRefused : {T A R M C : Type 0} → Archive.Ghosts T A R C M → FormatOf M → T → WriterState → WriterState → Error → Type 0
 WholeRefused a f v old new e = IsRegionRefused f.definitions (one f.shape) 0 (a.keys v) (a.meaning v) (unshared old) (unshared new) e
 
+-- the writer ends somewhere behind what it held, and this is why no archive was written
 abbrev pub EndsWithNone : {T A R M C W : Type 0} → Archive.Ghosts T A R C M → FormatOf M → T → Keys.Ghosts W → W → Error → Type 0
 EndsWithNone {W = W} a f v k old e =
     (end : W) × GoesOn (unshared (k.state old)) (unshared (k.state end))
@@ -65,9 +68,11 @@ abbrev pub ReadsArchive : {M D T A R N C : Type 0} → FormatOf M → List ℕ �
 ReadsArchive f bytes d b a t =
     ReadsWhole f.definitions bytes (root_in bytes f.layout) f.shape (d.entry_of b.entry.now) (d.entry_of b.exit.now) (a.meaning t) (a.keys t)
 
+-- why no value is read back of these bytes
 abbrev pub RefusesArchive : {M D : Type 0} → FormatOf M → List ℕ → Entries.Ghosts D → Both (MutBor D) (MutBor D) → Error → Type 0
 RefusesArchive f bytes d b e = RefusesWhole f.definitions bytes (root_in bytes f.layout) f.shape (d.entry_of b.entry.now) e
 
+-- where no reading can meet an open position, a refusal is one of the check
 abbrev pub AsCheckIfNeverOpen : {M D T : Type 0} → FormatOf M → List ℕ → Entries.Ghosts D → Both (MutBor D) (MutBor D) → Result T Error → Type 0
 AsCheckIfNeverOpen f bytes d b result =
     IsNeverOpen f.definitions f.shape (d.entry_of b.entry.now) → IfErr result (RefusesAsCheck f.definitions bytes (root_in bytes f.layout) f.shape)
