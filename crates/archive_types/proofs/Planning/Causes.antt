@@ -93,10 +93,10 @@ pub explains_write : (own : Error → Type 0) (reaches : ℕ → Type 0) (n posi
 explains_write own reaches n position old new OutOfMemory here fits g h = no_memory
 explains_write own reaches n position old new (BufferOverflow count cap at) here fits g h = no_room (record {
   behind = omega (arith, h.1, here);
-  held = h.1 ∙ sym h.2.0;
+  held = h.1 ∙ sym h.2;
   planned = rw (h.0, h.1) fits;
-  full = full_now old.room n position (length old.bytes) count cap at here h.0 h.1 h.2.1;
-  left = left_now old.room new.room old.bytes new.bytes n count position cap g.room h.0 h.2.1;
+  full = full_now old.room n position (length old.bytes) count cap at here h.0 h.1 h.3;
+  left = left_now old.room new.room old.bytes new.bytes n count position cap g.room h.0 h.3;
 })
 explains_write own reaches n position old new WriterFailed here fits g h = device_failed h
 explains_write own reaches n position old new IsizeOverflow here fits g h = absurd h
