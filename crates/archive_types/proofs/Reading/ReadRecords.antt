@@ -48,7 +48,7 @@ module _ (D : Definitions) (bytes : List ℕ) (q : ℕ) (P : Pointee) (n : ℕ) 
     pub knows : (s : Schema) → Knows s D → Knows s E
     pub reached : (s : Schema) → Knows s D → (l : Lies s bytes q P n) → (r : ℕ) (Y : Shape) → IsPart s q at ps r Y → (u : Value) × Reached s bytes l.root l.shape r (one Y) 0 u
 
-  module _ {keeps : Bool} {A E : Definitions} {X : Shape} {ps : Parts} {L : Layout} {at : ℕ} (laid : HasLayout A X L) (t : Tail (both A E) (part X ps) at) where
+  module _ {A E : Definitions} {X : Shape} {ps : Parts} {L : Layout} {at : ℕ} (laid : HasLayout A X L) (t : Tail (both A E) (part X ps) at) where
     first_reached : (s : Schema) → Knows s D → (l : Lies s bytes q P n) → (u : Value) × Reached s bytes l.root l.shape (q + up at L.align) (one X) 0 u
     first_reached s k l = subst (λ o. (u : Value) × Reached s bytes l.root l.shape (q + o) (one X) 0 u) (begins_there s A E X L laid (t.knows s k) at) (t.reached s k l _ X first_part)
 
@@ -225,10 +225,10 @@ module _ (D : Definitions) (X : Shape) (E : Definitions) (ps : Parts) (is : IsRe
     }
 
   -- in a contract's form
-  pub record_read : {keeps : Bool} {T : Type 0} (old new : Entries) (meanings : T → Values) (keys : T → List Naming) (r : Result T Error) → IfOk r (λ t. PartsReadBack keeps bytes q E ps 0 old new (meanings t) (keys t))
+  pub record_read : (keeps : Bool) {T : Type 0} (old new : Entries) (meanings : T → Values) (keys : T → List Naming) (r : Result T Error) → IfOk r (λ t. PartsReadBack keeps bytes q E ps 0 old new (meanings t) (keys t))
       → IfOk r (λ t. ReadsBack keeps D bytes q (one X) n old new (product (meanings t)) (keys t))
-  record_read old new meanings keys (Ok t) h = record_read_back old new (meanings t) (keys t) h
-  record_read old new meanings keys (Err e) h = tt
+  record_read keeps old new meanings keys (Ok t) h = record_read_back old new (meanings t) (keys t) h
+  record_read keeps old new meanings keys (Err e) h = tt
 
   pub record_refuses : (told : Entries) (e : Error) → RefusesParts E bytes q ps 0 told e → RefusesReading D bytes q (one X) n told e
   record_refuses told e (inl memory) = inl memory
