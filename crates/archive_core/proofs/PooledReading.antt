@@ -45,9 +45,9 @@ still_named old started t here others named u k is = elim (cases_eq u t) [
 kept_as : (mid new : Entries) → IsSame mid new → (keys : List Naming) → AreKept mid keys → AreKept new keys
 kept_as mid new same keys h key c = let (j, at, is) = h key c in (j, same key.0 ∙ at, is)
 
-module _ {keeps : Bool} (D : Definitions) (bytes : List ℕ) (q m : ℕ) (Q : Pointee) (w : Value) where
+module _ (D : Definitions) (bytes : List ℕ) (q m : ℕ) (Q : Pointee) (w : Value) where
   -- states that are the same each
-  read_after : (old mid new : Entries) (keys : List Naming) → ReadsBack keeps D bytes q Q m old mid w keys → IsSame mid new → ReadsBack keeps D bytes q Q m old new w keys
+  read_after : {keeps : Bool} (old mid new : Entries) (keys : List Naming) → ReadsBack keeps D bytes q Q m old mid w keys → IsSame mid new → ReadsBack keeps D bytes q Q m old new w keys
   read_after old mid new keys h same = record {
     kept = record {
       finished = λ u k is. same u ∙ h.kept.finished u k is;
@@ -62,7 +62,7 @@ module _ {keeps : Bool} (D : Definitions) (bytes : List ℕ) (q m : ℕ) (Q : Po
   }
 
   -- keys that are the same where positions are named by themselves
-  read_keys : (old new : Entries) (keys others : List Naming) → ReadsBack keeps D bytes q Q m old new w keys → (AreNamedByPosition old → others ≡ keys) → ReadsBack keeps D bytes q Q m old new w others
+  read_keys : {keeps : Bool} (old new : Entries) (keys others : List Naming) → ReadsBack keeps D bytes q Q m old new w keys → (AreNamedByPosition old → others ≡ keys) → ReadsBack keeps D bytes q Q m old new w others
   read_keys old new keys others h same = record {
     kept = h.kept;
     value = h.value;
@@ -108,7 +108,7 @@ module _ {keeps : Bool} (D : Definitions) (bytes : List ℕ) (q m : ℕ) (Q : Po
       | inr n ↦ apart u n
     ]
 
-    read_kept : (keys others : List Naming) → ReadsBack keeps D bytes q Q m old new w keys → (AreNamedByPosition old → others ≡ keys) → ReadsBack keeps D bytes q Q m old other w others
+    read_kept : {keeps : Bool} (keys others : List Naming) → ReadsBack keeps D bytes q Q m old new w keys → (AreNamedByPosition old → others ≡ keys) → ReadsBack keeps D bytes q Q m old other w others
     read_kept keys others h also = record {
       kept = record {
         finished = λ u x is. apart u (none_at u x is) ∙ h.kept.finished u x is;
