@@ -133,11 +133,13 @@ module _ (D : Definitions) (bytes : List ℕ) (q : ℕ) (P : Pointee) (n : ℕ) 
     once_both : KeepsRead keeps old new (ks ++ ls)
     once_both on by complete =
         let first = h.once on by complete in
-        let second = g.once on (h.kept.named by) first.1 in
-        (λ key c. ⊎_elim
-        (λ a. let (k, at', is) = first.0 key a in (k, g.kept.finished key.0 k at', is))
-        (λ b. second.0 key b)
-        (Contains-append_cases ks ls key c), second.1)
+        let second = g.once on (h.kept.named by) first.1 in (
+          λ key c. ⊎_elim
+              (λ a. let (k, at', is) = first.0 key a in (k, g.kept.finished key.0 k at', is))
+              (λ b. second.0 key b)
+              (Contains-append_cases ks ls key c),
+          second.1,
+        )
 
     both_read : TailRead keeps (part X ps) at old new (value v vs) (ks ++ ls)
     both_read = record { kept = keeps_both old mid new h.kept g.kept; fills = fills_both; shared = shared_both; unmet = unmet_both; closed = closed_both; once = once_both }
