@@ -2,7 +2,7 @@
 use Rattle.std.proofs.Common.{◌≡◌, ℕ, ◌+◌, ◌≤◌, length, arith, List, Some, None, Option, refl, ap, ◌∙◌}
 use Rattle.std.proofs.Math.Logic.{∥∥₁_map, ∥∥₁_elim}
 use Rattle.std.specs.Coded.{le_prop}
-use Rattle.archive_check.specs.Shape.{Name, Shape, leaf, parts, choice, array, boxed, vec, str, shared, weak, named, Pointee, one, Parts}
+use Rattle.archive_check.specs.Shape.{Name, Shape, leaf, parts, choice, array, boxed, vec, str, shared, weak, named, sorted_map, Pointee, one, Parts}
 use Rattle.archive_check.specs.Value.{Value, product, Values}
 use Rattle.archive_check.specs.Reads.{Schema, Reads, ReadsParts}
 use Rattle.archive_check.specs.Tour.{contents_one}
@@ -40,6 +40,7 @@ field_of none str i Y h offset b = cc
 field_of none (shared f P) i Y h offset b = cc
 field_of none (weak f P) i Y h offset b = cc
 field_of none (named n) i Y h offset b = cc
+field_of none (sorted_map K V) i Y h offset b = cc
 
 product_filled : {s : Schema} {bytes : List ℕ} {q : ℕ} {ps : Parts} {vs : Values} {w : Value} (i : ℕ) (Y : Shape) → part_at ps i ≡ Some Y → ReadsParts s bytes q 0 ps vs → Fills s bytes (product vs) w
     → (x u : Value) × Reads s bytes (q + offset_at s.layouts 0 ps i) Y x × Fills s bytes x u × (field_in i w ≡ Some u)

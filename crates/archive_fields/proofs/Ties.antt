@@ -4,7 +4,7 @@ use Rattle.std.proofs.lemmas.List.{take_all}
 use Rattle.archive_types.specs.Parts.{ZeroedParts}
 use Rattle.archive_types.specs.Writing.{ZeroedPlace}
 use Rattle.std.specs.Prelude.{is_some}
-use Rattle.archive_check.specs.Shape.{Name, Shape, leaf, parts, choice, array, boxed, vec, str, shared, weak, named, Parts, Variants, no_variant, variant, variant_at}
+use Rattle.archive_check.specs.Shape.{Name, Shape, leaf, parts, choice, array, boxed, vec, str, shared, weak, named, sorted_map, Parts, Variants, no_variant, variant, variant_at}
 use Rattle.archive_check.specs.Definitions.{Definitions, no_definition, defines, both, Knows, Has, listed}
 use Rattle.archive_check.specs.Members.PartsLayout.{IsRecord}
 use Rattle.archive_check.specs.Members.VariantsLayout.{IsChoice, payload_at, payload_offset}
@@ -71,6 +71,7 @@ choice_of str h = cc
 choice_of (shared f P) h = cc
 choice_of (weak f P) h = cc
 choice_of (named n) h = cc
+choice_of (sorted_map K V) h = cc
 
 pub record VariantIn (X : Shape) (tag : ℕ) (ps : Parts) : Type 0 where
   pub name : Name
@@ -89,6 +90,7 @@ variant_of str tag ps h = cc
 variant_of (shared f P) tag ps h = cc
 variant_of (weak f P) tag ps h = cc
 variant_of (named n) tag ps h = cc
+variant_of (sorted_map K V) tag ps h = cc
 
 pub record PartIn (D : Definitions) (X : Shape) (tag i offset : ℕ) (Y : Shape) : Type 0 where
   pub name : Name
@@ -108,6 +110,7 @@ part_of none str tag i Y h offset b = cc
 part_of none (shared f P) tag i Y h offset b = cc
 part_of none (weak f P) tag i Y h offset b = cc
 part_of none (named n) tag i Y h offset b = cc
+part_of none (sorted_map K V) tag i Y h offset b = cc
 
 pub part_here : {D : Definitions} {X : Shape} {tag i offset : ℕ} {Y : Shape} → PartIn D X tag i offset Y → (t : ℕ) → t ≡ tag → PartIn D X t i offset Y
 part_here {D = D} {X = X} {i = i} {offset = offset} {Y = Y} h t e = subst (λ z. PartIn D X z i offset Y) (sym e) h

@@ -1,7 +1,7 @@
 // The format of a number that isn't 0.
 
 ghost use Rattle.std.specs.Prelude.{◌≡◌, true, false, ⊤, refl};
-ghost use Rattle.archive_check.specs.Shape.{leaf, one, non_zero};
+ghost use Rattle.archive_check.specs.Shape.{leaf, one, non_zero, leaf_key};
 ghost use Rattle.archive_check.specs.Layout.{kind_size};
 ghost use Rattle.archive_check.specs.Definitions.{no_definition};
 ghost use Rattle.archive_check.specs.Members.LeafLayout.{leaf_layout, leaf_align, leaf_has_layout, no_definition_reached};
@@ -11,8 +11,8 @@ ghost use Rattle.archive_num.specs.Digits.{is_zero};
 
 use archive_check::context::ArchiveContext;
 use archive_check::format::error::Error;
-use archive_check::format::expr::{Defs, Expr, Kind};
-use archive_check::format::traits::{ArchivePointee, Portable};
+use archive_check::format::expr::{Defs, Expr, Key, Kind};
+use archive_check::format::traits::{ArchivePointee, MapKey, Portable};
 use archive_check::self_check::{SelfCheck, check_leaf};
 use archive_num::Integer;
 use std::alloc::{AllocError, Global};
@@ -157,5 +157,17 @@ impl<N: Integer> SelfCheck for NonZero<N> {
         context: &mut C,
     ) -> Option<()> {
         check_leaf(non_zero_kind::<N>(), bytes, at, refusal, context)
+    }
+}
+
+impl<N: Integer> MapKey for NonZero<N> {
+    ghost key = { leaf_key (non_zero N.sign N.width) };
+
+    ghost is_key = { refl };
+
+    ghost key_laid = { refl };
+
+    fn key() -> Key {
+        Key::Leaf(non_zero_kind::<N>())
     }
 }

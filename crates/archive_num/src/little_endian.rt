@@ -1,7 +1,7 @@
 //! The format of a number.
 
 ghost use Rattle.std.specs.Prelude.{◌≡◌, refl, true};
-ghost use Rattle.archive_check.specs.Shape.{leaf, one};
+ghost use Rattle.archive_check.specs.Shape.{leaf, one, leaf_key};
 ghost use Rattle.archive_check.specs.Layout.{kind_size};
 ghost use Rattle.archive_check.specs.Definitions.{no_definition};
 ghost use Rattle.archive_check.specs.Members.LeafLayout.{leaf_layout, leaf_align, leaf_has_layout, no_definition_reached};
@@ -10,8 +10,8 @@ ghost use Rattle.archive_check.specs.SelfCheck.Laws.{leaf_check};
 use crate::Native;
 use archive_check::context::ArchiveContext;
 use archive_check::format::error::Error;
-use archive_check::format::expr::{Defs, Expr};
-use archive_check::format::traits::{ArchivePointee, Portable};
+use archive_check::format::expr::{Defs, Expr, Key};
+use archive_check::format::traits::{ArchivePointee, MapKey, Portable};
 use archive_check::self_check::{SelfCheck, check_leaf};
 use std::alloc::{AllocError, Global};
 use std::cmp::Ordering;
@@ -133,5 +133,17 @@ impl<N: Native> SelfCheck for LittleEndian<N> {
         context: &mut C,
     ) -> Option<()> {
         check_leaf(N::kind(), bytes, at, refusal, context)
+    }
+}
+
+impl<N: Native> MapKey for LittleEndian<N> {
+    ghost key = { leaf_key N.kind };
+
+    ghost is_key = { refl };
+
+    ghost key_laid = { refl };
+
+    fn key() -> Key {
+        Key::Leaf(N::kind())
     }
 }

@@ -114,9 +114,6 @@ module _ (s : Schema) (bytes : List ℕ) where
     left_free : (G H : List Free) → FreeAmong (G ++ H) → FreeAmong G
     left_free G H sub f c = sub f (Contains-append_left G H f c)
 
-    right_free : (G H : List Free) → FreeAmong (G ++ H) → FreeAmong H
-    right_free G H sub f c = sub f (Contains-append_right G H f c)
-
     this_free : (G H : List Free) (f : Free) → FreeAmong (G ++ f ∷ H) → Contains F f
     this_free G H f sub = sub f (Contains-append_right G (f ∷ H) f (contains_first H f))
 

@@ -157,9 +157,6 @@ module _ (s : Schema) (laid : LaidOut s) (bytes : List ℕ) where
               }
 
       module _ {g : Free} {K : Key} {V : Shape} (c : Contains (free_regions s bytes a) g) (o : g.1 ≡ Some K) (e : (g.0).pointee ≡ run (entry_of K V)) (i : ℕ) (less : i < (g.0).length) where
-        key_place : ℕ
-        key_place = (g.0).begin + i * size_of s.layouts (entry_of K V)
-
         entry_ends : (g.0).begin + i * size_of s.layouts (entry_of K V) + size_of s.layouts (entry_of K V) ≤ (g.0).begin + (g.0).size
         entry_ends =
             let size : (g.0).size ≡ (g.0).length * size_of s.layouts (entry_of K V) = (accepted_closed s bytes a g c).4 ∙ ap (λ P. pointee_size s P (g.0).length) e in
