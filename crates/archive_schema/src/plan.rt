@@ -12,9 +12,9 @@ pub mod queue;
 pub mod shallow;
 
 use archive_check::context::positions::SharedType;
-use archive_check::format::expr::Kind;
+use archive_check::format::expr::{Key, Kind};
 
-/// How many elements a pointer leads to: one value, a run, or the bytes of a text.
+/// How many elements a pointer leads to: one value, a run, the bytes of a text, or entries.
 #[derive(Clone, Copy, PartialEq, Eq)]
 pub enum PointeeKind {
     /// One value.
@@ -23,6 +23,8 @@ pub enum PointeeKind {
     Run,
     /// Bytes of a text, as many as the pointer's length says.
     Text,
+    /// Entries of such a key and of the pointee, as many as the pointer's length says, whose keys ascend strictly.
+    Entries(Key),
 }
 
 /// What there is to check of a node's bytes. Nodes, parts, variants and shared types are named by their index. A text's pointee is a node of one byte.

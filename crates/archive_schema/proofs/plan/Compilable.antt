@@ -1,8 +1,8 @@
 -- What holds an expression that can be compiled, and what it holds.
 use Rattle.std.proofs.Common.{◌≡◌, ℕ, ◌<◌, sym, subst, List, Some, IsSome}
 use Rattle.archive_schema.specs.declared.plan.growing.NamedNode.{NamedNode}
-use Rattle.archive_check.specs.Shape.{Name, Shape, parts, choice, array, boxed, vec, shared, weak, named, Flavor, Pointee, one, run, Parts, part, Variants, variant}
-use Rattle.archive_check.specs.Defined.{holds_name, holds_parts, holds_choice, holds_array, holds_first, holds_later, holds_variant, holds_other, Mentions, mentions_held, mentions_array, mentions_parts, mentions_choice, mentions_boxed, mentions_vec, mentions_shared, mentions_weak, mentions_one, mentions_run, mentions_first, mentions_later, mentions_variant, mentions_other}
+use Rattle.archive_check.specs.Shape.{Name, Shape, parts, choice, array, boxed, vec, sorted_map, Key, shared, weak, named, Flavor, Pointee, one, run, Parts, part, Variants, variant}
+use Rattle.archive_check.specs.Defined.{holds_name, holds_parts, holds_choice, holds_array, holds_first, holds_later, holds_variant, holds_other, Mentions, mentions_held, mentions_array, mentions_parts, mentions_choice, mentions_boxed, mentions_vec, mentions_map, mentions_shared, mentions_weak, mentions_one, mentions_run, mentions_first, mentions_later, mentions_variant, mentions_other}
 use Rattle.archive_schema.specs.plan.PlanGrowth.{node_of}
 use Rattle.archive_schema.specs.plan.Compilable.{Can, CanParts, CanVariants, CanPoint, CanWait}
 
@@ -21,6 +21,9 @@ module _ {names : List NamedNode} {done : ℕ} where
 
   pub can_vec : {X : Shape} → Can names done (vec X) → CanWait names X
   can_vec c = record { shape_known = λ n m. c.known n (mentions_vec m) }
+
+  pub can_map : {K : Key} {V : Shape} → Can names done (sorted_map K V) → CanWait names V
+  can_map c = record { shape_known = λ n m. c.known n (mentions_map m) }
 
   pub can_shared : {flavor : Flavor} {P : Pointee} → Can names done (shared flavor P) → CanPoint names P
   can_shared c = record { pointee_known = λ n m. c.known n (mentions_shared m) }

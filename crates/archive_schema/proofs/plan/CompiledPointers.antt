@@ -1,22 +1,23 @@
 -- What compiling pointers does, by cases.
-use Rattle.std.proofs.Common.{◌≡◌, ℕ, refl, sym, ap, ◌∙◌, subst, ◌+◌, ◌<◌, ◌≤◌, arith, List, [], ◌∷◌, length, Some, Bool, true, false}
+use Rattle.std.proofs.Common.{◌≡◌, ℕ, refl, sym, ap, ◌∙◌, subst, ◌+◌, ◌<◌, ◌≤◌, arith, List, [], ◌∷◌, length, Some, None, Bool, true, false}
 use Rattle.std.specs.Int.{w8}
 use Rattle.archive_check.specs.declared.format.expr.FlavorInfo.{FlavorInfo}
+use Rattle.archive_check.specs.declared.format.expr.Key.{Key as KeyExpr}
 use Rattle.archive_schema.specs.declared.plan.PointeeKind.{PointeeKind}
-use Rattle.archive_schema.specs.declared.plan.PointeeKind.TheVariants.{One, Run, Text}
+use Rattle.archive_schema.specs.declared.plan.PointeeKind.TheVariants.{One, Run, Text, Entries}
 use Rattle.archive_schema.specs.declared.plan.NodeKind.{NodeKind}
 use Rattle.archive_schema.specs.declared.plan.NodeKind.TheVariants.{Free, Pointer as PointerNode, Shared, Weak, Str}
 use Rattle.archive_check.specs.declared.context.positions.SharedType.{SharedType}
 use Rattle.archive_schema.specs.declared.check.Checker.{Checker}
 use Rattle.archive_schema.specs.declared.plan.growing.NamedNode.{NamedNode}
-use Rattle.archive_check.specs.Shape.{unsigned, number, Shape, leaf, boxed, vec, str, shared, weak, Pointee, one, run, text}
+use Rattle.archive_check.specs.Shape.{unsigned, number, Shape, leaf, boxed, vec, sorted_map, str, shared, weak, Pointee, one, run, text}
 use Rattle.archive_check.specs.Layout.{Layouts, size_of, align_of}
 use Rattle.archive_check.specs.Reads.{Schema}
-use Rattle.archive_check.specs.Expressions.{flavor_of, pointee_of}
+use Rattle.archive_check.specs.Expressions.{flavor_of, key_of, pointee_of}
 use Rattle.archive_check.specs.Words.Elements.{IsAt}
 use Rattle.archive_schema.specs.check.Runs.{pointer_bytes}
 use Rattle.archive_schema.specs.plan.SoundPlans.{NodeKindFits}
-use Rattle.archive_schema.specs.plan.Represents.{Sized, Points, points_one, points_run, points_text, Made, made_free, made_boxed, made_vec, made_str, made_shared, made_weak}
+use Rattle.archive_schema.specs.plan.Represents.{Sized, Points, points_one, points_run, points_entries, points_text, Made, made_free, made_boxed, made_vec, made_map, made_str, made_shared, made_weak}
 use Rattle.archive_check.specs.Words.BoundedSizes.{fits}
 use Rattle.archive_check.specs.Measure.{measure_of}
 use Rattle.archive_schema.specs.plan.Compilable.{Can, AllKnown}
@@ -24,7 +25,7 @@ use Rattle.archive_schema.specs.plan.CompileQueue.{Waits, measure_of_waits}
 use Rattle.archive_schema.specs.plan.PlanGrowth.{PlanLists, IsPushed, IsTypeAdded}
 use Rattle.archive_schema.specs.plan.Compiled.{counted, Follows, Below, Settled, Given, Adds, Compiled, CompiledPointeeKind, CompiledPointee}
 use Rattle.archive_schema.specs.plan.NodeCounts.{count_of}
-use Rattle.archive_schema.proofs.plan.Compilable.{can_one, can_run, can_boxed, can_vec, can_shared, can_weak}
+use Rattle.archive_schema.proofs.plan.Compilable.{can_one, can_run, can_boxed, can_vec, can_map, can_shared, can_weak}
 use Rattle.archive_check.proofs.Checks.PlainRuns.{plain_walk}
 use Rattle.archive_check.proofs.BoundedSizes.{fits_some}
 use Rattle.archive_schema.proofs.plan.GrowingPlans.{at_more, goes_longer, grows_trans, pushed_grows, pushed_at, pushed_is, type_added_grows, type_added_at}
@@ -78,6 +79,7 @@ target_few : (t : PointeeKind) → (4 ≤ pointer_bytes t) × (pointer_bytes t �
 target_few One = (omega arith, omega arith)
 target_few Run = (omega arith, omega arith)
 target_few Text = (omega arith, omega arith)
+target_few (Entries key) = (omega arith, omega arith)
 
 module _ {names : List NamedNode} {gives : List Shape} {v w : Waits} {a b c : PlanLists} (f : Adds names gives v w a b) where
   compiled_pointer : {done : ℕ} {j : ℕ} {kind : NodeKind} (X : Shape) (size : ℕ) → IsPushed b c (Some size) 4 kind j → length gives + 1 ≡ count_of X → measure_of_waits w.items ≤ measure_of_waits v.items + measure_of X → (AllKnown names v.items → Can names done X → AllKnown names w.items) → 4 ≤ size → size ≤ 8
@@ -103,6 +105,11 @@ module _ {names : List NamedNode} {done : ℕ} {v w : Waits} {a c : PlanLists} {
       (λ l. (refl, refl)) (λ m g w z le. (le, t.below m w))
       (λ s shapes m g u given. made_vec (points_run (t.sized s shapes m u) (t.stands s shapes m u)))
 
+  pub compiled_map : {key : KeyExpr} {V : Shape} → CompiledPointeeKind names V v w a i → IsPushed a c (Some 8) 4 (PointerNode (Entries key) i) j → Compiled names done (sorted_map (key_of key) V) v w a c j
+  compiled_map {key} {V} t p = compiled_pointer t.adds (sorted_map (key_of key) V) 8 p refl (omega (arith, t.waits_few)) (λ all can. t.known all (can_map can)) (omega arith) (omega arith)
+      (λ l. (refl, refl)) (λ m g w z le. (le, t.below m w))
+      (λ s shapes m g u given. made_map (points_entries (t.sized s shapes m u) (t.stands s shapes m u)))
+
 module _ {names : List NamedNode} {done : ℕ} {v : Waits} {a b c : PlanLists} {j i : ℕ} where
   pub compiled_str : IsPushed a b (Some 1) 1 Free i → IsPushed b c (Some 8) 4 (Str i) j → Compiled names done str v v a c j
   compiled_str q p = compiled_pointer (adds_byte q) str 8 p refl (omega arith) (λ all can. all) (omega arith) (omega arith)
@@ -121,8 +128,8 @@ module _ {names : List NamedNode} {v w : Waits} {a b c : PlanLists} {i k : ℕ} 
     shared_type_at : IsAt m.shared_types.now k shared_type
     shared_type_at = at_more g.shared_types (type_added_at q)
 
-    shared_type_points : {s : Schema} {shapes : ℕ → Shape} → Settled names w.items s shapes m → Given shapes (length a.nodes) t.gives → Points s shapes m target i (pointee_of shared_type.pointee)
-    shared_type_points {s} {shapes} u given = subst (λ Q. Points s shapes m target i Q) (sym ep) (t.points s shapes m over u given)
+    shared_type_points : {s : Schema} {shapes : ℕ → Shape} → Settled names w.items s shapes m → Given shapes (length a.nodes) t.gives → Points s shapes m target None i (pointee_of shared_type.pointee)
+    shared_type_points {s} {shapes} u given = subst (λ Q. Points s shapes m target None i Q) (sym ep) (t.points s shapes m over u given)
 
   module _ {done : ℕ} {d : PlanLists} {j : ℕ} where
     pub compiled_shared : {size : ℕ} → size ≡ pointer_bytes target → IsPushed c d (Some size) 4 (Shared k target i) j → Compiled names done (shared (flavor_of flavor) P) v w a d j

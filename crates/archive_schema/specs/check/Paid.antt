@@ -5,13 +5,16 @@ use Rattle.std.specs.Prelude.{ℕ, ◌+◌, ◌-◌, ◌*◌, ◌≤◌, List, [
 use Rattle.archive_check.specs.declared.context.Context as Context
 use Rattle.archive_schema.specs.declared.check.Checker.{Checker}
 use Rattle.archive_schema.specs.declared.check.worklist.Work.{Work}
-use Rattle.archive_schema.specs.declared.check.worklist.Work.TheVariants.{Part as PartWork, Parts, Elements, Leave, Finish}
+use Rattle.archive_schema.specs.declared.check.worklist.Work.TheVariants.{Part as PartWork, Parts, Elements, Entries, Leave, Finish}
 use Rattle.archive_schema.specs.declared.check.worklist.Worklist.{Worklist}
 use Rattle.archive_check.specs.context.Ranges.{RangeState}
 use Rattle.archive_check.specs.context.Pushes.{worth}
 use Rattle.archive_check.specs.Words.Elements.{span}
 use Rattle.archive_schema.specs.plan.PackedPlans.{size_at, parts_size}
 use Rattle.archive_schema.specs.check.Lists.{list_of}
+use Rattle.archive_check.specs.declared.format.expr.Key.{Key as KeyExpr}
+use Rattle.archive_check.specs.Expressions.{key_of}
+use Rattle.archive_check.specs.Layout.{key_size}
 
 -- the bytes of these parts, and of these elements
 abbrev pub bytes_of_parts : Checker → ℕ → ℕ → ℕ
@@ -20,11 +23,16 @@ bytes_of_parts m a b = parts_size m.nodes.now (span m.parts.now a b)
 abbrev pub bytes_of_elements : Checker → ℕ → ℕ → ℕ
 bytes_of_elements m j n = n * size_at m.nodes.now j
 
+-- and of these entries: those of the keys and the values
+abbrev pub bytes_of_entries : Checker → KeyExpr → ℕ → ℕ → ℕ
+bytes_of_entries m key j n = n * (key_size (key_of key) + size_at m.nodes.now j)
+
 -- the bytes that an entry has in place; for a region that is left, those that are given back
 abbrev pub bytes_of : Checker → Work → ℕ
 bytes_of m (PartWork i p) = size_at m.nodes.now i
 bytes_of m (Parts a b p) = bytes_of_parts m a b
 bytes_of m (Elements j n p) = bytes_of_elements m j n
+bytes_of m (Entries key j n p before) = bytes_of_entries m key j n
 bytes_of m (Leave x y) = y - x
 bytes_of m (Finish k t) = 0
 

@@ -18,7 +18,7 @@ use Rattle.archive_schema.specs.plan.Represents.{Represents, Points}
 pub record PlanOf (m : Checker) (j : ℕ) (s : Schema) (X : Shape) : Type 0 where
   pub shapes : ℕ → Shape
   pub represents : Represents s shapes m
-  pub points : Points s shapes m One j (one X)
+  pub points : Points s shapes m One None j (one X)
 
 -- whatever the node stands for, the buffer is an archive of it, with no region too deep
 abbrev pub PlanAccepts : Checker → ℕ → Option ℕ → ℕ → Type 0

@@ -1,11 +1,13 @@
 -- How a check goes over a plan: one rule for each thing that it finds.
-use Rattle.std.specs.Prelude.{◌≡◌, ◌≢◌, ◌⊎◌, ℕ, ◌+◌, ◌-◌, ◌*◌, ◌%◌, ◌<◌, ◌≤◌, ℤ, pos, ◌+ℤ◌, List, [], ◌∷◌, length, slice_index, Option, Some, None, IsUtf8, Contains, IsTrue, false}
+use Rattle.std.specs.Prelude.{◌≡◌, ◌≢◌, ◌⊎◌, ℕ, ◌+◌, ◌-◌, ◌*◌, ◌%◌, ◌<◌, ◌≤◌, max, ℤ, pos, ◌+ℤ◌, List, [], ◌∷◌, length, slice_index, Option, Some, None, IsUtf8, Contains, IsTrue, false}
 use Rattle.std.specs.FinMap.{get, insert}
 use Rattle.archive_check.specs.declared.format.error.Error.{Error}
 use Rattle.archive_check.specs.declared.format.error.Error.TheVariants.{InvalidDiscriminant}
 use Rattle.archive_check.specs.declared.format.expr.Kind.{Kind as KindExpr}
+use Rattle.archive_check.specs.declared.format.expr.Key.{Key as KeyExpr}
+use Rattle.archive_check.specs.declared.format.expr.Key.TheVariants.{Leaf as LeafKey, Str as StrKey}
 use Rattle.archive_schema.specs.declared.plan.PointeeKind.{PointeeKind}
-use Rattle.archive_schema.specs.declared.plan.PointeeKind.TheVariants.{One, Run, Text}
+use Rattle.archive_schema.specs.declared.plan.PointeeKind.TheVariants.{One, Run, Text, Entries as EntriesOf}
 use Rattle.archive_schema.specs.declared.plan.NodeKind.{NodeKind}
 use Rattle.archive_schema.specs.declared.plan.NodeKind.TheVariants.{Free, Leaf, Record, Choice, Array, Pointer as PointerNode, Str, Shared, Weak}
 use Rattle.archive_schema.specs.declared.plan.Node.{Node}
@@ -15,22 +17,25 @@ use Rattle.archive_check.specs.declared.context.positions.SharedType.{SharedType
 use Rattle.std.specs.Borrow.{Bor}
 use Rattle.archive_schema.specs.declared.check.Checker.{Checker}
 use Rattle.archive_schema.specs.declared.check.worklist.Work.{Work}
-use Rattle.archive_schema.specs.declared.check.worklist.Work.TheVariants.{Part as PartWork, Parts, Elements, Leave, Finish}
+use Rattle.archive_schema.specs.declared.check.worklist.Work.TheVariants.{Part as PartWork, Parts, Elements, Entries, Leave, Finish}
 use Rattle.archive_check.specs.context.PositionStates.{SameType}
-use Rattle.archive_check.specs.Layout.{kind_size}
+use Rattle.archive_check.specs.Layout.{kind_size, key_size, key_align}
+use Rattle.archive_check.specs.Keys.{ComesBehind}
 use Rattle.archive_check.specs.Reads.{bytes_at, u32_at, i32_at, IsLegal, IsOutOfLine, before_end, decoded_length}
-use Rattle.archive_check.specs.Expressions.{kind_of, flavor_of, pointee_of}
+use Rattle.archive_check.specs.Expressions.{kind_of, key_of, flavor_of, pointee_of}
 use Rattle.archive_check.specs.Depth.{Allows, inside}
 use Rattle.archive_check.specs.Tour.{Seen, Entry}
-use Rattle.archive_check.specs.Trail.{Fault, too_large, outside, unaligned, too_deep, cyclic, other_type, other_length, illegal, no_such_variant, no_text, no_string}
+use Rattle.archive_check.specs.Trail.{Fault, too_large, outside, unaligned, too_deep, cyclic, other_type, other_length, illegal, no_such_variant, no_text, no_string, unsorted}
 use Rattle.archive_check.specs.Words.Elements.{IsAt}
 use Rattle.archive_check.specs.Outcomes.{Outcome, done, refused}
-use Rattle.archive_check.specs.Words.BoundedSizes.{times}
+use Rattle.archive_check.specs.Words.BoundedSizes.{times, rounded}
+use Rattle.archive_schema.specs.plan.BoundedSizes.{sum_of}
 
 abbrev pub pointer_bytes : PointeeKind → ℕ
 pointer_bytes One = 4
 pointer_bytes Run = 8
 pointer_bytes Text = 8
+pointer_bytes (EntriesOf key) = 8
 
 -- the node at i does this
 pub record IsNode (m : Checker) (i : ℕ) (kind : NodeKind) : Type 0 where
@@ -44,24 +49,50 @@ pub record Takes (m : Checker) (i : ℕ) (z : ℕ) : Type 0 where
   pub at : IsAt m.nodes.now i node
   pub size_is : node.size ≡ Some z
 
--- so many of the node at i
-pub record RegionIs (m : Checker) (i n : ℕ) (size : Option ℕ) (align : ℕ) : Type 0 where
+-- where the value begins in an entry of a key
+abbrev pub value_begin : KeyExpr → ℕ → Option ℕ
+value_begin key align = rounded (Some (key_size (key_of key))) align
+
+-- what each takes that a pointer leads to: the node itself, a text's byte, or an entry whose value the node is
+abbrev pub unit_align : PointeeKind → Node → ℕ
+unit_align One node = node.align
+unit_align Run node = node.align
+unit_align Text node = 1
+unit_align (EntriesOf key) node = max (key_align (key_of key)) node.align
+
+abbrev pub unit_size : PointeeKind → Node → Option ℕ
+unit_size One node = node.size
+unit_size Run node = node.size
+unit_size Text node = Some 1
+unit_size (EntriesOf key) node = rounded (sum_of (value_begin key node.align) node.size) (max (key_align (key_of key)) node.align)
+
+-- so many of what a pointer leads to, whose node is at i
+pub record RegionIs (m : Checker) (target : PointeeKind) (i n : ℕ) (size : Option ℕ) (align : ℕ) : Type 0 where
   pub node : Node
   pub at : IsAt m.nodes.now i node
-  pub size_is : times node.size n ≡ size
-  pub align_is : node.align ≡ align
+  pub size_is : times (unit_size target node) n ≡ size
+  pub align_is : unit_align target node ≡ align
+
+-- an entry of a key and of the node at i takes so much, and its value begins there
+pub record EntryTakes (m : Checker) (key : KeyExpr) (i offset size : ℕ) : Type 0 where
+  pub node : Node
+  pub at : IsAt m.nodes.now i node
+  pub offset_is : value_begin key node.align ≡ Some offset
+  pub size_is : unit_size (EntriesOf key) node ≡ Some size
 
 -- how many there are behind a pointer
 abbrev pub pointee_count : List ℕ → ℕ → PointeeKind → ℕ
 pointee_count bytes p One = 1
 pointee_count bytes p Run = u32_at bytes (p + 4)
 pointee_count bytes p Text = u32_at bytes (p + 4)
+pointee_count bytes p (EntriesOf key) = u32_at bytes (p + 4)
 
 -- the length that stands in the pointer: 0 for one value
 abbrev pub pointee_length : List ℕ → ℕ → PointeeKind → ℕ
 pointee_length bytes p One = 0
 pointee_length bytes p Run = u32_at bytes (p + 4)
 pointee_length bytes p Text = u32_at bytes (p + 4)
+pointee_length bytes p (EntriesOf key) = u32_at bytes (p + 4)
 
 -- how a pointer of the shared type and of this length is met
 abbrev pub entry_for : SharedType → ℕ → Entry
@@ -113,26 +144,9 @@ mutual
         → IsNode m i (PointerNode target j)
         → EnterRuns m pending depth stop target j (pointee_count m.bytes.now p target) (pos p +ℤ i32_at m.bytes.now p) start seen o
         → NodeRuns m pending depth stop i p start seen o
-    run_inline : {pending : List ℕ} {depth : Option ℕ} {stop i p start j : ℕ} {seen : Seen}
+    run_str : {pending : List ℕ} {depth : Option ℕ} {stop i p start j : ℕ} {seen : Seen} {o : Outcome}
         → IsNode m i (Str j)
-        → (IsOutOfLine m.bytes.now p → ⊥)
-        → IsUtf8 (before_end (bytes_at m.bytes.now p 8))
-        → NodeRuns m pending depth stop i p start seen (done start seen)
-    run_no_text : {pending : List ℕ} {depth : Option ℕ} {stop i p start j : ℕ} {seen : Seen}
-        → IsNode m i (Str j)
-        → (IsOutOfLine m.bytes.now p → ⊥)
-        → (IsUtf8 (before_end (bytes_at m.bytes.now p 8)) → ⊥)
-        → NodeRuns m pending depth stop i p start seen (refused no_text)
-    run_short : {pending : List ℕ} {depth : Option ℕ} {stop i p start j : ℕ} {seen : Seen}
-        → IsNode m i (Str j)
-        → IsOutOfLine m.bytes.now p
-        → decoded_length (u32_at m.bytes.now p) ≤ 8
-        → NodeRuns m pending depth stop i p start seen (refused no_string)
-    run_out_of_line : {pending : List ℕ} {depth : Option ℕ} {stop i p start j : ℕ} {seen : Seen} {o : Outcome}
-        → IsNode m i (Str j)
-        → IsOutOfLine m.bytes.now p
-        → 8 < decoded_length (u32_at m.bytes.now p)
-        → EnterRuns m pending depth stop Text j (decoded_length (u32_at m.bytes.now p)) (pos p +ℤ i32_at m.bytes.now (p + 4)) start seen o
+        → StringRuns m pending depth stop j p start seen o
         → NodeRuns m pending depth stop i p start seen o
     run_shared : {pending : List ℕ} {depth : Option ℕ} {stop i p start k j : ℕ} {seen : Seen} {o : Outcome} {target : PointeeKind}
         → IsNode m i (Shared k target j)
@@ -147,6 +161,75 @@ mutual
         → i32_at m.bytes.now p ≢ pos 1
         → FollowRuns m pending depth stop k target j (pointee_count m.bytes.now p target) (pointee_length m.bytes.now p target) (pos p +ℤ i32_at m.bytes.now p) start seen o
         → NodeRuns m pending depth stop i p start seen o
+
+  -- a string, whose text's node is any
+  pub data StringRuns (m : Checker) : List ℕ → Option ℕ → ℕ → ℕ → ℕ → ℕ → Seen → Outcome → Type 0 where
+    string_inline : {pending : List ℕ} {depth : Option ℕ} {stop p start j : ℕ} {seen : Seen}
+        → (IsOutOfLine m.bytes.now p → ⊥)
+        → IsUtf8 (before_end (bytes_at m.bytes.now p 8))
+        → StringRuns m pending depth stop j p start seen (done start seen)
+    string_no_text : {pending : List ℕ} {depth : Option ℕ} {stop p start j : ℕ} {seen : Seen}
+        → (IsOutOfLine m.bytes.now p → ⊥)
+        → (IsUtf8 (before_end (bytes_at m.bytes.now p 8)) → ⊥)
+        → StringRuns m pending depth stop j p start seen (refused no_text)
+    string_short : {pending : List ℕ} {depth : Option ℕ} {stop p start j : ℕ} {seen : Seen}
+        → IsOutOfLine m.bytes.now p
+        → decoded_length (u32_at m.bytes.now p) ≤ 8
+        → StringRuns m pending depth stop j p start seen (refused no_string)
+    string_out_of_line : {pending : List ℕ} {depth : Option ℕ} {stop p start j : ℕ} {seen : Seen} {o : Outcome}
+        → IsOutOfLine m.bytes.now p
+        → 8 < decoded_length (u32_at m.bytes.now p)
+        → EnterRuns m pending depth stop Text j (decoded_length (u32_at m.bytes.now p)) (pos p +ℤ i32_at m.bytes.now (p + 4)) start seen o
+        → StringRuns m pending depth stop j p start seen o
+
+  -- a key for itself
+  pub data KeyRuns (m : Checker) : List ℕ → Option ℕ → ℕ → KeyExpr → ℕ → ℕ → ℕ → Seen → Outcome → Type 0 where
+    key_leaf : {pending : List ℕ} {depth : Option ℕ} {stop j p start : ℕ} {seen : Seen} {kind : KindExpr}
+        → IsLegal (kind_of kind) (bytes_at m.bytes.now p (kind_size (kind_of kind)))
+        → KeyRuns m pending depth stop (LeafKey kind) j p start seen (done start seen)
+    key_illegal : {pending : List ℕ} {depth : Option ℕ} {stop j p start : ℕ} {seen : Seen} {kind : KindExpr}
+        → (IsLegal (kind_of kind) (bytes_at m.bytes.now p (kind_size (kind_of kind))) → ⊥)
+        → KeyRuns m pending depth stop (LeafKey kind) j p start seen (refused (illegal (kind_of kind)))
+    key_string : {pending : List ℕ} {depth : Option ℕ} {stop j p start : ℕ} {seen : Seen} {o : Outcome}
+        → StringRuns m pending depth stop j p start seen o
+        → KeyRuns m pending depth stop StrKey j p start seen o
+
+  -- a key, and whether it comes behind the one before it
+  pub data OrderRuns (m : Checker) : List ℕ → Option ℕ → ℕ → KeyExpr → ℕ → Option ℕ → ℕ → ℕ → Seen → Outcome → Type 0 where
+    order_key : {pending : List ℕ} {depth : Option ℕ} {stop j p start : ℕ} {before : Option ℕ} {seen : Seen} {key : KeyExpr} {e : Fault}
+        → KeyRuns m pending depth stop key j p start seen (refused e)
+        → OrderRuns m pending depth stop key j before p start seen (refused e)
+    order_wrong : {pending : List ℕ} {depth : Option ℕ} {stop j p start mid : ℕ} {before : Option ℕ} {seen known : Seen} {key : KeyExpr}
+        → KeyRuns m pending depth stop key j p start seen (done mid known)
+        → (ComesBehind (key_of key) m.bytes.now before p → ⊥)
+        → OrderRuns m pending depth stop key j before p start seen (refused unsorted)
+    order_kept : {pending : List ℕ} {depth : Option ℕ} {stop j p start mid : ℕ} {before : Option ℕ} {seen known : Seen} {key : KeyExpr}
+        → KeyRuns m pending depth stop key j p start seen (done mid known)
+        → ComesBehind (key_of key) m.bytes.now before p
+        → OrderRuns m pending depth stop key j before p start seen (done mid known)
+
+  -- n entries, the next of them at p
+  pub data EntriesRun (m : Checker) : List ℕ → Option ℕ → ℕ → KeyExpr → ℕ → Option ℕ → ℕ → ℕ → ℕ → Seen → Outcome → Type 0 where
+    entries_end : {pending : List ℕ} {depth : Option ℕ} {stop j n p start : ℕ} {before : Option ℕ} {seen : Seen} {key : KeyExpr}
+        → n ≡ 0
+        → EntriesRun m pending depth stop key j before n p start seen (done start seen)
+    entries_key : {pending : List ℕ} {depth : Option ℕ} {stop j n p start : ℕ} {before : Option ℕ} {seen : Seen} {key : KeyExpr} {e : Fault}
+        → 0 < n
+        → OrderRuns m pending depth stop key j before p start seen (refused e)
+        → EntriesRun m pending depth stop key j before n p start seen (refused e)
+    entries_value : {pending : List ℕ} {depth : Option ℕ} {stop j n p offset size start mid : ℕ} {before : Option ℕ} {seen known : Seen} {key : KeyExpr} {e : Fault}
+        → 0 < n
+        → OrderRuns m pending depth stop key j before p start seen (done mid known)
+        → EntryTakes m key j offset size
+        → NodeRuns m pending depth stop j (p + offset) mid known (refused e)
+        → EntriesRun m pending depth stop key j before n p start seen (refused e)
+    entries_next : {pending : List ℕ} {depth : Option ℕ} {stop j n p offset size start mid later : ℕ} {before : Option ℕ} {seen known more : Seen} {key : KeyExpr} {o : Outcome}
+        → 0 < n
+        → OrderRuns m pending depth stop key j before p start seen (done mid known)
+        → EntryTakes m key j offset size
+        → NodeRuns m pending depth stop j (p + offset) mid known (done later more)
+        → EntriesRun m pending depth stop key j (Some p) (n - 1) (p + size) later more o
+        → EntriesRun m pending depth stop key j before n p start seen o
 
   -- a shared pointer is followed: its shared type, target, pointee, count, length and position
   pub data FollowRuns (m : Checker) : List ℕ → Option ℕ → ℕ → ℕ → PointeeKind → ℕ → ℕ → ℕ → ℤ → ℕ → Seen → Outcome → Type 0 where
@@ -230,21 +313,21 @@ mutual
   -- a region of n is entered where the pointer says
   pub data EnterRuns (m : Checker) : List ℕ → Option ℕ → ℕ → PointeeKind → ℕ → ℕ → ℤ → ℕ → Seen → Outcome → Type 0 where
     enter_too_large : {pending : List ℕ} {depth : Option ℕ} {stop j n start align : ℕ} {seen : Seen} {target : PointeeKind} {where_to : ℤ}
-        → RegionIs m j n None align
+        → RegionIs m target j n None align
         → EnterRuns m pending depth stop target j n where_to start seen (refused too_large)
     enter_outside : {pending : List ℕ} {depth : Option ℕ} {stop j n z start align : ℕ} {seen : Seen} {target : PointeeKind} {where_to : ℤ}
-        → RegionIs m j n (Some z) align
+        → RegionIs m target j n (Some z) align
         → ((t : ℕ) → where_to ≡ pos t → start ≤ t → t + z ≤ stop → ⊥)
         → EnterRuns m pending depth stop target j n where_to start seen (refused (outside where_to z start stop))
     enter_unaligned : {pending : List ℕ} {depth : Option ℕ} {stop j n z start align t : ℕ} {seen : Seen} {target : PointeeKind} {where_to : ℤ}
-        → RegionIs m j n (Some z) align
+        → RegionIs m target j n (Some z) align
         → where_to ≡ pos t
         → start ≤ t
         → t + z ≤ stop
         → t % align ≢ 0
         → EnterRuns m pending depth stop target j n where_to start seen (refused (unaligned t align))
     enter_too_deep : {pending : List ℕ} {depth : Option ℕ} {stop j n z start align t : ℕ} {seen : Seen} {target : PointeeKind} {where_to : ℤ}
-        → RegionIs m j n (Some z) align
+        → RegionIs m target j n (Some z) align
         → where_to ≡ pos t
         → start ≤ t
         → t + z ≤ stop
@@ -252,7 +335,7 @@ mutual
         → (Allows depth 1 → ⊥)
         → EnterRuns m pending depth stop target j n where_to start seen (refused too_deep)
     enter_within : {pending : List ℕ} {depth : Option ℕ} {stop j n z start mid align t : ℕ} {seen known : Seen} {target : PointeeKind} {where_to : ℤ}
-        → RegionIs m j n (Some z) align
+        → RegionIs m target j n (Some z) align
         → where_to ≡ pos t
         → start ≤ t
         → t + z ≤ stop
@@ -261,7 +344,7 @@ mutual
         → ContentsRun m pending (inside depth) target j n z t start seen (done mid known)
         → EnterRuns m pending depth stop target j n where_to start seen (done (t + z) known)
     enter_stop : {pending : List ℕ} {depth : Option ℕ} {stop j n z start align t : ℕ} {seen : Seen} {e : Fault} {target : PointeeKind} {where_to : ℤ}
-        → RegionIs m j n (Some z) align
+        → RegionIs m target j n (Some z) align
         → where_to ≡ pos t
         → start ≤ t
         → t + z ≤ stop
@@ -272,8 +355,10 @@ mutual
 
   -- a region at t of n, of z bytes
   pub data ContentsRun (m : Checker) : List ℕ → Option ℕ → PointeeKind → ℕ → ℕ → ℕ → ℕ → ℕ → Seen → Outcome → Type 0 where
+    -- entries without a byte have an order, too
     contents_empty : {pending : List ℕ} {depth : Option ℕ} {target : PointeeKind} {j n z t start : ℕ} {seen : Seen}
         → z ≡ 0
+        → ((key : KeyExpr) → target ≢ EntriesOf key)
         → ContentsRun m pending depth target j n z t start seen (done start seen)
     contents_one : {pending : List ℕ} {depth : Option ℕ} {j n z t start : ℕ} {seen : Seen} {o : Outcome}
         → 0 < z
@@ -283,6 +368,9 @@ mutual
         → 0 < z
         → ElementsRun m pending depth t j n t start seen o
         → ContentsRun m pending depth Run j n z t start seen o
+    contents_entries : {pending : List ℕ} {depth : Option ℕ} {j n z t start : ℕ} {seen : Seen} {key : KeyExpr} {o : Outcome}
+        → EntriesRun m pending depth t key j None n t start seen o
+        → ContentsRun m pending depth (EntriesOf key) j n z t start seen o
     contents_text : {pending : List ℕ} {depth : Option ℕ} {j n z t start : ℕ} {seen : Seen}
         → IsUtf8 (bytes_at m.bytes.now t z)
         → ContentsRun m pending depth Text j n z t start seen (done start seen)
@@ -314,6 +402,13 @@ pub data ListRuns (m : Checker) : List ℕ → Option ℕ → ℕ → List Work 
   list_elements_stop : {pending : List ℕ} {depth : Option ℕ} {stop j n p start : ℕ} {seen : Seen} {e : Fault} {work : List Work}
       → ElementsRun m pending depth stop j n p start seen (refused e)
       → ListRuns m pending depth stop (Elements j n p ∷ work) start seen (refused e)
+  list_entries : {pending : List ℕ} {depth : Option ℕ} {stop j n p start mid : ℕ} {before : Option ℕ} {seen known : Seen} {key : KeyExpr} {o : Outcome} {work : List Work}
+      → EntriesRun m pending depth stop key j before n p start seen (done mid known)
+      → ListRuns m pending depth stop work mid known o
+      → ListRuns m pending depth stop (Entries key j n p before ∷ work) start seen o
+  list_entries_stop : {pending : List ℕ} {depth : Option ℕ} {stop j n p start : ℕ} {before : Option ℕ} {seen : Seen} {key : KeyExpr} {e : Fault} {work : List Work}
+      → EntriesRun m pending depth stop key j before n p start seen (refused e)
+      → ListRuns m pending depth stop (Entries key j n p before ∷ work) start seen (refused e)
   list_leave : {pending : List ℕ} {depth outer : Option ℕ} {stop x y start : ℕ} {seen : Seen} {o : Outcome} {work : List Work}
       → depth ≡ inside outer
       → ListRuns m pending outer y work x seen o

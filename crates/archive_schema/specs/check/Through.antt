@@ -1,7 +1,7 @@
 -- What is checked at once, with nothing listed: what comes of it, whatever is seen and pending.
 use denote.Triple.Both.{Both}
 use denote.Ref.{MutBor}
-use Rattle.std.specs.Prelude.{◌≡◌, ◌≢◌, ℕ, ◌<◌, ℤ, List, Option, OnSome, IfSome, IfNone, Bool, IsTrue, false}
+use Rattle.std.specs.Prelude.{◌≡◌, ◌≢◌, ℕ, ◌<◌, ℤ, List, Option, None, OnSome, IfSome, IfNone, Bool, IsTrue, false}
 use Rattle.archive_check.specs.declared.context.Context as Context
 use Rattle.archive_check.specs.declared.format.error.Error.{Error}
 use Rattle.archive_schema.specs.declared.plan.PointeeKind.{PointeeKind}
@@ -15,7 +15,8 @@ use Rattle.archive_check.specs.Tour.{Seen}
 use Rattle.archive_check.specs.Trail.{Fault}
 use Rattle.archive_check.specs.Words.Faults.{IsFor}
 use Rattle.archive_check.specs.Outcomes.{Outcome, done, refused}
-use Rattle.archive_schema.specs.check.Runs.{NodeRuns, PartsRun, ElementsRun, EnterRuns, ContentsRun}
+use Rattle.archive_check.specs.declared.format.expr.Key.{Key as KeyExpr}
+use Rattle.archive_schema.specs.check.Runs.{NodeRuns, PartsRun, ElementsRun, StringRuns, OrderRuns, EntriesRun, EnterRuns, ContentsRun}
 use Rattle.archive_schema.specs.check.Lists.{list_of}
 use Rattle.archive_schema.specs.check.LoopInvariant.{Stage, stage}
 use Rattle.archive_check.specs.context.FreshContexts.{HasLevels}
@@ -39,6 +40,18 @@ span_rule m x p = parts_rule m x.first x.last p
 -- n of the node j, the first at p
 abbrev pub elements_rule : Checker → ℕ → ℕ → ℕ → Rule
 elements_rule m j n p pending depth stop start seen o = ElementsRun m pending depth stop j n p start seen o
+
+-- the string at p, whose text's node is j
+abbrev pub string_rule : Checker → ℕ → ℕ → Rule
+string_rule m j p pending depth stop start seen o = StringRuns m pending depth stop j p start seen o
+
+-- the key at p, and that it comes behind the one before
+abbrev pub key_rule : Checker → KeyExpr → ℕ → Option ℕ → ℕ → Rule
+key_rule m key j before p pending depth stop start seen o = OrderRuns m pending depth stop key j before p start seen o
+
+-- n entries of a key and of the node j, the first at p
+abbrev pub entries_rule : Checker → KeyExpr → ℕ → ℕ → ℕ → Rule
+entries_rule m key j n p pending depth stop start seen o = EntriesRun m pending depth stop key j None n p start seen o
 
 -- the region that a pointer leads to
 abbrev pub region_rule : Checker → PointeeKind → ℕ → ℕ → ℤ → Rule

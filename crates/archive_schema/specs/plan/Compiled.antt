@@ -111,7 +111,7 @@ pub record CompiledPointee (names : List NamedNode) (P : Pointee) (v w : Waits) 
   pub known : AllKnown names v.items → CanPoint names P → AllKnown names w.items
   pub below : (m : Checker) → Follows b m → Below names w.items m → j < length m.nodes.now
   pub size_is : pointer_bytes target ≡ pointer_size P
-  pub points : (s : Schema) (shapes : ℕ → Shape) (m : Checker) → Follows b m → Settled names w.items s shapes m → Given shapes (length a.nodes) gives → Points s shapes m target j P
+  pub points : (s : Schema) (shapes : ℕ → Shape) (m : Checker) → Follows b m → Settled names w.items s shapes m → Given shapes (length a.nodes) gives → Points s shapes m target None j P
 
 -- a part lies in z bytes, and its node comes before i
 pub record IsPartWithin (m : Checker) (i z : ℕ) (x : PlanPart) : Type 0 where

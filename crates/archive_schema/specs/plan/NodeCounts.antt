@@ -1,6 +1,6 @@
 -- How many nodes expressions are compiled to.
 use Rattle.std.specs.Prelude.{ℕ, ◌+◌}
-use Rattle.archive_check.specs.Shape.{Shape, leaf, parts, choice, array, boxed, vec, str, shared, weak, named, Pointee, one, run, text, Parts, no_part, part, Variants, no_variant, variant}
+use Rattle.archive_check.specs.Shape.{Shape, leaf, parts, choice, array, boxed, vec, sorted_map, str, shared, weak, named, Pointee, one, run, text, Parts, no_part, part, Variants, no_variant, variant}
 
 -- a text's byte has a node beside the pointer's; what else a pointer leads to is compiled for itself
 abbrev pub count_pointee : Pointee → ℕ
@@ -17,6 +17,7 @@ abbrev mutual
   count_of (array n X) = count_of X + 1
   count_of (boxed P) = count_pointee P + 1
   count_of (vec X) = 1
+  count_of (sorted_map K V) = 1
   count_of str = 2
   count_of (shared f P) = count_pointee P + 1
   count_of (weak f P) = count_pointee P + 1

@@ -2,8 +2,9 @@
 use Rattle.std.specs.Prelude.{◌≡◌, ℕ, ◌+◌, ◌<◌, ◌≤◌, List, length, Option, Some, None, nat_lt, if◌then◌else◌}
 use Rattle.std.specs.Borrow.{Bor}
 use Rattle.archive_check.specs.declared.format.expr.Kind.{Kind as KindExpr}
+use Rattle.archive_check.specs.declared.format.expr.Key.{Key as KeyExpr}
 use Rattle.archive_schema.specs.declared.plan.PointeeKind.{PointeeKind}
-use Rattle.archive_schema.specs.declared.plan.PointeeKind.TheVariants.{One, Run, Text}
+use Rattle.archive_schema.specs.declared.plan.PointeeKind.TheVariants.{One, Run, Text, Entries}
 use Rattle.archive_schema.specs.declared.plan.NodeKind.{NodeKind}
 use Rattle.archive_schema.specs.declared.plan.NodeKind.TheVariants.{Free, Leaf, Record, Choice, Array, Pointer as PointerNode, Str, Shared, Weak}
 use Rattle.archive_schema.specs.declared.plan.Node.{Node}
@@ -11,13 +12,13 @@ use Rattle.archive_schema.specs.declared.plan.Part.{Part as PlanPart}
 use Rattle.archive_schema.specs.declared.plan.Span.{Span}
 use Rattle.archive_check.specs.declared.context.positions.SharedType.{SharedType}
 use Rattle.archive_schema.specs.declared.check.Checker.{Checker}
-use Rattle.archive_check.specs.Shape.{Name, Shape, leaf, parts, choice, array, boxed, vec, str, shared, weak, named, Pointee, one, run, text, Parts, no_part, part, Variants, definition, variant_at}
+use Rattle.archive_check.specs.Shape.{Name, Key, Shape, leaf, parts, choice, array, boxed, vec, sorted_map, entry_of, str, shared, weak, named, Pointee, one, run, text, Parts, no_part, part, Variants, definition, variant_at}
 use Rattle.archive_check.specs.Layout.{up, size_of, align_of}
 use Rattle.archive_check.specs.Reads.{Schema}
 use Rattle.archive_check.specs.Tour.{Seen}
 use Rattle.archive_check.specs.Trail.{Fault}
 use Rattle.archive_check.specs.Walk.{Walk}
-use Rattle.archive_check.specs.Expressions.{kind_of, flavor_of, pointee_of}
+use Rattle.archive_check.specs.Expressions.{kind_of, key_of, flavor_of, pointee_of}
 use Rattle.archive_check.specs.Words.Elements.{IsAt}
 use Rattle.archive_schema.specs.check.Runs.{Takes}
 use Rattle.archive_check.specs.Outcomes.{Outcome, done, refused}
@@ -42,10 +43,12 @@ pub record Sized (m : Checker) (j size align : ℕ) : Type 0 where
   pub size_is : node.size ≡ (if nat_lt size 18446744073709551616 then Some size else None)
   pub align_is : node.align ≡ align
 
-pub data Points (s : Schema) (shapes : ℕ → Shape) (m : Checker) : PointeeKind → ℕ → Pointee → Type 0 where
-  points_one : {j : ℕ} {X : Shape} → Sized m j (size_of s.layouts X) (align_of s.layouts X) → StandsFor s shapes X j → Points s shapes m One j (one X)
-  points_run : {j : ℕ} {X : Shape} → Sized m j (size_of s.layouts X) (align_of s.layouts X) → StandsFor s shapes X j → Points s shapes m Run j (run X)
-  points_text : {j : ℕ} → Sized m j 1 1 → Points s shapes m Text j text
+-- what a pointer leads to, and in which order: entries, whose values have the node j, by their keys
+pub data Points (s : Schema) (shapes : ℕ → Shape) (m : Checker) : PointeeKind → Option Key → ℕ → Pointee → Type 0 where
+  points_one : {j : ℕ} {X : Shape} → Sized m j (size_of s.layouts X) (align_of s.layouts X) → StandsFor s shapes X j → Points s shapes m One None j (one X)
+  points_run : {j : ℕ} {X : Shape} → Sized m j (size_of s.layouts X) (align_of s.layouts X) → StandsFor s shapes X j → Points s shapes m Run None j (run X)
+  points_entries : {j : ℕ} {key : KeyExpr} {V : Shape} → Sized m j (size_of s.layouts V) (align_of s.layouts V) → StandsFor s shapes V j → Points s shapes m (Entries key) (Some (key_of key)) j (run (entry_of (key_of key) V))
+  points_text : {j : ℕ} → Sized m j 1 1 → Points s shapes m Text None j text
 
 pub data Made (s : Schema) (shapes : ℕ → Shape) (m : Checker) : NodeKind → Shape → Type 0 where
   -- any bytes are an X, and hold no pointer
@@ -59,11 +62,12 @@ pub data Made (s : Schema) (shapes : ℕ → Shape) (m : Checker) : NodeKind →
       → ((tag : ℕ) → b ≤ a + tag → variant_at vs tag ≡ None)
       → Made s shapes m (Choice name a b) (choice name.now vs)
   made_array : {n j : ℕ} {X : Shape} → StandsFor s shapes X j → Takes m j (size_of s.layouts X) → Made s shapes m (Array n j) (array n X)
-  made_boxed : {target : PointeeKind} {j : ℕ} {P : Pointee} → Points s shapes m target j P → Made s shapes m (PointerNode target j) (boxed P)
-  made_vec : {j : ℕ} {X : Shape} → Points s shapes m Run j (run X) → Made s shapes m (PointerNode Run j) (vec X)
+  made_boxed : {target : PointeeKind} {j : ℕ} {P : Pointee} → Points s shapes m target None j P → Made s shapes m (PointerNode target j) (boxed P)
+  made_vec : {j : ℕ} {X : Shape} → Points s shapes m Run None j (run X) → Made s shapes m (PointerNode Run j) (vec X)
+  made_map : {j : ℕ} {key : KeyExpr} {V : Shape} → Points s shapes m (Entries key) (Some (key_of key)) j (run (entry_of (key_of key) V)) → Made s shapes m (PointerNode (Entries key) j) (sorted_map (key_of key) V)
   made_str : {j : ℕ} → Sized m j 1 1 → Made s shapes m (Str j) str
-  made_shared : {k j : ℕ} {target : PointeeKind} {shared_type : SharedType} → IsAt m.shared_types.now k shared_type → Points s shapes m target j (pointee_of shared_type.pointee) → Made s shapes m (Shared k target j) (shared (flavor_of shared_type.flavor) (pointee_of shared_type.pointee))
-  made_weak : {k j : ℕ} {target : PointeeKind} {shared_type : SharedType} → IsAt m.shared_types.now k shared_type → Points s shapes m target j (pointee_of shared_type.pointee) → Made s shapes m (Weak k target j) (weak (flavor_of shared_type.flavor) (pointee_of shared_type.pointee))
+  made_shared : {k j : ℕ} {target : PointeeKind} {shared_type : SharedType} → IsAt m.shared_types.now k shared_type → Points s shapes m target None j (pointee_of shared_type.pointee) → Made s shapes m (Shared k target j) (shared (flavor_of shared_type.flavor) (pointee_of shared_type.pointee))
+  made_weak : {k j : ℕ} {target : PointeeKind} {shared_type : SharedType} → IsAt m.shared_types.now k shared_type → Points s shapes m target None j (pointee_of shared_type.pointee) → Made s shapes m (Weak k target j) (weak (flavor_of shared_type.flavor) (pointee_of shared_type.pointee))
 
 -- each node that can be entered stands for its shape
 pub record Represents (s : Schema) (shapes : ℕ → Shape) (m : Checker) : Type 0 where

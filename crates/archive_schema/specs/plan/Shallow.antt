@@ -1,6 +1,6 @@
 -- Which nodes are shallow: they lead to nothing but bytes that are legal whatever they are, and texts. A shallow node is checked at once.
 use Rattle.std.specs.Prelude.{◌≡◌, ℕ, suc, zero, length, Bool, true, false, ◌&&◌, List, [], ◌∷◌, take, drop, ◌-◌, ◌<◌, ◌≤◌, slice_index_or, IsTrue}
-use Rattle.archive_schema.specs.declared.plan.PointeeKind.TheVariants.{One, Run, Text}
+use Rattle.archive_schema.specs.declared.plan.PointeeKind.TheVariants.{One, Run, Text, Entries}
 use Rattle.archive_schema.specs.declared.plan.NodeKind.{NodeKind}
 use Rattle.archive_schema.specs.declared.plan.NodeKind.TheVariants.{Free, Leaf, Record, Choice, Array, Pointer as PointerNode, Str, Shared, Weak}
 use Rattle.archive_schema.specs.declared.plan.Node.{Node}
@@ -56,6 +56,7 @@ kind_shallow nodes parts variants marks (Array n j) = marked marks j
 kind_shallow nodes parts variants marks (PointerNode One j) = free_at nodes j
 kind_shallow nodes parts variants marks (PointerNode Run j) = free_at nodes j
 kind_shallow nodes parts variants marks (PointerNode Text j) = true
+kind_shallow nodes parts variants marks (PointerNode (Entries key) j) = false
 kind_shallow nodes parts variants marks (Str j) = true
 kind_shallow nodes parts variants marks (Shared k target j) = false
 kind_shallow nodes parts variants marks (Weak k target j) = false

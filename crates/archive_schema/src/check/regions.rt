@@ -11,6 +11,7 @@ ghost use Rattle.archive_schema.specs.check.Turns.{IsCheckable, Enters};
 
 use crate::check::Checker;
 use crate::check::worklist::Worklist;
+use crate::plan::extents::unit_of;
 use crate::plan::{NodeKind, PointeeKind};
 use archive_check::context::ArchiveContext;
 use archive_check::context::range::Region;
@@ -41,6 +42,7 @@ impl Checker<'_> {
     #[inline(always)]
     pub fn enter_region<C: ArchiveContext>(
         &self,
+        target: PointeeKind,
         pointee: usize,
         count: usize,
         position: i128,
@@ -48,14 +50,14 @@ impl Checker<'_> {
         context: &mut C,
     ) -> Option<Region>
         requires known { pointee < length self.now.nodes.now }
-        ensures enters { EntersRegion C.Context self.now pointee count position context work result }
+        ensures enters { EntersRegion C.Context self.now target pointee count position context work result }
         ensures pushes { OnSome result ((C.state context.new).pushes ≤ (C.state context.old).pushes + 1) }
         ensures unchanged { IfNone result (C.state context.new ≡ C.state context.old) }
         ensures list { list_of work.new ≡ list_of work.old }
     {
-        let node = self.nodes[pointee];
-        let size = times(node.size, count);
-        enter(size, node.align, position, &mut work.fault, context)
+        let unit = unit_of(target, self.nodes[pointee]);
+        let size = times(unit.end, count);
+        enter(size, unit.align, position, &mut work.fault, context)
     }
 
     /// Checks what a region of so many of the pointee holds, where that is shallow. Returns whether
@@ -72,7 +74,7 @@ impl Checker<'_> {
         context: &mut C,
     ) -> Option<bool>
         requires plan { IsCheckable self.now }
-        requires region { (align : ℕ) × RegionIs self.now pointee count (Some size) align }
+        requires region { (align : ℕ) × RegionIs self.now target pointee count (Some size) align }
         requires pointee { PointeeFits self.now target pointee count }
         requires within { begin + size ≤ length self.now.bytes.now }
         requires ends { (C.state context.old).end ≡ begin }
@@ -83,6 +85,13 @@ impl Checker<'_> {
             if !is_text(self.bytes, begin, size) {
                 return work.refuse(Error::InvalidUtf8);
             }
+            return Some(true);
+        }
+        if let PointeeKind::Entries(key) = target {
+            if !self.shallow[pointee] {
+                return Some(false);
+            }
+            self.check_shallow_entries(key, pointee, count, begin, work, context)?;
             return Some(true);
         }
         let here = self.nodes[pointee];
@@ -119,7 +128,7 @@ impl Checker<'_> {
         ensures enters { Enters C.Context self.now target pointee count position context work result }
         ensures pays { Pays C.Context self.now 4 context work }
     {
-        let region = self.enter_region(pointee, count, position, work, context)?;
+        let region = self.enter_region(target, pointee, count, position, work, context)?;
         let Region {
             begin,
             size,
@@ -132,6 +141,7 @@ impl Checker<'_> {
         work.leave(start, end)?;
         match target {
             PointeeKind::One => work.part(pointee, begin),
+            PointeeKind::Entries(key) => work.entries(key, pointee, count, begin, None),
             _ => work.elements(pointee, count, begin),
         }
     }

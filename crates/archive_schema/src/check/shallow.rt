@@ -1,28 +1,31 @@
 //! The check of shallow nodes. They lead to nothing that has to be listed, so the calls nest as deep as the shape does, and no deeper.
 
-ghost use Rattle.std.specs.Prelude.{◌≡◌, ◌≢◌, ◌+◌, ◌≤◌, ℕ, length, IsTrue};
+ghost use Rattle.std.specs.Prelude.{◌≡◌, ◌≢◌, ◌+◌, ◌≤◌, ℕ, length, IsTrue, None};
 ghost use Rattle.archive_schema.specs.declared.plan.NodeKind.TheVariants.{Str, Leaf as LeafNode, Pointer as PointerNode};
 ghost use Rattle.archive_schema.specs.declared.plan.PointeeKind.TheVariants.{Text};
 ghost use Rattle.archive_schema.specs.check.Runs.{IsNode};
 ghost use Rattle.archive_schema.specs.plan.SoundPlans.{IsSound};
 ghost use Rattle.archive_check.specs.Words.Elements.{span};
 ghost use Rattle.archive_schema.specs.plan.Shallow.{marked, free_at, parts_shallow, IsShallow};
-ghost use Rattle.archive_schema.specs.check.LoopInvariant.{PointeeFits, PartFits, PartsFit, ElementsFit};
-ghost use Rattle.archive_schema.specs.check.Through.{Passes, PassesIf, PassesRegion, node_rule, parts_rule, span_rule, elements_rule};
+ghost use Rattle.archive_schema.specs.check.LoopInvariant.{PointeeFits, PartFits, PartsFit, ElementsFit, EntriesFit, KeyFits};
+ghost use Rattle.archive_schema.specs.check.Through.{Passes, PassesIf, PassesRegion, node_rule, parts_rule, span_rule, elements_rule, string_rule, key_rule, entries_rule};
 ghost use Rattle.archive_schema.specs.check.Turns.{IsCheckable};
 ghost use Rattle.archive_schema.specs.plan.PackedPlans.{size_at};
-ghost use Rattle.archive_schema.specs.check.Paid.{Pays, bytes_of_parts, bytes_of_elements};
+ghost use Rattle.archive_schema.specs.check.Paid.{Pays, bytes_of_parts, bytes_of_elements, bytes_of_entries};
+ghost use Rattle.archive_check.specs.Expressions.{key_of};
+ghost use Rattle.archive_check.specs.Layout.{key_size};
 
 use crate::check::Checker;
 use crate::check::regions::leave_region;
 use crate::check::worklist::Worklist;
+use crate::plan::extents::{unit_of, value_offset};
 use crate::plan::{NodeKind, PointeeKind, Span};
 use archive_check::context::ArchiveContext;
 use archive_check::format::bytes::{
     inline_length, is_out_of_line, is_text, read_coded_length, read_position,
 };
 use archive_check::format::error::Error;
-use archive_check::format::expr::Kind;
+use archive_check::format::expr::{Key, Kind};
 use archive_check::format::leaf::{illegal, is_legal};
 
 impl Checker<'_> {
@@ -43,7 +46,7 @@ impl Checker<'_> {
         ensures passes { PassesRegion C.Context self.now target pointee count position context work result }
         ensures pays { Pays C.Context self.now 4 context work }
     {
-        let region = self.enter_region(pointee, count, position, work, context)?;
+        let region = self.enter_region(target, pointee, count, position, work, context)?;
         if let PointeeKind::Text = target {
             if !is_text(self.bytes, region.begin, region.size) {
                 return work.refuse(Error::InvalidUtf8);
@@ -115,6 +118,24 @@ impl Checker<'_> {
         ensures passes { Passes C.Context (node_rule self.now node at) context work result }
         ensures pays { Pays C.Context self.now (size_at self.now.nodes.now node) context work }
     {
+        self.check_string(at, pointee, work, context)
+    }
+
+    /// Checks the string at `at`, whose text's bytes are as many as the region says: so any node serves for them.
+    #[inline(always)]
+    fn check_string<C: ArchiveContext>(
+        &self,
+        at: usize,
+        pointee: usize,
+        work: &mut Worklist,
+        context: &mut C,
+    ) -> Option<()>
+        requires known { pointee < length self.now.nodes.now }
+        requires fits { at + 8 ≤ length self.now.bytes.now }
+        requires below { (C.state context.old).end ≤ length self.now.bytes.now }
+        ensures passes { Passes C.Context (string_rule self.now pointee at) context work result }
+        ensures pays { Pays C.Context self.now 8 context work }
+    {
         if is_out_of_line(self.bytes, at) {
             let length = read_coded_length(self.bytes, at);
             if length <= 8 {
@@ -133,6 +154,35 @@ impl Checker<'_> {
         let length = inline_length(self.bytes, at);
         if !is_text(self.bytes, at, length) {
             return work.refuse(Error::InvalidUtf8);
+        }
+        Some(())
+    }
+
+    /// Checks the key at `at`, and that it comes behind the one at `before`, if there is one. The entry's value is this node.
+    #[inline(always)]
+    pub fn check_key<C: ArchiveContext>(
+        &self,
+        key: Key,
+        value: usize,
+        before: Option<usize>,
+        at: usize,
+        work: &mut Worklist,
+        context: &mut C,
+    ) -> Option<()>
+        requires known { value < length self.now.nodes.now }
+        requires fits { KeyFits self.now key before at }
+        requires below { (C.state context.old).end ≤ length self.now.bytes.now }
+        ensures passes { Passes C.Context (key_rule self.now key value before at) context work result }
+        ensures pays { Pays C.Context self.now (key_size (key_of key)) context work }
+    {
+        match key {
+            Key::Leaf(kind) => if !is_legal(kind, self.bytes, at) {
+                return work.refuse(illegal(kind));
+            },
+            Key::Str => self.check_string(at, value, work, context)?,
+        }
+        if !key.comes_behind(self.bytes, before, at) {
+            return work.refuse(Error::UnsortedKeys);
         }
         Some(())
     }
@@ -280,6 +330,36 @@ impl Checker<'_> {
         let passed = self.count_legal(node, count, at, size);
         for index in passed..count {
             self.check_shallow(node, at + index * size, work, context)?;
+        }
+        Some(())
+    }
+
+    /// Checks so many entries of a key and a value, the first of them at `at`. The values are shallow.
+    pub fn check_shallow_entries<C: ArchiveContext>(
+        &self,
+        key: Key,
+        value: usize,
+        count: usize,
+        at: usize,
+        work: &mut Worklist,
+        context: &mut C,
+    ) -> Option<()>
+        requires plan { IsCheckable self.now }
+        requires shallow { IsTrue (marked self.now.shallow.now value) }
+        requires fits { EntriesFit self.now key value count at None }
+        requires below { (C.state context.old).end ≤ length self.now.bytes.now }
+        ensures passes { Passes C.Context (entries_rule self.now key value count at) context work result }
+        ensures pays { Pays C.Context self.now (bytes_of_entries self.now key value count) context work }
+    {
+        let node = self.nodes[value];
+        let size = unit_of(PointeeKind::Entries(key), node).end.unwrap_or(0);
+        let offset = value_offset(key, node.align).unwrap_or(0);
+        let mut before = None;
+        for index in 0..count {
+            let next = at + index * size;
+            self.check_key(key, value, before, next, work, context)?;
+            self.check_shallow(value, next + offset, work, context)?;
+            before = Some(next);
         }
         Some(())
     }

@@ -14,6 +14,7 @@ ghost use Rattle.archive_schema.specs.check.Turns.{IsCheckable, Turn, Follows, P
 use crate::check::Checker;
 use crate::check::regions::leave_region;
 use crate::check::worklist::{Work, Worklist};
+use crate::plan::extents::{unit_of, value_offset};
 use crate::plan::{NodeKind, PointeeKind};
 use archive_check::context::{ArchiveContext, SharedContext, ValidationState};
 use archive_check::format::bytes::{read_i32, read_position};
@@ -164,6 +165,24 @@ impl Checker<'_> {
                 let next = at + passed * size;
                 work.more_elements(node, left - passed - 1, next + size)?;
                 self.open(node, next, work, context)
+            }
+            Work::Entries {
+                key,
+                value,
+                left,
+                at,
+                before,
+            } => {
+                if left == 0 {
+                    return Some(());
+                }
+                self.check_key(key, value, before, at, work, context)?;
+                let node = self.nodes[value];
+                let entry = unit_of(PointeeKind::Entries(key), node);
+                let offset = value_offset(key, node.align).unwrap_or(0);
+                let next = at + entry.end.unwrap_or(0);
+                work.more_entries(key, value, left - 1, next, Some(at))?;
+                self.open(value, at + offset, work, context)
             }
             Work::Leave { start, end } => leave_region(start, end, work, context),
             Work::Finish { shared_type, at } => {

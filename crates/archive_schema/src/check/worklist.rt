@@ -5,6 +5,7 @@ ghost use Rattle.archive_schema.specs.check.Lists.{list_of, PutsMore};
 
 use archive_check::context::refusals::refuse;
 use archive_check::format::error::Error;
+use archive_check::format::expr::Key;
 use std::alloc::Global;
 
 /// One thing that is left to check. Places are in bytes from the buffer's first one.
@@ -26,6 +27,14 @@ pub enum Work {
         node: usize,
         left: usize,
         at: usize,
+    },
+    /// So many entries of a key and a value, the next of them here, and the one before it, if there is one.
+    Entries {
+        key: Key,
+        value: usize,
+        left: usize,
+        at: usize,
+        before: Option<usize>,
     },
     /// A region is left: the range is this one again.
     Leave {
@@ -128,6 +137,28 @@ impl Worklist {
         self.push(Work::Elements { node, left, at })
     }
 
+    /// So many entries are left, the next of them at `at`.
+    pub fn entries(
+        &mut self,
+        key: Key,
+        value: usize,
+        left: usize,
+        at: usize,
+        before: Option<usize>,
+    ) -> Option<()>
+        ensures some { OnSome result (list_of self.new ≡ Work.Entries key value left at before ∷ list_of self.old) }
+        ensures none { IfNone result (self.new.fault ≡ Error.OutOfMemory) }
+        ensures kept { IfNone result (list_of self.new ≡ list_of self.old) }
+    {
+        self.push(Work::Entries {
+            key,
+            value,
+            left,
+            at,
+            before,
+        })
+    }
+
     /// What `parts` leaves, where there are any.
     pub fn more_parts(&mut self, first: usize, last: usize, base: usize) -> Option<()>
         ensures some { OnSome result (PutsMore (Work.Parts first last base) (last ≤ first) self) }
@@ -148,6 +179,25 @@ impl Worklist {
     {
         if left > 0 {
             self.elements(node, left, at)?;
+        }
+        Some(())
+    }
+
+    /// What `entries` leaves, where there are any.
+    pub fn more_entries(
+        &mut self,
+        key: Key,
+        value: usize,
+        left: usize,
+        at: usize,
+        before: Option<usize>,
+    ) -> Option<()>
+        ensures some { OnSome result (PutsMore (Work.Entries key value left at before) (left ≡ 0) self) }
+        ensures none { IfNone result (self.new.fault ≡ Error.OutOfMemory) }
+        ensures kept { IfNone result (list_of self.new ≡ list_of self.old) }
+    {
+        if left > 0 {
+            self.entries(key, value, left, at, before)?;
         }
         Some(())
     }

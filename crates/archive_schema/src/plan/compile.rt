@@ -4,8 +4,8 @@
 //! clear at each node what all of the cases need.
 
 ghost use Rattle.std.specs.Prelude.{◌≡◌, ◌≤◌, IfOk, true, false, length};
-ghost use Rattle.archive_check.specs.Expressions.{shape_of, flavor_of, pointee_of, shapes_in, variants_in};
-ghost use Rattle.archive_check.specs.Shape.{parts as record_of, choice, array, boxed, vec};
+ghost use Rattle.archive_check.specs.Expressions.{shape_of, flavor_of, key_of, pointee_of, shapes_in, variants_in};
+ghost use Rattle.archive_check.specs.Shape.{parts as record_of, choice, array, boxed, vec, sorted_map};
 ghost use Rattle.archive_schema.specs.plan.PlanGrowth.{lists_of, IsCopied};
 ghost use Rattle.archive_schema.specs.plan.Compilable.{Can, CanParts, CanVariants, CanPoint, CanWait};
 ghost use Rattle.archive_schema.specs.plan.Compiled.{counted, IsCompiled, IsCompiledAnywhere, IsCountedAnywhere, IsStringCompiled, IsPointeeCompiled, ArePartsCompiled, AreVariantsCompiled};
@@ -17,7 +17,7 @@ use crate::plan::growing::{
 };
 use crate::plan::queue::{Queue, wait};
 use crate::plan::{NodeKind, Plan, PointeeKind};
-use archive_check::format::expr::{Expr, FlavorInfo, Pointee};
+use archive_check::format::expr::{Expr, FlavorInfo, Key, Pointee};
 use archive_check::format::extents::{offset_of, times};
 use std::alloc::{AllocError, Global};
 
@@ -136,6 +136,31 @@ fn compile_vec<'e>(
     )
 }
 
+// A pointer to entries of this key and of a value, with their number: its pointee is the value.
+#[inline(never)]
+fn compile_map<'e>(
+    names: &[NamedNode],
+    key: Key,
+    value: &'e Expr,
+    plan: &mut Plan,
+    queue: &mut Queue<'e>,
+) -> Result<usize, AllocError>
+    requires { CanWait names.now (shape_of value.now) }
+    ensures { IfOk result (IsCompiledAnywhere names.now (sorted_map (key_of key) (shape_of value.now))
+        queue plan) }
+{
+    let pointee = wait(names, value, queue)?;
+    push(
+        plan,
+        Some(8),
+        4,
+        NodeKind::Pointer {
+            target: PointeeKind::Entries(key),
+            pointee,
+        },
+    )
+}
+
 // A string, behind the node of its text's bytes.
 #[inline(never)]
 fn compile_str(plan: &mut Plan) -> Result<usize, AllocError>
@@ -189,6 +214,7 @@ pub fn compile<'e>(
         Expr::Array(count, x) => compile_array(scope, *count, x, plan, queue),
         Expr::Box(x) => compile_box(scope.names, x, plan, queue),
         Expr::Vec(x) => compile_vec(scope.names, x, plan, queue),
+        Expr::Map(key, x) => compile_map(scope.names, *key, x, plan, queue),
         Expr::Str => compile_str(plan),
         Expr::Shared(flavor, x) => compile_counted(scope.names, false, *flavor, x, plan, queue),
         Expr::Weak(flavor, x) => compile_counted(scope.names, true, *flavor, x, plan, queue),

@@ -4,12 +4,12 @@ ghost use Rattle.std.specs.Prelude.{◌≡◌, ◌<◌, max, min, Some};
 ghost use Rattle.archive_check.specs.Layout.{up as up_to};
 ghost use Rattle.archive_check.specs.Expressions.{kind_of};
 ghost use Rattle.archive_check.specs.Words.BoundedSizes.{times as times_of, fits, rounded};
-ghost use Rattle.archive_schema.specs.check.Runs.{pointer_bytes};
+ghost use Rattle.archive_schema.specs.check.Runs.{pointer_bytes, unit_size, unit_align, value_begin};
 ghost use Rattle.archive_check.specs.Words.PlainData.{is_plain_kind};
 ghost use Rattle.archive_schema.specs.plan.BoundedSizes.{sum_of, greater_of};
 
-use crate::plan::PointeeKind;
-use archive_check::format::expr::Kind;
+use crate::plan::{Node, PointeeKind};
+use archive_check::format::expr::{Key, Kind};
 use archive_check::format::extents::offset_of;
 
 /// Whether any bytes of its size are a leaf.
@@ -25,7 +25,7 @@ pub fn pointer_size(target: PointeeKind) -> usize
 {
     match target {
         PointeeKind::One => 4,
-        PointeeKind::Run | PointeeKind::Text => 8,
+        PointeeKind::Run | PointeeKind::Text | PointeeKind::Entries(_) => 8,
     }
 }
 
@@ -102,6 +102,39 @@ impl Extent {
         Extent {
             end: offset_of(self.end, self.align),
             align: self.align,
+        }
+    }
+}
+
+/// Where the value begins in an entry of this key: at the next multiple of its alignment.
+pub fn value_offset(key: Key, align: usize) -> Option<usize>
+    requires { 0 < align }
+    ensures { result ≡ value_begin key align }
+{
+    offset_of(Some(key.size()), align)
+}
+
+/// What each takes that such a pointer leads to, where its node is this one: the pointee, a byte of a text, or an entry.
+pub fn unit_of(target: PointeeKind, pointee: Node) -> Extent
+    ensures end { result.end ≡ unit_size target pointee }
+    ensures align { result.align ≡ unit_align target pointee }
+{
+    match target {
+        PointeeKind::One | PointeeKind::Run => Extent {
+            end: pointee.size,
+            align: pointee.align,
+        },
+        PointeeKind::Text => Extent {
+            end: Some(1),
+            align: 1,
+        },
+        PointeeKind::Entries(key) => {
+            let end = end_of(value_offset(key, pointee.align), pointee.size);
+            let align = key.align().max(pointee.align);
+            Extent {
+                end: offset_of(end, align),
+                align,
+            }
         }
     }
 }

@@ -55,7 +55,7 @@ pub(crate) fn missing(expr: &Expr, defs: &[Def], far: bool) -> Option<&'static s
                 None
             }
         }
-        Expr::Vec(element) => if far {
+        Expr::Vec(element) | Expr::Map(_, element) => if far {
             missing(element, defs, far)
         } else {
             None

@@ -39,7 +39,7 @@ pub fn count(expr: &Expr) -> Result<usize, AllocError>
     ensures { IfOk result (λ n. n ≡ count_of (shape_of expr.now)) }
 {
     match expr {
-        Expr::Leaf(_) | Expr::Vec(_) => Ok(1),
+        Expr::Leaf(_) | Expr::Vec(_) | Expr::Map(_, _) => Ok(1),
         Expr::Record(parts) => {
             let parts = count_parts(parts)?;
             add(parts, 1)

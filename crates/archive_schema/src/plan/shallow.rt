@@ -74,6 +74,7 @@ fn is_shallow(plan: &Plan, marks: &[bool], kind: NodeKind) -> bool
         NodeKind::Pointer { target, pointee } => match target {
             PointeeKind::One | PointeeKind::Run => is_free_at(&plan.nodes, pointee),
             PointeeKind::Text => true,
+            PointeeKind::Entries(_) => false,
         },
         NodeKind::Shared { .. } | NodeKind::Weak { .. } => false,
     }

@@ -67,7 +67,7 @@ pub fn extent_of(schema: &Schema, expr: &Expr) -> Extent
             }
         }
         Expr::Box(x) | Expr::Shared(_, x) | Expr::Weak(_, x) => extent_of_pointer(x),
-        Expr::Vec(_) | Expr::Str => Extent {
+        Expr::Vec(_) | Expr::Map(_, _) | Expr::Str => Extent {
             end: Some(8),
             align: 4,
         },

@@ -1,12 +1,12 @@
 use Rattle.std.proofs.Common.{◌≡◌, ◌<◌, ◌+◌, ◌*◌, subst, sym, ap, ◌∙◌, arith, drop}
-use Rattle.archive_check.specs.Expressions.{flavor_of, shape_of, pointee_of, shapes_in, variants_in}
+use Rattle.archive_check.specs.Expressions.{flavor_of, key_of, shape_of, pointee_of, shapes_in, variants_in}
 use Rattle.archive_check.specs.Measure.{measure_of, measure_of_parts, measure_of_variants}
-use Rattle.archive_check.specs.Shape.{parts, choice, array, boxed, vec, shared, weak, variant}
+use Rattle.archive_check.specs.Shape.{parts, choice, array, boxed, vec, sorted_map, shared, weak, variant}
 use Rattle.archive_check.proofs.format.Views.{record_falls, choice_falls, shape_of-Choice, shape_of-Record, shapes_in-drop, shapes_in-end, shapes_size-at, variants_in-drop, variants_in-end, measure_of_variants-at}
 use Rattle.archive_schema.proofs.plan.Restated.{ok_map, as_shape, row_left, spans_left}
 use Rattle.archive_schema.proofs.plan.Compiled.{compiled_leaf, compiled_record, compiled_choice, compiled_array, compiled_name}
 use Rattle.archive_schema.proofs.plan.CompiledParts.{row_start, row_next, row_done, spans_start, spans_next, spans_done}
-use Rattle.archive_schema.proofs.plan.Compilable.{can_as, can_parts_as, can_variants_as, can_parts, can_choice, can_array, can_boxed, can_vec, can_shared, can_weak, can_first, can_variant, can_name, can_placed}
+use Rattle.archive_schema.proofs.plan.Compilable.{can_as, can_parts_as, can_variants_as, can_parts, can_choice, can_array, can_boxed, can_vec, can_map, can_shared, can_weak, can_first, can_variant, can_name, can_placed}
 use Rattle.archive_schema.proofs.plan.ShallowMarks.{kind_free}
 use Rattle.archive_schema.proofs.plan.compile.+compile.Goals as goal
 
@@ -35,6 +35,9 @@ compile-compile_box-requires t c = can_boxed (can_as (ap shape_of c.in-Box.is �
 
 pub compile-compile_vec-requires : goal.compile-compile_vec-requires
 compile-compile_vec-requires t c = can_vec (can_as (ap shape_of c.in-Vec.is ∙ ap (λ y. vec (shape_of y)) (sym c.deref-in-Vec.ensures)) c.requires.can)
+
+pub compile-compile_map-requires : goal.compile-compile_map-requires
+compile-compile_map-requires t c = can_map (can_as (ap shape_of c.in-Map.is ∙ ap (λ y. sorted_map (key_of c.in-Map.key) (shape_of y)) (sym c.deref-in-Map.ensures)) c.requires.can)
 
 pub compile-compile_counted-requires : goal.compile-compile_counted-requires
 compile-compile_counted-requires t c = can_shared (can_as (ap shape_of c.in-Shared.is ∙ ap (λ y. shared (flavor_of c.in-Shared.flavor) (pointee_of y)) (sym c.deref-in-Shared.ensures)) c.requires.can)
