@@ -6,7 +6,7 @@ use Rattle.archive_check.specs.Reads.{Schema}
 use Rattle.archive_check.specs.Tour.{Seen, entry}
 use Rattle.archive_check.specs.Trail.{RootTrips, Fault, Trips, trips_leaf, trips_parts, trips_tag, trips_choice, trips_array, trips_boxed, trips_vec, trips_map, trips_inline, trips_short, trips_out_of_line, trips_shared, trips_weak, trips_named, TripsParts, trips_first, trips_later, TripsRun, trips_element, trips_later_element, TripsEntries, trips_key, trips_order, trips_value, trips_later_entry, TripsFollow, trips_unique, trips_before, trips_new, trips_type, trips_length, trips_cycle, TripsEnter, trips_size, trips_range, trips_align, trips_depth, trips_within, TripsContents, trips_one, trips_run, trips_entries, trips_text}
 use Rattle.archive_check.proofs.Tours.ReadingUnique.{pos_one}
-use Rattle.archive_check.proofs.Checks.FaultyNotWalked.{one_walk, trips_no_walk}
+use Rattle.archive_check.proofs.Checks.FaultyNotWalked.{tripped_entries, one_walk, trips_no_walk}
 use Rattle.archive_check.proofs.Maps.Entries.{entry_walk}
 
 module _ (s : Schema) (bytes : List ℕ) where
@@ -136,7 +136,7 @@ module _ (s : Schema) (bytes : List ℕ) where
     pub contents_fault : {pending : List ℕ} {depth : Option ℕ} {stop t n a : ℕ} {o : Option Key} {P : Pointee} {l : Seen} {e f : Fault} → stop < 2 ^ 64 → TripsContents s bytes pending depth stop t o P n a l e → TripsContents s bytes pending depth stop t o P n a l f → e ≡ f
     contents_fault room (trips_one t) (trips_one u) = fault_unique room t u
     contents_fault room (trips_run t) (trips_run u) = run_fault room t u
-    contents_fault room (trips_entries t) (trips_entries u) = entries_fault room t u
+    contents_fault room (trips_entries {V = V} t) u = entries_fault room t (tripped_entries s bytes V refl u)
     contents_fault room (trips_text h) (trips_text k) = refl
 
   pub root_one_fault : {limit : Option ℕ} {root : ℕ} {X : Shape} {e f : Fault} → length bytes < 2 ^ 64 → RootTrips s bytes limit root X e → RootTrips s bytes limit root X f → e ≡ f

@@ -1,6 +1,6 @@
 -- A check that finds a fault finds no walk.
-use Rattle.std.proofs.Common.{◌≡◌, ℕ, pos, refl, List, length, Option, ◌<◌, ◌^◌, Contains, IsTrue, false, arith, sym, ap, ◌∙◌, inl, inr, ◌⊎◌}
-use Rattle.archive_check.specs.Shape.{Shape, Key, entry_of, Parts, Pointee, Flavor}
+use Rattle.std.proofs.Common.{◌≡◌, ℕ, pos, refl, List, length, Option, Some, None, subst, ◌<◌, ◌^◌, Contains, IsTrue, false, arith, sym, ap, ◌∙◌, inl, inr, ◌⊎◌}
+use Rattle.archive_check.specs.Shape.{Shape, Key, entry_of, Parts, Pointee, run, Flavor}
 use Rattle.archive_check.specs.Value.{Pointer}
 use Rattle.archive_check.specs.Reads.{Schema}
 use Rattle.archive_check.specs.Tour.{Seen, entry}
@@ -26,6 +26,19 @@ module _ (s : Schema) (bytes : List ℕ) where
 
   enter_here : {pending other : List ℕ} {depth : Option ℕ} {stop t u a : ℕ} {p : Pointer} {l k : Seen} {b : ℕ} {m : Seen} {c : ℕ} {n : Seen} → Enter s bytes pending depth stop p t a l b m → Enter s bytes other depth stop p u a k c n → u ≡ t
   enter_here v w = pos_one (sym (enter_target w) ∙ enter_target v)
+
+  -- what a walk of entries goes through, and that their keys ascend
+  pub walked_entries : {pending : List ℕ} {depth : Option ℕ} {stop t n a b : ℕ} {K : Key} {P : Pointee} {l m : Seen} (V : Shape) → P ≡ run (entry_of K V) → WalkContents s bytes pending depth stop t (Some K) P n a l b m
+      → WalkRun s bytes pending depth stop t n (entry_of K V) a l b m × Ascend K bytes None t (size_of s.layouts (entry_of K V)) n
+  walked_entries {pending} {depth} {stop} {t} {n} {a} {b} {l = l} {m = m} V e (walk_entries {K = K} {V = W} w h) =
+      let same : W ≡ V = cc in
+      (subst (λ X. WalkRun s bytes pending depth stop t n (entry_of K X) a l b m) same w, subst (λ X. Ascend K bytes None t (size_of s.layouts (entry_of K X)) n) same h)
+
+  -- and what fails in one
+  pub tripped_entries : {pending : List ℕ} {depth : Option ℕ} {stop t n a : ℕ} {K : Key} {P : Pointee} {l : Seen} {e : Fault} (V : Shape) → P ≡ run (entry_of K V) → TripsContents s bytes pending depth stop t (Some K) P n a l e
+      → TripsEntries s bytes pending depth stop None t n K V a l e
+  tripped_entries {pending} {depth} {stop} {t} {n} {a} {l = l} {e = f} V e (trips_entries {K = K} {V = W} v) =
+      let same : W ≡ V = cc in subst (λ X. TripsEntries s bytes pending depth stop None t n K X a l f) same v
 
   mutual
     pub one_walk : {pending : List ℕ} {depth : Option ℕ} {stop p a b : ℕ} {l m : Seen} {X : Shape} {c : ℕ} {n : Seen} → Walk s bytes pending depth stop p X a l b m → Walk s bytes pending depth stop p X a l c n → Meets b m c n
@@ -75,7 +88,7 @@ module _ (s : Schema) (bytes : List ℕ) where
     pub one_contents : {pending : List ℕ} {depth : Option ℕ} {stop t k a b : ℕ} {o : Option Key} {P : Pointee} {l m : Seen} {c : ℕ} {n : Seen} → WalkContents s bytes pending depth stop t o P k a l b m → WalkContents s bytes pending depth stop t o P k a l c n → Meets b m c n
     one_contents (walk_one v) (walk_one w) = one_walk v w
     one_contents (walk_run v) (walk_run w) = one_run v w
-    one_contents (walk_entries v h) (walk_entries w k) = one_run v w
+    one_contents (walk_entries {V = V} v h) w = one_run v (walked_entries V refl w).0
     one_contents (walk_text u) (walk_text v) = (refl, refl)
 
   mutual
@@ -157,7 +170,7 @@ module _ (s : Schema) (bytes : List ℕ) where
     pub contents_no_walk : {pending : List ℕ} {depth : Option ℕ} {stop t k a : ℕ} {o : Option Key} {P : Pointee} {l : Seen} {e : Fault} {b : ℕ} {m : Seen} → stop < 2 ^ 64 → TripsContents s bytes pending depth stop t o P k a l e → WalkContents s bytes pending depth stop t o P k a l b m → ⊥
     contents_no_walk room (trips_one t) (walk_one w) = trips_no_walk room t w
     contents_no_walk room (trips_run t) (walk_run w) = run_no_walk room t w
-    contents_no_walk room (trips_entries t) (walk_entries w h) = entries_no_walk room t w h
+    contents_no_walk room (trips_entries {V = V} t) w = let q = walked_entries V refl w in entries_no_walk room t q.0 q.1
     contents_no_walk room (trips_text h) (walk_text k) = h k
 
 module _ (s : Schema) (bytes : List ℕ) where

@@ -111,7 +111,7 @@ module _ (s : Schema) (a b : List ℕ) (to : ℕ → ℕ) where
       → get seen t ≡ Some (entry flavor p) → get seen u ≡ Some (entry kind q) → SameTours s a b O Q C D last other → SameTours s a b (p ∷ O) (q ∷ Q) C D last other
   again seen {p = p} {q = q} {flavor = flavor} {kind = kind} z there that here has had r =
       let same : entry flavor p ≡ entry kind q = same_some (sym has ∙ ap (get seen) here ∙ had) in
-      record { followed = ap₂ (λ x y. x ∷ y) (same_pointer p q (there ∙ ap pos here ∙ sym that) z.sharing z.pointee (ap (λ e. e.length) same)) r.followed; visited = r.visited; met = r.met; alike = r.alike }
+      record { followed = ap₂ (λ x y. x ∷ y) (same_pointer p q (there ∙ ap pos here ∙ sym that) z.sharing z.order z.pointee (ap (λ e. e.length) same)) r.followed; visited = r.visited; met = r.met; alike = r.alike }
 
   -- what is known of a shared position, in both buffers
   pub record Known (p q : Pointer) (flavor kind : Flavor) (v w : Value) : Type 0 where

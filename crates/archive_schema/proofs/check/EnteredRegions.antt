@@ -2,26 +2,28 @@
 use Rattle.std.proofs.Common.{◌≡◌, ◌≢◌, ℕ, ℤ, pos, refl, sym, ap, ap₂, ◌∙◌, ◌+◌, ◌*◌, ◌<◌, ◌≤◌, nat_eq, Bool, true, false, arith, List, ◌∷◌, length, Option, Some, None, Err, IsUtf8}
 use Rattle.std.proofs.lemmas.Bool.Decides.{nat_tests}
 use Rattle.archive_check.specs.declared.format.error.Error.{Error}
+use Rattle.archive_check.specs.declared.format.expr.Key.{Key as KeyExpr}
 use Rattle.archive_schema.specs.declared.plan.PointeeKind.{PointeeKind}
-use Rattle.archive_schema.specs.declared.plan.PointeeKind.TheVariants.{One, Run, Text}
+use Rattle.archive_schema.specs.declared.plan.PointeeKind.TheVariants.{One, Run, Text, Entries as EntriesOf}
 use Rattle.archive_schema.specs.declared.plan.NodeKind.TheVariants.{Free}
 use Rattle.archive_schema.specs.declared.check.Checker.{Checker}
 use Rattle.archive_schema.specs.declared.check.worklist.Work.{Work}
-use Rattle.archive_schema.specs.declared.check.worklist.Work.TheVariants.{Part as PartWork, Elements, Leave}
+use Rattle.archive_schema.specs.declared.check.worklist.Work.TheVariants.{Part as PartWork, Elements, Entries, Leave}
 use Rattle.archive_check.specs.Depth.{inside}
 use Rattle.archive_check.specs.context.Ranges.{RangeState, one_more, pop_answer, popped}
 use Rattle.archive_check.specs.context.PositionStates.{Positions}
 use Rattle.archive_check.specs.Reads.{bytes_at}
 use Rattle.archive_check.specs.Tour.{Seen}
-use Rattle.archive_check.specs.Words.BoundedSizes.{times}
+use Rattle.archive_check.specs.Words.BoundedSizes.{times, rounded}
+use Rattle.archive_schema.specs.plan.BoundedSizes.{sum_of}
 use Rattle.archive_check.specs.Outcomes.{Outcome, done, refused}
-use Rattle.archive_schema.specs.check.Runs.{Takes, RegionIs, enter_stop, contents_text, contents_empty, contents_one, contents_run, run_free, elements_free, IsNode, enter_within, ListRuns}
+use Rattle.archive_schema.specs.check.Runs.{Takes, EntryTakes, RegionIs, unit_size, unit_align, value_begin, enter_stop, contents_text, contents_empty, contents_one, contents_run, run_free, elements_free, IsNode, enter_within, ListRuns}
 use Rattle.archive_check.specs.declared.context.range.Region.{Region}
 use Rattle.archive_schema.specs.check.Entered.{Entered}
 use Rattle.archive_schema.specs.check.Through.{Rule, Through, Stops, region_rule, contents_rule}
 use Rattle.archive_schema.specs.check.LoopInvariant.{and_then, RegionIsLegalHere, Ready, stage, pending_in, regions_in, Agreeing, IsOrderly, Listing, Entering, TurnLeads, power, level, cost}
 use Rattle.archive_check.specs.context.FreshContexts.{HasLevels}
-use Rattle.archive_schema.proofs.check.TurnRules.{enter_one, enter_run}
+use Rattle.archive_schema.proofs.check.TurnRules.{enter_one, enter_run, enter_entries}
 use Rattle.archive_schema.proofs.check.ContextAgrees.{allows, agrees_inside, levels_of}
 use Rattle.archive_check.proofs.Checks.RangeLevels.{taken_back, not_taken, levels_inside, inside_few, level_back}
 use Rattle.archive_schema.proofs.check.OrderlyContexts.{orderly_levels, orderly_inside}
@@ -32,45 +34,76 @@ pub times_size : (size : Option ℕ) (n z : ℕ) → times size n ≡ Some z →
 times_size None n z e lt = absurd (grind (arith, nat_tests))
 times_size (Some y) n z e lt = (y, refl, grind (arith, nat_tests))
 
+-- whether each that a pointer leads to is its node
+abbrev is_node_itself : PointeeKind → Bool
+is_node_itself One = true
+is_node_itself Run = true
+is_node_itself Text = false
+is_node_itself (EntriesOf key) = false
+
+-- each of the region takes what the node does
+pub node_takes : {m : Checker} {target : PointeeKind} {j n z align : ℕ} → is_node_itself target ≡ true → RegionIs m target j n (Some z) align → 0 < z → (y : ℕ) × Takes m j y × (n * y ≡ z)
+node_takes {target = One} {n = n} {z = z} is region lt =
+    let k = times_size region.node.size n z region.size_is lt in
+    (k.0, record { node = region.node; at = region.at; size_is = k.1 }, k.2)
+node_takes {target = Run} {n = n} {z = z} is region lt =
+    let k = times_size region.node.size n z region.size_is lt in
+    (k.0, record { node = region.node; at = region.at; size_is = k.1 }, k.2)
+node_takes {target = Text} is region lt = cc
+node_takes {target = EntriesOf key} is region lt = cc
+
+-- so many that take a size, where there are any
+times_some : (size : Option ℕ) (n z : ℕ) → times size n ≡ Some z → 0 < n → (y : ℕ) × (size ≡ Some y) × (n * y ≡ z)
+times_some None n z e lt = absurd (grind (arith, nat_tests))
+times_some (Some y) n z e lt = (y, refl, grind (arith, nat_tests))
+
+-- an entry takes its size, where there are any
+pub entry_takes : {m : Checker} {key : KeyExpr} {j n z align : ℕ} → RegionIs m (EntriesOf key) j n (Some z) align → 0 < n → (offset size : ℕ) × EntryTakes m key j offset size × (n * size ≡ z)
+entry_takes {key = key} {n = n} {z = z} region lt =
+    let k = times_some (unit_size (EntriesOf key) region.node) n z region.size_is lt in
+    let o = begins (value_begin key region.node.align) region.node.size (unit_align (EntriesOf key) region.node) k.1 in
+    (o.0, k.0, record { node = region.node; at = region.at; offset_is = o.1; size_is = k.1 }, k.2)
+  where
+    begins : (offset size : Option ℕ) {y : ℕ} (align : ℕ) → rounded (sum_of offset size) align ≡ Some y → (o : ℕ) × (offset ≡ Some o)
+    begins (Some o) size align e = (o, refl)
+    begins None size align e = cc
+
 -- what a region holds that is legal as it lies, and leads nowhere
 module _ (m : Checker) (j n z t : ℕ) where
   pub passes_text : IsUtf8 (bytes_at m.bytes.now t z) → RegionIsLegalHere m Text j n z t
   passes_text utf pending depth start seen = contents_text utf
 
-  pub passes_empty : (target : PointeeKind) → z ≡ 0 → RegionIsLegalHere m target j n z t
-  passes_empty target none pending depth start seen = contents_empty none
+  pub passes_empty : (target : PointeeKind) → z ≡ 0 → ((key : KeyExpr) → target ≢ EntriesOf key) → RegionIsLegalHere m target j n z t
+  passes_empty target none plain pending depth start seen = contents_empty none plain
 
-  pub passes_free : (target : PointeeKind) (align : ℕ) → (target ≡ Text → ⊥) → (target ≡ One → n ≡ 1) → RegionIs m j n (Some z) align → IsNode m j Free → t + z ≤ length m.bytes.now → RegionIsLegalHere m target j n z t
-  passes_free target align other one region free fits = by_size (nat_eq z 0) refl
+  pub passes_free : (target : PointeeKind) (align : ℕ) → (target ≡ Text → ⊥) → (target ≡ One → n ≡ 1) → ((key : KeyExpr) → target ≢ EntriesOf key) → RegionIs m target j n (Some z) align → IsNode m j Free → t + z ≤ length m.bytes.now → RegionIsLegalHere m target j n z t
+  passes_free target align other one plain region free fits = by_size (nat_eq z 0) refl
     where
-      takes : 0 < z → (y : ℕ) × Takes m j y × (n * y ≡ z)
-      takes lt =
-          let k = times_size region.node.size n z region.size_is lt in
-          (k.0, record { node = region.node; at = region.at; size_is = k.1 }, k.2)
-
-      filled : (target : PointeeKind) → (target ≡ Text → ⊥) → (target ≡ One → n ≡ 1) → 0 < z → RegionIsLegalHere m target j n z t
-      filled Text other one lt = absurd (other refl)
-      filled One other one lt = λ pending depth start seen.
-          let k = takes lt in
+      filled : (target : PointeeKind) → (target ≡ Text → ⊥) → (target ≡ One → n ≡ 1) → ((key : KeyExpr) → target ≢ EntriesOf key) → RegionIs m target j n (Some z) align → 0 < z → RegionIsLegalHere m target j n z t
+      filled Text other one plain here lt = absurd (other refl)
+      filled One other one plain here lt = λ pending depth start seen.
+          let k = node_takes refl here lt in
           let same : n * k.0 ≡ k.0 = (ap (λ q. q * k.0) (one refl) ∙ omega arith) in
           contents_one lt (run_free free k.1 (omega (arith, k.2)))
-      filled Run other one lt = λ pending depth start seen. let k = takes lt in contents_run lt (elements_free free k.1 (omega (arith, k.2)))
+      filled Run other one plain here lt = λ pending depth start seen. let k = node_takes refl here lt in contents_run lt (elements_free free k.1 (omega (arith, k.2)))
+      filled (EntriesOf key) other one plain here lt = absurd (plain key refl)
 
       by_size : (b : Bool) → nat_eq z 0 ≡ b → RegionIsLegalHere m target j n z t
-      by_size true e = passes_empty target (grind (arith, nat_tests))
-      by_size false e = filled target other one (let some : z ≢ 0 = grind (arith, nat_tests) in omega arith)
+      by_size true e = passes_empty target (grind (arith, nat_tests)) plain
+      by_size false e = filled target other one plain region (let some : z ≢ 0 = grind (arith, nat_tests) in omega arith)
 
 -- a target of neither one value nor a text is a run
-pub run_left : (target : PointeeKind) → (target ≡ One → ⊥) → target ≢ Text → target ≡ Run
-run_left One one text = absurd (one refl)
-run_left Run one text = refl
-run_left Text one text = absurd (text refl)
+pub run_left : (target : PointeeKind) → (target ≡ One → ⊥) → target ≢ Text → ((key : KeyExpr) → target ≢ EntriesOf key) → target ≡ Run
+run_left One one text plain = absurd (one refl)
+run_left Run one text plain = refl
+run_left Text one text plain = absurd (text refl)
+run_left (EntriesOf key) one text plain = absurd (plain key refl)
 
 -- nothing of the range changes
 pub through_same : (R : Rule) (s : RangeState) → ((pending : List ℕ) (seen : Seen) → R pending s.depth s.end s.start seen (done s.start seen)) → Through R s s
 through_same R s runs = record { end = refl; depth = λ some. refl; runs = λ some. runs }
 
-module _ (m : Checker) (j n : ℕ) (z : ℤ) (s s' : RangeState) (r : Region) (h : Entered m j n z s s' r) (target : PointeeKind) where
+module _ (m : Checker) (target : PointeeKind) (j n : ℕ) (z : ℤ) (s s' : RangeState) (r : Region) (h : Entered m target j n z s s' r) where
   -- what the region holds is gone through, and it is left
   pub region_through : (s1 s2 : RangeState) → Through (contents_rule m target j n r.size r.begin) s' s1 → s2 ≡ popped s1 r.outer_start r.outer_end → Through (region_rule m target j n z) s s2
   region_through s1 s2 through left =
@@ -115,7 +148,7 @@ region_leads m target j n z s s' met met' old through same = record {
       );
 }
 
-module _ (m : Checker) (j n : ℕ) (z : ℤ) (s s' : RangeState) (met met' : Positions) (old mid : List Work) (r : Region) (h : Entered m j n z s s' r) (same : met' ≡ met) (list : mid ≡ Leave r.outer_start r.outer_end ∷ old) where
+module _ (m : Checker) {target : PointeeKind} (j n : ℕ) (z : ℤ) (s s' : RangeState) (met met' : Positions) (old mid : List Work) (r : Region) (h : Entered m target j n z s s' r) (same : met' ≡ met) (list : mid ≡ Leave r.outer_start r.outer_end ∷ old) where
   listed : mid ≡ Leave (r.begin + r.size) s.end ∷ old
   listed = list ∙ ap₂ (λ a b. Leave a b ∷ old) h.outer_start h.outer_end
 
@@ -128,7 +161,7 @@ module _ (m : Checker) (j n : ℕ) (z : ℤ) (s s' : RangeState) (met met' : Pos
   moved : {w w' : List Work} {seen : Seen} {o : Outcome} → w ≡ w' → Listing m (stage s' met' w) seen o → ListRuns m (pending_in w') (inside s.depth) r.begin w' s.start seen o
   moved e r = let inward : s'.depth ≡ inside s.depth = h.depth in rw (h.start, h.end, inward, e) at r
 
-  entering : {target : PointeeKind} {seen : Seen} {o : Outcome} → Entering m target j n (pos r.begin) (stage s met old) seen o → Entering m target j n z (stage s met old) seen o
+  entering : {seen : Seen} {o : Outcome} → Entering m target j n (pos r.begin) (stage s met old) seen o → Entering m target j n z (stage s met old) seen o
   entering q = rw h.lands.target q
 
   agreed : {seen : Seen} (new : List Work) → pending_in new ≡ pending_in old → regions_in new ≡ 1 + regions_in old → Agreeing (stage s met old) seen → Agreeing (stage s' met' new) seen
@@ -137,48 +170,43 @@ module _ (m : Checker) (j n : ℕ) (z : ℤ) (s s' : RangeState) (met met' : Pos
   ordered : (new : List Work) → pending_in new ≡ pending_in old → regions_in new ≡ 1 + regions_in old → IsOrderly (stage s met old) → IsOrderly (stage s' met' new)
   ordered new e f k = rw (h.depth, same, e, f) (orderly_inside h.deep k)
 
-  module _ (new : List Work) (lt : 0 < r.size) where
-    region_takes : (y : ℕ) × Takes m j y × (n * y ≡ r.size)
-    region_takes =
-        let k = times_size h.region.node.size n r.size h.region.size_is lt in
-        (k.0, record { node = h.region.node; at = h.region.at; size_is = k.1 }, k.2)
-
-    pub entered_one : new ≡ PartWork j r.begin ∷ mid → TurnLeads m (Entering m One j n z) (stage s met old) (stage s' met' new)
-    entered_one e =
+  module _ (new : List Work) where
+    pub entered_one : target ≡ One → 0 < r.size → new ≡ PartWork j r.begin ∷ mid → TurnLeads m (Entering m target j n z) (stage s met old) (stage s' met' new)
+    entered_one is lt e =
         let whole : new ≡ PartWork j r.begin ∷ Leave (r.begin + r.size) s.end ∷ old = e ∙ ap (λ w. PartWork j r.begin ∷ w) listed in
         record {
           keeps = ordered new (ap pending_in whole) (ap regions_in whole);
           leads = λ seen a. (
             seen,
             agreed new (ap pending_in whole) (ap regions_in whole) a,
-            λ o q. entering {target = One} (enter_one m h.region h.lands.above h.lands.below h.lands.aligned (allows a h.deep) lt (moved whole q)),
+            λ o q. entering (rw is (enter_one m (rw is at h.region) h.lands.above h.lands.below h.lands.aligned (allows a h.deep) lt (moved whole q))),
           );
         }
 
-    pub entered_run : new ≡ Elements j n r.begin ∷ mid → TurnLeads m (Entering m Run j n z) (stage s met old) (stage s' met' new)
-    entered_run e =
+    pub entered_run : target ≡ Run → 0 < r.size → new ≡ Elements j n r.begin ∷ mid → TurnLeads m (Entering m target j n z) (stage s met old) (stage s' met' new)
+    entered_run is lt e =
         let whole : new ≡ Elements j n r.begin ∷ Leave (r.begin + r.size) s.end ∷ old = e ∙ ap (λ w. Elements j n r.begin ∷ w) listed in
         record {
           keeps = ordered new (ap pending_in whole) (ap regions_in whole);
           leads = λ seen a. (
             seen,
             agreed new (ap pending_in whole) (ap regions_in whole) a,
-            λ o q. entering {target = Run} (enter_run m h.region h.lands.above h.lands.below h.lands.aligned (allows a h.deep) lt (moved whole q)),
+            λ o q. entering (rw is (enter_run m (rw is at h.region) h.lands.above h.lands.below h.lands.aligned (allows a h.deep) lt (moved whole q))),
           );
         }
 
-    pub entered_one_ready : Ready m s old → n ≡ 1 → new ≡ PartWork j r.begin ∷ mid → Ready m s' new
-    entered_one_ready q one e =
-        let k = region_takes in
+    pub entered_one_ready : target ≡ One → 0 < r.size → Ready m s old → n ≡ 1 → new ≡ PartWork j r.begin ∷ mid → Ready m s' new
+    entered_one_ready is lt q one e =
+        let k = node_takes (ap is_node_itself is) h.region lt in
         let all = entered_ready q in
         record {
           below = all.below;
           fits = rw e (record { size = k.0; takes = k.1; fits = let f : n * k.0 ≡ k.0 = (ap (λ x. x * k.0) one ∙ omega arith) in omega (arith, k.2, h.lands.below, q.below, f) }, all.fits);
         }
 
-    pub entered_run_ready : Ready m s old → n < 18446744073709551616 → new ≡ Elements j n r.begin ∷ mid → Ready m s' new
-    entered_run_ready q few e =
-        let k = region_takes in
+    pub entered_run_ready : target ≡ Run → 0 < r.size → Ready m s old → n < 18446744073709551616 → new ≡ Elements j n r.begin ∷ mid → Ready m s' new
+    entered_run_ready is lt q few e =
+        let k = node_takes (ap is_node_itself is) h.region lt in
         let all = entered_ready q in
         record {
           below = all.below;
@@ -194,3 +222,30 @@ module _ (m : Checker) (j n : ℕ) (z : ℤ) (s s' : RangeState) (met met' : Pos
     entered_run_ends known few e =
         rw (e ∙ ap (λ w. Elements j n r.begin ∷ w) listed) (falls_enter (level (length m.nodes.now) s'.end (j + 1) n) (level (length m.nodes.now) s.end 0 0) (cost m s.end old)
         (level_end (length m.nodes.now) s.end s'.end 0 0 (j + 1) n (omega (arith, h.end, h.lands.below)) (omega arith) (omega arith)))
+
+    module _ {key : KeyExpr} (is : target ≡ EntriesOf key) (e : new ≡ Entries key j n r.begin None ∷ mid) where
+      pub entered_entries : TurnLeads m (Entering m target j n z) (stage s met old) (stage s' met' new)
+      entered_entries =
+          let whole : new ≡ Entries key j n r.begin None ∷ Leave (r.begin + r.size) s.end ∷ old = e ∙ ap (λ w. Entries key j n r.begin None ∷ w) listed in
+          record {
+            keeps = ordered new (ap pending_in whole) (ap regions_in whole);
+            leads = λ seen a. (
+              seen,
+              agreed new (ap pending_in whole) (ap regions_in whole) a,
+              λ o q. entering (rw is (enter_entries m (rw is at h.region) h.lands.above h.lands.below h.lands.aligned (allows a h.deep) (moved whole q))),
+            );
+          }
+
+      pub entered_entries_ready : Ready m s old → 0 < n → n < 18446744073709551616 → Ready m s' new
+      entered_entries_ready q lt few =
+          let k = entry_takes (rw is at h.region) lt in
+          let all = entered_ready q in
+          record {
+            below = all.below;
+            fits = rw e (record { offset = k.0; size = k.1; few = few; takes = k.2; fits = omega (arith, k.3, h.lands.below, q.below); first = tt }, all.fits);
+          }
+
+      pub entered_entries_ends : j < length m.nodes.now → n < 18446744073709551616 → cost m s'.end new ≤ power (level (length m.nodes.now) s.end 0 0) + cost m s.end old
+      entered_entries_ends known few =
+          rw (e ∙ ap (λ w. Entries key j n r.begin None ∷ w) listed) (falls_enter (level (length m.nodes.now) s'.end (j + 1) n) (level (length m.nodes.now) s.end 0 0) (cost m s.end old)
+          (level_end (length m.nodes.now) s.end s'.end 0 0 (j + 1) n (omega (arith, h.end, h.lands.below)) (omega arith) (omega arith)))

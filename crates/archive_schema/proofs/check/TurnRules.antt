@@ -1,21 +1,23 @@
 -- Each turn of a check's loop is a rule of the run over the plan.
 use Rattle.std.proofs.Common.{◌≡◌, ◌≢◌, ℕ, ℤ, pos, ◌+ℤ◌, refl, sym, ap, ◌+◌, ◌-◌, ◌*◌, ◌%◌, ◌<◌, ◌≤◌, arith, List, [], ◌∷◌, length, Option, Some, None, slice_index, Bor}
 use Rattle.std.specs.FinMap.{get, insert}
+use Rattle.archive_check.specs.declared.format.expr.Key.{Key as KeyExpr}
 use Rattle.archive_schema.specs.declared.plan.PointeeKind.{PointeeKind}
-use Rattle.archive_schema.specs.declared.plan.PointeeKind.TheVariants.{One, Run}
+use Rattle.archive_schema.specs.declared.plan.PointeeKind.TheVariants.{One, Run, Entries as EntriesOf}
 use Rattle.archive_schema.specs.declared.plan.NodeKind.TheVariants.{Free, Record, Choice, Array, Pointer as PointerNode, Shared, Weak}
 use Rattle.archive_schema.specs.declared.plan.Part.{Part}
 use Rattle.archive_schema.specs.declared.plan.Span.{Span}
 use Rattle.archive_check.specs.declared.context.positions.SharedType.{SharedType}
 use Rattle.archive_schema.specs.declared.check.Checker.{Checker}
 use Rattle.archive_schema.specs.declared.check.worklist.Work.{Work}
-use Rattle.archive_schema.specs.declared.check.worklist.Work.TheVariants.{Part as PartWork, Parts, Elements, Leave, Finish}
+use Rattle.archive_schema.specs.declared.check.worklist.Work.TheVariants.{Part as PartWork, Parts, Elements, Entries, Leave, Finish}
 use Rattle.archive_check.specs.Depth.{Allows, inside}
 use Rattle.archive_check.specs.Reads.{i32_at}
 use Rattle.archive_check.specs.Tour.{Seen}
-use Rattle.archive_check.specs.Outcomes.{Outcome}
+use Rattle.archive_check.specs.Outcomes.{Outcome, done, refused}
+use Rattle.archive_check.specs.Trail.{Fault}
 use Rattle.archive_check.specs.Words.Elements.{IsAt}
-use Rattle.archive_schema.specs.check.Runs.{IsNode, Takes, RegionIs, pointee_count, pointee_length, entry_for, run_record, run_choice, run_array, run_pointer, run_shared, run_weak, FollowRuns, follow_new, parts_end, parts_next, parts_stop, elements_end, elements_next, elements_free, elements_stop, EnterRuns, enter_within, enter_stop, contents_one, contents_run, ListRuns, list_end, list_part, list_part_stop, list_parts, list_parts_stop, list_elements, list_elements_stop, list_leave, list_finish}
+use Rattle.archive_schema.specs.check.Runs.{IsNode, Takes, EntryTakes, RegionIs, OrderRuns, pointee_count, pointee_length, entry_for, run_record, run_choice, run_array, run_pointer, run_shared, run_weak, FollowRuns, follow_new, parts_end, parts_next, parts_stop, elements_end, elements_next, elements_free, elements_stop, entries_end, entries_key, entries_value, entries_next, EnterRuns, enter_within, enter_stop, contents_one, contents_run, contents_entries, ListRuns, list_end, list_part, list_part_stop, list_parts, list_parts_stop, list_elements, list_elements_stop, list_entries, list_entries_stop, list_leave, list_finish}
 use Rattle.archive_schema.specs.check.LoopInvariant.{Then, and_then, stops}
 
 -- one level of depth is got back
@@ -68,19 +70,40 @@ module _ (m : Checker) where
   turn_element_last lt none at (list_part v r) = list_elements (elements_next lt at v (elements_end none)) r
   turn_element_last lt none at (list_part_stop v) = list_elements_stop (elements_stop lt v)
 
+  pub turn_entries_end : {pd : List ℕ} {d : Option ℕ} {e j n p s : ℕ} {before : Option ℕ} {k : Seen} {o : Outcome} {w : List Work} {key : KeyExpr} → n ≡ 0 → ListRuns m pd d e w s k o → ListRuns m pd d e (Entries key j n p before ∷ w) s k o
+  turn_entries_end none r = list_entries (entries_end none) r
+
+  pub turn_entries_key : {pd : List ℕ} {d : Option ℕ} {e j n p s : ℕ} {before : Option ℕ} {k : Seen} {f : Fault} {w : List Work} {key : KeyExpr} → 0 < n → OrderRuns m pd d e key j before p s k (refused f) → ListRuns m pd d e (Entries key j n p before ∷ w) s k (refused f)
+  turn_entries_key lt v = list_entries_stop (entries_key lt v)
+
+  pub turn_entries : {pd : List ℕ} {d : Option ℕ} {e j n p offset size s mid : ℕ} {before : Option ℕ} {k known : Seen} {o : Outcome} {w : List Work} {key : KeyExpr} → 0 < n → OrderRuns m pd d e key j before p s k (done mid known) → EntryTakes m key j offset size
+      → ListRuns m pd d e (PartWork j (p + offset) ∷ Entries key j (n - 1) (p + size) (Some p) ∷ w) mid known o → ListRuns m pd d e (Entries key j n p before ∷ w) s k o
+  turn_entries lt first at (list_part v (list_entries vs r)) = list_entries (entries_next lt first at v vs) r
+  turn_entries lt first at (list_part v (list_entries_stop vs)) = list_entries_stop (entries_next lt first at v vs)
+  turn_entries lt first at (list_part_stop v) = list_entries_stop (entries_value lt first at v)
+
+  pub turn_entry_last : {pd : List ℕ} {d : Option ℕ} {e j n p offset size s mid : ℕ} {before : Option ℕ} {k known : Seen} {o : Outcome} {w : List Work} {key : KeyExpr} → 0 < n → n - 1 ≡ 0 → OrderRuns m pd d e key j before p s k (done mid known) → EntryTakes m key j offset size
+      → ListRuns m pd d e (PartWork j (p + offset) ∷ w) mid known o → ListRuns m pd d e (Entries key j n p before ∷ w) s k o
+  turn_entry_last lt none first at (list_part v r) = list_entries (entries_next lt first at v (entries_end none)) r
+  turn_entry_last lt none first at (list_part_stop v) = list_entries_stop (entries_value lt first at v)
+
   pub turn_elements_free : {pd : List ℕ} {d : Option ℕ} {e j n p z s : ℕ} {k : Seen} {o : Outcome} {w : List Work} → IsNode m j Free → Takes m j z → p + n * z ≤ length m.bytes.now → ListRuns m pd d e w s k o → ListRuns m pd d e (Elements j n p ∷ w) s k o
   turn_elements_free h at fits r = list_elements (elements_free h at fits) r
 
   outer_same : {pd : List ℕ} {d outer : Option ℕ} {e s : ℕ} {k : Seen} {o : Outcome} {w : List Work} → Allows d 1 → inside d ≡ inside outer → ListRuns m pd outer e w s k o → ListRuns m pd d e w s k o
   outer_same {d = d} {outer = outer} deep same r = rw (inside_same d outer deep same) at r
 
-  pub enter_one : {pd : List ℕ} {d : Option ℕ} {e j n z align t s : ℕ} {k : Seen} {o : Outcome} {w : List Work} → RegionIs m j n (Some z) align → s ≤ t → t + z ≤ e → t % align ≡ 0 → Allows d 1 → 0 < z → ListRuns m pd (inside d) t (PartWork j t ∷ Leave (t + z) e ∷ w) s k o → Then m pd d e (EnterRuns m pd d e One j n (pos t) s k) w o
+  pub enter_one : {pd : List ℕ} {d : Option ℕ} {e j n z align t s : ℕ} {k : Seen} {o : Outcome} {w : List Work} → RegionIs m One j n (Some z) align → s ≤ t → t + z ≤ e → t % align ≡ 0 → Allows d 1 → 0 < z → ListRuns m pd (inside d) t (PartWork j t ∷ Leave (t + z) e ∷ w) s k o → Then m pd d e (EnterRuns m pd d e One j n (pos t) s k) w o
   enter_one reg above below aligned deep lt (list_part v (list_leave same r)) = and_then (enter_within reg refl above below aligned deep (contents_one lt v)) (outer_same deep same r)
   enter_one reg above below aligned deep lt (list_part_stop v) = stops (enter_stop reg refl above below aligned deep (contents_one lt v))
 
-  pub enter_run : {pd : List ℕ} {d : Option ℕ} {e j n z align t s : ℕ} {k : Seen} {o : Outcome} {w : List Work} → RegionIs m j n (Some z) align → s ≤ t → t + z ≤ e → t % align ≡ 0 → Allows d 1 → 0 < z → ListRuns m pd (inside d) t (Elements j n t ∷ Leave (t + z) e ∷ w) s k o → Then m pd d e (EnterRuns m pd d e Run j n (pos t) s k) w o
+  pub enter_run : {pd : List ℕ} {d : Option ℕ} {e j n z align t s : ℕ} {k : Seen} {o : Outcome} {w : List Work} → RegionIs m Run j n (Some z) align → s ≤ t → t + z ≤ e → t % align ≡ 0 → Allows d 1 → 0 < z → ListRuns m pd (inside d) t (Elements j n t ∷ Leave (t + z) e ∷ w) s k o → Then m pd d e (EnterRuns m pd d e Run j n (pos t) s k) w o
   enter_run reg above below aligned deep lt (list_elements v (list_leave same r)) = and_then (enter_within reg refl above below aligned deep (contents_run lt v)) (outer_same deep same r)
   enter_run reg above below aligned deep lt (list_elements_stop v) = stops (enter_stop reg refl above below aligned deep (contents_run lt v))
+
+  pub enter_entries : {pd : List ℕ} {d : Option ℕ} {e j n z align t s : ℕ} {k : Seen} {o : Outcome} {w : List Work} {key : KeyExpr} → RegionIs m (EntriesOf key) j n (Some z) align → s ≤ t → t + z ≤ e → t % align ≡ 0 → Allows d 1 → ListRuns m pd (inside d) t (Entries key j n t None ∷ Leave (t + z) e ∷ w) s k o → Then m pd d e (EnterRuns m pd d e (EntriesOf key) j n (pos t) s k) w o
+  enter_entries reg above below aligned deep (list_entries v (list_leave same r)) = and_then (enter_within reg refl above below aligned deep (contents_entries v)) (outer_same deep same r)
+  enter_entries reg above below aligned deep (list_entries_stop v) = stops (enter_stop reg refl above below aligned deep (contents_entries v))
 
   -- a list that begins with the end of a shared position runs within it
   record Finishing (pd : List ℕ) (d : Option ℕ) (e t : ℕ) (w : List Work) (s : ℕ) (k : Seen) (o : Outcome) : Type 0 where

@@ -1,12 +1,12 @@
 -- What is checked at once, with nothing listed: what comes of it, whatever is seen and pending.
 use denote.Triple.Both.{Both}
 use denote.Ref.{MutBor}
-use Rattle.std.specs.Prelude.{◌≡◌, ◌≢◌, ℕ, ◌<◌, ℤ, List, Option, None, OnSome, IfSome, IfNone, Bool, IsTrue, false}
+use Rattle.std.specs.Prelude.{◌≡◌, ℕ, ◌<◌, ℤ, List, Option, None, OnSome, IfSome, IfNone, Bool, IsTrue, false}
 use Rattle.archive_check.specs.declared.context.Context as Context
 use Rattle.archive_check.specs.declared.format.error.Error.{Error}
 use Rattle.archive_schema.specs.declared.plan.PointeeKind.{PointeeKind}
 use Rattle.archive_schema.specs.declared.plan.Span.{Span}
-use Rattle.archive_schema.specs.declared.plan.PointeeKind.TheVariants.{Text}
+use Rattle.archive_schema.specs.declared.plan.PointeeKind.TheVariants.{One, Run, Text, Entries}
 use Rattle.archive_schema.specs.declared.check.Checker.{Checker}
 use Rattle.archive_schema.specs.declared.check.worklist.Worklist.{Worklist}
 use Rattle.archive_check.specs.context.Ranges.{RangeState}
@@ -111,7 +111,14 @@ PassesIf k R c w result = TestsFrom R (Unit {0}) (stage_before k c w) (stage_beh
 abbrev pub PassesRegion : {A : Type 0} → Context.Ghosts A → Checker → PointeeKind → ℕ → ℕ → ℤ → Both (MutBor A) (MutBor A) → Both (MutBor Worklist) (MutBor Worklist) → Option (Unit {0}) → Type 0
 PassesRegion k m target j n where_to c w result = Passes k (region_rule m target j n where_to) c w result
 
--- a call goes through what a region holds, z bytes at t, where that is shallow; else there are bytes, and they are no text
+-- what the list is for: bytes that are no text, or entries
+abbrev pub IsListed : PointeeKind → ℕ → ℕ → Type 0
+IsListed One n z = 0 < z
+IsListed Run n z = 0 < z
+IsListed Text n z = ⊥
+IsListed (Entries key) n z = 0 < n
+
+-- a call goes through what a region holds, z bytes at t, where that is shallow; else it is for the list
 abbrev pub PassesHeld : {A : Type 0} → Context.Ghosts A → Checker → PointeeKind → ℕ → ℕ → ℕ → ℕ → Both (MutBor A) (MutBor A) → Both (MutBor Worklist) (MutBor Worklist) → Option Bool → Type 0
 PassesHeld k m target j n t z c w result =
-    TestsFrom (contents_rule m target j n z t) ((0 < z) × (target ≢ Text)) (stage_before k c w) (stage_behind k c w) result w.exit.now.fault
+    TestsFrom (contents_rule m target j n z t) (IsListed target n z) (stage_before k c w) (stage_behind k c w) result w.exit.now.fault

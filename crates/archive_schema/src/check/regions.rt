@@ -88,6 +88,9 @@ impl Checker<'_> {
             return Some(true);
         }
         if let PointeeKind::Entries(key) = target {
+            if count == 0 {
+                return Some(true);
+            }
             if !self.shallow[pointee] {
                 return Some(false);
             }
