@@ -1,9 +1,10 @@
 -- What is checked at once: what a shallow node holds is shallow, and what comes of its parts and elements.
 use Rattle.std.proofs.Common.{inr, ◌≡◌, ◌≢◌, ℕ, zero, suc, refl, ap, ◌∙◌, ◌+◌, ◌-◌, ◌*◌, ◌<◌, ◌≤◌, arith, Bool, true, false, List, [], ◌∷◌, length, slice_index, slice_index_or, Bor, Option, Some, None, IsTrue}
 use Rattle.archive_check.specs.declared.format.error.Error.{Error}
+use Rattle.archive_check.specs.declared.format.expr.Key.{Key as KeyExpr}
 use Rattle.archive_schema.specs.declared.plan.NodeKind.TheVariants.{Free, Record, Choice, Array, Pointer as PointerNode}
 use Rattle.archive_schema.specs.declared.plan.PointeeKind.{PointeeKind}
-use Rattle.archive_schema.specs.declared.plan.PointeeKind.TheVariants.{One, Run, Text}
+use Rattle.archive_schema.specs.declared.plan.PointeeKind.TheVariants.{One, Run, Text, Entries as EntriesOf}
 use Rattle.archive_schema.specs.declared.plan.Node.{Node}
 use Rattle.archive_schema.specs.declared.plan.Part.{Part}
 use Rattle.archive_schema.specs.declared.plan.Span.{Span}
@@ -19,7 +20,7 @@ use Rattle.archive_check.specs.Words.Elements.{IsAt, span}
 use Rattle.archive_schema.specs.check.Runs.{IsNode, IsVariant, IsNoVariant, Takes, run_tag, run_choice, RegionIs, ElementsRun, parts_end, parts_next, parts_stop, elements_end, elements_next, elements_stop, list_part, list_part_stop}
 use Rattle.archive_schema.specs.plan.SoundPlans.{SpanFits, ArrayFits, IsSound}
 use Rattle.archive_schema.specs.plan.Shallow.{marked, free_at, parts_shallow, variants_shallow, IsShallow}
-use Rattle.archive_schema.specs.check.LoopInvariant.{IsLegalHere, PartFits, PartsFit, ElementsFit, Stage, stage, pending_in, Ready, Listing, cost, rank}
+use Rattle.archive_schema.specs.check.LoopInvariant.{IsLegalHere, PartFits, PartsFit, ElementsFit, EntriesFit, Stage, stage, pending_in, Ready, Listing, cost, rank}
 use Rattle.archive_check.specs.context.FreshContexts.{HasLevels}
 use Rattle.archive_schema.specs.check.Through.{Rule, Stops, Passed, PassesFrom, TestsFrom, node_rule, parts_rule, span_rule, elements_rule}
 use Rattle.archive_schema.specs.check.Turns.{TurnsFrom}
@@ -28,7 +29,7 @@ use Rattle.archive_check.proofs.Elements.{same_at, at_default, at_span}
 use Rattle.archive_schema.proofs.plan.ShallowMarks.{kind_free}
 use Rattle.archive_schema.proofs.check.TurnInvariants.{here_from, node_fits}
 use Rattle.archive_schema.proofs.check.TurnsEnd.{falls_none}
-use Rattle.archive_schema.proofs.check.EnteredRegions.{times_size, through_same}
+use Rattle.archive_schema.proofs.check.EnteredRegions.{is_node_itself, node_takes, entry_takes, through_same}
 use Rattle.archive_schema.proofs.check.ContextAgrees.{levels_of}
 use Rattle.archive_schema.proofs.check.OrderlyContexts.{orderly_levels}
 
@@ -283,17 +284,22 @@ alone {m = m} {a = a} {b = b} {p = p} {q = q} {x = x} {fault = fault} one at h =
     (λ stops. towards_stops {R = parts_rule m a b p} {Q = parts_rule m a b p} {x = x} {y = x} (node_rule m q.node (p + q.offset)) fault towards_same stops (λ pending seen f r. parts_stop lt at r))
 
 -- what a region holds lies in it
-module _ (m : Checker) (j n z p align : ℕ) (region : RegionIs m j n (Some z) align) (lt : 0 < z) (room : p + z ≤ length m.bytes.now) where
+module _ (m : Checker) {target : PointeeKind} (j n z p align : ℕ) (is : is_node_itself target ≡ true) (region : RegionIs m target j n (Some z) align) (lt : 0 < z) (room : p + z ≤ length m.bytes.now) where
   pub region_part : n ≡ 1 → PartFits m j p
   region_part one =
-      let k = times_size region.node.size n z region.size_is lt in
+      let k = node_takes is region lt in
       let same : n * k.0 ≡ k.0 = (ap (λ q. q * k.0) one ∙ omega arith) in
-      record { size = k.0; takes = record { node = region.node; at = region.at; size_is = k.1 }; fits = omega (arith, k.2, same) }
+      record { size = k.0; takes = k.1; fits = omega (arith, k.2, same) }
 
   pub region_elements : n < 18446744073709551616 → ElementsFit m j n p
   region_elements few =
-      let k = times_size region.node.size n z region.size_is lt in
-      record { size = k.0; few = few; takes = record { node = region.node; at = region.at; size_is = k.1 }; fits = omega (arith, k.2) }
+      let k = node_takes is region lt in
+      record { size = k.0; few = few; takes = k.1; fits = omega (arith, k.2) }
+
+pub region_entries : (m : Checker) {key : KeyExpr} (j n z p align : ℕ) → RegionIs m (EntriesOf key) j n (Some z) align → 0 < n → p + z ≤ length m.bytes.now → n < 18446744073709551616 → EntriesFit m key j n p None
+region_entries m j n z p align region lt room few =
+    let (offset, size, takes, is) = entry_takes region lt in
+    record { offset = offset; size = size; few = few; takes = takes; fits = omega (arith, is, room); first = tt }
 
 pub mark_is : (marks : List Bool) (i : ℕ) (d : Bool) → i < length marks → slice_index_or marks i d ≡ true → IsTrue (marked marks i)
 mark_is marks i d below e = same_at (at_default marks i false below) (at_default marks i d below) ∙ e

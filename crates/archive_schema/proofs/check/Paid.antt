@@ -1,8 +1,16 @@
 -- What is paid for the regions that a check enters.
-use Rattle.std.proofs.Common.{◌≡◌, ℤ, inl, inr, ℕ, zero, suc, ap, ◌∙◌, ◌+◌, ◌-◌, ◌*◌, ◌<◌, ◌≤◌, arith, List, ◌∷◌, length, Option, Some, None, OnSome, IfNone, unwrap_or, slice_index, Bor}
-use Rattle.std.proofs.Math.Nat.{mul-le-mul_right}
+use Rattle.std.proofs.Common.{◌≡◌, ℤ, inl, inr, ℕ, zero, suc, ap, ◌∙◌, ◌+◌, ◌-◌, ◌*◌, ◌<◌, ◌≤◌, arith, max, List, ◌∷◌, length, Option, Some, None, OnSome, IfNone, unwrap_or, slice_index, Bor}
+use Rattle.std.proofs.Math.Nat.{mul-le-mul_right, mul-le-mul_left}
+use Rattle.std.specs.Prelude.{true}
+use Rattle.archive_check.specs.declared.format.expr.Key.{Key as KeyExpr}
+use Rattle.archive_check.specs.Expressions.{key_of}
+use Rattle.archive_check.specs.Layout.{key_size, key_align}
+use Rattle.archive_check.specs.Words.BoundedSizes.{rounded}
+use Rattle.archive_schema.specs.plan.BoundedSizes.{sum_of}
+use Rattle.archive_check.proofs.BoundedSizes.{rounded_some}
+use Rattle.archive_schema.proofs.plan.BoundedSizes.{sum_some}
 use Rattle.archive_schema.specs.declared.plan.PointeeKind.{PointeeKind}
-use Rattle.archive_schema.specs.declared.plan.PointeeKind.TheVariants.{One, Run, Text}
+use Rattle.archive_schema.specs.declared.plan.PointeeKind.TheVariants.{One, Run, Text, Entries as EntriesOf}
 use Rattle.archive_schema.specs.declared.plan.NodeKind.TheVariants.{Record, Choice, Array}
 use Rattle.archive_schema.specs.declared.plan.Part.{Part}
 use Rattle.archive_schema.specs.declared.plan.Span.{Span}
@@ -14,14 +22,14 @@ use Rattle.archive_check.specs.context.Ranges.{RangeState}
 use Rattle.archive_check.specs.Words.Elements.{span, IsAt}
 use Rattle.archive_schema.specs.plan.SoundPlans.{IsSound}
 use Rattle.archive_schema.specs.plan.PackedPlans.{size_at, parts_size, variants_size, ArePacked}
-use Rattle.archive_schema.specs.check.Runs.{IsNode, IsVariant, RegionIs, pointer_bytes}
+use Rattle.archive_schema.specs.check.Runs.{IsNode, IsVariant, RegionIs, pointer_bytes, value_begin}
 use Rattle.archive_schema.specs.check.Lists.{IsMore}
 use Rattle.archive_schema.specs.check.LoopInvariant.{PartFits}
 use Rattle.archive_schema.specs.check.Entered.{Entered}
-use Rattle.archive_schema.specs.check.Paid.{bytes_of, bytes_in, bytes_of_parts, bytes_of_elements, PaysFrom}
+use Rattle.archive_schema.specs.check.Paid.{bytes_of, bytes_in, bytes_of_parts, bytes_of_elements, bytes_of_entries, PaysFrom}
 use Rattle.archive_check.proofs.Elements.{same_at, at_default, span_next}
 use Rattle.archive_schema.proofs.check.TurnInvariants.{node_fits}
-use Rattle.archive_schema.proofs.check.EnteredRegions.{times_size}
+use Rattle.archive_schema.proofs.check.EnteredRegions.{is_node_itself, node_takes, entry_takes}
 use Rattle.archive_schema.proofs.plan.PackedPlans.{size_is, taken, variant_least}
 
 -- an entry is left, or there is no room for it
@@ -34,7 +42,7 @@ pays_more m s w w' entry (inl (some, e)) = omega (arith, ap (bytes_in m) e)
 pays_more m s w w' entry (inr (none, e)) = omega (arith, ap (bytes_in m) e)
 
 -- a region is entered, and is to be left
-pub listed_pays : (m : Checker) {j n : ℕ} {z : ℤ} {s s1 : RangeState} {r : Region} (s2 : RangeState) (w w2 w3 : List Work) (entry : Work) → Entered m j n z s s1 r → s1.pushes ≤ s.pushes + 1 → s2 ≡ s1 → bytes_of m entry ≤ r.size
+pub listed_pays : (m : Checker) {target : PointeeKind} {j n : ℕ} {z : ℤ} {s s1 : RangeState} {r : Region} (s2 : RangeState) (w w2 w3 : List Work) (entry : Work) → Entered m target j n z s s1 r → s1.pushes ≤ s.pushes + 1 → s2 ≡ s1 → bytes_of m entry ≤ r.size
     → w2 ≡ Leave r.outer_start r.outer_end ∷ w → PaysFrom m (bytes_of m entry) s2 w2 s2 w3 → PaysFrom m 4 s w s2 w3
 listed_pays m s2 w w2 w3 entry h pushes same few left pays =
     let p = ap (λ (q : RangeState). q.pushes) same in
@@ -71,19 +79,38 @@ module _ {m : Checker} {i p : ℕ} (f : PartFits m i p) where
   pointer_few One le = omega (arith, le, node_size f)
   pointer_few Run le = omega (arith, le, node_size f)
   pointer_few Text le = omega (arith, le, node_size f)
+  pointer_few (EntriesOf key) le = omega (arith, le, node_size f)
 
 -- what a region holds takes no more than it
-module _ {m : Checker} {j n z align : ℕ} (region : RegionIs m j n (Some z) align) (lt : 0 < z) where
+module _ {m : Checker} {target : PointeeKind} {j n z align : ℕ} (is : is_node_itself target ≡ true) (region : RegionIs m target j n (Some z) align) (lt : 0 < z) where
   pub region_few : bytes_of_elements m j n ≤ z
   region_few =
-      let k = times_size region.node.size n z region.size_is lt in
-      let here = ap (λ q. n * q) (size_is m.nodes.now j region.node region.at ∙ ap (λ (o : Option ℕ). unwrap_or o 0) k.1) in
+      let k = node_takes is region lt in
+      let here = ap (λ q. n * q) (size_is m.nodes.now j k.1.node k.1.at ∙ ap (λ (o : Option ℕ). unwrap_or o 0) k.1.size_is) in
       omega (arith, k.2, here)
 
   pub region_one_few : n ≡ 1 → size_at m.nodes.now j ≤ z
   region_one_few one =
       let same = ap (λ q. q * size_at m.nodes.now j) one in
       omega (arith, region_few, same)
+
+-- an entry is at least as large as its key and its value
+entry_least : (key : KeyExpr) (size : Option ℕ) (align : ℕ) {y : ℕ} → 0 < align → rounded (sum_of (value_begin key align) size) (max (key_align (key_of key)) align) ≡ Some y → key_size (key_of key) + unwrap_or size 0 ≤ y
+entry_least key size align {y} lt e =
+    let (end, summed, less, is) = rounded_some (sum_of (value_begin key align) size) (max (key_align (key_of key)) align) y (omega (arith, lt)) e in
+    let (o, x, begins, sized, total) = sum_some (value_begin key align) size end summed in
+    let (k, same, below, at) = rounded_some (Some (key_size (key_of key))) align o lt begins in
+    let here : key_size (key_of key) ≡ k = cc in
+    let taken = ap (λ (q : Option ℕ). unwrap_or q 0) sized in
+    omega (arith, less, total, below, here, taken)
+
+pub region_entries_few : {m : Checker} {key : KeyExpr} {j n z align : ℕ} → RegionIs m (EntriesOf key) j n (Some z) align → 0 < n → bytes_of_entries m key j n ≤ z
+region_entries_few {m = m} {key = key} {j = j} {n = n} region lt =
+    let (offset, size, takes, is) = entry_takes region lt in
+    let least = entry_least key takes.node.size takes.node.align takes.node.positive takes.size_is in
+    let here = ap (λ q. key_size (key_of key) + q) (size_is m.nodes.now j takes.node takes.at) in
+    let more : n * (key_size (key_of key) + size_at m.nodes.now j) ≤ n * size = mul-le-mul_left n (omega (arith, least, here)) in
+    omega (arith, is, more)
 
 -- the next of some parts, and of some elements
 pub parts_next_is : (m : Checker) (a b : ℕ) (x : Part) → a < b → b ≤ length m.parts.now → IsAt m.parts.now a x → bytes_of_parts m a b ≡ size_at m.nodes.now x.node + bytes_of_parts m (a + 1) b

@@ -19,7 +19,7 @@ returns-in-Text-clause-passes g c =
 
 pub returns-in-Free-clause-passes : goal.returns-in-Free-clause-passes
 returns-in-Free-clause-passes g c =
-    let legal = free_region c.requires.pointee c.index-self-pointee.is c.in-Free.is c.in_default.not-Text c.requires.region.1 c.requires.within in
+    let legal = free_region c.requires.pointee c.index-self-pointee.is c.in-Free.is c.in_default.not-Text c.in_default-Entries.not-Entries c.requires.region.1 c.requires.within in
     test_known (passed_same (λ pending seen. legal pending _ _ seen))
 
 pub returns-then-size-eq0-clause-passes : goal.returns-then-size-eq0-clause-passes
