@@ -30,6 +30,7 @@ pub mod Variants
 pub mod Inner
 pub mod Payloads
 pub mod Options
+pub mod Outcomes
 pub mod Results
 pub mod Nothing
 pub mod SharedLaws

@@ -6,11 +6,11 @@ ghost use Rattle.archive_check.specs.Value.{product};
 ghost use Rattle.archive_check.specs.Viewed.{Viewed};
 ghost use Rattle.archive_types.specs.Causes.{HindersAt, IsRefused};
 ghost use Rattle.archive_types.specs.KindsWritten.{RecordSerialized, RecordRefused};
-ghost use Rattle.archive_types.specs.Placed.{Resolved, Hindered};
 ghost use Rattle.archive_types.specs.Plans.{Serialized};
 ghost use Rattle.archive_types.specs.Seen.{IsPartOf, RefusesPart, ReadsRecord};
 ghost use Rattle.archive_types.specs.Writing.{ZeroedPlace, Resolves};
 ghost use Rattle.archive_write.specs.Written.{GoesOn};
+ghost use Rattle.archive_types.specs.Outcomes.{ResolvesAs};
 
 use crate::parts::{DeserializeParts, OwnedParts, SerializeParts, SourceParts};
 use crate::place::Place;
@@ -49,9 +49,7 @@ pub fn resolve_record<T, P: SourceParts<T>, X: Record<Parts = P::Archived>>(
 ) -> Result<(), Error>
     requires zeroed { ZeroedPlace X.layout.size place.pos place.bytes.now }
     requires same_values { P.belongs whole.now resolvers }
-    ensures resolved { OnOk result (Resolved X.Portable place (product (P.flats whole.now resolvers))) }
-    ensures same_length { length place.exit.0.now ≡ length place.entry.bytes.now }
-    ensures refused { IfErr result (Hindered X.Portable place (product (P.flats whole.now resolvers))) }
+    ensures { ResolvesAs X.Portable place (product (P.flats whole.now resolvers)) result }
 {
     let Place { bytes, pos, .. } = place;
     P::resolve_parts(whole, resolvers, pos, 0, bytes)

@@ -7,12 +7,13 @@ ghost use Rattle.archive_check.specs.Layout.{has_length};
 ghost use Rattle.archive_check.specs.Shape.{one};
 ghost use Rattle.archive_num.specs.Offsets.{distance};
 ghost use Rattle.archive_types.specs.Causes.{HindersAt};
-ghost use Rattle.archive_types.specs.KindsWritten.{BytesResolved, RegionPut, RegionRefused, EachPut, EachHindered};
+ghost use Rattle.archive_types.specs.KindsWritten.{RegionPut, RegionRefused, EachPut, EachHindered};
 ghost use Rattle.archive_types.specs.Placed.{GrowsBy, Pointed, Unpointed};
 ghost use Rattle.archive_types.specs.Runs.{EachBelongs};
 ghost use Rattle.archive_types.specs.Sources.{OneStored, OneUnstored};
 ghost use Rattle.archive_types.specs.Writing.{ZeroedPlace, Resolves};
 ghost use Rattle.archive_write.specs.Written.{GoesOn};
+ghost use Rattle.archive_types.specs.Outcomes.{ResolvesBytes};
 
 use crate::place::Place;
 use crate::traits::{
@@ -134,9 +135,7 @@ pub(crate) fn resolve_into<T: Archive>(
 ) -> Result<(), Error>
     requires zeroed { ZeroedPlace T.Archived.layout.size pos bytes.old }
     requires same_value { T.belongs value.now resolver }
-    ensures resolved { OnOk result (BytesResolved T.Archived.Portable pos bytes.new (T.flat value.now resolver)) }
-    ensures same_length { length bytes.new ≡ length bytes.old }
-    ensures refused { IfErr result (HindersAt T.Archived.definitions T.Archived.shape (T.flat value.now resolver) pos) }
+    ensures { ResolvesBytes T.Archived.Portable pos bytes (T.flat value.now resolver) result }
 {
     value.resolve(resolver, Place::new(pos, bytes))
 }

@@ -18,7 +18,7 @@ ghost use Rattle.archive_check.specs.WriterState.{KeepsKeys};
 ghost use Rattle.archive_write.specs.Written.{GoesOn};
 ghost use Rattle.archive_types.specs.Causes.{HindersAt, IsRefused, IsRegionRefused};
 ghost use Rattle.archive_types.specs.Keyed.{text_keyed};
-ghost use Rattle.archive_types.specs.KindsWritten.{TextStored, TextUnstored, NoTextSince, StringSerialized, StringRefused, NoStringSince, StringResolved, StringHindered};
+ghost use Rattle.archive_types.specs.KindsWritten.{TextStored, TextUnstored, NoTextSince, StringSerialized, StringRefused, NoStringSince};
 ghost use Rattle.archive_num.specs.Offsets.{distance, IsTooFar};
 ghost use Rattle.archive_types.specs.Placed.{IsTooFarFrom, AtOnce, Added};
 ghost use Rattle.archive_types.specs.Planned.{string_planned, text_planned};
@@ -29,6 +29,7 @@ ghost use Rattle.archive_types.specs.Sources.{Read};
 ghost use Rattle.archive_types.specs.Strings.{string_form, string_flat};
 ghost use Rattle.archive_types.specs.TextPlans.{HindersStringAt, ExplainsTextRefusal, ExplainsStringRefusal};
 ghost use Rattle.archive_types.specs.Writing.{ZeroedPlace, Resolves};
+ghost use Rattle.archive_types.specs.Outcomes.{ResolvesAs};
 
 mod views;
 
@@ -282,7 +283,11 @@ impl ArchivedString {
     ) -> Result<(), Error>
         requires sized { length place.bytes.now ≡ 8 }
         requires held { length value.now ≤ 1073741823 }
-        ensures resolved { OnOk result (StringResolved value.now place resolver) }
+        ensures resolved {
+            OnOk result
+                (Resolves no_definition place.entry.pos place.exit.0.now str
+                (string_flat value.now resolver))
+        }
         ensures written { OnOk result (place.exit.0.now ≡ string_form value.now place.entry.pos resolver) }
         ensures inline { length value.now ≤ 8 → IsOk result }
         ensures fits { 8 < length value.now → OnOk result (FitsSigned w32 (distance place.entry.pos resolver)) }
@@ -323,9 +328,10 @@ impl Archive for String {
     ) -> Result<(), Error>
         requires zeroed { ZeroedPlace 8 place.pos place.bytes.now }
         requires same_value { length (string_bytes self.now) ≤ 1073741823 }
-        ensures resolved { OnOk result (StringResolved (string_bytes self.now) place resolver) }
-        ensures same_length { length place.exit.0.now ≡ length place.entry.bytes.now }
-        ensures refused { IfErr result (StringHindered (string_bytes self.now) place resolver) }
+        ensures outcome {
+            ResolvesAs ⟦<Self::Archived as Portable>⟧ place
+                (⟦<Self as Archive>⟧.flat self.now resolver) result
+        }
         ensures cause { IfErr result (HindersStringAt (string_bytes self.now) resolver place.entry.pos) }
         ensures written { OnOk result (place.exit.0.now ≡ string_form (string_bytes self.now) place.entry.pos resolver) }
         ensures inline { length (string_bytes self.now) ≤ 8 → IsOk result }

@@ -9,13 +9,14 @@ ghost use Rattle.archive_check.specs.Value.{Value, list};
 ghost use Rattle.archive_check.specs.Viewed.{Viewed};
 ghost use Rattle.archive_check.specs.declared.format.error.Error.TheVariants.{LengthTooLarge};
 ghost use Rattle.archive_types.specs.KindsWritten.{RunStoredIf, RunUnstored, RunCopiedIf, RunUncopied};
-ghost use Rattle.archive_types.specs.Placed.{Resolved, Hindered, IsPlanned};
+ghost use Rattle.archive_types.specs.Placed.{IsPlanned};
 ghost use Rattle.archive_types.specs.Seen.{IsPartOf, RefusesPart, ReadsView, RefusesView};
 ghost use Rattle.archive_types.specs.Causes.{HindersAt, IsRefused, IsRegionRefused};
 ghost use Rattle.archive_types.specs.Plans.{HasPlan, HasRegionPlan, Serialized, SerializedRegion};
 ghost use Rattle.archive_types.specs.Runs.{each_keys, each_meaning};
 ghost use Rattle.archive_types.specs.Writing.{Naming, IsKeyed, ZeroedPlace, Resolves};
 ghost use Rattle.archive_write.specs.Written.{GoesOn};
+ghost use Rattle.archive_types.specs.Outcomes.{ResolvesAs};
 
 use crate::place::Place;
 use crate::view::{RawView, Ref};
@@ -70,9 +71,7 @@ pub trait Archive {
     ) -> Result<(), Error>
         requires zeroed { ZeroedPlace Self.Archived.layout.size place.pos place.bytes.now }
         requires same_value { belongs self.now resolver }
-        ensures resolved { OnOk result (Resolved Self.Archived.Portable place (flat self.now resolver)) }
-        ensures same_length { length place.exit.0.now ≡ length place.entry.bytes.now }
-        ensures refused { IfErr result (Hindered Self.Archived.Portable place (flat self.now resolver)) };
+        ensures { ResolvesAs Self.Archived.Portable place (flat self.now resolver) result };
 
     /// Whether slices of such values are written in bulk, by `serialize_copied`. Off by default. As in rkyv 0.8.18, where it is a constant.
     #[inline(always)]

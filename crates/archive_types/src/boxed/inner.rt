@@ -6,11 +6,11 @@ ghost use Rattle.archive_check.specs.Shape.{boxed, one};
 ghost use Rattle.archive_check.specs.Value.{box, hole};
 ghost use Rattle.archive_types.specs.Causes.{HindersAt, IsOfWriting};
 ghost use Rattle.archive_types.specs.Inner.{IsBoxed, IsNotBoxed};
-ghost use Rattle.archive_types.specs.KindsWritten.{BoxCase, InnerResolved, InnerHindered};
 ghost use Rattle.archive_types.specs.Sources.{InnerBoxed, InnerPut, InnerUnboxed};
 ghost use Rattle.archive_types.specs.Variants.{HoldsCase};
-ghost use Rattle.archive_types.specs.Writing.{Resolves, to_pointee};
+ghost use Rattle.archive_types.specs.Writing.{Resolves, to_pointee, box_flat};
 ghost use Rattle.archive_write.specs.Written.{GoesOn};
+ghost use Rattle.archive_types.specs.Outcomes.{ResolvesTo};
 
 use super::{ArchivedBox, BoxResolver};
 use crate::owner_pointers::position_of;
@@ -74,9 +74,17 @@ pub fn resolve_inner<T: Portable>(
     requires zeroed { IsZeroed bytes.old }
     requires few { 8 ≤ length bytes.old }
     requires ends { pos + length bytes.old < 2 ^ 64 }
-    ensures held { OnOk result (BoxCase T.Portable pos tag resolver bytes.new) }
+    ensures held {
+        OnOk result
+            (HoldsCase T.definitions pos tag 4 4 (boxed (one T.shape))
+            (box_flat (one T.shape) 0 resolver) bytes.new)
+    }
     ensures same_length { length bytes.new ≡ length bytes.old }
-    ensures refused { IfErr result (InnerHindered T.Portable (pos + 4) resolver) }
+    ensures refused {
+        IfErr result
+            (HindersAt T.definitions (boxed (one T.shape)) (box_flat (one T.shape) 0 resolver)
+            (pos + 4))
+    }
 {
     bytes[0] = tag;
     resolve_box::<T>(resolver, pos + 4, &mut bytes[4..8])
@@ -89,9 +97,10 @@ fn resolve_box<T: Portable>(
     bytes: &mut [u8],
 ) -> Result<(), Error>
     requires sized { length bytes.old ≡ 4 }
-    ensures resolved { OnOk result (InnerResolved T.Portable pos resolver bytes.new) }
-    ensures same_length { length bytes.new ≡ 4 }
-    ensures refused { IfErr result (InnerHindered T.Portable pos resolver) }
+    ensures {
+        ResolvesTo T.definitions (boxed (one T.shape)) (box_flat (one T.shape) 0 resolver)
+            pos bytes.old bytes.new result
+    }
 {
     ArchivedBox::<T>::resolve_from_raw_parts(resolver, 0, Place::new(pos, bytes))
 }

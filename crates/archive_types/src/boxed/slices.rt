@@ -9,7 +9,7 @@ ghost use Rattle.archive_check.specs.Viewed.{Viewed};
 ghost use Rattle.archive_check.specs.declared.format.error.Error.TheVariants.{LengthTooLarge, OutOfMemory};
 ghost use Rattle.archive_types.specs.Causes.{HindersAt, IsRefused};
 ghost use Rattle.archive_types.specs.Keyed.{box_keyed, each_keyed, text_keyed};
-ghost use Rattle.archive_types.specs.KindsWritten.{SliceBoxResolved, SliceBoxHindered, TextBoxResolved, TextBoxHindered, TextBoxed, TextUnboxed};
+ghost use Rattle.archive_types.specs.KindsWritten.{TextBoxed, TextUnboxed};
 ghost use Rattle.archive_num.specs.Offsets.{distance, IsTooFar};
 ghost use Rattle.archive_num.specs.OwnerBytes.{owner_bytes};
 ghost use Rattle.archive_types.specs.Placed.{PointsTo, AtOnce};
@@ -21,6 +21,7 @@ ghost use Rattle.archive_types.specs.Seen.{IsPartOf, RefusesPart};
 ghost use Rattle.archive_types.specs.Sources.{Read, SliceBoxed, SliceUnboxed};
 ghost use Rattle.archive_types.specs.Writing.{ZeroedPlace, Resolves, to_pointee};
 ghost use Rattle.archive_write.specs.Written.{GoesOn};
+ghost use Rattle.archive_types.specs.Outcomes.{ResolvesAs};
 
 use super::{ArchivedBox, BoxResolver};
 use crate::owner_pointers::position_of;
@@ -77,9 +78,10 @@ impl<T: Archive> Archive for BoxSlice<T> {
     ) -> Result<(), Error>
         requires zeroed { ZeroedPlace 8 place.pos place.bytes.now }
         requires same_value { length self.now.items.items ≤ 4294967295 }
-        ensures resolved { OnOk result (SliceBoxResolved T.Archived.Portable place resolver (length self.now.items.items)) }
-        ensures same_length { length place.exit.0.now ≡ length place.entry.bytes.now }
-        ensures refused { IfErr result (SliceBoxHindered T.Archived.Portable place resolver (length self.now.items.items)) }
+        ensures outcome {
+            ResolvesAs ⟦<Self::Archived as Portable>⟧ place
+                (⟦<Self as Archive>⟧.flat self.now resolver) result
+        }
         ensures written { OnOk result (PointsTo place true resolver (length self.now.items.items)) }
         ensures cause { IfErr result (λ e. IsTooFar e (distance place.entry.pos resolver)) }
     {
@@ -180,9 +182,10 @@ impl Archive for BoxStr {
     ) -> Result<(), Error>
         requires zeroed { ZeroedPlace 8 place.pos place.bytes.now }
         requires same_value { length (string_bytes self.now.text) ≤ 4294967295 }
-        ensures resolved { OnOk result (TextBoxResolved place resolver (length (string_bytes self.now.text))) }
-        ensures same_length { length place.exit.0.now ≡ length place.entry.bytes.now }
-        ensures refused { IfErr result (TextBoxHindered place resolver (length (string_bytes self.now.text))) }
+        ensures outcome {
+            ResolvesAs ⟦<Self::Archived as Portable>⟧ place
+                (⟦<Self as Archive>⟧.flat self.now resolver) result
+        }
         ensures written { OnOk result (PointsTo place true resolver (length (string_bytes self.now.text))) }
         ensures cause { IfErr result (λ e. IsTooFar e (distance place.entry.pos resolver)) }
     {

@@ -8,11 +8,11 @@ ghost use Rattle.archive_check.specs.Shape.{Kind, leaf, non_zero};
 ghost use Rattle.archive_check.specs.Value.{number};
 ghost use Rattle.archive_types.specs.Keyed.{number_keyed};
 ghost use Rattle.archive_types.specs.KindsWritten.{NumberSerialized, NumberRefused};
-ghost use Rattle.archive_types.specs.Placed.{Resolved, Hindered};
 ghost use Rattle.archive_types.specs.Planned.{leaf_planned};
 ghost use Rattle.archive_types.specs.PlannedOwners.{pointee_planned};
 ghost use Rattle.archive_types.specs.Writing.{ZeroedPlace, Resolves};
 ghost use Rattle.archive_write.specs.Written.{GoesOn};
+ghost use Rattle.archive_types.specs.Outcomes.{ResolvesAs};
 
 use super::{Source, write_leaf};
 use crate::place::Place;
@@ -148,9 +148,10 @@ impl<L: Leaf> Archive for L {
     fn resolve(&self, _resolver: (), place: Place<'_, L::LeafFormat>) -> Result<(), Error>
         requires zeroed { ZeroedPlace (L.LeafFormat.layout.size) place.pos place.bytes.now }
         requires same_value { ⊤ }
-        ensures resolved { OnOk result (Resolved L.LeafFormat.Portable place (number (L.leaf_number self.now))) }
-        ensures same_length { length place.exit.0.now ≡ length place.entry.bytes.now }
-        ensures refused { IfErr result (Hindered L.LeafFormat.Portable place (number (L.leaf_number self.now))) }
+        ensures outcome {
+            ResolvesAs ⟦<Self::Archived as Portable>⟧ place
+                (⟦<Self as Archive>⟧.flat self.now _resolver) result
+        }
         ensures written { place.exit.0.now ≡ L.leaf_bytes self.now }
         ensures succeeds { IsOk result }
     {

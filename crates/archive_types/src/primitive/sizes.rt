@@ -13,7 +13,7 @@ ghost use Rattle.archive_check.specs.declared.format.error.Error.TheVariants.{Nu
 ghost use Rattle.archive_check.specs.LittleEndian.{little_bytes, little_number};
 ghost use Rattle.archive_types.specs.Keyed.{number_keyed};
 ghost use Rattle.archive_types.specs.Causes.{HindersAt, IsRefused};
-ghost use Rattle.archive_types.specs.KindsWritten.{LeafSerialized, LeafRefused, LeafResolved, LeafHindered};
+ghost use Rattle.archive_types.specs.KindsWritten.{LeafSerialized, LeafRefused};
 ghost use Rattle.archive_types.specs.Planned.{leaf_planned};
 ghost use Rattle.archive_types.specs.PlannedOwners.{one_planned};
 ghost use Rattle.archive_types.specs.Plans.{Serialized};
@@ -21,11 +21,12 @@ ghost use Rattle.archive_types.specs.Seen.{IsPartOf, part_number};
 ghost use Rattle.archive_types.specs.Sources.{Read};
 ghost use Rattle.archive_types.specs.Writing.{ZeroedPlace, Resolves};
 ghost use Rattle.archive_write.specs.Written.{GoesOn};
+ghost use Rattle.archive_types.specs.Outcomes.{ResolvesAs};
 
 use crate::place::Place;
 use crate::ser::serialize_one;
 use crate::traits::{
-    Archive, ArchivePointee, ArchiveUnsized, Deserialize, Entries, Keys, Serialize,
+    Archive, ArchivePointee, ArchiveUnsized, Deserialize, Entries, Keys, Portable, Serialize,
     SerializeUnsized,
 };
 use crate::view::{RawView, Ref};
@@ -55,9 +56,10 @@ impl Archive for usize {
     fn resolve(&self, _resolver: (), place: Place<'_, ArchivedUsize>) -> Result<(), Error>
         requires zeroed { ZeroedPlace 4 place.pos place.bytes.now }
         requires same_value { self.now < 2 ^ 32 }
-        ensures resolved { OnOk result (LeafResolved (number unsigned w32) place (pos self.now)) }
-        ensures same_length { length place.exit.0.now ≡ length place.entry.bytes.now }
-        ensures refused { IfErr result (LeafHindered (number unsigned w32) place (pos self.now)) }
+        ensures outcome {
+            ResolvesAs ⟦<Self::Archived as Portable>⟧ place
+                (⟦<Self as Archive>⟧.flat self.now _resolver) result
+        }
         ensures written { place.exit.0.now ≡ little_bytes 4 self.now }
         ensures succeeds { IsOk result }
     {
@@ -150,9 +152,10 @@ impl Archive for isize {
     fn resolve(&self, _resolver: (), place: Place<'_, ArchivedIsize>) -> Result<(), Error>
         requires zeroed { ZeroedPlace 4 place.pos place.bytes.now }
         requires same_value { FitsSigned w32 self.now }
-        ensures resolved { OnOk result (LeafResolved (number signed w32) place self.now) }
-        ensures same_length { length place.exit.0.now ≡ length place.entry.bytes.now }
-        ensures refused { IfErr result (LeafHindered (number signed w32) place self.now) }
+        ensures outcome {
+            ResolvesAs ⟦<Self::Archived as Portable>⟧ place
+                (⟦<Self as Archive>⟧.flat self.now _resolver) result
+        }
         ensures written { place.exit.0.now ≡ little_bytes 4 (cast_unsigned w32 self.now) }
         ensures succeeds { IsOk result }
     {

@@ -13,16 +13,17 @@ ghost use Rattle.archive_num.specs.OwnerBytes.{owner_bytes};
 ghost use Rattle.archive_types.specs.Placed.{IsTooFarFrom};
 ghost use Rattle.archive_types.specs.Plans.{Serialized};
 ghost use Rattle.archive_types.specs.SharedLaws.{flavor_as, naming_of, weak_value, weak_keys, weak_count, weak_flat};
-ghost use Rattle.archive_types.specs.SharedWriting.{AnswersPending, SharedResolved, SharedHindered, WeakResolved, WeakHindered, IsShared, IsntShared, IsWeak, IsntWeak};
-ghost use Rattle.archive_types.specs.Writing.{Resolves, to_shared};
+ghost use Rattle.archive_types.specs.SharedWriting.{AnswersPending, IsShared, IsntShared, IsWeak, IsntWeak, flavor_of};
+ghost use Rattle.archive_types.specs.Writing.{Resolves, to_shared, shared_flat};
 ghost use Rattle.archive_write.specs.Written.{GoesOn};
+ghost use Rattle.archive_types.specs.Outcomes.{ResolvesAs};
 
 use super::{ArchivedRc, ArchivedRcWeak, Flavor};
 use crate::owner_pointers::position_of;
 use crate::place::Place;
 use crate::ser::Writer;
 use crate::sharing::{Sharing, SharingExt};
-use crate::traits::{ArchiveUnsized, PortablePointee, SerializeUnsized};
+use crate::traits::{ArchiveUnsized, Portable, PortablePointee, SerializeUnsized};
 use archive_check::format::error::Error;
 use archive_num::FixedUsize;
 use archive_num::owners::emplace_pointer;
@@ -150,10 +151,11 @@ where
         requires sized { length place.bytes.now ≡ pointer_size T.pointee }
         requires one_value { has_length T.pointee ≡ false → U.source_length value.now ≡ 0 }
         requires held { U.source_length value.now ≤ 4294967295 }
-        ensures resolved { OnOk result (SharedResolved F.Flavor T.ArchivePointee U.ArchiveUnsized place value.now resolver) }
-        ensures refused { IfErr result (SharedHindered F.Flavor T.ArchivePointee U.ArchiveUnsized place value.now resolver) }
+        ensures outcome {
+            ResolvesAs ⟦<Self as Portable>⟧ place
+                (shared_flat (flavor_of F.Flavor) T.pointee (U.source_length value.now) resolver) result
+        }
         ensures cause { IfErr result (IsTooFarFrom place resolver) }
-        ensures same_length { length place.exit.0.now ≡ length place.entry.bytes.now }
     {
         let Place { bytes, pos, .. } = place;
         let count = length_of::<T, U>(value);
@@ -212,10 +214,12 @@ where
         requires sized { length place.bytes.now ≡ pointer_size T.pointee }
         requires one_value { has_length T.pointee ≡ false → weak_count (λ u. U.source_length u.now) value ≡ 0 }
         requires held { weak_count (λ u. U.source_length u.now) value ≤ 4294967295 }
-        ensures resolved { OnOk result (WeakResolved F.Flavor T.ArchivePointee U.ArchiveUnsized place value.entry resolver) }
-        ensures refused { IfErr result (WeakHindered F.Flavor T.ArchivePointee U.ArchiveUnsized place value.entry resolver) }
+        ensures outcome {
+            ResolvesAs ⟦<Self as Portable>⟧ place
+                (weak_flat (flavor_of F.Flavor) T.pointee
+                (weak_count (λ u. U.source_length u.now) value.entry) resolver) result
+        }
         ensures null { resolver ≡ None → IsOk result × (place.exit.0.now ≡ owner_bytes (has_length T.pointee) (whole 1) 0) }
-        ensures same_length { length place.exit.0.now ≡ length place.entry.bytes.now }
     {
         let Place { bytes, pos, .. } = place;
         let Some(resolver) = resolver else {

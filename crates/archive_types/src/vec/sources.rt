@@ -7,15 +7,16 @@ ghost use Rattle.archive_check.specs.Value.{list, hole};
 ghost use Rattle.archive_check.specs.declared.format.error.Error.TheVariants.{LengthTooLarge};
 ghost use Rattle.archive_types.specs.Causes.{HindersAt, IsRefused};
 ghost use Rattle.archive_types.specs.Keyed.{each_keyed};
-ghost use Rattle.archive_types.specs.KindsWritten.{VecSerialized, VecRefused, VecResolved, VecHindered};
+ghost use Rattle.archive_types.specs.KindsWritten.{VecSerialized, VecRefused};
 ghost use Rattle.archive_num.specs.Offsets.{distance, IsTooFar};
 ghost use Rattle.archive_num.specs.OwnerBytes.{owner_bytes};
 ghost use Rattle.archive_types.specs.Placed.{IsTooFarFrom, PointsTo, AtOnce};
 ghost use Rattle.archive_types.specs.PlannedOwners.{one_planned, vec_planned, slice_planned};
 ghost use Rattle.archive_types.specs.Plans.{Serialized};
 ghost use Rattle.archive_types.specs.Runs.{each_keys, each_meaning};
-ghost use Rattle.archive_types.specs.Writing.{ZeroedPlace, Resolves, to_pointee};
+ghost use Rattle.archive_types.specs.Writing.{ZeroedPlace, Resolves, to_pointee, vec_flat};
 ghost use Rattle.archive_write.specs.Written.{GoesOn};
+ghost use Rattle.archive_types.specs.Outcomes.{ResolvesAs};
 
 use super::ArchivedVec;
 use crate::owner_pointers::position_of;
@@ -90,12 +91,12 @@ impl<T: Portable> ArchivedVec<T> {
     ) -> Result<(), Error>
         requires sized { length place.bytes.now ≡ 8 }
         requires held { len ≤ 4294967295 }
-        ensures resolved { OnOk result (VecResolved T.Portable place resolver len) }
+        ensures outcome {
+            ResolvesAs ⟦<Self as Portable>⟧ place (vec_flat T.shape len resolver) result
+        }
         ensures written { OnOk result (PointsTo place true resolver len) }
         ensures fits { OnOk result (FitsSigned w32 (distance place.entry.pos resolver)) }
-        ensures refused { IfErr result (VecHindered T.Portable place resolver len) }
         ensures cause { IfErr result (IsTooFarFrom place resolver) }
-        ensures same_length { length place.exit.0.now ≡ length place.entry.bytes.now }
     {
         let Place { bytes, pos, .. } = place;
         emplace_long_owner(resolver.pos as usize, len as FixedUsize, pos, bytes)
@@ -110,12 +111,13 @@ impl<T: Portable> ArchivedVec<T> {
     ) -> Result<(), Error>
         requires sized { length place.bytes.now ≡ 8 }
         requires held { length value.now ≤ 4294967295 }
-        ensures resolved { OnOk result (VecResolved T.Portable place resolver (length value.now)) }
+        ensures outcome {
+            ResolvesAs ⟦<Self as Portable>⟧ place (vec_flat T.shape (length value.now) resolver)
+                result
+        }
         ensures written { OnOk result (PointsTo place true resolver (length value.now)) }
         ensures fits { OnOk result (FitsSigned w32 (distance place.entry.pos resolver)) }
-        ensures refused { IfErr result (VecHindered T.Portable place resolver (length value.now)) }
         ensures cause { IfErr result (IsTooFarFrom place resolver) }
-        ensures same_length { length place.exit.0.now ≡ length place.entry.bytes.now }
     {
         let Place { bytes, pos, .. } = place;
         Self::resolve_from_len(value.len(), resolver, Place::new(pos, bytes))
@@ -148,9 +150,10 @@ impl<T: Archive> Archive for Vec<T> {
     ) -> Result<(), Error>
         requires zeroed { ZeroedPlace 8 place.pos place.bytes.now }
         requires same_value { length self.now.items ≤ 4294967295 }
-        ensures resolved { OnOk result (VecResolved T.Archived.Portable place resolver (length self.now.items)) }
-        ensures same_length { length place.exit.0.now ≡ length place.entry.bytes.now }
-        ensures refused { IfErr result (VecHindered T.Archived.Portable place resolver (length self.now.items)) }
+        ensures outcome {
+            ResolvesAs ⟦<Self::Archived as Portable>⟧ place
+                (⟦<Self as Archive>⟧.flat self.now resolver) result
+        }
         ensures written { OnOk result (PointsTo place true resolver (length self.now.items)) }
         ensures cause { IfErr result (λ e. IsTooFar e (distance place.entry.pos resolver)) }
     {
