@@ -285,7 +285,7 @@ impl ArchivedString {
         requires held { length value.now ≤ 1073741823 }
         ensures resolved {
             OnOk result
-                (Resolves no_definition place.entry.pos place.exit.0.now str
+                (Resolves no_definition place.entry.pos place.exit.0.now str_shape
                 (string_flat value.now resolver))
         }
         ensures written { OnOk result (place.exit.0.now ≡ string_form value.now place.entry.pos resolver) }
