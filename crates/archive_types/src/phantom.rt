@@ -7,7 +7,6 @@ ghost use Rattle.archive_check.specs.Entries.{ReadsBack};
 ghost use Rattle.archive_check.specs.Value.{product, no_value};
 ghost use Rattle.archive_check.specs.Viewed.{Viewed};
 ghost use Rattle.archive_types.specs.Causes.{HindersAt, IsRefused};
-ghost use Rattle.archive_types.specs.KindsWritten.{NothingSerialized, NothingRefused};
 ghost use Rattle.archive_types.specs.Nothing.{empty_product_keyed, empty_product_planned};
 ghost use Rattle.archive_types.specs.PlannedOwners.{one_planned};
 ghost use Rattle.archive_types.specs.Plans.{Serialized};
@@ -15,7 +14,7 @@ ghost use Rattle.archive_types.specs.Seen.{IsPartOf};
 ghost use Rattle.archive_types.specs.Sources.{Read};
 ghost use Rattle.archive_types.specs.Writing.{ZeroedPlace, Resolves};
 ghost use Rattle.archive_write.specs.Written.{GoesOn};
-ghost use Rattle.archive_types.specs.Outcomes.{ResolvesAs};
+ghost use Rattle.archive_types.specs.Outcomes.{ResolvesAs, Serializes};
 
 use crate::place::Place;
 use crate::ser::serialize_one;
@@ -102,10 +101,10 @@ impl<T> CopiedSource for PhantomData<T> {
 impl<T, S: Writer + Keys> Serialize<S> for PhantomData<T> {
     #[tactic(auto, using(crate::proofs::Nothing::serialized_empty_product, crate::proofs::Causes::goes_nowhere))]
     fn serialize(&self, _serializer: &mut S) -> Result<(), Error>
-        ensures serialized { IfOk result (NothingSerialized S.Keys _serializer) }
-        ensures same_value { ⊤ }
-        ensures goes_on { GoesOn (S.state _serializer.old) (S.state _serializer.new) }
-        ensures refused { IfErr result (NothingRefused S.Keys _serializer) }
+        ensures outcome {
+            Serializes ⟦<Self as Archive>⟧ ⟦<Self::Archived as Portable>⟧ self.now S.Keys
+                _serializer result
+        }
         ensures unchanged { S.state _serializer.new ≡ S.state _serializer.old }
         ensures succeeds { IsOk result }
     {

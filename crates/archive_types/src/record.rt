@@ -5,12 +5,11 @@ ghost use Rattle.archive_check.specs.Entries.{ReadsBack, RefusesReading};
 ghost use Rattle.archive_check.specs.Value.{product};
 ghost use Rattle.archive_check.specs.Viewed.{Viewed};
 ghost use Rattle.archive_types.specs.Causes.{HindersAt, IsRefused};
-ghost use Rattle.archive_types.specs.KindsWritten.{RecordSerialized, RecordRefused};
 ghost use Rattle.archive_types.specs.Plans.{Serialized};
 ghost use Rattle.archive_types.specs.Seen.{IsPartOf, RefusesPart, ReadsRecord};
 ghost use Rattle.archive_types.specs.Writing.{ZeroedPlace, Resolves};
 ghost use Rattle.archive_write.specs.Written.{GoesOn};
-ghost use Rattle.archive_types.specs.Outcomes.{ResolvesAs};
+ghost use Rattle.archive_types.specs.Outcomes.{ResolvesAs, SerializesAs};
 
 use crate::parts::{DeserializeParts, OwnedParts, SerializeParts, SourceParts};
 use crate::place::Place;
@@ -30,10 +29,10 @@ pub fn serialize_record<
     X: Record<Parts = P::Archived>,
     S: Writer + Keys,
 >(whole: &T, serializer: &mut S) -> Result<P::Resolvers, Error>
-    ensures serialized { IfOk result (RecordSerialized X.Portable P.keys P.meanings P.flats whole.now S.Keys serializer) }
-    ensures same_values { IfOk result (λ r. P.belongs whole.now r) }
-    ensures goes_on { GoesOn (S.state serializer.old) (S.state serializer.new) }
-    ensures refused { IfErr result (RecordRefused X.Portable P.keys P.meanings whole.now S.Keys serializer) }
+    ensures {
+        SerializesAs X.Portable (P.keys whole.now) (product (P.meanings whole.now))
+            (λ r. product (P.flats whole.now r)) (P.belongs whole.now) S.Keys serializer result
+    }
 {
     P::serialize_parts(whole, serializer)
 }

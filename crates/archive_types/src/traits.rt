@@ -8,7 +8,6 @@ ghost use Rattle.archive_check.specs.Shape.{run};
 ghost use Rattle.archive_check.specs.Value.{Value, list};
 ghost use Rattle.archive_check.specs.Viewed.{Viewed};
 ghost use Rattle.archive_check.specs.declared.format.error.Error.TheVariants.{LengthTooLarge};
-ghost use Rattle.archive_types.specs.KindsWritten.{RunStoredIf, RunUnstored, RunCopiedIf, RunUncopied};
 ghost use Rattle.archive_types.specs.Placed.{IsPlanned};
 ghost use Rattle.archive_types.specs.Seen.{IsPartOf, RefusesPart, ReadsView, RefusesView};
 ghost use Rattle.archive_types.specs.Causes.{HindersAt, IsRefused, IsRegionRefused};
@@ -16,7 +15,7 @@ ghost use Rattle.archive_types.specs.Plans.{HasPlan, HasRegionPlan, Serialized, 
 ghost use Rattle.archive_types.specs.Runs.{each_keys, each_meaning};
 ghost use Rattle.archive_types.specs.Writing.{Naming, IsKeyed, ZeroedPlace, Resolves};
 ghost use Rattle.archive_write.specs.Written.{GoesOn};
-ghost use Rattle.archive_types.specs.Outcomes.{ResolvesAs};
+ghost use Rattle.archive_types.specs.Outcomes.{ResolvesAs, Serializes, WritesUnsized, CopiesElements};
 
 use crate::place::Place;
 use crate::view::{RawView, Ref};
@@ -88,12 +87,9 @@ pub trait Archive {
         _together: usize,
         _serializer: &mut S,
     ) -> Result<Option<usize>, Error>
-        ensures serialized { IfOk result (RunStoredIf keys meaning Self.Archived.Portable _values.now S.Keys _serializer) }
-        ensures in_bulk { IfOk result (RunCopiedIf keys meaning Self.Archived.Portable _values.now S.Keys _serializer) }
-        ensures untouched { IfOk result (λ o. o ≡ None → S.state _serializer.new ≡ S.state _serializer.old) }
-        ensures goes_on { GoesOn (S.state _serializer.old) (S.state _serializer.new) }
-        ensures refused { IfErr result (RunUnstored keys meaning Self.Archived.Portable _values.now S.Keys _serializer) }
-        ensures not_in_bulk { IfErr result (RunUncopied keys meaning Self.Archived.Portable _values.now S.Keys _serializer) }
+        ensures {
+            CopiesElements keys meaning Self.Archived.Portable _values.now S.Keys _serializer result
+        }
     {
         Ok(None)
     }
@@ -107,17 +103,13 @@ pub trait Archive {
 
 /// A source that can be serialized to an `S`. As in rkyv 0.8.18.
 pub trait Serialize<S: Writer + Keys>: Archive {
-    ghost use Rattle.archive_types.specs.Sources.{Wrote, Refused};
 
     /// Writes what the value owns, region by region, and answers what its archived form is resolved with. It asks nothing. Refused for a cause of the
     /// value's own, as the writer refuses (`BufferOverflow`, 8; `WriterFailed`, 9), or with `OutOfMemory`, 1, where memory is refused; never with
     /// `NotStarted`, 14, or `AlreadyFinished`, 15. After a refusal, too, the bytes from before are a beginning of those that `serializer` holds, and
     /// each key that was known keeps its state.
     fn serialize(&self, serializer: &mut S) -> Result<Self::Resolver, Error>
-        ensures serialized { IfOk result (Wrote Self.Archive Self.Archived.Portable self.now S.Keys serializer) }
-        ensures same_value { IfOk result (λ r. Self.belongs self.now r) }
-        ensures goes_on { GoesOn (S.state serializer.old) (S.state serializer.new) }
-        ensures refused { IfErr result (Refused Self.Archive Self.Archived.Portable self.now S.Keys serializer) };
+        ensures { Serializes Self.Archive Self.Archived.Portable self.now S.Keys serializer result };
 }
 
 /// A format that can be read back as a `T`. As in rkyv 0.8.18, by views in place of references.
@@ -201,16 +193,16 @@ pub trait ArchiveUnsized {
 
 /// A source that can be serialized to an `S` as a region of its own. As in rkyv 0.8.18.
 pub trait SerializeUnsized<S: Writer + Keys>: ArchiveUnsized {
-    ghost use Rattle.archive_types.specs.ArchivesOf.{Stored, Unstored};
 
     /// Writes what the source owns and then its region, and answers the region's position, in bytes from the first one. It asks nothing. Refused for a
     /// cause of the source's own, as the writer refuses (`BufferOverflow`, 8; `WriterFailed`, 9), or with `OutOfMemory`, 1, where memory is refused;
     /// never with `NotStarted`, 14, or `AlreadyFinished`, 15. After a refusal, too, the bytes from before are a beginning of those that `serializer`
     /// holds, and each key that was known keeps its state.
     fn serialize_unsized(&self, serializer: &mut S) -> Result<usize, Error>
-        ensures serialized { IfOk result (Stored Self.ArchiveUnsized Self.Archived.ArchivePointee self.now S.Keys serializer) }
-        ensures goes_on { GoesOn (S.state serializer.old) (S.state serializer.new) }
-        ensures refused { IfErr result (Unstored Self.ArchiveUnsized Self.Archived.ArchivePointee self.now S.Keys serializer) };
+        ensures {
+            WritesUnsized Self.ArchiveUnsized Self.Archived.ArchivePointee self.now S.Keys
+                serializer result
+        };
 }
 
 /// A pointee that can be read back as a `T`: the value, a vector of the elements, or a string. As in rkyv 0.8.18, by views in place of references.

@@ -6,11 +6,10 @@ ghost use Rattle.archive_check.specs.Shape.{boxed, one};
 ghost use Rattle.archive_check.specs.Value.{box, hole};
 ghost use Rattle.archive_types.specs.Causes.{HindersAt, IsOfWriting};
 ghost use Rattle.archive_types.specs.Inner.{IsBoxed, IsNotBoxed};
-ghost use Rattle.archive_types.specs.Sources.{InnerBoxed, InnerPut, InnerUnboxed};
 ghost use Rattle.archive_types.specs.Variants.{HoldsCase};
 ghost use Rattle.archive_types.specs.Writing.{Resolves, to_pointee, box_flat};
 ghost use Rattle.archive_write.specs.Written.{GoesOn};
-ghost use Rattle.archive_types.specs.Outcomes.{ResolvesTo};
+ghost use Rattle.archive_types.specs.Outcomes.{ResolvesTo, BoxesInner};
 
 use super::{ArchivedBox, BoxResolver};
 use crate::owner_pointers::position_of;
@@ -32,11 +31,7 @@ pub fn serialize_inner<S: Writer + ResolverAlloc, T: Archive>(
     serializer: &mut S,
 ) -> Result<BoxResolver, Error>
     requires same_value { T.belongs value.now resolver }
-    ensures boxed { IfOk result (InnerBoxed T.Archive T.Archived.Portable value.now resolver S.Keys serializer) }
-    ensures put { IfOk result (InnerPut T.Archive T.Archived.Portable value.now resolver S.Keys serializer) }
-    ensures goes_on { GoesOn (S.state serializer.old) (S.state serializer.new) }
-    ensures refused { IfErr result (InnerUnboxed T.Archive T.Archived.Portable value.now resolver S.Keys serializer) }
-    ensures number { IfErr result IsOfWriting }
+    ensures { BoxesInner T.Archive T.Archived.Portable value.now resolver S.Keys serializer result }
 {
     let alloc = serializer.resolver_alloc();
     write_inner(alloc, value, resolver, serializer)
@@ -50,11 +45,7 @@ fn write_inner<A: Allocator + Drop, S: Writer, T: Archive>(
     serializer: &mut S,
 ) -> Result<BoxResolver, Error>
     requires same_value { T.belongs value.now resolver }
-    ensures boxed { IfOk result (InnerBoxed T.Archive T.Archived.Portable value.now resolver S.Keys serializer) }
-    ensures put { IfOk result (InnerPut T.Archive T.Archived.Portable value.now resolver S.Keys serializer) }
-    ensures goes_on { GoesOn (S.state serializer.old) (S.state serializer.new) }
-    ensures refused { IfErr result (InnerUnboxed T.Archive T.Archived.Portable value.now resolver S.Keys serializer) }
-    ensures number { IfErr result IsOfWriting }
+    ensures { BoxesInner T.Archive T.Archived.Portable value.now resolver S.Keys serializer result }
 {
     serializer.align_for::<T::Archived>()?;
     let pos = serializer.resolve_aligned(alloc, value, resolver)?;

@@ -9,7 +9,6 @@ ghost use Rattle.archive_check.specs.Viewed.{Viewed};
 ghost use Rattle.archive_check.specs.declared.format.error.Error.TheVariants.{LengthTooLarge, OutOfMemory};
 ghost use Rattle.archive_types.specs.Causes.{HindersAt, IsRefused};
 ghost use Rattle.archive_types.specs.Keyed.{box_keyed, each_keyed, text_keyed};
-ghost use Rattle.archive_types.specs.KindsWritten.{TextBoxed, TextUnboxed};
 ghost use Rattle.archive_num.specs.Offsets.{distance, IsTooFar};
 ghost use Rattle.archive_num.specs.OwnerBytes.{owner_bytes};
 ghost use Rattle.archive_types.specs.Placed.{PointsTo, AtOnce};
@@ -18,10 +17,10 @@ ghost use Rattle.archive_types.specs.PlannedOwners.{box_planned, one_planned, sl
 ghost use Rattle.archive_types.specs.Plans.{Serialized};
 ghost use Rattle.archive_types.specs.Runs.{each_keys, each_meaning};
 ghost use Rattle.archive_types.specs.Seen.{IsPartOf, RefusesPart};
-ghost use Rattle.archive_types.specs.Sources.{Read, SliceBoxed, SliceUnboxed};
+ghost use Rattle.archive_types.specs.Sources.{Read};
 ghost use Rattle.archive_types.specs.Writing.{ZeroedPlace, Resolves, to_pointee};
 ghost use Rattle.archive_write.specs.Written.{GoesOn};
-ghost use Rattle.archive_types.specs.Outcomes.{ResolvesAs};
+ghost use Rattle.archive_types.specs.Outcomes.{ResolvesAs, Serializes};
 
 use super::{ArchivedBox, BoxResolver};
 use crate::owner_pointers::position_of;
@@ -100,10 +99,10 @@ impl<S: Writer + ResolverAlloc, T: Serialize<S>> Serialize<S> for BoxSlice<T> {
     /// `serialize_unsized` of a `Slice` refuses.
     #[tactic(auto, using(crate::proofs::Owners::serialized_box, crate::proofs::Owners::box_refused, crate::proofs::Owners::far_box_refused))]
     fn serialize(&self, serializer: &mut S) -> Result<BoxResolver, Error>
-        ensures serialized { IfOk result (SliceBoxed T.Archive T.Archived.Portable self.now.items.items S.Keys serializer) }
-        ensures same_value { OnOk result (length self.now.items.items ≤ 4294967295) }
-        ensures goes_on { GoesOn (S.state serializer.old) (S.state serializer.new) }
-        ensures refused { IfErr result (SliceUnboxed T.Archive T.Archived.Portable self.now.items.items S.Keys serializer) }
+        ensures outcome {
+            Serializes ⟦<Self as Archive>⟧ ⟦<Self::Archived as Portable>⟧ self.now S.Keys serializer
+                result
+        }
         ensures too_long { 4294967295 < length self.now.items.items → AtOnce result LengthTooLarge S.Keys serializer }
     {
         let pos = serialize_slice(self.items.as_slice(), serializer)?;
@@ -203,10 +202,10 @@ impl<S: Writer + ResolverAlloc> Serialize<S> for BoxStr {
     /// 4,294,967,295 bytes, with `PositionTooLarge`, 4, where it stands above 4,294,967,295, and else as the writer refuses.
     #[tactic(auto, using(crate::proofs::Owners::serialized_box, crate::proofs::Owners::box_refused, crate::proofs::Owners::far_box_refused))]
     fn serialize(&self, serializer: &mut S) -> Result<BoxResolver, Error>
-        ensures serialized { IfOk result (TextBoxed (string_bytes self.now.text) S.Keys serializer) }
-        ensures same_value { OnOk result (length (string_bytes self.now.text) ≤ 4294967295) }
-        ensures goes_on { GoesOn (S.state serializer.old) (S.state serializer.new) }
-        ensures refused { IfErr result (TextUnboxed (string_bytes self.now.text) S.Keys serializer) }
+        ensures outcome {
+            Serializes ⟦<Self as Archive>⟧ ⟦<Self::Archived as Portable>⟧ self.now S.Keys serializer
+                result
+        }
         ensures too_long { 4294967295 < length (string_bytes self.now.text) → AtOnce result LengthTooLarge S.Keys serializer }
     {
         let pos = Text {

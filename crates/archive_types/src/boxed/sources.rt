@@ -13,10 +13,9 @@ ghost use Rattle.archive_num.specs.OwnerBytes.{owner_bytes};
 ghost use Rattle.archive_types.specs.Placed.{IsTooFarFrom, PointsTo, IsNoPointer};
 ghost use Rattle.archive_types.specs.PlannedOwners.{one_planned, boxed_one_planned};
 ghost use Rattle.archive_types.specs.Plans.{Serialized};
-ghost use Rattle.archive_types.specs.Sources.{BoxSerialized, BoxRefused, OneBoxed, OneUnboxed};
 ghost use Rattle.archive_types.specs.Writing.{ZeroedPlace, Resolves, to_pointee, box_flat};
 ghost use Rattle.archive_write.specs.Written.{GoesOn};
-ghost use Rattle.archive_types.specs.Outcomes.{ResolvesAs};
+ghost use Rattle.archive_types.specs.Outcomes.{ResolvesAs, SerializesAs};
 
 use super::ArchivedBox;
 use crate::owner_pointers::position_of;
@@ -64,9 +63,10 @@ impl<T: PortablePointee> ArchivedBox<T> {
         value: &U,
         serializer: &mut S,
     ) -> Result<BoxResolver, Error>
-        ensures serialized { IfOk result (BoxSerialized T.ArchivePointee U.ArchiveUnsized value.now S.Keys serializer) }
-        ensures goes_on { GoesOn (S.state serializer.old) (S.state serializer.new) }
-        ensures refused { IfErr result (BoxRefused T.ArchivePointee U.ArchiveUnsized value.now S.Keys serializer) }
+        ensures {
+            SerializesAs ⟦<Self as Portable>⟧ (U.keys value.now) (box (U.meaning value.now))
+                (box_flat T.pointee (U.source_length value.now)) (λ _. ⊤) S.Keys serializer result
+        }
     {
         let pos = value.serialize_unsized(serializer)?;
         let pos = position_of(pos)?;
@@ -160,10 +160,6 @@ impl<S: Writer + ResolverAlloc, T: Serialize<S>> Serialize<S> for Box<T> {
     /// with `LayoutTooLarge`, 23, where it would end above `usize::MAX`, as the value refuses, and as the trait says it.
     #[tactic(auto, using(crate::proofs::Owners::serialized_boxed_one, crate::proofs::Owners::boxed_one_refused, crate::proofs::Owners::far_boxed_one_refused))]
     fn serialize(&self, serializer: &mut S) -> Result<BoxResolver, Error>
-        ensures serialized { IfOk result (OneBoxed T.Archived.ArchivePointee T.Archive self.now.value S.Keys serializer) }
-        ensures same_value { ⊤ }
-        ensures goes_on { GoesOn (S.state serializer.old) (S.state serializer.new) }
-        ensures refused { IfErr result (OneUnboxed T.Archived.ArchivePointee T.Archive self.now.value S.Keys serializer) }
     {
         let pos = serialize_one(&**self, serializer)?;
         let pos = position_of(pos)?;

@@ -7,12 +7,11 @@ ghost use Rattle.archive_check.specs.Layout.{kind_size};
 ghost use Rattle.archive_check.specs.Shape.{Kind, leaf, non_zero};
 ghost use Rattle.archive_check.specs.Value.{number};
 ghost use Rattle.archive_types.specs.Keyed.{number_keyed};
-ghost use Rattle.archive_types.specs.KindsWritten.{NumberSerialized, NumberRefused};
 ghost use Rattle.archive_types.specs.Planned.{leaf_planned};
 ghost use Rattle.archive_types.specs.PlannedOwners.{pointee_planned};
 ghost use Rattle.archive_types.specs.Writing.{ZeroedPlace, Resolves};
 ghost use Rattle.archive_write.specs.Written.{GoesOn};
-ghost use Rattle.archive_types.specs.Outcomes.{ResolvesAs};
+ghost use Rattle.archive_types.specs.Outcomes.{ResolvesAs, Serializes};
 
 use super::{Source, write_leaf};
 use crate::place::Place;
@@ -179,10 +178,10 @@ impl<L: Leaf, S: Writer + Keys> Serialize<S> for L {
     #[tactic(auto, using(crate::proofs::Causes::goes_nowhere))]
     #[inline(always)]
     fn serialize(&self, _serializer: &mut S) -> Result<(), Error>
-        ensures serialized { IfOk result (NumberSerialized L.LeafFormat.Portable (L.leaf_number self.now) S.Keys _serializer) }
-        ensures same_value { ⊤ }
-        ensures goes_on { GoesOn (S.state _serializer.old) (S.state _serializer.new) }
-        ensures refused { IfErr result (NumberRefused L.LeafFormat.Portable (L.leaf_number self.now) S.Keys _serializer) }
+        ensures outcome {
+            Serializes ⟦<Self as Archive>⟧ ⟦<Self::Archived as Portable>⟧ self.now S.Keys
+                _serializer result
+        }
         ensures unchanged { S.state _serializer.new ≡ S.state _serializer.old }
         ensures succeeds { IsOk result }
     {

@@ -13,7 +13,6 @@ ghost use Rattle.archive_check.specs.declared.format.error.Error.TheVariants.{Nu
 ghost use Rattle.archive_check.specs.LittleEndian.{little_bytes, little_number};
 ghost use Rattle.archive_types.specs.Keyed.{number_keyed};
 ghost use Rattle.archive_types.specs.Causes.{HindersAt, IsRefused};
-ghost use Rattle.archive_types.specs.KindsWritten.{LeafSerialized, LeafRefused};
 ghost use Rattle.archive_types.specs.Planned.{leaf_planned};
 ghost use Rattle.archive_types.specs.PlannedOwners.{one_planned};
 ghost use Rattle.archive_types.specs.Plans.{Serialized};
@@ -21,7 +20,7 @@ ghost use Rattle.archive_types.specs.Seen.{IsPartOf, part_number};
 ghost use Rattle.archive_types.specs.Sources.{Read};
 ghost use Rattle.archive_types.specs.Writing.{ZeroedPlace, Resolves};
 ghost use Rattle.archive_write.specs.Written.{GoesOn};
-ghost use Rattle.archive_types.specs.Outcomes.{ResolvesAs};
+ghost use Rattle.archive_types.specs.Outcomes.{ResolvesAs, Serializes};
 
 use crate::place::Place;
 use crate::ser::serialize_one;
@@ -73,10 +72,10 @@ impl<S: Writer + Keys> Serialize<S> for usize {
     /// Writes nothing. Refused with `NumberTooLarge`, 6, exactly where the number doesn't fit 32 bits without a sign. rkyv 0.8.18 cuts it off.
     #[tactic(auto, using(crate::proofs::Causes::goes_nowhere, crate::proofs::Planned::usize_refused))]
     fn serialize(&self, _serializer: &mut S) -> Result<(), Error>
-        ensures serialized { IfOk result (LeafSerialized (number unsigned w32) (pos self.now) S.Keys _serializer) }
-        ensures same_value { IfOk result (λ _. self.now < 2 ^ 32) }
-        ensures goes_on { GoesOn (S.state _serializer.old) (S.state _serializer.new) }
-        ensures refused { IfErr result (LeafRefused (number unsigned w32) (pos self.now) S.Keys _serializer) }
+        ensures outcome {
+            Serializes ⟦<Self as Archive>⟧ ⟦<Self::Archived as Portable>⟧ self.now S.Keys
+                _serializer result
+        }
         ensures unchanged { S.state _serializer.new ≡ S.state _serializer.old }
         ensures cause { IfErr result (λ e. (e ≡ NumberTooLarge) × (self.now < 2 ^ 32 → ⊥)) }
     {
@@ -169,10 +168,10 @@ impl<S: Writer + Keys> Serialize<S> for isize {
     /// Writes nothing. Refused with `NumberTooLarge`, 6, exactly where the number doesn't fit 32 bits with a sign. rkyv 0.8.18 cuts it off.
     #[tactic(auto, using(crate::proofs::Causes::goes_nowhere, crate::proofs::Planned::isize_refused))]
     fn serialize(&self, _serializer: &mut S) -> Result<(), Error>
-        ensures serialized { IfOk result (LeafSerialized (number signed w32) self.now S.Keys _serializer) }
-        ensures same_value { IfOk result (λ _. FitsSigned w32 self.now) }
-        ensures goes_on { GoesOn (S.state _serializer.old) (S.state _serializer.new) }
-        ensures refused { IfErr result (LeafRefused (number signed w32) self.now S.Keys _serializer) }
+        ensures outcome {
+            Serializes ⟦<Self as Archive>⟧ ⟦<Self::Archived as Portable>⟧ self.now S.Keys
+                _serializer result
+        }
         ensures unchanged { S.state _serializer.new ≡ S.state _serializer.old }
         ensures cause { IfErr result (λ e. (e ≡ NumberTooLarge) × (FitsSigned w32 self.now → ⊥)) }
     {

@@ -13,10 +13,10 @@ ghost use Rattle.archive_num.specs.OwnerBytes.{owner_bytes};
 ghost use Rattle.archive_types.specs.Placed.{IsTooFarFrom};
 ghost use Rattle.archive_types.specs.Plans.{Serialized};
 ghost use Rattle.archive_types.specs.SharedLaws.{flavor_as, naming_of, weak_value, weak_keys, weak_count, weak_flat};
-ghost use Rattle.archive_types.specs.SharedWriting.{AnswersPending, IsShared, IsntShared, IsWeak, IsntWeak, flavor_of};
+ghost use Rattle.archive_types.specs.SharedWriting.{AnswersPending, flavor_of, keys_under};
 ghost use Rattle.archive_types.specs.Writing.{Resolves, to_shared, shared_flat};
 ghost use Rattle.archive_write.specs.Written.{GoesOn};
-ghost use Rattle.archive_types.specs.Outcomes.{ResolvesAs};
+ghost use Rattle.archive_types.specs.Outcomes.{ResolvesAs, SerializesAs};
 
 use super::{ArchivedRc, ArchivedRcWeak, Flavor};
 use crate::owner_pointers::position_of;
@@ -65,9 +65,13 @@ pub fn write_shared<F: Flavor, U: SerializeUnsized<S>, S: Sharing + Writer>(
     value: &U,
     writer: &mut S,
 ) -> Result<usize, Error>
-    ensures serialized { IfOk result (IsShared F.Flavor U.Archived.ArchivePointee U.ArchiveUnsized key value.now S.Keys writer) }
-    ensures goes_on { GoesOn (S.state writer.old) (S.state writer.new) }
-    ensures refused { IfErr result (IsntShared F.Flavor U.Archived.ArchivePointee U.ArchiveUnsized key value.now S.Keys writer) }
+    ensures outcome {
+        SerializesAs ⟦<ArchivedRc<U::Archived, F> as Portable>⟧
+            (keys_under F.Flavor U.Archived.ArchivePointee U.ArchiveUnsized key value.now)
+            (shared_value key)
+            (shared_flat (flavor_of F.Flavor) U.Archived.pointee (U.source_length value.now))
+            (λ _. ⊤) S.Keys writer result
+    }
     ensures pending { AnswersPending key result S.Keys writer }
 {
     let pos = writer.serialize_shared(key, value)?;
@@ -124,10 +128,13 @@ where
         value: &U,
         serializer: &mut S,
     ) -> Result<RcResolver, Error>
-        ensures serialized { IfOk result (IsShared F.Flavor T.ArchivePointee U.ArchiveUnsized key value.now S.Keys serializer) }
-        ensures held { OnOk result (U.source_length value.now ≤ 4294967295) }
-        ensures goes_on { GoesOn (S.state serializer.old) (S.state serializer.new) }
-        ensures refused { IfErr result (IsntShared F.Flavor T.ArchivePointee U.ArchiveUnsized key value.now S.Keys serializer) }
+        ensures outcome {
+            SerializesAs ⟦<Self as Portable>⟧
+                (keys_under F.Flavor T.ArchivePointee U.ArchiveUnsized key value.now)
+                (shared_value key)
+                (shared_flat (flavor_of F.Flavor) T.pointee (U.source_length value.now))
+                (λ _. U.source_length value.now ≤ 4294967295) S.Keys serializer result
+        }
         ensures pending { AnswersPending key result S.Keys serializer }
     {
         let pos = write_shared::<F, U, S>(key, value, serializer)?;
@@ -187,10 +194,14 @@ where
         value: Option<&U>,
         serializer: &mut S,
     ) -> Result<RcWeakResolver, Error>
-        ensures serialized { IfOk result (IsWeak F.Flavor T.ArchivePointee U.ArchiveUnsized key value.entry S.Keys serializer) }
-        ensures held { OnOk result (weak_count (λ u. U.source_length u.now) value.entry ≤ 4294967295) }
-        ensures goes_on { GoesOn (S.state serializer.old) (S.state serializer.new) }
-        ensures refused { IfErr result (IsntWeak F.Flavor T.ArchivePointee U.ArchiveUnsized key value.entry S.Keys serializer) }
+        ensures outcome {
+            SerializesAs ⟦<Self as Portable>⟧
+                (weak_keys (λ u. keys_under F.Flavor T.ArchivePointee U.ArchiveUnsized key u.now) value.entry)
+                (weak_value (λ u. shared_value key) value.entry)
+                (weak_flat (flavor_of F.Flavor) T.pointee (weak_count (λ u. U.source_length u.now) value.entry))
+                (λ _. weak_count (λ u. U.source_length u.now) value.entry ≤ 4294967295) S.Keys
+                serializer result
+        }
         ensures null { value.entry ≡ None → IsOk result × (S.state serializer.new ≡ S.state serializer.old) }
     {
         let Some(value) = value else {

@@ -7,7 +7,6 @@ ghost use Rattle.archive_check.specs.Value.{list, hole};
 ghost use Rattle.archive_check.specs.declared.format.error.Error.TheVariants.{LengthTooLarge};
 ghost use Rattle.archive_types.specs.Causes.{HindersAt, IsRefused};
 ghost use Rattle.archive_types.specs.Keyed.{each_keyed};
-ghost use Rattle.archive_types.specs.KindsWritten.{VecSerialized, VecRefused};
 ghost use Rattle.archive_num.specs.Offsets.{distance, IsTooFar};
 ghost use Rattle.archive_num.specs.OwnerBytes.{owner_bytes};
 ghost use Rattle.archive_types.specs.Placed.{IsTooFarFrom, PointsTo, AtOnce};
@@ -16,7 +15,7 @@ ghost use Rattle.archive_types.specs.Plans.{Serialized};
 ghost use Rattle.archive_types.specs.Runs.{each_keys, each_meaning};
 ghost use Rattle.archive_types.specs.Writing.{ZeroedPlace, Resolves, to_pointee, vec_flat};
 ghost use Rattle.archive_write.specs.Written.{GoesOn};
-ghost use Rattle.archive_types.specs.Outcomes.{ResolvesAs};
+ghost use Rattle.archive_types.specs.Outcomes.{ResolvesAs, Serializes, SerializesAs};
 
 use super::ArchivedVec;
 use crate::owner_pointers::position_of;
@@ -68,10 +67,11 @@ impl<T: Portable> ArchivedVec<T> {
         value: &[U],
         serializer: &mut S,
     ) -> Result<VecResolver, Error>
-        ensures serialized { IfOk result (VecSerialized U.keys U.meaning T.Portable value.now S.Keys serializer) }
-        ensures held { OnOk result (length value.now ≤ 4294967295) }
-        ensures goes_on { GoesOn (S.state serializer.old) (S.state serializer.new) }
-        ensures refused { IfErr result (VecRefused U.keys U.meaning T.Portable value.now S.Keys serializer) }
+        ensures outcome {
+            SerializesAs ⟦<Self as Portable>⟧ (each_keys U.keys value.now)
+                (list (each_meaning U.meaning value.now)) (vec_flat T.shape (length value.now))
+                (λ _. length value.now ≤ 4294967295) S.Keys serializer result
+        }
         ensures too_long { 4294967295 < length value.now → AtOnce result LengthTooLarge S.Keys serializer }
     {
         let pos = serialize_slice(value, serializer)?;
@@ -166,10 +166,10 @@ impl<S: Writer + ResolverAlloc, T: Serialize<S>> Serialize<S> for Vec<T> {
     /// Writes the elements, as `ArchivedVec::serialize_from_slice` does, with its refusals.
     #[inline(always)]
     fn serialize(&self, serializer: &mut S) -> Result<VecResolver, Error>
-        ensures serialized { IfOk result (VecSerialized T.keys T.meaning T.Archived.Portable self.now.items S.Keys serializer) }
-        ensures same_value { OnOk result (length self.now.items ≤ 4294967295) }
-        ensures goes_on { GoesOn (S.state serializer.old) (S.state serializer.new) }
-        ensures refused { IfErr result (VecRefused T.keys T.meaning T.Archived.Portable self.now.items S.Keys serializer) }
+        ensures outcome {
+            Serializes ⟦<Self as Archive>⟧ ⟦<Self::Archived as Portable>⟧ self.now S.Keys serializer
+                result
+        }
         ensures too_long { 4294967295 < length self.now.items → AtOnce result LengthTooLarge S.Keys serializer }
     {
         ArchivedVec::<T::Archived>::serialize_from_slice(self.as_slice(), serializer)
