@@ -1,6 +1,6 @@
 // How shared and weak pointers are written.
 
-ghost use Rattle.std.specs.Prelude.{◌≡◌, ◌∷◌, ◌≤◌, ℕ, pos as whole, suc, IfOk, OnOk, IfErr, IsOk, IsErrOf, FitsSigned, Option, None, Some, length, false};
+ghost use Rattle.std.specs.Prelude.{◌≡◌, ◌∷◌, ◌≤◌, ℕ, pos as whole, suc, IfOk, OnOk, IfErr, IsOk, IsErrOf, FitsSigned, Option, None, Some, length, false, ⊤};
 ghost use Rattle.std.specs.Int.{w32};
 ghost use Rattle.archive_check.specs.Layout.{pointer_size, has_length};
 ghost use Rattle.archive_check.specs.Shape.{shared, weak};
@@ -16,7 +16,7 @@ ghost use Rattle.archive_types.specs.SharedLaws.{flavor_as, naming_of, weak_valu
 ghost use Rattle.archive_types.specs.SharedWriting.{AnswersPending, flavor_of, keys_under};
 ghost use Rattle.archive_types.specs.Writing.{Resolves, to_shared, shared_flat};
 ghost use Rattle.archive_write.specs.Written.{GoesOn};
-ghost use Rattle.archive_types.specs.Outcomes.{ResolvesAs, SerializesAs};
+ghost use Rattle.archive_types.specs.Outcomes.{ResolvesAs, SerializesTo, SerializesAs};
 
 use super::{ArchivedRc, ArchivedRcWeak, Flavor};
 use crate::owner_pointers::position_of;
@@ -66,11 +66,11 @@ pub fn write_shared<F: Flavor, U: SerializeUnsized<S>, S: Sharing + Writer>(
     writer: &mut S,
 ) -> Result<usize, Error>
     ensures outcome {
-        SerializesAs ⟦<ArchivedRc<U::Archived, F> as Portable>⟧
+        SerializesTo U.Archived.definitions (shared (flavor_of F.Flavor) U.Archived.pointee)
             (keys_under F.Flavor U.Archived.ArchivePointee U.ArchiveUnsized key value.now)
             (shared_value key)
             (shared_flat (flavor_of F.Flavor) U.Archived.pointee (U.source_length value.now))
-            (λ _. ⊤) S.Keys writer result
+            (λ _. ⊤) (S.state writer.old) (S.state writer.new) result
     }
     ensures pending { AnswersPending key result S.Keys writer }
 {

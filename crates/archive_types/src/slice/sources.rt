@@ -16,7 +16,7 @@ ghost use Rattle.archive_types.specs.Outcomes.{WritesRegion, WritesUnsized, Writ
 use super::ArchivedSlice;
 use crate::primitive::ArchivedUsize;
 use crate::ser::{ResolveExt, by_words};
-use crate::traits::{Archive, ArchiveUnsized, Serialize, SerializeUnsized};
+use crate::traits::{Archive, ArchivePointee, ArchiveUnsized, Serialize, SerializeUnsized};
 use archive_check::format::error::Error;
 use archive_write::ser::{ResolverAlloc, Writer, WriterExt};
 use std::alloc::{AllocError, Allocator};
