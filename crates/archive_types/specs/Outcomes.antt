@@ -4,7 +4,7 @@ use denote.Triple.Both.{Both}
 use denote.Ref.{MutBor}
 use Rattle.std.specs.Prelude.{◌≡◌, ◌⊎◌, ◌+◌, ◌≤◌, ◌*◌, ℕ, List, length, Option, None, Result, OnOk, IfOk, IfErr, IfSome}
 use Rattle.archive_check.specs.Definitions.{Definitions}
-use Rattle.archive_check.specs.Formats.{FormatOf}
+use Rattle.archive_check.specs.Words.Formats.{FormatOf}
 use Rattle.archive_check.specs.Reads.{bytes_at}
 use Rattle.archive_check.specs.Shape.{Shape, Pointee, vec, one, run}
 use Rattle.archive_check.specs.Value.{Value, Values, list}
@@ -18,7 +18,7 @@ use Rattle.archive_types.specs.Causes.{Explains, HindersAt, HindersRegionAt, IsO
 use Rattle.archive_types.specs.Copies.{AreCopied, EachOwnsNothing, IsCopyRefused, copies_from, copies_to}
 use Rattle.archive_types.specs.Inner.{IsBoxed, IsPutAt, IsNotBoxed}
 use Rattle.archive_types.specs.Parts.{SerializedParts, ArePartsRefused, ResolvesParts, HindersPartsAt}
-use Rattle.archive_types.specs.PlacedParts.{ChangesOnly}
+use Rattle.archive_types.specs.Words.PlacedParts.{ChangesOnly}
 use Rattle.archive_types.specs.Plans.{Serialized, SerializedRegion}
 use Rattle.archive_types.specs.Runs.{each_keys, each_meaning, each_flat, HindersRunAt, PutsRun}
 use Rattle.archive_types.specs.Writing.{Naming, Puts, Resolves, vec_flat}

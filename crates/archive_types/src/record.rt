@@ -6,7 +6,7 @@ ghost use Rattle.archive_check.specs.Value.{product};
 ghost use Rattle.archive_check.specs.Viewed.{Viewed};
 ghost use Rattle.archive_types.specs.Causes.{HindersAt, IsRefused};
 ghost use Rattle.archive_types.specs.Plans.{Serialized};
-ghost use Rattle.archive_types.specs.Seen.{IsPartOf, RefusesPart, ReadsRecord};
+ghost use Rattle.archive_types.specs.Words.Seen.{IsPartOf, RefusesPart, ReadsRecord};
 ghost use Rattle.archive_types.specs.Writing.{ZeroedPlace, Resolves};
 ghost use Rattle.archive_write.specs.Written.{GoesOn};
 ghost use Rattle.archive_types.specs.Outcomes.{ResolvesAs, SerializesAs};
@@ -21,7 +21,7 @@ use std::alloc::Global;
 
 /// Writes what the parts of a record own, one after another, and answers their resolvers. It asks nothing. Refused as `Serialize::serialize` is, for
 /// a cause of one of the parts.
-#[tactic(auto, using(crate::proofs::PlannedParts::serialized_record, crate::proofs::PlannedParts::record_refused))]
+#[tactic(auto, using(crate::proofs::Planning::PlannedParts::serialized_record, crate::proofs::Planning::PlannedParts::record_refused))]
 #[inline(always)]
 pub fn serialize_record<
     T,

@@ -8,8 +8,8 @@ ghost use Rattle.archive_check.specs.Shape.{run};
 ghost use Rattle.archive_check.specs.Value.{Value, list};
 ghost use Rattle.archive_check.specs.Viewed.{Viewed};
 ghost use Rattle.archive_check.specs.declared.format.error.Error.TheVariants.{LengthTooLarge};
-ghost use Rattle.archive_types.specs.Placed.{IsPlanned};
-ghost use Rattle.archive_types.specs.Seen.{IsPartOf, RefusesPart, ReadsView, RefusesView};
+ghost use Rattle.archive_types.specs.Words.Placed.{IsPlanned};
+ghost use Rattle.archive_types.specs.Words.Seen.{IsPartOf, RefusesPart, ReadsView, RefusesView};
 ghost use Rattle.archive_types.specs.Causes.{HindersAt, IsRefused, IsRegionRefused};
 ghost use Rattle.archive_types.specs.Plans.{HasPlan, HasRegionPlan, Serialized, SerializedRegion};
 ghost use Rattle.archive_types.specs.Runs.{each_keys, each_meaning};
@@ -80,7 +80,7 @@ pub trait Archive {
 
     /// Writes `values` in bulk as a region of their own, so many `together` always in one piece, and answers its position, in bytes from the first one.
     /// What is `Copied` writes this call with `slice::copy_groups`; by default nothing is written, and none is answered. Refused as `copy_slice` is.
-    #[tactic(auto, using(crate::proofs::Causes::goes_nowhere))]
+    #[tactic(auto, using(crate::proofs::Planning::Causes::goes_nowhere))]
     #[inline(always)]
     fn serialize_copied<S: Writer + Keys>(
         _values: &[Self],
@@ -115,7 +115,7 @@ pub trait Serialize<S: Writer + Keys>: Archive {
 /// A format that can be read back as a `T`. As in rkyv 0.8.18, by views in place of references.
 pub trait Deserialize<T: Archive, D: Entries>: ArchivePointee {
     ghost use Rattle.archive_types.specs.FirstRead.{AreFirstRead};
-    ghost use Rattle.archive_types.specs.Sources.{Read};
+    ghost use Rattle.archive_types.specs.Words.Sources.{Read};
     ghost use Rattle.archive_types.specs.Views.{AreViewed};
 
     /// What implements this trait writes this call, over the part of a view, and callers use `deserialize`. Asks for what a view promises of the part.
@@ -207,7 +207,7 @@ pub trait SerializeUnsized<S: Writer + Keys>: ArchiveUnsized {
 
 /// A pointee that can be read back as a `T`: the value, a vector of the elements, or a string. As in rkyv 0.8.18, by views in place of references.
 pub trait DeserializeUnsized<T: Archive, D: Entries>: ArchivePointee {
-    ghost use Rattle.archive_types.specs.Sources.{Read};
+    ghost use Rattle.archive_types.specs.Words.Sources.{Read};
 
     /// What implements this trait writes this call, over the part of a view, and callers use `deserialize_unsized`. Asks for what a view promises of
     /// the part. Our own.
@@ -234,7 +234,7 @@ pub trait DeserializeUnsized<T: Archive, D: Entries>: ArchivePointee {
     }
 
     /// Its length: 0 for one value, else the number of elements or bytes.
-    #[tactic(auto, using(crate::proofs::OneLengths::one_has_no_length))]
+    #[tactic(auto, using(crate::proofs::Viewing::OneLengths::one_has_no_length))]
     final fn deserialize_metadata(view: Ref<'_, Self>) -> usize
         ensures length { result ≡ view.entry.len }
         ensures one_value { has_length Self.pointee ≡ false → result ≡ 0 }

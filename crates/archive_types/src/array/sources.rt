@@ -2,7 +2,7 @@
 
 ghost use Rattle.std.specs.Prelude.{◌≡◌, ◌*◌, length, None, OnOk, IfOk, IfErr, All};
 ghost use Rattle.archive_check.specs.Value.{list};
-ghost use Rattle.archive_types.specs.Arrays.{array_meaning, array_keys, array_keyed, array_planned, ResolvesRun};
+ghost use Rattle.archive_types.specs.Members.Arrays.{array_meaning, array_keys, array_keyed, array_planned, ResolvesRun};
 ghost use Rattle.archive_types.specs.Runs.{each_flat, EachBelongs, HindersEachAt};
 ghost use Rattle.archive_types.specs.Writing.{ZeroedPlace};
 ghost use Rattle.archive_write.specs.Written.{GoesOn};
@@ -113,7 +113,7 @@ impl<T: Archive, const N: usize> Archive for [T; N] {
         CopyOptimization::enable_if(is_small && T::copy_optimization().is_enabled())
     }
 
-    #[tactic(auto, using(crate::proofs::Causes::goes_nowhere))]
+    #[tactic(auto, using(crate::proofs::Planning::Causes::goes_nowhere))]
     #[inline(always)]
     fn serialize_copied<S: Writer + Keys>(
         values: &[[T; N]],

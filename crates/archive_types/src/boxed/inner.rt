@@ -6,7 +6,7 @@ ghost use Rattle.archive_check.specs.Shape.{boxed, one};
 ghost use Rattle.archive_check.specs.Value.{box, hole};
 ghost use Rattle.archive_types.specs.Causes.{HindersAt, IsOfWriting};
 ghost use Rattle.archive_types.specs.Inner.{IsBoxed, IsNotBoxed};
-ghost use Rattle.archive_types.specs.Variants.{HoldsCase};
+ghost use Rattle.archive_types.specs.Members.Variants.{HoldsCase};
 ghost use Rattle.archive_types.specs.Writing.{Resolves, to_pointee, box_flat};
 ghost use Rattle.archive_write.specs.Written.{GoesOn};
 ghost use Rattle.archive_types.specs.Outcomes.{ResolvesTo, BoxesInner};

@@ -21,7 +21,7 @@ pub trait SerializeParts<T, S: Writer + Keys>: SourceParts<T> {
 }
 
 impl<T, S: Writer + Keys> SerializeParts<T, S> for () {
-    #[tactic(auto, using(crate::proofs::PlannedParts::serialized_no_part))]
+    #[tactic(auto, using(crate::proofs::Planning::PlannedParts::serialized_no_part))]
     #[inline(always)]
     fn serialize_parts(_whole: &T, _serializer: &mut S) -> Result<(), Error> {
         Ok(())

@@ -1,7 +1,7 @@
 use Rattle.std.proofs.Common.{rules}
 use Rattle.archive_check.specs.declared.format.error.Error.TheVariants.{OutOfMemory}
 use Rattle.archive_types.specs.Causes.{no_memory}
-use Rattle.archive_types.proofs.Causes.{err_by}
+use Rattle.archive_types.proofs.Planning.Causes.{err_by}
 use Rattle.archive_types.proofs.ser.resolve_large.Goals as goal
 
 pub returns-in_err-region : goal.returns-in_err-region

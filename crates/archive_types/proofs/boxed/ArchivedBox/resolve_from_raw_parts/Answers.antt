@@ -1,5 +1,5 @@
 use Rattle.std.proofs.Common.{rules}
-use Rattle.archive_types.proofs.OwnersWritten.{box_unresolved}
+use Rattle.archive_types.proofs.Writing.OwnersWritten.{box_unresolved}
 use Rattle.archive_types.proofs.boxed.ArchivedBox.resolve_from_raw_parts.Goals as goal
 
 pub returns-clause-outcome : goal.returns-clause-outcome

@@ -1,5 +1,5 @@
 use Rattle.std.proofs.Common.{rules}
-use Rattle.archive_types.proofs.ResolvedParts.{resolves_nothing}
+use Rattle.archive_types.proofs.Writing.ResolvedParts.{resolves_nothing}
 use Rattle.archive_types.proofs.parts.UnitSourceParts.resolve_parts.Goals as goal
 
 pub returns : goal.returns

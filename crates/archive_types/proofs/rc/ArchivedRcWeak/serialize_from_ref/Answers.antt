@@ -1,5 +1,5 @@
 use Rattle.std.proofs.Common.{rules}
-use Rattle.archive_types.proofs.SharedWritten.{weak_serialized, null_serialized}
+use Rattle.archive_types.proofs.SharedValues.SharedWritten.{weak_serialized, null_serialized}
 use Rattle.archive_types.proofs.rc.ArchivedRcWeak.serialize_from_ref.Goals as goal
 
 pub returns-in_default-clause-outcome : goal.returns-in_default-clause-outcome

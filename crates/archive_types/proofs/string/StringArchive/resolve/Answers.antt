@@ -1,5 +1,5 @@
 use Rattle.std.proofs.Common.{rules}
-use Rattle.archive_types.proofs.Planned.{string_unresolved}
+use Rattle.archive_types.proofs.Planning.Planned.{string_unresolved}
 use Rattle.archive_types.proofs.string.StringArchive.resolve.Goals as goal
 
 pub returns-clause-outcome : goal.returns-clause-outcome

@@ -1,5 +1,5 @@
 use Rattle.std.proofs.Common.{rules}
-use Rattle.archive_types.proofs.OwnersWritten.{vec_unresolved}
+use Rattle.archive_types.proofs.Writing.OwnersWritten.{vec_unresolved}
 use Rattle.archive_types.proofs.vec.ArchivedVec.resolve_from_len.Goals as goal
 
 pub returns-clause-outcome : goal.returns-clause-outcome

@@ -1,6 +1,6 @@
 use Rattle.std.proofs.Common.{rules}
-use Rattle.archive_types.proofs.ArrayCopies.{arrays_copied_if, arrays_stored_if, arrays_uncopied, arrays_unstored}
-use Rattle.archive_types.proofs.Causes.{err_from}
+use Rattle.archive_types.proofs.Copying.ArrayCopies.{arrays_copied_if, arrays_stored_if, arrays_uncopied, arrays_unstored}
+use Rattle.archive_types.proofs.Planning.Causes.{err_from}
 use Rattle.archive_types.proofs.array.sources.ArrayArchive.serialize_copied.Goals as goal
 
 pub returns : goal.returns

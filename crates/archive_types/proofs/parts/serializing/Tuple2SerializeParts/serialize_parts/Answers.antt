@@ -1,6 +1,6 @@
 use Rattle.std.proofs.Common.{rules}
-use Rattle.archive_types.proofs.Causes.{err_by, goes_both}
-use Rattle.archive_types.proofs.PlannedParts.{serialized_part, first_refused, later_refused}
+use Rattle.archive_types.proofs.Planning.Causes.{err_by, goes_both}
+use Rattle.archive_types.proofs.Planning.PlannedParts.{serialized_part, first_refused, later_refused}
 use Rattle.archive_types.proofs.parts.serializing.Tuple2SerializeParts.serialize_parts.Goals as goal
 
 pub returns-in_err-first : goal.returns-in_err-first

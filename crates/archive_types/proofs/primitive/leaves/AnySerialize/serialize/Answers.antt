@@ -1,5 +1,5 @@
 use Rattle.std.proofs.Common.{rules}
-use Rattle.archive_types.proofs.Planned.{serialized_leaf}
+use Rattle.archive_types.proofs.Planning.Planned.{serialized_leaf}
 use Rattle.archive_types.proofs.primitive.leaves.AnySerialize.serialize.Goals as goal
 
 pub returns-clause-outcome : goal.returns-clause-outcome

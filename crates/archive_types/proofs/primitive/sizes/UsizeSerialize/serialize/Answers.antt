@@ -1,5 +1,5 @@
 use Rattle.std.proofs.Common.{rules}
-use Rattle.archive_types.proofs.Planned.{serialized_number}
+use Rattle.archive_types.proofs.Planning.Planned.{serialized_number}
 use Rattle.archive_types.proofs.primitive.sizes.UsizeSerialize.serialize.Goals as goal
 
 pub returns-clause-outcome : goal.returns-clause-outcome
