@@ -106,7 +106,7 @@ pub record Appends (w : World) (start stop : ℕ) (states : KeyStates) (pending 
   pub found : (t : ℕ) (e : Entry) → get last t ≡ Some e → (get seen t ≡ Some e) ⊎ Found w states t e
 
 -- Known keys keep their states. New ones were finished from start on and before stop, each at a position of its own.
-pub record Finishes (start stop : ℕ) (old new : KeyStates) : Type 0 where
+pub record FinishesKeys (start stop : ℕ) (old new : KeyStates) : Type 0 where
   pub kept : (k : ℕ) (x : Option ℕ) → old k ≡ Some x → new k ≡ Some x
   pub settled : (k : ℕ) (x : Option ℕ) → old k ≡ None → new k ≡ Some x → (t : ℕ) × (x ≡ Some t) × (start ≤ t) × (t < stop)
   pub apart : (k l t : ℕ) → old k ≡ None → old l ≡ None → new k ≡ Some (Some t) → new l ≡ Some (Some t) → k ≡ l
@@ -115,7 +115,7 @@ pub record Finishes (start stop : ℕ) (old new : KeyStates) : Type 0 where
 pub record Writes (definitions : Definitions) (old new : WriterState) (keys : List Naming) (flat value : Value) : Type 0 where
   pub added : List ℕ
   pub grown : new.bytes ≡ old.bytes ++ added
-  pub states : Finishes (length old.bytes) (length new.bytes) old.states new.states
+  pub states : FinishesKeys (length old.bytes) (length new.bytes) old.states new.states
   pub finished : AreFinished new.states value
   pub appends : (w : World) (pending : List ℕ) (seen : Seen) → Covers w definitions new.bytes new.states keys
       → Known w old.states (length old.bytes) seen pending → Unseen seen (length old.bytes) (length new.bytes)
@@ -126,7 +126,7 @@ pub record Writes (definitions : Definitions) (old new : WriterState) (keys : Li
 pub record WritesAll (definitions : Definitions) (old new : WriterState) (keys : List Naming) (flats values : Values) : Type 0 where
   pub added : List ℕ
   pub grown : new.bytes ≡ old.bytes ++ added
-  pub states : Finishes (length old.bytes) (length new.bytes) old.states new.states
+  pub states : FinishesKeys (length old.bytes) (length new.bytes) old.states new.states
   pub finished : AllFinished new.states values
   pub appends : (w : World) (pending : List ℕ) (seen : Seen) → Covers w definitions new.bytes new.states keys
       → Known w old.states (length old.bytes) seen pending → Unseen seen (length old.bytes) (length new.bytes)
