@@ -3,11 +3,12 @@
 ghost use Rattle.std.specs.Prelude.{◌≡◌, ◌⊎◌, IfOk, IfErr, ℕ, []};
 ghost use Rattle.archive_check.specs.Shape.{one};
 ghost use Rattle.archive_check.specs.declared.format.error.Error.TheVariants.{OutOfMemory};
-ghost use Rattle.archive_types.specs.Words.ArchivesOf.{LeavesOne, IsArchiveOf, NoArchiveOf, EndsWithNone, Stored, Unstored};
+ghost use Rattle.archive_types.specs.Words.ArchivesOf.{LeavesOne, IsArchiveOf, NoArchiveOf, EndsWithNone};
 ghost use Rattle.archive_types.specs.Causes.{HindersRegion, IsRegionRefused};
 ghost use Rattle.archive_types.specs.Plans.{SerializedRegion, at_start, unshared};
 ghost use Rattle.archive_types.specs.Writing.{Archives};
 ghost use Rattle.archive_write.specs.Written.{GoesOn};
+ghost use Rattle.archive_types.specs.Outcomes.{WritesUnsized};
 
 use super::{HighSerializer, serialize_whole};
 use archive_check::format::error::Error;
@@ -56,9 +57,9 @@ pub fn serialize_using<S: Writer + Keys, T: SerializeUnsized<S>>(
     value: &T,
     serializer: &mut S,
 ) -> Result<usize, Error>
-    ensures serialized { IfOk result (Stored T.ArchiveUnsized T.Archived.ArchivePointee value.now S.Keys serializer) }
-    ensures goes_on { GoesOn (S.state serializer.old) (S.state serializer.new) }
-    ensures refused { IfErr result (Unstored T.ArchiveUnsized T.Archived.ArchivePointee value.now S.Keys serializer) }
+    ensures {
+        WritesUnsized T.ArchiveUnsized T.Archived.ArchivePointee value.now S.Keys serializer result
+    }
 {
     value.serialize_unsized(serializer)
 }
