@@ -1,6 +1,5 @@
 -- Short words that clauses use.
 pub mod PartsWritten
-pub mod PartsStored
 pub mod CopiesWritten
 pub mod Placed
 pub mod PlacedParts

@@ -11,15 +11,13 @@ use Rattle.archive_check.specs.Unshared.{IsNeverOpen}
 use Rattle.archive_check.specs.WriterState.{WriterState}
 use Rattle.archive_check.specs.declared.format.error.Error.{Error}
 use Rattle.archive_check.specs.declared.format.error.Error.TheVariants.{OutOfMemory}
-use Rattle.archive_check.specs.declared.format.traits.ArchivePointee as ArchivePointee
 use Rattle.archive_check.specs.declared.format.traits.Entries as Entries
 use Rattle.archive_check.specs.declared.format.traits.Keys as Keys
 use Rattle.archive_types.specs.Causes.{HindersRegion, IsRegionRefused}
 use Rattle.archive_check.specs.Words.Formats.{FormatOf}
-use Rattle.archive_types.specs.Plans.{SerializedRegion, at_start, unshared}
+use Rattle.archive_types.specs.Plans.{at_start, unshared}
 use Rattle.archive_types.specs.Writing.{Archives}
 use Rattle.archive_types.specs.declared.traits.Archive as Archive
-use Rattle.archive_types.specs.declared.traits.ArchiveUnsized as ArchiveUnsized
 use Rattle.archive_write.specs.Written.{GoesOn}
 
 -- behind what the writer held, an archive of the value was written, with its root there
@@ -51,13 +49,6 @@ abbrev pub EndsWithNone : {T A R M C W : Type 0} → Archive.Ghosts T A R C M �
 EndsWithNone {W = W} a f v k old e =
     (end : W) × GoesOn (unshared (k.state old)) (unshared (k.state end))
     × IsRegionRefused f.definitions (one f.shape) 0 (a.keys v) (a.meaning v) (unshared (k.state old)) (unshared (k.state end)) e
-
--- a source was laid out in a region of its own, which stands at p; and why it wasn't
-abbrev pub Stored : {T A M S : Type 0} → ArchiveUnsized.Ghosts T A M → ArchivePointee.Ghosts A M → T → Keys.Ghosts S → Both (MutBor S) (MutBor S) → ℕ → Type 0
-Stored u g v k w p = SerializedRegion g.definitions g.pointee (u.source_length v) (u.keys v) (u.meaning v) p (k.state w.entry.now) (k.state w.exit.now)
-
-abbrev pub Unstored : {T A M S : Type 0} → ArchiveUnsized.Ghosts T A M → ArchivePointee.Ghosts A M → T → Keys.Ghosts S → Both (MutBor S) (MutBor S) → Error → Type 0
-Unstored u g v k w e = IsRegionRefused g.definitions g.pointee (u.source_length v) (u.keys v) (u.meaning v) (k.state w.entry.now) (k.state w.exit.now) e
 
 -- the bytes are an archive in the format, its root at the end
 abbrev pub IsArchiveIn : {M : Type 0} → FormatOf M → List ℕ → Type 0
