@@ -6,7 +6,6 @@ pub mod PlacedParts
 pub mod Seen
 pub mod Sources
 pub mod KindsWritten
-pub mod ArchivesOf
 pub mod SharedWriting
 pub mod OffsetsWritten
 pub mod PointersWritten
