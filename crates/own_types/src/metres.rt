@@ -18,7 +18,7 @@ use archive_core::primitive::ArchivedU32;
 use archive_core::ser::{ResolverAlloc, Writer, serialize_one};
 use archive_core::slice::copy_groups;
 use archive_core::traits::{
-    Archive, ArchiveUnsized, Copied, CopiedSource, CopyOptimization, Keys, Serialize,
+    Archive, ArchiveUnsized, Copied, CopiedSource, CopyOptimization, Keys, Portable, Serialize,
     SerializeUnsized,
 };
 
