@@ -6,26 +6,21 @@ use Rattle.std.specs.Prelude.{◌≡◌, ◌⊎◌, ◌+◌, ◌≤◌, ◌*◌,
 use Rattle.archive_check.specs.Definitions.{Definitions}
 use Rattle.archive_check.specs.Words.Formats.{FormatOf}
 use Rattle.archive_check.specs.Reads.{bytes_at}
-use Rattle.archive_check.specs.Shape.{Shape, Pointee, vec, one, run}
+use Rattle.archive_check.specs.Shape.{Shape, Pointee, vec, run}
 use Rattle.archive_check.specs.Value.{Value, Values, list}
 use Rattle.archive_check.specs.WriterState.{WriterState, KeepsKeys}
 use Rattle.archive_check.specs.declared.format.error.Error.{Error}
 use Rattle.archive_check.specs.declared.format.error.Error.TheVariants.{OutOfMemory}
-use Rattle.archive_check.specs.declared.format.traits.ArchivePointee as ArchivePointee
 use Rattle.archive_check.specs.declared.format.traits.Keys as Keys
 use Rattle.archive_check.specs.declared.self_check.parts.CheckedParts as CheckedParts
-use Rattle.archive_types.specs.Causes.{Explains, HindersAt, HindersRegionAt, IsOfWriting, IsRefused, IsRegionRefused}
+use Rattle.archive_types.specs.Causes.{Explains, HindersAt, HindersRegionAt, IsRefused, IsRegionRefused}
 use Rattle.archive_types.specs.Copies.{AreCopied, EachOwnsNothing, IsCopyRefused, copies_from, copies_to}
-use Rattle.archive_types.specs.Inner.{IsBoxed, IsPutAt, IsNotBoxed}
-use Rattle.archive_types.specs.Parts.{SerializedParts, ArePartsRefused, ResolvesParts, HindersPartsAt}
+use Rattle.archive_types.specs.Parts.{ResolvesParts, HindersPartsAt}
 use Rattle.archive_types.specs.Words.PlacedParts.{ChangesOnly}
 use Rattle.archive_types.specs.Plans.{Serialized, SerializedRegion}
 use Rattle.archive_types.specs.Runs.{each_keys, each_meaning, each_flat, HindersRunAt, PutsRun}
 use Rattle.archive_types.specs.Writing.{Naming, Puts, Resolves, vec_flat}
-use Rattle.archive_types.specs.declared.parts.SourceParts as SourceParts
 use Rattle.archive_types.specs.declared.place.Place.{Place}
-use Rattle.archive_types.specs.declared.traits.Archive as Archive
-use Rattle.archive_types.specs.declared.traits.ArchiveUnsized as ArchiveUnsized
 use Rattle.archive_write.specs.Written.{GoesOn}
 
 -- Resolving: the bytes at p are clean and read as the value, with its pointers, or why not; they stay as many.
@@ -60,22 +55,10 @@ pub record SerializesTo {R : Type 0} (D : Definitions) (X : Shape) (keys : List 
   pub goes_on : GoesOn old new
   pub refused : IfErr result (IsRefused D X keys v old new)
 
--- of a source, in a format
-abbrev pub Serializes : {T A R M C S : Type 0} → Archive.Ghosts T A R C M → FormatOf M → T → Keys.Ghosts S → Both (MutBor S) (MutBor S) → Result R Error → Type 0
-Serializes a f v k w result =
-    SerializesTo f.definitions f.shape (a.keys v) (a.meaning v) (a.flat v) (a.belongs v) (k.state w.entry.now) (k.state w.exit.now) result
-
 -- of what is named and means so, and is read as `flat`
 abbrev pub SerializesAs : {R M S : Type 0} → FormatOf M → List Naming → Value → (R → Value) → (R → Type 0) → Keys.Ghosts S → Both (MutBor S) (MutBor S) → Result R Error → Type 0
 SerializesAs f keys v flat belongs k w result =
     SerializesTo f.definitions f.shape keys v flat belongs (k.state w.entry.now) (k.state w.exit.now) result
-
--- The same of a source's parts.
-pub record SerializesParts {P M T A R S : Type 0} (g : CheckedParts.Ghosts P) (s : SourceParts.Ghosts M T A R) (v : T) (k : Keys.Ghosts S) (w : Both (MutBor S) (MutBor S)) (result : Result R Error) : Type 0 where
-  pub serialized : IfOk result (λ r. SerializedParts g.definitions g.parts (s.keys v) (s.meanings v) (s.flats v r) (k.state w.entry.now) (k.state w.exit.now))
-  pub same_values : IfOk result (s.belongs v)
-  pub goes_on : GoesOn (k.state w.entry.now) (k.state w.exit.now)
-  pub refused : IfErr result (ArePartsRefused g.definitions g.parts (s.keys v) (s.meanings v) (k.state w.entry.now) (k.state w.exit.now))
 
 -- The same of a vector of the items that came, of which there may be more than fit; nothing happened where there was no memory to keep them.
 pub record SerializesItems {T M S : Type 0} (came : List T → Type 0) (keys : T → List Naming) (meaning : T → Value) (f : FormatOf M) (k : Keys.Ghosts S) (w : Both (MutBor S) (MutBor S)) (result : Result ℕ Error) : Type 0 where
@@ -92,21 +75,9 @@ pub record WritesRegion (D : Definitions) (P : Pointee) (n : ℕ) (keys : List N
   pub goes_on : GoesOn old new
   pub refused : IfErr result (IsRegionRefused D P n keys v old new)
 
--- of a source; of elements
-abbrev pub WritesUnsized : {T A M S : Type 0} → ArchiveUnsized.Ghosts T A M → ArchivePointee.Ghosts A M → T → Keys.Ghosts S → Both (MutBor S) (MutBor S) → Result ℕ Error → Type 0
-WritesUnsized u g v k w result =
-    WritesRegion g.definitions g.pointee (u.source_length v) (u.keys v) (u.meaning v) (k.state w.entry.now) (k.state w.exit.now) result
-
 abbrev pub WritesElements : {T M S : Type 0} → (T → List Naming) → (T → Value) → FormatOf M → List T → Keys.Ghosts S → Both (MutBor S) (MutBor S) → Result ℕ Error → Type 0
 WritesElements keys meaning f xs k w result =
     WritesRegion f.definitions (run f.shape) (length xs) (each_keys keys xs) (list (each_meaning meaning xs)) (k.state w.entry.now) (k.state w.exit.now) result
-
--- of one value, which is the last that the writer then holds
-pub record WritesOne {T A R M C S : Type 0} (a : Archive.Ghosts T A R C M) (f : FormatOf M) (v : T) (k : Keys.Ghosts S) (w : Both (MutBor S) (MutBor S)) (result : Result ℕ Error) : Type 0 where
-  pub serialized : IfOk result (λ p. SerializedRegion f.definitions (one f.shape) 0 (a.keys v) (a.meaning v) p (k.state w.entry.now) (k.state w.exit.now))
-  pub ends : IfOk result (λ p. p + f.layout.size ≡ length (k.state w.exit.now).bytes)
-  pub goes_on : GoesOn (k.state w.entry.now) (k.state w.exit.now)
-  pub refused : IfErr result (IsRegionRefused f.definitions (one f.shape) 0 (a.keys v) (a.meaning v) (k.state w.entry.now) (k.state w.exit.now))
 
 -- The same of elements that may be copied: where there is a position they were, and else nothing was written.
 pub record CopiesElements {T M S : Type 0} (keys : T → List Naming) (meaning : T → Value) (f : FormatOf M) (xs : List T) (k : Keys.Ghosts S) (w : Both (MutBor S) (MutBor S)) (result : Result (Option ℕ) Error) : Type 0 where
@@ -137,11 +108,3 @@ pub record PutsElements {M T R W A : Type 0} (f : FormatOf M) (flat : T → R �
       (λ n. n ≤ length (k.state w.entry.now).bytes + length xs * f.layout.size) (k.state w.entry.now) (k.state w.exit.now))
   pub goes_on : GoesOn (k.state w.entry.now) (k.state w.exit.now)
   pub keys : KeepsKeys (k.state w.entry.now).states (k.state w.exit.now).states
-
--- Boxing a value, from whatever it was serialized: its region stands at t, behind zeros, and a box of it is serialized, too; or why not.
-pub record BoxesInner {T A R M C S : Type 0} (a : Archive.Ghosts T A R C M) (f : FormatOf M) (v : T) (r : R) (k : Keys.Ghosts S) (w : Both (MutBor S) (MutBor S)) (result : Result ℕ Error) : Type 0 where
-  pub boxed : IfOk result (λ t. IsBoxed f.definitions f.shape (a.keys v) (a.meaning v) (a.flat v r) t (k.state w.entry.now) (k.state w.exit.now))
-  pub put : IfOk result (λ t. IsPutAt f.definitions f.shape f.layout (a.flat v r) t (k.state w.entry.now) (k.state w.exit.now))
-  pub goes_on : GoesOn (k.state w.entry.now) (k.state w.exit.now)
-  pub refused : IfErr result (IsNotBoxed f.definitions f.shape (a.keys v) (a.meaning v) (a.flat v r) (k.state w.entry.now) (k.state w.exit.now))
-  pub number : IfErr result IsOfWriting

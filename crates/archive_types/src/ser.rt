@@ -11,7 +11,8 @@ ghost use Rattle.archive_types.specs.Words.Placed.{Pointed, Unpointed};
 ghost use Rattle.archive_types.specs.Runs.{EachBelongs};
 ghost use Rattle.archive_types.specs.Writing.{ZeroedPlace, Resolves};
 ghost use Rattle.archive_write.specs.Written.{GoesOn};
-ghost use Rattle.archive_types.specs.Outcomes.{ResolvesBytes, WritesOne, PutsRegion, PutsElements};
+ghost use Rattle.archive_types.specs.Outcomes.{ResolvesBytes, PutsRegion, PutsElements};
+ghost use Rattle.archive_types.specs.SourceOutcomes.{WritesOne};
 
 use crate::place::Place;
 use crate::traits::{

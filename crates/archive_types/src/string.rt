@@ -29,7 +29,8 @@ ghost use Rattle.archive_types.specs.Words.Sources.{Read};
 ghost use Rattle.archive_types.specs.Strings.{string_form, string_flat};
 ghost use Rattle.archive_types.specs.TextPlans.{HindersStringAt, ExplainsTextRefusal, ExplainsStringRefusal};
 ghost use Rattle.archive_types.specs.Writing.{ZeroedPlace, Resolves};
-ghost use Rattle.archive_types.specs.Outcomes.{ResolvesAs, Serializes, SerializesAs, WritesUnsized};
+ghost use Rattle.archive_types.specs.Outcomes.{ResolvesAs, SerializesAs};
+ghost use Rattle.archive_types.specs.SourceOutcomes.{Serializes, WritesUnsized};
 
 mod views;
 

@@ -15,7 +15,7 @@ ghost use Rattle.archive_types.specs.Plans.{HasPlan, HasRegionPlan, Serialized, 
 ghost use Rattle.archive_types.specs.Runs.{each_keys, each_meaning};
 ghost use Rattle.archive_types.specs.Writing.{Naming, IsKeyed, ZeroedPlace, Resolves};
 ghost use Rattle.archive_write.specs.Written.{GoesOn};
-ghost use Rattle.archive_types.specs.Outcomes.{ResolvesAs, Serializes, WritesUnsized, CopiesElements};
+ghost use Rattle.archive_types.specs.Outcomes.{ResolvesAs, CopiesElements};
 
 use crate::place::Place;
 use crate::view::{RawView, Ref};
@@ -103,6 +103,7 @@ pub trait Archive {
 
 /// A source that can be serialized to an `S`. As in rkyv 0.8.18.
 pub trait Serialize<S: Writer + Keys>: Archive {
+    ghost use Rattle.archive_types.specs.SourceOutcomes.{Serializes};
 
     /// Writes what the value owns, region by region, and answers what its archived form is resolved with. It asks nothing. Refused for a cause of the
     /// value's own, as the writer refuses (`BufferOverflow`, 8; `WriterFailed`, 9), or with `OutOfMemory`, 1, where memory is refused; never with
@@ -193,6 +194,7 @@ pub trait ArchiveUnsized {
 
 /// A source that can be serialized to an `S` as a region of its own. As in rkyv 0.8.18.
 pub trait SerializeUnsized<S: Writer + Keys>: ArchiveUnsized {
+    ghost use Rattle.archive_types.specs.SourceOutcomes.{WritesUnsized};
 
     /// Writes what the source owns and then its region, and answers the region's position, in bytes from the first one. It asks nothing. Refused for a
     /// cause of the source's own, as the writer refuses (`BufferOverflow`, 8; `WriterFailed`, 9), or with `OutOfMemory`, 1, where memory is refused;

@@ -8,7 +8,7 @@ ghost use Rattle.archive_types.specs.Causes.{HindersRegion, IsRegionRefused};
 ghost use Rattle.archive_types.specs.Plans.{SerializedRegion, at_start, unshared};
 ghost use Rattle.archive_types.specs.Writing.{Archives};
 ghost use Rattle.archive_write.specs.Written.{GoesOn};
-ghost use Rattle.archive_types.specs.Outcomes.{WritesUnsized};
+ghost use Rattle.archive_types.specs.SourceOutcomes.{WritesUnsized};
 
 use super::{HighSerializer, serialize_whole};
 use archive_check::format::error::Error;

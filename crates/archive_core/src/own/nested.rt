@@ -11,7 +11,8 @@ ghost use Rattle.archive_types.specs.Words.Sources.{Read};
 ghost use Rattle.archive_types.specs.Members.Variants.{case_of};
 ghost use Rattle.archive_types.specs.Writing.{ZeroedPlace};
 ghost use Rattle.archive_write.specs.Written.{GoesOn};
-ghost use Rattle.archive_types.specs.Outcomes.{ResolvesAs, Serializes};
+ghost use Rattle.archive_types.specs.Outcomes.{ResolvesAs};
+ghost use Rattle.archive_types.specs.SourceOutcomes.{Serializes};
 
 use super::{ArchivedRecursive, RecursiveChoice};
 use archive_check::format::error::Error;

@@ -9,7 +9,8 @@ ghost use Rattle.archive_types.specs.Inner.{IsBoxed, IsNotBoxed};
 ghost use Rattle.archive_types.specs.Members.Variants.{HoldsCase};
 ghost use Rattle.archive_types.specs.Writing.{Resolves, to_pointee, box_flat};
 ghost use Rattle.archive_write.specs.Written.{GoesOn};
-ghost use Rattle.archive_types.specs.Outcomes.{ResolvesTo, BoxesInner};
+ghost use Rattle.archive_types.specs.Outcomes.{ResolvesTo};
+ghost use Rattle.archive_types.specs.SourceOutcomes.{BoxesInner};
 
 use super::{ArchivedBox, BoxResolver};
 use crate::owner_pointers::position_of;

@@ -20,7 +20,8 @@ ghost use Rattle.archive_types.specs.Words.Seen.{IsPartOf, RefusesPart};
 ghost use Rattle.archive_types.specs.Words.Sources.{Read};
 ghost use Rattle.archive_types.specs.Writing.{ZeroedPlace, Resolves, to_pointee};
 ghost use Rattle.archive_write.specs.Written.{GoesOn};
-ghost use Rattle.archive_types.specs.Outcomes.{ResolvesAs, Serializes};
+ghost use Rattle.archive_types.specs.Outcomes.{ResolvesAs};
+ghost use Rattle.archive_types.specs.SourceOutcomes.{Serializes};
 
 use super::{ArchivedBox, BoxResolver};
 use crate::owner_pointers::position_of;

@@ -2,7 +2,7 @@
 
 ghost use Rattle.std.specs.Prelude.{IfOk, IfErr};
 ghost use Rattle.archive_write.specs.Written.{GoesOn};
-ghost use Rattle.archive_types.specs.Outcomes.{SerializesParts};
+ghost use Rattle.archive_types.specs.SourceOutcomes.{SerializesParts};
 
 use super::{PartOf, SourceParts};
 use crate::traits::{Archive, Keys, Serialize};

@@ -11,7 +11,8 @@ ghost use Rattle.archive_types.specs.Members.Planned.{leaf_planned};
 ghost use Rattle.archive_types.specs.Members.PlannedOwners.{pointee_planned};
 ghost use Rattle.archive_types.specs.Writing.{ZeroedPlace, Resolves};
 ghost use Rattle.archive_write.specs.Written.{GoesOn};
-ghost use Rattle.archive_types.specs.Outcomes.{ResolvesAs, Serializes};
+ghost use Rattle.archive_types.specs.Outcomes.{ResolvesAs};
+ghost use Rattle.archive_types.specs.SourceOutcomes.{Serializes};
 
 use super::{Source, write_leaf};
 use crate::place::Place;

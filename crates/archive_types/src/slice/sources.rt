@@ -11,7 +11,8 @@ ghost use Rattle.archive_types.specs.Members.PlannedOwners.{is_long, slice_plann
 ghost use Rattle.archive_types.specs.Plans.{SerializedRegion};
 ghost use Rattle.archive_types.specs.Runs.{each_keys, each_meaning, each_flat, EachBelongs, SerializedRun, IsRunRefused};
 ghost use Rattle.archive_write.specs.Written.{GoesOn};
-ghost use Rattle.archive_types.specs.Outcomes.{WritesRegion, WritesUnsized, WritesElements};
+ghost use Rattle.archive_types.specs.Outcomes.{WritesRegion, WritesElements};
+ghost use Rattle.archive_types.specs.SourceOutcomes.{WritesUnsized};
 
 use super::ArchivedSlice;
 use crate::primitive::ArchivedUsize;

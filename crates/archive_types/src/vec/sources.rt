@@ -15,7 +15,8 @@ ghost use Rattle.archive_types.specs.Plans.{Serialized};
 ghost use Rattle.archive_types.specs.Runs.{each_keys, each_meaning};
 ghost use Rattle.archive_types.specs.Writing.{ZeroedPlace, Resolves, to_pointee, vec_flat};
 ghost use Rattle.archive_write.specs.Written.{GoesOn};
-ghost use Rattle.archive_types.specs.Outcomes.{ResolvesAs, Serializes, SerializesAs};
+ghost use Rattle.archive_types.specs.Outcomes.{ResolvesAs, SerializesAs};
+ghost use Rattle.archive_types.specs.SourceOutcomes.{Serializes};
 
 use super::ArchivedVec;
 use crate::owner_pointers::position_of;
