@@ -1,7 +1,7 @@
 // Borrowed slices as sources: what each element owns, and then all elements as one region.
 
 ghost use Rattle.std.specs.Prelude.{◌≡◌, ◌<◌, ◌≤◌, IfOk, OnOk, IfErr, IsErrOf, length};
-ghost use Rattle.archive_check.specs.Shape.{run};
+ghost use Rattle.archive_check.specs.Shape.{array, one, run};
 ghost use Rattle.archive_check.specs.Value.{list};
 ghost use Rattle.archive_check.specs.declared.format.error.Error.TheVariants.{LengthTooLarge};
 ghost use Rattle.archive_types.specs.Causes.{IsRegionRefused};

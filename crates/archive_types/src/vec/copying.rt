@@ -1,6 +1,7 @@
 // Vectors of values that are copied.
 
 ghost use Rattle.std.specs.Prelude.{◌≡◌, ◌<◌, ◌≤◌, IfOk, OnOk, IfErr, IsOk, IsErrOf, IsTrue, length};
+ghost use Rattle.archive_check.specs.Shape.{vec as vec_shape};
 ghost use Rattle.archive_check.specs.declared.format.error.Error.TheVariants.{LengthTooLarge};
 ghost use Rattle.archive_types.specs.Copies.{each_bytes, copies_from};
 ghost use Rattle.archive_write.specs.Written.{GoesOn};
@@ -31,7 +32,7 @@ impl<T: Portable> ArchivedVec<T> {
     ) -> Result<VecResolver, Error>
         ensures serialized {
             IfOk result
-                (λ r. Serialized T.definitions (vec T.shape) (each_keys U.keys value.now)
+                (λ r. Serialized T.definitions (vec_shape T.shape) (each_keys U.keys value.now)
                 (list (each_meaning U.meaning value.now)) (vec_flat T.shape (length value.now) r)
                 (S.state serializer.old) (S.state serializer.new))
         }
