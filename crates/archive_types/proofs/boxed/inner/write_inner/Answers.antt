@@ -21,7 +21,8 @@ pub returns-in_err-pos : goal.returns-in_err-pos
 returns-in_err-pos g c = record {
   boxed = search rules;
   put = search rules;
-  goes_on = search rules;
+  goes_on = goes_both _ _ _
+    (goes_written _ _ _ c.in_ok-align_for.ensures.written c.in_ok-align_for.ensures.room c.in_ok-align_for.ensures.device c.in_ok-align_for.ensures.keys) c.in_err-pos.ensures.goes_on;
   refused = err_by c.from_residual-in_err-pos.result c.in_err-pos.field-0.0 _ c.from_residual-in_err-pos.ensures.1
     (unresolved _ _ _ _ _ _ _ _ _ _ g.met.T.Archived.Portable.has_layout c.in_ok-align_for.ensures.padded
     (goes_written _ _ _ c.in_ok-align_for.ensures.written c.in_ok-align_for.ensures.room c.in_ok-align_for.ensures.device c.in_ok-align_for.ensures.keys) c.in_err-pos.ensures.goes_on c.in_err-pos.ensures.refused);

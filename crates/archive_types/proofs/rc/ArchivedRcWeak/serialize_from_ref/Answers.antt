@@ -12,7 +12,7 @@ returns-in_default-clause-outcome g c = record {
 
 pub returns-in-Ok-clause-outcome : goal.returns-in-Ok-clause-outcome
 returns-in-Ok-clause-outcome g c = record {
-  serialized = rw c.in-Some.is (weak_serialized _ _ _ _ _ _ _ _ c.in-Ok.ensures.serialized);
+  serialized = rw c.in-Some.is (weak_serialized _ _ _ _ _ _ _ _ c.in-Ok.ensures.outcome.serialized);
   same_value = search rules;
   goes_on = search rules;
   refused = search rules;
