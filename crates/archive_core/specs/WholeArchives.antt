@@ -42,7 +42,7 @@ pub record MakesArchive {T A R M C B : Type 0} (a : Archive.Ghosts T A R C M) (f
 -- an open position, only what refuses the check does.
 pub record ReadsArchive {M D T A R N C : Type 0} (f : FormatOf M) (bytes : List ℕ) (d : Entries.Ghosts D) (b : Both (MutBor D) (MutBor D)) (a : Archive.Ghosts T A R C N) (result : Result T Error) : Type 0 where
   pub accepted : OnOk result (IsArchive f.definitions bytes (root_in bytes f.layout) f.shape)
-  pub read : IfOk result (λ t. ReadsWhole f.definitions bytes (root_in bytes f.layout) f.shape (d.entry_of b.entry.now) (d.entry_of b.exit.now) (a.meaning t) (a.keys t))
+  pub read : IfOk result (λ t. ReadsWhole d.keeps f.definitions bytes (root_in bytes f.layout) f.shape (d.entry_of b.entry.now) (d.entry_of b.exit.now) (a.meaning t) (a.keys t))
   pub refused : IfErr result (RefusesWhole f.definitions bytes (root_in bytes f.layout) f.shape (d.entry_of b.entry.now))
   pub never_open : IsNeverOpen f.definitions f.shape (d.entry_of b.entry.now) → IfErr result (RefusesAsCheck f.definitions bytes (root_in bytes f.layout) f.shape)
 
