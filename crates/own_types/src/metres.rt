@@ -10,7 +10,7 @@ ghost use Rattle.archive_core.specs.Keyed.{number_keyed};
 ghost use Rattle.archive_core.specs.Planned.{leaf_planned};
 ghost use Rattle.archive_core.specs.PlannedOwners.{one_planned};
 ghost use Rattle.archive_core.specs.Writing.{ZeroedPlace};
-ghost use Rattle.archive_core.specs.Outcomes.{ResolvesAs};
+ghost use Rattle.archive_core.specs.CallOutcomes.{ResolvesAs};
 
 use archive_core::error::Error;
 use archive_core::place::Place;

@@ -8,7 +8,7 @@ ghost use Rattle.archive_core.specs.Keyed.{nothing_keyed, part_keyed, record_key
 ghost use Rattle.archive_core.specs.PartsPlanned.{no_part_planned, part_planned, record_planned};
 ghost use Rattle.archive_core.specs.PlannedOwners.{one_planned};
 ghost use Rattle.archive_core.specs.Writing.{ZeroedPlace};
-ghost use Rattle.archive_core.specs.Outcomes.{ResolvesAs};
+ghost use Rattle.archive_core.specs.CallOutcomes.{ResolvesAs};
 
 use archive_core::error::Error;
 use archive_core::option::ArchivedOption;
