@@ -59,7 +59,7 @@ class Source:
         formats.ghost("LeafLayout", "no_definition_reached")
         formats.ghost("Shape", "one", "parts", "part", "no_part", "choice", "variant", "no_variant")
         formats.ghost("Seen", "IsPartOf", "RefusesPart")
-        formats.ghost("Outcomes", "ResolvesAs")
+        formats.ghost("CallOutcomes", "ResolvesAs")
         formats.ghost("Sources", "Read")
         formats.ghost("Writing", "ZeroedPlace")
 

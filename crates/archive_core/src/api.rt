@@ -55,10 +55,8 @@ fn serialize_whole<
     A: Allocator + Copy + Drop,
     T: Serialize<HighSerializer<W, A>>,
 >(alloc: Global, resolvers: A, value: &T, writer: W) -> (W, Result<usize, Error>)
-    ensures {
-        AppendsArchive T.Archive T.Archived.Portable value.now (W.state writer) (W.state result.0)
-            result.1
-    }
+    ensures { AppendsArchive T.Archive T.Archived.Portable value.now (W.state writer) (W.state result.0)
+        result.1 }
 {
     let mut serializer = Serializer::new(writer, resolvers, Share::new(alloc));
     let root = serialize_one(value, &mut serializer);
@@ -91,10 +89,8 @@ fn append_whole<W: Writer + Drop, T: Serialize<HighSerializer<W, Global>>>(
     writer: W,
     source: (Global, &T),
 ) -> (W, Result<usize, Error>)
-    ensures {
-        AppendsArchive T.Archive T.Archived.Portable source.entry.1.now (W.state writer)
-            (W.state result.0) result.1
-    }
+    ensures { AppendsArchive T.Archive T.Archived.Portable source.entry.1.now (W.state writer)
+        (W.state result.0) result.1 }
 {
     let (alloc, value) = source;
     serialize_whole(alloc, alloc, value, writer)
@@ -110,10 +106,8 @@ pub fn to_bytes_into<W: Writer + Drop, T: Serialize<HighSerializer<W, Global>>>(
     value: &T,
     writer: &mut W,
 ) -> Result<usize, Error>
-    ensures {
-        AppendsArchive T.Archive T.Archived.Portable value.now (W.state writer.old)
-            (W.state writer.new) result
-    }
+    ensures { AppendsArchive T.Archive T.Archived.Portable value.now (W.state writer.old)
+        (W.state writer.new) result }
 {
     replace_with(writer, (alloc, value), append_whole::<W, T>)
 }

@@ -75,8 +75,8 @@ ItemUnput a f x k w = ItemRefused f.definitions f.shape f.layout a.keys a.meanin
 abbrev pub ItemsStored : {I T A R M C S : Type 0} → (I → Option T → I → Type 0) → I → Archive.Ghosts T A R C M → FormatOf M → Keys.Ghosts S → Both (MutBor S) (MutBor S) → ℕ → Type 0
 ItemsStored {T = T} steps s a f k w t = (xs : List T) × Drains steps s xs × (length xs ≤ 4294967295)
     × ItemsLaid f.definitions f.shape f.layout a.keys a.meaning a.flat a.belongs xs t (k.state w.entry.now) (k.state w.exit.now)
-    × (OwnNoRegion a.flat a.belongs xs → 
-        Serialized f.definitions (vec f.shape) (each_keys a.keys xs) (list (each_meaning a.meaning xs)) (vec_flat f.shape (length xs) t) (k.state w.entry.now) (k.state w.exit.now))
+    × (OwnNoRegion a.flat a.belongs xs →
+    Serialized f.definitions (vec f.shape) (each_keys a.keys xs) (list (each_meaning a.meaning xs)) (vec_flat f.shape (length xs) t) (k.state w.entry.now) (k.state w.exit.now))
 
 abbrev pub ItemsUnstored : {I T A R M C S : Type 0} → (I → Option T → I → Type 0) → I → Archive.Ghosts T A R C M → FormatOf M → Keys.Ghosts S → Both (MutBor S) (MutBor S) → Error → Type 0
 ItemsUnstored {I = I} steps s a f k w =

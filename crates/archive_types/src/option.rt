@@ -53,10 +53,8 @@ impl<T: Archive> Archive for Option<T> {
     ) -> Result<(), Error>
         requires zeroed { ZeroedPlace (option_layout T.Archived.layout).size place.pos place.bytes.now }
         requires same_value { OptionBelongs T.belongs self.now resolver }
-        ensures {
-            ResolvesAs ⟦<Self::Archived as Portable>⟧ place
-                (⟦<Self as Archive>⟧.flat self.now resolver) result
-        }
+        ensures { ResolvesAs ⟦<Self::Archived as Portable>⟧ place
+            (⟦<Self as Archive>⟧.flat self.now resolver) result }
     {
         let Place { bytes, pos, .. } = place;
         let value = match self {

@@ -69,10 +69,8 @@ pub trait SourceParts<T> {
     ) -> Result<(), Error>
         requires zeroed { ZeroedParts (Self.Archived.end start) start pos bytes.old }
         requires same_values { belongs whole.now resolvers }
-        ensures {
-            ResolvesAllParts Self.Archived.CheckedParts (flats whole.now resolvers) pos start
-                bytes.old bytes.new result
-        };
+        ensures { ResolvesAllParts Self.Archived.CheckedParts (flats whole.now resolvers) pos start
+            bytes.old bytes.new result };
 
     // Their keys are those that their meanings lead to.
     ghost keyed: { AreKeyed keys meanings };

@@ -30,10 +30,8 @@ pub fn serialize_record<
     X: Record<Parts = P::Archived>,
     S: Writer + Keys,
 >(whole: &T, serializer: &mut S) -> Result<P::Resolvers, Error>
-    ensures {
-        SerializesAs X.Portable (P.keys whole.now) (product (P.meanings whole.now))
-            (λ r. product (P.flats whole.now r)) (P.belongs whole.now) S.Keys serializer result
-    }
+    ensures { SerializesAs X.Portable (P.keys whole.now) (product (P.meanings whole.now))
+        (λ r. product (P.flats whole.now r)) (P.belongs whole.now) S.Keys serializer result }
 {
     P::serialize_parts(whole, serializer)
 }

@@ -52,10 +52,8 @@ impl<T: Archive, E: Archive> Archive for Result<T, E> {
     ) -> Result<(), Error>
         requires zeroed { ZeroedPlace (result_layout T.Archived.layout E.Archived.layout).size place.pos place.bytes.now }
         requires same_value { ResultBelongs T.belongs E.belongs self.now resolver }
-        ensures {
-            ResolvesAs ⟦<Self::Archived as Portable>⟧ place
-                (⟦<Self as Archive>⟧.flat self.now resolver) result
-        }
+        ensures { ResolvesAs ⟦<Self::Archived as Portable>⟧ place
+            (⟦<Self as Archive>⟧.flat self.now resolver) result }
     {
         let Place { bytes, pos, .. } = place;
         match self {

@@ -58,10 +58,8 @@ fn resolve_region<W: Writer, T: Archive>(
 ) -> Result<usize, Error>
     requires zeroed { ZeroedPlace T.Archived.layout.size (length (W.state writer.old).bytes) region.old }
     requires same_value { T.belongs value.now resolver }
-    ensures outcome {
-        PutsRegion T.Archived.Portable (T.flat value.now resolver) W.Keys writer
-            (length (W.state writer.old).bytes) result
-    }
+    ensures outcome { PutsRegion T.Archived.Portable (T.flat value.now resolver) W.Keys writer
+        (length (W.state writer.old).bytes) result }
     ensures same_length { length region.new ≡ length region.old }
 {
     let pos = writer.pos();
@@ -84,10 +82,8 @@ fn resolve_large<W: Writer, A: Allocator + Drop, T: Archive>(
     requires sized { size ≡ min T.Archived.layout.size 18446744073709551615 }
     requires ends { length (W.state writer.old).bytes + size < 2 ^ 64 }
     requires same_value { T.belongs value.now resolver }
-    ensures {
-        PutsRegion T.Archived.Portable (T.flat value.now resolver) W.Keys writer
-            (W.position writer.old) result
-    }
+    ensures { PutsRegion T.Archived.Portable (T.flat value.now resolver) W.Keys writer
+        (W.position writer.old) result }
 {
     let mut region = vec![in alloc; 0u8; size]?;
     resolve_region(writer, value, resolver, &mut region)
@@ -103,10 +99,8 @@ pub(crate) fn resolve_next<W: Writer, A: Allocator + Drop, T: Archive>(
     resolver: T::Resolver,
 ) -> Result<usize, Error>
     requires same_value { T.belongs value.now resolver }
-    ensures {
-        PutsRegion T.Archived.Portable (T.flat value.now resolver) W.Keys writer
-            (W.position writer.old) result
-    }
+    ensures { PutsRegion T.Archived.Portable (T.flat value.now resolver) W.Keys writer
+        (W.position writer.old) result }
 {
     let size = T::Archived::size();
     if writer.pos().checked_add(size).is_none() {
@@ -146,9 +140,7 @@ fn resolve_each<W: Writer, T: Archive, A: Allocator + Drop>(
     requires sized { length region.old ≡ T.Archived.layout.size }
     requires ends { length (W.state writer.old).bytes + length values.now * T.Archived.layout.size < 2 ^ 64 }
     requires same_values { EachBelongs T.belongs values.now resolvers.items }
-    ensures {
-        PutsElements T.Archived.Portable T.flat values.now resolvers.items W.Keys writer result
-    }
+    ensures { PutsElements T.Archived.Portable T.flat values.now resolvers.items W.Keys writer result }
 {
     let mut rest = values;
     for resolver in resolvers {
@@ -177,9 +169,7 @@ fn resolve_each_large<W: Writer, A: Allocator + Drop, T: Archive, B: Allocator +
     requires sized { size ≡ min T.Archived.layout.size 18446744073709551615 }
     requires ends { length (W.state writer.old).bytes + length values.now * size < 2 ^ 64 }
     requires same_values { EachBelongs T.belongs values.now resolvers.items }
-    ensures {
-        PutsElements T.Archived.Portable T.flat values.now resolvers.items W.Keys writer result
-    }
+    ensures { PutsElements T.Archived.Portable T.flat values.now resolvers.items W.Keys writer result }
 {
     let mut region = vec![in alloc; 0u8; size]?;
     resolve_each(writer, values, resolvers, &mut region)
@@ -218,10 +208,8 @@ pub trait ResolveExt: Writer {
         Self: Sized,
         requires aligned { Self.position self.old % T.Archived.layout.align ≡ 0 }
         requires same_value { T.belongs value.now resolver }
-        ensures {
-            PutsRegion T.Archived.Portable (T.flat value.now resolver) Self.Keys self
-                (Self.position self.old) result
-        }
+        ensures { PutsRegion T.Archived.Portable (T.flat value.now resolver) Self.Keys self
+            (Self.position self.old) result }
     {
         resolve_next(self, alloc, value, resolver)
     }
@@ -247,9 +235,7 @@ pub trait ResolveExt: Writer {
         Self: Sized,
         requires aligned { Self.position self.old % T.Archived.layout.align ≡ 0 }
         requires same_values { EachBelongs T.belongs values.now resolvers.items }
-        ensures outcome {
-            PutsElements T.Archived.Portable T.flat values.now resolvers.items Self.Keys self result
-        }
+        ensures outcome { PutsElements T.Archived.Portable T.flat values.now resolvers.items Self.Keys self result }
         ensures position { IfOk result (λ p. p ≡ Self.position self.old) }
     {
         let pos = self.pos();

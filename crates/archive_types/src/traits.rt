@@ -103,9 +103,7 @@ pub trait Archive {
         _together: usize,
         _serializer: &mut S,
     ) -> Result<Option<usize>, Error>
-        ensures {
-            CopiesElements keys meaning Self.Archived.Portable _values.now S.Keys _serializer result
-        }
+        ensures { CopiesElements keys meaning Self.Archived.Portable _values.now S.Keys _serializer result }
     {
         Ok(None)
     }
@@ -250,10 +248,8 @@ pub trait SerializeUnsized<S: Writer + Keys>: ArchiveUnsized {
     /// - `BufferOverflow`, `WriterFailed`: the writer's.
     /// - an error caused by the source, such as `LengthTooLarge`.
     fn serialize_unsized(&self, serializer: &mut S) -> Result<usize, Error>
-        ensures {
-            WritesUnsized Self.ArchiveUnsized Self.Archived.ArchivePointee self.now S.Keys
-                serializer result
-        };
+        ensures { WritesUnsized Self.ArchiveUnsized Self.Archived.ArchivePointee self.now S.Keys
+            serializer result };
 }
 
 /// A pointee that can be read back as a `T`: the value, a vector of the elements, or a string. As in rkyv 0.8.18, by views in place of references.

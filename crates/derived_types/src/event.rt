@@ -22,10 +22,10 @@ pub enum Event {
 
 // Below this line all is written by tools/derive: change what is above it, and run it again.
 
+ghost use Rattle.archive_core.specs.CallOutcomes.{ResolvesAs};
 ghost use Rattle.archive_core.specs.Definitions.{both, no_definition};
 ghost use Rattle.archive_core.specs.Keyed.{case_keyed, each_keyed, nothing_keyed, number_keyed, part_keyed, text_keyed};
 ghost use Rattle.archive_core.specs.LeafLayout.{no_definition_reached};
-ghost use Rattle.archive_core.specs.Outcomes.{ResolvesAs};
 ghost use Rattle.archive_core.specs.PartsPlanned.{no_part_planned, part_planned};
 ghost use Rattle.archive_core.specs.Payloads.{payload_in};
 ghost use Rattle.archive_core.specs.Plain.{plain_choice, plain_own_check, plain_variant_planned};
@@ -218,10 +218,8 @@ impl Archive for Event {
     ) -> Result<(), Error>
         requires zeroed { ZeroedPlace 12 place.pos place.bytes.now }
         requires same_value { ⟦<Self as Archive>⟧.belongs self.now resolver }
-        ensures {
-            ResolvesAs ⟦<Self::Archived as Portable>⟧ place
-                (⟦<Self as Archive>⟧.flat self.now resolver) result
-        }
+        ensures { ResolvesAs ⟦<Self::Archived as Portable>⟧ place
+            (⟦<Self as Archive>⟧.flat self.now resolver) result }
     {
         let Place { bytes, pos, .. } = place;
         match self {

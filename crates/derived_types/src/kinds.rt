@@ -61,13 +61,13 @@ pub struct Unnamed(pub u8, pub String);
 // Below this line all is written by tools/derive: change what is above it, and run it again.
 
 ghost use Rattle.archive_core.specs.Arrays.{array_keyed, array_planned};
+ghost use Rattle.archive_core.specs.CallOutcomes.{ResolvesAs};
 ghost use Rattle.archive_core.specs.Definitions.{both, no_definition};
 ghost use Rattle.archive_core.specs.Fields.{field_in};
 ghost use Rattle.archive_core.specs.Keyed.{box_keyed, each_keyed, nothing_keyed, number_keyed, part_keyed, record_keyed, text_keyed};
 ghost use Rattle.archive_core.specs.LeafLayout.{no_definition_reached};
 ghost use Rattle.archive_core.specs.Nothing.{empty_product_keyed, empty_product_planned};
 ghost use Rattle.archive_core.specs.Options.{option_keyed, option_planned};
-ghost use Rattle.archive_core.specs.Outcomes.{ResolvesAs};
 ghost use Rattle.archive_core.specs.PartsPlanned.{no_part_planned, part_planned, product_planned};
 ghost use Rattle.archive_core.specs.Plain.{plain_own_check, plain_record, plain_record_planned};
 ghost use Rattle.archive_core.specs.Planned.{leaf_planned, string_planned, text_planned};
@@ -256,10 +256,8 @@ impl Archive for Numbers {
     ) -> Result<(), Error>
         requires zeroed { ZeroedPlace 48 place.pos place.bytes.now }
         requires same_value { ⟦<Self as Archive>⟧.belongs self.now resolver }
-        ensures {
-            ResolvesAs ⟦<Self::Archived as Portable>⟧ place
-                (⟦<Self as Archive>⟧.flat self.now resolver) result
-        }
+        ensures { ResolvesAs ⟦<Self::Archived as Portable>⟧ place
+            (⟦<Self as Archive>⟧.flat self.now resolver) result }
     {
         let Place { bytes, pos, .. } = place;
         let NumbersResolver { kept } = resolver;
@@ -678,10 +676,8 @@ impl Archive for Owners {
     ) -> Result<(), Error>
         requires zeroed { ZeroedPlace 40 place.pos place.bytes.now }
         requires same_value { ⟦<Self as Archive>⟧.belongs self.now resolver }
-        ensures {
-            ResolvesAs ⟦<Self::Archived as Portable>⟧ place
-                (⟦<Self as Archive>⟧.flat self.now resolver) result
-        }
+        ensures { ResolvesAs ⟦<Self::Archived as Portable>⟧ place
+            (⟦<Self as Archive>⟧.flat self.now resolver) result }
     {
         let Place { bytes, pos, .. } = place;
         let OwnersResolver { kept } = resolver;
@@ -1076,10 +1072,8 @@ impl Archive for Lists {
     ) -> Result<(), Error>
         requires zeroed { ZeroedPlace 32 place.pos place.bytes.now }
         requires same_value { ⟦<Self as Archive>⟧.belongs self.now resolver }
-        ensures {
-            ResolvesAs ⟦<Self::Archived as Portable>⟧ place
-                (⟦<Self as Archive>⟧.flat self.now resolver) result
-        }
+        ensures { ResolvesAs ⟦<Self::Archived as Portable>⟧ place
+            (⟦<Self as Archive>⟧.flat self.now resolver) result }
     {
         let Place { bytes, pos, .. } = place;
         let ListsResolver { kept } = resolver;
@@ -1376,10 +1370,8 @@ impl Archive for Empty {
     ) -> Result<(), Error>
         requires zeroed { ZeroedPlace 0 place.pos place.bytes.now }
         requires same_value { ⟦<Self as Archive>⟧.belongs self.now resolver }
-        ensures {
-            ResolvesAs ⟦<Self::Archived as Portable>⟧ place
-                (⟦<Self as Archive>⟧.flat self.now resolver) result
-        }
+        ensures { ResolvesAs ⟦<Self::Archived as Portable>⟧ place
+            (⟦<Self as Archive>⟧.flat self.now resolver) result }
     {
         let Place { bytes, pos, .. } = place;
         resolve_record_0::<ArchivedEmpty>(resolver, Place::new(pos, bytes))
@@ -1563,10 +1555,8 @@ impl Archive for Unnamed {
     ) -> Result<(), Error>
         requires zeroed { ZeroedPlace 12 place.pos place.bytes.now }
         requires same_value { ⟦<Self as Archive>⟧.belongs self.now resolver }
-        ensures {
-            ResolvesAs ⟦<Self::Archived as Portable>⟧ place
-                (⟦<Self as Archive>⟧.flat self.now resolver) result
-        }
+        ensures { ResolvesAs ⟦<Self::Archived as Portable>⟧ place
+            (⟦<Self as Archive>⟧.flat self.now resolver) result }
     {
         let Place { bytes, pos, .. } = place;
         let UnnamedResolver { kept } = resolver;

@@ -9,7 +9,7 @@ ghost use Rattle.archive_core.specs.PlannedOwners.{one_planned};
 ghost use Rattle.archive_core.specs.Variants.{case_of};
 ghost use Rattle.archive_core.specs.Writing.{ZeroedPlace};
 ghost use Rattle.own_types.specs.NodeShape.{node_name, node_variants, node_choice};
-ghost use Rattle.archive_core.specs.Outcomes.{ResolvesAs};
+ghost use Rattle.archive_core.specs.CallOutcomes.{ResolvesAs};
 
 use archive_core::boxed::{ArchivedBox, BoxResolver};
 use archive_core::error::Error;
@@ -124,10 +124,8 @@ impl Archive for Node {
     ) -> Result<(), Error>
         requires zeroed { ZeroedPlace 8 place.pos place.bytes.now }
         requires same_value { ⊤ }
-        ensures {
-            ResolvesAs ⟦<Self::Archived as Portable>⟧ place
-                (⟦<Self as Archive>⟧.flat self.now resolver) result
-        }
+        ensures { ResolvesAs ⟦<Self::Archived as Portable>⟧ place
+            (⟦<Self as Archive>⟧.flat self.now resolver) result }
     {
         let Place { bytes, pos, .. } = place;
         match resolver {

@@ -27,10 +27,8 @@ pub fn serialize_variant<T, P: SerializeParts<T, S>, X: Choice, S: Writer + Keys
 ) -> Result<P::Resolvers, Error>
     requires variant { variant_at X.Variants.variants tag ≡ Some P.Archived.parts }
     requires definitions { variant_definitions X.Variants.definitions tag ≡ P.Archived.definitions }
-    ensures {
-        SerializesAs X.Portable (P.keys whole.now) (case tag (P.meanings whole.now))
-            (λ r. case tag (P.flats whole.now r)) (P.belongs whole.now) S.Keys serializer result
-    }
+    ensures { SerializesAs X.Portable (P.keys whole.now) (case tag (P.meanings whole.now))
+        (λ r. case tag (P.flats whole.now r)) (P.belongs whole.now) S.Keys serializer result }
 {
     P::serialize_parts(whole, serializer)
 }

@@ -96,10 +96,8 @@ impl<T: Archive, const N: usize> Archive for OwnedArray<T, N> {
     ) -> Result<(), Error>
         requires zeroed { ZeroedPlace ⟦<Self::Archived as Portable>⟧.layout.size place.pos place.bytes.now }
         requires same_value { EachBelongs T.belongs self.now resolver.items }
-        ensures {
-            ResolvesAs ⟦<Self::Archived as Portable>⟧ place
-                (⟦<Self as Archive>⟧.flat self.now resolver) result
-        }
+        ensures { ResolvesAs ⟦<Self::Archived as Portable>⟧ place
+            (⟦<Self as Archive>⟧.flat self.now resolver) result }
     {
         let Place { bytes, pos, .. } = place;
         resolve_elements(self.as_slice(), resolver, pos, bytes)

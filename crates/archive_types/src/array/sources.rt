@@ -25,17 +25,13 @@ pub(super) fn resolve_elements<T: Archive>(
 ) -> Result<(), Error>
     requires zeroed { ZeroedPlace (length values.now * T.Archived.layout.size) pos bytes.old }
     requires same_values { EachBelongs T.belongs values.now resolvers.items }
-    ensures resolved {
-        OnOk result
-            (ResolvesRun T.Archived.definitions pos bytes.new (length values.now)
-            T.Archived.shape (each_flat T.flat values.now resolvers.items))
-    }
+    ensures resolved { OnOk result
+        (ResolvesRun T.Archived.definitions pos bytes.new (length values.now)
+        T.Archived.shape (each_flat T.flat values.now resolvers.items)) }
     ensures same_length { length bytes.new ≡ length bytes.old }
-    ensures refused {
-        IfErr result
-            (HindersEachAt T.Archived.definitions T.Archived.shape (length values.now)
-            (each_flat T.flat values.now resolvers.items) pos)
-    }
+    ensures refused { IfErr result
+        (HindersEachAt T.Archived.definitions T.Archived.shape (length values.now)
+        (each_flat T.flat values.now resolvers.items) pos) }
 {
     let size = T::Archived::size();
     let mut rest = values;
@@ -98,10 +94,8 @@ impl<T: Archive, const N: usize> Archive for [T; N] {
     ) -> Result<(), Error>
         requires zeroed { ZeroedPlace ⟦<Self::Archived as Portable>⟧.layout.size place.pos place.bytes.now }
         requires same_value { EachBelongs T.belongs self.now resolver.items }
-        ensures {
-            ResolvesAs ⟦<Self::Archived as Portable>⟧ place
-                (⟦<Self as Archive>⟧.flat self.now resolver) result
-        }
+        ensures { ResolvesAs ⟦<Self::Archived as Portable>⟧ place
+            (⟦<Self as Archive>⟧.flat self.now resolver) result }
     {
         let Place { bytes, pos, .. } = place;
         resolve_elements(self, resolver, pos, bytes)

@@ -71,17 +71,13 @@ pub fn resolve_inner<T: Portable>(
     requires zeroed { IsZeroed bytes.old }
     requires few { 8 ≤ length bytes.old }
     requires ends { pos + length bytes.old < 2 ^ 64 }
-    ensures held {
-        OnOk result
-            (HoldsCase T.definitions pos tag 4 4 (boxed (one T.shape))
-            (box_flat (one T.shape) 0 resolver) bytes.new)
-    }
+    ensures held { OnOk result
+        (HoldsCase T.definitions pos tag 4 4 (boxed (one T.shape))
+        (box_flat (one T.shape) 0 resolver) bytes.new) }
     ensures same_length { length bytes.new ≡ length bytes.old }
-    ensures refused {
-        IfErr result
-            (HindersAt T.definitions (boxed (one T.shape)) (box_flat (one T.shape) 0 resolver)
-            (pos + 4))
-    }
+    ensures refused { IfErr result
+        (HindersAt T.definitions (boxed (one T.shape)) (box_flat (one T.shape) 0 resolver)
+        (pos + 4)) }
 {
     bytes[0] = tag;
     resolve_box::<T>(resolver, pos + 4, &mut bytes[4..8])
@@ -94,10 +90,8 @@ fn resolve_box<T: Portable>(
     bytes: &mut [u8],
 ) -> Result<(), Error>
     requires sized { length bytes.old ≡ 4 }
-    ensures outcome {
-        ResolvesTo T.definitions (boxed (one T.shape)) (box_flat (one T.shape) 0 resolver)
-            pos bytes.old bytes.new result
-    }
+    ensures outcome { ResolvesTo T.definitions (boxed (one T.shape)) (box_flat (one T.shape) 0 resolver)
+        pos bytes.old bytes.new result }
     ensures sized { length bytes.new ≡ 4 }
 {
     ArchivedBox::<T>::resolve_from_raw_parts(resolver, 0, Place::new(pos, bytes))

@@ -78,10 +78,8 @@ impl<T: Archive> Archive for BoxSlice<T> {
     ) -> Result<(), Error>
         requires zeroed { ZeroedPlace 8 place.pos place.bytes.now }
         requires same_value { length self.now.items.items ≤ 4294967295 }
-        ensures outcome {
-            ResolvesAs ⟦<Self::Archived as Portable>⟧ place
-                (⟦<Self as Archive>⟧.flat self.now resolver) result
-        }
+        ensures outcome { ResolvesAs ⟦<Self::Archived as Portable>⟧ place
+            (⟦<Self as Archive>⟧.flat self.now resolver) result }
         ensures written { OnOk result (PointsTo place true resolver (length self.now.items.items)) }
         ensures cause { IfErr result (λ e. IsTooFar e (distance place.entry.pos resolver)) }
     {
@@ -101,10 +99,8 @@ impl<S: Writer + ResolverAlloc, T: Serialize<S>> Serialize<S> for BoxSlice<T> {
     /// `serialize_unsized` of a `Slice` does.
     #[tactic(auto, using(crate::proofs::Planning::Owners::serialized_box, crate::proofs::Planning::Owners::box_refused, crate::proofs::Planning::Owners::far_box_refused))]
     fn serialize(&self, serializer: &mut S) -> Result<BoxResolver, Error>
-        ensures outcome {
-            Serializes ⟦<Self as Archive>⟧ ⟦<Self::Archived as Portable>⟧ self.now S.Keys serializer
-                result
-        }
+        ensures outcome { Serializes ⟦<Self as Archive>⟧ ⟦<Self::Archived as Portable>⟧ self.now S.Keys serializer
+            result }
         ensures too_long { 4294967295 < length self.now.items.items → AtOnce result LengthTooLarge S.Keys serializer }
     {
         let pos = serialize_slice(self.items.as_slice(), serializer)?;
@@ -183,10 +179,8 @@ impl Archive for BoxStr {
     ) -> Result<(), Error>
         requires zeroed { ZeroedPlace 8 place.pos place.bytes.now }
         requires same_value { length (string_bytes self.now.text) ≤ 4294967295 }
-        ensures outcome {
-            ResolvesAs ⟦<Self::Archived as Portable>⟧ place
-                (⟦<Self as Archive>⟧.flat self.now resolver) result
-        }
+        ensures outcome { ResolvesAs ⟦<Self::Archived as Portable>⟧ place
+            (⟦<Self as Archive>⟧.flat self.now resolver) result }
         ensures written { OnOk result (PointsTo place true resolver (length (string_bytes self.now.text))) }
         ensures cause { IfErr result (λ e. IsTooFar e (distance place.entry.pos resolver)) }
     {
@@ -205,10 +199,8 @@ impl<S: Writer + ResolverAlloc> Serialize<S> for BoxStr {
     /// lies above 4,294,967,295, and else as the writer does.
     #[tactic(auto, using(crate::proofs::Planning::Owners::serialized_box, crate::proofs::Planning::Owners::box_refused, crate::proofs::Planning::Owners::far_box_refused))]
     fn serialize(&self, serializer: &mut S) -> Result<BoxResolver, Error>
-        ensures outcome {
-            Serializes ⟦<Self as Archive>⟧ ⟦<Self::Archived as Portable>⟧ self.now S.Keys serializer
-                result
-        }
+        ensures outcome { Serializes ⟦<Self as Archive>⟧ ⟦<Self::Archived as Portable>⟧ self.now S.Keys serializer
+            result }
         ensures too_long { 4294967295 < length (string_bytes self.now.text) → AtOnce result LengthTooLarge S.Keys serializer }
     {
         let pos = Text {

@@ -65,10 +65,8 @@ impl<T: PortablePointee> ArchivedBox<T> {
         value: &U,
         serializer: &mut S,
     ) -> Result<BoxResolver, Error>
-        ensures {
-            SerializesAs ⟦<Self as Portable>⟧ (U.keys value.now) (box (U.meaning value.now))
-                (box_flat T.pointee (U.source_length value.now)) (λ _. ⊤) S.Keys serializer result
-        }
+        ensures { SerializesAs ⟦<Self as Portable>⟧ (U.keys value.now) (box (U.meaning value.now))
+            (box_flat T.pointee (U.source_length value.now)) (λ _. ⊤) S.Keys serializer result }
     {
         let pos = value.serialize_unsized(serializer)?;
         let pos = position_of(pos)?;
@@ -87,9 +85,7 @@ impl<T: PortablePointee> ArchivedBox<T> {
     ) -> Result<(), Error>
         requires sized { length place.bytes.now ≡ pointer_size T.pointee }
         requires plain { has_length T.pointee ≡ false → count ≡ 0 }
-        ensures outcome {
-            ResolvesAs ⟦<Self as Portable>⟧ place (box_flat T.pointee count resolver) result
-        }
+        ensures outcome { ResolvesAs ⟦<Self as Portable>⟧ place (box_flat T.pointee count resolver) result }
         ensures written { OnOk result (PointsTo place (has_length T.pointee) resolver count) }
         ensures fits { OnOk result (FitsSigned w32 (distance place.entry.pos resolver)) }
         ensures cause { IfErr result (IsTooFarFrom place resolver) }
@@ -108,11 +104,9 @@ impl<T: PortablePointee> ArchivedBox<T> {
     where
         T::ArchivedMetadata: Metadata,
         requires sized { length place.bytes.now ≡ pointer_size T.pointee }
-        ensures resolved {
-            OnOk result
-                (Resolves T.definitions place.entry.pos place.exit.0.now (boxed T.pointee)
-                (box_flat T.pointee (U.source_length value.now) resolver))
-        }
+        ensures resolved { OnOk result
+            (Resolves T.definitions place.entry.pos place.exit.0.now (boxed T.pointee)
+            (box_flat T.pointee (U.source_length value.now) resolver)) }
         ensures written { OnOk result (PointsTo place (has_length T.pointee) resolver (U.source_length value.now)) }
         ensures refused { IfErr result (IsNoPointer place resolver (U.source_length value.now)) }
     {
@@ -147,10 +141,8 @@ impl<T: Archive> Archive for Box<T> {
     ) -> Result<(), Error>
         requires zeroed { ZeroedPlace (pointer_size T.Archived.pointee) place.pos place.bytes.now }
         requires same_value { ⊤ }
-        ensures outcome {
-            ResolvesAs ⟦<Self::Archived as Portable>⟧ place
-                (⟦<Self as Archive>⟧.flat self.now resolver) result
-        }
+        ensures outcome { ResolvesAs ⟦<Self::Archived as Portable>⟧ place
+            (⟦<Self as Archive>⟧.flat self.now resolver) result }
         ensures written { OnOk result (PointsTo place (has_length T.Archived.pointee) resolver 0) }
         ensures cause { IfErr result (λ e. IsTooFar e (distance place.entry.pos resolver)) }
     {
@@ -164,8 +156,7 @@ impl<S: Writer + ResolverAlloc, T: Serialize<S>> Serialize<S> for Box<T> {
     /// `PositionTooLarge` if it lies above 4,294,967,295, with `LayoutTooLarge` if it would end
     /// above `usize::MAX`, as the value does, and as the trait says it.
     #[tactic(auto, using(crate::proofs::Planning::Owners::serialized_boxed_one, crate::proofs::Planning::Owners::boxed_one_refused, crate::proofs::Planning::Owners::far_boxed_one_refused))]
-    fn serialize(&self, serializer: &mut S) -> Result<BoxResolver, Error>
-    {
+    fn serialize(&self, serializer: &mut S) -> Result<BoxResolver, Error> {
         let pos = serialize_one(&**self, serializer)?;
         let pos = position_of(pos)?;
         Ok(BoxResolver { pos })

@@ -25,10 +25,8 @@ fn resolve_part<V: Archive>(
     requires ends { pos + length bytes.old < 2 ^ 64 }
     requires zeroed { ZeroedPart begin V.Archived.layout.size bytes.old }
     requires same_value { V.belongs value.now resolver }
-    ensures {
-        ResolvesPart V.Archived.Portable (V.flat value.now resolver) begin
-            pos bytes.old bytes.new result
-    }
+    ensures { ResolvesPart V.Archived.Portable (V.flat value.now resolver) begin
+        pos bytes.old bytes.new result }
 {
     let end = begin + V::Archived::size();
     resolve_into(value, resolver, pos + begin, &mut bytes[begin..end])
@@ -52,10 +50,8 @@ impl<'a, T: Record> Place<'a, T> {
         requires same_value { V.belongs value.now resolver }
         ensures same_reference { self.new.bytes.ghost_name ≡ self.old.bytes.ghost_name }
         ensures position { self.new.pos ≡ self.old.pos }
-        ensures outcome {
-            ResolvesPart V.Archived.Portable (V.flat value.now resolver) (T.Parts.begin 0 i)
-                self.old.pos self.old.bytes.now self.new.bytes.now result
-        }
+        ensures outcome { ResolvesPart V.Archived.Portable (V.flat value.now resolver) (T.Parts.begin 0 i)
+            self.old.pos self.old.bytes.now self.new.bytes.now result }
     {
         resolve_part(value, resolver, self.pos, T::offset(i), self.bytes)
     }
@@ -78,10 +74,8 @@ impl<'a, T: Portable, const N: usize> Place<'a, [T; N]> {
         requires same_value { V.belongs value.now resolver }
         ensures same_reference { self.new.bytes.ghost_name ≡ self.old.bytes.ghost_name }
         ensures position { self.new.pos ≡ self.old.pos }
-        ensures outcome {
-            ResolvesPart T.Portable (V.flat value.now resolver) (index * T.layout.size)
-                self.old.pos self.old.bytes.now self.new.bytes.now result
-        }
+        ensures outcome { ResolvesPart T.Portable (V.flat value.now resolver) (index * T.layout.size)
+            self.old.pos self.old.bytes.now self.new.bytes.now result }
     {
         resolve_part(value, resolver, self.pos, index * T::size(), self.bytes)
     }
@@ -106,10 +100,8 @@ impl<'a, T: Choice> Place<'a, T> {
         requires same_value { V.belongs value.now resolver }
         ensures same_reference { self.new.bytes.ghost_name ≡ self.old.bytes.ghost_name }
         ensures position { self.new.pos ≡ self.old.pos }
-        ensures outcome {
-            ResolvesPart V.Archived.Portable (V.flat value.now resolver) (T.Variants.begin tag i)
-                self.old.pos self.old.bytes.now self.new.bytes.now result
-        }
+        ensures outcome { ResolvesPart V.Archived.Portable (V.flat value.now resolver) (T.Variants.begin tag i)
+            self.old.pos self.old.bytes.now self.new.bytes.now result }
     {
         resolve_part(value, resolver, self.pos, T::offset(tag, i), self.bytes)
     }

@@ -148,10 +148,8 @@ impl<L: Leaf> Archive for L {
     fn resolve(&self, _resolver: (), place: Place<'_, L::LeafFormat>) -> Result<(), Error>
         requires zeroed { ZeroedPlace (L.LeafFormat.layout.size) place.pos place.bytes.now }
         requires same_value { ⊤ }
-        ensures outcome {
-            ResolvesAs ⟦<Self::Archived as Portable>⟧ place
-                (⟦<Self as Archive>⟧.flat self.now _resolver) result
-        }
+        ensures outcome { ResolvesAs ⟦<Self::Archived as Portable>⟧ place
+            (⟦<Self as Archive>⟧.flat self.now _resolver) result }
         ensures written { place.exit.0.now ≡ L.leaf_bytes self.now }
         ensures succeeds { IsOk result }
     {
@@ -179,10 +177,8 @@ impl<L: Leaf, S: Writer + Keys> Serialize<S> for L {
     #[tactic(auto, using(crate::proofs::Planning::Causes::goes_nowhere))]
     #[inline(always)]
     fn serialize(&self, _serializer: &mut S) -> Result<(), Error>
-        ensures outcome {
-            Serializes ⟦<Self as Archive>⟧ ⟦<Self::Archived as Portable>⟧ self.now S.Keys
-                _serializer result
-        }
+        ensures outcome { Serializes ⟦<Self as Archive>⟧ ⟦<Self::Archived as Portable>⟧ self.now S.Keys
+            _serializer result }
         ensures unchanged { S.state _serializer.new ≡ S.state _serializer.old }
         ensures succeeds { IsOk result }
     {

@@ -56,10 +56,8 @@ impl Archive for usize {
     fn resolve(&self, _resolver: (), place: Place<'_, ArchivedUsize>) -> Result<(), Error>
         requires zeroed { ZeroedPlace 4 place.pos place.bytes.now }
         requires same_value { self.now < 2 ^ 32 }
-        ensures outcome {
-            ResolvesAs ⟦<Self::Archived as Portable>⟧ place
-                (⟦<Self as Archive>⟧.flat self.now _resolver) result
-        }
+        ensures outcome { ResolvesAs ⟦<Self::Archived as Portable>⟧ place
+            (⟦<Self as Archive>⟧.flat self.now _resolver) result }
         ensures written { place.exit.0.now ≡ little_bytes 4 self.now }
         ensures succeeds { IsOk result }
     {
@@ -74,10 +72,8 @@ impl<S: Writer + Keys> Serialize<S> for usize {
     /// without a sign. rkyv 0.8.18 truncates it.
     #[tactic(auto, using(crate::proofs::Planning::Causes::goes_nowhere, crate::proofs::Planning::Planned::usize_refused))]
     fn serialize(&self, _serializer: &mut S) -> Result<(), Error>
-        ensures outcome {
-            Serializes ⟦<Self as Archive>⟧ ⟦<Self::Archived as Portable>⟧ self.now S.Keys
-                _serializer result
-        }
+        ensures outcome { Serializes ⟦<Self as Archive>⟧ ⟦<Self::Archived as Portable>⟧ self.now S.Keys
+            _serializer result }
         ensures unchanged { S.state _serializer.new ≡ S.state _serializer.old }
         ensures cause { IfErr result (λ e. (e ≡ NumberTooLarge) × (self.now < 2 ^ 32 → ⊥)) }
     {
@@ -153,10 +149,8 @@ impl Archive for isize {
     fn resolve(&self, _resolver: (), place: Place<'_, ArchivedIsize>) -> Result<(), Error>
         requires zeroed { ZeroedPlace 4 place.pos place.bytes.now }
         requires same_value { FitsSigned w32 self.now }
-        ensures outcome {
-            ResolvesAs ⟦<Self::Archived as Portable>⟧ place
-                (⟦<Self as Archive>⟧.flat self.now _resolver) result
-        }
+        ensures outcome { ResolvesAs ⟦<Self::Archived as Portable>⟧ place
+            (⟦<Self as Archive>⟧.flat self.now _resolver) result }
         ensures written { place.exit.0.now ≡ little_bytes 4 (cast_unsigned w32 self.now) }
         ensures succeeds { IsOk result }
     {
@@ -171,10 +165,8 @@ impl<S: Writer + Keys> Serialize<S> for isize {
     /// sign. rkyv 0.8.18 truncates it.
     #[tactic(auto, using(crate::proofs::Planning::Causes::goes_nowhere, crate::proofs::Planning::Planned::isize_refused))]
     fn serialize(&self, _serializer: &mut S) -> Result<(), Error>
-        ensures outcome {
-            Serializes ⟦<Self as Archive>⟧ ⟦<Self::Archived as Portable>⟧ self.now S.Keys
-                _serializer result
-        }
+        ensures outcome { Serializes ⟦<Self as Archive>⟧ ⟦<Self::Archived as Portable>⟧ self.now S.Keys
+            _serializer result }
         ensures unchanged { S.state _serializer.new ≡ S.state _serializer.old }
         ensures cause { IfErr result (λ e. (e ≡ NumberTooLarge) × (FitsSigned w32 self.now → ⊥)) }
     {

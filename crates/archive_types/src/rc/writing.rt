@@ -67,13 +67,11 @@ pub fn write_shared<F: Flavor, U: SerializeUnsized<S>, S: Sharing + Writer>(
     value: &U,
     writer: &mut S,
 ) -> Result<usize, Error>
-    ensures outcome {
-        SerializesTo U.Archived.definitions (shared (flavor_of F.Flavor) U.Archived.pointee)
-            (keys_under F.Flavor U.Archived.ArchivePointee U.ArchiveUnsized key value.now)
-            (shared_value key)
-            (shared_flat (flavor_of F.Flavor) U.Archived.pointee (U.source_length value.now))
-            (λ _. ⊤) (S.state writer.old) (S.state writer.new) result
-    }
+    ensures outcome { SerializesTo U.Archived.definitions (shared (flavor_of F.Flavor) U.Archived.pointee)
+        (keys_under F.Flavor U.Archived.ArchivePointee U.ArchiveUnsized key value.now)
+        (shared_value key)
+        (shared_flat (flavor_of F.Flavor) U.Archived.pointee (U.source_length value.now))
+        (λ _. ⊤) (S.state writer.old) (S.state writer.new) result }
     ensures pending { AnswersPending key result S.Keys writer }
 {
     let pos = writer.serialize_shared(key, value)?;
@@ -134,13 +132,11 @@ where
         value: &U,
         serializer: &mut S,
     ) -> Result<RcResolver, Error>
-        ensures outcome {
-            SerializesAs ⟦<Self as Portable>⟧
-                (keys_under F.Flavor T.ArchivePointee U.ArchiveUnsized key value.now)
-                (shared_value key)
-                (shared_flat (flavor_of F.Flavor) T.pointee (U.source_length value.now))
-                (λ _. U.source_length value.now ≤ 4294967295) S.Keys serializer result
-        }
+        ensures outcome { SerializesAs ⟦<Self as Portable>⟧
+            (keys_under F.Flavor T.ArchivePointee U.ArchiveUnsized key value.now)
+            (shared_value key)
+            (shared_flat (flavor_of F.Flavor) T.pointee (U.source_length value.now))
+            (λ _. U.source_length value.now ≤ 4294967295) S.Keys serializer result }
         ensures pending { AnswersPending key result S.Keys serializer }
     {
         let pos = write_shared::<F, U, S>(key, value, serializer)?;
@@ -165,10 +161,8 @@ where
         requires sized { length place.bytes.now ≡ pointer_size T.pointee }
         requires one_value { has_length T.pointee ≡ false → U.source_length value.now ≡ 0 }
         requires held { U.source_length value.now ≤ 4294967295 }
-        ensures outcome {
-            ResolvesAs ⟦<Self as Portable>⟧ place
-                (shared_flat (flavor_of F.Flavor) T.pointee (U.source_length value.now) resolver) result
-        }
+        ensures outcome { ResolvesAs ⟦<Self as Portable>⟧ place
+            (shared_flat (flavor_of F.Flavor) T.pointee (U.source_length value.now) resolver) result }
         ensures cause { IfErr result (IsTooFarFrom place resolver) }
     {
         let Place { bytes, pos, .. } = place;
@@ -202,14 +196,12 @@ where
         value: Option<&U>,
         serializer: &mut S,
     ) -> Result<RcWeakResolver, Error>
-        ensures outcome {
-            SerializesAs ⟦<Self as Portable>⟧
-                (weak_keys (λ u. keys_under F.Flavor T.ArchivePointee U.ArchiveUnsized key u.now) value.entry)
-                (weak_value (λ u. shared_value key) value.entry)
-                (weak_flat (flavor_of F.Flavor) T.pointee (weak_count (λ u. U.source_length u.now) value.entry))
-                (λ _. weak_count (λ u. U.source_length u.now) value.entry ≤ 4294967295) S.Keys
-                serializer result
-        }
+        ensures outcome { SerializesAs ⟦<Self as Portable>⟧
+            (weak_keys (λ u. keys_under F.Flavor T.ArchivePointee U.ArchiveUnsized key u.now) value.entry)
+            (weak_value (λ u. shared_value key) value.entry)
+            (weak_flat (flavor_of F.Flavor) T.pointee (weak_count (λ u. U.source_length u.now) value.entry))
+            (λ _. weak_count (λ u. U.source_length u.now) value.entry ≤ 4294967295) S.Keys
+            serializer result }
         ensures null { value.entry ≡ None → IsOk result × (S.state serializer.new ≡ S.state serializer.old) }
     {
         let Some(value) = value else {
@@ -234,11 +226,9 @@ where
         requires sized { length place.bytes.now ≡ pointer_size T.pointee }
         requires one_value { has_length T.pointee ≡ false → weak_count (λ u. U.source_length u.now) value ≡ 0 }
         requires held { weak_count (λ u. U.source_length u.now) value ≤ 4294967295 }
-        ensures outcome {
-            ResolvesAs ⟦<Self as Portable>⟧ place
-                (weak_flat (flavor_of F.Flavor) T.pointee
-                (weak_count (λ u. U.source_length u.now) value.entry) resolver) result
-        }
+        ensures outcome { ResolvesAs ⟦<Self as Portable>⟧ place
+            (weak_flat (flavor_of F.Flavor) T.pointee
+            (weak_count (λ u. U.source_length u.now) value.entry) resolver) result }
         ensures null { resolver ≡ None → IsOk result × (place.exit.0.now ≡ owner_bytes (has_length T.pointee) (whole 1) 0) }
     {
         let Place { bytes, pos, .. } = place;

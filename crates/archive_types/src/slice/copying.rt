@@ -261,10 +261,8 @@ fn copy_together<S: Writer + Keys, T: Copied>(
     requires owns_nothing { (v : T) → OwnsNothingAs T.CopiedAs.Portable (T.copied_keys v) (T.copied_meaning v) }
     requires joined { 0 < together }
     requires small { together * size ≤ 1024 }
-    ensures outcome {
-        WritesElements T.copied_keys T.copied_meaning T.CopiedAs.Portable values.now S.Keys
-            serializer result
-    }
+    ensures outcome { WritesElements T.copied_keys T.copied_meaning T.CopiedAs.Portable values.now S.Keys
+        serializer result }
     ensures copied { OnOk result (AddedAligned T.CopiedAs.layout (each_bytes T.copied_bytes values.now) S.Keys serializer) }
     ensures read { OnOk result (AllCopied T.CopiedAs.Portable size T.copied_meaning T.copied_bytes values.now) }
     ensures position { IfOk result (λ p. p ≡ copies_from T.CopiedAs.layout (S.position serializer.old)) }
@@ -289,9 +287,7 @@ pub fn copy_slice<S: Writer + Keys, T: CopiedSource>(
     values: &[T],
     serializer: &mut S,
 ) -> Result<usize, Error>
-    ensures outcome {
-        WritesElements T.keys T.meaning T.Archived.Portable values.now S.Keys serializer result
-    }
+    ensures outcome { WritesElements T.keys T.meaning T.Archived.Portable values.now S.Keys serializer result }
     ensures copied { OnOk result (AddedAligned T.Archived.layout (each_bytes T.copied_bytes values.now) S.Keys serializer) }
     ensures position { IfOk result (λ p. p ≡ copies_from T.Archived.layout (S.position serializer.old)) }
     ensures cause { IfErr result (CopiesRefused S.position S.Keys serializer T.Archived.layout (length values.now)) }
@@ -312,10 +308,8 @@ pub fn copy_groups<S: Writer + Keys, T: Copied>(
     together: usize,
     serializer: &mut S,
 ) -> Result<Option<usize>, Error>
-    ensures {
-        CopiesElements T.copied_keys T.copied_meaning T.CopiedAs.Portable values.now S.Keys
-            serializer result
-    }
+    ensures { CopiesElements T.copied_keys T.copied_meaning T.CopiedAs.Portable values.now S.Keys
+        serializer result }
 {
     let size = T::copied_size();
     let together = together.max(1);

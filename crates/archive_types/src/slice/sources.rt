@@ -37,21 +37,17 @@ pub(crate) fn serialize_each<A: Allocator + Drop, S: Writer, T: Serialize<S>>(
     values: &[T],
     serializer: &mut S,
 ) -> Result<Vec<T::Resolver, A>, Error>
-    ensures serialized {
-        IfOk result
-            (λ rs. SerializedRun T.Archived.definitions T.Archived.shape (length values.now)
-            (each_keys T.keys values.now) (each_meaning T.meaning values.now)
-            (each_flat T.flat values.now rs.items) (S.state serializer.old)
-            (S.state serializer.new))
-    }
+    ensures serialized { IfOk result
+        (λ rs. SerializedRun T.Archived.definitions T.Archived.shape (length values.now)
+        (each_keys T.keys values.now) (each_meaning T.meaning values.now)
+        (each_flat T.flat values.now rs.items) (S.state serializer.old)
+        (S.state serializer.new)) }
     ensures same_values { IfOk result (λ rs. EachBelongs T.belongs values.now rs.items) }
     ensures goes_on { GoesOn (S.state serializer.old) (S.state serializer.new) }
-    ensures refused {
-        IfErr result
-            (IsRunRefused T.Archived.definitions T.Archived.shape (length values.now)
-            (each_keys T.keys values.now) (each_meaning T.meaning values.now)
-            (S.state serializer.old) (S.state serializer.new))
-    }
+    ensures refused { IfErr result
+        (IsRunRefused T.Archived.definitions T.Archived.shape (length values.now)
+        (each_keys T.keys values.now) (each_meaning T.meaning values.now)
+        (S.state serializer.old) (S.state serializer.new)) }
 {
     let mut resolvers = Vec::with_capacity(alloc, values.len())?;
     for value in values {
@@ -71,14 +67,10 @@ pub(crate) fn serialize_in_turn<S: Writer + ResolverAlloc, T: Serialize<S>>(
     values: &[T],
     serializer: &mut S,
 ) -> Result<usize, Error>
-    ensures outcome {
-        WritesElements T.keys T.meaning T.Archived.Portable values.now S.Keys serializer result
-    }
-    ensures as_array {
-        WritesRegion T.Archived.definitions (one (array (length values.now) T.Archived.shape)) 0
-            (each_keys T.keys values.now) (list (each_meaning T.meaning values.now))
-            (S.state serializer.old) (S.state serializer.new) result
-    }
+    ensures outcome { WritesElements T.keys T.meaning T.Archived.Portable values.now S.Keys serializer result }
+    ensures as_array { WritesRegion T.Archived.definitions (one (array (length values.now) T.Archived.shape)) 0
+        (each_keys T.keys values.now) (list (each_meaning T.meaning values.now))
+        (S.state serializer.old) (S.state serializer.new) result }
 {
     let alloc = serializer.resolver_alloc();
     let resolvers = serialize_each(alloc, values, serializer)?;
@@ -93,9 +85,7 @@ pub(crate) fn serialize_slice<S: Writer + ResolverAlloc, T: Serialize<S>>(
     values: &[T],
     serializer: &mut S,
 ) -> Result<usize, Error>
-    ensures outcome {
-        WritesElements T.keys T.meaning T.Archived.Portable values.now S.Keys serializer result
-    }
+    ensures outcome { WritesElements T.keys T.meaning T.Archived.Portable values.now S.Keys serializer result }
     ensures held { OnOk result (length values.now ≤ 4294967295) }
     ensures too_long { 4294967295 < length values.now → AtOnce result LengthTooLarge S.Keys serializer }
 {
@@ -142,10 +132,8 @@ impl<'a, S: Writer + ResolverAlloc, T: Serialize<S>> SerializeUnsized<S> for Sli
     /// `usize::MAX`, as the elements do, and as the trait says it.
     #[inline(always)]
     fn serialize_unsized(&self, serializer: &mut S) -> Result<usize, Error>
-        ensures outcome {
-            WritesUnsized ⟦<Self as ArchiveUnsized>⟧ ⟦<Self::Archived as ArchivePointee>⟧ self.now
-                S.Keys serializer result
-        }
+        ensures outcome { WritesUnsized ⟦<Self as ArchiveUnsized>⟧ ⟦<Self::Archived as ArchivePointee>⟧ self.now
+            S.Keys serializer result }
         ensures held { OnOk result (length self.now.slice.now ≤ 4294967295) }
         ensures too_long { 4294967295 < length self.now.slice.now → AtOnce result LengthTooLarge S.Keys serializer }
     {

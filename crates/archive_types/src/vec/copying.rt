@@ -35,12 +35,10 @@ impl<T: Portable> ArchivedVec<T> {
         value: &[U],
         serializer: &mut S,
     ) -> Result<VecResolver, Error>
-        ensures serialized {
-            IfOk result
-                (λ r. Serialized T.definitions (vec_shape T.shape) (each_keys U.keys value.now)
-                (list (each_meaning U.meaning value.now)) (vec_flat T.shape (length value.now) r)
-                (S.state serializer.old) (S.state serializer.new))
-        }
+        ensures serialized { IfOk result
+            (λ r. Serialized T.definitions (vec_shape T.shape) (each_keys U.keys value.now)
+            (list (each_meaning U.meaning value.now)) (vec_flat T.shape (length value.now) r)
+            (S.state serializer.old) (S.state serializer.new)) }
         ensures copied { OnOk result (AddedAligned T.layout (each_bytes U.copied_bytes value.now) S.Keys serializer) }
         ensures position { IfOk result (λ r. r ≡ copies_from T.layout (S.position serializer.old)) }
         ensures held { OnOk result (length value.now ≤ 4294967295) }

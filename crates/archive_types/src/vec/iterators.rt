@@ -48,10 +48,8 @@ impl<T: Portable> ArchivedVec<T> {
     >(iter: I, serializer: &mut S) -> Result<VecResolver, Error>
         requires can { I.can_next iter }
         requires ends { IsFinite (I.remaining iter) }
-        ensures {
-            SerializesItems (Drains I.next_gives iter) U.keys U.meaning T.Portable S.Keys serializer
-                result
-        }
+        ensures { SerializesItems (Drains I.next_gives iter) U.keys U.meaning T.Portable S.Keys serializer
+            result }
     {
         let alloc = serializer.resolver_alloc();
         let Ok(items) = iter.collect::<Vec<U, S::Alloc>>(alloc) else {

@@ -73,11 +73,9 @@ impl<T: Portable> ArchivedVec<T> {
         value: &[U],
         serializer: &mut S,
     ) -> Result<VecResolver, Error>
-        ensures outcome {
-            SerializesAs ⟦<Self as Portable>⟧ (each_keys U.keys value.now)
-                (list (each_meaning U.meaning value.now)) (vec_flat T.shape (length value.now))
-                (λ _. length value.now ≤ 4294967295) S.Keys serializer result
-        }
+        ensures outcome { SerializesAs ⟦<Self as Portable>⟧ (each_keys U.keys value.now)
+            (list (each_meaning U.meaning value.now)) (vec_flat T.shape (length value.now))
+            (λ _. length value.now ≤ 4294967295) S.Keys serializer result }
         ensures too_long { 4294967295 < length value.now → AtOnce result LengthTooLarge S.Keys serializer }
     {
         let pos = serialize_slice(value, serializer)?;
@@ -98,9 +96,7 @@ impl<T: Portable> ArchivedVec<T> {
     ) -> Result<(), Error>
         requires sized { length place.bytes.now ≡ 8 }
         requires held { len ≤ 4294967295 }
-        ensures outcome {
-            ResolvesAs ⟦<Self as Portable>⟧ place (vec_flat T.shape len resolver) result
-        }
+        ensures outcome { ResolvesAs ⟦<Self as Portable>⟧ place (vec_flat T.shape len resolver) result }
         ensures written { OnOk result (PointsTo place true resolver len) }
         ensures fits { OnOk result (FitsSigned w32 (distance place.entry.pos resolver)) }
         ensures cause { IfErr result (IsTooFarFrom place resolver) }
@@ -118,10 +114,8 @@ impl<T: Portable> ArchivedVec<T> {
     ) -> Result<(), Error>
         requires sized { length place.bytes.now ≡ 8 }
         requires held { length value.now ≤ 4294967295 }
-        ensures outcome {
-            ResolvesAs ⟦<Self as Portable>⟧ place (vec_flat T.shape (length value.now) resolver)
-                result
-        }
+        ensures outcome { ResolvesAs ⟦<Self as Portable>⟧ place (vec_flat T.shape (length value.now) resolver)
+            result }
         ensures written { OnOk result (PointsTo place true resolver (length value.now)) }
         ensures fits { OnOk result (FitsSigned w32 (distance place.entry.pos resolver)) }
         ensures cause { IfErr result (IsTooFarFrom place resolver) }
@@ -157,10 +151,8 @@ impl<T: Archive> Archive for Vec<T> {
     ) -> Result<(), Error>
         requires zeroed { ZeroedPlace 8 place.pos place.bytes.now }
         requires same_value { length self.now.items ≤ 4294967295 }
-        ensures outcome {
-            ResolvesAs ⟦<Self::Archived as Portable>⟧ place
-                (⟦<Self as Archive>⟧.flat self.now resolver) result
-        }
+        ensures outcome { ResolvesAs ⟦<Self::Archived as Portable>⟧ place
+            (⟦<Self as Archive>⟧.flat self.now resolver) result }
         ensures written { OnOk result (PointsTo place true resolver (length self.now.items)) }
         ensures cause { IfErr result (λ e. IsTooFar e (distance place.entry.pos resolver)) }
     {
@@ -173,10 +165,8 @@ impl<S: Writer + ResolverAlloc, T: Serialize<S>> Serialize<S> for Vec<T> {
     /// Writes the elements, as `ArchivedVec::serialize_from_slice` does, with its errors.
     #[inline(always)]
     fn serialize(&self, serializer: &mut S) -> Result<VecResolver, Error>
-        ensures outcome {
-            Serializes ⟦<Self as Archive>⟧ ⟦<Self::Archived as Portable>⟧ self.now S.Keys serializer
-                result
-        }
+        ensures outcome { Serializes ⟦<Self as Archive>⟧ ⟦<Self::Archived as Portable>⟧ self.now S.Keys serializer
+            result }
         ensures too_long { 4294967295 < length self.now.items → AtOnce result LengthTooLarge S.Keys serializer }
     {
         ArchivedVec::<T::Archived>::serialize_from_slice(self.as_slice(), serializer)

@@ -57,10 +57,8 @@ impl<T: Archive> Archive for WeakShared<T> {
     ) -> Result<(), Error>
         requires zeroed { ZeroedPlace (pointer_size T.Archived.pointee) place.pos place.bytes.now }
         requires same_value { ⊤ }
-        ensures {
-            ResolvesAs ⟦<Self::Archived as Portable>⟧ place
-                (⟦<Self as Archive>⟧.flat self.now resolver) result
-        }
+        ensures { ResolvesAs ⟦<Self::Archived as Portable>⟧ place
+            (⟦<Self as Archive>⟧.flat self.now resolver) result }
     {
         let Place { bytes, pos, .. } = place;
         let Some(resolver) = resolver else {

@@ -7,8 +7,8 @@ use Rattle.archive_types.proofs.record.resolve_record.Goals as goal
 pub returns : goal.returns
 returns g c = record {
   resolved = on_ok c.resolve_parts.result
-    (resolves_record _ _ _ _ g.met.X.Record.has_parts _ _ g.X.Portable.layout _ g.met.X.Portable.has_layout (c.resolve_parts.ensures.same_length ∙ c.requires.zeroed.sized))
-    c.resolve_parts.ensures.resolved;
+      (resolves_record _ _ _ _ g.met.X.Record.has_parts _ _ g.X.Portable.layout _ g.met.X.Portable.has_layout (c.resolve_parts.ensures.same_length ∙ c.requires.zeroed.sized))
+      c.resolve_parts.ensures.resolved;
   refused = err_from c.resolve_parts.result c.resolve_parts.ensures.refused (λ e h. record_hinders _ _ _ _ g.met.X.Record.has_parts _ _ e h);
   same_length = search rules;
 }

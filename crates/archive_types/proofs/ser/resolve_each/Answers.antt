@@ -10,8 +10,8 @@ pub returns-in-Err : goal.returns-in-Err
 returns-in-Err g c = record {
   put = search rules;
   refused = rw (c.by_words.ensures)
-    (completes_broken _ _ _ _ _ _ _ _ _ _ _ _ _ c.in-Some-split_first.value.now c.in-Some.resolver _ _ c.in-Some-split_first.ensures.cases.0 c.in-Some.ensures.steps.0 c.loop-resolver.invariant.completes
-    c.resolve_region.ensures.outcome.goes_on c.in-Err.ensures.outcome.refused);
+      (completes_broken _ _ _ _ _ _ _ _ _ _ _ _ _ c.in-Some-split_first.value.now c.in-Some.resolver _ _ c.in-Some-split_first.ensures.cases.0 c.in-Some.ensures.steps.0 c.loop-resolver.invariant.completes
+      c.resolve_region.ensures.outcome.goes_on c.in-Err.ensures.outcome.refused);
   goes_on = goes_both _ _ _ c.loop-resolver.invariant.completes.goes c.resolve_region.ensures.outcome.goes_on;
   keys = search rules;
 }

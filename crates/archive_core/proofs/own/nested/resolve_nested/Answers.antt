@@ -7,7 +7,7 @@ use Rattle.archive_core.proofs.own.nested.resolve_nested.Goals as goal
 pub returns-in_default : goal.returns-in_default
 returns-in_default g c = record {
   resolved =
-    empty_resolved _ _ _ _ _ g.met.X.Choice.has_variants c.requires.is_named _ g.met.X.Portable.has_layout c.requires.eight _ _ c.requires.tag _ c.in_default.is _ c.requires.zeroed;
+      empty_resolved _ _ _ _ _ g.met.X.Choice.has_variants c.requires.is_named _ g.met.X.Portable.has_layout c.requires.eight _ _ c.requires.tag _ c.in_default.is _ c.requires.zeroed;
   refused = search rules;
   same_length = search rules;
 }
@@ -15,9 +15,9 @@ returns-in_default g c = record {
 pub returns : goal.returns
 returns g c = record {
   resolved = on_ok c.resolve_inner.result
-    (box_resolved _ _ _ _ _ g.met.X.Choice.has_variants c.requires.is_named _ g.met.X.Portable.has_layout c.requires.eight _ _ c.requires.tag _ _ c.in-Some.is _ (c.resolve_inner.ensures.same_length ∙ c.requires.zeroed.sized))
-    c.resolve_inner.ensures.held;
+      (box_resolved _ _ _ _ _ g.met.X.Choice.has_variants c.requires.is_named _ g.met.X.Portable.has_layout c.requires.eight _ _ c.requires.tag _ _ c.in-Some.is _ (c.resolve_inner.ensures.same_length ∙ c.requires.zeroed.sized))
+      c.resolve_inner.ensures.held;
   refused = err_from c.resolve_inner.result c.resolve_inner.ensures.refused
-    (λ e h. box_hindered _ _ _ _ _ g.met.X.Choice.has_variants c.requires.is_named _ g.met.X.Portable.has_layout c.requires.eight _ _ c.requires.tag _ _ c.in-Some.is e h);
+      (λ e h. box_hindered _ _ _ _ _ g.met.X.Choice.has_variants c.requires.is_named _ g.met.X.Portable.has_layout c.requires.eight _ _ c.requires.tag _ _ c.in-Some.is e h);
   same_length = search rules;
 }

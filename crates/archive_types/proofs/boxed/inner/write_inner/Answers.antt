@@ -10,11 +10,11 @@ returns-in_err-align_for g c = record {
   put = search rules;
   goes_on = search rules;
   refused = err_by c.from_residual.result c.in_err-align_for.field-0.0 _ c.from_residual.ensures.1
-    (unpadded _ _ _ _ _ _ _ _ _ _ g.met.T.Archived.Portable.is_align g.met.T.Archived.Portable.has_layout (g.met.S.Writer.position_law _)
-    (goes_refused _ _ c.in_err-align_for.ensures.kept c.in_err-align_for.ensures.room c.in_err-align_for.ensures.device c.in_err-align_for.ensures.keys) c.in_err-align_for.ensures.refusal);
+      (unpadded _ _ _ _ _ _ _ _ _ _ g.met.T.Archived.Portable.is_align g.met.T.Archived.Portable.has_layout (g.met.S.Writer.position_law _)
+      (goes_refused _ _ c.in_err-align_for.ensures.kept c.in_err-align_for.ensures.room c.in_err-align_for.ensures.device c.in_err-align_for.ensures.keys) c.in_err-align_for.ensures.refusal);
   number = err_by c.from_residual.result c.in_err-align_for.field-0.0 _ c.from_residual.ensures.1
-    (padding_number _ _ (g.met.S.Writer.position_law _)
-    (goes_refused _ _ c.in_err-align_for.ensures.kept c.in_err-align_for.ensures.room c.in_err-align_for.ensures.device c.in_err-align_for.ensures.keys) c.in_err-align_for.ensures.refusal);
+      (padding_number _ _ (g.met.S.Writer.position_law _)
+      (goes_refused _ _ c.in_err-align_for.ensures.kept c.in_err-align_for.ensures.room c.in_err-align_for.ensures.device c.in_err-align_for.ensures.keys) c.in_err-align_for.ensures.refusal);
 }
 
 pub returns-in_err-pos : goal.returns-in_err-pos
@@ -22,12 +22,12 @@ returns-in_err-pos g c = record {
   boxed = search rules;
   put = search rules;
   goes_on = goes_both _ _ _
-    (goes_written _ _ _ c.in_ok-align_for.ensures.written c.in_ok-align_for.ensures.room c.in_ok-align_for.ensures.device c.in_ok-align_for.ensures.keys) c.in_err-pos.ensures.goes_on;
+      (goes_written _ _ _ c.in_ok-align_for.ensures.written c.in_ok-align_for.ensures.room c.in_ok-align_for.ensures.device c.in_ok-align_for.ensures.keys) c.in_err-pos.ensures.goes_on;
   refused = err_by c.from_residual-in_err-pos.result c.in_err-pos.field-0.0 _ c.from_residual-in_err-pos.ensures.1
-    (unresolved _ _ _ _ _ _ _ _ _ _ g.met.T.Archived.Portable.has_layout c.in_ok-align_for.ensures.padded
-    (goes_written _ _ _ c.in_ok-align_for.ensures.written c.in_ok-align_for.ensures.room c.in_ok-align_for.ensures.device c.in_ok-align_for.ensures.keys) c.in_err-pos.ensures.goes_on c.in_err-pos.ensures.refused);
+      (unresolved _ _ _ _ _ _ _ _ _ _ g.met.T.Archived.Portable.has_layout c.in_ok-align_for.ensures.padded
+      (goes_written _ _ _ c.in_ok-align_for.ensures.written c.in_ok-align_for.ensures.room c.in_ok-align_for.ensures.device c.in_ok-align_for.ensures.keys) c.in_err-pos.ensures.goes_on c.in_err-pos.ensures.refused);
   number = err_by c.from_residual-in_err-pos.result c.in_err-pos.field-0.0 _ c.from_residual-in_err-pos.ensures.1
-    (region_number _ _ g.T.Archived.Portable.layout _ _ _ _ _ _ c.in_err-pos.ensures.refused);
+      (region_number _ _ g.T.Archived.Portable.layout _ _ _ _ _ _ c.in_err-pos.ensures.refused);
 }
 
 pub returns-in_err-pos-2 : goal.returns-in_err-pos-2
@@ -35,25 +35,25 @@ returns-in_err-pos-2 g c = record {
   boxed = search rules;
   put = search rules;
   goes_on = goes_both _ _ _
-    (goes_written _ _ _ c.in_ok-align_for.ensures.written c.in_ok-align_for.ensures.room c.in_ok-align_for.ensures.device c.in_ok-align_for.ensures.keys) c.in_ok-pos.ensures.goes_on;
+      (goes_written _ _ _ c.in_ok-align_for.ensures.written c.in_ok-align_for.ensures.room c.in_ok-align_for.ensures.device c.in_ok-align_for.ensures.keys) c.in_ok-pos.ensures.goes_on;
   refused =
-    let far : 4294967295 < c.in_ok-pos.pos = c.in_err-pos-2.ensures.refused.1 in
-    err_by c.from_residual-in_err-pos-2.result c.in_err-pos-2.field-0.0 _ c.from_residual-in_err-pos-2.ensures.1
-    (rw (c.in_err-pos-2.ensures.refused.0) (too_far_inner _ _ _ _ _ _ _ _ _ _ far c.in_ok-align_for.ensures.padded c.in_ok-pos.ensures.region (c.in_ok-pos.ensures.position ∙ g.met.S.Writer.position_law _)));
+      let far : 4294967295 < c.in_ok-pos.pos = c.in_err-pos-2.ensures.refused.1 in
+      err_by c.from_residual-in_err-pos-2.result c.in_err-pos-2.field-0.0 _ c.from_residual-in_err-pos-2.ensures.1
+      (rw (c.in_err-pos-2.ensures.refused.0) (too_far_inner _ _ _ _ _ _ _ _ _ _ far c.in_ok-align_for.ensures.padded c.in_ok-pos.ensures.region (c.in_ok-pos.ensures.position ∙ g.met.S.Writer.position_law _)));
   number = err_by c.from_residual-in_err-pos-2.result c.in_err-pos-2.field-0.0 _ c.from_residual-in_err-pos-2.ensures.1
-    (rw (c.in_err-pos-2.ensures.refused.0) (of_value of_position));
+      (rw (c.in_err-pos-2.ensures.refused.0) (of_value of_position));
 }
 
 pub returns : goal.returns
 returns g c = record {
   boxed =
-    let same : c.from_pos.result ≡ c.in_ok-pos.pos = omega (arith, c.from_pos.ensures, c.in_ok-pos-2.ensures.same) in
-    boxed_there _ _ _ _ _ _ _ _ _ _ c.in_ok-align_for.ensures.padded c.in_ok-pos.ensures.region (same ∙ c.in_ok-pos.ensures.position ∙ g.met.S.Writer.position_law _);
+      let same : c.from_pos.result ≡ c.in_ok-pos.pos = omega (arith, c.from_pos.ensures, c.in_ok-pos-2.ensures.same) in
+      boxed_there _ _ _ _ _ _ _ _ _ _ c.in_ok-align_for.ensures.padded c.in_ok-pos.ensures.region (same ∙ c.in_ok-pos.ensures.position ∙ g.met.S.Writer.position_law _);
   put =
-    let same : c.from_pos.result ≡ c.in_ok-pos.pos = omega (arith, c.from_pos.ensures, c.in_ok-pos-2.ensures.same) in
-    put_there c.in_ok-align_for.ensures.padded c.in_ok-pos.ensures.region (same ∙ c.in_ok-pos.ensures.position ∙ g.met.S.Writer.position_law _);
+      let same : c.from_pos.result ≡ c.in_ok-pos.pos = omega (arith, c.from_pos.ensures, c.in_ok-pos-2.ensures.same) in
+      put_there c.in_ok-align_for.ensures.padded c.in_ok-pos.ensures.region (same ∙ c.in_ok-pos.ensures.position ∙ g.met.S.Writer.position_law _);
   goes_on = goes_both _ _ _
-    (goes_written _ _ _ c.in_ok-align_for.ensures.written c.in_ok-align_for.ensures.room c.in_ok-align_for.ensures.device c.in_ok-align_for.ensures.keys) c.in_ok-pos.ensures.goes_on;
+      (goes_written _ _ _ c.in_ok-align_for.ensures.written c.in_ok-align_for.ensures.room c.in_ok-align_for.ensures.device c.in_ok-align_for.ensures.keys) c.in_ok-pos.ensures.goes_on;
   refused = search rules;
   number = search rules;
 }

@@ -7,29 +7,29 @@ use Rattle.archive_types.proofs.option.OptionArchive.resolve.Goals as goal
 
 pub returns-in-None : goal.returns-in-None
 returns-in-None g c = record {
-  resolved = 
-    let L = g.T.Archived.Portable.layout in
-    let is = g.met.T.Archived.Portable.is_align in
-    let some : 0 < length c.args.place.bytes.now = omega (arith, c.requires.zeroed.sized, option_holds L is, align_low_first L is) in
-    rw c.in-None.is (resolves_zeros _ _ _ refl (option_layout L) (option_has_layout _ _ L is g.met.T.Archived.Portable.has_layout) _ _ some c.requires.zeroed.sized c.requires.zeroed.zeroed);
+  resolved =
+      let L = g.T.Archived.Portable.layout in
+      let is = g.met.T.Archived.Portable.is_align in
+      let some : 0 < length c.args.place.bytes.now = omega (arith, c.requires.zeroed.sized, option_holds L is, align_low_first L is) in
+      rw c.in-None.is (resolves_zeros _ _ _ refl (option_layout L) (option_has_layout _ _ L is g.met.T.Archived.Portable.has_layout) _ _ some c.requires.zeroed.sized c.requires.zeroed.zeroed);
   refused = search rules;
   same_length = search rules;
 }
 
 pub returns : goal.returns
 returns g c = record {
-  resolved = 
-    let L = g.T.Archived.Portable.layout in
-    let is = g.met.T.Archived.Portable.is_align in
-    let layout = g.met.T.Archived.Portable.has_layout in
-    rw (c.in-Some.is, c.in-Some-resolver.is) (on_ok c.resolve_case.result
-    (resolves_case _ _ (λ s k. k) _ _ 1 _ refl L (option_layout L) layout (option_has_layout _ _ L is layout) _ L.align L.size _ _
-    (sym (up_first L.align is)) (align_low_first L is) refl (c.resolve_case.ensures.same_length ∙ c.requires.zeroed.sized))
-    c.resolve_case.ensures.held);
-  refused = 
-    let L = g.T.Archived.Portable.layout in
-    let is = g.met.T.Archived.Portable.is_align in
-    rw (c.in-Some.is, c.in-Some-resolver.is) (err_from c.resolve_case.result c.resolve_case.ensures.refused
-    (λ e h. case_hindered_at _ _ (λ s k. k) _ _ 1 _ refl L g.met.T.Archived.Portable.has_layout _ _ L.align e (sym (up_first L.align is)) h));
+  resolved =
+      let L = g.T.Archived.Portable.layout in
+      let is = g.met.T.Archived.Portable.is_align in
+      let layout = g.met.T.Archived.Portable.has_layout in
+      rw (c.in-Some.is, c.in-Some-resolver.is) (on_ok c.resolve_case.result
+      (resolves_case _ _ (λ s k. k) _ _ 1 _ refl L (option_layout L) layout (option_has_layout _ _ L is layout) _ L.align L.size _ _
+      (sym (up_first L.align is)) (align_low_first L is) refl (c.resolve_case.ensures.same_length ∙ c.requires.zeroed.sized))
+      c.resolve_case.ensures.held);
+  refused =
+      let L = g.T.Archived.Portable.layout in
+      let is = g.met.T.Archived.Portable.is_align in
+      rw (c.in-Some.is, c.in-Some-resolver.is) (err_from c.resolve_case.result c.resolve_case.ensures.refused
+      (λ e h. case_hindered_at _ _ (λ s k. k) _ _ 1 _ refl L g.met.T.Archived.Portable.has_layout _ _ L.align e (sym (up_first L.align is)) h));
   same_length = search rules;
 }

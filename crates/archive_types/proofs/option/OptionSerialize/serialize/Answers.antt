@@ -9,7 +9,7 @@ returns-in_err-serialize-in-Some g c = record {
   same_value = search rules;
   goes_on = search rules;
   refused = err_by c.from_residual.result c.in_err-serialize-in-Some.field-0.0 _ c.from_residual.ensures.1
-    (rw c.in-Some.is (case_refused _ _ (λ s k. k) _ _ 1 _ refl _ _ _ _ _ c.in_err-serialize-in-Some.ensures.refused));
+      (rw c.in-Some.is (case_refused _ _ (λ s k. k) _ _ 1 _ refl _ _ _ _ _ c.in_err-serialize-in-Some.ensures.refused));
 }
 
 pub returns-in-None : goal.returns-in-None
@@ -23,7 +23,7 @@ returns-in-None g c = record {
 pub returns-in_ok-serialize-in-Some : goal.returns-in_ok-serialize-in-Some
 returns-in_ok-serialize-in-Some g c = record {
   serialized =
-    rw c.in-Some.is (serialized_case _ _ (λ s k. k) _ _ 1 _ refl _ _ _ _ _ c.in_ok-serialize-in-Some.ensures.serialized);
+      rw c.in-Some.is (serialized_case _ _ (λ s k. k) _ _ 1 _ refl _ _ _ _ _ c.in_ok-serialize-in-Some.ensures.serialized);
   same_value = search rules;
   goes_on = search rules;
   refused = search rules;

@@ -10,13 +10,13 @@ resolve_into-requires-clause-zeroed g c =
 
 pub returns : goal.returns
 returns g c = record {
-  resolved = 
-    let n = g.V.Archived.Portable.layout.size in
-    let count : c.args.begin + c.size.result - c.args.begin ≡ n = omega (arith, c.size.ensures, c.requires.inside, c.requires.ends) in
-    rw (put_there n c.args.begin c.args.pos _ c.args.bytes.now count c.requires.inside c.resolve_into.new.bytes c.resolve_into.ensures.same_length) c.resolve_into.ensures.resolved;
+  resolved =
+      let n = g.V.Archived.Portable.layout.size in
+      let count : c.args.begin + c.size.result - c.args.begin ≡ n = omega (arith, c.size.ensures, c.requires.inside, c.requires.ends) in
+      rw (put_there n c.args.begin c.args.pos _ c.args.bytes.now count c.requires.inside c.resolve_into.new.bytes c.resolve_into.ensures.same_length) c.resolve_into.ensures.resolved;
   refused = search rules;
-  others_stay = 
-    let n = g.V.Archived.Portable.layout.size in
-    let count : c.args.begin + c.size.result - c.args.begin ≡ n = omega (arith, c.size.ensures, c.requires.inside, c.requires.ends) in
-    put_changes_only n c.args.begin c.args.pos _ c.args.bytes.now count c.requires.inside c.resolve_into.new.bytes c.resolve_into.ensures.same_length;
+  others_stay =
+      let n = g.V.Archived.Portable.layout.size in
+      let count : c.args.begin + c.size.result - c.args.begin ≡ n = omega (arith, c.size.ensures, c.requires.inside, c.requires.ends) in
+      put_changes_only n c.args.begin c.args.pos _ c.args.bytes.now count c.requires.inside c.resolve_into.new.bytes c.resolve_into.ensures.same_length;
 }

@@ -8,7 +8,7 @@ pub returns-then-saturating_sub-eq1-clause-outcome :
 returns-then-saturating_sub-eq1-clause-outcome g c = record {
   resolved = search rules;
   refused =
-    rw (c.in-Some.is, ← c.resolver.view_is) (null_hindered_at _ _ _ _ _ _ (omega (arith, c.saturating_sub.ensures, c.if-saturating_sub-eq1.true)));
+      rw (c.in-Some.is, ← c.resolver.view_is) (null_hindered_at _ _ _ _ _ _ (omega (arith, c.saturating_sub.ensures, c.if-saturating_sub-eq1.true)));
   same_length = search rules;
 }
 

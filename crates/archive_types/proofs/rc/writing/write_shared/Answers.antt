@@ -11,7 +11,7 @@ returns-in_err-pos-clause-outcome g c = record {
   same_value = search rules;
   goes_on = search rules;
   refused = err_by c.from_residual.result c.in_err-pos.field-0.0 _ c.from_residual.ensures.1
-    (shared_refused _ _ _ _ _ _ c.args.key c.serialize_shared.result _ _ _ c.in_err-pos.was c.serialize_shared.ensures.known c.in_err-pos.ensures.refused);
+      (shared_refused _ _ _ _ _ _ c.args.key c.serialize_shared.result _ _ _ c.in_err-pos.was c.serialize_shared.ensures.known c.in_err-pos.ensures.refused);
 }
 
 pub returns-in_err-pos-clause-pending : goal.returns-in_err-pos-clause-pending
@@ -22,8 +22,8 @@ returns-in_err-pos-clause-pending g c pending =
 pub returns-then-pos-clause-outcome : goal.returns-then-pos-clause-outcome
 returns-then-pos-clause-outcome g c = record {
   serialized =
-    shared_serialized _ _ _ _ _ _ c.args.key c.serialize_shared.result c.in_ok-pos.pos _ _ c.in_ok-pos.was c.serialize_shared.ensures.known c.serialize_shared.ensures.unchanged c.in_ok-pos.ensures.serialized
-    _ [] (sym (append-nil _)) zeroed_none (without_byte _ _ _ (c.pos.ensures ∙ g.met.S.Writer.position_law _) c.if-pos.true) (λ k. refl);
+      shared_serialized _ _ _ _ _ _ c.args.key c.serialize_shared.result c.in_ok-pos.pos _ _ c.in_ok-pos.was c.serialize_shared.ensures.known c.serialize_shared.ensures.unchanged c.in_ok-pos.ensures.serialized
+      _ [] (sym (append-nil _)) zeroed_none (without_byte _ _ _ (c.pos.ensures ∙ g.met.S.Writer.position_law _) c.if-pos.true) (λ k. refl);
   same_value = search rules;
   goes_on = search rules;
   refused = search rules;
@@ -35,15 +35,15 @@ returns-in_err-write-clause-outcome g c = record {
   same_value = search rules;
   goes_on = goes_both _ _ _ c.in_ok-pos.ensures.goes_on (goes_refused _ _ c.in_err-write.ensures.kept c.write.ensures.room c.write.ensures.device c.write.ensures.keys);
   refused = err_by c.from_residual-in_err-write.result c.in_err-write.field-0.0 _ c.from_residual-in_err-write.ensures.1
-    (byte_refused _ _ _ _ _ _ c.args.key c.serialize_shared.result c.in_ok-pos.pos _ _ c.in_ok-pos.was c.serialize_shared.ensures.known c.serialize_shared.ensures.unchanged c.in_ok-pos.ensures.serialized
-    _ _ _ (g.met.S.Writer.position_law _) (sym c.pos.ensures ∙ c.if-pos.false) c.in_ok-pos.ensures.goes_on (goes_refused _ _ c.in_err-write.ensures.kept c.write.ensures.room c.write.ensures.device c.write.ensures.keys) c.in_err-write.ensures.refusal);
+      (byte_refused _ _ _ _ _ _ c.args.key c.serialize_shared.result c.in_ok-pos.pos _ _ c.in_ok-pos.was c.serialize_shared.ensures.known c.serialize_shared.ensures.unchanged c.in_ok-pos.ensures.serialized
+      _ _ _ (g.met.S.Writer.position_law _) (sym c.pos.ensures ∙ c.if-pos.false) c.in_ok-pos.ensures.goes_on (goes_refused _ _ c.in_err-write.ensures.kept c.write.ensures.room c.write.ensures.device c.write.ensures.keys) c.in_err-write.ensures.refusal);
 }
 
 pub returns-clause-outcome : goal.returns-clause-outcome
 returns-clause-outcome g c = record {
   serialized =
-    shared_serialized _ _ _ _ _ _ c.args.key c.serialize_shared.result c.in_ok-pos.pos _ _ c.in_ok-pos.was c.serialize_shared.ensures.known c.serialize_shared.ensures.unchanged c.in_ok-pos.ensures.serialized
-    _ (0 ∷ []) c.in_ok-write.ensures.written a_zero (with_byte _ _ _ (c.pos.ensures ∙ g.met.S.Writer.position_law _) c.if-pos.false) c.write.ensures.keys;
+      shared_serialized _ _ _ _ _ _ c.args.key c.serialize_shared.result c.in_ok-pos.pos _ _ c.in_ok-pos.was c.serialize_shared.ensures.known c.serialize_shared.ensures.unchanged c.in_ok-pos.ensures.serialized
+      _ (0 ∷ []) c.in_ok-write.ensures.written a_zero (with_byte _ _ _ (c.pos.ensures ∙ g.met.S.Writer.position_law _) c.if-pos.false) c.write.ensures.keys;
   same_value = search rules;
   goes_on = goes_both _ _ _ c.in_ok-pos.ensures.goes_on (goes_written _ _ (0 ∷ []) c.in_ok-write.ensures.written c.write.ensures.room c.write.ensures.device c.write.ensures.keys);
   refused = search rules;

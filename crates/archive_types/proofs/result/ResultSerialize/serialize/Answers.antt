@@ -10,7 +10,7 @@ returns-in_err-serialize-in-Ok g c = record {
   same_value = search rules;
   goes_on = search rules;
   refused = err_by c.from_residual.result c.in_err-serialize-in-Ok.field-0.0 _ c.from_residual.ensures.1
-    (rw c.in-Ok.is (case_refused _ _ (λ s k. knows_left s _ _ k) _ _ 0 _ refl _ _ _ _ _ c.in_err-serialize-in-Ok.ensures.refused));
+      (rw c.in-Ok.is (case_refused _ _ (λ s k. knows_left s _ _ k) _ _ 0 _ refl _ _ _ _ _ c.in_err-serialize-in-Ok.ensures.refused));
 }
 
 pub returns-in_err-serialize-in-Err : goal.returns-in_err-serialize-in-Err
@@ -19,13 +19,13 @@ returns-in_err-serialize-in-Err g c = record {
   same_value = search rules;
   goes_on = search rules;
   refused = err_by c.from_residual-in_err-serialize-in-Err.result c.in_err-serialize-in-Err.field-0.0 _ c.from_residual-in_err-serialize-in-Err.ensures.1
-    (rw c.in-Err.is (case_refused _ _ (λ s k. knows_right s _ _ k) _ _ 1 _ refl _ _ _ _ _ c.in_err-serialize-in-Err.ensures.refused));
+      (rw c.in-Err.is (case_refused _ _ (λ s k. knows_right s _ _ k) _ _ 1 _ refl _ _ _ _ _ c.in_err-serialize-in-Err.ensures.refused));
 }
 
 pub returns-in_ok-serialize-in-Ok : goal.returns-in_ok-serialize-in-Ok
 returns-in_ok-serialize-in-Ok g c = record {
   serialized =
-    rw c.in-Ok.is (serialized_case _ _ (λ s k. knows_left s _ _ k) _ _ 0 _ refl _ _ _ _ _ c.in_ok-serialize-in-Ok.ensures.serialized);
+      rw c.in-Ok.is (serialized_case _ _ (λ s k. knows_left s _ _ k) _ _ 0 _ refl _ _ _ _ _ c.in_ok-serialize-in-Ok.ensures.serialized);
   same_value = search rules;
   goes_on = search rules;
   refused = search rules;
@@ -34,7 +34,7 @@ returns-in_ok-serialize-in-Ok g c = record {
 pub returns-in_ok-serialize-in-Err : goal.returns-in_ok-serialize-in-Err
 returns-in_ok-serialize-in-Err g c = record {
   serialized =
-    rw c.in-Err.is (serialized_case _ _ (λ s k. knows_right s _ _ k) _ _ 1 _ refl _ _ _ _ _ c.in_ok-serialize-in-Err.ensures.serialized);
+      rw c.in-Err.is (serialized_case _ _ (λ s k. knows_right s _ _ k) _ _ 1 _ refl _ _ _ _ _ c.in_ok-serialize-in-Err.ensures.serialized);
   same_value = search rules;
   goes_on = search rules;
   refused = search rules;

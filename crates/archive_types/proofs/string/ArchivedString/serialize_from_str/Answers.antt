@@ -9,5 +9,5 @@ returns-in_err-pos-clause-outcome g c = record {
   same_value = search rules;
   goes_on = search rules;
   refused = err_by c.from_residual.result c.in_err-pos.field-0.0 _ c.from_residual.ensures.1
-    (string_refused _ _ _ c.args.value.now _ c.if-value-le-INLINE_CAPACITY.false c.in_err-pos.ensures.outcome.refused);
+      (string_refused _ _ _ c.args.value.now _ c.if-value-le-INLINE_CAPACITY.false c.in_err-pos.ensures.outcome.refused);
 }

@@ -6,6 +6,6 @@ pub returns-clause-outcome : goal.returns-clause-outcome
 returns-clause-outcome c = record {
   resolved = search rules;
   refused = rw (← c.as_str.ensures.value, ← c.new.ensures.position)
-    (string_unresolved c.resolve_from_str.result _ c.as_str.result.now _ _ _ c.resolve_from_str.ensures.refused c.resolve_from_str.ensures.inline);
+      (string_unresolved c.resolve_from_str.result _ c.as_str.result.now _ _ _ c.resolve_from_str.ensures.refused c.resolve_from_str.ensures.inline);
   same_length = search rules;
 }

@@ -8,7 +8,7 @@ returns-in_err-write-clause-outcome g c = record {
   serialized = search rules;
   goes_on = search rules;
   refused = err_by c.from_residual.result c.in_err-write.field-0.0 _ c.from_residual.ensures.1
-    (text_refused _ _ _ c.args.self.now.text.now _ _ (g.met.S.Writer.position_law c.args.serializer.now)
-    (goes_refused _ _ c.in_err-write.ensures.kept c.in_err-write.ensures.room c.in_err-write.ensures.device c.in_err-write.ensures.keys)
-    (rw c.as_bytes.ensures.value at c.in_err-write.ensures.refusal));
+      (text_refused _ _ _ c.args.self.now.text.now _ _ (g.met.S.Writer.position_law c.args.serializer.now)
+      (goes_refused _ _ c.in_err-write.ensures.kept c.in_err-write.ensures.room c.in_err-write.ensures.device c.in_err-write.ensures.keys)
+      (rw c.as_bytes.ensures.value at c.in_err-write.ensures.refusal));
 }

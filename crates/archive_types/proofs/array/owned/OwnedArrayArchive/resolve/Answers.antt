@@ -6,13 +6,13 @@ use Rattle.archive_types.proofs.array.owned.OwnedArrayArchive.resolve.Goals as g
 
 pub returns : goal.returns
 returns g c = record {
-  resolved = 
-    let count : length c.args.self.now ≡ g.row.N = rw c.as_slice.ensures.elements at c.as_slice.ensures.whole in
-    let h = rw c.as_slice.ensures.elements at c.resolve_elements.ensures.resolved in
-    on_ok c.resolve_elements.result (resolves_array _ _ _ _ _ _ _ count) h;
-  refused = 
-    let count : length c.args.self.now ≡ g.row.N = rw c.as_slice.ensures.elements at c.as_slice.ensures.whole in
-    let h = rw c.as_slice.ensures.elements at c.resolve_elements.ensures.refused in
-    err_from c.resolve_elements.result h (λ e h. array_hindered _ _ _ _ _ _ e count h);
+  resolved =
+      let count : length c.args.self.now ≡ g.row.N = rw c.as_slice.ensures.elements at c.as_slice.ensures.whole in
+      let h = rw c.as_slice.ensures.elements at c.resolve_elements.ensures.resolved in
+      on_ok c.resolve_elements.result (resolves_array _ _ _ _ _ _ _ count) h;
+  refused =
+      let count : length c.args.self.now ≡ g.row.N = rw c.as_slice.ensures.elements at c.as_slice.ensures.whole in
+      let h = rw c.as_slice.ensures.elements at c.resolve_elements.ensures.refused in
+      err_from c.resolve_elements.result h (λ e h. array_hindered _ _ _ _ _ _ e count h);
   same_length = search rules;
 }

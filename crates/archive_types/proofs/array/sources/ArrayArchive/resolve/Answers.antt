@@ -6,11 +6,11 @@ use Rattle.archive_types.proofs.array.sources.ArrayArchive.resolve.Goals as goal
 
 pub returns : goal.returns
 returns g c = record {
-  resolved = 
-    let count : length c.args.self.now ≡ g.row.N = c.type_inv.self in
-    on_ok c.resolve_elements.result (resolves_array _ _ _ _ _ _ _ count) c.resolve_elements.ensures.resolved;
-  refused = 
-    let count : length c.args.self.now ≡ g.row.N = c.type_inv.self in
-    err_from c.resolve_elements.result c.resolve_elements.ensures.refused (λ e h. array_hindered _ _ _ _ _ _ e count h);
+  resolved =
+      let count : length c.args.self.now ≡ g.row.N = c.type_inv.self in
+      on_ok c.resolve_elements.result (resolves_array _ _ _ _ _ _ _ count) c.resolve_elements.ensures.resolved;
+  refused =
+      let count : length c.args.self.now ≡ g.row.N = c.type_inv.self in
+      err_from c.resolve_elements.result c.resolve_elements.ensures.refused (λ e h. array_hindered _ _ _ _ _ _ e count h);
   same_length = search rules;
 }

@@ -6,18 +6,18 @@ use Rattle.archive_types.proofs.array.sources.ArrayArchive.serialize_copied.Goal
 pub returns : goal.returns
 returns g c = record {
   serialized = arrays_stored_if _ _ _ _ g.row.N g.T.Archived.Portable.layout g.met.T.Archived.Portable.has_layout g.met.T.Archived.Portable.is_align
-    c.args.values.now c.each_is_whole.ensures _ _ c.serialize_copied.result (arrays_copied_if _ _ _ _ g.row.N g.T.Archived.Portable.layout g.met.T.Archived.Portable.has_layout g.met.T.Archived.Portable.is_align
-    c.args.values.now c.each_is_whole.ensures _ _ c.serialize_copied.result _ c.as_flattened.ensures.value c.serialize_copied.ensures.in_bulk);
+      c.args.values.now c.each_is_whole.ensures _ _ c.serialize_copied.result (arrays_copied_if _ _ _ _ g.row.N g.T.Archived.Portable.layout g.met.T.Archived.Portable.has_layout g.met.T.Archived.Portable.is_align
+      c.args.values.now c.each_is_whole.ensures _ _ c.serialize_copied.result _ c.as_flattened.ensures.value c.serialize_copied.ensures.in_bulk);
   in_bulk = arrays_copied_if _ _ _ _ g.row.N g.T.Archived.Portable.layout g.met.T.Archived.Portable.has_layout g.met.T.Archived.Portable.is_align
-    c.args.values.now c.each_is_whole.ensures _ _ c.serialize_copied.result _ c.as_flattened.ensures.value c.serialize_copied.ensures.in_bulk;
+      c.args.values.now c.each_is_whole.ensures _ _ c.serialize_copied.result _ c.as_flattened.ensures.value c.serialize_copied.ensures.in_bulk;
   untouched = search rules;
   goes_on = search rules;
   refused = err_from c.serialize_copied.result (err_from c.serialize_copied.result c.serialize_copied.ensures.not_in_bulk
-    (λ e h. arrays_uncopied _ _ _ _ g.row.N g.T.Archived.Portable.layout g.met.T.Archived.Portable.has_layout g.met.T.Archived.Portable.is_align
-    c.args.values.now c.each_is_whole.ensures _ _ _ e c.as_flattened.ensures.value h))
-    (λ e h. arrays_unstored _ _ _ _ g.row.N g.T.Archived.Portable.layout g.met.T.Archived.Portable.has_layout g.met.T.Archived.Portable.is_align
-    c.args.values.now c.each_is_whole.ensures _ _ e h);
+      (λ e h. arrays_uncopied _ _ _ _ g.row.N g.T.Archived.Portable.layout g.met.T.Archived.Portable.has_layout g.met.T.Archived.Portable.is_align
+      c.args.values.now c.each_is_whole.ensures _ _ _ e c.as_flattened.ensures.value h))
+      (λ e h. arrays_unstored _ _ _ _ g.row.N g.T.Archived.Portable.layout g.met.T.Archived.Portable.has_layout g.met.T.Archived.Portable.is_align
+      c.args.values.now c.each_is_whole.ensures _ _ e h);
   not_in_bulk = err_from c.serialize_copied.result c.serialize_copied.ensures.not_in_bulk
-    (λ e h. arrays_uncopied _ _ _ _ g.row.N g.T.Archived.Portable.layout g.met.T.Archived.Portable.has_layout g.met.T.Archived.Portable.is_align
-    c.args.values.now c.each_is_whole.ensures _ _ _ e c.as_flattened.ensures.value h);
+      (λ e h. arrays_uncopied _ _ _ _ g.row.N g.T.Archived.Portable.layout g.met.T.Archived.Portable.has_layout g.met.T.Archived.Portable.is_align
+      c.args.values.now c.each_is_whole.ensures _ _ _ e c.as_flattened.ensures.value h);
 }

@@ -5,12 +5,12 @@ use Rattle.archive_types.proofs.array.unsized_sources.ArraySerializeUnsized.seri
 pub returns : goal.returns
 returns g c = record {
   serialized =
-    let count : length c.args.self.now ≡ g.row.N = c.type_inv.self in
-    whole_array_if g.T.Archived.ArchivePointee.definitions g.T.Archived.Portable.shape g.row.N g.T.Archive.keys g.T.Archive.meaning c.args.self.now count _ _
-    c.serialize_in_turn.result c.serialize_in_turn.ensures.as_array.serialized;
+      let count : length c.args.self.now ≡ g.row.N = c.type_inv.self in
+      whole_array_if g.T.Archived.ArchivePointee.definitions g.T.Archived.Portable.shape g.row.N g.T.Archive.keys g.T.Archive.meaning c.args.self.now count _ _
+      c.serialize_in_turn.result c.serialize_in_turn.ensures.as_array.serialized;
   goes_on = search rules;
   refused =
-    let count : length c.args.self.now ≡ g.row.N = c.type_inv.self in
-    no_whole_array g.T.Archived.ArchivePointee.definitions g.T.Archived.Portable.shape g.row.N g.T.Archive.keys g.T.Archive.meaning c.args.self.now count _ _
-    c.serialize_in_turn.result c.serialize_in_turn.ensures.as_array.refused;
+      let count : length c.args.self.now ≡ g.row.N = c.type_inv.self in
+      no_whole_array g.T.Archived.ArchivePointee.definitions g.T.Archived.Portable.shape g.row.N g.T.Archive.keys g.T.Archive.meaning c.args.self.now count _ _
+      c.serialize_in_turn.result c.serialize_in_turn.ensures.as_array.refused;
 }

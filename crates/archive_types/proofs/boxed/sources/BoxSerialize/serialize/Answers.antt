@@ -9,8 +9,8 @@ returns-in_err-pos-2 g c = record {
   same_value = search rules;
   goes_on = c.in_ok-pos.ensures.goes_on;
   refused = err_by c.from_residual-in_err-pos-2.result c.in_err-pos-2.field-0.0 _ c.from_residual-in_err-pos-2.ensures.1
-    (rw (c.in_err-pos-2.ensures.refused.0)
-    (far_boxed_one_refused _ _ _ _ _ g.met.T.Archived.Portable.is_one c.in_ok-pos.pos _ _ c.in_err-pos-2.ensures.refused.1 (rw c.deref.ensures at c.in_ok-pos.ensures.serialized)));
+      (rw (c.in_err-pos-2.ensures.refused.0)
+      (far_boxed_one_refused _ _ _ _ _ g.met.T.Archived.Portable.is_one c.in_ok-pos.pos _ _ c.in_err-pos-2.ensures.refused.1 (rw c.deref.ensures at c.in_ok-pos.ensures.serialized)));
 }
 
 pub returns : goal.returns

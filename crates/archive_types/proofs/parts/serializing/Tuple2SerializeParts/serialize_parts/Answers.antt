@@ -9,7 +9,7 @@ returns-in_err-first g c = record {
   same_values = search rules;
   goes_on = search rules;
   refused = err_by c.from_residual.result c.in_err-first.field-0.0 _ c.from_residual.ensures.1
-    (first_refused _ _ _ _ _ _ _ _ _ _ _ (g.met.R.SourceParts.planned.each _) (rw c.part_of.ensures at c.in_err-first.ensures.refused));
+      (first_refused _ _ _ _ _ _ _ _ _ _ _ (g.met.R.SourceParts.planned.each _) (rw c.part_of.ensures at c.in_err-first.ensures.refused));
 }
 
 pub returns-in_err-others : goal.returns-in_err-others
@@ -18,7 +18,7 @@ returns-in_err-others g c = record {
   same_values = search rules;
   goes_on = goes_both _ _ _ c.serialize.ensures.goes_on c.serialize_parts.ensures.goes_on;
   refused = err_by c.from_residual-in_err-others.result c.in_err-others.field-0.0 _ c.from_residual-in_err-others.ensures.1
-    (later_refused _ _ _ _ _ _ _ _ _ _ _ _ _ (rw c.part_of.ensures at c.in_ok-first.ensures.serialized) c.serialize.ensures.goes_on c.serialize_parts.ensures.goes_on c.in_err-others.ensures.refused);
+      (later_refused _ _ _ _ _ _ _ _ _ _ _ _ _ (rw c.part_of.ensures at c.in_ok-first.ensures.serialized) c.serialize.ensures.goes_on c.serialize_parts.ensures.goes_on c.in_err-others.ensures.refused);
 }
 
 pub returns : goal.returns
