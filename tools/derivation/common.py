@@ -1,7 +1,7 @@
 """What the impls of structs and of enums have in common."""
 
 from .formats import ALIGNS
-from .layout import WIDTH, flat, implementation, lay, one_line, statement
+from .layout import WIDTH, flat, implementation, lay, one_line, pair, statement
 
 
 def chain(head, words, end):
@@ -33,6 +33,25 @@ def ok_arm(values, made, indent):
     return f"{pad}Ok({values}) => {{\n{statement(indent + 4, 'Ok(', made, ')')}{pad}}}\n"
 
 
+def kept_of(formats, types):
+    """The argument of a call that is handed the resolvers of these fields: each by its name where they are taken apart."""
+    return pair([f"r{i}" for i in range(len(types))]) if are_taken_apart(formats, types) else "kept" if types else "()"
+
+
+def taken_apart(formats, types, indent):
+    """The line that names each resolver, if any does."""
+    return statement(indent, "let ", kept_of(formats, types), " = kept;") if are_taken_apart(formats, types) else ""
+
+
+# What is kept of these names a type of its own, as `Option<VecResolver>`.
+MADE_OF = {"Option", "Result", "array", "OwnedArray", "tuple"}
+
+
+def are_taken_apart(formats, types):
+    """Whether the resolvers of another declared type are handed on one by one: as one, the check isn't told where the types are that these are made of."""
+    return any(formats.holds(type, MADE_OF, False) for type in types)
+
+
 class Source:
     """A declaration, and the names of what is written for it."""
 
@@ -59,7 +78,8 @@ class Source:
         formats.ghost("LeafLayout", "no_definition_reached")
         formats.ghost("Shape", "one", "parts", "part", "no_part", "choice", "variant", "no_variant")
         formats.ghost("Seen", "IsPartOf", "RefusesPart")
-        formats.ghost("Sources", "Read", "ResolvedAs", "HinderedAs")
+        formats.ghost("CallOutcomes", "ResolvesAs")
+        formats.ghost("Sources", "Read")
         formats.ghost("Writing", "ZeroedPlace")
 
 
@@ -173,9 +193,10 @@ def resolve_head(source):
     ) -> Result<(), Error>
         requires zeroed {{ ZeroedPlace {source.size} place.pos place.bytes.now }}
         requires same_value {{ ⟦<Self as Archive>⟧.belongs self.now resolver }}
-        ensures resolved {{ OnOk result (ResolvedAs ⟦<Self as Archive>⟧ ⟦<Self::Archived as Portable>⟧ place self.now resolver) }}
-        ensures same_length {{ length place.exit.0.now ≡ length place.entry.bytes.now }}
-        ensures refused {{ IfErr result (HinderedAs ⟦<Self as Archive>⟧ ⟦<Self::Archived as Portable>⟧ place self.now resolver) }}
+        ensures {{
+            ResolvesAs ⟦<Self::Archived as Portable>⟧ place
+                (⟦<Self as Archive>⟧.flat self.now resolver) result
+        }}
 """
 
 
