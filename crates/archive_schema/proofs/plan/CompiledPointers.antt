@@ -73,7 +73,7 @@ module _ {names : List NamedNode} {v : Waits} {a b : PlanLists} {i : ℕ} (p : I
       (λ s shapes m g t given k z e. made_free (λ bytes pending depth stop p start seen le. plain_walk s t.laid_out bytes byte p refl le)) (λ e. refl)
 
   pub leads_text : CompiledPointee names text v v a b Text i
-  leads_text = record { gives = byte ∷ []; gives_count = refl; adds = adds_byte; waits_few = omega arith; known = λ all can. all; below = λ m g w. byte_below p m g; size_is = refl; points = λ s shapes m g t given. points_text (byte_sized p m g) }
+  leads_text = record { gives = byte ∷ []; gives_count = refl; adds = adds_byte; waits_few = omega arith; known = λ all can. all; below = λ m g w. byte_below p m g; size_is = refl; points = λ s shapes m g t given. points_text }
 
 target_few : (t : PointeeKind) → (4 ≤ pointer_bytes t) × (pointer_bytes t ≤ 8)
 target_few One = (omega arith, omega arith)

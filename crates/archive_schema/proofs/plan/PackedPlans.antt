@@ -14,7 +14,7 @@ use Rattle.archive_check.specs.Reads.{Schema, LaidOut}
 use Rattle.archive_check.specs.Words.Elements.{IsAt, span}
 use Rattle.archive_schema.specs.check.Runs.{Takes}
 use Rattle.archive_schema.specs.plan.SoundPlans.{NodeKindFits, IsSound}
-use Rattle.archive_schema.specs.plan.Represents.{PartsStand, parts_over, parts_more, Made, made_free, made_leaf, made_record, made_choice, made_array, made_boxed, made_vec, made_str, made_shared, made_weak, Represents}
+use Rattle.archive_schema.specs.plan.Represents.{PartsStand, parts_over, parts_more, Made, made_free, made_leaf, made_record, made_choice, made_array, made_boxed, made_vec, made_map, made_str, made_shared, made_weak, Represents}
 use Rattle.archive_schema.specs.plan.PackedPlans.{size_at, parts_size, variants_size, held_size, ArePacked}
 use Rattle.archive_check.specs.MissingNames.{Arranged}
 use Rattle.archive_schema.specs.plan.Planned.{IsOf, IsPlan}
@@ -76,6 +76,7 @@ module _ (s : Schema) (laid : LaidOut s) (shapes : ℕ → Shape) (m : Checker) 
   holds_few i z e fits (made_array stands takes) = omega arith
   holds_few i z e fits (made_boxed p) = omega arith
   holds_few i z e fits (made_vec p) = omega arith
+  holds_few i z e fits (made_map p) = omega arith
   holds_few i z e fits (made_str p) = omega arith
   holds_few i z e fits (made_shared at p) = omega arith
   holds_few i z e fits (made_weak at p) = omega arith

@@ -1,31 +1,40 @@
 -- A run over a plan goes as a walk of the shapes that its nodes stand for, or comes to the same fault.
-use Rattle.std.proofs.Common.{◌≡◌, ◌≢◌, ◌⊎◌, inl, inr, ℕ, ℤ, pos, ◌+ℤ◌, refl, sym, ap, ◌∙◌, ◌+◌, ◌-◌, ◌*◌, ◌%◌, ◌<◌, ◌≤◌, ◌^◌, arith, List, ◌∷◌, length, length-take-le, drop, slice_index, Option, Some, None, suc, zero, false, Bor, IsUtf8, IsTrue, Contains}
+use Rattle.std.proofs.Common.{◌≡◌, ◌≢◌, ◌⊎◌, inl, inr, ℕ, ℤ, pos, ◌+ℤ◌, refl, sym, ap, ap₂, ◌∙◌, ◌+◌, ◌-◌, ◌*◌, ◌%◌, ◌<◌, ◌≤◌, ◌^◌, max, arith, List, ◌∷◌, length, length-take-le, drop, slice_index, Option, Some, None, cond, is_some, suc, zero, false, Bor, IsUtf8, IsTrue, Contains}
 use Rattle.std.specs.FinMap.{get, insert}
 use Rattle.std.proofs.lemmas.Str.{IsUtf8-nil}
 use Rattle.archive_check.specs.declared.format.expr.Kind.{Kind as KindExpr}
+use Rattle.archive_check.specs.declared.format.expr.Key.{Key as KeyExpr}
+use Rattle.archive_check.specs.declared.format.expr.Key.TheVariants.{Leaf as LeafKey, Str as StrKey}
+use Rattle.archive_schema.specs.declared.plan.Node.{Node}
 use Rattle.archive_schema.specs.declared.plan.PointeeKind.{PointeeKind}
-use Rattle.archive_schema.specs.declared.plan.PointeeKind.TheVariants.{One, Run, Text}
+use Rattle.archive_schema.specs.declared.plan.PointeeKind.TheVariants.{One, Run, Text, Entries as EntriesOf}
 use Rattle.archive_schema.specs.declared.plan.NodeKind.{NodeKind}
 use Rattle.archive_schema.specs.declared.plan.NodeKind.TheVariants.{Free, Leaf, Record, Choice, Array, Pointer as PointerNode, Str, Shared, Weak}
 use Rattle.archive_schema.specs.declared.plan.Span.{Span}
 use Rattle.archive_check.specs.declared.context.positions.SharedType.{SharedType}
 use Rattle.archive_schema.specs.declared.check.Checker.{Checker}
-use Rattle.archive_check.specs.Shape.{Kind, unit, bool, char, number, non_zero, raw_rel, Flavor, Shape, Pointee, one, run, text, Parts, part, variant_at}
-use Rattle.archive_check.specs.Layout.{kind_size, up, size_of, align_of}
+use Rattle.archive_check.specs.Shape.{Kind, unit, bool, char, number, non_zero, raw_rel, Key, key_shape, entry_of, str, Flavor, Shape, Pointee, one, run, text, Parts, part, variant_at}
+use Rattle.archive_check.specs.Layout.{kind_size, key_size, key_align, Layouts, up, size_of, align_of}
+use Rattle.archive_check.specs.Keys.{ComesBehind, Ascend, order_of}
 use Rattle.archive_check.specs.Value.{Pointer}
-use Rattle.archive_check.specs.Reads.{Schema, bytes_at, u32_at, i32_at, IsLegal, IsLegalNumber, kind_number, IsOutOfLine, before_end, decoded_length, length_at, pointer_at, string_at}
+use Rattle.archive_check.specs.Reads.{Schema, bytes_at, u32_at, i32_at, IsLegal, IsLegalNumber, kind_number, IsOutOfLine, before_end, decoded_length, length_at, pointer_at, map_at, string_at}
 use Rattle.archive_check.specs.Depth.{Allows, inside}
 use Rattle.archive_check.specs.Tour.{Seen, Entry, pointee_size, pointee_align}
-use Rattle.archive_check.specs.Trail.{Fault, too_large, outside, unaligned, too_deep, cyclic, other_type, other_length, illegal, no_such_variant, no_text, no_string, Trips, trips_leaf, trips_parts, trips_tag, trips_choice, trips_array, trips_boxed, trips_vec, trips_inline, trips_short, trips_out_of_line, trips_shared, trips_weak, trips_named, TripsParts, trips_first, trips_later, TripsRun, trips_element, trips_later_element, TripsFollow, trips_unique, trips_before, trips_new, trips_type, trips_length, trips_cycle, TripsEnter, trips_size, trips_range, trips_align, trips_depth, trips_within, TripsContents, trips_one, trips_run, trips_text}
-use Rattle.archive_check.specs.Walk.{Walk, walk_leaf, walk_parts, walk_choice, walk_array, walk_boxed, walk_vec, walk_inline, walk_out_of_line, walk_shared, walk_null, walk_weak, walk_named, WalkParts, walk_no_part, walk_part, WalkRun, walk_none, walk_element, Follow, follow_unique, follow_new, follow_again, Enter, enter, WalkContents, walk_one, walk_run, walk_text}
-use Rattle.archive_check.specs.Expressions.{kind_of, flavor_of, pointee_of}
+use Rattle.archive_check.specs.Trail.{Fault, too_large, outside, unaligned, too_deep, cyclic, other_type, other_length, illegal, no_such_variant, no_text, no_string, unsorted, Trips, trips_leaf, trips_parts, trips_tag, trips_choice, trips_array, trips_boxed, trips_vec, trips_map, trips_inline, trips_short, trips_out_of_line, trips_shared, trips_weak, trips_named, TripsParts, trips_first, trips_later, TripsRun, trips_element, trips_later_element, TripsEntries, trips_key, trips_order, trips_value, trips_later_entry, TripsFollow, trips_unique, trips_before, trips_new, trips_type, trips_length, trips_cycle, TripsEnter, trips_size, trips_range, trips_align, trips_depth, trips_within, TripsContents, trips_one, trips_run, trips_entries, trips_text}
+use Rattle.archive_check.specs.Walk.{Walk, walk_leaf, walk_parts, walk_choice, walk_array, walk_boxed, walk_vec, walk_map, walk_inline, walk_out_of_line, walk_shared, walk_null, walk_weak, walk_named, WalkParts, walk_no_part, walk_part, WalkRun, walk_none, walk_element, Follow, follow_unique, follow_new, follow_again, Enter, enter, WalkContents, walk_one, walk_run, walk_entries, walk_text}
+use Rattle.archive_check.specs.Expressions.{kind_of, key_of, flavor_of, pointee_of}
 use Rattle.archive_check.specs.context.PositionStates.{SameType}
-use Rattle.archive_schema.specs.check.Runs.{pointer_bytes, pointee_count, pointee_length, entry_for, IsNode, Takes, RegionIs, NodeRuns, run_free, run_leaf, run_illegal, run_record, run_choice, run_tag, run_array, run_pointer, run_inline, run_no_text, run_short, run_out_of_line, run_shared, run_null, run_weak, FollowRuns, follow_before, follow_new as runs_new, follow_again as runs_again, follow_type, follow_length, follow_cycle, PartsRun, parts_end, parts_next, parts_stop, ElementsRun, elements_end, elements_next, elements_free, elements_stop, EnterRuns, enter_too_large, enter_outside, enter_unaligned, enter_too_deep, enter_within, enter_stop, ContentsRun, contents_empty, contents_one, contents_run, contents_text, contents_no_text}
+use Rattle.archive_schema.specs.check.Runs.{pointer_bytes, pointee_count, pointee_length, entry_for, IsNode, Takes, EntryTakes, unit_size, unit_align, RegionIs, NodeRuns, run_free, run_leaf, run_illegal, run_record, run_choice, run_tag, run_array, run_pointer, run_str, run_shared, run_null, run_weak, FollowRuns, follow_before, follow_new as runs_new, follow_again as runs_again, follow_type, follow_length, follow_cycle, PartsRun, parts_end, parts_next, parts_stop, ElementsRun, elements_end, elements_next, elements_free, elements_stop, StringRuns, string_inline, string_no_text, string_short, string_out_of_line, KeyRuns, key_leaf, key_illegal, key_string, OrderRuns, order_key, order_wrong, order_kept, EntriesRun, entries_end, entries_key, entries_value, entries_next, EnterRuns, enter_too_large, enter_outside, enter_unaligned, enter_too_deep, enter_within, enter_stop, ContentsRun, contents_empty, contents_one, contents_run, contents_entries, contents_text, contents_no_text}
 use Rattle.archive_check.specs.Words.Elements.{IsAt}
 use Rattle.archive_check.specs.Outcomes.{Outcome, done, refused}
 use Rattle.archive_schema.specs.plan.SoundPlans.{NodeKindFits, IsSound}
-use Rattle.archive_schema.specs.plan.Represents.{StandsFor, stands, stands_named, PartsStand, parts_over, parts_more, Sized, Points, points_one, points_run, points_text, Made, made_free, made_leaf, made_record, made_choice, made_array, made_boxed, made_vec, made_str, made_shared, made_weak, Represents, OutcomeSays}
+use Rattle.archive_schema.specs.plan.Represents.{StandsFor, stands, stands_named, PartsStand, parts_over, parts_more, Sized, Points, points_one, points_run, points_entries, points_text, Made, made_free, made_leaf, made_record, made_choice, made_array, made_boxed, made_vec, made_map, made_str, made_shared, made_weak, Represents, OutcomeSays}
 use Rattle.archive_check.proofs.Tours.ReadingUnique.{pos_one}
+use Rattle.archive_schema.proofs.plan.EntryLayouts.{key_takes, entry_layout, value_sized, walk_entry}
+use Rattle.archive_check.specs.Words.BoundedSizes.{fits, rounded}
+use Rattle.archive_schema.specs.plan.BoundedSizes.{sum_of}
+use Rattle.archive_check.proofs.BoundedSizes.{some_is, rounded_fits}
+use Rattle.archive_schema.proofs.plan.BoundedSizes.{sum_fits}
 use Rattle.archive_schema.proofs.plan.PlanSizes.{take_same, times_some, times_many, sized_takes, element_few}
 use Rattle.archive_check.proofs.Elements.{same_at}
 use Rattle.archive_check.proofs.LittleEndian.{some_byte}
@@ -55,6 +64,7 @@ empty_target : (target : PointeeKind) → pointer_bytes target ≤ 0 → ⊥
 empty_target One h = omega arith
 empty_target Run h = omega arith
 empty_target Text h = omega arith
+empty_target (EntriesOf key) h = omega arith
 
 empty_kind : (m : Checker) (i : ℕ) (kind : NodeKind) → NodeKindFits m i 0 kind → Nothing kind
 empty_kind m i Free h = inl refl
@@ -76,18 +86,35 @@ abbrev pub Counts : PointeeKind → ℕ → ℕ → Type 0
 Counts One n l = n ≡ 1
 Counts Run n l = n ≡ l
 Counts Text n l = n ≡ l
+Counts (EntriesOf key) n l = n ≡ l
 
 counts_of : (bytes : List ℕ) (p : ℕ) (target : PointeeKind) → Counts target (pointee_count bytes p target) (pointee_length bytes p target)
 counts_of bytes p One = refl
 counts_of bytes p Run = refl
 counts_of bytes p Text = refl
+counts_of bytes p (EntriesOf key) = refl
 
-abbrev pub leading : Option Flavor → ℤ → Pointee → ℕ → Pointer
-leading sharing where_to P l = record { target = where_to; sharing = sharing; pointee = P; length = l }
+abbrev pub leading : Option Flavor → Option Key → ℤ → Pointee → ℕ → Pointer
+leading sharing order where_to P l = record { target = where_to; sharing = sharing; order = order; pointee = P; length = l }
 
 -- a shared pointer, as its shared_type says
 abbrev pub sorted : SharedType → ℤ → ℕ → Pointer
-sorted shared_type where_to l = leading (Some (flavor_of shared_type.flavor)) where_to (pointee_of shared_type.pointee) l
+sorted shared_type where_to l = leading (Some (flavor_of shared_type.flavor)) None where_to (pointee_of shared_type.pointee) l
+
+-- what an entry takes, by what its value's node does
+entry_fits : (names : Layouts) (key : KeyExpr) (V : Shape) (node : Node) → node.size ≡ fits (size_of names V) → node.align ≡ align_of names V
+    → (unit_size (EntriesOf key) node ≡ fits (size_of names (entry_of (key_of key) V))) × (unit_align (EntriesOf key) node ≡ align_of names (entry_of (key_of key) V))
+entry_fits names key V node size align =
+    let K = key_of key in
+    let positive : 0 < align_of names V = rw (← align) node.positive in
+    let laid = entry_layout names K V positive in
+    let high = ap (λ a. max (key_align K) a) align in
+    (
+      ap₂ (λ o a. rounded o a) (ap₂ sum_of (ap (λ a. fits (up (key_size K) a)) align) size ∙ sum_fits (up (key_size K) (align_of names V)) (size_of names V)) high
+          ∙ rounded_fits (up (key_size K) (align_of names V) + size_of names V) (max (key_align K) (align_of names V)) (omega (arith, positive))
+          ∙ ap fits (sym laid.0),
+      high ∙ sym laid.1,
+    )
 
 module _ (s : Schema) (shapes : ℕ → Shape) (m : Checker) where
   pub stands_walk : {X : Shape} {j : ℕ} {pending : List ℕ} {depth : Option ℕ} {stop p start later : ℕ} {seen last : Seen} → StandsFor s shapes X j → Walk s m.bytes.now pending depth stop p (shapes j) start seen later last → Walk s m.bytes.now pending depth stop p X start seen later last
@@ -117,8 +144,8 @@ module _ (s : Schema) (shapes : ℕ → Shape) (m : Checker) where
   abbrev pub EnterSays : Pointer → List ℕ → Option ℕ → ℕ → ℕ → Seen → Outcome → Type 0
   EnterSays ptr pending depth stop start seen o = OutcomeSays (λ later last. (t : ℕ) × Enter s m.bytes.now pending depth stop ptr t start seen later last) (TripsEnter s m.bytes.now pending depth stop ptr start seen) o
 
-  abbrev pub ContentsSay : Pointee → ℕ → ℕ → List ℕ → Option ℕ → ℕ → Seen → Outcome → Type 0
-  ContentsSay P l t pending depth start seen o = OutcomeSays (WalkContents s m.bytes.now pending depth t t P l start seen) (TripsContents s m.bytes.now pending depth t t P l start seen) o
+  abbrev pub ContentsSay : Option Key → Pointee → ℕ → ℕ → List ℕ → Option ℕ → ℕ → Seen → Outcome → Type 0
+  ContentsSay order P l t pending depth start seen o = OutcomeSays (WalkContents s m.bytes.now pending depth t t order P l start seen) (TripsContents s m.bytes.now pending depth t t order P l start seen) o
 
   made_of : {i z : ℕ} {kind : NodeKind} → Represents s shapes m → IsNode m i kind → Takes m i z → (size_of s.layouts (shapes i) ≡ z) × Made s shapes m kind (shapes i)
   made_of {i = i} {z = z} r h t =
@@ -170,35 +197,32 @@ module _ (s : Schema) (shapes : ℕ → Shape) (m : Checker) where
   free_run {X = X} (suc n) p st made e room = walk_element (stands_walk st (free_case made (omega (arith, e)))) (free_run n (p + size_of s.layouts X) st made e (omega arith))
 
   -- a pointer of its own is followed by entering its region
-  unique_case : (pending : List ℕ) (depth : Option ℕ) (stop start : ℕ) (seen : Seen) (where_to : ℤ) (P : Pointee) (l : ℕ) (o : Outcome) → EnterSays (leading None where_to P l) pending depth stop start seen o → FollowSays (leading None where_to P l) pending depth stop start seen o
+  unique_case : {order : Option Key} (pending : List ℕ) (depth : Option ℕ) (stop start : ℕ) (seen : Seen) (where_to : ℤ) (P : Pointee) (l : ℕ) (o : Outcome) → EnterSays (leading None order where_to P l) pending depth stop start seen o → FollowSays (leading None order where_to P l) pending depth stop start seen o
   unique_case pending depth stop start seen where_to P l o says = says_map o (λ a k w. follow_unique refl w.1) (λ e t. trips_unique refl t) says
 
   -- the plan and the shapes read the same length
-  length_is : {target : PointeeKind} {j : ℕ} {P : Pointee} (p : ℕ) → Points s shapes m target j P → pointee_length m.bytes.now p target ≡ length_at m.bytes.now p P
+  length_is : {target : PointeeKind} {order : Option Key} {j : ℕ} {P : Pointee} (p : ℕ) → Points s shapes m target order j P → pointee_length m.bytes.now p target ≡ length_at m.bytes.now p P
   length_is p (points_one k st) = refl
   length_is p (points_run k st) = refl
-  length_is p (points_text k) = refl
+  length_is p (points_entries k st) = refl
+  length_is p points_text = refl
 
-  pointer_case : {X : Shape} {target : PointeeKind} {j : ℕ} (pending : List ℕ) (depth : Option ℕ) (stop p start : ℕ) (seen : Seen) (o : Outcome) → Made s shapes m (PointerNode target j) X → ((P : Pointee) → Points s shapes m target j P → EnterSays (pointer_at m.bytes.now p None P) pending depth stop start seen o) → ShapeSays X pending depth stop p start seen o
-  pointer_case pending depth stop p start seen o (made_boxed h) says = says_map o (λ a k w. walk_boxed w) (λ e t. trips_boxed t) (unique_case pending depth stop start seen _ _ _ o (says _ h))
-  pointer_case pending depth stop p start seen o (made_vec h) says = says_map o (λ a k w. walk_vec w) (λ e t. trips_vec t) (unique_case pending depth stop start seen _ _ _ o (says _ h))
+  pointer_case : {X : Shape} {target : PointeeKind} {j : ℕ} (pending : List ℕ) (depth : Option ℕ) (stop p start : ℕ) (seen : Seen) (o : Outcome) → Made s shapes m (PointerNode target j) X → ((order : Option Key) (P : Pointee) → Points s shapes m target order j P → EnterSays (leading None order (pos p +ℤ i32_at m.bytes.now p) P (length_at m.bytes.now p P)) pending depth stop start seen o) → ShapeSays X pending depth stop p start seen o
+  pointer_case pending depth stop p start seen o (made_boxed h) says = says_map o (λ a k w. walk_boxed w) (λ e t. trips_boxed t) (unique_case pending depth stop start seen _ _ _ o (says _ _ h))
+  pointer_case pending depth stop p start seen o (made_vec h) says = says_map o (λ a k w. walk_vec w) (λ e t. trips_vec t) (unique_case pending depth stop start seen _ _ _ o (says _ _ h))
 
-  inline_case : {X : Shape} {j p : ℕ} {pending : List ℕ} {depth : Option ℕ} {stop start : ℕ} {seen : Seen} → Made s shapes m (Str j) X → (IsOutOfLine m.bytes.now p → ⊥) → IsUtf8 (before_end (bytes_at m.bytes.now p 8)) → Walk s m.bytes.now pending depth stop p X start seen start seen
-  inline_case (made_str k) o h = walk_inline o h
+  pointer_case pending depth stop p start seen o (made_map h) says = says_map o (λ a k w. walk_map w) (λ e t. trips_map t) (unique_case pending depth stop start seen _ _ _ o (says _ _ h))
 
-  no_text_case : {X : Shape} {j p : ℕ} {pending : List ℕ} {depth : Option ℕ} {stop start : ℕ} {seen : Seen} → Made s shapes m (Str j) X → (IsOutOfLine m.bytes.now p → ⊥) → (IsUtf8 (before_end (bytes_at m.bytes.now p 8)) → ⊥) → Trips s m.bytes.now pending depth stop p X start seen no_text
-  no_text_case (made_str k) o h = trips_inline o h
+  string_case : (pending : List ℕ) (depth : Option ℕ) (stop p start : ℕ) (seen : Seen) (o : Outcome) → IsOutOfLine m.bytes.now p → 8 < decoded_length (u32_at m.bytes.now p) → EnterSays (string_at m.bytes.now p) pending depth stop start seen o → ShapeSays str pending depth stop p start seen o
+  string_case pending depth stop p start seen o out long says = says_map o (λ a k w. walk_out_of_line out long w) (λ e t. trips_out_of_line out long t) (unique_case pending depth stop start seen _ _ _ o says)
 
-  short_case : {X : Shape} {j p : ℕ} {pending : List ℕ} {depth : Option ℕ} {stop start : ℕ} {seen : Seen} → Made s shapes m (Str j) X → IsOutOfLine m.bytes.now p → decoded_length (u32_at m.bytes.now p) ≤ 8 → Trips s m.bytes.now pending depth stop p X start seen no_string
-  short_case (made_str k) o h = trips_short o h
-
-  string_case : {X : Shape} {j : ℕ} (pending : List ℕ) (depth : Option ℕ) (stop p start : ℕ) (seen : Seen) (o : Outcome) → Made s shapes m (Str j) X → IsOutOfLine m.bytes.now p → 8 < decoded_length (u32_at m.bytes.now p) → (Points s shapes m Text j text → EnterSays (string_at m.bytes.now p) pending depth stop start seen o) → ShapeSays X pending depth stop p start seen o
-  string_case pending depth stop p start seen o (made_str k) out long says = says_map o (λ a k w. walk_out_of_line out long w) (λ e t. trips_out_of_line out long t) (unique_case pending depth stop start seen _ _ _ o (says (points_text k)))
+  str_case : {X : Shape} {j : ℕ} (pending : List ℕ) (depth : Option ℕ) (stop p start : ℕ) (seen : Seen) (o : Outcome) → Made s shapes m (Str j) X → ShapeSays str pending depth stop p start seen o → ShapeSays X pending depth stop p start seen o
+  str_case pending depth stop p start seen o (made_str k) says = says
 
   -- what comes of following a shared pointer at p of a shared_type
   abbrev pub SharedTypeSays : ℕ → PointeeKind → ℕ → List ℕ → Option ℕ → ℕ → ℕ → ℕ → Seen → Outcome → Type 0
   SharedTypeSays k target j pending depth stop p start seen o =
-      (shared_type : SharedType) → IsAt m.shared_types.now k shared_type → Points s shapes m target j (pointee_of shared_type.pointee) → FollowSays (sorted shared_type (pos p +ℤ i32_at m.bytes.now p) (pointee_length m.bytes.now p target)) pending depth stop start seen o
+      (shared_type : SharedType) → IsAt m.shared_types.now k shared_type → Points s shapes m target None j (pointee_of shared_type.pointee) → FollowSays (sorted shared_type (pos p +ℤ i32_at m.bytes.now p) (pointee_length m.bytes.now p target)) pending depth stop start seen o
 
   shared_case : {X : Shape} {target : PointeeKind} {k j : ℕ} (pending : List ℕ) (depth : Option ℕ) (stop p start : ℕ) (seen : Seen) (o : Outcome) → Made s shapes m (Shared k target j) X → SharedTypeSays k target j pending depth stop p start seen o → ShapeSays X pending depth stop p start seen o
   shared_case pending depth stop p start seen o (made_shared at h) says = says_map o (λ a k w. walk_shared w) (λ e t. trips_shared t) (rw (length_is p h) at (says _ at h))
@@ -232,64 +256,117 @@ module _ (s : Schema) (shapes : ℕ → Shape) (m : Checker) where
   cycle_case shared_type where_to l same e known within none = trips_cycle refl e (rw same at known) within (rw same at none)
 
   -- what a region takes
-  sized_of : {target : PointeeKind} {j : ℕ} {P : Pointee} (n l : ℕ) → Points s shapes m target j P → Counts target n l → (size : ℕ) × Sized m j size (pointee_align s P) × (n * size ≡ pointee_size s P l)
-  sized_of {P = one X} n l (points_one k st) c = (size_of s.layouts X, k, ap (λ x. x * size_of s.layouts X) c ∙ omega arith)
-  sized_of {P = run X} n l (points_run k st) c = (size_of s.layouts X, k, ap (λ x. x * size_of s.layouts X) c)
-  sized_of n l (points_text k) c = (1, k, omega (arith, c))
+  abbrev element_size : Pointee → ℕ
+  element_size (one X) = size_of s.layouts X
+  element_size (run X) = size_of s.layouts X
+  element_size text = 1
 
-  region_many : {target : PointeeKind} {j : ℕ} {P : Pointee} {align : ℕ} (n l : ℕ) → Points s shapes m target j P → Counts target n l → RegionIs m j n None align → 18446744073709551616 ≤ pointee_size s P l
-  region_many n l h c g =
-      let k = sized_of n l h c in
-      let e = ap (λ q. q.size) (same_at g.at k.1.at) ∙ k.1.size_is in
-      rw k.2 at (times_many k.0 n g.node.size e g.size_is)
+  unit_fits : {target : PointeeKind} {order : Option Key} {j : ℕ} {P : Pointee} → Points s shapes m target order j P → (node : Node) → IsAt m.nodes.now j node → (unit_size target node ≡ fits (element_size P)) × (unit_align target node ≡ pointee_align s P)
+  unit_fits (points_one k st) node at = let same = same_at at k.at in (ap (λ q. q.size) same ∙ k.size_is, ap (λ q. q.align) same ∙ k.align_is)
+  unit_fits (points_run k st) node at = let same = same_at at k.at in (ap (λ q. q.size) same ∙ k.size_is, ap (λ q. q.align) same ∙ k.align_is)
+  unit_fits (points_entries {key = key} {V = V} k st) node at =
+      let same = same_at at k.at in
+      entry_fits s.layouts key V node (ap (λ q. q.size) same ∙ k.size_is) (ap (λ q. q.align) same ∙ k.align_is)
+  unit_fits points_text node at = (refl, refl)
 
-  region_some : {target : PointeeKind} {j : ℕ} {P : Pointee} {align z : ℕ} (n l : ℕ) → Points s shapes m target j P → Counts target n l → RegionIs m j n (Some z) align → (z ≡ pointee_size s P l) × (z < 18446744073709551616) × (align ≡ pointee_align s P)
-  region_some {z = z} n l h c g =
-      let k = sized_of n l h c in
-      let same = same_at g.at k.1.at in
-      let e = ap (λ q. q.size) same ∙ k.1.size_is in
-      let t = times_some k.0 n z g.node.size e g.size_is in
-      (t.0 ∙ k.2, t.1, sym g.align_is ∙ ap (λ q. q.align) same ∙ k.1.align_is)
+  size_counted : {target : PointeeKind} {order : Option Key} {j : ℕ} {P : Pointee} (n l : ℕ) → Points s shapes m target order j P → Counts target n l → n * element_size P ≡ pointee_size s P l
+  size_counted {P = one X} n l (points_one k st) c = ap (λ x. x * size_of s.layouts X) c ∙ omega arith
+  size_counted {P = run X} n l (points_run k st) c = ap (λ x. x * size_of s.layouts X) c
+  size_counted n l (points_entries {key = key} {V = V} k st) c = ap (λ x. x * size_of s.layouts (entry_of (key_of key) V)) c
+  size_counted n l points_text c = omega (arith, c)
 
-  too_large_case : {target : PointeeKind} {j : ℕ} {P : Pointee} {align start : ℕ} {pending : List ℕ} {depth : Option ℕ} {stop : ℕ} {seen : Seen} (sharing : Option Flavor) (where_to : ℤ) (n l : ℕ) → Points s shapes m target j P → Counts target n l → RegionIs m j n None align → TripsEnter s m.bytes.now pending depth stop (leading sharing where_to P l) start seen too_large
+  region_many : {target : PointeeKind} {order : Option Key} {j : ℕ} {P : Pointee} {align : ℕ} (n l : ℕ) → Points s shapes m target order j P → Counts target n l → RegionIs m target j n None align → 18446744073709551616 ≤ pointee_size s P l
+  region_many {target = target} {P = P} n l h c g = rw (size_counted n l h c) at (times_many (element_size P) n (unit_size target g.node) (unit_fits h g.node g.at).0 g.size_is)
+
+  region_some : {target : PointeeKind} {order : Option Key} {j : ℕ} {P : Pointee} {align z : ℕ} (n l : ℕ) → Points s shapes m target order j P → Counts target n l → RegionIs m target j n (Some z) align → (z ≡ pointee_size s P l) × (z < 18446744073709551616) × (align ≡ pointee_align s P)
+  region_some {target = target} {P = P} {z = z} n l h c g =
+      let u = unit_fits h g.node g.at in
+      let t = times_some (element_size P) n z (unit_size target g.node) u.0 g.size_is in
+      (t.0 ∙ size_counted n l h c, t.1, sym g.align_is ∙ u.1)
+
+  too_large_case : {target : PointeeKind} {order : Option Key} {j : ℕ} {P : Pointee} {align start : ℕ} {pending : List ℕ} {depth : Option ℕ} {stop : ℕ} {seen : Seen} (sharing : Option Flavor) (where_to : ℤ) (n l : ℕ) → Points s shapes m target order j P → Counts target n l → RegionIs m target j n None align → TripsEnter s m.bytes.now pending depth stop (leading sharing order where_to P l) start seen too_large
   too_large_case sharing where_to n l h c g = trips_size (region_many n l h c g)
 
-  outside_case : {target : PointeeKind} {j : ℕ} {P : Pointee} {z align start : ℕ} {pending : List ℕ} {depth : Option ℕ} {stop : ℕ} {seen : Seen} (sharing : Option Flavor) (where_to : ℤ) (n l : ℕ) → Points s shapes m target j P → Counts target n l → RegionIs m j n (Some z) align → ((t : ℕ) → where_to ≡ pos t → start ≤ t → t + z ≤ stop → ⊥) → TripsEnter s m.bytes.now pending depth stop (leading sharing where_to P l) start seen (outside where_to z start stop)
-  outside_case {P = P} {start = start} {stop = stop} sharing where_to n l h c g f =
+  outside_case : {target : PointeeKind} {order : Option Key} {j : ℕ} {P : Pointee} {z align start : ℕ} {pending : List ℕ} {depth : Option ℕ} {stop : ℕ} {seen : Seen} (sharing : Option Flavor) (where_to : ℤ) (n l : ℕ) → Points s shapes m target order j P → Counts target n l → RegionIs m target j n (Some z) align → ((t : ℕ) → where_to ≡ pos t → start ≤ t → t + z ≤ stop → ⊥) → TripsEnter s m.bytes.now pending depth stop (leading sharing order where_to P l) start seen (outside where_to z start stop)
+  outside_case {order = order} {P = P} {start = start} {stop = stop} sharing where_to n l h c g f =
       let k = region_some n l h c g in
       let few : pointee_size s P l < 2 ^ 64 = omega (arith, k.0, k.1) in
       let nowhere : (t : ℕ) → where_to ≡ pos t → start ≤ t → t + pointee_size s P l ≤ stop → ⊥ = λ t e above below. f t e above (omega (arith, k.0, below)) in
-      rw k.0 (trips_range {p = leading sharing where_to P l} few nowhere)
+      rw k.0 (trips_range {p = leading sharing order where_to P l} few nowhere)
 
-  unaligned_case : {target : PointeeKind} {j : ℕ} {P : Pointee} {z align start t : ℕ} {pending : List ℕ} {depth : Option ℕ} {stop : ℕ} {seen : Seen} (sharing : Option Flavor) (where_to : ℤ) (n l : ℕ) → Points s shapes m target j P → Counts target n l → RegionIs m j n (Some z) align → where_to ≡ pos t → start ≤ t → t + z ≤ stop → t % align ≢ 0 → TripsEnter s m.bytes.now pending depth stop (leading sharing where_to P l) start seen (unaligned t align)
-  unaligned_case {P = P} {t = t} {stop = stop} sharing where_to n l h c g e above below f =
+  unaligned_case : {target : PointeeKind} {order : Option Key} {j : ℕ} {P : Pointee} {z align start t : ℕ} {pending : List ℕ} {depth : Option ℕ} {stop : ℕ} {seen : Seen} (sharing : Option Flavor) (where_to : ℤ) (n l : ℕ) → Points s shapes m target order j P → Counts target n l → RegionIs m target j n (Some z) align → where_to ≡ pos t → start ≤ t → t + z ≤ stop → t % align ≢ 0 → TripsEnter s m.bytes.now pending depth stop (leading sharing order where_to P l) start seen (unaligned t align)
+  unaligned_case {order = order} {P = P} {t = t} {stop = stop} sharing where_to n l h c g e above below f =
       let k = region_some n l h c g in
       let within : t + pointee_size s P l ≤ stop = omega (arith, k.0, below) in
-      rw k.2 (trips_align {p = leading sharing where_to P l} e above within (rw k.2 at f))
+      rw k.2 (trips_align {p = leading sharing order where_to P l} e above within (rw k.2 at f))
 
-  deep_case : {target : PointeeKind} {j : ℕ} {P : Pointee} {z align start t : ℕ} {pending : List ℕ} {depth : Option ℕ} {stop : ℕ} {seen : Seen} (sharing : Option Flavor) (where_to : ℤ) (n l : ℕ) → Points s shapes m target j P → Counts target n l → RegionIs m j n (Some z) align → where_to ≡ pos t → start ≤ t → t + z ≤ stop → t % align ≡ 0 → (Allows depth 1 → ⊥) → TripsEnter s m.bytes.now pending depth stop (leading sharing where_to P l) start seen too_deep
-  deep_case {P = P} {t = t} {stop = stop} sharing where_to n l h c g e above below aligned f =
+  deep_case : {target : PointeeKind} {order : Option Key} {j : ℕ} {P : Pointee} {z align start t : ℕ} {pending : List ℕ} {depth : Option ℕ} {stop : ℕ} {seen : Seen} (sharing : Option Flavor) (where_to : ℤ) (n l : ℕ) → Points s shapes m target order j P → Counts target n l → RegionIs m target j n (Some z) align → where_to ≡ pos t → start ≤ t → t + z ≤ stop → t % align ≡ 0 → (Allows depth 1 → ⊥) → TripsEnter s m.bytes.now pending depth stop (leading sharing order where_to P l) start seen too_deep
+  deep_case {order = order} {P = P} {t = t} {stop = stop} sharing where_to n l h c g e above below aligned f =
       let k = region_some n l h c g in
       let within : t + pointee_size s P l ≤ stop = omega (arith, k.0, below) in
-      trips_depth {p = leading sharing where_to P l} e above within (rw k.2 at aligned) f
+      trips_depth {p = leading sharing order where_to P l} e above within (rw k.2 at aligned) f
 
-  within_case : {target : PointeeKind} {j : ℕ} {P : Pointee} {z align start mid t : ℕ} {pending : List ℕ} {depth : Option ℕ} {stop : ℕ} {seen known : Seen} (sharing : Option Flavor) (where_to : ℤ) (n l : ℕ) → Points s shapes m target j P → Counts target n l → RegionIs m j n (Some z) align → where_to ≡ pos t → start ≤ t → t + z ≤ stop → t % align ≡ 0 → Allows depth 1 → WalkContents s m.bytes.now pending (inside depth) t t P l start seen mid known → (u : ℕ) × Enter s m.bytes.now pending depth stop (leading sharing where_to P l) u start seen (t + z) known
-  within_case {P = P} {t = t} {stop = stop} sharing where_to n l h c g e above below aligned allowed w =
+  within_case : {target : PointeeKind} {order : Option Key} {j : ℕ} {P : Pointee} {z align start mid t : ℕ} {pending : List ℕ} {depth : Option ℕ} {stop : ℕ} {seen known : Seen} (sharing : Option Flavor) (where_to : ℤ) (n l : ℕ) → Points s shapes m target order j P → Counts target n l → RegionIs m target j n (Some z) align → where_to ≡ pos t → start ≤ t → t + z ≤ stop → t % align ≡ 0 → Allows depth 1 → cond (is_some sharing) None order ≡ order → WalkContents s m.bytes.now pending (inside depth) t t order P l start seen mid known → (u : ℕ) × Enter s m.bytes.now pending depth stop (leading sharing order where_to P l) u start seen (t + z) known
+  within_case {order = order} {P = P} {t = t} {stop = stop} sharing where_to n l h c g e above below aligned allowed kept w =
       let k = region_some n l h c g in
       let within : t + pointee_size s P l ≤ stop = omega (arith, k.0, below) in
-      rw k.0 (t, enter {p = leading sharing where_to P l} e above within (rw k.2 at aligned) allowed w)
+      rw k.0 (t, enter {p = leading sharing order where_to P l} e above within (rw k.2 at aligned) allowed (rw (sym kept) at w))
 
-  stop_case : {target : PointeeKind} {j : ℕ} {P : Pointee} {z align start t : ℕ} {pending : List ℕ} {depth : Option ℕ} {stop : ℕ} {seen : Seen} {f : Fault} (sharing : Option Flavor) (where_to : ℤ) (n l : ℕ) → Points s shapes m target j P → Counts target n l → RegionIs m j n (Some z) align → where_to ≡ pos t → start ≤ t → t + z ≤ stop → t % align ≡ 0 → Allows depth 1 → TripsContents s m.bytes.now pending (inside depth) t t P l start seen f → TripsEnter s m.bytes.now pending depth stop (leading sharing where_to P l) start seen f
-  stop_case {P = P} {t = t} {stop = stop} sharing where_to n l h c g e above below aligned allowed w =
+  stop_case : {target : PointeeKind} {order : Option Key} {j : ℕ} {P : Pointee} {z align start t : ℕ} {pending : List ℕ} {depth : Option ℕ} {stop : ℕ} {seen : Seen} {f : Fault} (sharing : Option Flavor) (where_to : ℤ) (n l : ℕ) → Points s shapes m target order j P → Counts target n l → RegionIs m target j n (Some z) align → where_to ≡ pos t → start ≤ t → t + z ≤ stop → t % align ≡ 0 → Allows depth 1 → cond (is_some sharing) None order ≡ order → TripsContents s m.bytes.now pending (inside depth) t t order P l start seen f → TripsEnter s m.bytes.now pending depth stop (leading sharing order where_to P l) start seen f
+  stop_case {order = order} {P = P} {t = t} {stop = stop} sharing where_to n l h c g e above below aligned allowed kept w =
       let k = region_some n l h c g in
       let within : t + pointee_size s P l ≤ stop = omega (arith, k.0, below) in
-      trips_within {p = leading sharing where_to P l} e above within (rw k.2 at aligned) allowed w
+      trips_within {p = leading sharing order where_to P l} e above within (rw k.2 at aligned) allowed (rw (sym kept) at w)
 
-  run_case : (X : Shape) (pending : List ℕ) (depth : Option ℕ) (t start : ℕ) (seen : Seen) (l : ℕ) (o : Outcome) → RunSays l X pending depth t t start seen o → ContentsSay (run X) l t pending depth start seen o
+  run_case : (X : Shape) (pending : List ℕ) (depth : Option ℕ) (t start : ℕ) (seen : Seen) (l : ℕ) (o : Outcome) → RunSays l X pending depth t t start seen o → ContentsSay None (run X) l t pending depth start seen o
   run_case X pending depth t start seen l o h = says_map o (λ a k w. walk_run w) (λ e t. trips_run t) h
 
-  one_case : {X : Shape} {j : ℕ} (pending : List ℕ) (depth : Option ℕ) (t start : ℕ) (seen : Seen) (l : ℕ) (o : Outcome) → StandsFor s shapes X j → NodeSays pending depth t j t start seen o → ContentsSay (one X) l t pending depth start seen o
+  one_case : {X : Shape} {j : ℕ} (pending : List ℕ) (depth : Option ℕ) (t start : ℕ) (seen : Seen) (l : ℕ) (o : Outcome) → StandsFor s shapes X j → NodeSays pending depth t j t start seen o → ContentsSay None (one X) l t pending depth start seen o
   one_case pending depth t start seen l o st h = says_map o (λ a k w. walk_one (stands_walk st w)) (λ e t. trips_one (stands_trips st t)) h
+
+  -- entries: a walk of them and that their keys ascend, or a fault
+  abbrev pub EntriesSay : ℕ → Key → Shape → Option ℕ → List ℕ → Option ℕ → ℕ → ℕ → ℕ → Seen → Outcome → Type 0
+  EntriesSay n K V before pending depth stop p start seen o =
+      OutcomeSays (λ later last. WalkRun s m.bytes.now pending depth stop p n (entry_of K V) start seen later last × Ascend K m.bytes.now before p (size_of s.layouts (entry_of K V)) n)
+      (TripsEntries s m.bytes.now pending depth stop before p n K V start seen) o
+
+  entries_case : (K : Key) (V : Shape) (pending : List ℕ) (depth : Option ℕ) (t start : ℕ) (seen : Seen) (l : ℕ) (o : Outcome) → EntriesSay l K V None pending depth t t start seen o → ContentsSay (Some K) (run (entry_of K V)) l t pending depth start seen o
+  entries_case K V pending depth t start seen l o h = says_map o (λ a k w. walk_entries w.0 w.1) (λ e t. trips_entries t) h
+
+  entries_none : {K : Key} {V : Shape} {before : Option ℕ} {pending : List ℕ} {depth : Option ℕ} {stop p start : ℕ} {seen : Seen} (n : ℕ) → n ≡ 0 → EntriesSay n K V before pending depth stop p start seen (done start seen)
+  entries_none zero e = (walk_none, tt)
+  entries_none (suc n) e = absurd (omega arith)
+
+  entries_key_case : {K : Key} {V : Shape} {before : Option ℕ} {pending : List ℕ} {depth : Option ℕ} {stop p start : ℕ} {seen : Seen} {e : Fault} (n : ℕ) → 0 < n → ((n : ℕ) → TripsEntries s m.bytes.now pending depth stop before p (suc n) K V start seen e) → TripsEntries s m.bytes.now pending depth stop before p n K V start seen e
+  entries_key_case zero lt t = absurd (omega arith)
+  entries_key_case (suc n) lt t = t n
+
+  entries_value_case : {K : Key} {V : Shape} {before : Option ℕ} {pending : List ℕ} {depth : Option ℕ} {stop p start mid offset : ℕ} {seen known : Seen} {e : Fault} (n : ℕ) → 0 < n → Walk s m.bytes.now pending depth stop p (key_shape K) start seen mid known → ComesBehind K m.bytes.now before p → offset ≡ up (size_of s.layouts (key_shape K)) (align_of s.layouts V)
+      → Trips s m.bytes.now pending depth stop (p + offset) V mid known e → TripsEntries s m.bytes.now pending depth stop before p n K V start seen e
+  entries_value_case zero lt w b is t = absurd (omega arith)
+  entries_value_case (suc n) lt w b is t = trips_value w b (rw is at t)
+
+  entries_next_case : {K : Key} {V : Shape} {before : Option ℕ} {pending : List ℕ} {depth : Option ℕ} {stop p start mid later offset size : ℕ} {seen known more : Seen} (n : ℕ) (o : Outcome) → 0 < n → Walk s m.bytes.now pending depth stop p (key_shape K) start seen mid known → ComesBehind K m.bytes.now before p → offset ≡ up (size_of s.layouts (key_shape K)) (align_of s.layouts V) → size ≡ size_of s.layouts (entry_of K V)
+      → Walk s m.bytes.now pending depth stop (p + offset) V mid known later more → EntriesSay (n - 1) K V (Some p) pending depth stop (p + size) later more o → EntriesSay n K V before pending depth stop p start seen o
+  entries_next_case zero o lt w b is all v rest = absurd (omega arith)
+  entries_next_case {K = K} {V = V} (suc n) o lt w b is all v rest =
+      let less : suc n - 1 ≡ n = omega arith in
+      let entry = walk_entry s m.bytes.now K V w (rw is at v) in
+      says_map o (λ a k ws. let q = rw (less, all) at ws in (walk_element entry q.0, (b, q.1))) (λ f t. trips_later_entry entry b (rw (less, all) at t)) rest
+
+  entry_is : {key : KeyExpr} {V : Shape} {j offset size : ℕ} → Sized m j (size_of s.layouts V) (align_of s.layouts V) → EntryTakes m key j offset size → (offset ≡ up (size_of s.layouts (key_shape (key_of key))) (align_of s.layouts V)) × (size ≡ size_of s.layouts (entry_of (key_of key) V)) × Takes m j (size_of s.layouts V)
+  entry_is {key = key} {V = V} {offset = offset} k takes =
+      let same = same_at takes.at k.at in
+      let sized = ap (λ q. q.size) same ∙ k.size_is in
+      let aligned = ap (λ q. q.align) same ∙ k.align_is in
+      let begin : fits (up (key_size (key_of key)) (align_of s.layouts V)) ≡ Some offset = ap (λ a. fits (up (key_size (key_of key)) a)) (sym aligned) ∙ takes.offset_is in
+      let all = entry_fits s.layouts key V takes.node sized aligned in
+      let (value, value_is) = value_sized key takes.node takes.size_is in
+      (
+        sym (some_is begin) ∙ ap (λ n. up n (align_of s.layouts V)) (sym (key_takes s.layouts (key_of key))),
+        sym (some_is (sym all.0 ∙ takes.size_is)),
+        record { node = takes.node; at = takes.at; size_is = value_is ∙ ap Some (sym (some_is (sym sized ∙ value_is))) },
+      )
 
   -- what takes nothing is there
   empty_node : {X : Shape} {pending : List ℕ} {depth : Option ℕ} {stop p start : ℕ} {seen : Seen} (kind : NodeKind) → Nothing kind → Made s shapes m kind X → p + size_of s.layouts X ≤ length m.bytes.now → Walk s m.bytes.now pending depth stop p X start seen start seen
@@ -313,10 +390,11 @@ module _ (s : Schema) (shapes : ℕ → Shape) (m : Checker) where
     empty_some zero p st k e room = walk_none
     empty_some {X = X} (suc n) p st k e room = empty_run (suc n) p st k (eq_of_mul-eq-mul_left (suc n) (omega arith) (size_of s.layouts X) 0 (e ∙ sym (mul-zero (suc n)))) room
 
-    empty_case : {target : PointeeKind} {j : ℕ} {P : Pointee} {pending : List ℕ} {depth : Option ℕ} {t start : ℕ} {seen : Seen} (l : ℕ) → Points s shapes m target j P → pointee_size s P l ≡ 0 → t ≤ length m.bytes.now → WalkContents s m.bytes.now pending depth t t P l start seen start seen
-    empty_case l (points_one k st) e room = walk_one (empty_walk st k e room)
-    empty_case l (points_run k st) e room = walk_run (empty_some l _ st k e room)
-    empty_case {t = t} l (points_text k) e room = walk_text (empty_text m.bytes.now t l e)
+    empty_case : {target : PointeeKind} {order : Option Key} {j : ℕ} {P : Pointee} {pending : List ℕ} {depth : Option ℕ} {t start : ℕ} {seen : Seen} (l : ℕ) → ((key : KeyExpr) → target ≢ EntriesOf key) → Points s shapes m target order j P → pointee_size s P l ≡ 0 → t ≤ length m.bytes.now → WalkContents s m.bytes.now pending depth t t order P l start seen start seen
+    empty_case l plain (points_one k st) e room = walk_one (empty_walk st k e room)
+    empty_case l plain (points_run k st) e room = walk_run (empty_some l _ st k e room)
+    empty_case l plain (points_entries {key = key} k st) e room = absurd (plain key refl)
+    empty_case {t = t} l plain points_text e room = walk_text (empty_text m.bytes.now t l e)
 
     mutual
       pub node_says : {pending : List ℕ} {depth : Option ℕ} {stop i p start z : ℕ} {seen : Seen} {o : Outcome} → NodeRuns m pending depth stop i p start seen o → Takes m i z → stop ≤ length m.bytes.now → NodeSays pending depth stop i p start seen o
@@ -328,19 +406,44 @@ module _ (s : Schema) (shapes : ℕ → Shape) (m : Checker) where
       node_says (run_tag h none) k le = tag_case (made_of r h k).1 none
       node_says (run_array {o = o} h v) k le = array_case _ _ _ _ _ _ o (made_of r h k).1 (λ Y st t. elements_say v st t le)
       node_says (run_pointer {p = p} {o = o} {target = target} h v) k le =
-          pointer_case _ _ _ p _ _ o (made_of r h k).1 (λ P points. rw (length_is p points) at (enter_says None _ v points (counts_of m.bytes.now p target) le))
-      node_says (run_inline h out utf) k le = inline_case (made_of r h k).1 out utf
-      node_says (run_no_text h out wrong) k le = no_text_case (made_of r h k).1 out wrong
-      node_says (run_short h out few) k le = short_case (made_of r h k).1 out few
-      node_says (run_out_of_line {o = o} h out long v) k le = string_case _ _ _ _ _ _ o (made_of r h k).1 out long (λ points. enter_says None _ v points refl le)
+          pointer_case _ _ _ p _ _ o (made_of r h k).1 (λ order P points. rw (length_is p points) at (enter_says None refl _ v points (counts_of m.bytes.now p target) le))
+      node_says (run_str {o = o} h v) k le = str_case _ _ _ _ _ _ o (made_of r h k).1 (string_says v le)
       node_says (run_shared {p = p} {o = o} {target = target} h v) k le = shared_case _ _ _ p _ _ o (made_of r h k).1 (λ shared_type at points. follow_says shared_type v at points (counts_of m.bytes.now p target) le)
       node_says (run_null h e) k le = null_case (made_of r h k).1 e
       node_says (run_weak {p = p} {o = o} {target = target} h some v) k le = weak_case _ _ _ p _ _ o (made_of r h k).1 some (λ shared_type at points. follow_says shared_type v at points (counts_of m.bytes.now p target) le)
 
-      pub follow_says : {pending : List ℕ} {depth : Option ℕ} {stop k j n l start : ℕ} {target : PointeeKind} {where_to : ℤ} {seen : Seen} {o : Outcome} (shared_type : SharedType) → FollowRuns m pending depth stop k target j n l where_to start seen o → IsAt m.shared_types.now k shared_type → Points s shapes m target j (pointee_of shared_type.pointee) → Counts target n l → stop ≤ length m.bytes.now → FollowSays (sorted shared_type where_to l) pending depth stop start seen o
-      follow_says shared_type (follow_before {l = l} {o = o} {where_to = where_to} nowhere v) at h c le = before_case _ _ _ _ _ shared_type where_to l o nowhere (enter_says (Some (flavor_of shared_type.flavor)) l v h c le)
+      pub string_says : {pending : List ℕ} {depth : Option ℕ} {stop j p start : ℕ} {seen : Seen} {o : Outcome} → StringRuns m pending depth stop j p start seen o → stop ≤ length m.bytes.now → ShapeSays str pending depth stop p start seen o
+      string_says (string_inline out utf) le = walk_inline out utf
+      string_says (string_no_text out wrong) le = trips_inline out wrong
+      string_says (string_short out few) le = trips_short out few
+      string_says (string_out_of_line {o = o} out long v) le = string_case _ _ _ _ _ _ o out long (enter_says None refl _ v points_text refl le)
+
+      pub key_says : {pending : List ℕ} {depth : Option ℕ} {stop j p start : ℕ} {seen : Seen} {key : KeyExpr} {o : Outcome} → KeyRuns m pending depth stop key j p start seen o → stop ≤ length m.bytes.now → ShapeSays (key_shape (key_of key)) pending depth stop p start seen o
+      key_says (key_leaf legal) le = walk_leaf legal
+      key_says (key_illegal wrong) le = trips_leaf wrong
+      key_says (key_string v) le = string_says v le
+
+      -- a key for itself, and its order: a walk of it and that it comes behind, or a fault of the entries
+      pub order_says : {pending : List ℕ} {depth : Option ℕ} {stop j p start : ℕ} {before : Option ℕ} {seen : Seen} {key : KeyExpr} {o : Outcome} (V : Shape) → OrderRuns m pending depth stop key j before p start seen o → stop ≤ length m.bytes.now
+          → OutcomeSays (λ later last. Walk s m.bytes.now pending depth stop p (key_shape (key_of key)) start seen later last × ComesBehind (key_of key) m.bytes.now before p) (λ e. (n : ℕ) → TripsEntries s m.bytes.now pending depth stop before p (suc n) (key_of key) V start seen e) o
+      order_says V (order_key v) le = λ n. trips_key (key_says v le)
+      order_says V (order_wrong v no) le = λ n. trips_order (key_says v le) no
+      order_says V (order_kept v yes) le = (key_says v le, yes)
+
+      pub entries_say : {pending : List ℕ} {depth : Option ℕ} {stop j n p start : ℕ} {before : Option ℕ} {seen : Seen} {key : KeyExpr} {V : Shape} {o : Outcome} → EntriesRun m pending depth stop key j before n p start seen o → StandsFor s shapes V j → Sized m j (size_of s.layouts V) (align_of s.layouts V) → stop ≤ length m.bytes.now → EntriesSay n (key_of key) V before pending depth stop p start seen o
+      entries_say (entries_end {n = n} e) st k le = entries_none n e
+      entries_say {V = V} (entries_key {n = n} lt v) st k le = entries_key_case n lt (order_says V v le)
+      entries_say {V = V} (entries_value {n = n} lt v takes w) st k le =
+          let q = order_says V v le in let at = entry_is k takes in
+          entries_value_case n lt q.0 q.1 at.0 (stands_trips st (node_says w at.2 le))
+      entries_say {V = V} (entries_next {n = n} {o = o} lt v takes w vs) st k le =
+          let q = order_says V v le in let at = entry_is k takes in
+          entries_next_case n o lt q.0 q.1 at.0 at.1 (stands_walk st (node_says w at.2 le)) (entries_say vs st k le)
+
+      pub follow_says : {pending : List ℕ} {depth : Option ℕ} {stop k j n l start : ℕ} {target : PointeeKind} {where_to : ℤ} {seen : Seen} {o : Outcome} (shared_type : SharedType) → FollowRuns m pending depth stop k target j n l where_to start seen o → IsAt m.shared_types.now k shared_type → Points s shapes m target None j (pointee_of shared_type.pointee) → Counts target n l → stop ≤ length m.bytes.now → FollowSays (sorted shared_type where_to l) pending depth stop start seen o
+      follow_says shared_type (follow_before {l = l} {o = o} {where_to = where_to} nowhere v) at h c le = before_case _ _ _ _ _ shared_type where_to l o nowhere (enter_says (Some (flavor_of shared_type.flavor)) refl l v h c le)
       follow_says shared_type (runs_new {l = l} {o = o} {where_to = where_to} is e none v) at h c le =
-          new_case _ _ _ _ _ shared_type where_to l o (same_at is at) e none (enter_says (Some (flavor_of shared_type.flavor)) l v h c le)
+          new_case _ _ _ _ _ shared_type where_to l o (same_at is at) e none (enter_says (Some (flavor_of shared_type.flavor)) refl l v h c le)
       follow_says shared_type (runs_again {l = l} {where_to = where_to} is e known free) at h c le = again_case shared_type where_to l (same_at is at) e known free
       follow_says shared_type (follow_type {l = l} {where_to = where_to} is e known other) at h c le = type_case shared_type where_to l (same_at is at) e known other
       follow_says shared_type (follow_length {l = l} {where_to = where_to} is e known alike other) at h c le = length_case shared_type where_to l (same_at is at) e known alike other
@@ -367,20 +470,21 @@ module _ (s : Schema) (shapes : ℕ → Shape) (m : Checker) where
       elements_say (elements_free {n = n} {p = p} h t' room) st t le = let made = made_of r h t in free_run n p st made.1 made.0 (rw (take_same t' t) at room)
       elements_say (elements_stop {n = n} {p = p} lt v) st t le = element_stop_case n p lt st (node_says v t le)
 
-      pub enter_says : {pending : List ℕ} {depth : Option ℕ} {stop j n start : ℕ} {target : PointeeKind} {where_to : ℤ} {seen : Seen} {o : Outcome} {P : Pointee} (sharing : Option Flavor) (l : ℕ) → EnterRuns m pending depth stop target j n where_to start seen o → Points s shapes m target j P → Counts target n l → stop ≤ length m.bytes.now → EnterSays (leading sharing where_to P l) pending depth stop start seen o
-      enter_says sharing l (enter_too_large {n = n} {where_to = where_to} g) h c le = too_large_case sharing where_to n l h c g
-      enter_says sharing l (enter_outside {n = n} {where_to = where_to} g f) h c le = outside_case sharing where_to n l h c g f
-      enter_says sharing l (enter_unaligned {n = n} {where_to = where_to} g e above below f) h c le = unaligned_case sharing where_to n l h c g e above below f
-      enter_says sharing l (enter_too_deep {n = n} {where_to = where_to} g e above below aligned f) h c le = deep_case sharing where_to n l h c g e above below aligned f
-      enter_says sharing l (enter_within {n = n} {where_to = where_to} g e above below aligned allowed v) h c le =
-          within_case sharing where_to n l h c g e above below aligned allowed (contents_say l v h c (region_some n l h c g) (omega (arith, below, le)))
-      enter_says sharing l (enter_stop {n = n} {where_to = where_to} g e above below aligned allowed v) h c le =
-          stop_case sharing where_to n l h c g e above below aligned allowed (contents_say l v h c (region_some n l h c g) (omega (arith, below, le)))
+      pub enter_says : {pending : List ℕ} {depth : Option ℕ} {stop j n start : ℕ} {target : PointeeKind} {order : Option Key} {where_to : ℤ} {seen : Seen} {o : Outcome} {P : Pointee} (sharing : Option Flavor) → cond (is_some sharing) None order ≡ order → (l : ℕ) → EnterRuns m pending depth stop target j n where_to start seen o → Points s shapes m target order j P → Counts target n l → stop ≤ length m.bytes.now → EnterSays (leading sharing order where_to P l) pending depth stop start seen o
+      enter_says sharing kept l (enter_too_large {n = n} {where_to = where_to} g) h c le = too_large_case sharing where_to n l h c g
+      enter_says sharing kept l (enter_outside {n = n} {where_to = where_to} g f) h c le = outside_case sharing where_to n l h c g f
+      enter_says sharing kept l (enter_unaligned {n = n} {where_to = where_to} g e above below f) h c le = unaligned_case sharing where_to n l h c g e above below f
+      enter_says sharing kept l (enter_too_deep {n = n} {where_to = where_to} g e above below aligned f) h c le = deep_case sharing where_to n l h c g e above below aligned f
+      enter_says sharing kept l (enter_within {n = n} {where_to = where_to} g e above below aligned allowed v) h c le =
+          within_case sharing where_to n l h c g e above below aligned allowed kept (contents_say l v h c (region_some n l h c g) (omega (arith, below, le)))
+      enter_says sharing kept l (enter_stop {n = n} {where_to = where_to} g e above below aligned allowed v) h c le =
+          stop_case sharing where_to n l h c g e above below aligned allowed kept (contents_say l v h c (region_some n l h c g) (omega (arith, below, le)))
 
-      pub contents_say : {pending : List ℕ} {depth : Option ℕ} {j n z t start align : ℕ} {target : PointeeKind} {seen : Seen} {o : Outcome} {P : Pointee} (l : ℕ) → ContentsRun m pending depth target j n z t start seen o → Points s shapes m target j P → Counts target n l → (z ≡ pointee_size s P l) × (z < 18446744073709551616) × (align ≡ pointee_align s P) → t ≤ length m.bytes.now → ContentsSay P l t pending depth start seen o
-      contents_say l (contents_empty e) h c k le = empty_case l h (sym k.0 ∙ e) le
+      pub contents_say : {pending : List ℕ} {depth : Option ℕ} {j n z t start align : ℕ} {target : PointeeKind} {order : Option Key} {seen : Seen} {o : Outcome} {P : Pointee} (l : ℕ) → ContentsRun m pending depth target j n z t start seen o → Points s shapes m target order j P → Counts target n l → (z ≡ pointee_size s P l) × (z < 18446744073709551616) × (align ≡ pointee_align s P) → t ≤ length m.bytes.now → ContentsSay order P l t pending depth start seen o
+      contents_say l (contents_empty e plain) h c k le = empty_case l plain h (sym k.0 ∙ e) le
       contents_say l (contents_one {o = o} lt v) (points_one sized st) c k le = one_case _ _ _ _ _ l o st (node_says v (sized_takes sized (omega (arith, k.0, k.1))) le)
       contents_say l (contents_run {n = n} {o = o} lt v) (points_run sized st) c k le =
           run_case _ _ _ _ _ _ l o (rw c at (elements_say v st (sized_takes sized (element_few n l _ _ c k.0 k.1 lt)) le))
-      contents_say l (contents_text utf) (points_text sized) c k le = walk_text (rw k.0 at utf)
-      contents_say l (contents_no_text wrong) (points_text sized) c k le = trips_text (rw k.0 at wrong)
+      contents_say l (contents_entries {n = n} {o = o} v) (points_entries sized st) c k le = entries_case _ _ _ _ _ _ _ l o (rw c at (entries_say v st sized le))
+      contents_say l (contents_text utf) points_text c k le = walk_text (rw k.0 at utf)
+      contents_say l (contents_no_text wrong) points_text c k le = trips_text (rw k.0 at wrong)

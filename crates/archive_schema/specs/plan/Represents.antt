@@ -48,7 +48,7 @@ pub data Points (s : Schema) (shapes : ℕ → Shape) (m : Checker) : PointeeKin
   points_one : {j : ℕ} {X : Shape} → Sized m j (size_of s.layouts X) (align_of s.layouts X) → StandsFor s shapes X j → Points s shapes m One None j (one X)
   points_run : {j : ℕ} {X : Shape} → Sized m j (size_of s.layouts X) (align_of s.layouts X) → StandsFor s shapes X j → Points s shapes m Run None j (run X)
   points_entries : {j : ℕ} {key : KeyExpr} {V : Shape} → Sized m j (size_of s.layouts V) (align_of s.layouts V) → StandsFor s shapes V j → Points s shapes m (Entries key) (Some (key_of key)) j (run (entry_of (key_of key) V))
-  points_text : {j : ℕ} → Sized m j 1 1 → Points s shapes m Text None j text
+  points_text : {j : ℕ} → Points s shapes m Text None j text
 
 pub data Made (s : Schema) (shapes : ℕ → Shape) (m : Checker) : NodeKind → Shape → Type 0 where
   -- any bytes are an X, and hold no pointer
