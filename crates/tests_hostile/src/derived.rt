@@ -1,6 +1,8 @@
 // Archives of types that tools/derive wrote: a struct of structs, enums in a vector, and structs that share.
 
 use crate::agreement::{assert_hostile, assert_hostile_vectors};
+use crate::faults::assert_first_faults;
+use archive_core::error::Error;
 use derived_types::event::ArchivedEvent;
 use derived_types::spot::ArchivedDrawing;
 use derived_types::track::{ArchivedEither, ArchivedRuns, ArchivedTrack};
@@ -44,4 +46,31 @@ fn hostile_structs_that_share(rt: HostRuntime) {
 #[test]
 fn a_hostile_enum_that_shares(rt: HostRuntime) {
     assert_hostile::<ArchivedEither>(&rt, rt.alloc(), &[("together", TOGETHER)]);
+}
+
+// A drawing with three faults: four lines in place of one, an option and an event with unknown tags.
+const THREE_FAULTS: &[u8] =
+    b"\x05\0\x06\0\x07\0\x08\0\x09\0\x0a\0\x0b\0\x0c\0\x01\0\0\0\x02\0\0\0\x01\0\xfe\xff\x03\0\x04\0\xe0\xff\xff\xff\x04\0\0\0\x02\0\0\0\xdc\xff\xff\xff\x07\0\0\0\xdc\xff\xff\xff\x02\0\0\0";
+
+// The last two of them alone.
+const TWO_FAULTS: &[u8] =
+    b"\x05\0\x06\0\x07\0\x08\0\x09\0\x0a\0\x0b\0\x0c\0\x01\0\0\0\x02\0\0\0\x01\0\xfe\xff\x03\0\x04\0\xe0\xff\xff\xff\x01\0\0\0\x02\0\0\0\xdc\xff\xff\xff\x07\0\0\0\xdc\xff\xff\xff\x02\0\0\0";
+
+#[test]
+fn of_three_faults_of_a_drawing_the_first_is_told(rt: HostRuntime) {
+    let outside = Error::InvalidSubtreePointer {
+        position: 0,
+        size: 32,
+        start: 0,
+        end: 24,
+    };
+    let unknown = Error::InvalidDiscriminant {
+        name: "ArchivedOption",
+        value: 2,
+    };
+    assert_first_faults::<ArchivedDrawing>(
+        &rt,
+        rt.alloc(),
+        &[(THREE_FAULTS, outside), (TWO_FAULTS, unknown)],
+    );
 }
