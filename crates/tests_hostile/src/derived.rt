@@ -40,6 +40,10 @@ fn hostile_enums_in_a_vector(rt: HostRuntime) {
 #[test]
 fn hostile_structs_that_share(rt: HostRuntime) {
     assert_hostile_vectors::<ArchivedTrack>(&rt, rt.alloc(), &[("two tracks", TRACKS)]);
+}
+
+#[test]
+fn hostile_structs_that_share_runs(rt: HostRuntime) {
     assert_hostile::<ArchivedRuns>(&rt, rt.alloc(), &[("runs", RUNS)]);
 }
 
