@@ -83,14 +83,10 @@ fn an_atlas_is_written_and_read_back(rt: HostRuntime) {
 }
 
 // A view shows a line between places of which each number is by one greater than the one before.
-fn assert_rising(rt: &impl Abort, view: Ref<'_, ArchivedLine>, first: u16) {
-    assert_spot(rt, view.from(), first, first.wrapping_add(1) as i16);
-    assert_spot(
-        rt,
-        view.to(),
-        first.wrapping_add(2),
-        first.wrapping_add(3) as i16,
-    );
+fn assert_rising(rt: &impl Abort, view: Ref<'_, ArchivedLine>, first: u8) {
+    assert_spot(rt, view.from(), first as u16, first.wrapping_add(1) as i16);
+    let (right, up) = (first.wrapping_add(2), first.wrapping_add(3));
+    assert_spot(rt, view.to(), right as u16, up as i16);
 }
 
 // A view shows the drawing above.

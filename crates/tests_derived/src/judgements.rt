@@ -11,19 +11,14 @@ use std::process::Abort;
 // The bytes that others are made: the least, those on both sides of a sign's bit, and the greatest.
 const OTHERS: [u8; 6] = [0, 1, 2, 0x7f, 0x80, 0xff];
 
-// Checks that are made once.
-#[derive(Drop)]
-struct Checks<T: Portable> {
-    kept: Access<T>,
-    schema: Schema,
+// A check of a type that is kept.
+fn kept_of<T: Portable>(rt: &impl Abort, alloc: Global) -> Access<T> {
+    Access::new(alloc).expect(rt, "a check")
 }
 
-// Those of a type.
-fn checks_of<T: Portable>(rt: &impl Abort, alloc: Global) -> Checks<T> {
-    Checks {
-        kept: Access::new(alloc).expect(rt, "a check"),
-        schema: Schema::of::<T>(alloc).expect(rt, "a schema"),
-    }
+// And the type's schema.
+fn schema_of<T: Portable>(rt: &impl Abort, alloc: Global) -> Schema {
+    Schema::of::<T>(alloc).expect(rt, "a schema")
 }
 
 // Why no `T` lies at the end of the bytes, if so, by the type's check.
@@ -43,26 +38,43 @@ fn refusal_by_schema<T: Portable>(alloc: Global, schema: &Schema, bytes: &[u8]) 
     schema.check(bytes, root, &mut context).err()
 }
 
-// All three say this of the bytes, which are told where one doesn't.
+// What a check says of bytes is what it is to say. Where it isn't, the bytes are told, too.
+fn assert_said(
+    rt: &impl Abort,
+    what: &str,
+    bytes: &[u8],
+    found: Option<Error>,
+    wanted: Option<Error>,
+) {
+    assert_same(rt, what, (bytes, found), (bytes, wanted));
+}
+
+// All three say this of the bytes.
 fn assert_judged<T: Portable>(
     rt: &impl Abort,
     alloc: Global,
-    checks: &Checks<T>,
+    kept: &Access<T>,
+    schema: &Schema,
     bytes: &[u8],
     wanted: Option<Error>,
 ) {
-    let kept = refusal_kept(&checks.kept, bytes);
-    assert_same(rt, "a kept check", (bytes, kept), (bytes, wanted));
-    let by_schema = refusal_by_schema::<T>(alloc, &checks.schema, bytes);
-    assert_same(rt, "the schema", (bytes, by_schema), (bytes, wanted));
+    assert_said(rt, "a kept check", bytes, refusal_kept(kept, bytes), wanted);
+    let by_schema = refusal_by_schema::<T>(alloc, schema, bytes);
+    assert_said(rt, "the schema", bytes, by_schema, wanted);
     let own = refusal_of::<T>(alloc, bytes);
-    assert_same(rt, "the type's check", (bytes, own), (bytes, wanted));
+    assert_said(rt, "the type's check", bytes, own, wanted);
 }
 
 // All three say the same of the bytes.
-fn assert_alike<T: Portable>(rt: &impl Abort, alloc: Global, checks: &Checks<T>, bytes: &[u8]) {
+fn assert_alike<T: Portable>(
+    rt: &impl Abort,
+    alloc: Global,
+    kept: &Access<T>,
+    schema: &Schema,
+    bytes: &[u8],
+) {
     let wanted = refusal_of::<T>(alloc, bytes);
-    assert_judged(rt, alloc, checks, bytes, wanted);
+    assert_judged(rt, alloc, kept, schema, bytes, wanted);
 }
 
 // The bytes with another one at an index.
@@ -77,13 +89,14 @@ fn edited(alloc: Global, bytes: &[u8], index: usize, value: u8) -> Result<Vec<u8
 
 // The archive is accepted. All checks say the same of each beginning of it, and of the whole with each byte in turn made another one.
 pub(crate) fn assert_checked<T: Portable>(rt: &impl Abort, alloc: Global, archive: &[u8]) {
-    let checks = checks_of::<T>(rt, alloc);
-    assert_judged(rt, alloc, &checks, archive, None);
+    let kept = kept_of::<T>(rt, alloc);
+    let schema = schema_of::<T>(rt, alloc);
+    assert_judged(rt, alloc, &kept, &schema, archive, None);
     for index in 0..archive.len() {
-        assert_alike(rt, alloc, &checks, &archive[..index]);
+        assert_alike(rt, alloc, &kept, &schema, &archive[..index]);
         for value in OTHERS {
             let bytes = edited(alloc, archive, index, value).expect(rt, "memory for a copy");
-            assert_alike(rt, alloc, &checks, &bytes);
+            assert_alike(rt, alloc, &kept, &schema, &bytes);
         }
     }
 }
@@ -95,18 +108,20 @@ pub(crate) fn assert_faults<T: Portable>(
     archive: &[u8],
     rows: &[(usize, u8, Error)],
 ) {
-    let checks = checks_of::<T>(rt, alloc);
+    let kept = kept_of::<T>(rt, alloc);
+    let schema = schema_of::<T>(rt, alloc);
     for (index, value, fault) in rows {
         let bytes = edited(alloc, archive, *index, *value).expect(rt, "memory for a copy");
-        assert_judged(rt, alloc, &checks, &bytes, Some(*fault));
+        assert_judged(rt, alloc, &kept, &schema, &bytes, Some(*fault));
     }
 }
 
 // In each row bytes, and the fault that all checks find in them.
 pub(crate) fn assert_refused<T: Portable>(rt: &impl Abort, alloc: Global, rows: &[(&[u8], Error)]) {
-    let checks = checks_of::<T>(rt, alloc);
+    let kept = kept_of::<T>(rt, alloc);
+    let schema = schema_of::<T>(rt, alloc);
     for (bytes, fault) in rows {
-        assert_judged(rt, alloc, &checks, bytes, Some(*fault));
+        assert_judged(rt, alloc, &kept, &schema, bytes, Some(*fault));
     }
 }
 

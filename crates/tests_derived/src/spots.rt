@@ -29,13 +29,12 @@ pub(crate) fn line() -> Line {
 
 // A line between places of which each number is by one greater than the one before.
 pub(crate) fn rising(first: u8) -> Line {
-    let first = first as u16;
     let from = Spot {
-        right: first,
+        right: first as u16,
         up: first.wrapping_add(1) as i16,
     };
     let to = Spot {
-        right: first.wrapping_add(2),
+        right: first.wrapping_add(2) as u16,
         up: first.wrapping_add(3) as i16,
     };
     Line { from, to }

@@ -41,27 +41,30 @@ pub(crate) fn shared_line(rt: &impl Abort, alloc: Global, key: u64) -> Shared<Li
     Shared { key, value }
 }
 
-// A track along a shared line, and the other one of it.
-fn track(rt: &impl Abort, alloc: Global, line: Shared<Line>, other: Option<Line>) -> Track {
-    let other = other.map(|line| Box::new(alloc, line).expect(rt, "memory for another line"));
-    Track { line, other }
+// Another line, in a box.
+fn boxed(rt: &impl Abort, alloc: Global, line: Line) -> Box<Line> {
+    Box::new(alloc, line).expect(rt, "memory for another line")
 }
 
 // Two tracks along one line.
 fn tracks(rt: &impl Abort, alloc: Global) -> Vec<Track> {
     let line = shared_line(rt, alloc, 1);
     let same = line.clone().expect(rt, "another pointer");
-    let tracks = vec![in alloc;
-        track(rt, alloc, line, None),
-        track(rt, alloc, same, Some(rising(5))),
-    ];
+    let first = Track { line, other: None };
+    let second = Track {
+        line: same,
+        other: Some(boxed(rt, alloc, rising(5))),
+    };
+    let tracks = vec![in alloc; first, second];
     tracks.expect(rt, "memory for tracks")
 }
 
 #[test]
 fn a_track_is_written(rt: HostRuntime) {
-    let line = shared_line(&rt, rt.alloc(), 1);
-    let track = track(&rt, rt.alloc(), line, Some(rising(5)));
+    let track = Track {
+        line: shared_line(&rt, rt.alloc(), 1),
+        other: Some(boxed(&rt, rt.alloc(), rising(5))),
+    };
     assert_written(&rt, rt.alloc(), &track, 12, TRACK);
     assert_checked::<ArchivedTrack>(&rt, rt.alloc(), TRACK);
 }
@@ -203,7 +206,8 @@ fn write_number(rt: &impl Abort, alloc: Global, bytes: &mut [u8], number: u8) {
     let either = sealed::<ArchivedEither>(rt, alloc, bytes);
     match either.as_ref().tag() {
         0 => either.alone_0_mut().write(number),
-        _ => either.together_1_mut().write(number),
+        1 => either.together_1_mut().write(number),
+        _ => {}
     }
 }
 

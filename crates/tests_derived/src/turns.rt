@@ -54,7 +54,8 @@ fn write_distance(turn: Seal<'_, ArchivedTurn>, far: u16)
 {
     match turn.as_ref().tag() {
         0 => turn.left_0_mut().write(far),
-        _ => turn.right_0_mut().write(far),
+        1 => turn.right_0_mut().write(far),
+        _ => {}
     }
 }
 
