@@ -6,6 +6,7 @@ ghost use Rattle.archive_core.specs.Definitions.{no_definition};
 ghost use Rattle.archive_core.specs.Shape.{one, run, str as str_shape};
 ghost use Rattle.archive_core.specs.Viewed.{Viewed};
 
+use crate::judgements::assert_checked;
 use archive_core::api::{
     HighSerializer, access, access_mut, from_bytes, serialize_using, to_bytes,
 };
@@ -46,23 +47,46 @@ pub(crate) fn text(rt: &impl Abort, alloc: Global, text: &str) -> String {
     String::from_str(alloc, text).expect(rt, "memory for a text")
 }
 
-// These bytes are the archive of a value, and what is written of it as a region of its own, which ends where they do and has `size` bytes.
+// These bytes are the archive of a value, and what is written of it as a region of its own, which ends where they do and has `size` bytes. They are judged
+// alike by all checks, cut short and with each byte made another one.
 pub(crate) fn assert_written<
-    T: Serialize<HighSerializer<Vec<u8>, Global>>
-        + SerializeUnsized<HighSerializer<Vec<u8>, Global>>,
+    T: Serialize<HighSerializer<Vec<u8>, Global>> + SerializeUnsized<HighSerializer<Vec<u8>, Global>>,
 >(rt: &impl Abort, alloc: Global, value: &T, size: usize, archive: &[u8]) {
     let bytes = to_bytes(alloc, value).expect(rt, "an archive");
     assert_bytes(rt, "the archive", bytes.as_slice(), archive);
+    assert_region(rt, alloc, value, size, archive);
+    assert_checked::<<T as Archive>::Archived>(rt, alloc, archive);
+}
+
+// These bytes are what is written of a value as a region of its own, of `size` bytes, which ends where they do.
+fn assert_region<T: SerializeUnsized<HighSerializer<Vec<u8>, Global>>>(
+    rt: &impl Abort,
+    alloc: Global,
+    value: &T,
+    size: usize,
+    bytes: &[u8],
+) {
     let mut serializer = Serializer::new(Vec::new(alloc), alloc, Share::new(alloc));
     let region = serialize_using(value, &mut serializer).expect(rt, "a region");
-    assert_same(
-        rt,
-        "the region's end",
-        region.saturating_add(size),
-        archive.len(),
-    );
+    assert_same(rt, "the region's end", region.saturating_add(size), bytes.len());
     let written = serializer.into_writer();
-    assert_bytes(rt, "the region", written.as_slice(), archive);
+    assert_bytes(rt, "the region", written.as_slice(), bytes);
+}
+
+// The same, and the archive is read back as the value.
+pub(crate) fn assert_archived<
+    T: Serialize<HighSerializer<Vec<u8>, Global>>
+        + SerializeUnsized<HighSerializer<Vec<u8>, Global>>
+        + PartialEq
+        + Debug
+        + Drop,
+>(rt: &impl Abort, alloc: Global, value: &T, size: usize, archive: &[u8])
+where
+    <T as Archive>::Archived: Deserialize<T, ()>,
+{
+    assert_written(rt, alloc, value, size, archive);
+    let back: T = value_of(rt, alloc, archive, &mut ());
+    assert_same(rt, "what is read back", &back, value);
 }
 
 // A value has no archive, for this reason.
@@ -88,20 +112,6 @@ where
     T::Archived: Deserialize<T, D>,
 {
     from_bytes(alloc, archive, deserializer).expect(rt, "a value")
-}
-
-// An archive is read back as this value.
-pub(crate) fn assert_read<T: Archive + PartialEq + Debug + Drop>(
-    rt: &impl Abort,
-    alloc: Global,
-    archive: &[u8],
-    value: &T,
-)
-where
-    T::Archived: Deserialize<T, ()>,
-{
-    let back: T = value_of(rt, alloc, archive, &mut ());
-    assert_same(rt, "what is read back", &back, value);
 }
 
 // The view of the `T` at the end of the bytes.

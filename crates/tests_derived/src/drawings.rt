@@ -4,12 +4,9 @@ ghost use Rattle.archive_core.specs.Definitions.{no_definition};
 ghost use Rattle.archive_core.specs.Shape.{one};
 ghost use Rattle.archive_core.specs.Viewed.{Viewed};
 
-use crate::assertions::{
-    assert_bytes, assert_holds, assert_read, assert_same, assert_written, sealed, viewed,
-    write_second,
-};
+use crate::assertions::{assert_archived, assert_bytes, assert_holds, assert_same, sealed, viewed, write_second};
 use crate::events::{batch, variant_of};
-use crate::judgements::{assert_checked, assert_faults, outside, unaligned, unknown_tag};
+use crate::judgements::{assert_faults, outside, unaligned, unknown_tag};
 use crate::spots::{assert_spot, line, rising};
 use archive_core::seal::Seal;
 use archive_core::traits::Portable;
@@ -69,17 +66,13 @@ fn atlas(rt: &impl Abort, alloc: Global) -> Atlas {
 #[test]
 fn a_drawing_is_written_and_read_back(rt: HostRuntime) {
     let drawing = drawing(&rt, rt.alloc());
-    assert_written(&rt, rt.alloc(), &drawing, 36, DRAWING);
-    assert_read(&rt, rt.alloc(), DRAWING, &drawing);
-    assert_checked::<ArchivedDrawing>(&rt, rt.alloc(), DRAWING);
+    assert_archived(&rt, rt.alloc(), &drawing, 36, DRAWING);
 }
 
 #[test]
 fn an_atlas_is_written_and_read_back(rt: HostRuntime) {
     let atlas = atlas(&rt, rt.alloc());
-    assert_written(&rt, rt.alloc(), &atlas, 12, ATLAS);
-    assert_read(&rt, rt.alloc(), ATLAS, &atlas);
-    assert_checked::<ArchivedAtlas>(&rt, rt.alloc(), ATLAS);
+    assert_archived(&rt, rt.alloc(), &atlas, 12, ATLAS);
 }
 
 // A view shows a line between places of which each number is by one greater than the one before.

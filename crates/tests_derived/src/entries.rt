@@ -4,13 +4,9 @@ ghost use Rattle.archive_core.specs.Definitions.{no_definition};
 ghost use Rattle.archive_core.specs.Shape.{one};
 ghost use Rattle.archive_core.specs.Viewed.{Viewed};
 
-use crate::assertions::{
-    assert_bytes, assert_read, assert_same, assert_written, sealed, text, viewed,
-};
+use crate::assertions::{assert_archived, assert_bytes, assert_same, sealed, text, viewed};
 use crate::events::variant_of;
-use crate::judgements::{
-    assert_checked, assert_faults, assert_refused, outside, unaligned, unknown_tag,
-};
+use crate::judgements::{assert_faults, assert_refused, outside, unaligned, unknown_tag};
 use archive_core::error::Error;
 use archive_core::seal::Seal;
 use archive_core::traits::Portable;
@@ -29,9 +25,7 @@ const MOVE: &[u8; 24] = b"\x09\0\0\0\0\0\0\0\x03\0\0\0\xfe\xff\xff\xff\x02\x01\0
 // An event after nine seconds, and its archive.
 fn assert_entry(rt: &impl Abort, alloc: Global, event: Event, archive: &[u8]) {
     let entry = Entry { seconds: 9, event };
-    assert_written(rt, alloc, &entry, 24, archive);
-    assert_read(rt, alloc, archive, &entry);
-    assert_checked::<ArchivedEntry>(rt, alloc, archive);
+    assert_archived(rt, alloc, &entry, 24, archive);
 }
 
 #[test]

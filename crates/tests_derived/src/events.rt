@@ -4,11 +4,8 @@ ghost use Rattle.archive_core.specs.Definitions.{no_definition};
 ghost use Rattle.archive_core.specs.Shape.{one};
 ghost use Rattle.archive_core.specs.Viewed.{Viewed};
 
-use crate::assertions::{
-    assert_bytes, assert_holds, assert_read, assert_same, assert_written, sealed, text, viewed,
-    write_second, write_text,
-};
-use crate::judgements::{assert_checked, assert_faults, outside, unknown_tag};
+use crate::assertions::{assert_archived, assert_bytes, assert_holds, assert_same, sealed, text, viewed, write_second, write_text};
+use crate::judgements::{assert_faults, outside, unknown_tag};
 use archive_core::error::Error;
 use archive_core::seal::Seal;
 use archive_core::traits::Portable;
@@ -43,8 +40,7 @@ pub(crate) fn batch(rt: &impl Abort, alloc: Global) -> Event {
 
 // The bytes are the archive of an event, and are read back as it.
 fn assert_event(rt: &impl Abort, alloc: Global, event: &Event, archive: &[u8]) {
-    assert_written(rt, alloc, event, 12, archive);
-    assert_read(rt, alloc, archive, event);
+    assert_archived(rt, alloc, event, 12, archive);
 }
 
 #[test]
@@ -149,7 +145,6 @@ fn assert_event_faults(
     archive: &[u8],
     rows: &[(usize, u8, Error)],
 ) {
-    assert_checked::<ArchivedEvent>(rt, alloc, archive);
     assert_faults::<ArchivedEvent>(rt, alloc, archive, rows);
 }
 

@@ -1,10 +1,7 @@
 // Numbers of every kind, a struct of no field, and one whose fields have no names.
 
-use crate::assertions::{
-    assert_bytes, assert_holds, assert_read, assert_same, assert_unwritten, assert_written, sealed,
-    text, value_of, viewed, write_text,
-};
-use crate::judgements::{assert_checked, assert_faults, assert_refused, outside, unaligned};
+use crate::assertions::{assert_archived, assert_bytes, assert_same, assert_unwritten, assert_written, sealed, text, value_of, viewed, write_text};
+use crate::judgements::{assert_faults, assert_refused, outside, unaligned};
 use archive_core::error::Error;
 use archive_core::primitive::NonZero;
 use derived_types::kinds::{
@@ -113,7 +110,6 @@ fn numbers_are_edited(rt: HostRuntime) {
 
 #[test]
 fn faults_of_numbers_are_found(rt: HostRuntime) {
-    assert_checked::<ArchivedNumbers>(&rt, rt.alloc(), NUMBERS);
     let rows = [(0, 0, Error::ZeroNumber), (32, 2, Error::InvalidBool)];
     assert_faults::<ArchivedNumbers>(&rt, rt.alloc(), NUMBERS, &rows);
     let rows: [(&[u8], Error); 2] = [
@@ -125,9 +121,7 @@ fn faults_of_numbers_are_found(rt: HostRuntime) {
 
 #[test]
 fn a_value_of_no_field_has_no_byte(rt: HostRuntime) {
-    assert_written(&rt, rt.alloc(), &Empty, 0, b"");
-    assert_read(&rt, rt.alloc(), b"", &Empty);
-    assert_checked::<ArchivedEmpty>(&rt, rt.alloc(), b"");
+    assert_archived(&rt, rt.alloc(), &Empty, 0, b"");
     let view = viewed::<ArchivedEmpty>(&rt, rt.alloc(), b"abc");
     assert_same(&rt, "the position, at the end", view.pos(), 3);
 }
@@ -135,8 +129,7 @@ fn a_value_of_no_field_has_no_byte(rt: HostRuntime) {
 #[test]
 fn a_struct_without_names_is_written_and_read_back(rt: HostRuntime) {
     let unnamed = Unnamed(7, text(&rt, rt.alloc(), "hello world"));
-    assert_written(&rt, rt.alloc(), &unnamed, 12, UNNAMED);
-    assert_read(&rt, rt.alloc(), UNNAMED, &unnamed);
+    assert_archived(&rt, rt.alloc(), &unnamed, 12, UNNAMED);
 }
 
 // Writes over both fields.
@@ -163,7 +156,6 @@ fn a_struct_without_names_is_viewed_and_edited(rt: HostRuntime) {
 
 #[test]
 fn faults_of_a_struct_without_names_are_found(rt: HostRuntime) {
-    assert_checked::<ArchivedUnnamed>(&rt, rt.alloc(), UNNAMED);
     let rows = [
         (16, 0x80, Error::InvalidStringRepr),
         (20, 0xf2, outside(2, 11, 0, 12)),

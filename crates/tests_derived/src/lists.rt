@@ -1,13 +1,8 @@
 // A record of an array, a list of options of records, and a record with parameters; and such records at other types.
 
-use crate::assertions::{
-    assert_bytes, assert_holds, assert_read, assert_same, assert_written, sealed, text, value_of,
-    viewed, write_text,
-};
+use crate::assertions::{assert_archived, assert_bytes, assert_holds, assert_same, assert_written, sealed, text, value_of, viewed, write_text};
 use crate::events::variant_of;
-use crate::judgements::{
-    assert_checked, assert_faults, assert_refused, outside, unaligned, unknown_tag,
-};
+use crate::judgements::{assert_faults, assert_refused, outside, unaligned, unknown_tag};
 use crate::spots::assert_spot;
 use archive_core::core_impls::OwnedArray;
 use archive_core::error::Error;
@@ -118,7 +113,6 @@ fn lists_are_edited(rt: HostRuntime) {
 
 #[test]
 fn faults_of_lists_are_found(rt: HostRuntime) {
-    assert_checked::<ArchivedLists>(&rt, rt.alloc(), LISTS);
     let rows = [
         (6, 2, unknown_tag("ArchivedOption", 2)),
         (24, 0xe9, unaligned(1, 2)),
@@ -142,8 +136,7 @@ fn a_pair_of_a_number_and_a_text(rt: HostRuntime) {
         left: 258u16,
         right: text(&rt, rt.alloc(), "hello world"),
     };
-    assert_written(&rt, rt.alloc(), &pair, 12, NUMBER_AND_TEXT);
-    assert_read(&rt, rt.alloc(), NUMBER_AND_TEXT, &pair);
+    assert_archived(&rt, rt.alloc(), &pair, 12, NUMBER_AND_TEXT);
     let view = viewed::<ArchivedPair<ArchivedU16, ArchivedString>>(
         &rt,
         rt.alloc(),
@@ -176,8 +169,7 @@ fn a_pair_of_an_event_and_a_number(rt: HostRuntime) {
         left: Event::Move { x: -2, y: 258 },
         right: 7u64,
     };
-    assert_written(&rt, rt.alloc(), &pair, 24, STEP_AND_NUMBER);
-    assert_read(&rt, rt.alloc(), STEP_AND_NUMBER, &pair);
+    assert_archived(&rt, rt.alloc(), &pair, 24, STEP_AND_NUMBER);
     let view = viewed::<ArchivedPair<ArchivedEvent, ArchivedU64>>(&rt, rt.alloc(), STEP_AND_NUMBER);
     let found = (variant_of(&rt, view.left()), view.right().get());
     assert_same(&rt, "both", found, (3, 7));
@@ -186,11 +178,9 @@ fn a_pair_of_an_event_and_a_number(rt: HostRuntime) {
 #[test]
 fn faults_of_pairs_are_found(rt: HostRuntime) {
     type Step = ArchivedPair<ArchivedEvent, ArchivedU64>;
-    assert_checked::<Step>(&rt, rt.alloc(), STEP_AND_NUMBER);
     let unknown = unknown_tag("ArchivedEvent", 6);
     assert_faults::<Step>(&rt, rt.alloc(), STEP_AND_NUMBER, &[(0, 6, unknown)]);
     type Named = ArchivedPair<ArchivedU16, ArchivedString>;
-    assert_checked::<Named>(&rt, rt.alloc(), NUMBER_AND_TEXT);
     let rows = [
         (16, 0x88, Error::InvalidStringRepr),
         (20, 0xf2, outside(2, 11, 0, 12)),

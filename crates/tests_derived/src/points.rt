@@ -1,9 +1,7 @@
 // A record of two numbers, a text and a list of texts.
 
-use crate::assertions::{
-    assert_bytes, assert_read, assert_same, assert_written, sealed, text, viewed, write_text,
-};
-use crate::judgements::{assert_checked, assert_faults, outside, unaligned};
+use crate::assertions::{assert_archived, assert_bytes, assert_same, sealed, text, viewed, write_text};
+use crate::judgements::{assert_faults, outside, unaligned};
 use archive_core::error::Error;
 use archive_core::string::ArchivedString;
 use archive_core::vec::ArchivedVec;
@@ -44,9 +42,7 @@ fn blank(alloc: Global) -> Point {
 
 // A point has this archive, and is read back of it.
 fn assert_point(rt: &impl Abort, alloc: Global, point: &Point, archive: &[u8]) {
-    assert_written(rt, alloc, point, 24, archive);
-    assert_read(rt, alloc, archive, point);
-    assert_checked::<ArchivedPoint>(rt, alloc, archive);
+    assert_archived(rt, alloc, point, 24, archive);
 }
 
 #[test]

@@ -1,7 +1,7 @@
 // Records of numbers, and records of such records.
 
-use crate::assertions::{assert_bytes, assert_read, assert_same, assert_written, sealed, viewed};
-use crate::judgements::{assert_checked, assert_refused, outside, unaligned};
+use crate::assertions::{assert_archived, assert_bytes, assert_same, sealed, viewed};
+use crate::judgements::{assert_refused, outside, unaligned};
 use archive_core::view::Ref;
 use derived_types::spot::{
     ArchivedLine, ArchivedSpot, Line, LineSeal, LineView, Spot, SpotSeal, SpotView,
@@ -42,8 +42,7 @@ pub(crate) fn rising(first: u8) -> Line {
 
 #[test]
 fn a_spot_is_written_and_read_back(rt: HostRuntime) {
-    assert_written(&rt, rt.alloc(), &spot(), 4, SPOT);
-    assert_read(&rt, rt.alloc(), SPOT, &spot());
+    assert_archived(&rt, rt.alloc(), &spot(), 4, SPOT);
 }
 
 // A view shows a place.
@@ -69,7 +68,6 @@ fn a_spot_is_viewed_and_edited(rt: HostRuntime) {
 
 #[test]
 fn a_spot_is_checked(rt: HostRuntime) {
-    assert_checked::<ArchivedSpot>(&rt, rt.alloc(), SPOT);
     assert_refused::<ArchivedSpot>(
         &rt,
         rt.alloc(),
@@ -82,8 +80,7 @@ fn a_spot_is_checked(rt: HostRuntime) {
 
 #[test]
 fn a_line_is_written_and_read_back(rt: HostRuntime) {
-    assert_written(&rt, rt.alloc(), &line(), 8, LINE);
-    assert_read(&rt, rt.alloc(), LINE, &line());
+    assert_archived(&rt, rt.alloc(), &line(), 8, LINE);
 }
 
 #[test]
@@ -111,7 +108,6 @@ fn a_line_is_viewed_and_edited(rt: HostRuntime) {
 
 #[test]
 fn a_line_is_checked(rt: HostRuntime) {
-    assert_checked::<ArchivedLine>(&rt, rt.alloc(), LINE);
     assert_refused::<ArchivedLine>(
         &rt,
         rt.alloc(),

@@ -1,13 +1,12 @@
 // A record and an enum that share a line, and lists of such records, in which it is written once and read back once.
 
-use crate::assertions::{
-    assert_bytes, assert_holds, assert_same, assert_written, sealed, value_of, viewed,
-};
-use crate::judgements::{assert_checked, assert_faults, outside, unaligned, unknown_tag};
+use crate::assertions::{assert_bytes, assert_holds, assert_same, assert_written, sealed, value_of, viewed};
+use crate::judgements::{assert_faults, outside, unaligned, unknown_tag};
 use crate::spots::{assert_spot, line, rising};
 use archive_core::error::Error;
 use archive_core::pooling::Pool;
 use archive_core::rc::Shared;
+use archive_core::traits::{Archive, Deserialize};
 use archive_core::vec::ArchivedVec;
 use archive_core::view::Ref;
 use derived_types::spot::{ArchivedLine, Line, LineSeal, LineView, SpotSeal};
@@ -66,20 +65,26 @@ fn a_track_is_written(rt: HostRuntime) {
         other: Some(boxed(&rt, rt.alloc(), rising(5))),
     };
     assert_written(&rt, rt.alloc(), &track, 12, TRACK);
-    assert_checked::<ArchivedTrack>(&rt, rt.alloc(), TRACK);
 }
 
 #[test]
 fn a_line_of_two_tracks_is_written_once(rt: HostRuntime) {
     let tracks = tracks(&rt, rt.alloc());
     assert_written(&rt, rt.alloc(), &tracks, 8, TRACKS);
-    assert_checked::<ArchivedVec<ArchivedTrack>>(&rt, rt.alloc(), TRACKS);
+}
+
+// What is read back of an archive, with a pool of lines.
+fn read<T: Archive>(rt: &impl Abort, alloc: Global, archive: &[u8]) -> T
+where
+    T::Archived: Deserialize<T, Pool<Shared<Line>>>,
+{
+    let mut pool: Pool<Shared<Line>> = Pool::new(alloc);
+    value_of(rt, alloc, archive, &mut pool)
 }
 
 #[test]
 fn a_track_is_read_back(rt: HostRuntime) {
-    let mut pool: Pool<Shared<Line>> = Pool::new(rt.alloc());
-    let back: Track = value_of(&rt, rt.alloc(), TRACK, &mut pool);
+    let back: Track = read(&rt, rt.alloc(), TRACK);
     assert_same(&rt, "the line's position", back.line.key, 0);
     assert_same(&rt, "the line", &*back.line.value, &line());
     let Some(other) = back.other else {
@@ -90,8 +95,7 @@ fn a_track_is_read_back(rt: HostRuntime) {
 
 #[test]
 fn a_line_of_two_tracks_is_read_back_once(rt: HostRuntime) {
-    let mut pool: Pool<Shared<Line>> = Pool::new(rt.alloc());
-    let back: Vec<Track> = value_of(&rt, rt.alloc(), TRACKS, &mut pool);
+    let back: Vec<Track> = read(&rt, rt.alloc(), TRACKS);
     let [first, second] = back.as_slice() else {
         panic!(&rt; "not two")
     };
@@ -146,6 +150,10 @@ fn faults_of_tracks_are_found(rt: HostRuntime) {
         (24, 0xe8, outside(0, 8, 8, 16)),
     ];
     assert_faults::<ArchivedTrack>(&rt, rt.alloc(), TRACK, &rows);
+}
+
+#[test]
+fn faults_of_lists_of_tracks_are_found(rt: HostRuntime) {
     let rows = [
         (28, 0xec, outside(8, 8, 16, 16)),
         (44, 3, outside(16, 36, 0, 40)),
@@ -153,17 +161,21 @@ fn faults_of_tracks_are_found(rt: HostRuntime) {
     assert_faults::<ArchivedVec<ArchivedTrack>>(&rt, rt.alloc(), TRACKS, &rows);
 }
 
+// These bytes are the archive of such a value.
+fn assert_either_written(rt: &impl Abort, alloc: Global, value: &Either, archive: &[u8]) {
+    assert_written(rt, alloc, value, 12, archive);
+}
+
 #[test]
 fn either_is_written(rt: HostRuntime) {
-    assert_written(&rt, rt.alloc(), &Either::Alone(7), 12, ALONE);
+    assert_either_written(&rt, rt.alloc(), &Either::Alone(7), ALONE);
     let together = Either::Together(shared_line(&rt, rt.alloc(), 1), 9);
-    assert_written(&rt, rt.alloc(), &together, 12, TOGETHER);
+    assert_either_written(&rt, rt.alloc(), &together, TOGETHER);
 }
 
 // What is read back of an archive: a line, if there is one, and a number.
 fn parts_of(rt: &impl Abort, alloc: Global, archive: &[u8]) -> (Option<Shared<Line>>, u8) {
-    let mut pool: Pool<Shared<Line>> = Pool::new(alloc);
-    match value_of(rt, alloc, archive, &mut pool) {
+    match read::<Either>(rt, alloc, archive) {
         Either::Alone(number) => (None, number),
         Either::Together(line, number) => (Some(line), number),
     }
@@ -233,13 +245,16 @@ fn either_is_edited(rt: HostRuntime) {
     assert_bytes(&rt, "together", &together, wanted);
 }
 
+// In each row an index, another byte that is put there, and the fault that all checks find then.
+fn assert_either_faults(rt: &impl Abort, alloc: Global, archive: &[u8], rows: &[(usize, u8, Error)]) {
+    assert_faults::<ArchivedEither>(rt, alloc, archive, rows);
+}
+
 #[test]
 fn faults_of_either_are_found(rt: HostRuntime) {
-    assert_checked::<ArchivedEither>(&rt, rt.alloc(), ALONE);
-    assert_checked::<ArchivedEither>(&rt, rt.alloc(), TOGETHER);
     let unknown = unknown_tag("ArchivedEither", 2);
     let rows = [(0, 1, outside(4, 8, 0, 0)), (0, 2, unknown)];
-    assert_faults::<ArchivedEither>(&rt, rt.alloc(), ALONE, &rows);
+    assert_either_faults(&rt, rt.alloc(), ALONE, &rows);
     let rows = [(8, 2, unknown), (12, 0xf6, outside(2, 8, 0, 8))];
-    assert_faults::<ArchivedEither>(&rt, rt.alloc(), TOGETHER, &rows);
+    assert_either_faults(&rt, rt.alloc(), TOGETHER, &rows);
 }

@@ -4,8 +4,8 @@ ghost use Rattle.archive_core.specs.Definitions.{no_definition};
 ghost use Rattle.archive_core.specs.Shape.{one};
 ghost use Rattle.archive_core.specs.Viewed.{Viewed};
 
-use crate::assertions::{assert_bytes, assert_read, assert_same, assert_written, sealed, viewed};
-use crate::judgements::{assert_checked, assert_refused, unknown_tag};
+use crate::assertions::{assert_archived, assert_bytes, assert_same, sealed, viewed};
+use crate::judgements::{assert_refused, unknown_tag};
 use archive_core::seal::Seal;
 use archive_core::traits::Portable;
 use archive_core::view::Ref;
@@ -27,8 +27,7 @@ const STEPS: &[u8; 4] = b"\x02\x01\x03\0";
 #[test]
 fn turns_are_written_and_read_back(rt: HostRuntime) {
     for (turn, archive) in [(Turn::Left(5), LEFT), (Turn::Right(5), RIGHT)] {
-        assert_written(&rt, rt.alloc(), &turn, 4, archive);
-        assert_read(&rt, rt.alloc(), archive, &turn);
+        assert_archived(&rt, rt.alloc(), &turn, 4, archive);
     }
 }
 
@@ -76,9 +75,6 @@ fn turns_are_edited(rt: HostRuntime) {
 
 #[test]
 fn turns_are_checked(rt: HostRuntime) {
-    for archive in [LEFT, RIGHT] {
-        assert_checked::<ArchivedTurn>(&rt, rt.alloc(), archive);
-    }
     assert_refused::<ArchivedTurn>(
         &rt,
         rt.alloc(),
@@ -92,9 +88,7 @@ fn steps_are_written_and_read_back(rt: HostRuntime) {
         first: 258,
         second: 3,
     };
-    assert_written(&rt, rt.alloc(), &steps, 4, STEPS);
-    assert_read(&rt, rt.alloc(), STEPS, &steps);
-    assert_checked::<ArchivedSteps>(&rt, rt.alloc(), STEPS);
+    assert_archived(&rt, rt.alloc(), &steps, 4, STEPS);
 }
 
 #[test]

@@ -1,7 +1,7 @@
 // Names that mean something elsewhere: a struct whose fields are called as words of contracts and as calls of views, and an enum as `Option` and `Result`.
 
-use crate::assertions::{assert_bytes, assert_read, assert_same, assert_written, sealed, viewed};
-use crate::judgements::{assert_checked, assert_faults, assert_refused, outside, unknown_tag};
+use crate::assertions::{assert_archived, assert_bytes, assert_same, sealed, viewed};
+use crate::judgements::{assert_faults, assert_refused, outside, unknown_tag};
 use archive_core::view::Ref;
 use derived_types::words::{
     ArchivedLevel, ArchivedWords, Level, LevelSeal, LevelView, ViewOfLevel, Words, WordsSeal,
@@ -28,9 +28,7 @@ fn words() -> Words {
 
 #[test]
 fn words_are_written_and_read_back(rt: HostRuntime) {
-    assert_written(&rt, rt.alloc(), &words(), 4, WORDS);
-    assert_read(&rt, rt.alloc(), WORDS, &words());
-    assert_checked::<ArchivedWords>(&rt, rt.alloc(), WORDS);
+    assert_archived(&rt, rt.alloc(), &words(), 4, WORDS);
     let short = (b"\x01\x02\x03".as_slice(), outside(0, 4, 0, 3));
     assert_refused::<ArchivedWords>(&rt, rt.alloc(), &[short]);
 }
@@ -78,9 +76,7 @@ fn levels_are_written_and_read_back(rt: HostRuntime) {
         (Level::Ok(words()), OK),
     ];
     for (level, archive) in rows {
-        assert_written(&rt, rt.alloc(), &level, 5, archive);
-        assert_read(&rt, rt.alloc(), archive, &level);
-        assert_checked::<ArchivedLevel>(&rt, rt.alloc(), archive);
+        assert_archived(&rt, rt.alloc(), &level, 5, archive);
     }
 }
 
