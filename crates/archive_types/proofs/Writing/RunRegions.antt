@@ -23,7 +23,7 @@ use Rattle.archive_check.proofs.Tours.StandingBytes.{stands_front, stands_back}
 use Rattle.archive_write.specs.Written.{GoesOn, padding, ExplainsRefusal}
 use Rattle.archive_write.proofs.Padding.{padded}
 use Rattle.archive_types.specs.Writing.{NameMap, Naming, AreNamed, AreFinished, AllFinished, Writes, WritesAll, Puts, LaysOut}
-use Rattle.archive_types.specs.Plans.{Cursor, cursor, AreBelow, IsAt, Step, lays, SerializedRegion, serialized_region, RegionPlan}
+use Rattle.archive_types.specs.Plans.{Cursor, cursor, AreBelow, StandsAt, Step, lays, SerializedRegion, serialized_region, RegionPlan}
 use Rattle.archive_types.specs.Causes.{Explains, own_cause, of_layout, of_length, PartOfRun, in_first_element, in_later_element, part_of_run, HindersPartAt, anywhere, part_hinders, length_hinders, end_hinders, HindersAt, HindersRegionAt, HindersRegion, RegionReaches, IsRegionRefused}
 use Rattle.archive_types.specs.Runs.{each_flat, EachBelongs, RunPlan, HasRunPlan, SerializedRun, serialized_run, IsRunRefused, PutsRun, HindersEachAt, HindersRunAt}
 use Rattle.archive_types.specs.Members.PlannedOwners.{run_plan}
@@ -244,7 +244,7 @@ module _ (D : Definitions) (X : Shape) (n : ℕ) (ks : List Naming) (vs : Values
 
   -- nor the zeros behind that
   pub run_padded : (ws : Values) (L : Layout) (position : ℕ) (old mid new : WriterState) (e : Error) → IsAlign L.align → HasLayout D X L → SerializedRun D X n ks vs ws old mid → GoesOn old mid → position ≡ length mid.bytes
-      → GoesOn mid new → ExplainsRefusal (padding L.align position) position mid.room mid.failures new.failures e → IsRegionRefused D (run X) n ks (list vs) old new e
+      → GoesOn mid new → ExplainsRefusal (padding L.align position) position (length new.bytes) mid.room mid.failures new.failures e → IsRegionRefused D (run X) n ks (list vs) old new e
   run_padded ws L position old mid new e is layout (serialized_run writes planned) g here k refused =
       explains_later (HindersRegion D (run X) n ks (list vs) (cursor old)) _ (RegionReaches D (run X) n ks (list vs) (cursor old)) _ old mid new e g k (λ x. x) (λ m x. x) (explains_write _ _ (padding L.align position) position mid new e here (λ below s names l m. (
       let q = planned below s names l m in
@@ -277,7 +277,7 @@ module _ (D : Definitions) (X : Shape) (n : ℕ) (ks : List Naming) (vs : Values
       (λ p x below s names l m. plan below s names l m _ (λ q t here is. (let size : n * size_of s.layouts X ≡ n * L.size = ap (λ z. n * z) (size_is layout s l) in omega (arith, here, x, size)))) refused
     where
       plan : AreBelow (cursor old) → (s : Schema) (names : NameMap) → Knows s D → AreNamed names ks → (such : ℕ → List Step → Cursor → Type 0)
-          → ((q : RunPlan s names n X vs (cursor old) (λ us C b. (us ≡ ws) × IsAt b mid)) (t : ℕ) → t ≡ length low.bytes → q.flats ≡ ws
+          → ((q : RunPlan s names n X vs (cursor old) (λ us C b. (us ≡ ws) × StandsAt b mid)) (t : ℕ) → t ≡ length low.bytes → q.flats ≡ ws
           → such t (q.steps ++ lays (region_at s t (run X) n false) (list q.flats) ∷ []) (record { position = t + n * size_of s.layouts X; states = q.stop.states }))
           → RegionPlan s names (run X) n (list vs) (cursor old) such
       plan below s names l m such f =

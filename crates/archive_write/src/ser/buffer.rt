@@ -69,7 +69,7 @@ impl<'a> Writer for Buffer<'a> {
         ensures written { OnOk result (HoldsMore self.old.len self.old.bytes.now self.new.len self.new.bytes.now bytes.now) }
         ensures kept { OnErr result (KeepsHeld self.old.len self.old.bytes.now self.new.len self.new.bytes.now) }
         ensures room { SpendsRest self.old.len self.old.bytes.now self.new.len self.new.bytes.now }
-        ensures refusal { IfErr result (ExplainsFull bytes.now self.old.len self.old.bytes.now) }
+        ensures refusal { IfErr result (ExplainsFull bytes.now self.old.len self.old.bytes.now self.new.len self.new.bytes.now) }
         ensures device { 0 ≤ 0 }
         ensures keys { KeepsKeys no_keys no_keys }
         ensures memory { IsErrOf result Error.OutOfMemory → IsTrue false }

@@ -26,9 +26,9 @@ pub trait Writer: Positional + Keys {
     ghost takes_memory: { Bool };
 
     /// Appends `bytes`. Fails with `OutOfMemory` if memory is refused, never where a write takes
-    /// none; with `BufferOverflow` only if its room is less; and with `WriterFailed` only if its
-    /// device fails in this call or has failed `u64::MAX` times. Existing bytes stay, after a
-    /// failure too. The shared keys are as before.
+    /// none; with `BufferOverflow` only if its room is less, and then nothing is taken; and with
+    /// `WriterFailed` only if its device fails in this call or has failed `u64::MAX` times.
+    /// Existing bytes stay, after a failure too. The shared keys are as before.
     fn write(&mut self, bytes: &[u8]) -> Result<(), Error>
         ensures written { OnOk result ((Self.state self.new).bytes ≡ (Self.state self.old).bytes ++ bytes.now) }
         ensures kept { OnErr result (IsBeginning (Self.state self.old).bytes (Self.state self.new).bytes) }
@@ -127,7 +127,7 @@ impl<A: Allocator> Writer for Vec<u8, A> {
         ensures written { OnOk result (self.new.items ≡ self.old.items ++ bytes.now) }
         ensures kept { OnErr result (IsBeginning self.old.items self.new.items) }
         ensures room { RoomFalls None None self.old.items self.new.items }
-        ensures refusal { IfErr result (ExplainsRefusal (length bytes.now) (length self.old.items) None 0 0) }
+        ensures refusal { IfErr result (ExplainsRefusal (length bytes.now) (length self.old.items) (length self.new.items) None 0 0) }
         ensures device { 0 ≤ 0 }
         ensures keys { KeepsKeys no_keys no_keys }
         ensures memory { IsErrOf result Error.OutOfMemory → IsTrue true }
