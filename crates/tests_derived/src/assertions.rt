@@ -50,7 +50,8 @@ pub(crate) fn text(rt: &impl Abort, alloc: Global, text: &str) -> String {
 // These bytes are the archive of a value, and what is written of it as a region of its own, which ends where they do and has `size` bytes. They are judged
 // alike by all checks, cut short and with each byte made another one.
 pub(crate) fn assert_written<
-    T: Serialize<HighSerializer<Vec<u8>, Global>> + SerializeUnsized<HighSerializer<Vec<u8>, Global>>,
+    T: Serialize<HighSerializer<Vec<u8>, Global>>
+        + SerializeUnsized<HighSerializer<Vec<u8>, Global>>,
 >(rt: &impl Abort, alloc: Global, value: &T, size: usize, archive: &[u8]) {
     let bytes = to_bytes(alloc, value).expect(rt, "an archive");
     assert_bytes(rt, "the archive", bytes.as_slice(), archive);
@@ -68,7 +69,12 @@ fn assert_region<T: SerializeUnsized<HighSerializer<Vec<u8>, Global>>>(
 ) {
     let mut serializer = Serializer::new(Vec::new(alloc), alloc, Share::new(alloc));
     let region = serialize_using(value, &mut serializer).expect(rt, "a region");
-    assert_same(rt, "the region's end", region.saturating_add(size), bytes.len());
+    assert_same(
+        rt,
+        "the region's end",
+        region.saturating_add(size),
+        bytes.len(),
+    );
     let written = serializer.into_writer();
     assert_bytes(rt, "the region", written.as_slice(), bytes);
 }

@@ -4,7 +4,9 @@ ghost use Rattle.archive_core.specs.Definitions.{no_definition};
 ghost use Rattle.archive_core.specs.Shape.{one};
 ghost use Rattle.archive_core.specs.Viewed.{Viewed};
 
-use crate::assertions::{assert_archived, assert_bytes, assert_holds, assert_same, sealed, viewed, write_second};
+use crate::assertions::{
+    assert_archived, assert_bytes, assert_holds, assert_same, sealed, viewed, write_second,
+};
 use crate::events::{batch, variant_of};
 use crate::judgements::{assert_faults, outside, unaligned, unknown_tag};
 use crate::spots::{assert_spot, line, rising};

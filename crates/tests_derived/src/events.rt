@@ -4,7 +4,10 @@ ghost use Rattle.archive_core.specs.Definitions.{no_definition};
 ghost use Rattle.archive_core.specs.Shape.{one};
 ghost use Rattle.archive_core.specs.Viewed.{Viewed};
 
-use crate::assertions::{assert_archived, assert_bytes, assert_holds, assert_same, sealed, text, viewed, write_second, write_text};
+use crate::assertions::{
+    assert_archived, assert_bytes, assert_holds, assert_same, sealed, text, viewed, write_second,
+    write_text,
+};
 use crate::judgements::{assert_faults, outside, unknown_tag};
 use archive_core::error::Error;
 use archive_core::seal::Seal;

@@ -1,6 +1,9 @@
 // Numbers of every kind, a struct of no field, and one whose fields have no names.
 
-use crate::assertions::{assert_archived, assert_bytes, assert_same, assert_unwritten, assert_written, sealed, text, value_of, viewed, write_text};
+use crate::assertions::{
+    assert_archived, assert_bytes, assert_same, assert_unwritten, assert_written, sealed, text,
+    value_of, viewed, write_text,
+};
 use crate::judgements::{assert_faults, assert_refused, outside, unaligned};
 use archive_core::error::Error;
 use archive_core::primitive::NonZero;

@@ -1,6 +1,9 @@
 // A record of an array, a list of options of records, and a record with parameters; and such records at other types.
 
-use crate::assertions::{assert_archived, assert_bytes, assert_holds, assert_same, assert_written, sealed, text, value_of, viewed, write_text};
+use crate::assertions::{
+    assert_archived, assert_bytes, assert_holds, assert_same, assert_written, sealed, text,
+    value_of, viewed, write_text,
+};
 use crate::events::variant_of;
 use crate::judgements::{assert_faults, assert_refused, outside, unaligned, unknown_tag};
 use crate::spots::assert_spot;

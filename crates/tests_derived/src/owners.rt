@@ -4,7 +4,10 @@ ghost use Rattle.archive_core.specs.Definitions.{no_definition};
 ghost use Rattle.archive_core.specs.Shape.{text as text_pointee};
 ghost use Rattle.archive_core.specs.Viewed.{Viewed};
 
-use crate::assertions::{assert_bytes, assert_holds, assert_same, assert_written, sealed, text, value_of, viewed, write_second, write_text};
+use crate::assertions::{
+    assert_bytes, assert_holds, assert_same, assert_written, sealed, text, value_of, viewed,
+    write_second, write_text,
+};
 use crate::judgements::{assert_faults, outside, unaligned, unknown_tag};
 use archive_core::boxed::{BoxSlice, BoxStr};
 use archive_core::core_impls::ArchivedTuple2;

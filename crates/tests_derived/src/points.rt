@@ -1,6 +1,8 @@
 // A record of two numbers, a text and a list of texts.
 
-use crate::assertions::{assert_archived, assert_bytes, assert_same, sealed, text, viewed, write_text};
+use crate::assertions::{
+    assert_archived, assert_bytes, assert_same, sealed, text, viewed, write_text,
+};
 use crate::judgements::{assert_faults, outside, unaligned};
 use archive_core::error::Error;
 use archive_core::string::ArchivedString;

@@ -1,6 +1,8 @@
 // A record that shares a slice, a text and, by a weak pointer, a value.
 
-use crate::assertions::{assert_bytes, assert_holds, assert_same, assert_written, sealed, text, value_of, viewed};
+use crate::assertions::{
+    assert_bytes, assert_holds, assert_same, assert_written, sealed, text, value_of, viewed,
+};
 use crate::judgements::{assert_faults, outside, unaligned};
 use crate::spots::{line, rising};
 use crate::tracks::{assert_line, shared_line};

@@ -1,6 +1,8 @@
 // A record and an enum that share a line, and lists of such records, in which it is written once and read back once.
 
-use crate::assertions::{assert_bytes, assert_holds, assert_same, assert_written, sealed, value_of, viewed};
+use crate::assertions::{
+    assert_bytes, assert_holds, assert_same, assert_written, sealed, value_of, viewed,
+};
 use crate::judgements::{assert_faults, outside, unaligned, unknown_tag};
 use crate::spots::{assert_spot, line, rising};
 use archive_core::error::Error;
@@ -246,7 +248,12 @@ fn either_is_edited(rt: HostRuntime) {
 }
 
 // In each row an index, another byte that is put there, and the fault that all checks find then.
-fn assert_either_faults(rt: &impl Abort, alloc: Global, archive: &[u8], rows: &[(usize, u8, Error)]) {
+fn assert_either_faults(
+    rt: &impl Abort,
+    alloc: Global,
+    archive: &[u8],
+    rows: &[(usize, u8, Error)],
+) {
     assert_faults::<ArchivedEither>(rt, alloc, archive, rows);
 }
 
