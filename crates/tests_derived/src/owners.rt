@@ -9,11 +9,13 @@ use crate::assertions::{
     write_second, write_text,
 };
 use crate::judgements::{assert_faults, outside, unaligned, unknown_tag};
-use archive_core::boxed::{BoxSlice, BoxStr};
+use archive_core::boxed::{ArchivedBox, BoxSlice, BoxStr};
 use archive_core::core_impls::ArchivedTuple2;
 use archive_core::error::Error;
+use archive_core::primitive::ArchivedU16;
 use archive_core::result::ArchivedResult;
 use archive_core::seal::Seal;
+use archive_core::slice::ArchivedSlice;
 use archive_core::string::{ArchivedStr, ArchivedString};
 use archive_core::view::Ref;
 use derived_types::kinds::{ArchivedOwners, Owners, OwnersSeal, OwnersView};
@@ -98,40 +100,54 @@ fn owners_are_read_back(rt: HostRuntime) {
     assert_owners(&rt, &back, Ok(7), &[], ("", "hello world"));
 }
 
-// What a result shows.
-fn outcome_of<'a>(view: Ref<'a, ArchivedResult<u8, ArchivedString>>) -> Result<u8, &'a str> {
-    match view.as_ref() {
-        Ok(number) => Ok(number.get()),
-        Err(text) => Err(text.as_str()),
-    }
+// The outcome is an error with this reason.
+fn assert_reason(rt: &impl Abort, view: Ref<'_, ArchivedOwners>, reason: &str) {
+    let outcome: Ref<'_, ArchivedResult<u8, ArchivedString>> = view.outcome();
+    let Err(text) = outcome.as_ref() else {
+        panic!(rt; "no reason")
+    };
+    assert_same(rt, "the reason", text.as_str(), reason);
 }
 
-// What a pair shows.
-fn both_of<'a>(view: Ref<'a, ArchivedTuple2<u8, ArchivedString>>) -> (u8, &'a str) {
-    (
-        view.field::<u8>(0).get(),
-        view.field::<ArchivedString>(1).as_str(),
-    )
+// It is this number.
+fn assert_number(rt: &impl Abort, view: Ref<'_, ArchivedOwners>, number: u8) {
+    let outcome: Ref<'_, ArchivedResult<u8, ArchivedString>> = view.outcome();
+    let Ok(found) = outcome.as_ref() else {
+        panic!(rt; "no number")
+    };
+    assert_same(rt, "the number", found.get(), number);
+}
+
+// The box holds these numbers.
+fn assert_numbers(rt: &impl Abort, view: Ref<'_, ArchivedOwners>, numbers: &[u16]) {
+    let boxed: Ref<'_, ArchivedBox<ArchivedSlice<ArchivedU16>>> = view.numbers();
+    assert_holds(rt, "the numbers", boxed.get().eq_slice(numbers));
+}
+
+// The pair has this text.
+fn assert_pair(rt: &impl Abort, view: Ref<'_, ArchivedOwners>, text: &str) {
+    let both: Ref<'_, ArchivedTuple2<u8, ArchivedString>> = view.both();
+    assert_same(rt, "the pair's number", both.field::<u8>(0).get(), 9);
+    let found = both.field::<ArchivedString>(1);
+    assert_same(rt, "the pair's text", found.as_str(), text);
 }
 
 #[test]
 fn owners_are_viewed(rt: HostRuntime) {
     let view = viewed::<ArchivedOwners>(&rt, rt.alloc(), OWNERS);
-    let outcome = outcome_of(view.outcome());
-    assert_same(&rt, "the outcome", outcome, Err("hello world"));
-    let numbers = view.numbers().get();
-    assert_holds(&rt, "the numbers", numbers.eq_slice(&[1u16, 258]));
+    assert_reason(&rt, view, "hello world");
+    assert_numbers(&rt, view, &[1, 258]);
     assert_same(&rt, "the text", view.text().get().as_str(), "hé");
-    assert_same(&rt, "the pair", both_of(view.both()), (9, "hi"));
+    assert_pair(&rt, view, "hi");
     assert_same(&rt, "the end", view.of().pos(), 60);
 }
 
 #[test]
 fn other_owners_are_viewed(rt: HostRuntime) {
     let view = viewed::<ArchivedOwners>(&rt, rt.alloc(), OTHERS);
-    assert_same(&rt, "a number", outcome_of(view.outcome()), Ok(7));
-    assert_holds(&rt, "no number", view.numbers().get().is_empty());
-    assert_same(&rt, "the pair", both_of(view.both()), (9, "hello world"));
+    assert_number(&rt, view, 7);
+    assert_numbers(&rt, view, &[]);
+    assert_pair(&rt, view, "hello world");
 }
 
 // Writes over the texts of the outcome and of the pair.

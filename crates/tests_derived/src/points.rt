@@ -54,10 +54,17 @@ fn points_are_written_and_read_back(rt: HostRuntime) {
     assert_point(&rt, alloc, &blank(alloc), BLANK);
 }
 
-// The text of the element at an index; none where there is no such one.
-fn text_at(list: Ref<'_, ArchivedVec<ArchivedString>>, index: usize) -> Option<&str> {
-    let text = list.as_slice().get(index)?;
-    Some(text.as_str())
+// A list has this text at an index.
+fn assert_tag(
+    rt: &impl Abort,
+    list: Ref<'_, ArchivedVec<ArchivedString>>,
+    index: usize,
+    text: &str,
+) {
+    let Some(tag) = list.as_slice().get(index) else {
+        panic!(rt; "no such tag")
+    };
+    assert_same(rt, "a tag", tag.as_str(), text);
 }
 
 #[test]
@@ -66,9 +73,9 @@ fn a_point_is_viewed(rt: HostRuntime) {
     let place = (view.x().get(), view.y().get());
     assert_same(&rt, "the place", place, (-2, 258));
     assert_same(&rt, "the name", view.name().as_str(), "hello world");
-    let tags = (text_at(view.tags(), 0), text_at(view.tags(), 1));
-    assert_same(&rt, "the tags", tags, (Some("hi"), Some("good morning")));
-    assert_same(&rt, "no third one", text_at(view.tags(), 2), None);
+    assert_same(&rt, "how many tags", view.tags().len(), 2);
+    assert_tag(&rt, view.tags(), 0, "hi");
+    assert_tag(&rt, view.tags(), 1, "good morning");
 }
 
 // The numbers of a point become other ones.

@@ -87,9 +87,13 @@ where
 #[test]
 fn a_track_is_read_back(rt: HostRuntime) {
     let back: Track = read(&rt, rt.alloc(), TRACK);
-    assert_same(&rt, "the line's position", back.line.key, 0);
-    assert_same(&rt, "the line", &*back.line.value, &line());
-    let Some(other) = back.other else {
+    let Track {
+        line: shared,
+        other,
+    } = back;
+    assert_same(&rt, "the line's position", shared.key, 0);
+    assert_same(&rt, "the line", &*shared.value, &line());
+    let Some(other) = other else {
         panic!(&rt; "no other line")
     };
     assert_same(&rt, "the other one", &*other, &rising(5));
