@@ -1,0 +1,119 @@
+// Parts whose values were written before: a recursive value is resolved with these in place of what it holds.
+
+ghost use Rattle.std.specs.Prelude.{◌≡◌, ◌≤◌, ⊤, length, OnOk, IfErr};
+ghost use Rattle.archive_check.specs.Layout.{pointer_size};
+ghost use Rattle.archive_check.specs.Shape.{run};
+ghost use Rattle.archive_check.specs.Value.{box, hole, shared_value};
+ghost use Rattle.archive_recursive.specs.Hollow.{named_twice, twice_keyed, no_two};
+ghost use Rattle.archive_types.specs.Words.KindsWritten.{BoxResolved, BoxHindered, VecResolved, VecHindered};
+ghost use Rattle.archive_types.specs.Writing.{ZeroedPlace, to_pointee};
+
+use archive_types::boxed::{ArchivedBox, BoxResolver};
+use archive_check::format::error::Error;
+use archive_types::place::Place;
+use archive_types::traits::{Archive, Portable};
+use archive_types::vec::{ArchivedVec, VecResolver};
+use std::marker::PhantomData;
+
+/// A box whose value, of the format `X`, was written before. It can be resolved, and nothing else: it means nothing.
+#[derive(Drop)]
+pub struct BoxAt<X> {
+    of: PhantomData<X>,
+}
+
+impl<X> BoxAt<X> {
+    /// A box that was written.
+    #[inline(always)]
+    pub fn new() -> BoxAt<X> {
+        BoxAt { of: PhantomData }
+    }
+}
+
+impl<X: Portable> Archive for BoxAt<X> {
+    type Archived = ArchivedBox<X>;
+
+    type Resolver = BoxResolver;
+
+    ghost meaning = { λ _. shared_value 0 };
+
+    ghost flat = { λ _ r. box (hole (to_pointee r X.pointee 0)) };
+
+    ghost keys = { λ _. named_twice };
+
+    ghost belongs = { λ _ _. ⊤ };
+
+    ghost keyed = { λ _. twice_keyed };
+
+    ghost planned = { λ _ a s names known named. absurd (no_two names named) };
+
+    #[inline(always)]
+    fn resolve(
+        &self,
+        resolver: BoxResolver,
+        place: Place<'_, ArchivedBox<X>>,
+    ) -> Result<(), Error>
+        requires zeroed { ZeroedPlace (pointer_size X.pointee) place.pos place.bytes.now }
+        requires same_value { ⊤ }
+        ensures resolved { OnOk result (BoxResolved X.ArchivePointee place resolver 0) }
+        ensures same_length { length place.exit.0.now ≡ length place.entry.bytes.now }
+        ensures refused { IfErr result (BoxHindered X.ArchivePointee place resolver 0) }
+    {
+        let Place { bytes, pos, .. } = place;
+        ArchivedBox::<X>::resolve_from_raw_parts(resolver, 0, Place::new(pos, bytes))
+    }
+}
+
+/// A vector whose elements, of the format `X`, were written before. It can be resolved, and nothing else: it means nothing.
+#[derive(Drop)]
+pub struct VecAt<X> {
+    /// The number of elements.
+    pub len: usize,
+    of: PhantomData<X>,
+}
+
+impl<X> VecAt<X> {
+    /// A vector of `len` elements that were written.
+    #[inline(always)]
+    pub fn of(len: usize) -> VecAt<X>
+        ensures { result.len ≡ len }
+    {
+        VecAt {
+            len,
+            of: PhantomData,
+        }
+    }
+}
+
+impl<X: Portable> Archive for VecAt<X> {
+    type Archived = ArchivedVec<X>;
+
+    type Resolver = VecResolver;
+
+    ghost meaning = { λ _. shared_value 0 };
+
+    ghost flat = { λ v r. hole (to_pointee r (run X.shape) v.len) };
+
+    ghost keys = { λ _. named_twice };
+
+    ghost belongs = { λ v _. v.len ≤ 4294967295 };
+
+    ghost keyed = { λ _. twice_keyed };
+
+    ghost planned = { λ _ a s names known named. absurd (no_two names named) };
+
+    #[inline(always)]
+    fn resolve(
+        &self,
+        resolver: VecResolver,
+        place: Place<'_, ArchivedVec<X>>,
+    ) -> Result<(), Error>
+        requires zeroed { ZeroedPlace 8 place.pos place.bytes.now }
+        requires same_value { self.now.len ≤ 4294967295 }
+        ensures resolved { OnOk result (VecResolved X.Portable place resolver self.now.len) }
+        ensures same_length { length place.exit.0.now ≡ length place.entry.bytes.now }
+        ensures refused { IfErr result (VecHindered X.Portable place resolver self.now.len) }
+    {
+        let Place { bytes, pos, .. } = place;
+        ArchivedVec::<X>::resolve_from_len(self.len, resolver, Place::new(pos, bytes))
+    }
+}
