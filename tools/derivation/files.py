@@ -65,6 +65,14 @@ def above(module: Module) -> str:
     return head if not head or head.endswith(end + end) else head + end
 
 
+def with_lines_of(path: str, text: str) -> str:
+    """A list of definitions with those lines as well that another file of the same run brought to it."""
+    if os.path.basename(path) != "Lib.antt" or not os.path.isfile(path):
+        return text
+    now = text_of(path).splitlines()
+    return "\n".join(now + [line for line in text.splitlines() if line not in now]) + "\n"
+
+
 # ---- what differs ----
 
 

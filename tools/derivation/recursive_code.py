@@ -318,7 +318,7 @@ def archive(it):
 def resolve_arm(it, case):
     it.formats.use("archive_recursive", f"resolve_named_case_{case.count}")
     rust, values, lines = hollows(it, case)
-    names = [name if not back or type.name == "Vec" else "_" for name, type, back in zip(case.names, case.types, case.leads_back)]
+    names = [name if not back or type.name == "Vec" else f"_{name}" for name, type, back in zip(case.names, case.types, case.leads_back)]
     call_ = Generic(f"resolve_named_case_{case.count}", rust + [it.archived], [str(case.tag)] + values + ["kept" if case.count else "()", "Place::new(pos, bytes)"])
     opened = f"let {it.resolver}::{case.name}(kept) = resolver" if case.count else f"let {it.resolver}::{case.name} = resolver"
     other = " else {\n                    unreachable!();\n                }" if len(it.cases) > 1 else ""
@@ -357,7 +357,10 @@ def owner_writing(it, type):
 fn serialize_{name}<{WRITER}>(value: &{T}, serializer: &mut S) -> Result<BoxResolver, Error>
 {contract(it, type, "value")}{{
     let inner = &**value;
-    let kept = serialize_{it.word(item)}(inner, serializer)?;
+    let kept = match serialize_{it.word(item)}(inner, serializer) {{
+        Ok(kept) => kept,
+        Err(error) => return Err(error),
+    }};
     match serialize_inner(inner, kept, serializer) {{
         Ok(at) => Ok(at),
         Err(error) => Err(error),
@@ -409,7 +412,7 @@ def parts_written(it, case, values):
     lines = ""
     for name, type, back, value in zip(case.names, case.types, case.leads_back, values):
         function = f"serialize_{it.word(type)}" if back else "serialize_part"
-        lines += f"    let {name} = {function}({value}, serializer)?;\n"
+        lines += f"    let {name} = match {function}({value}, serializer) {{\n        Ok({name}) => {name},\n        Err(error) => return Err(error),\n    }};\n"
     return lines
 
 

@@ -5,7 +5,8 @@ from .recursive_terms import brought, brought_owns
 
 # Lemmas and definitions that answers cite, by their modules.
 CITED = {
-    "std.proofs.Common": "◌≡◌ ◌<◌ ◌≤◌ ◌+◌ ◌*◌ ◌++◌ ◌∷◌ [] ℕ length drop inl inr refl sym ◌∙◌ arith pos string_bytes slice_index",
+    "std.proofs.Common": "◌≡◌ ◌<◌ ◌≤◌ ◌+◌ ◌*◌ ◌++◌ ◌∷◌ [] ℕ length drop inl inr refl sym ◌∙◌ arith rules pos string_bytes slice_index",
+    "std.proofs.lemmas.Int": "to_z-of_z",
     "std.proofs.Math.ListN": "drop_of_length-le",
     "std.proofs.lemmas.Grind": "common_steps",
     "std.specs.Vec": "vec_len vec_capacity",
@@ -71,7 +72,8 @@ def head(it, body):
         (f"{crate}.specs.{N}Meaning", " ".join(dict.fromkeys(meaning))),
         (f"{declared}.{N}", f"out-{N}"),
     ]
-    return brought(body, more) + brought_owns(it.terms, body)
+    fits = "use mir.Val.{SFits}\n" if "SFits" in body else ""
+    return brought(body, more) + brought_owns(it.terms, body) + fits
 
 
 def under(count):
@@ -160,21 +162,27 @@ def all_goes(goes):
 
 def parts_written(it, case, answers, function, values, as_):
     """The answers on parts that are written one after another. `as_` makes of what is said of the layer what is said of the value."""
-    calls = numbered([f"serialize_{it.word(type)}" if back else "serialize_part" for type, back in zip(case.types, case.leads_back)])
-    written = [f"c.in_ok-{name}.ensures.serialized" for name in case.names]
+    words = [f"serialize_{it.word(type)}" if back else "serialize_part" for type, back in zip(case.types, case.leads_back)]
+    calls, oks, errs = numbered(words), matched("in-Ok", words), matched("in-Err", words)
+    written = [f"c.{ok}.ensures.serialized" for ok in oks]
     goes = [f"c.{call}.ensures.goes_on" for call in calls]
     parts = Parts(it, case, values)
     lemma = "record_refused" if it.is_record else "variant_refused"
-    for i, name in enumerate(case.names):
+    for i, err in enumerate(errs):
         # both lemmas take the keys, the meaning, the states and the error
-        refused = f"({lemma} {whole_of(it, case)} _ _ _ _ _ {parts.refused(i, written, goes, f'c.in_err-{name}.ensures.refused')})"
-        answers.answer(function, f"returns-in_err-{name}-clause-refused", error_by(case.names, i, as_("refused_as", refused)))
+        refused = f"({lemma} {whole_of(it, case)} _ _ _ _ _ {parts.refused(i, written, goes, f'c.{err}.ensures.refused')})"
+        answers.answer(function, f"returns-{err}-clause-refused", as_("refused_as", refused))
         if i:
-            answers.answer(function, f"returns-in_err-{name}-clause-goes_on", all_goes(goes[:i + 1]))
+            answers.answer(function, f"returns-{err}-clause-goes_on", all_goes(goes[:i + 1]))
     lemma = "serialized_record" if it.is_record else "serialized_variant"
     answers.answer(function, "returns-clause-serialized", as_("written_as", f"({lemma} {whole_of(it, case)} _ _ _ _ _ {parts.written(written)})"))
     if case.count > 1:
         answers.answer(function, "returns-clause-goes_on", all_goes(goes))
+
+
+def matched(arm, words):
+    """Names of the arms of matches on calls one after another: the first has no more, others are named after the call."""
+    return [arm] + [f"{arm}-{word}" for word in numbered(words[1:])]
 
 
 def writing(it):
@@ -211,15 +219,15 @@ def box_written(it, type, answers):
     item = type.args[0]
     function, inner = f"serialize_{it.word(type)}", f"serialize_{it.word(item)}"
     D, X = it.terms.definitions(item), it.terms.shape(item)
+    same = "let same : c.deref-inner.result.now ≡ c.args.value.now.value = grind (arith, common_steps) in rw (← same)"
     goes = f"(goes_both _ _ _ c.{inner}.ensures.goes_on c.serialize_inner.ensures.goes_on)"
     answers.answer(
-        function, "returns-in_err-kept-clause-refused",
-        error_by(["kept"], 0, f"(box_refused {D} (one {X}) 0 _ _ _ _ _ (one_owned {D} {X} _ _ _ _ _ c.in_err-kept.ensures.refused))"),
+        function, "returns-in-Err-clause-refused", f"({same} (box_refused {D} (one {X}) 0 _ _ _ _ _ (one_owned {D} {X} _ _ _ _ _ c.in-Err.ensures.refused)))"
     )
-    answers.answer(function, "returns-in-Ok-clause-serialized", f"c.in-Ok.ensures.boxed.since _ c.{inner}.ensures.goes_on c.in_ok-kept.ensures.serialized")
-    answers.answer(function, "returns-in-Ok-clause-goes_on", goes)
-    answers.answer(function, "returns-in-Err-clause-goes_on", goes)
-    answers.answer(function, "returns-in-Err-clause-refused", f"c.in-Err.ensures.refused.since _ c.{inner}.ensures.goes_on c.in_ok-kept.ensures.serialized")
+    answers.answer(function, "returns-in-Ok-serialize_inner-clause-serialized", f"({same} (c.in-Ok-serialize_inner.ensures.boxed.since _ c.{inner}.ensures.goes_on c.in-Ok.ensures.serialized))")
+    answers.answer(function, "returns-in-Ok-serialize_inner-clause-goes_on", goes)
+    answers.answer(function, "returns-in-Err-serialize_inner-clause-goes_on", goes)
+    answers.answer(function, "returns-in-Err-serialize_inner-clause-refused", f"({same} (c.in-Err-serialize_inner.ensures.refused.since _ c.{inner}.ensures.goes_on c.in-Ok.ensures.serialized))")
 
 
 def vec_written(it, type, answers):
@@ -264,7 +272,7 @@ def vec_owner_written(it, type, answers):
         function, "returns-then-len-clause-refused",
         f"(let long : 4294967295 < length {value}.items = {long} in vec_refused {whole} {meaning} _ _ _ (long_run_refused {whole} (each_meaning {n}_meaning {value}.items) _ _ {plans} long))",
     )
-    answers.answer(function, f"returns-in-Err-{each}-clause-refused", f"vec_refused {whole} {meaning} _ _ _ (run_owned {whole} (each_meaning {n}_meaning {value}.items) _ _ _ ({as_items} c.in-Err-{each}.ensures.refused))")
+    answers.answer(function, "returns-in-Err-clause-refused", f"vec_refused {whole} {meaning} _ _ _ (run_owned {whole} (each_meaning {n}_meaning {value}.items) _ _ _ ({as_items} c.in-Err.ensures.refused))")
     listed = f"({as_items} c.in-Ok-serialize_inner_slice.ensures.listed).since _ c.{each}.ensures.goes_on ({as_items} c.in-Ok.ensures.serialized)"
     unlisted = f"({as_items} c.in-Err-serialize_inner_slice.ensures.refused).since _ c.{each}.ensures.goes_on ({as_items} c.in-Ok.ensures.serialized)"
     answers.answer(function, "returns-in-Ok-serialize_inner_slice-clause-serialized", listed)
@@ -276,13 +284,16 @@ def vec_owner_written(it, type, answers):
 def choice_written(it, answers):
     """The answers of the function that goes by the variant."""
     function, N = f"serialize_{it.n}", it.name
+    first = next(case for case in it.cases if case.count)
     for case in it.cases:
         values = "".join(f" c.in-{case.name}.{name}" for name in case.names)
         is_ = f"c.in-{case.name}.is"
         if not case.count:
+            nothing = f"(serialized_variant {whole_of(it, case)} _ _ _ _ _ (serialized_no_part no_definition _))"
+            answers.answer(function, f"returns-in-{case.name}-clause-serialized", f"rw {is_} (written_as {case.n}_has_keys {case.n}_means (rw {case.n}_opens refl) {nothing})")
             continue
-        ok, err = f"in-Ok-serialize_{case.n}", f"in-Err-serialize_{case.n}"
-        opens = f"({case.n}_opens _{' _' * (case.count - 1)})"
+        # the first of several calls goes by no name
+        ok, err = ("in-Ok", "in-Err") if case is first else (f"in-Ok-serialize_{case.n}", f"in-Err-serialize_{case.n}")
         answers.answer(function, f"returns-{ok}-clause-serialized", f"rw {is_} (written_as ({case.n}_has_keys{values}) ({case.n}_means{values}) (rw ({case.n}_opens{values}) refl) c.{ok}.ensures.serialized)")
         answers.answer(function, f"returns-{ok}-clause-same_value", f"rw ({is_}, {case.n}_opens{values}) c.{ok}.ensures.same_values")
         answers.answer(function, f"returns-{err}-clause-refused", f"rw {is_} (refused_as ({case.n}_has_keys{values}) ({case.n}_means{values}) c.{err}.ensures.refused)")
@@ -378,6 +389,17 @@ def vec_read(it, type, answers):
     )
 
 
+def signed(case):
+    """What makes of a number with a sign, as a body has it, the number that was read."""
+    out, steps = "", []
+    for name, type in zip(case.names, case.types):
+        if type.name in ("i8", "i16", "i32", "i64", "i128") and type.own is None:
+            width, value = f"w{type.name[1:]}", f"c.in_ok-{name}.{name}"
+            out += f"let fits_{name} : SFits {width} {value} = search rules in "
+            steps.append(f"to_z-of_z {width} {value} fits_{name}")
+    return f"{out}rw ({', '.join(steps)}) " if steps else ""
+
+
 def parts_read(it, case, answers, function):
     """The answers on parts that are read one after another."""
     where = "part_of_record" if it.is_record else "part_of_variant"
@@ -414,10 +436,20 @@ def parts_read(it, case, answers, function):
     else:
         its = "".join(f" {value}" for value in values)
         body = f"read_as ({case.n}_has_keys{its}) ({case.n}_means{its}) (variant_read_back {whole_of(it, case)} _ _ _ {first}_ _ _ _ {read()})"
-    answers.answer(function, "returns-clause-read", body)
+    lets = signed(case)
+    answers.answer(function, "returns-clause-read", f"({lets}({body}))" if lets else body)
+
+
+def defining(it):
+    """The answers on the definition of the name."""
+    answers = Answers(it, f"{it.archived}Portable/define")
+    answers.answer("", "returns-clause-added", "rw c.in-Ok.ensures.shape at c.define_name.ensures.added", "c")
+    answers.answer("", "returns-clause-refused", "rw c.in-Ok.ensures.shape at c.define_name.ensures.refused", "c")
+    return answers.files()
 
 
 def files(it):
-    out = writing(it)
+    out = defining(it)
+    out.update(writing(it))
     out.update(reading(it))
     return out

@@ -5,6 +5,7 @@ from .model import Declaration, Refused, Type
 # Plain parts that a recursive type may have beside those that lead back to it.
 PLAIN = {f"{sign}{bits}" for sign in "ui" for bits in (8, 16, 32, 64, 128)} | {"char", "String"}
 OWNERS = ("Box", "Vec")
+MOST_FIELDS = 7
 
 
 def check_recursive(it: Declaration, line: int, names: str):
@@ -13,8 +14,21 @@ def check_recursive(it: Declaration, line: int, names: str):
         raise Refused(it.path, line, f"`{it.name}` is recursive ({names}) and has type parameters; name its arguments, one type for each")
     if names != f"{it.name} > {it.name}":
         raise Refused(it.path, line, f"`{it.name}` leads back to itself through another type ({names}), which tools/derive doesn't write yet; put both into one enum")
-    for field in it.all_fields():
-        check_part(it, field.type, field.line)
+    if it.form == "tuple" and it.kind == "struct":
+        raise Refused(it.path, it.line, f"the recursive `{it.name}` is a tuple struct, which tools/derive doesn't write yet; name its fields")
+    for fields in [it.fields] if it.kind == "struct" else [variant.fields for variant in it.variants]:
+        check_parts(it, fields)
+        for field in fields:
+            check_part(it, field.type, field.line)
+
+
+def check_parts(it: Declaration, fields):
+    """A variant or a record has one part that leads back, and as many fields as the library writes."""
+    back = [field for field in fields if leads_back(it, field.type)]
+    if len(back) > 1:
+        raise Refused(it.path, back[1].line, f"a second field that leads back to `{it.name}` isn't written yet; put both into one `Vec<{it.name}>`")
+    if len(fields) > MOST_FIELDS:
+        raise Refused(it.path, fields[-1].line, f"a variant or a struct of the recursive `{it.name}` has up to {MOST_FIELDS} fields; put some of them into a struct of another file")
 
 
 def check_part(it: Declaration, type: Type, line: int):

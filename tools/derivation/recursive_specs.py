@@ -175,7 +175,7 @@ def flats(it):
         kept = f"Kept.{case.name} s" if case.binders else f"Kept.{case.name}"
         its = f"case {case.tag} {t.parts_flat(case.types, case.binders, 's')}"
         mine = t.parts_belong(case.types, case.binders, "s")
-        flat += f"{n}_flat_layer {pattern} r = elim r [ {kept} ↦ {its}{other.format(f'case {case.tag} no_value')} ]\n"
+        flat += f"{n}_flat_layer {pattern} r = " + (f"elim r [ {kept} ↦ {its}{other.format(f'case {case.tag} no_value')} ]\n" if case.binders else f"{its}\n")
         belongs += f"{n}_belongs_layer {pattern} r = elim r [ {kept} ↦ {mine}{other.format('⊥')} ]\n"
         arguments = "".join(f" ({b} : {it.antt(type_)})" for b, type_ in zip(case.binders, case.types))
         made = pattern.replace("Layer.", "Its.")

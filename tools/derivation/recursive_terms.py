@@ -247,7 +247,7 @@ def brought(body, more=()):
     lines = []
     known = dict(PRELUDE)
     for path, names in more:
-        known[path] = names
+        known[path] = " ".join(dict.fromkeys(f"{known.get(path, '')} {names}".split()))
     for path, names in sorted(known.items()):
         here = [n for n in names.split() if (n.replace("◌", "") if "◌" in n else n) in used or n == "[]" and "[]" in body]
         here += [f"{name} as {alias}" for alias, (where, name) in RENAMED.items() if where == path and alias in used]

@@ -13,9 +13,8 @@ pub use before::{boxed, listed};
 pub use fields::{
     resolve_named_case_0, resolve_named_case_1, resolve_named_case_2, resolve_named_case_3,
     resolve_named_case_4, resolve_named_case_5, resolve_named_case_6, resolve_named_case_7,
-    resolve_named_case_8, resolve_named_record_0, resolve_named_record_1, resolve_named_record_2,
-    resolve_named_record_3, resolve_named_record_4, resolve_named_record_5, resolve_named_record_6,
-    resolve_named_record_7, resolve_named_record_8,
+    resolve_named_record_0, resolve_named_record_1, resolve_named_record_2, resolve_named_record_3,
+    resolve_named_record_4, resolve_named_record_5, resolve_named_record_6, resolve_named_record_7,
 };
 pub use hollow::{BoxAt, VecAt};
 pub use inner::{serialize_inner_slice, serialize_part};

@@ -59,7 +59,7 @@ list_cons_has_keys a0 a1 = ap list_keys (sym (Its.rolls-Cons a0 a1)) ∙ list_ha
 
 -- what is read in its place, by the resolver of the same variant
 abbrev pub list_flat_layer : List-F List-Source → ListResolver → Value
-list_flat_layer Layer.Nil r = elim r [ Kept.Nil ↦ case 0 no_value | _ ↦ case 0 no_value ]
+list_flat_layer Layer.Nil r = case 0 no_value
 list_flat_layer (Layer.Cons a0 a1) r = elim r [ Kept.Cons s ↦ case 1 (value (number (pos a0)) (value (box (hole (to_pointee s.1.0 (one list_shape) 0))) no_value)) | _ ↦ case 1 no_value ]
 
 abbrev pub list_flat : List-Source → ListResolver → Value

@@ -5,8 +5,8 @@
 pub enum Expr {
     /// A number.
     Num(i64),
-    /// A sum.
-    Add(Box<Expr>, Box<Expr>),
+    /// The other sign.
+    Negated(Box<Expr>),
     /// A call by a name.
     Call(String, Vec<Expr>),
 }
@@ -30,7 +30,7 @@ ghost use Rattle.archive_core.specs.Value.{case, no_value, value};
 ghost use Rattle.archive_core.specs.Viewed.{Viewed};
 ghost use Rattle.archive_core.specs.Writing.{ZeroedPlace};
 ghost use Rattle.archive_core.specs.Written.{GoesOn};
-ghost use Rattle.recursive_types.specs.ExprShape.{expr_add_parts, expr_call_parts, expr_definitions, expr_has_layout, expr_has_variants, expr_is_align, expr_layout, expr_name, expr_no_others, expr_num_parts, expr_shape, expr_stands_for};
+ghost use Rattle.recursive_types.specs.ExprShape.{expr_call_parts, expr_definitions, expr_has_layout, expr_has_variants, expr_is_align, expr_layout, expr_name, expr_negated_parts, expr_no_others, expr_num_parts, expr_shape, expr_stands_for};
 ghost use Rattle.std.proofs.Common.{lit≤};
 ghost use Rattle.std.specs.Prelude.{IfErr, IfOk, OnOk, [], length, refl, ℕ, ◌++◌, ◌+◌, ◌≡◌, ◌≤◌};
 
@@ -61,11 +61,11 @@ pub struct ArchivedExpr;
 
 type ExprNumParts = (ArchivedI64, ());
 
-type ExprAddParts = (ArchivedBox<ArchivedExpr>, (ArchivedBox<ArchivedExpr>, ()));
+type ExprNegatedParts = (ArchivedBox<ArchivedExpr>, ());
 
 type ExprCallParts = (ArchivedString, (ArchivedVec<ArchivedExpr>, ()));
 
-type ExprVariants = (ExprNumParts, (ExprAddParts, (ExprCallParts, ())));
+type ExprVariants = (ExprNumParts, (ExprNegatedParts, (ExprCallParts, ())));
 
 impl ArchivePointee for ArchivedExpr {
     type ArchivedMetadata = ();
@@ -90,14 +90,13 @@ fn expr_num_expressions(alloc: Global) -> Result<Vec<CoreExpr>, Error>
     Ok(vec![in alloc; a0]?)
 }
 
-// The parts of `Add`.
-fn expr_add_expressions(alloc: Global) -> Result<Vec<CoreExpr>, Error>
-    ensures shapes { IfOk result (λ list. shapes_in list.items ≡ expr_add_parts) }
+// The parts of `Negated`.
+fn expr_negated_expressions(alloc: Global) -> Result<Vec<CoreExpr>, Error>
+    ensures shapes { IfOk result (λ list. shapes_in list.items ≡ expr_negated_parts) }
     ensures refused { IfErr result (λ e. e ≡ OutOfMemory) }
 {
     let a0 = CoreExpr::Box(Box::new(alloc, Pointee::One(CoreExpr::Named("ArchivedExpr")))?);
-    let a1 = CoreExpr::Box(Box::new(alloc, Pointee::One(CoreExpr::Named("ArchivedExpr")))?);
-    Ok(vec![in alloc; a0, a1]?)
+    Ok(vec![in alloc; a0]?)
 }
 
 // The parts of `Call`.
@@ -116,7 +115,7 @@ fn expr_expression(alloc: Global) -> Result<CoreExpr, Error>
     ensures refused { IfErr result (λ e. e ≡ OutOfMemory) }
 {
     let v0 = expr_num_expressions(alloc)?;
-    let v1 = expr_add_expressions(alloc)?;
+    let v1 = expr_negated_expressions(alloc)?;
     let v2 = expr_call_expressions(alloc)?;
     let variants = vec![in alloc; v0, v1, v2]?;
     Ok(choice_of("ArchivedExpr", variants))
@@ -175,8 +174,8 @@ impl Choice for ArchivedExpr {
 pub enum ExprResolver {
     /// Of `Num`.
     Num((<i64 as Archive>::Resolver, ())),
-    /// Of `Add`.
-    Add((BoxResolver, (BoxResolver, ()))),
+    /// Of `Negated`.
+    Negated((BoxResolver, ())),
     /// Of `Call`.
     Call((<String as Archive>::Resolver, (VecResolver, ()))),
 }
@@ -219,16 +218,14 @@ impl Archive for Expr {
                 };
                 resolve_named_case_1::<i64, ArchivedExpr>(0, a0, kept, Place::new(pos, bytes))
             }
-            Expr::Add(_, _) => {
-                let ExprResolver::Add(kept) = resolver else {
+            Expr::Negated(_a0) => {
+                let ExprResolver::Negated(kept) = resolver else {
                     unreachable!();
                 };
                 let h0: BoxAt<ArchivedExpr> = BoxAt::new();
-                let h1: BoxAt<ArchivedExpr> = BoxAt::new();
-                resolve_named_case_2::<BoxAt<ArchivedExpr>, BoxAt<ArchivedExpr>, ArchivedExpr>(
+                resolve_named_case_1::<BoxAt<ArchivedExpr>, ArchivedExpr>(
                     1,
                     &h0,
-                    &h1,
                     kept,
                     Place::new(pos, bytes),
                 )
@@ -259,7 +256,10 @@ fn serialize_box_expr<S: Writer + Keys + ResolverAlloc>(value: &Box<Expr>, seria
     ensures refused { IfErr result (Refused ⟦<Box<Expr> as Archive>⟧ ⟦<ArchivedBox<ArchivedExpr> as Portable>⟧ value.now S.Keys serializer) }
 {
     let inner = &**value;
-    let kept = serialize_expr(inner, serializer)?;
+    let kept = match serialize_expr(inner, serializer) {
+        Ok(kept) => kept,
+        Err(error) => return Err(error),
+    };
     match serialize_inner(inner, kept, serializer) {
         Ok(at) => Ok(at),
         Err(error) => Err(error),
@@ -318,25 +318,29 @@ fn serialize_expr_num<S: Writer + Keys + ResolverAlloc>(
     ensures goes_on { GoesOn (S.state serializer.old) (S.state serializer.new) }
     ensures refused { IfErr result (IsRefused expr_definitions expr_shape (⟦<i64 as Archive>⟧.keys a0.now ++ []) (case 0 (value (⟦<i64 as Archive>⟧.meaning a0.now) no_value)) (S.state serializer.old) (S.state serializer.new)) }
 {
-    let a0 = serialize_part(a0, serializer)?;
+    let a0 = match serialize_part(a0, serializer) {
+        Ok(a0) => a0,
+        Err(error) => return Err(error),
+    };
     Ok((a0, ()))
 }
 
-// Writes what the parts of `Add` own, in order.
+// Writes what the parts of `Negated` own, in order.
 #[cycle(serialize_expr)]
-fn serialize_expr_add<S: Writer + Keys + ResolverAlloc>(
+fn serialize_expr_negated<S: Writer + Keys + ResolverAlloc>(
     a0: &Box<Expr>,
-    a1: &Box<Expr>,
     serializer: &mut S,
-) -> Result<(BoxResolver, (BoxResolver, ())), Error>
-    ensures serialized { IfOk result (λ r. Serialized expr_definitions expr_shape (⟦<Box<Expr> as Archive>⟧.keys a0.now ++ (⟦<Box<Expr> as Archive>⟧.keys a1.now ++ [])) (case 1 (value (⟦<Box<Expr> as Archive>⟧.meaning a0.now) (value (⟦<Box<Expr> as Archive>⟧.meaning a1.now) no_value))) (case 1 (value (⟦<Box<Expr> as Archive>⟧.flat a0.now r.0) (value (⟦<Box<Expr> as Archive>⟧.flat a1.now r.1.0) no_value))) (S.state serializer.old) (S.state serializer.new)) }
-    ensures same_values { IfOk result (λ r. ⟦<Box<Expr> as Archive>⟧.belongs a0.now r.0 × (⟦<Box<Expr> as Archive>⟧.belongs a1.now r.1.0 × Unit {0})) }
+) -> Result<(BoxResolver, ()), Error>
+    ensures serialized { IfOk result (λ r. Serialized expr_definitions expr_shape (⟦<Box<Expr> as Archive>⟧.keys a0.now ++ []) (case 1 (value (⟦<Box<Expr> as Archive>⟧.meaning a0.now) no_value)) (case 1 (value (⟦<Box<Expr> as Archive>⟧.flat a0.now r.0) no_value)) (S.state serializer.old) (S.state serializer.new)) }
+    ensures same_values { IfOk result (λ r. ⟦<Box<Expr> as Archive>⟧.belongs a0.now r.0 × Unit {0}) }
     ensures goes_on { GoesOn (S.state serializer.old) (S.state serializer.new) }
-    ensures refused { IfErr result (IsRefused expr_definitions expr_shape (⟦<Box<Expr> as Archive>⟧.keys a0.now ++ (⟦<Box<Expr> as Archive>⟧.keys a1.now ++ [])) (case 1 (value (⟦<Box<Expr> as Archive>⟧.meaning a0.now) (value (⟦<Box<Expr> as Archive>⟧.meaning a1.now) no_value))) (S.state serializer.old) (S.state serializer.new)) }
+    ensures refused { IfErr result (IsRefused expr_definitions expr_shape (⟦<Box<Expr> as Archive>⟧.keys a0.now ++ []) (case 1 (value (⟦<Box<Expr> as Archive>⟧.meaning a0.now) no_value)) (S.state serializer.old) (S.state serializer.new)) }
 {
-    let a0 = serialize_box_expr(a0, serializer)?;
-    let a1 = serialize_box_expr(a1, serializer)?;
-    Ok((a0, (a1, ())))
+    let a0 = match serialize_box_expr(a0, serializer) {
+        Ok(a0) => a0,
+        Err(error) => return Err(error),
+    };
+    Ok((a0, ()))
 }
 
 // Writes what the parts of `Call` own, in order.
@@ -351,8 +355,14 @@ fn serialize_expr_call<S: Writer + Keys + ResolverAlloc>(
     ensures goes_on { GoesOn (S.state serializer.old) (S.state serializer.new) }
     ensures refused { IfErr result (IsRefused expr_definitions expr_shape (⟦<String as Archive>⟧.keys a0.now ++ (⟦<Vec<Expr> as Archive>⟧.keys a1.now ++ [])) (case 2 (value (⟦<String as Archive>⟧.meaning a0.now) (value (⟦<Vec<Expr> as Archive>⟧.meaning a1.now) no_value))) (S.state serializer.old) (S.state serializer.new)) }
 {
-    let a0 = serialize_part(a0, serializer)?;
-    let a1 = serialize_vec_expr(a1, serializer)?;
+    let a0 = match serialize_part(a0, serializer) {
+        Ok(a0) => a0,
+        Err(error) => return Err(error),
+    };
+    let a1 = match serialize_vec_expr(a1, serializer) {
+        Ok(a1) => a1,
+        Err(error) => return Err(error),
+    };
     Ok((a0, (a1, ())))
 }
 
@@ -369,8 +379,8 @@ fn serialize_expr<S: Writer + Keys + ResolverAlloc>(value: &Expr, serializer: &m
             Ok(kept) => Ok(ExprResolver::Num(kept)),
             Err(error) => Err(error),
         },
-        Expr::Add(a0, a1) => match serialize_expr_add(a0, a1, serializer) {
-            Ok(kept) => Ok(ExprResolver::Add(kept)),
+        Expr::Negated(a0) => match serialize_expr_negated(a0, serializer) {
+            Ok(kept) => Ok(ExprResolver::Negated(kept)),
             Err(error) => Err(error),
         },
         Expr::Call(a0, a1) => match serialize_expr_call(a0, a1, serializer) {
@@ -457,9 +467,9 @@ fn read_expr_num<D: Entries>(alloc: Global, part: RawView<'_>, deserializer: &mu
     Ok(Expr::Num(a0))
 }
 
-// Reads `Add` back.
+// Reads `Negated` back.
 #[cycle(read_expr)]
-fn read_expr_add<D: Entries>(alloc: Global, part: RawView<'_>, deserializer: &mut D) -> Result<Expr, Error>
+fn read_expr_negated<D: Entries>(alloc: Global, part: RawView<'_>, deserializer: &mut D) -> Result<Expr, Error>
     requires viewed { IsPartOf ⟦<ArchivedExpr as ArchivePointee>⟧ part }
     requires tag { part_tag part ≡ 1 }
     ensures read { IfOk result (Read ⟦<ArchivedExpr as ArchivePointee>⟧ part D.Entries deserializer ⟦<Expr as Archive>⟧) }
@@ -467,9 +477,7 @@ fn read_expr_add<D: Entries>(alloc: Global, part: RawView<'_>, deserializer: &mu
 {
     let p0 = part_of_variant::<ArchivedExpr, ArchivedBox<ArchivedExpr>>(part, 1, 0, 4);
     let a0 = read_box_expr(alloc, p0, deserializer)?;
-    let p1 = part_of_variant::<ArchivedExpr, ArchivedBox<ArchivedExpr>>(part, 1, 1, 8);
-    let a1 = read_box_expr(alloc, p1, deserializer)?;
-    Ok(Expr::Add(a0, a1))
+    Ok(Expr::Negated(a0))
 }
 
 // Reads `Call` back.
@@ -496,7 +504,7 @@ fn read_expr<D: Entries>(alloc: Global, part: RawView<'_>, deserializer: &mut D)
 {
     match tag_of_choice::<ArchivedExpr>(part) {
         0 => read_expr_num(alloc, part, deserializer),
-        1 => read_expr_add(alloc, part, deserializer),
+        1 => read_expr_negated(alloc, part, deserializer),
         _ => read_expr_call(alloc, part, deserializer),
     }
 }
@@ -520,8 +528,8 @@ impl<D: Entries> Deserialize<Expr, D> for ArchivedExpr {
 pub enum ViewOfExpr<'a> {
     /// A number.
     Num(Ref<'a, ArchivedI64>),
-    /// A sum.
-    Add(Ref<'a, ArchivedBox<ArchivedExpr>>, Ref<'a, ArchivedBox<ArchivedExpr>>),
+    /// The other sign.
+    Negated(Ref<'a, ArchivedBox<ArchivedExpr>>),
     /// A call by a name.
     Call(Ref<'a, ArchivedString>, Ref<'a, ArchivedVec<ArchivedExpr>>),
 }
@@ -533,17 +541,16 @@ pub trait ExprView<'a> {
 }
 
 impl<'a> ExprView<'a> for Ref<'a, ArchivedExpr> {
-    ghost use Rattle.recursive_types.specs.declared.expr.ViewOfExpr.TheVariants.{Add as ExprAddShown, Call as ExprCallShown, Num as ExprNumShown};
+    ghost use Rattle.recursive_types.specs.declared.expr.ViewOfExpr.TheVariants.{Call as ExprCallShown, Negated as ExprNegatedShown, Num as ExprNumShown};
 
     fn variant(self) -> ViewOfExpr<'a>
-        ensures shows { elim result [ ExprNumShown a0 ↦ (tag_of self.entry ≡ 0) × (a0.bytes.now ≡ self.entry.bytes.now) × (a0.pos ≡ self.entry.pos + 8) × (a0.len ≡ 0) × ShowsValueOf a0 self.entry (payload_in 0) | ExprAddShown a0 a1 ↦ (tag_of self.entry ≡ 1) × (a0.bytes.now ≡ self.entry.bytes.now) × (a0.pos ≡ self.entry.pos + 4) × (a0.len ≡ 0) × ShowsValueOf a0 self.entry (payload_in 0) × (a1.bytes.now ≡ self.entry.bytes.now) × (a1.pos ≡ self.entry.pos + 8) × (a1.len ≡ 0) × ShowsValueOf a1 self.entry (payload_in 1) | ExprCallShown a0 a1 ↦ (tag_of self.entry ≡ 2) × (a0.bytes.now ≡ self.entry.bytes.now) × (a0.pos ≡ self.entry.pos + 4) × (a0.len ≡ 0) × ShowsValueOf a0 self.entry (payload_in 0) × (a1.bytes.now ≡ self.entry.bytes.now) × (a1.pos ≡ self.entry.pos + 12) × (a1.len ≡ 0) × ShowsValueOf a1 self.entry (payload_in 1) ] }
+        ensures shows { elim result [ ExprNumShown a0 ↦ (tag_of self.entry ≡ 0) × (a0.bytes.now ≡ self.entry.bytes.now) × (a0.pos ≡ self.entry.pos + 8) × (a0.len ≡ 0) × ShowsValueOf a0 self.entry (payload_in 0) | ExprNegatedShown a0 ↦ (tag_of self.entry ≡ 1) × (a0.bytes.now ≡ self.entry.bytes.now) × (a0.pos ≡ self.entry.pos + 4) × (a0.len ≡ 0) × ShowsValueOf a0 self.entry (payload_in 0) | ExprCallShown a0 a1 ↦ (tag_of self.entry ≡ 2) × (a0.bytes.now ≡ self.entry.bytes.now) × (a0.pos ≡ self.entry.pos + 4) × (a0.len ≡ 0) × ShowsValueOf a0 self.entry (payload_in 0) × (a1.bytes.now ≡ self.entry.bytes.now) × (a1.pos ≡ self.entry.pos + 12) × (a1.len ≡ 0) × ShowsValueOf a1 self.entry (payload_in 1) ] }
     {
         match tag_of_view(self) {
             0 => ViewOfExpr::Num(view_of_payload::<ArchivedExpr, ArchivedI64>(self, 0, 0, 8)),
             1 => {
                 let a0 = view_of_payload::<ArchivedExpr, ArchivedBox<ArchivedExpr>>(self, 1, 0, 4);
-                let a1 = view_of_payload::<ArchivedExpr, ArchivedBox<ArchivedExpr>>(self, 1, 1, 8);
-                ViewOfExpr::Add(a0, a1)
+                ViewOfExpr::Negated(a0)
             }
             _ => {
                 let a0 = view_of_payload::<ArchivedExpr, ArchivedString>(self, 2, 0, 4);
@@ -567,13 +574,8 @@ pub trait ExprSeal<'a> {
         requires viewed { sealed self }
         requires tag { tag self ≡ 0 };
 
-    /// The field `0` of `Add`.
-    fn add_0_mut(self) -> Seal<'a, ArchivedBox<ArchivedExpr>>
-        requires viewed { sealed self }
-        requires tag { tag self ≡ 1 };
-
-    /// The field `1` of `Add`.
-    fn add_1_mut(self) -> Seal<'a, ArchivedBox<ArchivedExpr>>
+    /// The field `0` of `Negated`.
+    fn negated_0_mut(self) -> Seal<'a, ArchivedBox<ArchivedExpr>>
         requires viewed { sealed self }
         requires tag { tag self ≡ 1 };
 
@@ -606,7 +608,7 @@ impl<'a> ExprSeal<'a> for Seal<'a, ArchivedExpr> {
         seal_of_payload::<ArchivedExpr, ArchivedI64>(self, 0, 0, 8)
     }
 
-    fn add_0_mut(self) -> Seal<'a, ArchivedBox<ArchivedExpr>>
+    fn negated_0_mut(self) -> Seal<'a, ArchivedBox<ArchivedExpr>>
         requires viewed { Viewed expr_definitions self.bytes.now self.pos (one ⟦<ArchivedExpr as Portable>⟧.shape) self.len }
         requires tag { seal_tag self ≡ 1 }
         ensures same_reference { result.bytes.ghost_name ≡ self.entry.bytes.ghost_name }
@@ -617,19 +619,6 @@ impl<'a> ExprSeal<'a> for Seal<'a, ArchivedExpr> {
         ensures beside { SealsBeside expr_definitions (one ⟦<ArchivedExpr as Portable>⟧.shape) ⟦<ArchivedBox<ArchivedExpr> as ArchivePointee>⟧.pointee result self.entry }
     {
         seal_of_payload::<ArchivedExpr, ArchivedBox<ArchivedExpr>>(self, 1, 0, 4)
-    }
-
-    fn add_1_mut(self) -> Seal<'a, ArchivedBox<ArchivedExpr>>
-        requires viewed { Viewed expr_definitions self.bytes.now self.pos (one ⟦<ArchivedExpr as Portable>⟧.shape) self.len }
-        requires tag { seal_tag self ≡ 1 }
-        ensures same_reference { result.bytes.ghost_name ≡ self.entry.bytes.ghost_name }
-        ensures buffer { result.bytes.now ≡ self.entry.bytes.now }
-        ensures position { result.pos ≡ self.entry.pos + 8 }
-        ensures length { result.len ≡ 0 }
-        ensures viewed { Viewed ⟦<ArchivedExpr as ArchivePointee>⟧.definitions result.bytes.now result.pos ⟦<ArchivedBox<ArchivedExpr> as ArchivePointee>⟧.pointee result.len }
-        ensures beside { SealsBeside expr_definitions (one ⟦<ArchivedExpr as Portable>⟧.shape) ⟦<ArchivedBox<ArchivedExpr> as ArchivePointee>⟧.pointee result self.entry }
-    {
-        seal_of_payload::<ArchivedExpr, ArchivedBox<ArchivedExpr>>(self, 1, 1, 8)
     }
 
     fn call_0_mut(self) -> Seal<'a, ArchivedString>

@@ -185,7 +185,7 @@ impl Archive for List {
             List::Nil => {
                 resolve_named_case_0::<ArchivedList>(0, (), Place::new(pos, bytes))
             }
-            List::Cons(a0, _) => {
+            List::Cons(a0, _a1) => {
                 let ListResolver::Cons(kept) = resolver else {
                     unreachable!();
                 };
@@ -211,7 +211,10 @@ fn serialize_box_list<S: Writer + Keys + ResolverAlloc>(value: &Box<List>, seria
     ensures refused { IfErr result (Refused ⟦<Box<List> as Archive>⟧ ⟦<ArchivedBox<ArchivedList> as Portable>⟧ value.now S.Keys serializer) }
 {
     let inner = &**value;
-    let kept = serialize_list(inner, serializer)?;
+    let kept = match serialize_list(inner, serializer) {
+        Ok(kept) => kept,
+        Err(error) => return Err(error),
+    };
     match serialize_inner(inner, kept, serializer) {
         Ok(at) => Ok(at),
         Err(error) => Err(error),
@@ -230,8 +233,14 @@ fn serialize_list_cons<S: Writer + Keys + ResolverAlloc>(
     ensures goes_on { GoesOn (S.state serializer.old) (S.state serializer.new) }
     ensures refused { IfErr result (IsRefused list_definitions list_shape (⟦<u32 as Archive>⟧.keys a0.now ++ (⟦<Box<List> as Archive>⟧.keys a1.now ++ [])) (case 1 (value (⟦<u32 as Archive>⟧.meaning a0.now) (value (⟦<Box<List> as Archive>⟧.meaning a1.now) no_value))) (S.state serializer.old) (S.state serializer.new)) }
 {
-    let a0 = serialize_part(a0, serializer)?;
-    let a1 = serialize_box_list(a1, serializer)?;
+    let a0 = match serialize_part(a0, serializer) {
+        Ok(a0) => a0,
+        Err(error) => return Err(error),
+    };
+    let a1 = match serialize_box_list(a1, serializer) {
+        Ok(a1) => a1,
+        Err(error) => return Err(error),
+    };
     Ok((a0, (a1, ())))
 }
 

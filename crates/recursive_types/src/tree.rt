@@ -231,8 +231,14 @@ fn serialize_tree<S: Writer + Keys + ResolverAlloc>(value: &Tree, serializer: &m
     ensures goes_on { GoesOn (S.state serializer.old) (S.state serializer.new) }
     ensures refused { IfErr result (Refused ⟦<Tree as Archive>⟧ ⟦<ArchivedTree as Portable>⟧ value.now S.Keys serializer) }
 {
-    let a0 = serialize_part(&value.value, serializer)?;
-    let a1 = serialize_vec_tree(&value.children, serializer)?;
+    let a0 = match serialize_part(&value.value, serializer) {
+        Ok(a0) => a0,
+        Err(error) => return Err(error),
+    };
+    let a1 = match serialize_vec_tree(&value.children, serializer) {
+        Ok(a1) => a1,
+        Err(error) => return Err(error),
+    };
     Ok(TreeResolver { kept: (a0, (a1, ())) })
 }
 

@@ -1,4 +1,4 @@
-// Variants of choices with a name are written over zeros, by the number of their fields: 0 to 8.
+// Variants of choices with a name are written over zeros, by the number of their fields: 0 to 7.
 // Written by tools/fields: change that, and run it again.
 
 ghost use Rattle.std.specs.Prelude.{◌≡◌, ◌+◌, ◌<◌, ◌≤◌, Some, length, OnOk, IfErr};
@@ -13,7 +13,6 @@ ghost use Rattle.archive_types.specs.Writing.{ZeroedPlace};
 use archive_check::format::error::Error;
 use archive_fields::fields::{
     resolve_0, resolve_1, resolve_2, resolve_3, resolve_4, resolve_5, resolve_6, resolve_7,
-    resolve_8,
 };
 use archive_types::place::Place;
 use archive_types::traits::{Archive, Choice, Portable};
@@ -247,55 +246,4 @@ pub fn resolve_named_case_7<
     let Place { bytes, pos, .. } = place;
     bytes[0] = tag;
     resolve_7(a, b, c, d, e, f, g, resolvers, pos, 1, &mut bytes[1..])
-}
-
-/// Writes a variant of 8 fields over zeros: its tag, and behind it the fields.
-pub fn resolve_named_case_8<
-    A: Archive,
-    B: Archive,
-    C: Archive,
-    D: Archive,
-    E: Archive,
-    F: Archive,
-    G: Archive,
-    H: Archive,
-    X: Choice,
->(
-    tag: u8,
-    a: &A,
-    b: &B,
-    c: &C,
-    d: &D,
-    e: &E,
-    f: &F,
-    g: &G,
-    h: &H,
-    resolvers: (
-        A::Resolver,
-        (
-            B::Resolver,
-            (
-                C::Resolver,
-                (
-                    D::Resolver,
-                    (E::Resolver, (F::Resolver, (G::Resolver, (H::Resolver, ())))),
-                ),
-            ),
-        ),
-    ),
-    place: Place<'_, X>,
-) -> Result<(), Error>
-    requires variant { variant_at X.Variants.variants tag ≡ Some (part A.Archived.shape (part B.Archived.shape (part C.Archived.shape (part D.Archived.shape (part E.Archived.shape (part F.Archived.shape (part G.Archived.shape (part H.Archived.shape no_part)))))))) }
-    requires definitions { variant_definitions X.Variants.definitions tag ≡ (both A.Archived.definitions (both B.Archived.definitions (both C.Archived.definitions (both D.Archived.definitions (both E.Archived.definitions (both F.Archived.definitions (both G.Archived.definitions (both H.Archived.definitions no_definition)))))))) }
-    requires inside { Unit {0} → (up (up (up (up (up (up (up (up 1 A.Archived.layout.align + A.Archived.layout.size) B.Archived.layout.align + B.Archived.layout.size) C.Archived.layout.align + C.Archived.layout.size) D.Archived.layout.align + D.Archived.layout.size) E.Archived.layout.align + E.Archived.layout.size) F.Archived.layout.align + F.Archived.layout.size) G.Archived.layout.align + G.Archived.layout.size) H.Archived.layout.align + H.Archived.layout.size) ≤ X.layout.size }
-    requires some { 0 < X.layout.size }
-    requires zeroed { ZeroedPlace X.layout.size place.pos place.bytes.now }
-    requires same_values { A.belongs a.now resolvers.0 × (B.belongs b.now resolvers.1.0 × (C.belongs c.now resolvers.1.1.0 × (D.belongs d.now resolvers.1.1.1.0 × (E.belongs e.now resolvers.1.1.1.1.0 × (F.belongs f.now resolvers.1.1.1.1.1.0 × (G.belongs g.now resolvers.1.1.1.1.1.1.0 × (H.belongs h.now resolvers.1.1.1.1.1.1.1.0 × Unit {0}))))))) }
-    ensures resolved { OnOk result (Resolved X.Portable place (case tag (value (A.flat a.now resolvers.0) (value (B.flat b.now resolvers.1.0) (value (C.flat c.now resolvers.1.1.0) (value (D.flat d.now resolvers.1.1.1.0) (value (E.flat e.now resolvers.1.1.1.1.0) (value (F.flat f.now resolvers.1.1.1.1.1.0) (value (G.flat g.now resolvers.1.1.1.1.1.1.0) (value (H.flat h.now resolvers.1.1.1.1.1.1.1.0) no_value)))))))))) }
-    ensures same_length { length place.exit.0.now ≡ length place.entry.bytes.now }
-    ensures refused { IfErr result (Hindered X.Portable place (case tag (value (A.flat a.now resolvers.0) (value (B.flat b.now resolvers.1.0) (value (C.flat c.now resolvers.1.1.0) (value (D.flat d.now resolvers.1.1.1.0) (value (E.flat e.now resolvers.1.1.1.1.0) (value (F.flat f.now resolvers.1.1.1.1.1.0) (value (G.flat g.now resolvers.1.1.1.1.1.1.0) (value (H.flat h.now resolvers.1.1.1.1.1.1.1.0) no_value)))))))))) }
-{
-    let Place { bytes, pos, .. } = place;
-    bytes[0] = tag;
-    resolve_8(a, b, c, d, e, f, g, h, resolvers, pos, 1, &mut bytes[1..])
 }

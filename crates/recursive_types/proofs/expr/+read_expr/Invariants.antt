@@ -5,6 +5,7 @@ use Rattle.archive_recursive.proofs.ReadElements.{FirstElements}
 use Rattle.recursive_types.specs.ExprMeaning.{expr_meaning, expr_keys}
 use Rattle.recursive_types.specs.ExprShape.{expr_layout, expr_shape, expr_definitions}
 use Rattle.std.proofs.Common.{◌≡◌, ◌≤◌, ◌+◌, ◌*◌, length, pos}
+use Rattle.std.specs.Prelude.{◌≡◌, ◌≤◌, pos, length}
 use Rattle.std.specs.Vec.{vec_len, vec_capacity}
 use Rattle.recursive_types.proofs.expr.+read_expr.Given as goal
 
@@ -14,8 +15,8 @@ decreases-read_box_expr g l = (l.part.pos + 4) * 4 + 1
 abbrev pub decreases-read_vec_expr : goal.decreases-read_vec_expr
 decreases-read_vec_expr g l = (l.part.pos + 8) * 4 + 1
 
-abbrev pub decreases-read_expr_add : goal.decreases-read_expr_add
-decreases-read_expr_add g l = (l.part.pos + 24) * 4 + 2
+abbrev pub decreases-read_expr_negated : goal.decreases-read_expr_negated
+decreases-read_expr_negated g l = (l.part.pos + 24) * 4 + 2
 
 abbrev pub decreases-read_expr_call : goal.decreases-read_expr_call
 decreases-read_expr_call g l = (l.part.pos + 24) * 4 + 2

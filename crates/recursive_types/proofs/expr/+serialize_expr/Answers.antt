@@ -3,7 +3,7 @@ use Rattle.archive_core.specs.Causes.{no_memory}
 use Rattle.archive_core.specs.Definitions.{both, no_definition}
 use Rattle.archive_core.specs.Error.TheVariants.{OutOfMemory}
 use Rattle.archive_core.specs.PartsPlanned.{part_planned, no_part_planned}
-use Rattle.archive_core.specs.PlannedOwners.{each_planned}
+use Rattle.archive_core.specs.PlannedOwners.{vec_planned, slice_planned, each_planned}
 use Rattle.archive_core.specs.Runs.{each_keys, each_meaning}
 use Rattle.archive_core.specs.Shape.{boxed, vec, str, one, part, no_part}
 use Rattle.archive_core.specs.Value.{list, box, value, no_value, text_value}
@@ -15,27 +15,28 @@ use Rattle.archive_recursive.proofs.PlannedParts.{serialized_no_part, serialized
 use Rattle.archive_recursive.proofs.RunRegions.{run_owned, long_run_refused}
 use Rattle.archive_recursive.proofs.Runs.{continues_step, continues_broken, continues_end, belongs_end}
 use Rattle.archive_recursive.specs.Held.{written_as, refused_as}
-use Rattle.recursive_types.specs.ExprMeaning.{expr_meaning, expr_keys, expr_planned, expr_num_means, expr_num_has_keys, expr_num_opens, expr_add_means, expr_add_has_keys, expr_add_opens, expr_call_means, expr_call_has_keys, expr_call_opens}
-use Rattle.recursive_types.specs.ExprShape.{expr_name, expr_shape, expr_definitions, expr_variants, expr_variant_definitions, expr_has_variants, expr_add_parts, expr_add_definitions, expr_call_parts, expr_call_definitions}
+use Rattle.recursive_types.specs.ExprMeaning.{expr_meaning, expr_keys, expr_planned, expr_num_means, expr_num_has_keys, expr_num_opens, expr_negated_means, expr_negated_has_keys, expr_negated_opens, expr_call_means, expr_call_has_keys, expr_call_opens}
+use Rattle.recursive_types.specs.ExprShape.{expr_name, expr_shape, expr_definitions, expr_variants, expr_variant_definitions, expr_has_variants, expr_negated_parts, expr_negated_definitions, expr_call_parts, expr_call_definitions}
 use Rattle.std.proofs.Common.{◌≡◌, ◌<◌, ◌++◌, [], length, refl, arith, string_bytes}
 use Rattle.std.proofs.Math.ListN.{drop_of_length-le}
 use Rattle.std.proofs.lemmas.Grind.{common_steps}
+use Rattle.std.specs.Prelude.{[], ◌++◌, ◌≡◌, refl, length, string_bytes}
 use Rattle.recursive_types.proofs.expr.+serialize_expr.Goals as goal
 
-pub serialize_box_expr-returns-in_err-kept-clause-refused : goal.serialize_box_expr-returns-in_err-kept-clause-refused
-serialize_box_expr-returns-in_err-kept-clause-refused g t c = err_by c.from_residual.result c.in_err-kept.field-0.0 _ c.from_residual.ensures.1 (box_refused expr_definitions (one expr_shape) 0 _ _ _ _ _ (one_owned expr_definitions expr_shape _ _ _ _ _ c.in_err-kept.ensures.refused))
-
-pub serialize_box_expr-returns-in-Ok-clause-serialized : goal.serialize_box_expr-returns-in-Ok-clause-serialized
-serialize_box_expr-returns-in-Ok-clause-serialized g t c = c.in-Ok.ensures.boxed.since _ c.serialize_expr.ensures.goes_on c.in_ok-kept.ensures.serialized
-
-pub serialize_box_expr-returns-in-Ok-clause-goes_on : goal.serialize_box_expr-returns-in-Ok-clause-goes_on
-serialize_box_expr-returns-in-Ok-clause-goes_on g t c = (goes_both _ _ _ c.serialize_expr.ensures.goes_on c.serialize_inner.ensures.goes_on)
-
-pub serialize_box_expr-returns-in-Err-clause-goes_on : goal.serialize_box_expr-returns-in-Err-clause-goes_on
-serialize_box_expr-returns-in-Err-clause-goes_on g t c = (goes_both _ _ _ c.serialize_expr.ensures.goes_on c.serialize_inner.ensures.goes_on)
-
 pub serialize_box_expr-returns-in-Err-clause-refused : goal.serialize_box_expr-returns-in-Err-clause-refused
-serialize_box_expr-returns-in-Err-clause-refused g t c = c.in-Err.ensures.refused.since _ c.serialize_expr.ensures.goes_on c.in_ok-kept.ensures.serialized
+serialize_box_expr-returns-in-Err-clause-refused g t c = (let same : c.deref-inner.result.now ≡ c.args.value.now.value = grind (arith, common_steps) in rw (← same) (box_refused expr_definitions (one expr_shape) 0 _ _ _ _ _ (one_owned expr_definitions expr_shape _ _ _ _ _ c.in-Err.ensures.refused)))
+
+pub serialize_box_expr-returns-in-Ok-serialize_inner-clause-serialized : goal.serialize_box_expr-returns-in-Ok-serialize_inner-clause-serialized
+serialize_box_expr-returns-in-Ok-serialize_inner-clause-serialized g t c = (let same : c.deref-inner.result.now ≡ c.args.value.now.value = grind (arith, common_steps) in rw (← same) (c.in-Ok-serialize_inner.ensures.boxed.since _ c.serialize_expr.ensures.goes_on c.in-Ok.ensures.serialized))
+
+pub serialize_box_expr-returns-in-Ok-serialize_inner-clause-goes_on : goal.serialize_box_expr-returns-in-Ok-serialize_inner-clause-goes_on
+serialize_box_expr-returns-in-Ok-serialize_inner-clause-goes_on g t c = (goes_both _ _ _ c.serialize_expr.ensures.goes_on c.serialize_inner.ensures.goes_on)
+
+pub serialize_box_expr-returns-in-Err-serialize_inner-clause-goes_on : goal.serialize_box_expr-returns-in-Err-serialize_inner-clause-goes_on
+serialize_box_expr-returns-in-Err-serialize_inner-clause-goes_on g t c = (goes_both _ _ _ c.serialize_expr.ensures.goes_on c.serialize_inner.ensures.goes_on)
+
+pub serialize_box_expr-returns-in-Err-serialize_inner-clause-refused : goal.serialize_box_expr-returns-in-Err-serialize_inner-clause-refused
+serialize_box_expr-returns-in-Err-serialize_inner-clause-refused g t c = (let same : c.deref-inner.result.now ≡ c.args.value.now.value = grind (arith, common_steps) in rw (← same) (c.in-Err-serialize_inner.ensures.refused.since _ c.serialize_expr.ensures.goes_on c.in-Ok.ensures.serialized))
 
 pub serialize_each_expr-returns-in_err-resolvers-clause-refused : goal.serialize_each_expr-returns-in_err-resolvers-clause-refused
 serialize_each_expr-returns-in_err-resolvers-clause-refused g t c = err_by c.from_residual.result OutOfMemory _ c.from_residual.ensures.1 no_memory
@@ -64,8 +65,8 @@ serialize_each_expr-returns-clause-same_values g t c = belongs_end _ _ _ _ _ _ _
 pub serialize_vec_expr-returns-then-len-clause-refused : goal.serialize_vec_expr-returns-then-len-clause-refused
 serialize_vec_expr-returns-then-len-clause-refused g t c = (let long : 4294967295 < length c.args.value.now.items = (let whole : length c.args.value.now.items ≡ c.len.result = grind (arith, common_steps, c.len.ensures) in omega (arith, c.if-len.true, whole)) in vec_refused expr_definitions expr_shape (length c.args.value.now.items) (each_keys expr_keys c.args.value.now.items) (list (each_meaning expr_meaning c.args.value.now.items)) _ _ _ (long_run_refused expr_definitions expr_shape (length c.args.value.now.items) (each_keys expr_keys c.args.value.now.items) (each_meaning expr_meaning c.args.value.now.items) _ _ (each_planned expr_definitions expr_shape expr_keys expr_meaning expr_planned c.args.value.now.items) long))
 
-pub serialize_vec_expr-returns-in-Err-serialize_each_expr-clause-refused : goal.serialize_vec_expr-returns-in-Err-serialize_each_expr-clause-refused
-serialize_vec_expr-returns-in-Err-serialize_each_expr-clause-refused g t c = vec_refused expr_definitions expr_shape (length c.args.value.now.items) (each_keys expr_keys c.args.value.now.items) (list (each_meaning expr_meaning c.args.value.now.items)) _ _ _ (run_owned expr_definitions expr_shape (length c.args.value.now.items) (each_keys expr_keys c.args.value.now.items) (each_meaning expr_meaning c.args.value.now.items) _ _ _ (rw c.as_slice-items.ensures.value at c.in-Err-serialize_each_expr.ensures.refused))
+pub serialize_vec_expr-returns-in-Err-clause-refused : goal.serialize_vec_expr-returns-in-Err-clause-refused
+serialize_vec_expr-returns-in-Err-clause-refused g t c = vec_refused expr_definitions expr_shape (length c.args.value.now.items) (each_keys expr_keys c.args.value.now.items) (list (each_meaning expr_meaning c.args.value.now.items)) _ _ _ (run_owned expr_definitions expr_shape (length c.args.value.now.items) (each_keys expr_keys c.args.value.now.items) (each_meaning expr_meaning c.args.value.now.items) _ _ _ (rw c.as_slice-items.ensures.value at c.in-Err.ensures.refused))
 
 pub serialize_vec_expr-returns-in-Ok-serialize_inner_slice-clause-serialized : goal.serialize_vec_expr-returns-in-Ok-serialize_inner_slice-clause-serialized
 serialize_vec_expr-returns-in-Ok-serialize_inner_slice-clause-serialized g t c = (rw c.as_slice-items.ensures.value at c.in-Ok-serialize_inner_slice.ensures.listed).since _ c.serialize_each_expr.ensures.goes_on (rw c.as_slice-items.ensures.value at c.in-Ok.ensures.serialized)
@@ -79,53 +80,44 @@ serialize_vec_expr-returns-in-Err-serialize_inner_slice-clause-goes_on g t c = (
 pub serialize_vec_expr-returns-in-Err-serialize_inner_slice-clause-refused : goal.serialize_vec_expr-returns-in-Err-serialize_inner_slice-clause-refused
 serialize_vec_expr-returns-in-Err-serialize_inner_slice-clause-refused g t c = (rw c.as_slice-items.ensures.value at c.in-Err-serialize_inner_slice.ensures.refused).since _ c.serialize_each_expr.ensures.goes_on (rw c.as_slice-items.ensures.value at c.in-Ok.ensures.serialized)
 
-pub serialize_expr_add-returns-in_err-a0-clause-refused : goal.serialize_expr_add-returns-in_err-a0-clause-refused
-serialize_expr_add-returns-in_err-a0-clause-refused g t c = err_by c.from_residual.result c.in_err-a0.field-0.0 _ c.from_residual.ensures.1 (variant_refused expr_definitions expr_shape expr_name expr_variant_definitions expr_variants expr_has_variants 1 expr_add_parts refl expr_add_definitions refl _ _ _ _ _ (first_refused expr_definitions (both expr_definitions no_definition) (boxed (one expr_shape)) (part (boxed (one expr_shape)) no_part) (expr_keys c.args.a0.now.value) ((expr_keys c.args.a1.now.value) ++ []) (box (expr_meaning c.args.a0.now.value)) (value (box (expr_meaning c.args.a1.now.value)) no_value) _ _ _ (part_planned expr_definitions (boxed (one expr_shape)) (expr_keys c.args.a1.now.value) (box (expr_meaning c.args.a1.now.value)) (boxed_one_planned expr_definitions (one expr_shape) expr_shape refl _ _ (expr_planned c.args.a1.now.value)) no_part_planned) c.in_err-a0.ensures.refused))
+pub serialize_expr_negated-returns-in-Err-clause-refused : goal.serialize_expr_negated-returns-in-Err-clause-refused
+serialize_expr_negated-returns-in-Err-clause-refused g t c = (variant_refused expr_definitions expr_shape expr_name expr_variant_definitions expr_variants expr_has_variants 1 expr_negated_parts refl expr_negated_definitions refl _ _ _ _ _ (first_refused expr_definitions no_definition (boxed (one expr_shape)) no_part (expr_keys c.args.a0.now.value) [] (box (expr_meaning c.args.a0.now.value)) no_value _ _ _ no_part_planned c.in-Err.ensures.refused))
 
-pub serialize_expr_add-returns-in_err-a1-clause-refused : goal.serialize_expr_add-returns-in_err-a1-clause-refused
-serialize_expr_add-returns-in_err-a1-clause-refused g t c = err_by c.from_residual-in_err-a1.result c.in_err-a1.field-0.0 _ c.from_residual-in_err-a1.ensures.1 (variant_refused expr_definitions expr_shape expr_name expr_variant_definitions expr_variants expr_has_variants 1 expr_add_parts refl expr_add_definitions refl _ _ _ _ _ (later_refused expr_definitions (both expr_definitions no_definition) (boxed (one expr_shape)) (part (boxed (one expr_shape)) no_part) (expr_keys c.args.a0.now.value) ((expr_keys c.args.a1.now.value) ++ []) (box (expr_meaning c.args.a0.now.value)) (value (box (expr_meaning c.args.a1.now.value)) no_value) _ _ _ _ _ c.in_ok-a0.ensures.serialized c.serialize_box_expr.ensures.goes_on c.serialize_box_expr-2.ensures.goes_on (first_refused expr_definitions no_definition (boxed (one expr_shape)) no_part (expr_keys c.args.a1.now.value) [] (box (expr_meaning c.args.a1.now.value)) no_value _ _ _ no_part_planned c.in_err-a1.ensures.refused)))
+pub serialize_expr_negated-returns-clause-serialized : goal.serialize_expr_negated-returns-clause-serialized
+serialize_expr_negated-returns-clause-serialized g t c = (serialized_variant expr_definitions expr_shape expr_name expr_variant_definitions expr_variants expr_has_variants 1 expr_negated_parts refl expr_negated_definitions refl _ _ _ _ _ (serialized_part expr_definitions no_definition (boxed (one expr_shape)) no_part (expr_keys c.args.a0.now.value) [] (box (expr_meaning c.args.a0.now.value)) no_value _ _ _ _ _ c.in-Ok.ensures.serialized (serialized_no_part no_definition _)))
 
-pub serialize_expr_add-returns-in_err-a1-clause-goes_on : goal.serialize_expr_add-returns-in_err-a1-clause-goes_on
-serialize_expr_add-returns-in_err-a1-clause-goes_on g t c = (goes_both _ _ _ c.serialize_box_expr.ensures.goes_on c.serialize_box_expr-2.ensures.goes_on)
+pub serialize_expr_call-returns-in-Err-clause-refused : goal.serialize_expr_call-returns-in-Err-clause-refused
+serialize_expr_call-returns-in-Err-clause-refused g t c = (variant_refused expr_definitions expr_shape expr_name expr_variant_definitions expr_variants expr_has_variants 2 expr_call_parts refl expr_call_definitions refl _ _ _ _ _ (first_refused no_definition (both expr_definitions no_definition) str (part (vec expr_shape) no_part) [] ((each_keys expr_keys c.args.a1.now.items) ++ []) (text_value (string_bytes c.args.a0.now)) (value (list (each_meaning expr_meaning c.args.a1.now.items)) no_value) _ _ _ (part_planned expr_definitions (vec expr_shape) (each_keys expr_keys c.args.a1.now.items) (list (each_meaning expr_meaning c.args.a1.now.items)) (vec_planned expr_definitions expr_shape _ _ _ (slice_planned expr_definitions expr_shape expr_keys expr_meaning expr_planned c.args.a1.now.items)) no_part_planned) c.in-Err.ensures.refused))
 
-pub serialize_expr_add-returns-clause-serialized : goal.serialize_expr_add-returns-clause-serialized
-serialize_expr_add-returns-clause-serialized g t c = (serialized_variant expr_definitions expr_shape expr_name expr_variant_definitions expr_variants expr_has_variants 1 expr_add_parts refl expr_add_definitions refl _ _ _ _ _ (serialized_part expr_definitions (both expr_definitions no_definition) (boxed (one expr_shape)) (part (boxed (one expr_shape)) no_part) (expr_keys c.args.a0.now.value) ((expr_keys c.args.a1.now.value) ++ []) (box (expr_meaning c.args.a0.now.value)) (value (box (expr_meaning c.args.a1.now.value)) no_value) _ _ _ _ _ c.in_ok-a0.ensures.serialized (serialized_part expr_definitions no_definition (boxed (one expr_shape)) no_part (expr_keys c.args.a1.now.value) [] (box (expr_meaning c.args.a1.now.value)) no_value _ _ _ _ _ c.in_ok-a1.ensures.serialized (serialized_no_part no_definition _))))
+pub serialize_expr_call-returns-in-Err-serialize_vec_expr-clause-refused : goal.serialize_expr_call-returns-in-Err-serialize_vec_expr-clause-refused
+serialize_expr_call-returns-in-Err-serialize_vec_expr-clause-refused g t c = (variant_refused expr_definitions expr_shape expr_name expr_variant_definitions expr_variants expr_has_variants 2 expr_call_parts refl expr_call_definitions refl _ _ _ _ _ (later_refused no_definition (both expr_definitions no_definition) str (part (vec expr_shape) no_part) [] ((each_keys expr_keys c.args.a1.now.items) ++ []) (text_value (string_bytes c.args.a0.now)) (value (list (each_meaning expr_meaning c.args.a1.now.items)) no_value) _ _ _ _ _ c.in-Ok.ensures.serialized c.serialize_part.ensures.goes_on c.serialize_vec_expr.ensures.goes_on (first_refused expr_definitions no_definition (vec expr_shape) no_part (each_keys expr_keys c.args.a1.now.items) [] (list (each_meaning expr_meaning c.args.a1.now.items)) no_value _ _ _ no_part_planned c.in-Err-serialize_vec_expr.ensures.refused)))
 
-pub serialize_expr_add-returns-clause-goes_on : goal.serialize_expr_add-returns-clause-goes_on
-serialize_expr_add-returns-clause-goes_on g t c = (goes_both _ _ _ c.serialize_box_expr.ensures.goes_on c.serialize_box_expr-2.ensures.goes_on)
-
-pub serialize_expr_call-returns-in_err-a0-clause-refused : goal.serialize_expr_call-returns-in_err-a0-clause-refused
-serialize_expr_call-returns-in_err-a0-clause-refused g t c = err_by c.from_residual.result c.in_err-a0.field-0.0 _ c.from_residual.ensures.1 (variant_refused expr_definitions expr_shape expr_name expr_variant_definitions expr_variants expr_has_variants 2 expr_call_parts refl expr_call_definitions refl _ _ _ _ _ (first_refused no_definition (both expr_definitions no_definition) str (part (vec expr_shape) no_part) [] ((each_keys expr_keys c.args.a1.now.items) ++ []) (text_value (string_bytes c.args.a0.now)) (value (list (each_meaning expr_meaning c.args.a1.now.items)) no_value) _ _ _ (part_planned expr_definitions (vec expr_shape) (each_keys expr_keys c.args.a1.now.items) (list (each_meaning expr_meaning c.args.a1.now.items)) (vec_planned expr_definitions expr_shape _ _ _ (slice_planned expr_definitions expr_shape expr_keys expr_meaning expr_planned c.args.a1.now.items)) no_part_planned) c.in_err-a0.ensures.refused))
-
-pub serialize_expr_call-returns-in_err-a1-clause-refused : goal.serialize_expr_call-returns-in_err-a1-clause-refused
-serialize_expr_call-returns-in_err-a1-clause-refused g t c = err_by c.from_residual-in_err-a1.result c.in_err-a1.field-0.0 _ c.from_residual-in_err-a1.ensures.1 (variant_refused expr_definitions expr_shape expr_name expr_variant_definitions expr_variants expr_has_variants 2 expr_call_parts refl expr_call_definitions refl _ _ _ _ _ (later_refused no_definition (both expr_definitions no_definition) str (part (vec expr_shape) no_part) [] ((each_keys expr_keys c.args.a1.now.items) ++ []) (text_value (string_bytes c.args.a0.now)) (value (list (each_meaning expr_meaning c.args.a1.now.items)) no_value) _ _ _ _ _ c.in_ok-a0.ensures.serialized c.serialize_part.ensures.goes_on c.serialize_vec_expr.ensures.goes_on (first_refused expr_definitions no_definition (vec expr_shape) no_part (each_keys expr_keys c.args.a1.now.items) [] (list (each_meaning expr_meaning c.args.a1.now.items)) no_value _ _ _ no_part_planned c.in_err-a1.ensures.refused)))
-
-pub serialize_expr_call-returns-in_err-a1-clause-goes_on : goal.serialize_expr_call-returns-in_err-a1-clause-goes_on
-serialize_expr_call-returns-in_err-a1-clause-goes_on g t c = (goes_both _ _ _ c.serialize_part.ensures.goes_on c.serialize_vec_expr.ensures.goes_on)
+pub serialize_expr_call-returns-in-Err-serialize_vec_expr-clause-goes_on : goal.serialize_expr_call-returns-in-Err-serialize_vec_expr-clause-goes_on
+serialize_expr_call-returns-in-Err-serialize_vec_expr-clause-goes_on g t c = (goes_both _ _ _ c.serialize_part.ensures.goes_on c.serialize_vec_expr.ensures.goes_on)
 
 pub serialize_expr_call-returns-clause-serialized : goal.serialize_expr_call-returns-clause-serialized
-serialize_expr_call-returns-clause-serialized g t c = (serialized_variant expr_definitions expr_shape expr_name expr_variant_definitions expr_variants expr_has_variants 2 expr_call_parts refl expr_call_definitions refl _ _ _ _ _ (serialized_part no_definition (both expr_definitions no_definition) str (part (vec expr_shape) no_part) [] ((each_keys expr_keys c.args.a1.now.items) ++ []) (text_value (string_bytes c.args.a0.now)) (value (list (each_meaning expr_meaning c.args.a1.now.items)) no_value) _ _ _ _ _ c.in_ok-a0.ensures.serialized (serialized_part expr_definitions no_definition (vec expr_shape) no_part (each_keys expr_keys c.args.a1.now.items) [] (list (each_meaning expr_meaning c.args.a1.now.items)) no_value _ _ _ _ _ c.in_ok-a1.ensures.serialized (serialized_no_part no_definition _))))
+serialize_expr_call-returns-clause-serialized g t c = (serialized_variant expr_definitions expr_shape expr_name expr_variant_definitions expr_variants expr_has_variants 2 expr_call_parts refl expr_call_definitions refl _ _ _ _ _ (serialized_part no_definition (both expr_definitions no_definition) str (part (vec expr_shape) no_part) [] ((each_keys expr_keys c.args.a1.now.items) ++ []) (text_value (string_bytes c.args.a0.now)) (value (list (each_meaning expr_meaning c.args.a1.now.items)) no_value) _ _ _ _ _ c.in-Ok.ensures.serialized (serialized_part expr_definitions no_definition (vec expr_shape) no_part (each_keys expr_keys c.args.a1.now.items) [] (list (each_meaning expr_meaning c.args.a1.now.items)) no_value _ _ _ _ _ c.in-Ok-serialize_vec_expr.ensures.serialized (serialized_no_part no_definition _))))
 
 pub serialize_expr_call-returns-clause-goes_on : goal.serialize_expr_call-returns-clause-goes_on
 serialize_expr_call-returns-clause-goes_on g t c = (goes_both _ _ _ c.serialize_part.ensures.goes_on c.serialize_vec_expr.ensures.goes_on)
 
-pub serialize_expr-returns-in-Ok-serialize_expr_num-clause-serialized : goal.serialize_expr-returns-in-Ok-serialize_expr_num-clause-serialized
-serialize_expr-returns-in-Ok-serialize_expr_num-clause-serialized g t c = rw c.in-Num.is (written_as (expr_num_has_keys c.in-Num.a0) (expr_num_means c.in-Num.a0) (rw (expr_num_opens c.in-Num.a0) refl) c.in-Ok-serialize_expr_num.ensures.serialized)
+pub serialize_expr-returns-in-Ok-clause-serialized : goal.serialize_expr-returns-in-Ok-clause-serialized
+serialize_expr-returns-in-Ok-clause-serialized g t c = rw c.in-Num.is (written_as (expr_num_has_keys c.in-Num.a0) (expr_num_means c.in-Num.a0) (rw (expr_num_opens c.in-Num.a0) refl) c.in-Ok.ensures.serialized)
 
-pub serialize_expr-returns-in-Ok-serialize_expr_num-clause-same_value : goal.serialize_expr-returns-in-Ok-serialize_expr_num-clause-same_value
-serialize_expr-returns-in-Ok-serialize_expr_num-clause-same_value g t c = rw (c.in-Num.is, expr_num_opens c.in-Num.a0) c.in-Ok-serialize_expr_num.ensures.same_values
+pub serialize_expr-returns-in-Ok-clause-same_value : goal.serialize_expr-returns-in-Ok-clause-same_value
+serialize_expr-returns-in-Ok-clause-same_value g t c = rw (c.in-Num.is, expr_num_opens c.in-Num.a0) c.in-Ok.ensures.same_values
 
-pub serialize_expr-returns-in-Err-serialize_expr_num-clause-refused : goal.serialize_expr-returns-in-Err-serialize_expr_num-clause-refused
-serialize_expr-returns-in-Err-serialize_expr_num-clause-refused g t c = rw c.in-Num.is (refused_as (expr_num_has_keys c.in-Num.a0) (expr_num_means c.in-Num.a0) c.in-Err-serialize_expr_num.ensures.refused)
+pub serialize_expr-returns-in-Err-clause-refused : goal.serialize_expr-returns-in-Err-clause-refused
+serialize_expr-returns-in-Err-clause-refused g t c = rw c.in-Num.is (refused_as (expr_num_has_keys c.in-Num.a0) (expr_num_means c.in-Num.a0) c.in-Err.ensures.refused)
 
-pub serialize_expr-returns-in-Ok-serialize_expr_add-clause-serialized : goal.serialize_expr-returns-in-Ok-serialize_expr_add-clause-serialized
-serialize_expr-returns-in-Ok-serialize_expr_add-clause-serialized g t c = rw c.in-Add.is (written_as (expr_add_has_keys c.in-Add.a0 c.in-Add.a1) (expr_add_means c.in-Add.a0 c.in-Add.a1) (rw (expr_add_opens c.in-Add.a0 c.in-Add.a1) refl) c.in-Ok-serialize_expr_add.ensures.serialized)
+pub serialize_expr-returns-in-Ok-serialize_expr_negated-clause-serialized : goal.serialize_expr-returns-in-Ok-serialize_expr_negated-clause-serialized
+serialize_expr-returns-in-Ok-serialize_expr_negated-clause-serialized g t c = rw c.in-Negated.is (written_as (expr_negated_has_keys c.in-Negated.a0) (expr_negated_means c.in-Negated.a0) (rw (expr_negated_opens c.in-Negated.a0) refl) c.in-Ok-serialize_expr_negated.ensures.serialized)
 
-pub serialize_expr-returns-in-Ok-serialize_expr_add-clause-same_value : goal.serialize_expr-returns-in-Ok-serialize_expr_add-clause-same_value
-serialize_expr-returns-in-Ok-serialize_expr_add-clause-same_value g t c = rw (c.in-Add.is, expr_add_opens c.in-Add.a0 c.in-Add.a1) c.in-Ok-serialize_expr_add.ensures.same_values
+pub serialize_expr-returns-in-Ok-serialize_expr_negated-clause-same_value : goal.serialize_expr-returns-in-Ok-serialize_expr_negated-clause-same_value
+serialize_expr-returns-in-Ok-serialize_expr_negated-clause-same_value g t c = rw (c.in-Negated.is, expr_negated_opens c.in-Negated.a0) c.in-Ok-serialize_expr_negated.ensures.same_values
 
-pub serialize_expr-returns-in-Err-serialize_expr_add-clause-refused : goal.serialize_expr-returns-in-Err-serialize_expr_add-clause-refused
-serialize_expr-returns-in-Err-serialize_expr_add-clause-refused g t c = rw c.in-Add.is (refused_as (expr_add_has_keys c.in-Add.a0 c.in-Add.a1) (expr_add_means c.in-Add.a0 c.in-Add.a1) c.in-Err-serialize_expr_add.ensures.refused)
+pub serialize_expr-returns-in-Err-serialize_expr_negated-clause-refused : goal.serialize_expr-returns-in-Err-serialize_expr_negated-clause-refused
+serialize_expr-returns-in-Err-serialize_expr_negated-clause-refused g t c = rw c.in-Negated.is (refused_as (expr_negated_has_keys c.in-Negated.a0) (expr_negated_means c.in-Negated.a0) c.in-Err-serialize_expr_negated.ensures.refused)
 
 pub serialize_expr-returns-in-Ok-serialize_expr_call-clause-serialized : goal.serialize_expr-returns-in-Ok-serialize_expr_call-clause-serialized
 serialize_expr-returns-in-Ok-serialize_expr_call-clause-serialized g t c = rw c.in-Call.is (written_as (expr_call_has_keys c.in-Call.a0 c.in-Call.a1) (expr_call_means c.in-Call.a0 c.in-Call.a1) (rw (expr_call_opens c.in-Call.a0 c.in-Call.a1) refl) c.in-Ok-serialize_expr_call.ensures.serialized)

@@ -13,6 +13,7 @@ use Rattle.recursive_types.specs.ListShape.{list_name, list_shape, list_definiti
 use Rattle.std.proofs.Common.{◌≡◌, ◌++◌, [], length, refl, arith, pos}
 use Rattle.std.proofs.lemmas.Grind.{common_steps}
 use Rattle.std.specs.Int.{w32}
+use Rattle.std.specs.Prelude.{[], ◌++◌, ◌≡◌, refl, pos, length}
 use Rattle.recursive_types.proofs.list.+read_list.Goals as goal
 
 pub read_box_list-returns-in_err-value-clause-refused : goal.read_box_list-returns-in_err-value-clause-refused

@@ -1,6 +1,7 @@
 -- Written by tools/derive: change the declaration, and run it again.
 use Rattle.archive_core.specs.Shape.{part}
 use Rattle.std.proofs.Common.{◌+◌, ◌*◌, pos}
+use Rattle.std.specs.Prelude.{pos}
 use Rattle.recursive_types.proofs.list.+read_list.Given as goal
 
 abbrev pub decreases-read_box_list : goal.decreases-read_box_list

@@ -5,6 +5,7 @@ use Rattle.archive_recursive.specs.Held.{read_as}
 use Rattle.recursive_types.specs.ListMeaning.{list_nil_means, list_nil_has_keys}
 use Rattle.recursive_types.specs.ListShape.{list_name, list_shape, list_definitions, list_variants, list_variant_definitions, list_has_variants, list_nil_parts, list_nil_definitions}
 use Rattle.std.proofs.Common.{refl}
+use Rattle.std.specs.Prelude.{refl}
 use Rattle.recursive_types.proofs.list.read_list_nil.Goals as goal
 
 pub returns-clause-read : goal.returns-clause-read

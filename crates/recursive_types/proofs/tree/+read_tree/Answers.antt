@@ -11,9 +11,10 @@ use Rattle.archive_recursive.proofs.ReadRecords.{record_read_back, record_refuse
 use Rattle.archive_recursive.specs.Held.{read_as}
 use Rattle.recursive_types.specs.TreeMeaning.{tree_meaning, tree_keys, tree_means_roll, tree_has_keys_roll}
 use Rattle.recursive_types.specs.TreeShape.{tree_layout, tree_has_layout, tree_shape, tree_definitions, tree_parts, tree_part_definitions, tree_has_parts}
-use Rattle.std.proofs.Common.{◌≡◌, ◌<◌, ◌+◌, ◌++◌, ◌∷◌, [], length, inl, refl, arith, pos}
+use Rattle.std.proofs.Common.{inl, ◌≡◌, ◌<◌, ◌+◌, ◌++◌, ◌∷◌, [], length, refl, arith, pos}
 use Rattle.std.proofs.lemmas.Grind.{common_steps}
 use Rattle.std.specs.Int.{w32}
+use Rattle.std.specs.Prelude.{[], ◌++◌, ◌≡◌, refl, pos, length}
 use Rattle.recursive_types.proofs.tree.+read_tree.Goals as goal
 
 pub read_vec_tree-returns-in_err-item-clause-refused : goal.read_vec_tree-returns-in_err-item-clause-refused

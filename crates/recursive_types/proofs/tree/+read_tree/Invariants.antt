@@ -5,6 +5,7 @@ use Rattle.archive_recursive.proofs.ReadElements.{FirstElements}
 use Rattle.recursive_types.specs.TreeMeaning.{tree_meaning, tree_keys}
 use Rattle.recursive_types.specs.TreeShape.{tree_layout, tree_shape, tree_definitions}
 use Rattle.std.proofs.Common.{◌≡◌, ◌≤◌, ◌+◌, ◌*◌, length, pos}
+use Rattle.std.specs.Prelude.{◌≡◌, ◌≤◌, pos, length}
 use Rattle.std.specs.Vec.{vec_len, vec_capacity}
 use Rattle.recursive_types.proofs.tree.+read_tree.Given as goal
 
