@@ -1,5 +1,5 @@
 -- Archives of a type: which schemas know its definitions, what a refusal excludes, and what is read back at the root.
-use Rattle.std.proofs.Common.{◌≡◌, ◌≢◌, inl, inr, ⊎_elim, ℕ, ℤ, ◌<◌, ◌^◌, List, [], length, Some, Option, Result, Ok, Err, IsErrAnd, Contains, arith, refl, sym, ap, subst, ◌∙◌}
+use Rattle.std.proofs.Common.{◌≡◌, ◌≢◌, inl, inr, ⊎_elim, ℕ, ℤ, ◌<◌, ◌^◌, List, [], length, Some, Option, Result, Ok, Err, IsErrAnd, Contains, arith, refl, sym, ap, subst, ◌∙◌, Bool}
 use Rattle.std.proofs.Math.Logic.{∥∥₁_elim, ∥∥₁_map, ∥∥₁_prop}
 use Rattle.std.specs.Ordering.{nat_cmp}
 use Rattle.std.specs.FinMap.{FinMap, get}
@@ -157,7 +157,7 @@ pub number_named : (z : ℤ) (k : ℕ) → Names k (number z) → ⊥
 number_named z k n = elim n [ ]
 
 -- What is read back at the root, with nothing told before.
-module _ (D : Definitions) (bytes : List ℕ) (root : ℕ) (X : Shape) (old new : Entries) (w : Value) (keys : List Naming) (a : IsArchive D bytes root X) (h : ReadsBack D bytes root (one X) 0 old new w keys) where
+module _ {keeps : Bool} (D : Definitions) (bytes : List ℕ) (root : ℕ) (X : Shape) (old new : Entries) (w : Value) (keys : List Naming) (a : IsArchive D bytes root X) (h : ReadsBack keeps D bytes root (one X) 0 old new w keys) where
   at_root : NoEntries old → (s : Schema) (m : Meaning) → Knows s D → Denotes s bytes root X m → AreShared m.shared keys × AreRight m.shared new
   unfolding root_lies
   at_root empty s m k d = h.shared (none_named old empty) s m k (root_lies s bytes d.accepted) d (none_wrong m.shared old empty)
@@ -167,12 +167,13 @@ module _ (D : Definitions) (bytes : List ℕ) (root : ℕ) (X : Shape) (old new 
   root_unmet c = ∥∥₁_elim a.known (λ x y. absurd x) (λ (s, k). ∥∥₁_elim (a.accepted s k) (λ x y. absurd x) (λ b. let l = root_lies s bytes b.0 in h.unmet s k l (c.meets s k l)))
 
   pub root_read : ((k : ℕ) → Names k w → (x : Entry × Value) × Contains keys (k, x)) → ((k : Naming) → Contains keys k → (u : ℕ) → Names u k.1.1 → (x : Entry × Value) × Contains keys (u, x))
-      → ReadsWhole D bytes root X old new w keys
+      → ReadsWhole keeps D bytes root X old new w keys
   root_read direct further = record {
     kept = h.kept;
     value = λ empty. root_value D bytes root X w keys direct further a (h.value (none_named old empty)) (λ s m k d. (at_root empty s m k d).0);
     right = λ empty s m k d. (at_root empty s m k d).1;
     unmet = root_unmet;
+    once = h.once;
   }
 
 -- what definitions without a meaning are refused as, a check answers

@@ -1,5 +1,5 @@
 -- When a buffer is an archive of a type, what it denotes, and why it is refused.
-use Rattle.std.specs.Prelude.{◌≡◌, ◌⊎◌, ◌-◌, ℕ, List, length, Option, Some, None, Contains, Result, OnOk, IfErr}
+use Rattle.std.specs.Prelude.{◌≡◌, Bool, ◌⊎◌, ◌-◌, ℕ, List, length, Option, Some, None, Contains, Result, OnOk, IfErr}
 use Rattle.std.specs.FinMap.{get}
 use Rattle.archive_check.specs.declared.format.error.Error.{Error}
 use Rattle.archive_check.specs.declared.format.error.Error.TheVariants.{OutOfMemory, CyclicDeserialize, ShapeConflict, RecursiveLayout}
@@ -10,7 +10,7 @@ use Rattle.archive_check.specs.Reads.{Schema}
 use Rattle.archive_check.specs.Depth.{AcceptedWithin}
 use Rattle.archive_check.specs.Tour.{Entry}
 use Rattle.archive_check.specs.Denotes.{Meaning, Naming, Denotes}
-use Rattle.archive_check.specs.Entries.{NoEntries, KeepsEntries, AreShared, AreRight, IsCyclic}
+use Rattle.archive_check.specs.Entries.{NoEntries, KeepsEntries, AreShared, AreRight, IsCyclic, KeepsRead}
 use Rattle.archive_check.specs.Defined.{WellFormed, AllDefined}
 use Rattle.archive_check.specs.Definitions.{Definitions, listed, Knows}
 use Rattle.archive_check.specs.Pooled.{Entries}
@@ -38,12 +38,13 @@ pub record IsValueOf (D : Definitions) (bytes : List ℕ) (root : ℕ) (X : Shap
       → (t : ℕ) (e : Entry) (v : Value) → get m.shared t ≡ Some (e, v) → (f : Entry) × Contains keys (t, (f, v))
 
 -- The root was read back as w, with these keys. Where nothing was told of shared values before, this is what the buffer denotes, and what is told of
--- them now is right. No open position was met.
-pub record ReadsWhole (D : Definitions) (bytes : List ℕ) (root : ℕ) (X : Shape) (old new : Entries) (w : Value) (keys : List Naming) : Type 0 where
+-- them now is right. No open position was met. What is read once is kept.
+pub record ReadsWhole (keeps : Bool) (D : Definitions) (bytes : List ℕ) (root : ℕ) (X : Shape) (old new : Entries) (w : Value) (keys : List Naming) : Type 0 where
   pub kept : KeepsEntries old new
   pub value : NoEntries old → IsValueOf D bytes root X w keys
   pub right : NoEntries old → (s : Schema) (m : Meaning) → Knows s D → Denotes s bytes root X m → AreRight m.shared new
   pub unmet : IsCyclic D bytes old root (one X) 0 → ⊥
+  pub once : KeepsRead keeps old new keys
 
 -- the definitions give X a meaning, and under each schema that knows them a check finds this fault first
 pub record IsFaulty (D : Definitions) (bytes : List ℕ) (limit : Option ℕ) (root : ℕ) (X : Shape) (error : Error) : Type 0 where

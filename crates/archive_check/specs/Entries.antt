@@ -1,5 +1,5 @@
 -- What a deserializer tells of shared positions, and what a reading answers and leaves.
-use Rattle.std.specs.Prelude.{◌≡◌, ◌⊎◌, ◌↔◌, ℕ, pos, List, [], ◌∷◌, Some, None, Contains}
+use Rattle.std.specs.Prelude.{◌≡◌, Bool, true, ◌⊎◌, ◌↔◌, ℕ, pos, List, [], ◌∷◌, Some, None, Contains}
 use Rattle.std.specs.Ordering.{nat_cmp}
 use Rattle.std.specs.FinMap.{FinMap, get}
 use Rattle.archive_check.specs.declared.format.error.Error.{Error}
@@ -40,6 +40,18 @@ AreShared shared keys = (k : Naming) → Contains keys k → Shares shared k.0 k
 -- each finished position holds what the map says, and so does all that it leads to
 abbrev pub AreRight : FinMap nat_cmp (Entry × Value) → Entries → Type 0
 AreRight shared told = (t : ℕ) (k : Kept) → told t ≡ Some (Some k) → Shares shared t k.entry k.value × AreShared shared k.keys
+
+-- each of these keys is that of a finished position, and names what is kept there
+abbrev pub AreKept : Entries → List Naming → Type 0
+AreKept told keys = (k : Naming) → Contains keys k → (kept : Kept) × (told k.0 ≡ Some (Some kept)) × (k.1 ≡ (kept.entry, kept.value))
+
+-- what is kept leads to what is kept
+abbrev pub IsComplete : Entries → Type 0
+IsComplete told = (t : ℕ) (k : Kept) → told t ≡ Some (Some k) → AreKept told k.keys
+
+-- Where what is read is kept, and led to what is kept before: each of these keys is kept now, and so is all that leads from there.
+abbrev pub KeepsRead : Bool → Entries → Entries → List Naming → Type 0
+KeepsRead keeps old new keys = keeps ≡ true → AreNamedByPosition old → IsComplete old → AreKept new keys × IsComplete new
 
 -- the position is pending, or one of those within whose values the reading is
 abbrev pub IsOpen : Entries → List ℕ → ℕ → Type 0
@@ -93,14 +105,15 @@ LeadsToOpen D bytes told t P n = (told t ≡ Some None) ⊎ ((s : Schema) → Kn
 
 -- P at q was read back as w, its shared values named by their positions, and these are what the names in w lead to: under each schema that knows
 -- the definitions, and under each root under which it lies so, what the archive means. What was told of finished positions before is as right as
--- it was; what is told of them now is. No open position was met, and what was unknown and is finished now leads to none.
-pub record ReadsBack (D : Definitions) (bytes : List ℕ) (q : ℕ) (P : Pointee) (n : ℕ) (old new : Entries) (w : Value) (keys : List Naming) : Type 0 where
+-- it was; what is told of them now is. No open position was met, and what was unknown and is finished now leads to none. What is read once is kept.
+pub record ReadsBack (keeps : Bool) (D : Definitions) (bytes : List ℕ) (q : ℕ) (P : Pointee) (n : ℕ) (old new : Entries) (w : Value) (keys : List Naming) : Type 0 where
   pub kept : KeepsEntries old new
   pub value : AreNamedByPosition old → Says D bytes q P n w
   pub shared : AreNamedByPosition old → (s : Schema) (m : Meaning) → Knows s D → (l : Lies s bytes q P n) → Denotes s bytes l.root l.shape m
       → AreRight m.shared old → AreShared m.shared keys × AreRight m.shared new
   pub unmet : (s : Schema) → Knows s D → Lies s bytes q P n → MeetsOpen s bytes old [] q P n → ⊥
   pub closed : (s : Schema) → Knows s D → (l : Lies s bytes q P n) → (t : ℕ) (k : Kept) → old t ≡ None → new t ≡ Some (Some k) → IsClosed s bytes l.root l.shape old t
+  pub once : KeepsRead keeps old new keys
 
 -- it was refused: memory was, or an open position is met
 abbrev pub RefusesReading : Definitions → List ℕ → ℕ → Pointee → ℕ → Entries → Error → Type 0

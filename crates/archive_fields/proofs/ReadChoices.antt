@@ -1,5 +1,5 @@
 -- Variants whose parts are read back one after another: the choice is read back as all of them.
-use Rattle.std.proofs.Common.{◌≡◌, inl, inr, ℕ, List, slice_index, Some, Result, Ok, Err, IfOk, Contains, sym, ap, subst, ◌∙◌, []}
+use Rattle.std.proofs.Common.{◌≡◌, inl, inr, ℕ, List, slice_index, Some, Result, Ok, Err, IfOk, Contains, sym, ap, subst, ◌∙◌, [], Bool}
 use Rattle.std.proofs.Math.Logic.{∥∥₁_map}
 use Rattle.archive_check.specs.declared.format.error.Error.{Error}
 use Rattle.archive_check.specs.Shape.{Name, Shape, choice, one, Parts, Variants, variant_at}
@@ -62,8 +62,8 @@ module _ (D : Definitions) (X : Shape) (name : Name) (E : Definitions) (vs : Var
   pub variant_viewed : Viewed D bytes q (one X) n → PartsViewed F bytes q 1 ps
   variant_viewed v = ∥∥₁_map v (λ (s, k, l). (s, variant_tail.knows s k, λ r Y i. (let (u, h) = variant_tail.reached s k l r Y i in reached_lies s bytes h)))
 
-  module _ (old new : Entries) (us : Values) (keys : List Naming) (h : PartsReadBack bytes q F ps 1 old new us keys) where
-    all_read : TailRead D bytes q (one X) n ps 1 old new us keys
+  module _ {keeps : Bool} (old new : Entries) (us : Values) (keys : List Naming) (h : PartsReadBack keeps bytes q F ps 1 old new us keys) where
+    all_read : TailRead D bytes q (one X) n keeps ps 1 old new us keys
     all_read = tail_read D bytes q (one X) n variant_tail h
 
     fills_choice : AreNamedByPosition old → (s : Schema) (v : Value) → Knows s D → Lies s bytes q (one X) n → Contents s bytes q (one X) n v → Fills s bytes v (case tag us)
@@ -77,20 +77,21 @@ module _ (D : Definitions) (X : Shape) (name : Name) (E : Definitions) (vs : Var
         let same : b.value ≡ r.value = contents_one_value b.contents r.reads in
         all_read.unmet s p.values k l p.reads b.pointer (rw p.is at b.has) (record { at = q; pointee = one X; length = n; filled = w; reached = r; has = rw same at b.has }) b.hits
 
-    pub variant_read_back : ReadsBack D bytes q (one X) n old new (case tag us) keys
+    pub variant_read_back : ReadsBack keeps D bytes q (one X) n old new (case tag us) keys
     variant_read_back = record {
       kept = all_read.kept;
       value = λ by. record { fills = fills_choice by };
       shared = all_read.shared;
       unmet = unmet_choice;
       closed = all_read.closed;
+      once = all_read.once;
     }
 
   -- in a contract's form
-  pub variant_read : {T : Type 0} (old new : Entries) (meanings : T → Values) (keys : T → List Naming) (r : Result T Error) → IfOk r (λ t. PartsReadBack bytes q F ps 1 old new (meanings t) (keys t))
-      → IfOk r (λ t. ReadsBack D bytes q (one X) n old new (case tag (meanings t)) (keys t))
-  variant_read old new meanings keys (Ok t) h = variant_read_back old new (meanings t) (keys t) h
-  variant_read old new meanings keys (Err e) h = tt
+  pub variant_read : (keeps : Bool) {T : Type 0} (old new : Entries) (meanings : T → Values) (keys : T → List Naming) (r : Result T Error) → IfOk r (λ t. PartsReadBack keeps bytes q F ps 1 old new (meanings t) (keys t))
+      → IfOk r (λ t. ReadsBack keeps D bytes q (one X) n old new (case tag (meanings t)) (keys t))
+  variant_read keeps old new meanings keys (Ok t) h = variant_read_back old new (meanings t) (keys t) h
+  variant_read keeps old new meanings keys (Err e) h = tt
 
   pub variant_refuses : (told : Entries) (e : Error) → RefusesParts F bytes q ps 1 told e → RefusesReading D bytes q (one X) n told e
   variant_refuses told e (inl memory) = inl memory

@@ -14,10 +14,10 @@ use Rattle.archive_num.specs.Offsets.{distance, IsTooFar}
 use Rattle.archive_types.specs.Plans.{Cursor, Step, lays, meets, Foreseen, PlanOf, RegionPlan, cursor}
 use Rattle.archive_types.specs.Writing.{Naming}
 
--- Of the planned bytes the writer, which held those up to a position and ends at `cap`, was to take `count` more: fewer are free, also now.
+-- Of the planned bytes the writer, which holds those up to a position and ends at `cap`, was to take `count` more: fewer are free.
 pub record Overflows (reaches : ℕ → Type 0) (old new : WriterState) (count cap position : ℕ) : Type 0 where
   pub behind : length old.bytes ≤ position
-  pub held : position ≤ length new.bytes
+  pub held : position ≡ length new.bytes
   pub planned : reaches (position + count)
   pub full : IsSomeAnd old.room (λ room. (cap ≡ length old.bytes + room) × (cap < position + count))
   pub left : IsSomeAnd new.room (λ room. room < count)

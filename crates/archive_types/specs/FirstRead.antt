@@ -1,5 +1,5 @@
 -- The first of elements that stand one behind another are read back many at once.
-use Rattle.std.specs.Prelude.{ℕ, ℤ, ◌+◌, ◌*◌, ◌<◌, List, length, slice_index_or}
+use Rattle.std.specs.Prelude.{ℕ, ℤ, ◌+◌, ◌*◌, ◌<◌, List, length, slice_index_or, Bool}
 use Rattle.archive_check.specs.Definitions.{Definitions, no_definition}
 use Rattle.archive_check.specs.Denotes.{Naming}
 use Rattle.archive_check.specs.Entries.{ReadsBack}
@@ -13,7 +13,7 @@ use Rattle.archive_types.specs.Views.{AreViewed}
 -- these are the first elements, z bytes apart, from q on, read back; nothing is told of them
 abbrev pub AreFirstRead : {T : Type 0} → Definitions → List ℕ → ℕ → ℕ → Pointee → (T → Value) → (T → List Naming) → List T → Type 0
 AreFirstRead {T} D bytes q z P meaning keys xs =
-    (k : ℕ) (d : T) (told : Entries) → k < length xs → ReadsBack D bytes (q + k * z) P 0 told told (meaning (slice_index_or xs k d)) (keys (slice_index_or xs k d))
+    (k : ℕ) (d : T) (told : Entries) (keeps : Bool) → k < length xs → ReadsBack keeps D bytes (q + k * z) P 0 told told (meaning (slice_index_or xs k d)) (keys (slice_index_or xs k d))
 
 -- each of the first n of these is said by what stands at its index, counted from i on, of elements of z bytes from q on
 abbrev pub AreSaid : {A : Type 0} → Definitions → List ℕ → ℕ → ℕ → Pointee → (A → Value) → ℕ → ℕ → List A → Type 0

@@ -59,7 +59,7 @@ module _ {A R : Type 0} (D : Definitions) (X : Shape) (L : Layout) (k : A → Li
   -- Why the items that an iterator gives weren't: the zeros in front weren't written; the first one would stand above 4,294,967,295; more came than
   -- 4,294,967,295; or one was refused. `came` is what may have come by then.
   pub data ItemsRefused (came : List A → Type 0) (old new : WriterState) : Error → Type 0 where
-    not_aligned : {e : Error} → ExplainsRefusal (padding L.align (length old.bytes)) (length old.bytes) old.room old.failures new.failures e → ItemsRefused came old new e
+    not_aligned : {e : Error} → ExplainsRefusal (padding L.align (length old.bytes)) (length old.bytes) (length new.bytes) old.room old.failures new.failures e → ItemsRefused came old new e
     too_far : Pads L.align old new → 4294967295 < length new.bytes → ItemsRefused came old new PositionTooLarge
     too_many : (xs : List A) (x : A) (t : ℕ) → came (xs ++ x ∷ []) → ItemsLaid xs t old new → 4294967295 ≤ length xs → ItemsRefused came old new LengthTooLarge
     one_refused : {e : Error} (xs : List A) (x : A) (t : ℕ) (mid : WriterState) → came (xs ++ x ∷ []) → ItemsLaid xs t old mid → ItemRefused x mid new e → ItemsRefused came old new e

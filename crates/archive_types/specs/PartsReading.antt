@@ -1,5 +1,5 @@
 -- Parts one after another, as they are viewed and read back.
-use Rattle.std.specs.Prelude.{◌≡◌, ◌⊎◌, ℕ, ◌+◌, List, [], ◌++◌}
+use Rattle.std.specs.Prelude.{◌≡◌, ◌⊎◌, ℕ, ◌+◌, List, [], ◌++◌, Bool}
 use Rattle.archive_check.specs.declared.format.error.Error.{Error}
 use Rattle.archive_check.specs.declared.format.error.Error.TheVariants.{OutOfMemory, CyclicDeserialize}
 use Rattle.archive_check.specs.Shape.{Shape, one, Parts, no_part, part}
@@ -18,13 +18,13 @@ abbrev pub PartsViewed : Definitions → List ℕ → ℕ → ℕ → Parts → 
 PartsViewed D bytes q at ps = ∥ ((s : Schema) × Knows s D × ((r : ℕ) (Y : Shape) → IsPart s q at ps r Y → Lies s bytes r (one Y) 0)) ∥₁
 
 -- Each of them was read back where it lies, at the next multiple of its alignment, one after another.
-pub data PartsReadBack (bytes : List ℕ) (q : ℕ) : Definitions → Parts → ℕ → Entries → Entries → Values → List Naming → Type 0 where
-  no_part_read_back : {D : Definitions} {at : ℕ} {told : Entries} → PartsReadBack bytes q D no_part at told told no_value []
+pub data PartsReadBack (keeps : Bool) (bytes : List ℕ) (q : ℕ) : Definitions → Parts → ℕ → Entries → Entries → Values → List Naming → Type 0 where
+  no_part_read_back : {D : Definitions} {at : ℕ} {told : Entries} → PartsReadBack keeps bytes q D no_part at told told no_value []
   part_read_back : {D E : Definitions} {X : Shape} {ps : Parts} {L : Layout} {at : ℕ} {old mid new : Entries} {v : Value} {vs : Values} {ks ls : List Naming}
       → HasLayout D X L
-      → ReadsBack D bytes (q + up at L.align) (one X) 0 old mid v ks
-      → PartsReadBack bytes q E ps (up at L.align + L.size) mid new vs ls
-      → PartsReadBack bytes q (both D E) (part X ps) at old new (value v vs) (ks ++ ls)
+      → ReadsBack keeps D bytes (q + up at L.align) (one X) 0 old mid v ks
+      → PartsReadBack keeps bytes q E ps (up at L.align + L.size) mid new vs ls
+      → PartsReadBack keeps bytes q (both D E) (part X ps) at old new (value v vs) (ks ++ ls)
 
 -- One of them meets an open position, after those before it were read.
 pub data PartsCyclic (bytes : List ℕ) (q : ℕ) : Definitions → Parts → ℕ → Entries → Type 0 where

@@ -20,8 +20,8 @@ HindersStringAt bytes t p e = (8 < length bytes) × IsTooFar e (distance p t)
 
 -- why a text isn't written: it is too long, or the writer, which stands at t, refuses the one write that it takes
 abbrev pub ExplainsTextRefusal : List ℕ → ℕ → WriterState → WriterState → Error → Type 0
-ExplainsTextRefusal bytes t old new e = HindersText bytes e ⊎ ExplainsRefusal (length bytes) t old.room old.failures new.failures e
+ExplainsTextRefusal bytes t old new e = HindersText bytes e ⊎ ExplainsRefusal (length bytes) t (length new.bytes) old.room old.failures new.failures e
 
 -- and why a string's isn't: it is too long for a string, it stands too far behind, or the writer refuses
 abbrev pub ExplainsStringRefusal : List ℕ → ℕ → WriterState → WriterState → Error → Type 0
-ExplainsStringRefusal bytes t old new e = HindersString bytes t e ⊎ ExplainsRefusal (length bytes) t old.room old.failures new.failures e
+ExplainsStringRefusal bytes t old new e = HindersString bytes t e ⊎ ExplainsRefusal (length bytes) t (length new.bytes) old.room old.failures new.failures e

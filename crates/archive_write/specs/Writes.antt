@@ -16,7 +16,8 @@ module _ {W : Type 0} (state : W → WriterState) (w : Both (MutBor W) (MutBor W
 
   -- why a write of n bytes was refused, where the writer stood at its position
   abbrev pub ExplainsWrite : (W → ℕ) → ℕ → Error → Type 0
-  ExplainsWrite position n = ExplainsRefusal n (position w.entry.now) (state w.entry.now).room (state w.entry.now).failures (state w.exit.now).failures
+  ExplainsWrite position n =
+      ExplainsRefusal n (position w.entry.now) (length (state w.exit.now).bytes) (state w.entry.now).room (state w.entry.now).failures (state w.exit.now).failures
 
   -- zeros came up to the next multiple of a; why they didn't
   abbrev pub Padded : (W → ℕ) → ℕ → Type 0
@@ -42,8 +43,8 @@ abbrev pub SpendsRest : ℕ → List ℕ → ℕ → List ℕ → Type 0
 SpendsRest n xs m ys = RoomFalls (Some (length xs - n)) (Some (length ys - m)) (take n xs) (take m ys)
 
 -- why bytes don't fit behind them
-abbrev pub ExplainsFull : List ℕ → ℕ → List ℕ → Error → Type 0
-ExplainsFull bytes n xs = ExplainsRefusal (length bytes) n (Some (length xs - n)) 0 0
+abbrev pub ExplainsFull : List ℕ → ℕ → List ℕ → ℕ → List ℕ → Error → Type 0
+ExplainsFull bytes n xs m ys = ExplainsRefusal (length bytes) n (length (take m ys)) (Some (length xs - n)) 0 0
 
 -- the refusal says how many were to come, how many the buffer has, and how many it holds
 abbrev pub IsOverflow : List ℕ → ℕ → List ℕ → Error → Type 0

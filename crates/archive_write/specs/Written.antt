@@ -24,13 +24,14 @@ pub record GoesOn (old new : WriterState) : Type 0 where
   pub device : old.failures ≤ new.failures
   pub known : KeepsKnown old.states new.states
 
--- Why a write of n bytes was refused: for want of memory; for want of room; or by its device, which failed now or had failed too often.
-abbrev pub ExplainsRefusal : ℕ → ℕ → Option ℕ → ℕ → ℕ → Error → Type 0
-ExplainsRefusal n position room before after OutOfMemory = ⊤
-ExplainsRefusal n position room before after (BufferOverflow write_len cap len) =
-    (write_len ≡ n) × (len ≡ position) × IsSomeAnd room (λ r. (r < n) × (cap ≡ position + r))
-ExplainsRefusal n position room before after WriterFailed = (before < after) ⊎ (before ≡ 2 ^ 64 - 1)
-ExplainsRefusal n position room before after _ = ⊥
+-- Why a write of n bytes was refused, where so many were held as it began and so many now: for want of memory; for want of room, and then none was taken; or
+-- by its device, which failed now or had failed too often.
+abbrev pub ExplainsRefusal : ℕ → ℕ → ℕ → Option ℕ → ℕ → ℕ → Error → Type 0
+ExplainsRefusal n position held room before after OutOfMemory = ⊤
+ExplainsRefusal n position held room before after (BufferOverflow write_len cap len) =
+    (write_len ≡ n) × (len ≡ position) × (held ≡ position) × IsSomeAnd room (λ r. (r < n) × (cap ≡ position + r))
+ExplainsRefusal n position held room before after WriterFailed = (before < after) ⊎ (before ≡ 2 ^ 64 - 1)
+ExplainsRefusal n position held room before after _ = ⊥
 
 -- how many bytes stand between n and the next multiple of a, none where n is one
 abbrev pub padding : ℕ → ℕ → ℕ

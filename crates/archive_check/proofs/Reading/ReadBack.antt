@@ -1,5 +1,5 @@
 -- What leads to no shared value is read back as what it says, and nothing is told of it.
-use Rattle.std.proofs.Common.{◌≡◌, ⊎_elim, ℕ, List, [], ◌∷◌, Some, Contains, arith, refl, sym, ap}
+use Rattle.std.proofs.Common.{◌≡◌, ⊎_elim, ℕ, List, [], ◌∷◌, Some, Contains, arith, refl, sym, ap, Bool}
 use Rattle.archive_check.specs.Shape.{Kind, leaf, str, Pointee, one, text}
 use Rattle.archive_check.specs.Value.{Pointer, Value, pointers}
 use Rattle.archive_check.specs.Reads.{Schema, string_at, reads_leaf, reads_inline, reads_out_of_line}
@@ -14,13 +14,14 @@ module _ (D : Definitions) (bytes : List ℕ) (q n : ℕ) (old new : Entries) (s
   kept_same : KeepsEntries old new
   kept_same = rw same (record { finished = λ t k h. h; pending = λ t. (λ h. h, λ h. h); named = λ h. h })
 
-  pub read_back : (P : Pointee) (w : Value) → Says D bytes q P n w → ((s : Schema) → MeetsOpen s bytes old [] q P n → ⊥) → ReadsBack D bytes q P n old new w []
+  pub read_back : {keeps : Bool} (P : Pointee) (w : Value) → Says D bytes q P n w → ((s : Schema) → MeetsOpen s bytes old [] q P n → ⊥) → ReadsBack keeps D bytes q P n old new w []
   read_back P w says unmet = record {
     kept = kept_same;
     value = λ named. says;
     shared = λ named s m k l d right. (λ key c. absurd (omega (arith, c.1)), rw same right);
     unmet = λ s k l. unmet s;
     closed = λ s k l t x none some. let known : old t ≡ Some (Some x) = rw same at some in cc;
+    once = λ on named complete. (λ key c. absurd (omega (arith, c.1)), rw same complete);
   }
 
   -- where it has no pointer, none is followed
@@ -32,13 +33,13 @@ module _ (D : Definitions) (bytes : List ℕ) (q n : ℕ) (old new : Entries) (s
   leaf_bare : (s : Schema) (kind : Kind) (v : Value) → Contents s bytes q (one (leaf kind)) n v → pointers v ≡ []
   leaf_bare s kind v (contents_one (reads_leaf l)) = refl
 
-  pub leaf_read_back : (kind : Kind) (w : Value) → Says D bytes q (one (leaf kind)) n w → ReadsBack D bytes q (one (leaf kind)) n old new w []
+  pub leaf_read_back : {keeps : Bool} (kind : Kind) (w : Value) → Says D bytes q (one (leaf kind)) n w → ReadsBack keeps D bytes q (one (leaf kind)) n old new w []
   leaf_read_back kind w says = read_back (one (leaf kind)) w says (λ s. bare s (one (leaf kind)) (leaf_bare s kind))
 
   text_bare : (s : Schema) (v : Value) → Contents s bytes q text n v → pointers v ≡ []
   text_bare s v (contents_text u) = refl
 
-  pub text_read_back : (w : Value) → Says D bytes q text n w → ReadsBack D bytes q text n old new w []
+  pub text_read_back : {keeps : Bool} (w : Value) → Says D bytes q text n w → ReadsBack keeps D bytes q text n old new w []
   text_read_back w says = read_back text w says (λ s. bare s text (text_bare s))
 
 -- a string leads to a text at most
@@ -60,5 +61,5 @@ module _ (s : Schema) (bytes : List ℕ) (told : Entries) where
   string_unmet within q n (meets_in_shared (contents_one (reads_inline o u)) i e t none m) = omega (arith, i.1)
   string_unmet within q n (meets_in_shared {p = p} (contents_one (reads_out_of_line o l)) i e t none m) = let is = its_text q p i in cc
 
-pub string_read_back : (D : Definitions) (bytes : List ℕ) (q n : ℕ) (old new : Entries) → new ≡ old → (w : Value) → Says D bytes q (one str) n w → ReadsBack D bytes q (one str) n old new w []
+pub string_read_back : {keeps : Bool} (D : Definitions) (bytes : List ℕ) (q n : ℕ) (old new : Entries) → new ≡ old → (w : Value) → Says D bytes q (one str) n w → ReadsBack keeps D bytes q (one str) n old new w []
 string_read_back D bytes q n old new same w says = read_back D bytes q n old new same (one str) w says (λ s. string_unmet s bytes old [] q n)

@@ -1,5 +1,5 @@
 -- What owns one region is read back as what the region is: under the same root, with the same keys.
-use Rattle.std.proofs.Common.{◌≡◌, ⊎_elim, ℕ, pos, List, [], ◌∷◌, Some, None, Contains, arith, refl, sym, ap, ◌∙◌}
+use Rattle.std.proofs.Common.{◌≡◌, ⊎_elim, ℕ, pos, List, [], ◌∷◌, Some, None, Contains, arith, refl, sym, ap, ◌∙◌, Bool}
 use Rattle.archive_check.specs.Shape.{Shape, Pointee, boxed, vec, one, run}
 use Rattle.archive_check.specs.Value.{Pointer, Value, box, hole, pointers}
 use Rattle.archive_check.specs.Reads.{Schema, pointer_at, reads_boxed, reads_vec}
@@ -42,7 +42,7 @@ module _ (D : Definitions) (bytes : List ℕ) (q n : ℕ) (P : Pointee) (p : Poi
         meets_in_unique c (has_pointer s v c) unique there (h.meets s k (reached_lies s bytes r));
   }
 
-  module _ (old new : Entries) (w : Value) (keys : List Naming) (h : ReadsBack D bytes t p.pointee p.length old new w keys) where
+  module _ {keeps : Bool} (old new : Entries) (w : Value) (keys : List Naming) (h : ReadsBack keeps D bytes t p.pointee p.length old new w keys) where
     shared_there : AreNamedByPosition old → (s : Schema) (m : Meaning) → Knows s D → (l : Lies s bytes q P n) → Denotes s bytes l.root l.shape m
         → AreRight m.shared old → AreShared m.shared keys × AreRight m.shared new
     unfolding reached_lies
@@ -64,13 +64,14 @@ module _ (D : Definitions) (bytes : List ℕ) (q n : ℕ) (P : Pointee) (p : Poi
     unfolding reached_lies
     closed_there s k l u x none some = let (y, i) = target_reached s l in h.closed s k (reached_lies s bytes i) u x none some
 
-    pub owner_read_back : ReadsBack D bytes q P n old new (around w) keys
+    pub owner_read_back : ReadsBack keeps D bytes q P n old new (around w) keys
     owner_read_back = record {
       kept = h.kept;
       value = λ named. record { fills = λ s v k l c. (owns s v c).1 w (hole_fills s D bytes q n P v p t w k l c (has_pointer s v c) unique there (h.value named)) };
       shared = shared_there;
       unmet = unmet_there;
       closed = closed_there;
+      once = h.once;
     }
 
 box_owns : (bytes : List ℕ) (q n : ℕ) (P : Pointee) (s : Schema) (v : Value) → Contents s bytes q (one (boxed P)) n v
@@ -82,11 +83,11 @@ vec_owns : (bytes : List ℕ) (q n : ℕ) (X : Shape) (s : Schema) (v : Value) �
 vec_owns bytes q n X s v (contents_one reads_vec) = (refl, λ w f. f)
 
 -- a box, and a vector
-module _ (D : Definitions) (bytes : List ℕ) (q n t : ℕ) (old new : Entries) (w : Value) (keys : List Naming) where
-  pub box_read_back : (P : Pointee) → (pointer_at bytes q None P).target ≡ pos t → ReadsBack D bytes t P (pointer_at bytes q None P).length old new w keys → ReadsBack D bytes q (one (boxed P)) n old new (box w) keys
+module _ {keeps : Bool} (D : Definitions) (bytes : List ℕ) (q n t : ℕ) (old new : Entries) (w : Value) (keys : List Naming) where
+  pub box_read_back : (P : Pointee) → (pointer_at bytes q None P).target ≡ pos t → ReadsBack keeps D bytes t P (pointer_at bytes q None P).length old new w keys → ReadsBack keeps D bytes q (one (boxed P)) n old new (box w) keys
   box_read_back P there h = owner_read_back D bytes q n (one (boxed P)) (pointer_at bytes q None P) t box refl there (box_owns bytes q n P) old new w keys h
 
-  pub vec_read_back : (X : Shape) → (pointer_at bytes q None (run X)).target ≡ pos t → ReadsBack D bytes t (run X) (pointer_at bytes q None (run X)).length old new w keys → ReadsBack D bytes q (one (vec X)) n old new w keys
+  pub vec_read_back : (X : Shape) → (pointer_at bytes q None (run X)).target ≡ pos t → ReadsBack keeps D bytes t (run X) (pointer_at bytes q None (run X)).length old new w keys → ReadsBack keeps D bytes q (one (vec X)) n old new w keys
   vec_read_back X there h = owner_read_back D bytes q n (one (vec X)) (pointer_at bytes q None (run X)) t (λ z. z) refl there (vec_owns bytes q n X) old new w keys h
 
 -- and where their regions meet an open position they do

@@ -1,6 +1,6 @@
 -- Parts that are read back one after another: the whole is read back as all of them. The parts of a whole are given by index, with where each stands
 -- and what it is; those of a run are its elements.
-use Rattle.std.proofs.Common.{◌≡◌, ◌⊎◌, inl, inr, ⊎_elim, ℕ, zero, suc, ◌+◌, ◌*◌, ◌<◌, List, [], ◌∷◌, ◌++◌, length, Some, None, Contains, arith, refl, sym, ap, ◌∙◌}
+use Rattle.std.proofs.Common.{◌≡◌, ◌⊎◌, inl, inr, ⊎_elim, ℕ, zero, suc, ◌+◌, ◌*◌, ◌<◌, List, [], ◌∷◌, ◌++◌, length, Some, None, Contains, arith, refl, sym, ap, ◌∙◌, Bool}
 use Rattle.std.proofs.lemmas.List.Elements.{Contains-append_cases}
 use Rattle.archive_check.specs.Words.Elements.{IsAt}
 use Rattle.archive_check.specs.Shape.{Shape, array, Pointee, one, run}
@@ -13,7 +13,7 @@ use Rattle.archive_check.specs.Definitions.{Definitions, Knows, HasLayout}
 use Rattle.archive_check.specs.Pooled.{Kept, EntryState, Entries}
 use Rattle.archive_check.specs.Reached.{Reached}
 use Rattle.archive_check.specs.Viewed.{Lies, Says}
-use Rattle.archive_check.specs.Entries.{KeepsEntries, AreNamedByPosition, AreShared, AreRight, MeetsOpen, meets_open, meets_in_unique, meets_in_shared, IsMet, IsClosed, IsCyclic, ReadsBack}
+use Rattle.archive_check.specs.Entries.{KeepsEntries, AreNamedByPosition, AreShared, AreRight, MeetsOpen, meets_open, meets_in_unique, meets_in_shared, IsMet, IsClosed, IsCyclic, ReadsBack, KeepsRead}
 use Rattle.archive_check.proofs.Elements.{at_last}
 use Rattle.archive_check.proofs.Tours.OpenPaths.{by_pointer, hits_meet, hits_later, meets_hit, hit_meets}
 use Rattle.archive_check.proofs.Tours.ReadingUnique.{contents_one_value}
@@ -38,28 +38,30 @@ pub record IsPart (D : Definitions) (bytes : List ℕ) (q : ℕ) (P : Pointee) (
   pub reached : (s : Schema) → Knows s D → (l : Lies s bytes q P n) → (w : Value) × Reached s bytes l.root l.shape p (one Y) 0 w
 
 -- the first of its parts were read back, as these values
-pub record ReadFirst {A : Type 0} (D : Definitions) (bytes : List ℕ) (q : ℕ) (P : Pointee) (n : ℕ) (at : ℕ → ℕ) (Y : ℕ → Shape) (old new : Entries) (meaning : A → Value) (items : List A) (keys : List Naming) : Type 0 where
+pub record ReadFirst {A : Type 0} (keeps : Bool) (D : Definitions) (bytes : List ℕ) (q : ℕ) (P : Pointee) (n : ℕ) (at : ℕ → ℕ) (Y : ℕ → Shape) (old new : Entries) (meaning : A → Value) (items : List A) (keys : List Naming) : Type 0 where
   pub kept : KeepsEntries old new
   pub says : AreNamedByPosition old → (k : ℕ) (x : A) → IsAt items k x → Says D bytes (at k) (one (Y k)) 0 (meaning x)
   pub shared : AreNamedByPosition old → (s : Schema) (m : Meaning) → Knows s D → (l : Lies s bytes q P n) → Denotes s bytes l.root l.shape m
       → AreRight m.shared old → AreShared m.shared keys × AreRight m.shared new
   pub unmet : (s : Schema) → Knows s D → Lies s bytes q P n → (k : ℕ) → k < length items → MeetsOpen s bytes old [] (at k) (one (Y k)) 0 → ⊥
   pub closed : (s : Schema) → Knows s D → (l : Lies s bytes q P n) → (t : ℕ) (k : Kept) → old t ≡ None → new t ≡ Some (Some k) → IsClosed s bytes l.root l.shape old t
+  pub once : KeepsRead keeps old new keys
 
 module _ {A : Type 0} (D : Definitions) (bytes : List ℕ) (q : ℕ) (P : Pointee) (n : ℕ) (at : ℕ → ℕ) (Y : ℕ → Shape) (meaning : A → Value) where
   -- none was
-  pub none_read : (old : Entries) → ReadFirst D bytes q P n at Y old old meaning [] []
+  pub none_read : {keeps : Bool} (old : Entries) → ReadFirst keeps D bytes q P n at Y old old meaning [] []
   none_read old = record {
     kept = record { finished = λ t k h. h; pending = λ t. (λ h. h, λ h. h); named = λ h. h };
     says = λ named k x i. absurd (omega (arith, i.below));
     shared = λ named s m k l d right. (λ key c. absurd (omega (arith, c.1)), right);
     unmet = λ s k l j below m. absurd (omega arith);
     closed = λ s k l t x none some. absurd (let no : Some (Some x) ≡ None = sym some ∙ none in cc);
+    once = λ on named complete. (λ key c. absurd (omega (arith, c.1)), complete);
   }
 
-  module _ (old mid new : Entries) (items : List A) (keys : List Naming) (h : ReadFirst D bytes q P n at Y old mid meaning items keys)
+  module _ {keeps : Bool} (old mid new : Entries) (items : List A) (keys : List Naming) (h : ReadFirst keeps D bytes q P n at Y old mid meaning items keys)
       (x : A) (more : List Naming) (p : ℕ) (Z : Shape) (here : p ≡ at (length items)) (this : Z ≡ Y (length items)) (part : IsPart D bytes q P n p Z)
-      (g : ReadsBack D bytes p (one Z) 0 mid new (meaning x) more) where
+      (g : ReadsBack keeps D bytes p (one Z) 0 mid new (meaning x) more) where
     kept_all : KeepsEntries old new
     kept_all = record {
       finished = λ t k e. g.kept.finished t k (h.kept.finished t k e);
@@ -104,9 +106,20 @@ module _ {A : Type 0} (D : Definitions) (bytes : List ℕ) (q : ℕ) (P : Pointe
         by_state (Some None) is = let no : Some None ≡ None = sym ((h.kept.pending t).0 is) ∙ none in cc
         by_state (Some (Some j)) is = h.closed s kn l t j none is o f met e there m
 
+    once_all : KeepsRead keeps old new (keys ++ more)
+    once_all on named complete =
+        let first = h.once on named complete in
+        let second = g.once on (h.kept.named named) first.1 in (
+          λ key c. ⊎_elim
+              (λ a. let (k, at, is) = first.0 key a in (k, g.kept.finished key.0 k at, is))
+              (λ b. second.0 key b)
+              (Contains-append_cases keys more key c),
+          second.1,
+        )
+
     -- one more
-    pub one_more_read : ReadFirst D bytes q P n at Y old new meaning (items ++ x ∷ []) (keys ++ more)
-    one_more_read = record { kept = kept_all; says = says_all; shared = shared_all; unmet = unmet_all; closed = closed_all }
+    pub one_more_read : ReadFirst keeps D bytes q P n at Y old new meaning (items ++ x ∷ []) (keys ++ more)
+    one_more_read = record { kept = kept_all; says = says_all; shared = shared_all; unmet = unmet_all; closed = closed_all; once = once_all }
 
 -- what is open was open before
 pub met_before : {s : Schema} {bytes : List ℕ} {old mid : Entries} {within : List ℕ} {q n : ℕ} {P : Pointee} → KeepsEntries old mid → MeetsOpen s bytes mid within q P n → MeetsOpen s bytes old within q P n
@@ -158,7 +171,7 @@ module _ (D : Definitions) (bytes : List ℕ) (q : ℕ) (X : Shape) (L : Layout)
   -- where they are what a part of the archive is
   module _ (P : Pointee) (n count : ℕ) (runs : (s : Schema) (v : Value) → Contents s bytes q P n v → (vs : Values) × (v ≡ list vs) × ReadsRun s bytes q count X vs)
       (element : (k : ℕ) → k < count → IsPart D bytes q P n (q + k * z) X) where
-    module _ {A : Type 0} (old new : Entries) (meaning : A → Value) (items : List A) (keys : List Naming) (all : length items ≡ count) (h : ReadFirst D bytes q P n (λ k. q + k * z) (λ k. X) old new meaning items keys) where
+    module _ {A : Type 0} {keeps : Bool} (old new : Entries) (meaning : A → Value) (items : List A) (keys : List Naming) (all : length items ≡ count) (h : ReadFirst keeps D bytes q P n (λ k. q + k * z) (λ k. X) old new meaning items keys) where
       says_elements : AreNamedByPosition old → Says D bytes q P n (list (each meaning items))
       unfolding reached_lies
       says_elements named = record {
@@ -180,8 +193,8 @@ module _ (D : Definitions) (bytes : List ℕ) (q : ℕ) (X : Shape) (L : Layout)
           h.unmet s kn l k (omega (arith, all, below)) (hits_meet s bytes b.hits (contents_one (rw at at d)) i)
 
       -- all of them read back
-      pub elements_read_back : ReadsBack D bytes q P n old new (list (each meaning items)) keys
-      elements_read_back = record { kept = h.kept; value = says_elements; shared = h.shared; unmet = unmet_elements; closed = h.closed }
+      pub elements_read_back : ReadsBack keeps D bytes q P n old new (list (each meaning items)) keys
+      elements_read_back = record { kept = h.kept; value = says_elements; shared = h.shared; unmet = unmet_elements; closed = h.closed; once = h.once }
 
     -- where one of them meets an open position they do
     pub element_cyclic : (old mid : Entries) (k : ℕ) → KeepsEntries old mid → k < count → IsCyclic D bytes mid (q + k * z) (one X) 0 → IsCyclic D bytes old q P n

@@ -1,5 +1,5 @@
 -- What a shared pointer leads to is read back by a deserializer that keeps it: pending while it is read, finished with its value and keys afterwards.
-use Rattle.std.proofs.Common.{◌≡◌, ◌≢◌, ◌⊎◌, inl, inr, ⊎_elim, ℕ, pos, List, [], ◌∷◌, Some, None, Contains, arith, refl, sym, ap, ◌∙◌}
+use Rattle.std.proofs.Common.{◌≡◌, ◌≢◌, ◌⊎◌, inl, inr, ⊎_elim, ℕ, pos, List, [], ◌∷◌, Some, None, Contains, arith, refl, sym, ap, ◌∙◌, Bool, true, false}
 use Rattle.std.proofs.lemmas.Bool.{cases_eq}
 use Rattle.archive_check.specs.Shape.{Flavor, Shape, Pointee, shared, weak, one}
 use Rattle.archive_check.specs.Value.{Pointer, Value, shared_value, hole, pointers}
@@ -10,7 +10,7 @@ use Rattle.archive_check.specs.Definitions.{Definitions, Knows}
 use Rattle.archive_check.specs.Pooled.{Kept, Entries}
 use Rattle.archive_check.specs.Viewed.{Lies}
 use Rattle.archive_check.specs.Reached.{Reached}
-use Rattle.archive_check.specs.Entries.{NoEntries, Shares, IsMet, AreNamedByPosition, AreShared, AreRight, IsOpen, MeetsOpen, meets_open, meets_in_unique, meets_in_shared, IsCyclic, IsClosed, ReadsBack}
+use Rattle.archive_check.specs.Entries.{NoEntries, Shares, IsMet, AreNamedByPosition, AreShared, AreRight, IsOpen, MeetsOpen, meets_open, meets_in_unique, meets_in_shared, IsCyclic, IsClosed, ReadsBack, AreKept, IsComplete, KeepsRead}
 use Rattle.archive_check.proofs.Elements.{contains_cases, contains_first, contains_later}
 use Rattle.archive_check.proofs.Tours.ReadingUnique.{contents_one_value, pos_one}
 use Rattle.archive_check.proofs.Meanings.ReachedParts.{pointer_reached}
@@ -133,7 +133,7 @@ module _ (D : Definitions) (bytes : List ℕ) (q n t : ℕ) (flavor : Flavor) (P
       (x, rw same at i)
 
   -- what is read of its value, the archive's map has
-  says_keys : (old new : Entries) (own : Flavor) (w : Value) (keys : List Naming) → ReadsBack D bytes t P p.length old new w keys → AreNamedByPosition old → (s : Schema) (m : Meaning) → Knows s D → (l : Lies s bytes q (one X) n)
+  says_keys : {keeps : Bool} (old new : Entries) (own : Flavor) (w : Value) (keys : List Naming) → ReadsBack keeps D bytes t P p.length old new w keys → AreNamedByPosition old → (s : Schema) (m : Meaning) → Knows s D → (l : Lies s bytes q (one X) n)
       → Denotes s bytes l.root l.shape m → AreRight m.shared old → Shares m.shared t (record { flavor = own; pointee = P; length = p.length }) w × AreShared m.shared keys × AreRight m.shared new
   unfolding reached_lies
   says_keys old new own w keys h named s m knows l d right =
@@ -153,7 +153,7 @@ module _ (D : Definitions) (bytes : List ℕ) (q n t : ℕ) (flavor : Flavor) (P
     again_unmet s (meets_in_unique {v = v} {p = o} c i e at m) = let same = the_pointer s v o c i in cc
     again_unmet s (meets_in_shared {t = u} {v = v} {p = o} c i e at none m) = let is : u ≡ t = leads_there o u (the_pointer s v o c i) at in let no : old t ≡ None = rw is at none in cc
 
-    pub again_read_back : ReadsBack D bytes q (one X) n old old (shared_value k.name) ((k.name, (k.entry, k.value)) ∷ k.keys)
+    pub again_read_back : {keeps : Bool} → ReadsBack keeps D bytes q (one X) n old old (shared_value k.name) ((k.name, (k.entry, k.value)) ∷ k.keys)
     again_read_back = record {
       kept = record { finished = λ u l h. h; pending = λ u. (λ h. h, λ h. h); named = λ h. h };
       value = λ named. record { fills = λ s v knows l c. rw (is_hole s v c, named t k known) (fills_shared refl there) };
@@ -163,6 +163,13 @@ module _ (D : Definitions) (bytes : List ℕ) (q n t : ℕ) (flavor : Flavor) (P
       );
       unmet = λ s knows l m. again_unmet s m;
       closed = λ s knows l u x none some. absurd (let no : Some (Some x) ≡ None = sym some ∙ none in cc);
+      once = λ on named complete. (
+        λ x c. ⊎_elim
+            (λ e. (k, ap old (ap (λ (z : Naming). z.0) (sym e) ∙ named t k known) ∙ known, ap (λ (z : Naming). z.1) (sym e)))
+            (λ later. complete t k known x later)
+            (contains_cases (k.name, (k.entry, k.value)) k.keys x c),
+        complete,
+      );
     }
 
   -- one that is pending is refused
@@ -179,8 +186,8 @@ module _ (D : Definitions) (bytes : List ℕ) (q n t : ℕ) (flavor : Flavor) (P
   }
 
   -- a new one is read while it is pending, and finished
-  module _ (old started mid new : Entries) (own : Flavor) (w : Value) (keys : List Naming) (unknown : old t ≡ None) (here : started t ≡ Some None) (others : (u : ℕ) → (u ≡ t → ⊥) → started u ≡ old u)
-      (h : ReadsBack D bytes t P p.length started mid w keys)
+  module _ {keeps : Bool} (old started mid new : Entries) (own : Flavor) (w : Value) (keys : List Naming) (unknown : old t ≡ None) (here : started t ≡ Some None) (others : (u : ℕ) → (u ≡ t → ⊥) → started u ≡ old u)
+      (h : ReadsBack keeps D bytes t P p.length started mid w keys)
       (done : new t ≡ Some (Some (record { name = t; entry = record { flavor = own; pointee = P; length = p.length }; value = w; keys = keys }))) (rest : (u : ℕ) → (u ≡ t → ⊥) → new u ≡ mid u) where
     abbrev e : Entry
     e = record { flavor = own; pointee = P; length = p.length }
@@ -275,7 +282,42 @@ module _ (D : Definitions) (bytes : List ℕ) (q n t : ℕ) (flavor : Flavor) (P
           )
     ]
 
-    pub shared_read_back : ReadsBack D bytes q (one X) n old new (shared_value t) ((t, (e, w)) ∷ keys)
+    -- what is finished before it is started is so then; what is kept then is kept once it is finished
+    kept_started : (u : ℕ) (k : Kept) → old u ≡ Some (Some k) → started u ≡ Some (Some k)
+    kept_started u k is = others u (not_t u k is) ∙ is
+
+    complete_started : IsComplete old → IsComplete started
+    complete_started complete u k is = elim (cases_eq u t) [
+      | inl eq ↦ (let no : started t ≡ Some (Some k) = rw eq at is in cc)
+      | inr n ↦ (λ key c. let (j, at, same) = complete u k (sym (others u n) ∙ is) key c in (j, kept_started key.0 j at, same))
+    ]
+
+    mid_pending : mid t ≡ Some None
+    mid_pending = (h.kept.pending t).1 here
+
+    kept_after : (ks : List Naming) → AreKept mid ks → AreKept new ks
+    kept_after ks among key c =
+        let (j, at, same) = among key c in
+        (j, rest key.0 (λ eq. let no : Some (Some j) ≡ Some None = sym at ∙ ap mid eq ∙ mid_pending in cc) ∙ at, same)
+
+    once_after : KeepsRead keeps old new ((t, (e, w)) ∷ keys)
+    once_after on named complete =
+        let (among, whole) = h.once on (named_started named) (complete_started complete) in (
+          λ y c. ⊎_elim
+              (λ same. (kept, ap new (ap (λ (z : Naming). z.0) (sym same)) ∙ done, ap (λ (z : Naming). z.1) (sym same)))
+              (λ later. kept_after keys among y later)
+              (contains_cases (t, (e, w)) keys y c),
+          λ u k is. elim (cases_eq u t) [
+            | inl eq ↦ (
+                let at : new t ≡ Some (Some k) = rw eq at is in
+                let same : k ≡ kept = same_kept (sym at ∙ done) in
+                rw same (kept_after keys among)
+                )
+            | inr n ↦ kept_after k.keys (whole u k (sym (rest u n) ∙ is))
+          ],
+        )
+
+    pub shared_read_back : ReadsBack keeps D bytes q (one X) n old new (shared_value t) ((t, (e, w)) ∷ keys)
     shared_read_back = record {
       kept = record {
         finished = λ u k is. let n = not_t u k is in rest u n ∙ h.kept.finished u k (others u n ∙ is);
@@ -286,6 +328,7 @@ module _ (D : Definitions) (bytes : List ℕ) (q n t : ℕ) (flavor : Flavor) (P
       shared = shared_after;
       unmet = unmet_after;
       closed = closed_after;
+      once = once_after;
     }
 
   -- Where nothing is kept, it is read anew at each pointer.
@@ -301,7 +344,7 @@ module _ (D : Definitions) (bytes : List ℕ) (q n t : ℕ) (flavor : Flavor) (P
           meets_in_shared {t = t} {p = p} c (has_pointer s v c) refl there (nothing t) (meets_alone s bytes t old started nothing begun (h.meets s knows (reached_lies s bytes r))));
     }
 
-    module _ (own : Flavor) (w : Value) (keys : List Naming) (h : ReadsBack D bytes t P p.length started mid w keys) where
+    module _ {keeps : Bool} (none_kept : keeps ≡ false) (own : Flavor) (w : Value) (keys : List Naming) (h : ReadsBack keeps D bytes t P p.length started mid w keys) where
       unmet_alone : (s : Schema) → Knows s D → Lies s bytes q (one X) n → MeetsOpen s bytes old [] q (one X) n → ⊥
       unmet_alone s knows l (meets_open {t = u} c i f at (inl pending)) = let no : old u ≡ None = nothing u in cc
       unmet_alone s knows l (meets_open c i f at (inr within)) = omega (arith, within.1)
@@ -327,7 +370,7 @@ module _ (D : Definitions) (bytes : List ℕ) (q n t : ℕ) (flavor : Flavor) (P
             λ u k is. let no : new u ≡ None = after u in cc,
           )
 
-      pub alone_read_back : ReadsBack D bytes q (one X) n old new (shared_value t) ((t, (record { flavor = own; pointee = P; length = p.length }, w)) ∷ keys)
+      pub alone_read_back : ReadsBack keeps D bytes q (one X) n old new (shared_value t) ((t, (record { flavor = own; pointee = P; length = p.length }, w)) ∷ keys)
       alone_read_back = record {
         kept = record {
           finished = λ u k is. let no : old u ≡ None = nothing u in cc;
@@ -338,4 +381,5 @@ module _ (D : Definitions) (bytes : List ℕ) (q n t : ℕ) (flavor : Flavor) (P
         shared = λ named s m knows l d right. shared_alone s m knows l d;
         unmet = unmet_alone;
         closed = λ s knows l u k none is. let no : new u ≡ None = after u in cc;
+        once = λ on named complete. let no : true ≡ false = sym on ∙ none_kept in cc;
       }

@@ -1,5 +1,5 @@
 -- What is read back of a choice, from what is read back of the part behind its tag; and of a name, from its definition.
-use Rattle.std.proofs.Common.{◌≡◌, inl, inr, ℕ, ◌+◌, List, [], slice_index, Some, None, Contains, refl, sym, ap, subst}
+use Rattle.std.proofs.Common.{◌≡◌, inl, inr, ℕ, ◌+◌, List, [], slice_index, Some, None, Contains, refl, sym, ap, subst, Bool}
 use Rattle.std.proofs.lemmas.List.{append-nil}
 use Rattle.archive_check.specs.declared.format.error.Error.{Error}
 use Rattle.archive_check.specs.Shape.{Name, Shape, choice, named, one, Variants, Parts, part, no_part, variant_at, definition}
@@ -52,7 +52,7 @@ module _ (D E : Definitions) (known : (s : Schema) → Knows s D → Knows s E) 
       let i : IsPart s q 1 (part X no_part) (q + offset) X = subst (λ o. IsPart s q 1 (part X no_part) (q + o) X) (begins s k) first_part in
       within_reached s bytes r (in_choice whole e i)
 
-  module _ (old new : Entries) (w : Value) (keys : List Naming) (h : ReadsBack E bytes (q + offset) (one X) 0 old new w keys) where
+  module _ {keeps : Bool} (old new : Entries) (w : Value) (keys : List Naming) (h : ReadsBack keeps E bytes (q + offset) (one X) 0 old new w keys) where
     fills_there : AreNamedByPosition old → (s : Schema) (v : Value) → Knows s D → Lies s bytes q (one (choice name variants)) n → Contents s bytes q (one (choice name variants)) n v
         → Fills s bytes v (case tag (value w no_value))
     fills_there by s v k l c =
@@ -78,13 +78,14 @@ module _ (D E : Definitions) (known : (s : Schema) → Knows s D → Knows s E) 
     meets_there s k (meets_in_unique {v = v} {p = p} c i e t m) = let x = contents_there s k v c in meets_in_unique x.contents (its_pointer s v p x i) e t m
     meets_there s k (meets_in_shared {v = v} {p = p} c i e t none m) = let x = contents_there s k v c in meets_in_shared x.contents (its_pointer s v p x i) e t none m
 
-    pub case_read_back : ReadsBack D bytes q (one (choice name variants)) n old new (case tag (value w no_value)) keys
+    pub case_read_back : ReadsBack keeps D bytes q (one (choice name variants)) n old new (case tag (value w no_value)) keys
     case_read_back = record {
       kept = h.kept;
       value = λ by. record { fills = fills_there by };
       shared = shared_there;
       unmet = λ s k l m. (let (u, r) = part_reached s k l in h.unmet s (known s k) (reached_lies s bytes r) (meets_there s k m));
       closed = closed_there;
+      once = h.once;
     }
 
   -- an open position that is met behind the tag is met
@@ -127,7 +128,7 @@ module _ (D : Definitions) (name : Name) (variants : Variants) (tag : ℕ) (is :
   pub empty_case_says : Says D bytes q (one (choice name variants)) n (case tag no_value)
   empty_case_says = record { fills = λ s v k l c. rw (empty_contents s v c) (fills_case fills_no_value) }
 
-  pub empty_case_read_back : (old new : Entries) → new ≡ old → ReadsBack D bytes q (one (choice name variants)) n old new (case tag no_value) []
+  pub empty_case_read_back : {keeps : Bool} (old new : Entries) → new ≡ old → ReadsBack keeps D bytes q (one (choice name variants)) n old new (case tag no_value) []
   empty_case_read_back old new same = read_back D bytes q n old new same (one (choice name variants)) (case tag no_value) empty_case_says
       (λ s. bare D bytes q n old new same s (one (choice name variants)) (λ v c. ap pointers (empty_contents s v c)))
 
@@ -143,7 +144,7 @@ module _ (D : Definitions) (name : Name) (X : Shape) (has : (s : Schema) → Kno
   definition_reached : (s : Schema) → Knows s D → (l : Lies s bytes q (one (named name)) n) → (u : Value) × Reached s bytes l.root l.shape q (one X) 0 u
   definition_reached s k l = let (w, r) = lies_reached s bytes l in within_reached s bytes r (in_named whole (has s k))
 
-  module _ (old new : Entries) (w : Value) (keys : List Naming) (h : ReadsBack D bytes q (one X) 0 old new w keys) where
+  module _ {keeps : Bool} (old new : Entries) (w : Value) (keys : List Naming) (h : ReadsBack keeps D bytes q (one X) 0 old new w keys) where
     named_shared : AreNamedByPosition old → (s : Schema) (m : Meaning) → Knows s D → (l : Lies s bytes q (one (named name)) n) → Denotes s bytes l.root l.shape m
         → AreRight m.shared old → AreShared m.shared keys × AreRight m.shared new
     unfolding reached_lies
@@ -158,13 +159,14 @@ module _ (D : Definitions) (name : Name) (X : Shape) (has : (s : Schema) → Kno
     meets_definition s k (meets_in_unique {v = v} c i e t m) = meets_in_unique (definition_contents s k n v c) i e t m
     meets_definition s k (meets_in_shared {v = v} c i e t none m) = meets_in_shared (definition_contents s k n v c) i e t none m
 
-    pub named_read_back : ReadsBack D bytes q (one (named name)) n old new w keys
+    pub named_read_back : ReadsBack keeps D bytes q (one (named name)) n old new w keys
     named_read_back = record {
       kept = h.kept;
       value = λ by. record { fills = λ s v k l c. (let (u, r) = definition_reached s k l in (h.value by).fills s v k (reached_lies s bytes r) (definition_contents s k n v c)) };
       shared = named_shared;
       unmet = λ s k l m. (let (u, r) = definition_reached s k l in h.unmet s k (reached_lies s bytes r) (meets_definition s k m));
       closed = named_closed;
+      once = h.once;
     }
 
   meets_named : (told : Entries) (s : Schema) → Knows s D → MeetsOpen s bytes told [] q (one X) 0 → MeetsOpen s bytes told [] q (one (named name)) n

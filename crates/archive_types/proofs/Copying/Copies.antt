@@ -109,7 +109,7 @@ module _ {A : Type 0} (D : Definitions) (X : Shape) (size : ℕ) (m : A → Valu
     -- a piece is refused
     pub copies_broken : (new : WriterState) (rest piece later : List A) (start bytes position : ℕ) (e : Error) → rest ≡ piece ++ later → start ≡ length first.bytes → bytes ≡ size
         → Copies D X size m b first now all rest → GoesOn now new → position ≡ length now.bytes
-        → ExplainsRefusal (length piece * size) position now.room now.failures new.failures e → IsUnwritten (start + length all * bytes) first new e
+        → ExplainsRefusal (length piece * size) position (length new.bytes) now.room now.failures new.failures e → IsUnwritten (start + length all * bytes) first new e
     copies_broken new rest piece later start bytes position e cut begin same h g here refused =
         let end : ℕ = start + length all * bytes in
         let whole : end ≡ length first.bytes + length all * size = λ i. begin i + length all * same i in
@@ -233,7 +233,7 @@ copy_refused_later L n old mid new p q size e here there same grown g k h =
     explains_later _ _ _ _ old mid new e g k (λ x. (x.0, omega (arith, x.1, whole))) (λ m x. omega (arith, x, whole)) h
 
 -- or they aren't
-pub copy_not_padded : (L : Layout) (n : ℕ) (old new : WriterState) (p : ℕ) (e : Error) → p ≡ length old.bytes → GoesOn old new → ExplainsRefusal (padding L.align p) p old.room old.failures new.failures e
+pub copy_not_padded : (L : Layout) (n : ℕ) (old new : WriterState) (p : ℕ) (e : Error) → p ≡ length old.bytes → GoesOn old new → ExplainsRefusal (padding L.align p) p (length new.bytes) old.room old.failures new.failures e
     → IsCopyRefused (copies_to L n p) old new e
 copy_not_padded L n old new p e here g h = explains_write _ (λ m. m ≤ copies_to L n p) (padding L.align p) p old new e here (omega arith) g h
 

@@ -89,14 +89,14 @@ full_now (Some room) n begin len count cap position e f g h = (omega (arith, h.1
 
 -- a write of n bytes was refused
 pub explains_write : (own : Error → Type 0) (reaches : ℕ → Type 0) (n position : ℕ) (old new : WriterState) (e : Error) → position ≡ length old.bytes → reaches (position + n) → GoesOn old new
-    → ExplainsRefusal n position old.room old.failures new.failures e → Explains own reaches old new e
+    → ExplainsRefusal n position (length new.bytes) old.room old.failures new.failures e → Explains own reaches old new e
 explains_write own reaches n position old new OutOfMemory here fits g h = no_memory
 explains_write own reaches n position old new (BufferOverflow count cap at) here fits g h = no_room (record {
   behind = omega (arith, h.1, here);
-  held = omega (arith, h.1, here, begins_shorter _ _ g.kept);
+  held = h.1 ∙ sym h.2;
   planned = rw (h.0, h.1) fits;
-  full = full_now old.room n position (length old.bytes) count cap at here h.0 h.1 h.2;
-  left = left_now old.room new.room old.bytes new.bytes n count position cap g.room h.0 h.2;
+  full = full_now old.room n position (length old.bytes) count cap at here h.0 h.1 h.3;
+  left = left_now old.room new.room old.bytes new.bytes n count position cap g.room h.0 h.3;
 })
 explains_write own reaches n position old new WriterFailed here fits g h = device_failed h
 explains_write own reaches n position old new IsizeOverflow here fits g h = absurd h

@@ -68,7 +68,7 @@ long_text_refused D old new bs long = own_cause (record {
 })
 
 pub text_refused : (D : Definitions) (old new : WriterState) (bs : List ℕ) (position : ℕ) (e : Error) → position ≡ length old.bytes
-    → GoesOn old new → ExplainsRefusal (length bs) position old.room old.failures new.failures e → IsRegionRefused D text (length bs) [] (text_value bs) old new e
+    → GoesOn old new → ExplainsRefusal (length bs) position (length new.bytes) old.room old.failures new.failures e → IsRegionRefused D text (length bs) [] (text_value bs) old new e
 text_refused D old new bs position e here g h =
     explains_write _ _ (length bs) position old new e here (λ below s names k n. text_region s names bs (cursor old) _ (omega (arith, here))) g h
 
@@ -178,7 +178,7 @@ module _ (D : Definitions) (X : Shape) (ks : List Naming) (v : Value) where
 
   -- nor the zeros behind that
   pub one_padded : (flat : Value) (L : Layout) (position : ℕ) (old mid new : WriterState) (e : Error) → IsAlign L.align → HasLayout D X L → Serialized D X ks v flat old mid → GoesOn old mid → position ≡ length mid.bytes
-      → GoesOn mid new → ExplainsRefusal (padding L.align position) position mid.room mid.failures new.failures e → IsRegionRefused D (one X) 0 ks v old new e
+      → GoesOn mid new → ExplainsRefusal (padding L.align position) position (length new.bytes) mid.room mid.failures new.failures e → IsRegionRefused D (one X) 0 ks v old new e
   one_padded flat L position old mid new e is layout (serialized writes planned) g here k refused =
       explains_later (HindersRegion D (one X) 0 ks v (cursor old)) _ (RegionReaches D (one X) 0 ks v (cursor old)) _ old mid new e g k (λ x. x) (λ m x. x) (explains_write _ _ (padding L.align position) position mid new e here (λ below s names l n. (
       let q = planned below s names l n in

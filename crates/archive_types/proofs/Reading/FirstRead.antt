@@ -1,5 +1,5 @@
 -- The first of elements that stand one behind another are read many at once: what is said of one more, and what comes of all.
-use Rattle.std.proofs.Common.{◌≡◌, ⊎_elim, ℕ, suc, ◌+◌, ◌*◌, ◌<◌, ◌≤◌, List, [], ◌∷◌, ◌++◌, length, length-append, slice_index_or, slice_set, arith, refl, subst, append_assoc, append-nil, min}
+use Rattle.std.proofs.Common.{◌≡◌, ⊎_elim, ℕ, suc, ◌+◌, ◌*◌, ◌<◌, ◌≤◌, List, [], ◌∷◌, ◌++◌, length, length-append, slice_index_or, slice_set, arith, refl, subst, append_assoc, append-nil, min, Bool}
 use Rattle.std.proofs.lemmas.Bool.{cases_lt}
 use Rattle.std.proofs.lemmas.List.{get_or_append_left, get_or-set_same, get_or-set_other}
 use Rattle.std.proofs.Math.Seq.{get_or-append_seam}
@@ -40,7 +40,7 @@ module _ {A : Type 0} (D : Definitions) (bytes : List ℕ) (q z : ℕ) (P : Poin
 -- leaves of which this is said are read back
 pub leaves_read : {A : Type 0} (D : Definitions) (bytes : List ℕ) (q z : ℕ) (kind : Kind) (meaning : A → Value) (xs : List A) (n : ℕ) → length xs ≡ n
     → AreSaid D bytes q z (one (leaf kind)) meaning 0 n xs → AreFirstRead D bytes q z (one (leaf kind)) meaning (λ x. []) xs
-leaves_read D bytes q z kind meaning xs n whole said = λ k d told below.
+leaves_read D bytes q z kind meaning xs n whole said = λ k d told keeps below.
     let same : 0 + k ≡ k = omega arith in
     leaf_read_back D bytes (q + k * z) 0 told told refl kind (meaning (slice_index_or xs k d))
     (subst (λ i. Says D bytes (q + i * z) (one (leaf kind)) 0 (meaning (slice_index_or xs k d))) same (said k d (omega (arith, below, whole))))
@@ -48,26 +48,26 @@ leaves_read D bytes q z kind meaning xs n whole said = λ k d told below.
 -- elements that were read so are the first ones, whatever was told before
 module _ (D : Definitions) (X : Shape) (L : Layout) (laid : HasLayout D X L) (bytes : List ℕ) (q : ℕ) (P : Pointee) (n count : ℕ) (has : HasElements D X L bytes q P n count) where
   module _ {A : Type 0} (meaning : A → Value) (keys : A → List Naming) (old : Entries) (Q : Pointee) (is : Q ≡ one X) where
-    behind : (rest done : List A) → length done + length rest ≤ count
-        → ((k : ℕ) (d : A) → k < length rest → ReadsBack D bytes (q + (length done + k) * L.size) Q 0 old old (meaning (slice_index_or rest k d)) (keys (slice_index_or rest k d)))
-        → FirstElements D X L bytes q P n meaning keys old old done → FirstElements D X L bytes q P n meaning keys old old (done ++ rest)
+    behind : {keeps : Bool} (rest done : List A) → length done + length rest ≤ count
+        → ((k : ℕ) (d : A) → k < length rest → ReadsBack keeps D bytes (q + (length done + k) * L.size) Q 0 old old (meaning (slice_index_or rest k d)) (keys (slice_index_or rest k d)))
+        → FirstElements keeps D X L bytes q P n meaning keys old old done → FirstElements keeps D X L bytes q P n meaning keys old old (done ++ rest)
     behind [] done few each first = rw (append-nil done) first
-    behind (x ∷ xs) done few each first =
+    behind {keeps = keeps} (x ∷ xs) done few each first =
         let start : length done + 0 ≡ length done = omega arith in
-        let here = subst (λ i. ReadsBack D bytes (q + i * L.size) Q 0 old old (meaning x) (keys x)) start (each 0 x (omega arith)) in
+        let here = subst (λ i. ReadsBack keeps D bytes (q + i * L.size) Q 0 old old (meaning x) (keys x)) start (each 0 x (omega arith)) in
         let next = elements_more D X L laid bytes q P n count has meaning keys old old old done x (length done) Q is refl (omega (arith, few)) first here in
         let longer : length (done ++ x ∷ []) ≡ length done + 1 = length-append done (x ∷ []) in
         let moved : (k : ℕ) → length done + suc k ≡ length (done ++ x ∷ []) + k = λ k. omega (arith, longer) in
         rw (← append_assoc done (x ∷ []) xs)
         (behind xs (done ++ x ∷ []) (omega (arith, few, longer))
-        (λ k d below. subst (λ i. ReadsBack D bytes (q + i * L.size) Q 0 old old (meaning (slice_index_or xs k d)) (keys (slice_index_or xs k d))) (moved k)
+        (λ k d below. subst (λ i. ReadsBack keeps D bytes (q + i * L.size) Q 0 old old (meaning (slice_index_or xs k d)) (keys (slice_index_or xs k d))) (moved k)
         (each (suc k) d (omega (arith, below))))
         next)
 
-    pub first_elements : (xs : List A) → length xs ≤ count → AreFirstRead D bytes q L.size Q meaning keys xs → FirstElements D X L bytes q P n meaning keys old old xs
-    first_elements xs few each = behind xs [] (omega (arith, few))
+    pub first_elements : {keeps : Bool} (xs : List A) → length xs ≤ count → AreFirstRead D bytes q L.size Q meaning keys xs → FirstElements keeps D X L bytes q P n meaning keys old old xs
+    first_elements {keeps = keeps} xs few each = behind xs [] (omega (arith, few))
         (λ k d below. let same : k ≡ 0 + k = omega arith in
-        subst (λ i. ReadsBack D bytes (q + i * L.size) Q 0 old old (meaning (slice_index_or xs k d)) (keys (slice_index_or xs k d))) same (each k d old below))
+        subst (λ i. ReadsBack keeps D bytes (q + i * L.size) Q 0 old old (meaning (slice_index_or xs k d)) (keys (slice_index_or xs k d))) same (each k d old keeps below))
         (elements_none D X L laid bytes q P n count has meaning keys old)
 
 -- an element that lies in bytes has its size

@@ -1,5 +1,5 @@
 -- Parts that are read back one after another, and the records that have them: the whole is read back as all of them.
-use Rattle.std.proofs.Common.{◌≡◌, inl, inr, ⊎_elim, ℕ, ◌+◌, ◌≤◌, List, [], ◌++◌, length, Some, None, Result, Ok, Err, IfOk, Contains, arith, refl, sym, ap, subst, ◌∙◌}
+use Rattle.std.proofs.Common.{◌≡◌, inl, inr, ⊎_elim, ℕ, ◌+◌, ◌≤◌, List, [], ◌++◌, length, Some, None, Result, Ok, Err, IfOk, Contains, arith, refl, sym, ap, subst, ◌∙◌, Bool}
 use Rattle.std.proofs.Math.Logic.{∥∥₁_elim, ∥∥₁_map}
 use Rattle.std.specs.Coded.{le_prop}
 use Rattle.std.proofs.lemmas.List.Elements.{Contains-append_left, Contains-append_right, Contains-append_cases}
@@ -16,7 +16,7 @@ use Rattle.archive_check.specs.Pooled.{Kept, EntryState, Entries}
 use Rattle.archive_check.specs.Reached.{Reached}
 use Rattle.archive_check.specs.Viewed.{Lies, Viewed}
 use Rattle.archive_check.specs.Within.{IsPart, first_part, later_part, Within, whole, in_parts, in_named}
-use Rattle.archive_check.specs.Entries.{KeepsEntries, AreNamedByPosition, AreShared, AreRight, MeetsOpen, IsMet, IsClosed, IsCyclic, ReadsBack, RefusesReading}
+use Rattle.archive_check.specs.Entries.{KeepsEntries, AreNamedByPosition, AreShared, AreRight, MeetsOpen, IsMet, IsClosed, IsCyclic, ReadsBack, RefusesReading, KeepsRead}
 use Rattle.archive_check.proofs.Tours.OpenPaths.{Hits, by_pointer, hits_meet, hits_later, meets_hit, hit_meets}
 use Rattle.archive_check.proofs.Tours.ReadingUnique.{contents_one_value}
 use Rattle.archive_check.proofs.Meanings.ReachedParts.{within_reached}
@@ -59,7 +59,7 @@ module _ (D : Definitions) (bytes : List ℕ) (q : ℕ) (P : Pointee) (n : ℕ) 
     }
 
   -- these were read back, as these values
-  pub record TailRead (ps : Parts) (at : ℕ) (old new : Entries) (ws : Values) (keys : List Naming) : Type 0 where
+  pub record TailRead (keeps : Bool) (ps : Parts) (at : ℕ) (old new : Entries) (ws : Values) (keys : List Naming) : Type 0 where
     pub kept : KeepsEntries old new
     pub fills : AreNamedByPosition old → (s : Schema) (vs : Values) → Knows s D → Lies s bytes q P n → ReadsParts s bytes q at ps vs → FillsAll s bytes vs ws
     pub shared : AreNamedByPosition old → (s : Schema) (m : Meaning) → Knows s D → (l : Lies s bytes q P n) → Denotes s bytes l.root l.shape m
@@ -67,14 +67,16 @@ module _ (D : Definitions) (bytes : List ℕ) (q : ℕ) (P : Pointee) (n : ℕ) 
     pub unmet : (s : Schema) (vs : Values) → Knows s D → (l : Lies s bytes q P n) → ReadsParts s bytes q at ps vs
         → (p : Pointer) → Contains (all_pointers vs) p → IsMet s bytes l.root l.shape p → Hits s bytes old [] p → ⊥
     pub closed : (s : Schema) → Knows s D → (l : Lies s bytes q P n) → (t : ℕ) (k : Kept) → old t ≡ None → new t ≡ Some (Some k) → IsClosed s bytes l.root l.shape old t
+    pub once : KeepsRead keeps old new keys
 
-  none_read : (at : ℕ) (told : Entries) → TailRead no_part at told told no_value []
+  none_read : {keeps : Bool} (at : ℕ) (told : Entries) → TailRead keeps no_part at told told no_value []
   none_read at told = record {
     kept = keeps_itself told;
     fills = λ by s vs k l r. no_value_fills r;
     shared = λ by s m k l d right. (λ key c. absurd (omega (arith, c.1)), right);
     unmet = λ s vs k l r p c met hits. absurd (no_pointer r c);
     closed = λ s k l t x none some. absurd (let no : Some (Some x) ≡ None = sym some ∙ none in cc);
+    once = λ on by complete. (λ key c. absurd (omega (arith, c.1)), complete);
   }
     where
       no_value_fills : {s : Schema} {vs : Values} → ReadsParts s bytes q at no_part vs → FillsAll s bytes vs no_value
@@ -84,8 +86,8 @@ module _ (D : Definitions) (bytes : List ℕ) (q : ℕ) (P : Pointee) (n : ℕ) 
       no_pointer reads_no_part c = omega (arith, c.1)
 
   -- one part, and then the others
-  module _ {A E : Definitions} {X : Shape} {ps : Parts} {L : Layout} {at : ℕ} (laid : HasLayout A X L) (t : Tail (both A E) (part X ps) at) (old mid new : Entries) (v : Value) (vs : Values) (ks ls : List Naming)
-      (h : ReadsBack A bytes (q + up at L.align) (one X) 0 old mid v ks) (g : TailRead ps (up at L.align + L.size) mid new vs ls) where
+  module _ {keeps : Bool} {A E : Definitions} {X : Shape} {ps : Parts} {L : Layout} {at : ℕ} (laid : HasLayout A X L) (t : Tail (both A E) (part X ps) at) (old mid new : Entries) (v : Value) (vs : Values) (ks ls : List Naming)
+      (h : ReadsBack keeps A bytes (q + up at L.align) (one X) 0 old mid v ks) (g : TailRead keeps ps (up at L.align + L.size) mid new vs ls) where
     knows_first : (s : Schema) → Knows s D → Knows s A
     knows_first s k = knows_left s A E (t.knows s k)
 
@@ -128,10 +130,21 @@ module _ (D : Definitions) (bytes : List ℕ) (q : ℕ) (P : Pointee) (n : ℕ) 
         by_state (Some None) is = let no : Some None ≡ None = sym ((h.kept.pending o).0 is) ∙ none in cc
         by_state (Some (Some j)) is = closed_first s k l o j none is p f met e there m
 
-    both_read : TailRead (part X ps) at old new (value v vs) (ks ++ ls)
-    both_read = record { kept = keeps_both old mid new h.kept g.kept; fills = fills_both; shared = shared_both; unmet = unmet_both; closed = closed_both }
+    once_both : KeepsRead keeps old new (ks ++ ls)
+    once_both on by complete =
+        let first = h.once on by complete in
+        let second = g.once on (h.kept.named by) first.1 in (
+          λ key c. ⊎_elim
+              (λ a. let (k, at', is) = first.0 key a in (k, g.kept.finished key.0 k at', is))
+              (λ b. second.0 key b)
+              (Contains-append_cases ks ls key c),
+          second.1,
+        )
 
-  pub tail_read : {E : Definitions} {ps : Parts} {at : ℕ} {old new : Entries} {vs : Values} {keys : List Naming} → Tail E ps at → PartsReadBack bytes q E ps at old new vs keys → TailRead ps at old new vs keys
+    both_read : TailRead keeps (part X ps) at old new (value v vs) (ks ++ ls)
+    both_read = record { kept = keeps_both old mid new h.kept g.kept; fills = fills_both; shared = shared_both; unmet = unmet_both; closed = closed_both; once = once_both }
+
+  pub tail_read : {keeps : Bool} {E : Definitions} {ps : Parts} {at : ℕ} {old new : Entries} {vs : Values} {keys : List Naming} → Tail E ps at → PartsReadBack keeps bytes q E ps at old new vs keys → TailRead keeps ps at old new vs keys
   tail_read {at = at} {old = old} t no_part_read_back = none_read at old
   tail_read t (part_read_back {old = old} {mid = mid} {new = new} {v = v} {vs = vs} {ks = ks} {ls = ls} laid h r) = both_read laid t old mid new v vs ks ls h (tail_read (rest laid t) r)
 
@@ -188,8 +201,8 @@ module _ (D : Definitions) (X : Shape) (E : Definitions) (ps : Parts) (is : IsRe
   pub parts_viewed : Viewed D bytes q (one X) n → PartsViewed E bytes q 0 ps
   parts_viewed v = ∥∥₁_map v (λ (s, k, l). (s, is.known s k, λ r Y i. (let (u, h) = whole_tail.reached s k l r Y i in reached_lies s bytes h)))
 
-  module _ (old new : Entries) (vs : Values) (keys : List Naming) (h : PartsReadBack bytes q E ps 0 old new vs keys) where
-    all_read : TailRead D bytes q (one X) n ps 0 old new vs keys
+  module _ {keeps : Bool} (old new : Entries) (vs : Values) (keys : List Naming) (h : PartsReadBack keeps bytes q E ps 0 old new vs keys) where
+    all_read : TailRead D bytes q (one X) n keeps ps 0 old new vs keys
     all_read = tail_read D bytes q (one X) n whole_tail h
 
     fills_record : AreNamedByPosition old → (s : Schema) (v : Value) → Knows s D → Lies s bytes q (one X) n → Contents s bytes q (one X) n v → Fills s bytes v (product vs)
@@ -203,20 +216,21 @@ module _ (D : Definitions) (X : Shape) (E : Definitions) (ps : Parts) (is : IsRe
         let same : b.value ≡ r.value = contents_one_value b.contents r.reads in
         all_read.unmet s p.values k l p.reads b.pointer (rw p.is at b.has) (record { at = q; pointee = one X; length = n; filled = w; reached = r; has = rw same at b.has }) b.hits
 
-    pub record_read_back : ReadsBack D bytes q (one X) n old new (product vs) keys
+    pub record_read_back : ReadsBack keeps D bytes q (one X) n old new (product vs) keys
     record_read_back = record {
       kept = all_read.kept;
       value = λ by. record { fills = fills_record by };
       shared = all_read.shared;
       unmet = unmet_record;
       closed = all_read.closed;
+      once = all_read.once;
     }
 
   -- in a contract's form
-  pub record_read : {T : Type 0} (old new : Entries) (meanings : T → Values) (keys : T → List Naming) (r : Result T Error) → IfOk r (λ t. PartsReadBack bytes q E ps 0 old new (meanings t) (keys t))
-      → IfOk r (λ t. ReadsBack D bytes q (one X) n old new (product (meanings t)) (keys t))
-  record_read old new meanings keys (Ok t) h = record_read_back old new (meanings t) (keys t) h
-  record_read old new meanings keys (Err e) h = tt
+  pub record_read : (keeps : Bool) {T : Type 0} (old new : Entries) (meanings : T → Values) (keys : T → List Naming) (r : Result T Error) → IfOk r (λ t. PartsReadBack keeps bytes q E ps 0 old new (meanings t) (keys t))
+      → IfOk r (λ t. ReadsBack keeps D bytes q (one X) n old new (product (meanings t)) (keys t))
+  record_read keeps old new meanings keys (Ok t) h = record_read_back old new (meanings t) (keys t) h
+  record_read keeps old new meanings keys (Err e) h = tt
 
   pub record_refuses : (told : Entries) (e : Error) → RefusesParts E bytes q ps 0 told e → RefusesReading D bytes q (one X) n told e
   record_refuses told e (inl memory) = inl memory

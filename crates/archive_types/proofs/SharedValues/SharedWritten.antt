@@ -125,7 +125,7 @@ module _ (D : Definitions) (P : Pointee) (n : ℕ) (ks : List Naming) (v : Value
             let grown = ap length (kept (Some t) done).0.0 in
             absurd (omega (arith, same, lower, grown, here))
 
-    pub byte_refused : (position : ℕ) (new : WriterState) (e : Error) → position ≡ length mid.bytes → position ≡ p → GoesOn old mid → GoesOn mid new → ExplainsRefusal 1 position mid.room mid.failures new.failures e
+    pub byte_refused : (position : ℕ) (new : WriterState) (e : Error) → position ≡ length mid.bytes → position ≡ p → GoesOn old mid → GoesOn mid new → ExplainsRefusal 1 position (length new.bytes) mid.room mid.failures new.failures e
         → IsRefused D (shared flavor P) all (shared_value key) old new e
     byte_refused position new e here there g more h =
         explains_later (Hinders D (shared flavor P) all (shared_value key) (cursor old)) _ (Reaches D (shared flavor P) all (shared_value key) (cursor old)) _ old mid new e g more (λ x. x) (λ m x. x)

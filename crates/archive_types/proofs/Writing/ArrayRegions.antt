@@ -52,7 +52,7 @@ module _ (D : Definitions) (X : Shape) (n : ℕ) where
 
     -- nor the zeros behind that
     pub array_padded : (ws : Values) (L : Layout) (position : ℕ) (old mid new : WriterState) (e : Error) → IsAlign L.align → HasLayout D X L → SerializedRun D X n ks vs ws old mid → GoesOn old mid
-        → position ≡ length mid.bytes → GoesOn mid new → ExplainsRefusal (padding L.align position) position mid.room mid.failures new.failures e → IsRegionRefused D (one (array n X)) 0 ks (list vs) old new e
+        → position ≡ length mid.bytes → GoesOn mid new → ExplainsRefusal (padding L.align position) position (length new.bytes) mid.room mid.failures new.failures e → IsRegionRefused D (one (array n X)) 0 ks (list vs) old new e
     array_padded ws L position old mid new e is layout h g here k refused =
         one_padded D (array n X) ks (list vs) (list ws) (array_layout n L) position old mid new e is (array_has_layout n D X L layout) (serialized_list D X n ks vs old mid ws h) g here k refused
 

@@ -21,7 +21,7 @@ module _ (D : Definitions) (X : Shape) (ks : List Naming) (v flat : Value) (L : 
 
   -- there is no room for the padding
   pub unpadded : (position : ℕ) (mid new : WriterState) (e : Error) → IsAlign L.align → HasLayout D X L → position ≡ length mid.bytes → GoesOn mid new
-      → ExplainsRefusal (padding L.align position) position mid.room mid.failures new.failures e → IsNotBoxed D X ks v flat mid new e
+      → ExplainsRefusal (padding L.align position) position (length new.bytes) mid.room mid.failures new.failures e → IsNotBoxed D X ks v flat mid new e
   unpadded position mid new e is layout at k refusal = record { since = λ old g h. box_refused D (one X) 0 ks v old new e (one_padded D X ks v flat L position old mid new e is layout h g at k refusal) }
 
   -- the region isn't written
@@ -38,7 +38,7 @@ put_there {low = low} pads puts at = record { low = low; pads = pads; at = at; p
 
 -- a refusal has the number of one of writing: of zeros in front, and of the region
 
-pub padding_number : (n position : ℕ) {mid new : WriterState} {e : Error} → position ≡ length mid.bytes → GoesOn mid new → ExplainsRefusal n position mid.room mid.failures new.failures e → IsOfWriting e
+pub padding_number : (n position : ℕ) {mid new : WriterState} {e : Error} → position ≡ length mid.bytes → GoesOn mid new → ExplainsRefusal n position (length new.bytes) mid.room mid.failures new.failures e → IsOfWriting e
 padding_number n position {mid = mid} {new = new} {e = e} at g refusal =
     explains_named (λ d. ⊥) (λ m. Unit {0}) mid new e (λ d h. absurd h) (explains_write (λ d. ⊥) (λ m. Unit {0}) n position mid new e at tt g refusal)
 

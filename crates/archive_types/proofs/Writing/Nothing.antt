@@ -1,5 +1,5 @@
 -- How a record of nothing is written and read back.
-use Rattle.std.proofs.Common.{◌≡◌, ℕ, ◌+◌, List, [], length, refl, ap, arith}
+use Rattle.std.proofs.Common.{◌≡◌, ℕ, ◌+◌, List, [], length, refl, ap, arith, Bool}
 use Rattle.archive_check.specs.Shape.{one, parts, no_part}
 use Rattle.archive_check.specs.Definitions.{Definitions, no_definition}
 use Rattle.archive_check.specs.Value.{Value, product, no_value, pointers}
@@ -37,7 +37,7 @@ no_value_there reads_no_part = refl
 empty_contents : (s : Schema) (bytes : List ℕ) (q n : ℕ) (v : Value) → Contents s bytes q (one (parts no_part)) n v → v ≡ product no_value
 empty_contents s bytes q n v (contents_one (reads_parts rs)) = ap (λ vs. product vs) (no_value_there rs)
 
-pub empty_product_read_back : (D : Definitions) (bytes : List ℕ) (q n : ℕ) (old new : Entries) → new ≡ old → ReadsBack D bytes q (one (parts no_part)) n old new (product no_value) []
+pub empty_product_read_back : {keeps : Bool} (D : Definitions) (bytes : List ℕ) (q n : ℕ) (old new : Entries) → new ≡ old → ReadsBack keeps D bytes q (one (parts no_part)) n old new (product no_value) []
 empty_product_read_back D bytes q n old new same = read_back D bytes q n old new same (one (parts no_part)) (product no_value)
     (record { fills = λ s v k l c. rw (empty_contents s bytes q n v c) (fills_product fills_no_value) })
     (λ s. bare D bytes q n old new same s (one (parts no_part)) (λ v c. ap pointers (empty_contents s bytes q n v c)))

@@ -43,7 +43,7 @@ pub region_hindered : (D : Definitions) (X : Shape) (L : Layout) (v : Value) (p 
 region_hindered D X L v p q reaches old new e here h = own_cause (inr (rw here at h))
 
 pub region_refused : (D : Definitions) (X : Shape) (L : Layout) (v : Value) (n p : ℕ) (old new : WriterState) (e : Error) → p ≡ length old.bytes → n ≡ L.size
-    → GoesOn old new → ExplainsRefusal n p old.room old.failures new.failures e
+    → GoesOn old new → ExplainsRefusal n p (length new.bytes) old.room old.failures new.failures e
     → Explains (HindersRegionAt D X L v (length old.bytes)) (λ m. m ≤ length old.bytes + L.size) old new e
 region_refused D X L v n p old new e here sized g h = explains_write _ _ n p old new e here (omega (arith, here, sized)) g h
 

@@ -244,7 +244,7 @@ module _ (D : Definitions) (X : Shape) (n : ℕ) (ks : List Naming) (vs : Values
 
   -- nor the zeros behind that
   pub run_padded : (ws : Values) (L : Layout) (position : ℕ) (old mid new : WriterState) (e : Error) → IsAlign L.align → HasLayout D X L → SerializedRun D X n ks vs ws old mid → GoesOn old mid → position ≡ length mid.bytes
-      → GoesOn mid new → ExplainsRefusal (padding L.align position) position mid.room mid.failures new.failures e → IsRegionRefused D (run X) n ks (list vs) old new e
+      → GoesOn mid new → ExplainsRefusal (padding L.align position) position (length new.bytes) mid.room mid.failures new.failures e → IsRegionRefused D (run X) n ks (list vs) old new e
   run_padded ws L position old mid new e is layout (serialized_run writes planned) g here k refused =
       explains_later (HindersRegion D (run X) n ks (list vs) (cursor old)) _ (RegionReaches D (run X) n ks (list vs) (cursor old)) _ old mid new e g k (λ x. x) (λ m x. x) (explains_write _ _ (padding L.align position) position mid new e here (λ below s names l m. (
       let q = planned below s names l m in

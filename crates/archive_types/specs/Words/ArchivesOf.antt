@@ -66,7 +66,7 @@ IsArchiveIn f bytes = IsArchive f.definitions bytes (root_in bytes f.layout) f.s
 -- this value was read back of it; why none was; and that where no reading can meet an open position, only what refuses the check does
 abbrev pub ReadsArchive : {M D T A R N C : Type 0} → FormatOf M → List ℕ → Entries.Ghosts D → Both (MutBor D) (MutBor D) → Archive.Ghosts T A R C N → T → Type 0
 ReadsArchive f bytes d b a t =
-    ReadsWhole f.definitions bytes (root_in bytes f.layout) f.shape (d.entry_of b.entry.now) (d.entry_of b.exit.now) (a.meaning t) (a.keys t)
+    ReadsWhole d.keeps f.definitions bytes (root_in bytes f.layout) f.shape (d.entry_of b.entry.now) (d.entry_of b.exit.now) (a.meaning t) (a.keys t)
 
 -- why no value is read back of these bytes
 abbrev pub RefusesArchive : {M D : Type 0} → FormatOf M → List ℕ → Entries.Ghosts D → Both (MutBor D) (MutBor D) → Error → Type 0

@@ -28,7 +28,7 @@ PartsUnowned g keys meanings v k w = ArePartsRefused g.definitions g.parts (keys
 
 -- the parts behind the offset `start` of what begins at p were read back as these; why they weren't
 abbrev pub ReadsParts : {P T D : Type 0} → CheckedParts.Ghosts P → List ℕ → ℕ → ℕ → Entries.Ghosts D → Both (MutBor D) (MutBor D) → (T → Values) → (T → List Naming) → T → Type 0
-ReadsParts g bytes p start d b meanings keys t = PartsReadBack bytes p g.definitions g.parts start (d.entry_of b.entry.now) (d.entry_of b.exit.now) (meanings t) (keys t)
+ReadsParts g bytes p start d b meanings keys t = PartsReadBack d.keeps bytes p g.definitions g.parts start (d.entry_of b.entry.now) (d.entry_of b.exit.now) (meanings t) (keys t)
 
 abbrev pub UnreadParts : {P D : Type 0} → CheckedParts.Ghosts P → List ℕ → ℕ → ℕ → Entries.Ghosts D → Both (MutBor D) (MutBor D) → Error → Type 0
 UnreadParts g bytes p start d b = RefusesParts g.definitions bytes p g.parts start (d.entry_of b.entry.now)

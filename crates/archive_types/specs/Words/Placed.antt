@@ -56,7 +56,8 @@ GrowsBy n k w = length (k.state w.exit.now).bytes ≡ length (k.state w.entry.no
 
 -- why a write of n bytes was refused, where the writer stood at its position
 abbrev pub WriteRefused : {S : Type 0} → ℕ → (S → ℕ) → Keys.Ghosts S → Both (MutBor S) (MutBor S) → Error → Type 0
-WriteRefused n position k w e = ExplainsRefusal n (position w.entry.now) (k.state w.entry.now).room (k.state w.entry.now).failures (k.state w.exit.now).failures e
+WriteRefused n position k w e =
+    ExplainsRefusal n (position w.entry.now) (length (k.state w.exit.now).bytes) (k.state w.entry.now).room (k.state w.entry.now).failures (k.state w.exit.now).failures e
 
 -- a pointer to such a pointee of n elements or bytes at t was appended, at the writer's position; why it wasn't
 abbrev pub Pointed : {S : Type 0} → Pointee → ℕ → ℕ → (S → ℕ) → Keys.Ghosts S → Both (MutBor S) (MutBor S) → Type 0

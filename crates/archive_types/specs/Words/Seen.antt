@@ -85,7 +85,7 @@ StandsBeside {g = g} {h = h} u v = StandsWith g.definitions v.bytes.now (view v.
 
 -- what the view shows was read back as this value, with these keys
 abbrev pub ReadsView : {T M D : Type 0} {g : ArchivePointee.Ghosts T M} → Ref T M g → Entries.Ghosts D → Both (MutBor D) (MutBor D) → Value → List Naming → Type 0
-ReadsView {g = g} v d b w keys = ReadsBack g.definitions v.bytes.now v.pos g.pointee v.len (d.entry_of b.entry.now) (d.entry_of b.exit.now) w keys
+ReadsView {g = g} v d b w keys = ReadsBack d.keeps g.definitions v.bytes.now v.pos g.pointee v.len (d.entry_of b.entry.now) (d.entry_of b.exit.now) w keys
 
 -- why it wasn't
 abbrev pub RefusesView : {T M D : Type 0} {g : ArchivePointee.Ghosts T M} → Ref T M g → Entries.Ghosts D → Both (MutBor D) (MutBor D) → Error → Type 0
@@ -98,7 +98,7 @@ IsPartOf g p = Viewed g.definitions p.bytes.now p.pos g.pointee p.len
 -- the part was read back as this value, with these keys
 abbrev pub ReadsPart : {T M D E : Type 0} → ArchivePointee.Ghosts T M → Both RawView E → Entries.Ghosts D → Both (MutBor D) (MutBor D) → Value → List Naming → Type 0
 ReadsPart g p d b w keys =
-    ReadsBack g.definitions p.entry.bytes.now p.entry.pos g.pointee p.entry.len (d.entry_of b.entry.now) (d.entry_of b.exit.now) w keys
+    ReadsBack d.keeps g.definitions p.entry.bytes.now p.entry.pos g.pointee p.entry.len (d.entry_of b.entry.now) (d.entry_of b.exit.now) w keys
 
 -- why it wasn't
 abbrev pub RefusesPart : {T M D E : Type 0} → ArchivePointee.Ghosts T M → Both RawView E → Entries.Ghosts D → Both (MutBor D) (MutBor D) → Error → Type 0

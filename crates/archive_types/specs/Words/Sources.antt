@@ -35,7 +35,7 @@ AreElementsOf f p = Viewed f.definitions p.bytes.now p.pos (run f.shape) p.len
 
 abbrev pub ReadsElements : {M T A R N C D E : Type 0} → FormatOf M → Both RawView E → Entries.Ghosts D → Both (MutBor D) (MutBor D) → Archive.Ghosts T A R C N → List T → Type 0
 ReadsElements f p d b a xs =
-    ReadsBack f.definitions p.entry.bytes.now p.entry.pos (run f.shape) p.entry.len (d.entry_of b.entry.now) (d.entry_of b.exit.now)
+    ReadsBack d.keeps f.definitions p.entry.bytes.now p.entry.pos (run f.shape) p.entry.len (d.entry_of b.entry.now) (d.entry_of b.exit.now)
     (list (each_meaning a.meaning xs)) (each_keys a.keys xs)
 
 abbrev pub RefusesElements : {M D E : Type 0} → FormatOf M → Both RawView E → Entries.Ghosts D → Both (MutBor D) (MutBor D) → Error → Type 0

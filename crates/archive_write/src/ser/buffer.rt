@@ -58,7 +58,8 @@ impl<'a> Keys for Buffer<'a> {
     ghost state = { λ b. record { bytes = take b.len b.bytes.now; room = Some (length b.bytes.now - b.len); failures = 0; states = no_keys } };
 }
 
-/// A write is refused with `BufferOverflow`, 8, exactly where the bytes don't fit, and then changes nothing. It takes no memory.
+/// A write fails with `BufferOverflow` exactly if the bytes don't fit, and then changes nothing. It
+/// takes no memory.
 impl<'a> Writer for Buffer<'a> {
     ghost takes_memory = { false };
 
@@ -68,7 +69,7 @@ impl<'a> Writer for Buffer<'a> {
         ensures written { OnOk result (HoldsMore self.old.len self.old.bytes.now self.new.len self.new.bytes.now bytes.now) }
         ensures kept { OnErr result (KeepsHeld self.old.len self.old.bytes.now self.new.len self.new.bytes.now) }
         ensures room { SpendsRest self.old.len self.old.bytes.now self.new.len self.new.bytes.now }
-        ensures refusal { IfErr result (ExplainsFull bytes.now self.old.len self.old.bytes.now) }
+        ensures refusal { IfErr result (ExplainsFull bytes.now self.old.len self.old.bytes.now self.new.len self.new.bytes.now) }
         ensures device { 0 ≤ 0 }
         ensures keys { KeepsKeys no_keys no_keys }
         ensures memory { IsErrOf result Error.OutOfMemory → IsTrue false }

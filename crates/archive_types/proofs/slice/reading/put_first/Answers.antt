@@ -14,7 +14,7 @@ deserialize_first-requires-clause-viewed g c = λ k below.
     rw size v
 
 pub returns-clause-read : goal.returns-clause-read
-returns-clause-read g c = λ k d told below.
+returns-clause-read g c = λ k d told keeps below.
     let b = c.args.bytes.now in
     let L = g.T.Portable.layout in
     let filled : length c.deserialize_first.new._items.items ≤ c.args.count = grind (arith, common_steps, c.deserialize_first.ensures.few) in
@@ -22,4 +22,4 @@ returns-clause-read g c = λ k d told below.
     let small : length b < 18446744073709551616 = omega (arith, c.if-prove.false) in
     let size : c.size.result ≡ L.size = step_is_size g.T.ArchivePointee.definitions b c.args.pos k g.T.Portable.shape L g.met.T.Portable.has_layout g.T.ArchivePointee.pointee
     g.met.T.Portable.is_one c.size.result v small c.size.ensures in
-    rw size at (c.deserialize_first.ensures.read k d told below)
+    rw size at (c.deserialize_first.ensures.read k d told keeps below)

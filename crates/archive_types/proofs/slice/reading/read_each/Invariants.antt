@@ -10,5 +10,5 @@ invariant-loop-index g l =
     (length l.items.items ≡ l.index)
     × (vec_len l.items ≡ l.index)
     × (l.count ≤ vec_capacity l.items)
-    × ((P : Pointee) (m : ℕ) → AreAllOf g.T.Portable.shape l.count P m → FirstElements g.T.ArchivePointee.definitions g.T.Portable.shape g.T.Portable.layout l.part.bytes.now l.part.pos P m
+    × ((P : Pointee) (m : ℕ) → AreAllOf g.T.Portable.shape l.count P m → FirstElements g.D.Entries.keeps g.T.ArchivePointee.definitions g.T.Portable.shape g.T.Portable.layout l.part.bytes.now l.part.pos P m
     g.U.Archive.meaning g.U.Archive.keys (g.D.Entries.entry_of l.fn.deserializer) (g.D.Entries.entry_of l.deserializer) l.items.items)
