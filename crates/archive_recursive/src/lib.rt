@@ -8,6 +8,7 @@ mod hollow;
 mod inner;
 mod naming;
 mod part_of;
+mod views;
 
 pub use before::{boxed, listed};
 pub use fields::{
@@ -20,3 +21,4 @@ pub use hollow::{BoxAt, VecAt};
 pub use inner::{serialize_inner_slice, serialize_part};
 pub use naming::{choice_of, define_name, record_of};
 pub use part_of::{part_of_record, part_of_variant, read_part, tag_of_choice};
+pub use views::{seal_of_field, seal_of_payload, tag_of_view, view_of_field, view_of_payload};

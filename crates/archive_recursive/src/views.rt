@@ -11,7 +11,7 @@ ghost use Rattle.archive_types.specs.Members.KnownParts.{KnowsAlso};
 ghost use Rattle.archive_types.specs.Payloads.{payload_in};
 ghost use Rattle.archive_types.specs.Words.Seen.{ShowsValueOf, tag_of};
 
-use crate::seal::Seal;
+use archive_core::seal::Seal;
 use archive_types::traits::{Choice, Portable, Record};
 use archive_types::view::Ref;
 
