@@ -59,7 +59,8 @@ class Source:
         formats.ghost("LeafLayout", "no_definition_reached")
         formats.ghost("Shape", "one", "parts", "part", "no_part", "choice", "variant", "no_variant")
         formats.ghost("Seen", "IsPartOf", "RefusesPart")
-        formats.ghost("Sources", "Read", "ResolvedAs", "HinderedAs")
+        formats.ghost("CallOutcomes", "ResolvesAs")
+        formats.ghost("Sources", "Read")
         formats.ghost("Writing", "ZeroedPlace")
 
 
@@ -173,9 +174,10 @@ def resolve_head(source):
     ) -> Result<(), Error>
         requires zeroed {{ ZeroedPlace {source.size} place.pos place.bytes.now }}
         requires same_value {{ ⟦<Self as Archive>⟧.belongs self.now resolver }}
-        ensures resolved {{ OnOk result (ResolvedAs ⟦<Self as Archive>⟧ ⟦<Self::Archived as Portable>⟧ place self.now resolver) }}
-        ensures same_length {{ length place.exit.0.now ≡ length place.entry.bytes.now }}
-        ensures refused {{ IfErr result (HinderedAs ⟦<Self as Archive>⟧ ⟦<Self::Archived as Portable>⟧ place self.now resolver) }}
+        ensures {{
+            ResolvesAs ⟦<Self::Archived as Portable>⟧ place
+                (⟦<Self as Archive>⟧.flat self.now resolver) result
+        }}
 """
 
 

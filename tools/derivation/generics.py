@@ -64,7 +64,7 @@ def text(formats, declaration):
     formats.use("archive_core::view", "Ref")
     formats.ghost("std.specs.Prelude", "◌≡◌", "◌+◌", "length", "refl", "OnOk", "IfErr")
     formats.ghost("Value", "product")
-    formats.ghost("Sources", "ResolvedAs", "HinderedAs")
+    formats.ghost("CallOutcomes", "ResolvesAs")
     formats.ghost("Writing", "ZeroedPlace")
     return "\n".join([format_of(made), fields(made), archive(made), serialize(made), region(made), read(made), views(made), seals(made)])
 

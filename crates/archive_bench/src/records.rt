@@ -6,8 +6,8 @@ ghost use Rattle.archive_core.specs.PartsLayout.{is_named_record};
 ghost use Rattle.archive_core.specs.Value.{product};
 ghost use Rattle.archive_core.specs.Keyed.{nothing_keyed, part_keyed, record_keyed};
 ghost use Rattle.archive_core.specs.PartsPlanned.{no_part_planned, part_planned, record_planned};
-ghost use Rattle.archive_core.specs.Sources.{ResolvedAs, HinderedAs};
 ghost use Rattle.archive_core.specs.Writing.{ZeroedPlace};
+ghost use Rattle.archive_core.specs.CallOutcomes.{ResolvesAs};
 
 use archive_core::error::Error;
 use archive_core::own::{ArchivedRecord, Field, FromParts, HasField, NamedRecord};
@@ -104,9 +104,8 @@ impl<
     ) -> Result<(), Error>
         requires zeroed { ZeroedPlace ⟦<Self::Archived as Portable>⟧.layout.size place.pos place.bytes.now }
         requires same_value { ⟦<Self as Archive>⟧.belongs self.now resolver }
-        ensures resolved { OnOk result (ResolvedAs ⟦<Self as Archive>⟧ ⟦<Self::Archived as Portable>⟧ place self.now resolver) }
-        ensures same_length { length place.exit.0.now ≡ length place.entry.bytes.now }
-        ensures refused { IfErr result (HinderedAs ⟦<Self as Archive>⟧ ⟦<Self::Archived as Portable>⟧ place self.now resolver) }
+        ensures { ResolvesAs ⟦<Self::Archived as Portable>⟧ place
+            (⟦<Self as Archive>⟧.flat self.now resolver) result }
     {
         let Place { bytes, pos, .. } = place;
         resolve_record::<Self, Fields<A, B, C>, ArchivedRecord<F>>(

@@ -7,7 +7,7 @@ ghost use Rattle.archive_check.specs.context.Pushes.{FewPushed};
 ghost use Rattle.archive_check.specs.Archives.{IsAnswerable, Answers, root_in};
 ghost use Rattle.archive_check.specs.declared.format.error.Error.TheVariants.{OutOfMemory};
 ghost use Rattle.archive_check.specs.Shape.{one};
-ghost use Rattle.archive_types.specs.Words.ArchivesOf.{Leaves, LeavesOne, LeavesIn, IsArchiveOf, NoArchiveOf, EndsWithNone, IsArchiveIn, ReadsArchive, RefusesArchive, AsCheckIfNeverOpen, LacksSchema, AnswersRoot, WholeRefused};
+ghost use Rattle.archive_core.specs.WholeArchives.{AppendsArchive, AppendsTaken, MakesArchive, ReadsArchive, LacksSchema, AnswersRoot};
 ghost use Rattle.archive_types.specs.Causes.{IsRegionRefused};
 ghost use Rattle.archive_types.specs.Plans.{unshared};
 ghost use Rattle.archive_types.specs.Words.Seen.{ReadsView, RefusesView};
@@ -55,9 +55,8 @@ fn serialize_whole<
     A: Allocator + Copy + Drop,
     T: Serialize<HighSerializer<W, A>>,
 >(alloc: Global, resolvers: A, value: &T, writer: W) -> (W, Result<usize, Error>)
-    ensures archived { IfOk result.1 (Leaves T.Archive T.Archived.Portable value.now W.Keys writer result.0) }
-    ensures goes_on { GoesOn (unshared (W.state writer)) (unshared (W.state result.0)) }
-    ensures refused { IfErr result.1 (WholeRefused T.Archive T.Archived.Portable value.now (W.state writer) (W.state result.0)) }
+    ensures { AppendsArchive T.Archive T.Archived.Portable value.now (W.state writer) (W.state result.0)
+        result.1 }
 {
     let mut serializer = Serializer::new(writer, resolvers, Share::new(alloc));
     let root = serialize_one(value, &mut serializer);
@@ -79,9 +78,7 @@ pub fn to_bytes_in<W: Writer + Drop, T: Serialize<HighSerializer<W, Global>>>(
     value: &T,
     writer: W,
 ) -> Result<W, Error>
-    ensures archived { IfOk result (LeavesOne T.Archive T.Archived.Portable value.now W.Keys writer) }
-    ensures goes_on { IfOk result (λ w. GoesOn (unshared (W.state writer)) (unshared (W.state w))) }
-    ensures refused { IfErr result (EndsWithNone T.Archive T.Archived.Portable value.now W.Keys writer) }
+    ensures { AppendsTaken T.Archive T.Archived.Portable value.now W.Keys writer result }
 {
     to_bytes_in_with_alloc(alloc, value, writer, alloc)
 }
@@ -92,9 +89,8 @@ fn append_whole<W: Writer + Drop, T: Serialize<HighSerializer<W, Global>>>(
     writer: W,
     source: (Global, &T),
 ) -> (W, Result<usize, Error>)
-    ensures archived { IfOk result.1 (Leaves T.Archive T.Archived.Portable source.entry.1.now W.Keys writer result.0) }
-    ensures goes_on { GoesOn (unshared (W.state writer)) (unshared (W.state result.0)) }
-    ensures refused { IfErr result.1 (WholeRefused T.Archive T.Archived.Portable source.entry.1.now (W.state writer) (W.state result.0)) }
+    ensures { AppendsArchive T.Archive T.Archived.Portable source.entry.1.now (W.state writer)
+        (W.state result.0) result.1 }
 {
     let (alloc, value) = source;
     serialize_whole(alloc, alloc, value, writer)
@@ -110,9 +106,8 @@ pub fn to_bytes_into<W: Writer + Drop, T: Serialize<HighSerializer<W, Global>>>(
     value: &T,
     writer: &mut W,
 ) -> Result<usize, Error>
-    ensures archived { IfOk result (LeavesIn T.Archive T.Archived.Portable value.now W.Keys writer) }
-    ensures goes_on { GoesOn (unshared (W.state writer.old)) (unshared (W.state writer.new)) }
-    ensures refused { IfErr result (WholeRefused T.Archive T.Archived.Portable value.now (W.state writer.old) (W.state writer.new)) }
+    ensures { AppendsArchive T.Archive T.Archived.Portable value.now (W.state writer.old)
+        (W.state writer.new) result }
 {
     replace_with(writer, (alloc, value), append_whole::<W, T>)
 }
@@ -128,8 +123,7 @@ pub fn to_bytes<T: Serialize<HighSerializer<Vec<u8>, Global>>>(
     alloc: Global,
     value: &T,
 ) -> Result<Vec<u8>, Error>
-    ensures archived { IfOk result (λ bytes. IsArchiveOf T.Archive T.Archived.Portable value.now bytes.items) }
-    ensures refused { IfErr result (NoArchiveOf T.Archive T.Archived.Portable value.now) }
+    ensures { MakesArchive T.Archive T.Archived.Portable value.now (λ bytes. bytes.items) result }
 {
     to_bytes_with_alloc(alloc, value, alloc)
 }
@@ -259,10 +253,7 @@ pub fn from_bytes<T: Archive, D: Entries>(
 ) -> Result<T, Error>
 where
     T::Archived: Deserialize<T, D>,
-    ensures accepted { OnOk result (IsArchiveIn T.Archived.Portable bytes.now) }
-    ensures read { IfOk result (ReadsArchive T.Archived.Portable bytes.now D.Entries deserializer T.Archive) }
-    ensures refused { IfErr result (RefusesArchive T.Archived.Portable bytes.now D.Entries deserializer) }
-    ensures never_open { AsCheckIfNeverOpen T.Archived.Portable bytes.now D.Entries deserializer result }
+    ensures { ReadsArchive T.Archived.Portable bytes.now D.Entries deserializer T.Archive result }
 {
     let root = access::<T::Archived>(alloc, bytes)?;
     <T::Archived as Deserialize<T, D>>::deserialize(alloc, root, deserializer)

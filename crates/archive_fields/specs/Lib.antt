@@ -8,10 +8,9 @@ pub use Rattle.archive_check.specs.Shape
 pub use Rattle.archive_check.specs.Value
 pub use Rattle.archive_types.specs.Causes
 pub use Rattle.archive_types.specs.Fields
-pub use Rattle.archive_types.specs.Words.KindsWritten
 pub use Rattle.archive_types.specs.Parts
 pub use Rattle.archive_types.specs.Payloads
-pub use Rattle.archive_types.specs.Words.Placed
+pub use Rattle.archive_types.specs.Outcomes
 pub use Rattle.archive_types.specs.Plans
 pub use Rattle.archive_types.specs.Words.Seen
 pub use Rattle.archive_types.specs.Writing

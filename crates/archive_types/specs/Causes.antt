@@ -51,27 +51,27 @@ pub data IsOfWriting : Error → Type 0 where
 
 -- a Y that says w lies at an offset in an X that says v
 mutual
-  pub data PartOf (s : Schema) : Shape → Value → ℕ → Shape → Value → Type 0 where
-    part_itself : {X : Shape} {v : Value} → PartOf s X v 0 X v
+  pub data ValuePart (s : Schema) : Shape → Value → ℕ → Shape → Value → Type 0 where
+    part_itself : {X : Shape} {v : Value} → ValuePart s X v 0 X v
     part_of_parts : {ps : Parts} {vs : Values} {o : ℕ} {Y : Shape} {w : Value}
         → PartOfParts s 0 ps vs o Y w
-        → PartOf s (parts ps) (product vs) o Y w
+        → ValuePart s (parts ps) (product vs) o Y w
     part_of_choice : {name : Name} {variants : Variants} {tag : ℕ} {ps : Parts} {vs : Values} {o : ℕ} {Y : Shape} {w : Value}
         → variant_at variants tag ≡ Some ps
         → PartOfParts s 1 ps vs o Y w
-        → PartOf s (choice name variants) (case tag vs) o Y w
+        → ValuePart s (choice name variants) (case tag vs) o Y w
     part_of_array : {n : ℕ} {X : Shape} {vs : Values} {o : ℕ} {Y : Shape} {w : Value}
         → PartOfRun s n X vs o Y w
-        → PartOf s (array n X) (list vs) o Y w
+        → ValuePart s (array n X) (list vs) o Y w
     part_of_named : {name : Name} {X : Shape} {v : Value} {o : ℕ} {Y : Shape} {w : Value}
         → definition s.table name ≡ Some X
-        → PartOf s X v o Y w
-        → PartOf s (named name) v o Y w
+        → ValuePart s X v o Y w
+        → ValuePart s (named name) v o Y w
 
   -- of parts that are laid out one after another from an offset on
   pub data PartOfParts (s : Schema) : ℕ → Parts → Values → ℕ → Shape → Value → Type 0 where
     in_first_part : {at : ℕ} {X : Shape} {ps : Parts} {v : Value} {vs : Values} {o : ℕ} {Y : Shape} {w : Value}
-        → PartOf s X v o Y w
+        → ValuePart s X v o Y w
         → PartOfParts s at (part X ps) (value v vs) (up at (align_of s.layouts X) + o) Y w
     in_later_part : {at : ℕ} {X : Shape} {ps : Parts} {v : Value} {vs : Values} {o : ℕ} {Y : Shape} {w : Value}
         → PartOfParts s (up at (align_of s.layouts X) + size_of s.layouts X) ps vs o Y w
@@ -80,7 +80,7 @@ mutual
   -- of elements
   pub data PartOfRun (s : Schema) : ℕ → Shape → Values → ℕ → Shape → Value → Type 0 where
     in_first_element : {n : ℕ} {X : Shape} {v : Value} {vs : Values} {o : ℕ} {Y : Shape} {w : Value}
-        → PartOf s X v o Y w
+        → ValuePart s X v o Y w
         → PartOfRun s (suc n) X (value v vs) o Y w
     in_later_element : {n : ℕ} {X : Shape} {v : Value} {vs : Values} {o : ℕ} {Y : Shape} {w : Value}
         → PartOfRun s n X vs o Y w
@@ -88,7 +88,7 @@ mutual
 
 -- a Y that says w lies at an offset in a pointee that says v
 pub data PartOfPointee (s : Schema) : Pointee → ℕ → Value → ℕ → Shape → Value → Type 0 where
-  part_of_one : {X : Shape} {v : Value} {o : ℕ} {Y : Shape} {w : Value} → PartOf s X v o Y w → PartOfPointee s (one X) 0 v o Y w
+  part_of_one : {X : Shape} {v : Value} {o : ℕ} {Y : Shape} {w : Value} → ValuePart s X v o Y w → PartOfPointee s (one X) 0 v o Y w
   part_of_run : {n : ℕ} {X : Shape} {vs : Values} {o : ℕ} {Y : Shape} {w : Value} → PartOfRun s n X vs o Y w → PartOfPointee s (run X) n (list vs) o Y w
 
 -- the part is an owner, and has this pointer
@@ -147,7 +147,7 @@ HindersSome s C e = (t : Step) × Contains C t × HindersStep s t e
 -- What hinders the writing of what v owns, as an X: a step of its plan, or a part of it, wherever it will lie.
 pub record Hinders (D : Definitions) (X : Shape) (keys : List Naming) (v : Value) (a : Cursor) (e : Error) : Type 0 where
   pub named : IsOwnCause e
-  pub cause : Foreseen D keys a (λ s names. PlanOf s names X v a (λ flat C b. HindersSome s C e ⊎ ((o : ℕ) × (Y : Shape) × (w : Value) × PartOf s X flat o Y w × HindersPart Y w e)))
+  pub cause : Foreseen D keys a (λ s names. PlanOf s names X v a (λ flat C b. HindersSome s C e ⊎ ((o : ℕ) × (Y : Shape) × (w : Value) × ValuePart s X flat o Y w × HindersPart Y w e)))
 
 -- What hinders the writing of a pointee with its region: a step of its plan.
 pub record HindersRegion (D : Definitions) (P : Pointee) (n : ℕ) (keys : List Naming) (v : Value) (a : Cursor) (e : Error) : Type 0 where
@@ -157,15 +157,15 @@ pub record HindersRegion (D : Definitions) (P : Pointee) (n : ℕ) (keys : List 
 -- What hinders the resolving of a value at p, of which `flat` is to be read there: a part of it.
 pub record HindersAt (D : Definitions) (X : Shape) (flat : Value) (p : ℕ) (e : Error) : Type 0 where
   pub named : IsOwnCause e
-  pub cause : (s : Schema) → Knows s D → (o : ℕ) × (Y : Shape) × (w : Value) × PartOf s X flat o Y w × HindersPartAt Y (p + o) w e
+  pub cause : (s : Schema) → Knows s D → (o : ℕ) × (Y : Shape) × (w : Value) × ValuePart s X flat o Y w × HindersPartAt Y (p + o) w e
 
 -- and of its own region there: its end is above `usize::MAX`, too
 abbrev pub HindersRegionAt : Definitions → Shape → Layout → Value → ℕ → Error → Type 0
 HindersRegionAt D X L flat p e = ((e ≡ LayoutTooLarge) × (2 ^ 64 ≤ p + L.size)) ⊎ HindersAt D X flat p e
 
 -- the plan goes on to n at least
-abbrev pub Reaches : Definitions → Shape → List Naming → Value → Cursor → ℕ → Type 0
-Reaches D X keys v a n = Foreseen D keys a (λ s names. PlanOf s names X v a (λ flat C b. n ≤ b.position))
+abbrev pub PlanReaches : Definitions → Shape → List Naming → Value → Cursor → ℕ → Type 0
+PlanReaches D X keys v a n = Foreseen D keys a (λ s names. PlanOf s names X v a (λ flat C b. n ≤ b.position))
 
 -- the plan of a pointee with its region goes on to m at least
 abbrev pub RegionReaches : Definitions → Pointee → ℕ → List Naming → Value → Cursor → ℕ → Type 0
@@ -173,7 +173,7 @@ RegionReaches D P n keys v a m = Foreseen D keys a (λ s names. RegionPlan s nam
 
 -- why what v owns, as an X, wasn't written
 abbrev pub IsRefused : Definitions → Shape → List Naming → Value → WriterState → WriterState → Error → Type 0
-IsRefused D X keys v old new = Explains (Hinders D X keys v (cursor old)) (Reaches D X keys v (cursor old)) old new
+IsRefused D X keys v old new = Explains (Hinders D X keys v (cursor old)) (PlanReaches D X keys v (cursor old)) old new
 
 -- why a pointee with its region wasn't written
 abbrev pub IsRegionRefused : Definitions → Pointee → ℕ → List Naming → Value → WriterState → WriterState → Error → Type 0

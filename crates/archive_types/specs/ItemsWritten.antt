@@ -3,20 +3,20 @@ use denote.Triple.Both.{Both}
 use denote.Ref.{MutBor}
 use Rattle.std.specs.Prelude.{◌≡◌, ℕ, ◌+◌, ◌<◌, ◌≤◌, List, [], ◌∷◌, ◌++◌, length, Option, Some, Contains}
 use Rattle.std.specs.Iterator.{Yields, Drains}
-use Rattle.archive_check.specs.Shape.{Flavor, Shape}
+use Rattle.archive_check.specs.Shape.{Flavor, Shape, vec}
 use Rattle.archive_check.specs.Layout.{Layout}
 use Rattle.archive_check.specs.Definitions.{Definitions}
-use Rattle.archive_check.specs.Value.{Pointer, Value, pointers}
+use Rattle.archive_check.specs.Value.{Pointer, Value, list, pointers}
 use Rattle.archive_check.specs.WriterState.{WriterState, Pads}
 use Rattle.archive_check.specs.declared.format.error.Error.{Error}
 use Rattle.archive_check.specs.declared.format.error.Error.TheVariants.{PositionTooLarge, LengthTooLarge, ItemWrote}
 use Rattle.archive_check.specs.declared.format.traits.Keys as Keys
 use Rattle.archive_write.specs.Written.{padding, ExplainsRefusal}
 use Rattle.archive_types.specs.Causes.{Explains, HindersRegionAt, IsRefused}
-use Rattle.archive_types.specs.Words.KindsWritten.{VecSerialized}
 use Rattle.archive_check.specs.Words.Formats.{FormatOf}
 use Rattle.archive_types.specs.Plans.{Serialized}
-use Rattle.archive_types.specs.Writing.{Naming, Puts}
+use Rattle.archive_types.specs.Runs.{each_keys, each_meaning}
+use Rattle.archive_types.specs.Writing.{Naming, Puts, vec_flat}
 use Rattle.archive_types.specs.declared.traits.Archive as Archive
 
 -- each of the pointers is shared
@@ -75,7 +75,8 @@ ItemUnput a f x k w = ItemRefused f.definitions f.shape f.layout a.keys a.meanin
 abbrev pub ItemsStored : {I T A R M C S : Type 0} → (I → Option T → I → Type 0) → I → Archive.Ghosts T A R C M → FormatOf M → Keys.Ghosts S → Both (MutBor S) (MutBor S) → ℕ → Type 0
 ItemsStored {T = T} steps s a f k w t = (xs : List T) × Drains steps s xs × (length xs ≤ 4294967295)
     × ItemsLaid f.definitions f.shape f.layout a.keys a.meaning a.flat a.belongs xs t (k.state w.entry.now) (k.state w.exit.now)
-    × (OwnNoRegion a.flat a.belongs xs → VecSerialized a.keys a.meaning f xs k w t)
+    × (OwnNoRegion a.flat a.belongs xs →
+    Serialized f.definitions (vec f.shape) (each_keys a.keys xs) (list (each_meaning a.meaning xs)) (vec_flat f.shape (length xs) t) (k.state w.entry.now) (k.state w.exit.now))
 
 abbrev pub ItemsUnstored : {I T A R M C S : Type 0} → (I → Option T → I → Type 0) → I → Archive.Ghosts T A R C M → FormatOf M → Keys.Ghosts S → Both (MutBor S) (MutBor S) → Error → Type 0
 ItemsUnstored {I = I} steps s a f k w =

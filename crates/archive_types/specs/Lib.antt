@@ -23,6 +23,8 @@ pub mod Copies
 pub mod ItemsWritten
 pub mod SaidOrder
 pub mod MeantOrder
+pub mod Outcomes
+pub mod SourceOutcomes
 pub use Rattle.archive_check.specs.CleanRegions
 pub use Rattle.archive_check.specs.Definitions
 pub use Rattle.archive_check.specs.Entries

@@ -8,7 +8,7 @@ use Rattle.archive_check.specs.CleanRegions.{Occurs, IsZeroed, CleanParts}
 use Rattle.archive_check.specs.WriterState.{WriterState}
 use Rattle.archive_check.specs.declared.format.error.Error.{Error}
 use Rattle.archive_types.specs.Writing.{NameMap, Naming, IsKeyed, WritesAll}
-use Rattle.archive_types.specs.Plans.{Cursor, cursor, IsAt, Step, PlansParts, Whatever, Foreseen}
+use Rattle.archive_types.specs.Plans.{Cursor, cursor, StandsAt, Step, PlansParts, Whatever, Foreseen}
 use Rattle.archive_types.specs.Causes.{Explains, PartOfParts, HindersPart, HindersPartAt, HindersSome, IsOwnCause}
 
 -- a plan of values one after another, of which this holds
@@ -33,7 +33,7 @@ pub record AreKeyed {T : Type 0} (keys : T → List Naming) (meanings : T → Va
 
 -- Values one after another were serialized, as planned.
 pub data SerializedParts (D : Definitions) (ps : Parts) (keys : List Naming) (vs flats : Values) (old new : WriterState) : Type 0 where
-  serialized_parts : WritesAll D old new keys flats vs → Foreseen D keys (cursor old) (λ s names. PartsPlan s names ps vs (cursor old) (λ ws C b. (ws ≡ flats) × IsAt b new))
+  serialized_parts : WritesAll D old new keys flats vs → Foreseen D keys (cursor old) (λ s names. PartsPlan s names ps vs (cursor old) (λ ws C b. (ws ≡ flats) × StandsAt b new))
       → SerializedParts D ps keys vs flats old new
 
 -- What hinders that: a step of the plan, or a part of one of them, wherever they will lie.

@@ -30,7 +30,7 @@ abbrev pub at_start : Cursor
 at_start = record { position = 0; states = no_keys }
 
 -- the writer stands there
-pub record IsAt (c : Cursor) (w : WriterState) : Type 0 where
+pub record StandsAt (c : Cursor) (w : WriterState) : Type 0 where
   pub position : length w.bytes ≡ c.position
   pub keys : (k : ℕ) → w.states k ≡ c.states k
 
@@ -171,7 +171,7 @@ HasRegionPlan D P n keys v = (a : Cursor) → Whatever D keys (λ s names. Regio
 
 -- It went from a as planned: `flat` is what will be read, and the writer stands where the plan ends.
 abbrev pub GoesAsPlanned : Definitions → Shape → List Naming → Value → Cursor → Value → WriterState → Type 0
-GoesAsPlanned D X keys v a flat new = Foreseen D keys a (λ s names. PlanOf s names X v a (λ w C b. (w ≡ flat) × IsAt b new))
+GoesAsPlanned D X keys v a flat new = Foreseen D keys a (λ s names. PlanOf s names X v a (λ w C b. (w ≡ flat) × StandsAt b new))
 
 -- the same of a pointee with its region, which stands at p
 abbrev pub LiesAsPlanned : Definitions → Pointee → ℕ → List Naming → Value → Cursor → ℕ → (Cursor → Type 0) → Type 0
@@ -183,9 +183,9 @@ pub data Serialized (D : Definitions) (X : Shape) (keys : List Naming) (v flat :
 
 -- the same of a pointee with its region, which stands at p
 pub data SerializedRegion (D : Definitions) (P : Pointee) (n : ℕ) (keys : List Naming) (v : Value) (p : ℕ) (old new : WriterState) : Type 0 where
-  serialized_region : LaysOut D old new keys p P n v → LiesAsPlanned D P n keys v (cursor old) p (λ c. IsAt c new) → SerializedRegion D P n keys v p old new
+  serialized_region : LaysOut D old new keys p P n v → LiesAsPlanned D P n keys v (cursor old) p (λ c. StandsAt c new) → SerializedRegion D P n keys v p old new
 
 -- the same under an unknown key, which is pending meanwhile, and finished there in the end
 pub data SerializedShared (D : Definitions) (P : Pointee) (n : ℕ) (key : ℕ) (keys : List Naming) (v : Value) (p : ℕ) (old new : WriterState) : Type 0 where
-  serialized_shared : LaysOutShared D old new key keys p P n v → LiesAsPlanned D P n keys v (begun (cursor old) key) p (λ c. IsAt (ended c key p) new)
+  serialized_shared : LaysOutShared D old new key keys p P n v → LiesAsPlanned D P n keys v (begun (cursor old) key) p (λ c. StandsAt (ended c key p) new)
       → SerializedShared D P n key keys v p old new

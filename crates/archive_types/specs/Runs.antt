@@ -10,7 +10,7 @@ use Rattle.archive_check.specs.WriterState.{WriterState}
 use Rattle.archive_check.specs.declared.format.error.Error.{Error}
 use Rattle.archive_check.specs.declared.format.error.Error.TheVariants.{LayoutTooLarge}
 use Rattle.archive_types.specs.Writing.{NameMap, Naming, WritesAll}
-use Rattle.archive_types.specs.Plans.{Cursor, cursor, IsAt, Step, PlansRun, Whatever, Foreseen}
+use Rattle.archive_types.specs.Plans.{Cursor, cursor, StandsAt, Step, PlansRun, Whatever, Foreseen}
 use Rattle.archive_types.specs.Causes.{Explains, IsOwnCause, PartOfRun, HindersPart, HindersPartAt, HindersSome}
 
 -- what each of the values means
@@ -50,7 +50,7 @@ HasRunPlan D X n keys vs = (a : Cursor) → Whatever D keys (λ s names. RunPlan
 
 -- Elements were serialized one after another, as planned. `flats` are the values as they will be read.
 pub data SerializedRun (D : Definitions) (X : Shape) (n : ℕ) (keys : List Naming) (vs flats : Values) (old new : WriterState) : Type 0 where
-  serialized_run : WritesAll D old new keys flats vs → Foreseen D keys (cursor old) (λ s names. RunPlan s names n X vs (cursor old) (λ ws C b. (ws ≡ flats) × IsAt b new))
+  serialized_run : WritesAll D old new keys flats vs → Foreseen D keys (cursor old) (λ s names. RunPlan s names n X vs (cursor old) (λ ws C b. (ws ≡ flats) × StandsAt b new))
       → SerializedRun D X n keys vs flats old new
 
 -- What hinders the writing of what elements own: a step of its plan, or a part of one of them, wherever it will lie.

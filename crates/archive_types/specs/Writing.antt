@@ -2,10 +2,10 @@
 use Rattle.std.specs.Prelude.{◌≡◌, ◌⊎◌, ℕ, ◌+◌, ◌<◌, ◌≤◌, ◌^◌, pos, List, [], ◌∷◌, ◌++◌, length, Option, Some, None, Contains}
 use Rattle.std.specs.Ordering.{nat_cmp}
 use Rattle.std.specs.FinMap.{FinMap, get}
-use Rattle.archive_check.specs.Shape.{Flavor, Shape, Pointee}
+use Rattle.archive_check.specs.Shape.{Flavor, Shape, Pointee, run}
 use Rattle.archive_check.specs.Layout.{Layout, up}
 use Rattle.archive_check.specs.Definitions.{Definitions, Knows, HasLayout}
-use Rattle.archive_check.specs.Value.{Pointer, Value, Values, pointers, all_pointers}
+use Rattle.archive_check.specs.Value.{Pointer, Value, Values, box, hole, pointers, all_pointers}
 use Rattle.archive_check.specs.Reads.{Schema, Reads}
 use Rattle.archive_check.specs.Tour.{Region, Contents, Entry, Seen, Tour, pointee_size, pointee_align}
 use Rattle.archive_check.specs.Denotes.{Meaning, Denotes, Same, Fills, FillsAll, rename, rename_all}
@@ -106,7 +106,7 @@ pub record Appends (w : World) (start stop : ℕ) (states : KeyStates) (pending 
   pub found : (t : ℕ) (e : Entry) → get last t ≡ Some e → (get seen t ≡ Some e) ⊎ Found w states t e
 
 -- Known keys keep their states. New ones were finished from start on and before stop, each at a position of its own.
-pub record Finishes (start stop : ℕ) (old new : KeyStates) : Type 0 where
+pub record FinishesKeys (start stop : ℕ) (old new : KeyStates) : Type 0 where
   pub kept : (k : ℕ) (x : Option ℕ) → old k ≡ Some x → new k ≡ Some x
   pub settled : (k : ℕ) (x : Option ℕ) → old k ≡ None → new k ≡ Some x → (t : ℕ) × (x ≡ Some t) × (start ≤ t) × (t < stop)
   pub apart : (k l t : ℕ) → old k ≡ None → old l ≡ None → new k ≡ Some (Some t) → new l ≡ Some (Some t) → k ≡ l
@@ -115,7 +115,7 @@ pub record Finishes (start stop : ℕ) (old new : KeyStates) : Type 0 where
 pub record Writes (definitions : Definitions) (old new : WriterState) (keys : List Naming) (flat value : Value) : Type 0 where
   pub added : List ℕ
   pub grown : new.bytes ≡ old.bytes ++ added
-  pub states : Finishes (length old.bytes) (length new.bytes) old.states new.states
+  pub states : FinishesKeys (length old.bytes) (length new.bytes) old.states new.states
   pub finished : AreFinished new.states value
   pub appends : (w : World) (pending : List ℕ) (seen : Seen) → Covers w definitions new.bytes new.states keys
       → Known w old.states (length old.bytes) seen pending → Unseen seen (length old.bytes) (length new.bytes)
@@ -126,7 +126,7 @@ pub record Writes (definitions : Definitions) (old new : WriterState) (keys : Li
 pub record WritesAll (definitions : Definitions) (old new : WriterState) (keys : List Naming) (flats values : Values) : Type 0 where
   pub added : List ℕ
   pub grown : new.bytes ≡ old.bytes ++ added
-  pub states : Finishes (length old.bytes) (length new.bytes) old.states new.states
+  pub states : FinishesKeys (length old.bytes) (length new.bytes) old.states new.states
   pub finished : AllFinished new.states values
   pub appends : (w : World) (pending : List ℕ) (seen : Seen) → Covers w definitions new.bytes new.states keys
       → Known w old.states (length old.bytes) seen pending → Unseen seen (length old.bytes) (length new.bytes)
@@ -175,6 +175,13 @@ pub record Archives (definitions : Definitions) (old new : List ℕ) (root : ℕ
 abbrev pub to_pointee : ℕ → Pointee → ℕ → Pointer
 to_pointee t P n = record { target = pos t; sharing = None; pointee = P; length = n }
 
+-- what a box of a pointee of n elements or bytes at t reads as, and a vector of n elements there
+abbrev pub box_flat : Pointee → ℕ → ℕ → Value
+box_flat P n t = box (hole (to_pointee t P n))
+
+abbrev pub vec_flat : Shape → ℕ → ℕ → Value
+vec_flat X n t = hole (to_pointee t (run X) n)
+
 -- What a pointee owns was appended, and then its own region, which stands at p.
 pub record LaysOut (definitions : Definitions) (old new : WriterState) (keys : List Naming) (p : ℕ) (P : Pointee) (n : ℕ) (value : Value) : Type 0 where
   pub mid : WriterState
@@ -194,6 +201,10 @@ pub record LaysOut (definitions : Definitions) (old new : WriterState) (keys : L
 -- the pointer to a shared pointee
 abbrev pub to_shared : ℕ → Flavor → Pointee → ℕ → Pointer
 to_shared t flavor P n = record { target = pos t; sharing = Some flavor; pointee = P; length = n }
+
+-- what a pointer to one reads as, which stands at t
+abbrev pub shared_flat : Flavor → Pointee → ℕ → ℕ → Value
+shared_flat flavor P n t = hole (to_shared t flavor P n)
 
 -- What an unknown key names was laid out at p, the key pending meanwhile and finished there in the end.
 pub record LaysOutShared (definitions : Definitions) (old new : WriterState) (key : ℕ) (keys : List Naming) (p : ℕ) (P : Pointee) (n : ℕ) (value : Value) : Type 0 where

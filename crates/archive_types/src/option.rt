@@ -7,12 +7,12 @@ ghost use Rattle.archive_check.specs.Entries.{ReadsBack, RefusesReading};
 ghost use Rattle.archive_enum.specs.Choices.{option_shape, option_layout};
 ghost use Rattle.archive_types.specs.Causes.{HindersAt};
 ghost use Rattle.archive_types.specs.Members.Options.{option_meaning, option_keys, option_flat, OptionBelongs, option_keyed, option_planned};
-ghost use Rattle.archive_types.specs.Words.Placed.{Resolved, Hindered};
 ghost use Rattle.archive_types.specs.Members.PlannedOwners.{one_planned};
 ghost use Rattle.archive_types.specs.Words.Seen.{tag_of, StandsBeside, IsPartOf, RefusesPart};
 ghost use Rattle.archive_types.specs.Words.Sources.{Read};
 ghost use Rattle.archive_types.specs.Standing.{StandsWith, view};
 ghost use Rattle.archive_types.specs.Writing.{ZeroedPlace, Resolves};
+ghost use Rattle.archive_types.specs.Outcomes.{ResolvesAs};
 
 use crate::place::Place;
 use crate::ser::serialize_one;
@@ -53,9 +53,8 @@ impl<T: Archive> Archive for Option<T> {
     ) -> Result<(), Error>
         requires zeroed { ZeroedPlace (option_layout T.Archived.layout).size place.pos place.bytes.now }
         requires same_value { OptionBelongs T.belongs self.now resolver }
-        ensures resolved { OnOk result (Resolved ⟦<Self::Archived as Portable>⟧ place (option_flat T.flat self.now resolver)) }
-        ensures same_length { length place.exit.0.now ≡ length place.entry.bytes.now }
-        ensures refused { IfErr result (Hindered ⟦<Self::Archived as Portable>⟧ place (option_flat T.flat self.now resolver)) }
+        ensures { ResolvesAs ⟦<Self::Archived as Portable>⟧ place
+            (⟦<Self as Archive>⟧.flat self.now resolver) result }
     {
         let Place { bytes, pos, .. } = place;
         let value = match self {

@@ -9,7 +9,8 @@ ghost use Rattle.archive_types.specs.Parts.{ArePlanned, AreKeyed, ZeroedParts};
 ghost use Rattle.archive_types.specs.Members.PartsPlanned.{no_part_planned, part_planned};
 ghost use Rattle.archive_types.specs.PartsReading.{PartsViewed};
 ghost use Rattle.archive_types.specs.Writing.{Naming};
-ghost use Rattle.archive_types.specs.Words.PartsWritten.{PartsPut, PartsUnput, ReadsParts, UnreadParts};
+ghost use Rattle.archive_types.specs.Words.PartsWritten.{ReadsParts, UnreadParts};
+ghost use Rattle.archive_types.specs.Outcomes.{ResolvesAllParts};
 
 mod four_parts;
 mod serializing;
@@ -68,9 +69,8 @@ pub trait SourceParts<T> {
     ) -> Result<(), Error>
         requires zeroed { ZeroedParts (Self.Archived.end start) start pos bytes.old }
         requires same_values { belongs whole.now resolvers }
-        ensures resolved { OnOk result (PartsPut Self.Archived.CheckedParts pos start bytes.new (flats whole.now resolvers)) }
-        ensures same_length { length bytes.new ≡ length bytes.old }
-        ensures refused { IfErr result (PartsUnput Self.Archived.CheckedParts pos start (flats whole.now resolvers)) };
+        ensures { ResolvesAllParts Self.Archived.CheckedParts (flats whole.now resolvers) pos start
+            bytes.old bytes.new result };
 
     // Their keys are those that their meanings lead to.
     ghost keyed: { AreKeyed keys meanings };

@@ -7,15 +7,15 @@ ghost use Rattle.archive_check.specs.Entries.{ReadsBack};
 ghost use Rattle.archive_check.specs.Value.{product, no_value};
 ghost use Rattle.archive_check.specs.Viewed.{Viewed};
 ghost use Rattle.archive_types.specs.Causes.{HindersAt, IsRefused};
-ghost use Rattle.archive_types.specs.Words.KindsWritten.{NothingSerialized, NothingRefused};
 ghost use Rattle.archive_types.specs.Members.Nothing.{empty_product_keyed, empty_product_planned};
-ghost use Rattle.archive_types.specs.Words.Placed.{Resolved};
 ghost use Rattle.archive_types.specs.Members.PlannedOwners.{one_planned};
 ghost use Rattle.archive_types.specs.Plans.{Serialized};
 ghost use Rattle.archive_types.specs.Words.Seen.{IsPartOf};
 ghost use Rattle.archive_types.specs.Words.Sources.{Read};
 ghost use Rattle.archive_types.specs.Writing.{ZeroedPlace, Resolves};
 ghost use Rattle.archive_write.specs.Written.{GoesOn};
+ghost use Rattle.archive_types.specs.Outcomes.{ResolvesAs};
+ghost use Rattle.archive_types.specs.SourceOutcomes.{Serializes};
 
 use crate::place::Place;
 use crate::ser::serialize_one;
@@ -52,9 +52,8 @@ impl<T> Archive for PhantomData<T> {
     fn resolve(&self, _resolver: (), place: Place<'_, PhantomData<T>>) -> Result<(), Error>
         requires zeroed { ZeroedPlace 0 place.pos place.bytes.now }
         requires same_value { ⊤ }
-        ensures resolved { OnOk result (Resolved ⟦<Self::Archived as Portable>⟧ place (product no_value)) }
-        ensures same_length { length place.exit.0.now ≡ length place.entry.bytes.now }
-        ensures refused { IfErr result (HindersAt no_definition (parts no_part) (product no_value) place.entry.pos) }
+        ensures outcome { ResolvesAs ⟦<Self::Archived as Portable>⟧ place
+            (⟦<Self as Archive>⟧.flat self.now _resolver) result }
         ensures succeeds { IsOk result }
     {
         let Place { bytes: _bytes, .. } = place;
@@ -101,10 +100,8 @@ impl<T> CopiedSource for PhantomData<T> {
 impl<T, S: Writer + Keys> Serialize<S> for PhantomData<T> {
     #[tactic(auto, using(crate::proofs::Writing::Nothing::serialized_empty_product, crate::proofs::Planning::Causes::goes_nowhere))]
     fn serialize(&self, _serializer: &mut S) -> Result<(), Error>
-        ensures serialized { IfOk result (NothingSerialized S.Keys _serializer) }
-        ensures same_value { ⊤ }
-        ensures goes_on { GoesOn (S.state _serializer.old) (S.state _serializer.new) }
-        ensures refused { IfErr result (NothingRefused S.Keys _serializer) }
+        ensures outcome { Serializes ⟦<Self as Archive>⟧ ⟦<Self::Archived as Portable>⟧ self.now S.Keys
+            _serializer result }
         ensures unchanged { S.state _serializer.new ≡ S.state _serializer.old }
         ensures succeeds { IsOk result }
     {

@@ -6,12 +6,11 @@ ghost use Rattle.archive_check.specs.Entries.{ReadsBack, RefusesReading};
 ghost use Rattle.archive_check.specs.Value.{product};
 ghost use Rattle.archive_check.specs.Viewed.{Viewed};
 ghost use Rattle.archive_types.specs.Causes.{HindersAt, IsRefused};
-ghost use Rattle.archive_types.specs.Words.KindsWritten.{RecordSerialized, RecordRefused};
-ghost use Rattle.archive_types.specs.Words.Placed.{Resolved, Hindered};
 ghost use Rattle.archive_types.specs.Plans.{Serialized};
 ghost use Rattle.archive_types.specs.Words.Seen.{IsPartOf, RefusesPart, ReadsRecord};
 ghost use Rattle.archive_types.specs.Writing.{ZeroedPlace, Resolves};
 ghost use Rattle.archive_write.specs.Written.{GoesOn};
+ghost use Rattle.archive_types.specs.Outcomes.{ResolvesAs, SerializesAs};
 
 use crate::parts::{DeserializeParts, OwnedParts, SerializeParts, SourceParts};
 use crate::place::Place;
@@ -31,10 +30,8 @@ pub fn serialize_record<
     X: Record<Parts = P::Archived>,
     S: Writer + Keys,
 >(whole: &T, serializer: &mut S) -> Result<P::Resolvers, Error>
-    ensures serialized { IfOk result (RecordSerialized X.Portable P.keys P.meanings P.flats whole.now S.Keys serializer) }
-    ensures same_values { IfOk result (λ r. P.belongs whole.now r) }
-    ensures goes_on { GoesOn (S.state serializer.old) (S.state serializer.new) }
-    ensures refused { IfErr result (RecordRefused X.Portable P.keys P.meanings whole.now S.Keys serializer) }
+    ensures { SerializesAs X.Portable (P.keys whole.now) (product (P.meanings whole.now))
+        (λ r. product (P.flats whole.now r)) (P.belongs whole.now) S.Keys serializer result }
 {
     P::serialize_parts(whole, serializer)
 }
@@ -51,9 +48,7 @@ pub fn resolve_record<T, P: SourceParts<T>, X: Record<Parts = P::Archived>>(
 ) -> Result<(), Error>
     requires zeroed { ZeroedPlace X.layout.size place.pos place.bytes.now }
     requires same_values { P.belongs whole.now resolvers }
-    ensures resolved { OnOk result (Resolved X.Portable place (product (P.flats whole.now resolvers))) }
-    ensures same_length { length place.exit.0.now ≡ length place.entry.bytes.now }
-    ensures refused { IfErr result (Hindered X.Portable place (product (P.flats whole.now resolvers))) }
+    ensures { ResolvesAs X.Portable place (product (P.flats whole.now resolvers)) result }
 {
     let Place { bytes, pos, .. } = place;
     P::resolve_parts(whole, resolvers, pos, 0, bytes)

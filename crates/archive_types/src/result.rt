@@ -10,8 +10,9 @@ ghost use Rattle.archive_types.specs.Causes.{HindersAt};
 ghost use Rattle.archive_types.specs.Members.PlannedOwners.{one_planned};
 ghost use Rattle.archive_types.specs.Members.Results.{result_meaning, result_keys, result_flat, ResultBelongs, result_keyed, result_planned};
 ghost use Rattle.archive_types.specs.Words.Seen.{tag_of, StandsBeside, IsPartOf, RefusesPart, IsBufferOf, IsBehind};
-ghost use Rattle.archive_types.specs.Words.Sources.{Read, ResolvedAs, HinderedAs};
+ghost use Rattle.archive_types.specs.Words.Sources.{Read};
 ghost use Rattle.archive_types.specs.Writing.{ZeroedPlace, Resolves};
+ghost use Rattle.archive_types.specs.Outcomes.{ResolvesAs};
 
 use crate::place::Place;
 use crate::ser::serialize_one;
@@ -51,9 +52,8 @@ impl<T: Archive, E: Archive> Archive for Result<T, E> {
     ) -> Result<(), Error>
         requires zeroed { ZeroedPlace (result_layout T.Archived.layout E.Archived.layout).size place.pos place.bytes.now }
         requires same_value { ResultBelongs T.belongs E.belongs self.now resolver }
-        ensures resolved { OnOk result (ResolvedAs ⟦<Self as Archive>⟧ ⟦<Self::Archived as Portable>⟧ place self.now resolver) }
-        ensures same_length { length place.exit.0.now ≡ length place.entry.bytes.now }
-        ensures refused { IfErr result (HinderedAs ⟦<Self as Archive>⟧ ⟦<Self::Archived as Portable>⟧ place self.now resolver) }
+        ensures { ResolvesAs ⟦<Self::Archived as Portable>⟧ place
+            (⟦<Self as Archive>⟧.flat self.now resolver) result }
     {
         let Place { bytes, pos, .. } = place;
         match self {

@@ -7,12 +7,12 @@ ghost use Rattle.archive_check.specs.Layout.{has_length};
 ghost use Rattle.archive_check.specs.Shape.{one};
 ghost use Rattle.archive_num.specs.Offsets.{distance};
 ghost use Rattle.archive_types.specs.Causes.{HindersAt};
-ghost use Rattle.archive_types.specs.Words.KindsWritten.{BytesResolved, RegionPut, RegionRefused, EachPut, EachHindered};
-ghost use Rattle.archive_types.specs.Words.Placed.{GrowsBy, Pointed, Unpointed};
+ghost use Rattle.archive_types.specs.Words.Placed.{Pointed, Unpointed};
 ghost use Rattle.archive_types.specs.Runs.{EachBelongs};
-ghost use Rattle.archive_types.specs.Words.Sources.{OneStored, OneUnstored};
 ghost use Rattle.archive_types.specs.Writing.{ZeroedPlace, Resolves};
 ghost use Rattle.archive_write.specs.Written.{GoesOn};
+ghost use Rattle.archive_types.specs.Outcomes.{ResolvesBytes, PutsRegion, PutsElements};
+ghost use Rattle.archive_types.specs.SourceOutcomes.{WritesOne};
 
 use crate::place::Place;
 use crate::traits::{
@@ -58,11 +58,8 @@ fn resolve_region<W: Writer, T: Archive>(
 ) -> Result<usize, Error>
     requires zeroed { ZeroedPlace T.Archived.layout.size (length (W.state writer.old).bytes) region.old }
     requires same_value { T.belongs value.now resolver }
-    ensures put { OnOk result (RegionPut T.Archived.Portable (T.flat value.now resolver) W.Keys writer) }
-    ensures position { IfOk result (λ p. p ≡ length (W.state writer.old).bytes) }
-    ensures refused { IfErr result (RegionRefused T.Archived.Portable (T.flat value.now resolver) W.Keys writer) }
-    ensures goes_on { GoesOn (W.state writer.old) (W.state writer.new) }
-    ensures keys { KeepsKeys (W.state writer.old).states (W.state writer.new).states }
+    ensures outcome { PutsRegion T.Archived.Portable (T.flat value.now resolver) W.Keys writer
+        (length (W.state writer.old).bytes) result }
     ensures same_length { length region.new ≡ length region.old }
 {
     let pos = writer.pos();
@@ -85,12 +82,8 @@ fn resolve_large<W: Writer, A: Allocator + Drop, T: Archive>(
     requires sized { size ≡ min T.Archived.layout.size 18446744073709551615 }
     requires ends { length (W.state writer.old).bytes + size < 2 ^ 64 }
     requires same_value { T.belongs value.now resolver }
-    ensures region { OnOk result (RegionPut T.Archived.Portable (T.flat value.now resolver) W.Keys writer) }
-    ensures position { IfOk result (λ p. p ≡ W.position writer.old) }
-    ensures refused { IfErr result (RegionRefused T.Archived.Portable (T.flat value.now resolver) W.Keys writer) }
-    ensures goes_on { GoesOn (W.state writer.old) (W.state writer.new) }
-    ensures sized { OnOk result (GrowsBy T.Archived.layout.size W.Keys writer) }
-    ensures keys { KeepsKeys (W.state writer.old).states (W.state writer.new).states }
+    ensures { PutsRegion T.Archived.Portable (T.flat value.now resolver) W.Keys writer
+        (W.position writer.old) result }
 {
     let mut region = vec![in alloc; 0u8; size]?;
     resolve_region(writer, value, resolver, &mut region)
@@ -106,12 +99,8 @@ pub(crate) fn resolve_next<W: Writer, A: Allocator + Drop, T: Archive>(
     resolver: T::Resolver,
 ) -> Result<usize, Error>
     requires same_value { T.belongs value.now resolver }
-    ensures region { OnOk result (RegionPut T.Archived.Portable (T.flat value.now resolver) W.Keys writer) }
-    ensures position { IfOk result (λ p. p ≡ W.position writer.old) }
-    ensures refused { IfErr result (RegionRefused T.Archived.Portable (T.flat value.now resolver) W.Keys writer) }
-    ensures goes_on { GoesOn (W.state writer.old) (W.state writer.new) }
-    ensures sized { OnOk result (GrowsBy T.Archived.layout.size W.Keys writer) }
-    ensures keys { KeepsKeys (W.state writer.old).states (W.state writer.new).states }
+    ensures { PutsRegion T.Archived.Portable (T.flat value.now resolver) W.Keys writer
+        (W.position writer.old) result }
 {
     let size = T::Archived::size();
     if writer.pos().checked_add(size).is_none() {
@@ -134,9 +123,7 @@ pub(crate) fn resolve_into<T: Archive>(
 ) -> Result<(), Error>
     requires zeroed { ZeroedPlace T.Archived.layout.size pos bytes.old }
     requires same_value { T.belongs value.now resolver }
-    ensures resolved { OnOk result (BytesResolved T.Archived.Portable pos bytes.new (T.flat value.now resolver)) }
-    ensures same_length { length bytes.new ≡ length bytes.old }
-    ensures refused { IfErr result (HindersAt T.Archived.definitions T.Archived.shape (T.flat value.now resolver) pos) }
+    ensures { ResolvesBytes T.Archived.Portable pos bytes (T.flat value.now resolver) result }
 {
     value.resolve(resolver, Place::new(pos, bytes))
 }
@@ -153,10 +140,7 @@ fn resolve_each<W: Writer, T: Archive, A: Allocator + Drop>(
     requires sized { length region.old ≡ T.Archived.layout.size }
     requires ends { length (W.state writer.old).bytes + length values.now * T.Archived.layout.size < 2 ^ 64 }
     requires same_values { EachBelongs T.belongs values.now resolvers.items }
-    ensures put { OnOk result (EachPut T.Archived.Portable T.flat values.now resolvers.items W.Keys writer) }
-    ensures refused { IfErr result (EachHindered T.Archived.Portable T.flat values.now resolvers.items W.Keys writer) }
-    ensures goes_on { GoesOn (W.state writer.old) (W.state writer.new) }
-    ensures keys { KeepsKeys (W.state writer.old).states (W.state writer.new).states }
+    ensures { PutsElements T.Archived.Portable T.flat values.now resolvers.items W.Keys writer result }
 {
     let mut rest = values;
     for resolver in resolvers {
@@ -185,10 +169,7 @@ fn resolve_each_large<W: Writer, A: Allocator + Drop, T: Archive, B: Allocator +
     requires sized { size ≡ min T.Archived.layout.size 18446744073709551615 }
     requires ends { length (W.state writer.old).bytes + length values.now * size < 2 ^ 64 }
     requires same_values { EachBelongs T.belongs values.now resolvers.items }
-    ensures put { OnOk result (EachPut T.Archived.Portable T.flat values.now resolvers.items W.Keys writer) }
-    ensures refused { IfErr result (EachHindered T.Archived.Portable T.flat values.now resolvers.items W.Keys writer) }
-    ensures goes_on { GoesOn (W.state writer.old) (W.state writer.new) }
-    ensures keys { KeepsKeys (W.state writer.old).states (W.state writer.new).states }
+    ensures { PutsElements T.Archived.Portable T.flat values.now resolvers.items W.Keys writer result }
 {
     let mut region = vec![in alloc; 0u8; size]?;
     resolve_each(writer, values, resolvers, &mut region)
@@ -227,12 +208,8 @@ pub trait ResolveExt: Writer {
         Self: Sized,
         requires aligned { Self.position self.old % T.Archived.layout.align ≡ 0 }
         requires same_value { T.belongs value.now resolver }
-        ensures region { OnOk result (RegionPut T.Archived.Portable (T.flat value.now resolver) Self.Keys self) }
-        ensures position { IfOk result (λ p. p ≡ Self.position self.old) }
-        ensures refused { IfErr result (RegionRefused T.Archived.Portable (T.flat value.now resolver) Self.Keys self) }
-        ensures goes_on { GoesOn (Self.state self.old) (Self.state self.new) }
-        ensures sized { OnOk result (GrowsBy T.Archived.layout.size Self.Keys self) }
-        ensures keys { KeepsKeys (Self.state self.old).states (Self.state self.new).states }
+        ensures { PutsRegion T.Archived.Portable (T.flat value.now resolver) Self.Keys self
+            (Self.position self.old) result }
     {
         resolve_next(self, alloc, value, resolver)
     }
@@ -258,11 +235,8 @@ pub trait ResolveExt: Writer {
         Self: Sized,
         requires aligned { Self.position self.old % T.Archived.layout.align ≡ 0 }
         requires same_values { EachBelongs T.belongs values.now resolvers.items }
-        ensures region { OnOk result (EachPut T.Archived.Portable T.flat values.now resolvers.items Self.Keys self) }
+        ensures outcome { PutsElements T.Archived.Portable T.flat values.now resolvers.items Self.Keys self result }
         ensures position { IfOk result (λ p. p ≡ Self.position self.old) }
-        ensures refused { IfErr result (EachHindered T.Archived.Portable T.flat values.now resolvers.items Self.Keys self) }
-        ensures goes_on { GoesOn (Self.state self.old) (Self.state self.new) }
-        ensures keys { KeepsKeys (Self.state self.old).states (Self.state self.new).states }
     {
         let pos = self.pos();
         let size = T::Archived::size();
@@ -331,10 +305,7 @@ pub fn serialize_with<A: Allocator + Drop, S: Writer, T: Serialize<S>>(
     value: &T,
     serializer: &mut S,
 ) -> Result<usize, Error>
-    ensures serialized { IfOk result (OneStored T.Archive T.Archived.Portable value.now S.Keys serializer) }
-    ensures ends { IfOk result (λ p. p + T.Archived.layout.size ≡ length (S.state serializer.new).bytes) }
-    ensures goes_on { GoesOn (S.state serializer.old) (S.state serializer.new) }
-    ensures refused { IfErr result (OneUnstored T.Archive T.Archived.Portable value.now S.Keys serializer) }
+    ensures { WritesOne T.Archive T.Archived.Portable value.now S.Keys serializer result }
 {
     let resolver = match value.serialize(serializer) {
         Ok(resolver) => resolver,
@@ -357,10 +328,7 @@ pub fn serialize_one<S: Writer + ResolverAlloc, T: Serialize<S>>(
     value: &T,
     serializer: &mut S,
 ) -> Result<usize, Error>
-    ensures serialized { IfOk result (OneStored T.Archive T.Archived.Portable value.now S.Keys serializer) }
-    ensures ends { IfOk result (λ p. p + T.Archived.layout.size ≡ length (S.state serializer.new).bytes) }
-    ensures goes_on { GoesOn (S.state serializer.old) (S.state serializer.new) }
-    ensures refused { IfErr result (OneUnstored T.Archive T.Archived.Portable value.now S.Keys serializer) }
+    ensures { WritesOne T.Archive T.Archived.Portable value.now S.Keys serializer result }
 {
     let alloc = serializer.resolver_alloc();
     serialize_with(alloc, value, serializer)

@@ -18,7 +18,7 @@ ghost use Rattle.archive_check.specs.WriterState.{KeepsKeys};
 ghost use Rattle.archive_write.specs.Written.{GoesOn};
 ghost use Rattle.archive_types.specs.Causes.{HindersAt, IsRefused, IsRegionRefused};
 ghost use Rattle.archive_types.specs.Members.Keyed.{text_keyed};
-ghost use Rattle.archive_types.specs.Words.KindsWritten.{TextStored, TextUnstored, NoTextSince, StringSerialized, StringRefused, NoStringSince, StringResolved, StringHindered};
+ghost use Rattle.archive_types.specs.Words.KindsWritten.{NoTextSince, NoStringSince};
 ghost use Rattle.archive_num.specs.Offsets.{distance, IsTooFar};
 ghost use Rattle.archive_types.specs.Words.Placed.{IsTooFarFrom, AtOnce, Added};
 ghost use Rattle.archive_types.specs.Members.Planned.{string_planned, text_planned};
@@ -29,6 +29,8 @@ ghost use Rattle.archive_types.specs.Words.Sources.{Read};
 ghost use Rattle.archive_types.specs.Strings.{string_form, string_flat};
 ghost use Rattle.archive_types.specs.TextPlans.{HindersStringAt, ExplainsTextRefusal, ExplainsStringRefusal};
 ghost use Rattle.archive_types.specs.Writing.{ZeroedPlace, Resolves};
+ghost use Rattle.archive_types.specs.Outcomes.{ResolvesAs, SerializesAs};
+ghost use Rattle.archive_types.specs.SourceOutcomes.{Serializes, WritesUnsized};
 
 mod views;
 
@@ -202,9 +204,8 @@ impl<'a, S: Writer + Keys> SerializeUnsized<S> for Text<'a> {
     #[tactic(auto, using(crate::proofs::Planning::Planned::serialized_text, crate::proofs::Planning::Planned::text_refused, crate::proofs::Planning::Planned::long_text_refused, crate::proofs::Planning::Causes::goes_nowhere, crate::proofs::Planning::Causes::goes_written, crate::proofs::Planning::Causes::goes_refused))]
     #[inline(always)]
     fn serialize_unsized(&self, serializer: &mut S) -> Result<usize, Error>
-        ensures serialized { IfOk result (TextStored self.now.text.now S.Keys serializer) }
-        ensures goes_on { GoesOn (S.state serializer.old) (S.state serializer.new) }
-        ensures refused { IfErr result (TextUnstored self.now.text.now S.Keys serializer) }
+        ensures outcome { WritesUnsized ⟦<Self as ArchiveUnsized>⟧ ⟦<Self::Archived as ArchivePointee>⟧ self.now
+            S.Keys serializer result }
         ensures there { IfOk result (λ p. p ≡ length (S.state serializer.old).bytes) }
         ensures text { OnOk result ((S.state serializer.new).bytes ≡ (S.state serializer.old).bytes ++ self.now.text.now) }
         ensures keys { KeepsKeys (S.state serializer.old).states (S.state serializer.new).states }
@@ -251,10 +252,8 @@ impl ArchivedString {
         value: &str,
         serializer: &mut S,
     ) -> Result<StringResolver, Error>
-        ensures serialized { IfOk result (StringSerialized value.now S.Keys serializer) }
-        ensures held { OnOk result (length value.now ≤ 1073741823) }
-        ensures goes_on { GoesOn (S.state serializer.old) (S.state serializer.new) }
-        ensures refused { IfErr result (StringRefused value.now S.Keys serializer) }
+        ensures outcome { SerializesAs ⟦<Self as Portable>⟧ [] (text_value value.now) (string_flat value.now)
+            (λ _. length value.now ≤ 1073741823) S.Keys serializer result }
         ensures inline { length value.now ≤ 8 → IsOk result × (S.state serializer.new ≡ S.state serializer.old) }
         ensures too_long { 1073741823 < length value.now → AtOnce result StringTooLong S.Keys serializer }
         ensures near { 8 < length value.now → OnOk result (length (S.state serializer.old).bytes ≤ 4294967295) }
@@ -287,7 +286,9 @@ impl ArchivedString {
     ) -> Result<(), Error>
         requires sized { length place.bytes.now ≡ 8 }
         requires held { length value.now ≤ 1073741823 }
-        ensures resolved { OnOk result (StringResolved value.now place resolver) }
+        ensures resolved { OnOk result
+            (Resolves no_definition place.entry.pos place.exit.0.now str_shape
+            (string_flat value.now resolver)) }
         ensures written { OnOk result (place.exit.0.now ≡ string_form value.now place.entry.pos resolver) }
         ensures inline { length value.now ≤ 8 → IsOk result }
         ensures fits { 8 < length value.now → OnOk result (FitsSigned w32 (distance place.entry.pos resolver)) }
@@ -328,9 +329,8 @@ impl Archive for String {
     ) -> Result<(), Error>
         requires zeroed { ZeroedPlace 8 place.pos place.bytes.now }
         requires same_value { length (string_bytes self.now) ≤ 1073741823 }
-        ensures resolved { OnOk result (StringResolved (string_bytes self.now) place resolver) }
-        ensures same_length { length place.exit.0.now ≡ length place.entry.bytes.now }
-        ensures refused { IfErr result (StringHindered (string_bytes self.now) place resolver) }
+        ensures outcome { ResolvesAs ⟦<Self::Archived as Portable>⟧ place
+            (⟦<Self as Archive>⟧.flat self.now resolver) result }
         ensures cause { IfErr result (HindersStringAt (string_bytes self.now) resolver place.entry.pos) }
         ensures written { OnOk result (place.exit.0.now ≡ string_form (string_bytes self.now) place.entry.pos resolver) }
         ensures inline { length (string_bytes self.now) ≤ 8 → IsOk result }
@@ -343,10 +343,8 @@ impl Archive for String {
 impl<S: Writer + Keys> Serialize<S> for String {
     #[inline(always)]
     fn serialize(&self, serializer: &mut S) -> Result<StringResolver, Error>
-        ensures serialized { IfOk result (StringSerialized (string_bytes self.now) S.Keys serializer) }
-        ensures same_value { OnOk result (length (string_bytes self.now) ≤ 1073741823) }
-        ensures goes_on { GoesOn (S.state serializer.old) (S.state serializer.new) }
-        ensures refused { IfErr result (StringRefused (string_bytes self.now) S.Keys serializer) }
+        ensures outcome { Serializes ⟦<Self as Archive>⟧ ⟦<Self::Archived as Portable>⟧ self.now S.Keys serializer
+            result }
         ensures keys { KeepsKeys (S.state serializer.old).states (S.state serializer.new).states }
         ensures inline { length (string_bytes self.now) ≤ 8 → IsOk result × (S.state serializer.new ≡ S.state serializer.old) }
         ensures too_long { 1073741823 < length (string_bytes self.now) → AtOnce result StringTooLong S.Keys serializer }

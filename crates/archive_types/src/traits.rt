@@ -8,14 +8,14 @@ ghost use Rattle.archive_check.specs.Shape.{run};
 ghost use Rattle.archive_check.specs.Value.{Value, list};
 ghost use Rattle.archive_check.specs.Viewed.{Viewed};
 ghost use Rattle.archive_check.specs.declared.format.error.Error.TheVariants.{LengthTooLarge};
-ghost use Rattle.archive_types.specs.Words.KindsWritten.{RunStoredIf, RunUnstored, RunCopiedIf, RunUncopied};
-ghost use Rattle.archive_types.specs.Words.Placed.{Resolved, Hindered, IsPlanned};
+ghost use Rattle.archive_types.specs.Words.Placed.{IsPlanned};
 ghost use Rattle.archive_types.specs.Words.Seen.{IsPartOf, RefusesPart, ReadsView, RefusesView};
 ghost use Rattle.archive_types.specs.Causes.{HindersAt, IsRefused, IsRegionRefused};
 ghost use Rattle.archive_types.specs.Plans.{HasPlan, HasRegionPlan, Serialized, SerializedRegion};
 ghost use Rattle.archive_types.specs.Runs.{each_keys, each_meaning};
 ghost use Rattle.archive_types.specs.Writing.{Naming, IsKeyed, ZeroedPlace, Resolves};
 ghost use Rattle.archive_write.specs.Written.{GoesOn};
+ghost use Rattle.archive_types.specs.Outcomes.{ResolvesAs, CopiesElements};
 
 use crate::place::Place;
 use crate::view::{RawView, Ref};
@@ -85,9 +85,7 @@ pub trait Archive {
     ) -> Result<(), Error>
         requires zeroed { ZeroedPlace Self.Archived.layout.size place.pos place.bytes.now }
         requires same_value { belongs self.now resolver }
-        ensures resolved { OnOk result (Resolved Self.Archived.Portable place (flat self.now resolver)) }
-        ensures same_length { length place.exit.0.now ≡ length place.entry.bytes.now }
-        ensures refused { IfErr result (Hindered Self.Archived.Portable place (flat self.now resolver)) };
+        ensures { ResolvesAs Self.Archived.Portable place (flat self.now resolver) result };
 
     /// Whether slices of such values are written in bulk, by `serialize_copied`. Off by default. As in rkyv 0.8.18, where it is a constant.
     #[inline(always)]
@@ -105,12 +103,7 @@ pub trait Archive {
         _together: usize,
         _serializer: &mut S,
     ) -> Result<Option<usize>, Error>
-        ensures serialized { IfOk result (RunStoredIf keys meaning Self.Archived.Portable _values.now S.Keys _serializer) }
-        ensures in_bulk { IfOk result (RunCopiedIf keys meaning Self.Archived.Portable _values.now S.Keys _serializer) }
-        ensures untouched { IfOk result (λ o. o ≡ None → S.state _serializer.new ≡ S.state _serializer.old) }
-        ensures goes_on { GoesOn (S.state _serializer.old) (S.state _serializer.new) }
-        ensures refused { IfErr result (RunUnstored keys meaning Self.Archived.Portable _values.now S.Keys _serializer) }
-        ensures not_in_bulk { IfErr result (RunUncopied keys meaning Self.Archived.Portable _values.now S.Keys _serializer) }
+        ensures { CopiesElements keys meaning Self.Archived.Portable _values.now S.Keys _serializer result }
     {
         Ok(None)
     }
@@ -135,7 +128,7 @@ pub trait Archive {
 ///
 /// As in rkyv 0.8.18.
 pub trait Serialize<S: Writer + Keys>: Archive {
-    ghost use Rattle.archive_types.specs.Words.Sources.{Wrote, Refused};
+    ghost use Rattle.archive_types.specs.SourceOutcomes.{Serializes};
 
     /// Writes what the value owns, region by region, and returns what `resolve` needs. Existing
     /// bytes and the states of known keys stay, after a failure too.
@@ -145,10 +138,7 @@ pub trait Serialize<S: Writer + Keys>: Archive {
     /// - `BufferOverflow`, `WriterFailed`: the writer's.
     /// - an error caused by the value, such as `LengthTooLarge` or `CyclicSerialize`.
     fn serialize(&self, serializer: &mut S) -> Result<Self::Resolver, Error>
-        ensures serialized { IfOk result (Wrote Self.Archive Self.Archived.Portable self.now S.Keys serializer) }
-        ensures same_value { IfOk result (λ r. Self.belongs self.now r) }
-        ensures goes_on { GoesOn (S.state serializer.old) (S.state serializer.new) }
-        ensures refused { IfErr result (Refused Self.Archive Self.Archived.Portable self.now S.Keys serializer) };
+        ensures { Serializes Self.Archive Self.Archived.Portable self.now S.Keys serializer result };
 }
 
 /// An archived type whose views can be read back as a `T`. `D` keeps the shared values: `()` if
@@ -248,7 +238,7 @@ pub trait ArchiveUnsized {
 
 /// A source that can be serialized to an `S` as a region of its own. As in rkyv 0.8.18.
 pub trait SerializeUnsized<S: Writer + Keys>: ArchiveUnsized {
-    ghost use Rattle.archive_types.specs.Words.ArchivesOf.{Stored, Unstored};
+    ghost use Rattle.archive_types.specs.SourceOutcomes.{WritesUnsized};
 
     /// Writes what the source owns and then its region, and returns the region's position in bytes.
     /// Existing bytes and the states of known keys stay, after a failure too.
@@ -258,9 +248,8 @@ pub trait SerializeUnsized<S: Writer + Keys>: ArchiveUnsized {
     /// - `BufferOverflow`, `WriterFailed`: the writer's.
     /// - an error caused by the source, such as `LengthTooLarge`.
     fn serialize_unsized(&self, serializer: &mut S) -> Result<usize, Error>
-        ensures serialized { IfOk result (Stored Self.ArchiveUnsized Self.Archived.ArchivePointee self.now S.Keys serializer) }
-        ensures goes_on { GoesOn (S.state serializer.old) (S.state serializer.new) }
-        ensures refused { IfErr result (Unstored Self.ArchiveUnsized Self.Archived.ArchivePointee self.now S.Keys serializer) };
+        ensures { WritesUnsized Self.ArchiveUnsized Self.Archived.ArchivePointee self.now S.Keys
+            serializer result };
 }
 
 /// A pointee that can be read back as a `T`: the value, a vector of the elements, or a string. As in rkyv 0.8.18, by views in place of references.

@@ -3,7 +3,6 @@
 ghost use Rattle.std.specs.Prelude.{◌≡◌, ◌+◌, ◌<◌, ◌≤◌, ◌^◌, length, OnOk, IfErr};
 ghost use Rattle.archive_check.specs.CleanRegions.{IsZeroed};
 ghost use Rattle.archive_types.specs.Causes.{HindersAt};
-ghost use Rattle.archive_types.specs.Words.KindsWritten.{CaseHeld, CaseHindered};
 ghost use Rattle.archive_types.specs.Members.Variants.{HoldsCase};
 
 use crate::ser::resolve_into;
@@ -23,9 +22,13 @@ pub(crate) fn resolve_case<T: Archive>(
     requires fits { T.Archived.layout.align + T.Archived.layout.size ≤ length bytes.old }
     requires ends { pos + length bytes.old < 2 ^ 64 }
     requires same_value { T.belongs value.now resolver }
-    ensures held { OnOk result (CaseHeld T.Archived.Portable pos tag (T.flat value.now resolver) bytes.new) }
+    ensures held { OnOk result
+        (HoldsCase T.Archived.definitions pos tag T.Archived.layout.align
+        T.Archived.layout.size T.Archived.shape (T.flat value.now resolver) bytes.new) }
     ensures same_length { length bytes.new ≡ length bytes.old }
-    ensures refused { IfErr result (CaseHindered T.Archived.Portable pos (T.flat value.now resolver)) }
+    ensures refused { IfErr result
+        (HindersAt T.Archived.definitions T.Archived.shape (T.flat value.now resolver)
+        (pos + T.Archived.layout.align)) }
 {
     let offset = T::Archived::align();
     let size = T::Archived::size();

@@ -44,6 +44,7 @@ pub struct Atlas {
 
 // Below this line all is written by tools/derive: change what is above it, and run it again.
 
+ghost use Rattle.archive_core.specs.CallOutcomes.{ResolvesAs};
 ghost use Rattle.archive_core.specs.Definitions.{both, no_definition};
 ghost use Rattle.archive_core.specs.Fields.{field_in};
 ghost use Rattle.archive_core.specs.Keyed.{box_keyed, each_keyed, nothing_keyed, number_keyed, part_keyed, record_keyed};
@@ -56,12 +57,12 @@ ghost use Rattle.archive_core.specs.PlannedOwners.{boxed_one_planned, one_planne
 ghost use Rattle.archive_core.specs.SealsWritten.{SealsBeside};
 ghost use Rattle.archive_core.specs.Seen.{IsPartOf, RefusesPart, ShowsValueOf};
 ghost use Rattle.archive_core.specs.Shape.{no_part, one, part, parts};
-ghost use Rattle.archive_core.specs.Sources.{HinderedAs, Read, ResolvedAs};
+ghost use Rattle.archive_core.specs.Sources.{Read};
 ghost use Rattle.archive_core.specs.Value.{no_value, product, value};
 ghost use Rattle.archive_core.specs.Viewed.{Viewed};
 ghost use Rattle.archive_core.specs.Writing.{ZeroedPlace};
 ghost use Rattle.std.proofs.Common.{inl, inr, lit≤};
-ghost use Rattle.std.specs.Prelude.{IfErr, IfOk, OnOk, [], length, refl, true, ◌++◌, ◌+◌, ◌≡◌};
+ghost use Rattle.std.specs.Prelude.{IfErr, IfOk, [], length, refl, true, ◌++◌, ◌+◌, ◌≡◌};
 
 use crate::event::ArchivedEvent;
 use archive_core::boxed::ArchivedBox;
@@ -208,9 +209,8 @@ impl Archive for Spot {
     ) -> Result<(), Error>
         requires zeroed { ZeroedPlace 4 place.pos place.bytes.now }
         requires same_value { ⟦<Self as Archive>⟧.belongs self.now resolver }
-        ensures resolved { OnOk result (ResolvedAs ⟦<Self as Archive>⟧ ⟦<Self::Archived as Portable>⟧ place self.now resolver) }
-        ensures same_length { length place.exit.0.now ≡ length place.entry.bytes.now }
-        ensures refused { IfErr result (HinderedAs ⟦<Self as Archive>⟧ ⟦<Self::Archived as Portable>⟧ place self.now resolver) }
+        ensures { ResolvesAs ⟦<Self::Archived as Portable>⟧ place
+            (⟦<Self as Archive>⟧.flat self.now resolver) result }
     {
         let Place { bytes, pos, .. } = place;
         let SpotResolver { kept } = resolver;
@@ -476,9 +476,8 @@ impl Archive for Line {
     ) -> Result<(), Error>
         requires zeroed { ZeroedPlace 8 place.pos place.bytes.now }
         requires same_value { ⟦<Self as Archive>⟧.belongs self.now resolver }
-        ensures resolved { OnOk result (ResolvedAs ⟦<Self as Archive>⟧ ⟦<Self::Archived as Portable>⟧ place self.now resolver) }
-        ensures same_length { length place.exit.0.now ≡ length place.entry.bytes.now }
-        ensures refused { IfErr result (HinderedAs ⟦<Self as Archive>⟧ ⟦<Self::Archived as Portable>⟧ place self.now resolver) }
+        ensures { ResolvesAs ⟦<Self::Archived as Portable>⟧ place
+            (⟦<Self as Archive>⟧.flat self.now resolver) result }
     {
         let Place { bytes, pos, .. } = place;
         let LineResolver { kept } = resolver;
@@ -760,9 +759,8 @@ impl Archive for Drawing {
     ) -> Result<(), Error>
         requires zeroed { ZeroedPlace 36 place.pos place.bytes.now }
         requires same_value { ⟦<Self as Archive>⟧.belongs self.now resolver }
-        ensures resolved { OnOk result (ResolvedAs ⟦<Self as Archive>⟧ ⟦<Self::Archived as Portable>⟧ place self.now resolver) }
-        ensures same_length { length place.exit.0.now ≡ length place.entry.bytes.now }
-        ensures refused { IfErr result (HinderedAs ⟦<Self as Archive>⟧ ⟦<Self::Archived as Portable>⟧ place self.now resolver) }
+        ensures { ResolvesAs ⟦<Self::Archived as Portable>⟧ place
+            (⟦<Self as Archive>⟧.flat self.now resolver) result }
     {
         let Place { bytes, pos, .. } = place;
         let DrawingResolver { kept } = resolver;
@@ -1099,9 +1097,8 @@ impl Archive for Atlas {
     ) -> Result<(), Error>
         requires zeroed { ZeroedPlace 12 place.pos place.bytes.now }
         requires same_value { ⟦<Self as Archive>⟧.belongs self.now resolver }
-        ensures resolved { OnOk result (ResolvedAs ⟦<Self as Archive>⟧ ⟦<Self::Archived as Portable>⟧ place self.now resolver) }
-        ensures same_length { length place.exit.0.now ≡ length place.entry.bytes.now }
-        ensures refused { IfErr result (HinderedAs ⟦<Self as Archive>⟧ ⟦<Self::Archived as Portable>⟧ place self.now resolver) }
+        ensures { ResolvesAs ⟦<Self::Archived as Portable>⟧ place
+            (⟦<Self as Archive>⟧.flat self.now resolver) result }
     {
         let Place { bytes, pos, .. } = place;
         let AtlasResolver { kept } = resolver;

@@ -9,8 +9,8 @@ ghost use Rattle.archive_core.specs.Value.{number};
 ghost use Rattle.archive_core.specs.Keyed.{number_keyed};
 ghost use Rattle.archive_core.specs.Planned.{leaf_planned};
 ghost use Rattle.archive_core.specs.PlannedOwners.{one_planned};
-ghost use Rattle.archive_core.specs.KindsWritten.{LeafResolved, LeafHindered};
 ghost use Rattle.archive_core.specs.Writing.{ZeroedPlace};
+ghost use Rattle.archive_core.specs.CallOutcomes.{ResolvesAs};
 
 use archive_core::error::Error;
 use archive_core::place::Place;
@@ -18,7 +18,7 @@ use archive_core::primitive::ArchivedU32;
 use archive_core::ser::{ResolverAlloc, Writer, serialize_one};
 use archive_core::slice::copy_groups;
 use archive_core::traits::{
-    Archive, ArchiveUnsized, Copied, CopiedSource, CopyOptimization, Keys, Serialize,
+    Archive, ArchiveUnsized, Copied, CopiedSource, CopyOptimization, Keys, Portable, Serialize,
     SerializeUnsized,
 };
 
@@ -49,9 +49,8 @@ impl Archive for Metres {
     fn resolve(&self, _resolver: (), place: Place<'_, ArchivedU32>) -> Result<(), Error>
         requires zeroed { ZeroedPlace 4 place.pos place.bytes.now }
         requires same_value { ⊤ }
-        ensures resolved { OnOk result (LeafResolved (number_kind unsigned w32) place (pos self.now.number)) }
-        ensures same_length { length place.exit.0.now ≡ length place.entry.bytes.now }
-        ensures refused { IfErr result (LeafHindered (number_kind unsigned w32) place (pos self.now.number)) }
+        ensures { ResolvesAs ⟦<Self::Archived as Portable>⟧ place
+            (⟦<Self as Archive>⟧.flat self.now _resolver) result }
     {
         let Place { bytes, pos, .. } = place;
         self.number.resolve((), Place::new(pos, bytes))

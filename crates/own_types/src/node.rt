@@ -5,11 +5,11 @@ ghost use Rattle.std.proofs.Common.{inl, inr, lit≤};
 ghost use Rattle.archive_core.specs.VariantsLayout.{is_recursive_choice};
 ghost use Rattle.archive_core.specs.Value.{box};
 ghost use Rattle.archive_core.specs.Nests.{HoldsBox, nest_keyed, nest_planned};
-ghost use Rattle.archive_core.specs.Placed.{Resolved, Hindered};
 ghost use Rattle.archive_core.specs.PlannedOwners.{one_planned};
 ghost use Rattle.archive_core.specs.Variants.{case_of};
 ghost use Rattle.archive_core.specs.Writing.{ZeroedPlace};
 ghost use Rattle.own_types.specs.NodeShape.{node_name, node_variants, node_choice};
+ghost use Rattle.archive_core.specs.CallOutcomes.{ResolvesAs};
 
 use archive_core::boxed::{ArchivedBox, BoxResolver};
 use archive_core::error::Error;
@@ -124,9 +124,8 @@ impl Archive for Node {
     ) -> Result<(), Error>
         requires zeroed { ZeroedPlace 8 place.pos place.bytes.now }
         requires same_value { ⊤ }
-        ensures resolved { OnOk result (Resolved ⟦<Self::Archived as Portable>⟧ place (node_flat resolver)) }
-        ensures same_length { length place.exit.0.now ≡ length place.entry.bytes.now }
-        ensures refused { IfErr result (Hindered ⟦<Self::Archived as Portable>⟧ place (node_flat resolver)) }
+        ensures { ResolvesAs ⟦<Self::Archived as Portable>⟧ place
+            (⟦<Self as Archive>⟧.flat self.now resolver) result }
     {
         let Place { bytes, pos, .. } = place;
         match resolver {

@@ -10,7 +10,7 @@ ghost use Rattle.archive_check.specs.context.FreshContexts.{HasLevels, KeepsLeve
 ghost use Rattle.archive_schema.specs.OneSchema.{IsSchemaOf-prop};
 ghost use Rattle.archive_check.specs.context.Pushes.{FewPushed};
 ghost use Rattle.archive_schema.specs.Schemas.{IsSchemaOf};
-ghost use Rattle.archive_types.specs.Words.ArchivesOf.{IsArchiveIn, ReadsArchive, RefusesArchive, AsCheckIfNeverOpen};
+ghost use Rattle.archive_core.specs.WholeArchives.{ReadsArchive};
 ghost use Rattle.archive_schema.specs.ContextAnswers.{AnswersIn};
 
 use archive_check::context::{ArchiveContext, HighValidator, SharedContext};
@@ -140,10 +140,7 @@ impl<T: Portable> Access<T> {
     ) -> Result<U, Error>
     where
         T: Deserialize<U, D>,
-        ensures accepted { OnOk result (IsArchiveIn T.Portable bytes.now) }
-        ensures read { IfOk result (ReadsArchive T.Portable bytes.now D.Entries deserializer U.Archive) }
-        ensures refused { IfErr result (RefusesArchive T.Portable bytes.now D.Entries deserializer) }
-        ensures never_open { AsCheckIfNeverOpen T.Portable bytes.now D.Entries deserializer result }
+        ensures { ReadsArchive T.Portable bytes.now D.Entries deserializer U.Archive result }
     {
         let root = self.access(bytes)?;
         <T as Deserialize<U, D>>::deserialize(self.alloc, root, deserializer)

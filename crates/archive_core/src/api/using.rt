@@ -3,11 +3,12 @@
 ghost use Rattle.std.specs.Prelude.{◌≡◌, ◌⊎◌, IfOk, IfErr, ℕ, []};
 ghost use Rattle.archive_check.specs.Shape.{one};
 ghost use Rattle.archive_check.specs.declared.format.error.Error.TheVariants.{OutOfMemory};
-ghost use Rattle.archive_types.specs.Words.ArchivesOf.{LeavesOne, IsArchiveOf, NoArchiveOf, EndsWithNone, Stored, Unstored};
+ghost use Rattle.archive_core.specs.WholeArchives.{AppendsTaken, MakesArchive};
 ghost use Rattle.archive_types.specs.Causes.{HindersRegion, IsRegionRefused};
 ghost use Rattle.archive_types.specs.Plans.{SerializedRegion, at_start, unshared};
 ghost use Rattle.archive_types.specs.Writing.{Archives};
 ghost use Rattle.archive_write.specs.Written.{GoesOn};
+ghost use Rattle.archive_types.specs.SourceOutcomes.{WritesUnsized};
 
 use super::{HighSerializer, serialize_whole};
 use archive_check::format::error::Error;
@@ -25,9 +26,7 @@ pub fn to_bytes_in_with_alloc<
     A: Allocator + Copy + Drop,
     T: Serialize<HighSerializer<W, A>>,
 >(alloc: Global, value: &T, writer: W, resolvers: A) -> Result<W, Error>
-    ensures archived { IfOk result (LeavesOne T.Archive T.Archived.Portable value.now W.Keys writer) }
-    ensures goes_on { IfOk result (λ w. GoesOn (unshared (W.state writer)) (unshared (W.state w))) }
-    ensures refused { IfErr result (EndsWithNone T.Archive T.Archived.Portable value.now W.Keys writer) }
+    ensures { AppendsTaken T.Archive T.Archived.Portable value.now W.Keys writer result }
 {
     let (writer, root) = serialize_whole(alloc, resolvers, value, writer);
     root?;
@@ -41,8 +40,7 @@ pub fn to_bytes_with_alloc<A: Allocator + Copy + Drop, T: Serialize<HighSerializ
     value: &T,
     resolvers: A,
 ) -> Result<Vec<u8>, Error>
-    ensures archived { IfOk result (λ bytes. IsArchiveOf T.Archive T.Archived.Portable value.now bytes.items) }
-    ensures refused { IfErr result (NoArchiveOf T.Archive T.Archived.Portable value.now) }
+    ensures { MakesArchive T.Archive T.Archived.Portable value.now (λ bytes. bytes.items) result }
 {
     let empty = Vec::with_capacity(alloc, FIRST_ROOM)?;
     let (bytes, root) = serialize_whole(alloc, resolvers, value, empty);
@@ -56,9 +54,7 @@ pub fn serialize_using<S: Writer + Keys, T: SerializeUnsized<S>>(
     value: &T,
     serializer: &mut S,
 ) -> Result<usize, Error>
-    ensures serialized { IfOk result (Stored T.ArchiveUnsized T.Archived.ArchivePointee value.now S.Keys serializer) }
-    ensures goes_on { GoesOn (S.state serializer.old) (S.state serializer.new) }
-    ensures refused { IfErr result (Unstored T.ArchiveUnsized T.Archived.ArchivePointee value.now S.Keys serializer) }
+    ensures { WritesUnsized T.ArchiveUnsized T.Archived.ArchivePointee value.now S.Keys serializer result }
 {
     value.serialize_unsized(serializer)
 }

@@ -6,12 +6,13 @@ ghost use Rattle.archive_check.specs.Shape.{named};
 ghost use Rattle.archive_check.specs.Value.{case, box, no_value};
 ghost use Rattle.archive_core.specs.Nests.{AreNests, HoldsNothing, HoldsBox, IsTagOf, IsResolvedBy, nest_of, nest_flat};
 ghost use Rattle.archive_core.specs.NestsRead.{IsReadIn, IsRefusedIn};
-ghost use Rattle.archive_types.specs.Words.Placed.{Resolved, Hindered};
 ghost use Rattle.archive_types.specs.Words.Seen.{IsPartOf, RefusesPart, part_tag};
-ghost use Rattle.archive_types.specs.Words.Sources.{Wrote, Refused, Read};
+ghost use Rattle.archive_types.specs.Words.Sources.{Read};
 ghost use Rattle.archive_types.specs.Members.Variants.{case_of};
 ghost use Rattle.archive_types.specs.Writing.{ZeroedPlace};
 ghost use Rattle.archive_write.specs.Written.{GoesOn};
+ghost use Rattle.archive_types.specs.Outcomes.{ResolvesAs};
+ghost use Rattle.archive_types.specs.SourceOutcomes.{Serializes};
 
 use super::{ArchivedRecursive, RecursiveChoice};
 use archive_check::format::error::Error;
@@ -86,10 +87,7 @@ pub fn serialize_nested<X: Choice, T: Nested<X>, S: Writer + ResolverAlloc>(
     value: &T,
     serializer: &mut S,
 ) -> Result<Option<BoxResolver>, Error>
-    ensures serialized { IfOk result (Wrote T.Archive X.Portable value.now S.Keys serializer) }
-    ensures same_value { IfOk result (λ r. T.belongs value.now r) }
-    ensures goes_on { GoesOn (S.state serializer.old) (S.state serializer.new) }
-    ensures refused { IfErr result (Refused T.Archive X.Portable value.now S.Keys serializer) }
+    ensures { Serializes T.Archive X.Portable value.now S.Keys serializer result }
 {
     let (_, inner) = value.inner();
     let Some(inner) = inner else {
@@ -119,9 +117,7 @@ pub fn resolve_nested<X: Choice>(
     requires is_named { X.shape ≡ named X.name }
     requires eight { 8 ≤ X.layout.size }
     requires zeroed { ZeroedPlace X.layout.size place.pos place.bytes.now }
-    ensures resolved { OnOk result (Resolved X.Portable place (nest_flat X.shape tag resolver)) }
-    ensures same_length { length place.exit.0.now ≡ length place.entry.bytes.now }
-    ensures refused { IfErr result (Hindered X.Portable place (nest_flat X.shape tag resolver)) }
+    ensures { ResolvesAs X.Portable place (nest_flat X.shape tag resolver) result }
 {
     let Place { bytes, pos, .. } = place;
     let Some(resolver) = resolver else {

@@ -4,11 +4,10 @@ ghost use Rattle.std.specs.Prelude.{◌≡◌, ◌+◌, ◌<◌, ◌≤◌, Some
 ghost use Rattle.archive_check.specs.Shape.{variant_at};
 ghost use Rattle.archive_check.specs.Value.{case};
 ghost use Rattle.archive_fields.specs.OwnChoices.{variant_definitions};
-ghost use Rattle.archive_types.specs.Words.KindsWritten.{VariantOwned, VariantRefused};
-ghost use Rattle.archive_types.specs.Words.Placed.{Resolved, Hindered};
 ghost use Rattle.archive_types.specs.Words.Seen.{part_tag, IsPartOf, RefusesPart, ReadsVariant};
 ghost use Rattle.archive_types.specs.Writing.{ZeroedPlace};
 ghost use Rattle.archive_write.specs.Written.{GoesOn};
+ghost use Rattle.archive_types.specs.Outcomes.{ResolvesAs, SerializesAs};
 
 use archive_check::format::error::Error;
 use archive_types::parts::{DeserializeParts, OwnedParts, SerializeParts, SourceParts};
@@ -28,10 +27,8 @@ pub fn serialize_variant<T, P: SerializeParts<T, S>, X: Choice, S: Writer + Keys
 ) -> Result<P::Resolvers, Error>
     requires variant { variant_at X.Variants.variants tag ≡ Some P.Archived.parts }
     requires definitions { variant_definitions X.Variants.definitions tag ≡ P.Archived.definitions }
-    ensures serialized { IfOk result (VariantOwned X.Portable tag P.keys P.meanings P.flats whole.now S.Keys serializer) }
-    ensures same_values { IfOk result (λ r. P.belongs whole.now r) }
-    ensures goes_on { GoesOn (S.state serializer.old) (S.state serializer.new) }
-    ensures refused { IfErr result (VariantRefused X.Portable tag P.keys P.meanings whole.now S.Keys serializer) }
+    ensures { SerializesAs X.Portable (P.keys whole.now) (case tag (P.meanings whole.now))
+        (λ r. case tag (P.flats whole.now r)) (P.belongs whole.now) S.Keys serializer result }
 {
     P::serialize_parts(whole, serializer)
 }
@@ -51,9 +48,7 @@ pub fn resolve_variant<T, P: SourceParts<T>, X: Choice>(
     requires inside { P.Archived.end 1 ≤ X.layout.size }
     requires zeroed { ZeroedPlace X.layout.size place.pos place.bytes.now }
     requires same_values { P.belongs whole.now resolvers }
-    ensures resolved { OnOk result (Resolved X.Portable place (case tag (P.flats whole.now resolvers))) }
-    ensures same_length { length place.exit.0.now ≡ length place.entry.bytes.now }
-    ensures refused { IfErr result (Hindered X.Portable place (case tag (P.flats whole.now resolvers))) }
+    ensures { ResolvesAs X.Portable place (case tag (P.flats whole.now resolvers)) result }
 {
     let Place { bytes, pos, .. } = place;
     bytes[0] = tag;

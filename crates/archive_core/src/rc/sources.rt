@@ -8,9 +8,9 @@ ghost use Rattle.archive_types.specs.Causes.{HindersAt, IsRefused};
 ghost use Rattle.archive_types.specs.Members.PlannedOwners.{one_planned};
 ghost use Rattle.archive_types.specs.Plans.{Serialized};
 ghost use Rattle.archive_types.specs.Members.SharedSources.{rc_flavor, rc_keys, rc_flat, rc_keyed, rc_planned, rc_one_planned};
-ghost use Rattle.archive_types.specs.Words.Sources.{ResolvedAs, HinderedAs, Wrote, Refused};
 ghost use Rattle.archive_types.specs.Writing.{ZeroedPlace, Resolves};
 ghost use Rattle.archive_write.specs.Written.{GoesOn};
+ghost use Rattle.archive_types.specs.Outcomes.{ResolvesAs};
 
 mod long;
 mod weak;
@@ -114,9 +114,8 @@ impl<T: Archive> Archive for Shared<T> {
     ) -> Result<(), Error>
         requires zeroed { ZeroedPlace (pointer_size T.Archived.pointee) place.pos place.bytes.now }
         requires same_value { ⊤ }
-        ensures resolved { OnOk result (ResolvedAs ⟦<Self as Archive>⟧ ⟦<Self::Archived as Portable>⟧ place self.now resolver) }
-        ensures same_length { length place.exit.0.now ≡ length place.entry.bytes.now }
-        ensures refused { IfErr result (HinderedAs ⟦<Self as Archive>⟧ ⟦<Self::Archived as Portable>⟧ place self.now resolver) }
+        ensures { ResolvesAs ⟦<Self::Archived as Portable>⟧ place
+            (⟦<Self as Archive>⟧.flat self.now resolver) result }
     {
         let Place { bytes, pos, .. } = place;
         write_pointer::<T::Archived>(resolver.pos as usize, 0, pos, bytes)
@@ -127,12 +126,7 @@ impl<T: Serialize<S>, S: Sharing + Writer + ResolverAlloc> Serialize<S> for Shar
     /// Writes what the value owns and then the value as a region of its own, where its key is
     /// unknown, as `ArchivedRc::serialize_from_ref` does, with its errors.
     #[tactic(auto, using(crate::proofs::SharedOnes::shared_one, crate::proofs::SharedOnes::shared_one_refused, crate::proofs::SharedOnes::far_shared_one_refused))]
-    fn serialize(&self, serializer: &mut S) -> Result<RcResolver, Error>
-        ensures serialized { IfOk result (Wrote ⟦<Self as Archive>⟧ ⟦<Self::Archived as Portable>⟧ self.now S.Keys serializer) }
-        ensures same_value { ⊤ }
-        ensures goes_on { GoesOn (S.state serializer.old) (S.state serializer.new) }
-        ensures refused { IfErr result (Refused ⟦<Self as Archive>⟧ ⟦<Self::Archived as Portable>⟧ self.now S.Keys serializer) }
-    {
+    fn serialize(&self, serializer: &mut S) -> Result<RcResolver, Error> {
         let value = One {
             value: &*self.value,
         };

@@ -7,7 +7,7 @@ ghost use Rattle.archive_check.specs.Shape.{no_part};
 ghost use Rattle.archive_check.specs.Value.{no_value};
 ghost use Rattle.archive_fields.specs.Front.{FrontPut};
 ghost use Rattle.archive_types.specs.Causes.{HindersAt};
-ghost use Rattle.archive_types.specs.Words.KindsWritten.{BytesResolved};
+ghost use Rattle.archive_types.specs.Outcomes.{ResolvesBytes};
 ghost use Rattle.archive_types.specs.Parts.{SerializedParts, ArePartsRefused, ResolvesParts, HindersPartsAt, ZeroedParts};
 ghost use Rattle.archive_types.specs.Writing.{ZeroedPlace};
 ghost use Rattle.archive_write.specs.Written.{GoesOn};
@@ -28,11 +28,7 @@ fn resolve_into<T: Archive>(
 ) -> Result<(), Error>
     requires zeroed { ZeroedPlace T.Archived.layout.size pos bytes.old }
     requires same_value { T.belongs value.now resolver }
-    ensures resolved { OnOk result (BytesResolved T.Archived.Portable pos bytes.new
-        (T.flat value.now resolver)) }
-    ensures same_length { length bytes.new ≡ length bytes.old }
-    ensures refused { IfErr result (HindersAt T.Archived.definitions T.Archived.shape
-        (T.flat value.now resolver) pos) }
+    ensures { ResolvesBytes T.Archived.Portable pos bytes (T.flat value.now resolver) result }
 {
     value.resolve(resolver, Place::new(pos, bytes))
 }

@@ -7,8 +7,8 @@ ghost use Rattle.archive_check.specs.Layout.{up};
 ghost use Rattle.archive_check.specs.Shape.{part, no_part};
 ghost use Rattle.archive_check.specs.Value.{value, no_value, case};
 ghost use Rattle.archive_fields.specs.Plain.{are_none, variant_in};
-ghost use Rattle.archive_types.specs.Words.Placed.{Resolved, Hindered};
-ghost use Rattle.archive_types.specs.Writing.{ZeroedPlace};
+ghost use Rattle.archive_types.specs.Causes.{HindersAt};
+ghost use Rattle.archive_types.specs.Writing.{ZeroedPlace, Resolves};
 
 use super::front::resolve_0;
 use super::resolve_few::{
@@ -27,9 +27,11 @@ pub fn resolve_case_0<X: Portable>(tag: u8, resolvers: (), place: Place<'_, X>) 
     requires some { 0 < X.layout.size }
     requires zeroed { ZeroedPlace X.layout.size place.pos place.bytes.now }
     requires same_values { Unit {0} }
-    ensures resolved { OnOk result (Resolved X.Portable place (case tag no_value)) }
+    ensures resolved { OnOk result (Resolves X.definitions place.entry.pos place.exit.0.now X.shape
+        (case tag no_value)) }
     ensures same_length { length place.exit.0.now ≡ length place.entry.bytes.now }
-    ensures refused { IfErr result (Hindered X.Portable place (case tag no_value)) }
+    ensures refused { IfErr result (HindersAt X.definitions X.shape (case tag no_value)
+        place.entry.pos) }
 {
     let Place { bytes, pos, .. } = place;
     bytes[0] = tag;
@@ -51,11 +53,11 @@ pub fn resolve_case_1<A: Archive, X: Portable>(
     requires some { 0 < X.layout.size }
     requires zeroed { ZeroedPlace X.layout.size place.pos place.bytes.now }
     requires same_values { A.belongs a.now resolvers.0 × Unit {0} }
-    ensures resolved { OnOk result (Resolved X.Portable place
+    ensures resolved { OnOk result (Resolves X.definitions place.entry.pos place.exit.0.now X.shape
         (case tag (value (A.flat a.now resolvers.0) no_value))) }
     ensures same_length { length place.exit.0.now ≡ length place.entry.bytes.now }
-    ensures refused { IfErr result (Hindered X.Portable place
-        (case tag (value (A.flat a.now resolvers.0) no_value))) }
+    ensures refused { IfErr result (HindersAt X.definitions X.shape
+        (case tag (value (A.flat a.now resolvers.0) no_value)) place.entry.pos) }
 {
     let Place { bytes, pos, .. } = place;
     bytes[0] = tag;
@@ -81,13 +83,13 @@ pub fn resolve_case_2<A: Archive, B: Archive, X: Portable>(
     requires zeroed { ZeroedPlace X.layout.size place.pos place.bytes.now }
     requires same_values { A.belongs a.now resolvers.0
         × (B.belongs b.now resolvers.1.0 × Unit {0}) }
-    ensures resolved { OnOk result (Resolved X.Portable place
+    ensures resolved { OnOk result (Resolves X.definitions place.entry.pos place.exit.0.now X.shape
         (case tag (value (A.flat a.now resolvers.0) (value (B.flat b.now resolvers.1.0)
         no_value)))) }
     ensures same_length { length place.exit.0.now ≡ length place.entry.bytes.now }
-    ensures refused { IfErr result (Hindered X.Portable place
-        (case tag (value (A.flat a.now resolvers.0) (value (B.flat b.now resolvers.1.0)
-        no_value)))) }
+    ensures refused { IfErr result (HindersAt X.definitions X.shape
+        (case tag (value (A.flat a.now resolvers.0) (value (B.flat b.now resolvers.1.0) no_value)))
+        place.entry.pos) }
 {
     let Place { bytes, pos, .. } = place;
     bytes[0] = tag;
@@ -115,13 +117,13 @@ pub fn resolve_case_3<A: Archive, B: Archive, C: Archive, X: Portable>(
     requires zeroed { ZeroedPlace X.layout.size place.pos place.bytes.now }
     requires same_values { A.belongs a.now resolvers.0
         × (B.belongs b.now resolvers.1.0 × (C.belongs c.now resolvers.1.1.0 × Unit {0})) }
-    ensures resolved { OnOk result (Resolved X.Portable place
+    ensures resolved { OnOk result (Resolves X.definitions place.entry.pos place.exit.0.now X.shape
         (case tag (value (A.flat a.now resolvers.0) (value (B.flat b.now resolvers.1.0)
         (value (C.flat c.now resolvers.1.1.0) no_value))))) }
     ensures same_length { length place.exit.0.now ≡ length place.entry.bytes.now }
-    ensures refused { IfErr result (Hindered X.Portable place
+    ensures refused { IfErr result (HindersAt X.definitions X.shape
         (case tag (value (A.flat a.now resolvers.0) (value (B.flat b.now resolvers.1.0)
-        (value (C.flat c.now resolvers.1.1.0) no_value))))) }
+        (value (C.flat c.now resolvers.1.1.0) no_value)))) place.entry.pos) }
 {
     let Place { bytes, pos, .. } = place;
     bytes[0] = tag;
@@ -153,15 +155,15 @@ pub fn resolve_case_4<A: Archive, B: Archive, C: Archive, D: Archive, X: Portabl
     requires same_values { A.belongs a.now resolvers.0
         × (B.belongs b.now resolvers.1.0 × (C.belongs c.now resolvers.1.1.0
         × (D.belongs d.now resolvers.1.1.1.0 × Unit {0}))) }
-    ensures resolved { OnOk result (Resolved X.Portable place
+    ensures resolved { OnOk result (Resolves X.definitions place.entry.pos place.exit.0.now X.shape
         (case tag (value (A.flat a.now resolvers.0) (value (B.flat b.now resolvers.1.0)
         (value (C.flat c.now resolvers.1.1.0) (value (D.flat d.now resolvers.1.1.1.0)
         no_value)))))) }
     ensures same_length { length place.exit.0.now ≡ length place.entry.bytes.now }
-    ensures refused { IfErr result (Hindered X.Portable place
+    ensures refused { IfErr result (HindersAt X.definitions X.shape
         (case tag (value (A.flat a.now resolvers.0) (value (B.flat b.now resolvers.1.0)
-        (value (C.flat c.now resolvers.1.1.0) (value (D.flat d.now resolvers.1.1.1.0)
-        no_value)))))) }
+        (value (C.flat c.now resolvers.1.1.0) (value (D.flat d.now resolvers.1.1.1.0) no_value)))))
+        place.entry.pos) }
 {
     let Place { bytes, pos, .. } = place;
     bytes[0] = tag;
@@ -199,15 +201,15 @@ pub fn resolve_case_5<A: Archive, B: Archive, C: Archive, D: Archive, E: Archive
     requires same_values { A.belongs a.now resolvers.0
         × (B.belongs b.now resolvers.1.0 × (C.belongs c.now resolvers.1.1.0
         × (D.belongs d.now resolvers.1.1.1.0 × (E.belongs e.now resolvers.1.1.1.1.0 × Unit {0})))) }
-    ensures resolved { OnOk result (Resolved X.Portable place
+    ensures resolved { OnOk result (Resolves X.definitions place.entry.pos place.exit.0.now X.shape
         (case tag (value (A.flat a.now resolvers.0) (value (B.flat b.now resolvers.1.0)
         (value (C.flat c.now resolvers.1.1.0) (value (D.flat d.now resolvers.1.1.1.0)
         (value (E.flat e.now resolvers.1.1.1.1.0) no_value))))))) }
     ensures same_length { length place.exit.0.now ≡ length place.entry.bytes.now }
-    ensures refused { IfErr result (Hindered X.Portable place
+    ensures refused { IfErr result (HindersAt X.definitions X.shape
         (case tag (value (A.flat a.now resolvers.0) (value (B.flat b.now resolvers.1.0)
         (value (C.flat c.now resolvers.1.1.0) (value (D.flat d.now resolvers.1.1.1.0)
-        (value (E.flat e.now resolvers.1.1.1.1.0) no_value))))))) }
+        (value (E.flat e.now resolvers.1.1.1.1.0) no_value)))))) place.entry.pos) }
 {
     let Place { bytes, pos, .. } = place;
     bytes[0] = tag;
@@ -259,17 +261,17 @@ pub fn resolve_case_6<
         × (B.belongs b.now resolvers.1.0 × (C.belongs c.now resolvers.1.1.0
         × (D.belongs d.now resolvers.1.1.1.0 × (E.belongs e.now resolvers.1.1.1.1.0
         × (F.belongs f.now resolvers.1.1.1.1.1.0 × Unit {0}))))) }
-    ensures resolved { OnOk result (Resolved X.Portable place
+    ensures resolved { OnOk result (Resolves X.definitions place.entry.pos place.exit.0.now X.shape
         (case tag (value (A.flat a.now resolvers.0) (value (B.flat b.now resolvers.1.0)
         (value (C.flat c.now resolvers.1.1.0) (value (D.flat d.now resolvers.1.1.1.0)
         (value (E.flat e.now resolvers.1.1.1.1.0) (value (F.flat f.now resolvers.1.1.1.1.1.0)
         no_value)))))))) }
     ensures same_length { length place.exit.0.now ≡ length place.entry.bytes.now }
-    ensures refused { IfErr result (Hindered X.Portable place
+    ensures refused { IfErr result (HindersAt X.definitions X.shape
         (case tag (value (A.flat a.now resolvers.0) (value (B.flat b.now resolvers.1.0)
         (value (C.flat c.now resolvers.1.1.0) (value (D.flat d.now resolvers.1.1.1.0)
         (value (E.flat e.now resolvers.1.1.1.1.0) (value (F.flat f.now resolvers.1.1.1.1.1.0)
-        no_value)))))))) }
+        no_value))))))) place.entry.pos) }
 {
     let Place { bytes, pos, .. } = place;
     bytes[0] = tag;
@@ -328,17 +330,17 @@ pub fn resolve_case_7<
         × (D.belongs d.now resolvers.1.1.1.0 × (E.belongs e.now resolvers.1.1.1.1.0
         × (F.belongs f.now resolvers.1.1.1.1.1.0 × (G.belongs g.now resolvers.1.1.1.1.1.1.0
         × Unit {0})))))) }
-    ensures resolved { OnOk result (Resolved X.Portable place
+    ensures resolved { OnOk result (Resolves X.definitions place.entry.pos place.exit.0.now X.shape
         (case tag (value (A.flat a.now resolvers.0) (value (B.flat b.now resolvers.1.0)
         (value (C.flat c.now resolvers.1.1.0) (value (D.flat d.now resolvers.1.1.1.0)
         (value (E.flat e.now resolvers.1.1.1.1.0) (value (F.flat f.now resolvers.1.1.1.1.1.0)
         (value (G.flat g.now resolvers.1.1.1.1.1.1.0) no_value))))))))) }
     ensures same_length { length place.exit.0.now ≡ length place.entry.bytes.now }
-    ensures refused { IfErr result (Hindered X.Portable place
+    ensures refused { IfErr result (HindersAt X.definitions X.shape
         (case tag (value (A.flat a.now resolvers.0) (value (B.flat b.now resolvers.1.0)
         (value (C.flat c.now resolvers.1.1.0) (value (D.flat d.now resolvers.1.1.1.0)
         (value (E.flat e.now resolvers.1.1.1.1.0) (value (F.flat f.now resolvers.1.1.1.1.1.0)
-        (value (G.flat g.now resolvers.1.1.1.1.1.1.0) no_value))))))))) }
+        (value (G.flat g.now resolvers.1.1.1.1.1.1.0) no_value)))))))) place.entry.pos) }
 {
     let Place { bytes, pos, .. } = place;
     bytes[0] = tag;
@@ -405,19 +407,19 @@ pub fn resolve_case_8<
         × (D.belongs d.now resolvers.1.1.1.0 × (E.belongs e.now resolvers.1.1.1.1.0
         × (F.belongs f.now resolvers.1.1.1.1.1.0 × (G.belongs g.now resolvers.1.1.1.1.1.1.0
         × (H.belongs h.now resolvers.1.1.1.1.1.1.1.0 × Unit {0}))))))) }
-    ensures resolved { OnOk result (Resolved X.Portable place
+    ensures resolved { OnOk result (Resolves X.definitions place.entry.pos place.exit.0.now X.shape
         (case tag (value (A.flat a.now resolvers.0) (value (B.flat b.now resolvers.1.0)
         (value (C.flat c.now resolvers.1.1.0) (value (D.flat d.now resolvers.1.1.1.0)
         (value (E.flat e.now resolvers.1.1.1.1.0) (value (F.flat f.now resolvers.1.1.1.1.1.0)
         (value (G.flat g.now resolvers.1.1.1.1.1.1.0) (value
         (H.flat h.now resolvers.1.1.1.1.1.1.1.0) no_value)))))))))) }
     ensures same_length { length place.exit.0.now ≡ length place.entry.bytes.now }
-    ensures refused { IfErr result (Hindered X.Portable place
+    ensures refused { IfErr result (HindersAt X.definitions X.shape
         (case tag (value (A.flat a.now resolvers.0) (value (B.flat b.now resolvers.1.0)
         (value (C.flat c.now resolvers.1.1.0) (value (D.flat d.now resolvers.1.1.1.0)
         (value (E.flat e.now resolvers.1.1.1.1.0) (value (F.flat f.now resolvers.1.1.1.1.1.0)
         (value (G.flat g.now resolvers.1.1.1.1.1.1.0) (value
-        (H.flat h.now resolvers.1.1.1.1.1.1.1.0) no_value)))))))))) }
+        (H.flat h.now resolvers.1.1.1.1.1.1.1.0) no_value))))))))) place.entry.pos) }
 {
     let Place { bytes, pos, .. } = place;
     bytes[0] = tag;

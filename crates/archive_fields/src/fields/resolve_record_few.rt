@@ -7,8 +7,8 @@ ghost use Rattle.archive_check.specs.Layout.{up};
 ghost use Rattle.archive_check.specs.Shape.{part, no_part, parts};
 ghost use Rattle.archive_check.specs.Value.{value, no_value, product};
 ghost use Rattle.archive_fields.specs.Plain.{are_none};
-ghost use Rattle.archive_types.specs.Words.Placed.{Resolved, Hindered};
-ghost use Rattle.archive_types.specs.Writing.{ZeroedPlace};
+ghost use Rattle.archive_types.specs.Causes.{HindersAt};
+ghost use Rattle.archive_types.specs.Writing.{ZeroedPlace, Resolves};
 
 use super::front::resolve_0;
 use super::resolve_few::{
@@ -26,9 +26,11 @@ pub fn resolve_record_0<X: Portable>(resolvers: (), place: Place<'_, X>) -> Resu
     requires inside { 0 ≤ X.layout.size }
     requires zeroed { ZeroedPlace X.layout.size place.pos place.bytes.now }
     requires same_values { Unit {0} }
-    ensures resolved { OnOk result (Resolved X.Portable place (product no_value)) }
+    ensures resolved { OnOk result (Resolves X.definitions place.entry.pos place.exit.0.now X.shape
+        (product no_value)) }
     ensures same_length { length place.exit.0.now ≡ length place.entry.bytes.now }
-    ensures refused { IfErr result (Hindered X.Portable place (product no_value)) }
+    ensures refused { IfErr result (HindersAt X.definitions X.shape (product no_value)
+        place.entry.pos) }
 {
     let Place { bytes, pos, .. } = place;
     resolve_0(resolvers, pos, 0, bytes)
@@ -46,11 +48,11 @@ pub fn resolve_record_1<A: Archive, X: Portable>(
     requires inside { (up 0 A.Archived.layout.align + A.Archived.layout.size) ≤ X.layout.size }
     requires zeroed { ZeroedPlace X.layout.size place.pos place.bytes.now }
     requires same_values { A.belongs a.now resolvers.0 × Unit {0} }
-    ensures resolved { OnOk result (Resolved X.Portable place
+    ensures resolved { OnOk result (Resolves X.definitions place.entry.pos place.exit.0.now X.shape
         (product (value (A.flat a.now resolvers.0) no_value))) }
     ensures same_length { length place.exit.0.now ≡ length place.entry.bytes.now }
-    ensures refused { IfErr result (Hindered X.Portable place
-        (product (value (A.flat a.now resolvers.0) no_value))) }
+    ensures refused { IfErr result (HindersAt X.definitions X.shape
+        (product (value (A.flat a.now resolvers.0) no_value)) place.entry.pos) }
 {
     let Place { bytes, pos, .. } = place;
     resolve_1(a, resolvers, pos, 0, bytes)
@@ -72,13 +74,13 @@ pub fn resolve_record_2<A: Archive, B: Archive, X: Portable>(
     requires zeroed { ZeroedPlace X.layout.size place.pos place.bytes.now }
     requires same_values { A.belongs a.now resolvers.0
         × (B.belongs b.now resolvers.1.0 × Unit {0}) }
-    ensures resolved { OnOk result (Resolved X.Portable place
+    ensures resolved { OnOk result (Resolves X.definitions place.entry.pos place.exit.0.now X.shape
         (product (value (A.flat a.now resolvers.0) (value (B.flat b.now resolvers.1.0)
         no_value)))) }
     ensures same_length { length place.exit.0.now ≡ length place.entry.bytes.now }
-    ensures refused { IfErr result (Hindered X.Portable place
-        (product (value (A.flat a.now resolvers.0) (value (B.flat b.now resolvers.1.0)
-        no_value)))) }
+    ensures refused { IfErr result (HindersAt X.definitions X.shape
+        (product (value (A.flat a.now resolvers.0) (value (B.flat b.now resolvers.1.0) no_value)))
+        place.entry.pos) }
 {
     let Place { bytes, pos, .. } = place;
     resolve_2(a, b, resolvers, pos, 0, bytes)
@@ -103,13 +105,13 @@ pub fn resolve_record_3<A: Archive, B: Archive, C: Archive, X: Portable>(
     requires zeroed { ZeroedPlace X.layout.size place.pos place.bytes.now }
     requires same_values { A.belongs a.now resolvers.0
         × (B.belongs b.now resolvers.1.0 × (C.belongs c.now resolvers.1.1.0 × Unit {0})) }
-    ensures resolved { OnOk result (Resolved X.Portable place
+    ensures resolved { OnOk result (Resolves X.definitions place.entry.pos place.exit.0.now X.shape
         (product (value (A.flat a.now resolvers.0) (value (B.flat b.now resolvers.1.0)
         (value (C.flat c.now resolvers.1.1.0) no_value))))) }
     ensures same_length { length place.exit.0.now ≡ length place.entry.bytes.now }
-    ensures refused { IfErr result (Hindered X.Portable place
+    ensures refused { IfErr result (HindersAt X.definitions X.shape
         (product (value (A.flat a.now resolvers.0) (value (B.flat b.now resolvers.1.0)
-        (value (C.flat c.now resolvers.1.1.0) no_value))))) }
+        (value (C.flat c.now resolvers.1.1.0) no_value)))) place.entry.pos) }
 {
     let Place { bytes, pos, .. } = place;
     resolve_3(a, b, c, resolvers, pos, 0, bytes)
@@ -138,15 +140,15 @@ pub fn resolve_record_4<A: Archive, B: Archive, C: Archive, D: Archive, X: Porta
     requires same_values { A.belongs a.now resolvers.0
         × (B.belongs b.now resolvers.1.0 × (C.belongs c.now resolvers.1.1.0
         × (D.belongs d.now resolvers.1.1.1.0 × Unit {0}))) }
-    ensures resolved { OnOk result (Resolved X.Portable place
+    ensures resolved { OnOk result (Resolves X.definitions place.entry.pos place.exit.0.now X.shape
         (product (value (A.flat a.now resolvers.0) (value (B.flat b.now resolvers.1.0)
         (value (C.flat c.now resolvers.1.1.0) (value (D.flat d.now resolvers.1.1.1.0)
         no_value)))))) }
     ensures same_length { length place.exit.0.now ≡ length place.entry.bytes.now }
-    ensures refused { IfErr result (Hindered X.Portable place
+    ensures refused { IfErr result (HindersAt X.definitions X.shape
         (product (value (A.flat a.now resolvers.0) (value (B.flat b.now resolvers.1.0)
-        (value (C.flat c.now resolvers.1.1.0) (value (D.flat d.now resolvers.1.1.1.0)
-        no_value)))))) }
+        (value (C.flat c.now resolvers.1.1.0) (value (D.flat d.now resolvers.1.1.1.0) no_value)))))
+        place.entry.pos) }
 {
     let Place { bytes, pos, .. } = place;
     resolve_4(a, b, c, d, resolvers, pos, 0, bytes)
@@ -180,15 +182,15 @@ pub fn resolve_record_5<A: Archive, B: Archive, C: Archive, D: Archive, E: Archi
     requires same_values { A.belongs a.now resolvers.0
         × (B.belongs b.now resolvers.1.0 × (C.belongs c.now resolvers.1.1.0
         × (D.belongs d.now resolvers.1.1.1.0 × (E.belongs e.now resolvers.1.1.1.1.0 × Unit {0})))) }
-    ensures resolved { OnOk result (Resolved X.Portable place
+    ensures resolved { OnOk result (Resolves X.definitions place.entry.pos place.exit.0.now X.shape
         (product (value (A.flat a.now resolvers.0) (value (B.flat b.now resolvers.1.0)
         (value (C.flat c.now resolvers.1.1.0) (value (D.flat d.now resolvers.1.1.1.0)
         (value (E.flat e.now resolvers.1.1.1.1.0) no_value))))))) }
     ensures same_length { length place.exit.0.now ≡ length place.entry.bytes.now }
-    ensures refused { IfErr result (Hindered X.Portable place
+    ensures refused { IfErr result (HindersAt X.definitions X.shape
         (product (value (A.flat a.now resolvers.0) (value (B.flat b.now resolvers.1.0)
         (value (C.flat c.now resolvers.1.1.0) (value (D.flat d.now resolvers.1.1.1.0)
-        (value (E.flat e.now resolvers.1.1.1.1.0) no_value))))))) }
+        (value (E.flat e.now resolvers.1.1.1.1.0) no_value)))))) place.entry.pos) }
 {
     let Place { bytes, pos, .. } = place;
     resolve_5(a, b, c, d, e, resolvers, pos, 0, bytes)
@@ -237,17 +239,17 @@ pub fn resolve_record_6<
         × (B.belongs b.now resolvers.1.0 × (C.belongs c.now resolvers.1.1.0
         × (D.belongs d.now resolvers.1.1.1.0 × (E.belongs e.now resolvers.1.1.1.1.0
         × (F.belongs f.now resolvers.1.1.1.1.1.0 × Unit {0}))))) }
-    ensures resolved { OnOk result (Resolved X.Portable place
+    ensures resolved { OnOk result (Resolves X.definitions place.entry.pos place.exit.0.now X.shape
         (product (value (A.flat a.now resolvers.0) (value (B.flat b.now resolvers.1.0)
         (value (C.flat c.now resolvers.1.1.0) (value (D.flat d.now resolvers.1.1.1.0)
         (value (E.flat e.now resolvers.1.1.1.1.0) (value (F.flat f.now resolvers.1.1.1.1.1.0)
         no_value)))))))) }
     ensures same_length { length place.exit.0.now ≡ length place.entry.bytes.now }
-    ensures refused { IfErr result (Hindered X.Portable place
+    ensures refused { IfErr result (HindersAt X.definitions X.shape
         (product (value (A.flat a.now resolvers.0) (value (B.flat b.now resolvers.1.0)
         (value (C.flat c.now resolvers.1.1.0) (value (D.flat d.now resolvers.1.1.1.0)
         (value (E.flat e.now resolvers.1.1.1.1.0) (value (F.flat f.now resolvers.1.1.1.1.1.0)
-        no_value)))))))) }
+        no_value))))))) place.entry.pos) }
 {
     let Place { bytes, pos, .. } = place;
     resolve_6(a, b, c, d, e, f, resolvers, pos, 0, bytes)
@@ -303,17 +305,17 @@ pub fn resolve_record_7<
         × (D.belongs d.now resolvers.1.1.1.0 × (E.belongs e.now resolvers.1.1.1.1.0
         × (F.belongs f.now resolvers.1.1.1.1.1.0 × (G.belongs g.now resolvers.1.1.1.1.1.1.0
         × Unit {0})))))) }
-    ensures resolved { OnOk result (Resolved X.Portable place
+    ensures resolved { OnOk result (Resolves X.definitions place.entry.pos place.exit.0.now X.shape
         (product (value (A.flat a.now resolvers.0) (value (B.flat b.now resolvers.1.0)
         (value (C.flat c.now resolvers.1.1.0) (value (D.flat d.now resolvers.1.1.1.0)
         (value (E.flat e.now resolvers.1.1.1.1.0) (value (F.flat f.now resolvers.1.1.1.1.1.0)
         (value (G.flat g.now resolvers.1.1.1.1.1.1.0) no_value))))))))) }
     ensures same_length { length place.exit.0.now ≡ length place.entry.bytes.now }
-    ensures refused { IfErr result (Hindered X.Portable place
+    ensures refused { IfErr result (HindersAt X.definitions X.shape
         (product (value (A.flat a.now resolvers.0) (value (B.flat b.now resolvers.1.0)
         (value (C.flat c.now resolvers.1.1.0) (value (D.flat d.now resolvers.1.1.1.0)
         (value (E.flat e.now resolvers.1.1.1.1.0) (value (F.flat f.now resolvers.1.1.1.1.1.0)
-        (value (G.flat g.now resolvers.1.1.1.1.1.1.0) no_value))))))))) }
+        (value (G.flat g.now resolvers.1.1.1.1.1.1.0) no_value)))))))) place.entry.pos) }
 {
     let Place { bytes, pos, .. } = place;
     resolve_7(a, b, c, d, e, f, g, resolvers, pos, 0, bytes)
@@ -377,19 +379,19 @@ pub fn resolve_record_8<
         × (D.belongs d.now resolvers.1.1.1.0 × (E.belongs e.now resolvers.1.1.1.1.0
         × (F.belongs f.now resolvers.1.1.1.1.1.0 × (G.belongs g.now resolvers.1.1.1.1.1.1.0
         × (H.belongs h.now resolvers.1.1.1.1.1.1.1.0 × Unit {0}))))))) }
-    ensures resolved { OnOk result (Resolved X.Portable place
+    ensures resolved { OnOk result (Resolves X.definitions place.entry.pos place.exit.0.now X.shape
         (product (value (A.flat a.now resolvers.0) (value (B.flat b.now resolvers.1.0)
         (value (C.flat c.now resolvers.1.1.0) (value (D.flat d.now resolvers.1.1.1.0)
         (value (E.flat e.now resolvers.1.1.1.1.0) (value (F.flat f.now resolvers.1.1.1.1.1.0)
         (value (G.flat g.now resolvers.1.1.1.1.1.1.0) (value
         (H.flat h.now resolvers.1.1.1.1.1.1.1.0) no_value)))))))))) }
     ensures same_length { length place.exit.0.now ≡ length place.entry.bytes.now }
-    ensures refused { IfErr result (Hindered X.Portable place
+    ensures refused { IfErr result (HindersAt X.definitions X.shape
         (product (value (A.flat a.now resolvers.0) (value (B.flat b.now resolvers.1.0)
         (value (C.flat c.now resolvers.1.1.0) (value (D.flat d.now resolvers.1.1.1.0)
         (value (E.flat e.now resolvers.1.1.1.1.0) (value (F.flat f.now resolvers.1.1.1.1.1.0)
         (value (G.flat g.now resolvers.1.1.1.1.1.1.0) (value
-        (H.flat h.now resolvers.1.1.1.1.1.1.1.0) no_value)))))))))) }
+        (H.flat h.now resolvers.1.1.1.1.1.1.1.0) no_value))))))))) place.entry.pos) }
 {
     let Place { bytes, pos, .. } = place;
     resolve_8(a, b, c, d, e, f, g, h, resolvers, pos, 0, bytes)

@@ -24,13 +24,13 @@ use Rattle.archive_types.specs.Members.Planned.{text_region}
 use Rattle.archive_types.specs.Members.PlannedOwners.{one_plan}
 use Rattle.archive_types.specs.TextPlans.{HindersStringAt}
 use Rattle.archive_types.specs.Writing.{NameMap, Naming, AreNamed, Puts}
-use Rattle.archive_types.specs.Plans.{Cursor, cursor, AreBelow, IsAt, Step, lays, plans_leaf, plans_inline, plans_out_of_line, PlanOf, RegionPlan, Serialized, serialized, SerializedRegion, serialized_region}
-use Rattle.archive_types.specs.Causes.{Explains, own_cause, of_isize, of_offset, of_position, of_length, of_number, of_string, of_layout, IsOwnCause, PartOf, HindersPartAt, part_itself, part_of_one, owner_string, IsTooWide, stands_too_far, too_wide, text_too_long, anywhere, too_far_from_here, part_hinders, length_hinders, end_hinders, HindersRegion, HindersAt, HindersRegionAt, RegionReaches, IsRefused, IsRegionRefused}
+use Rattle.archive_types.specs.Plans.{Cursor, cursor, AreBelow, StandsAt, Step, lays, plans_leaf, plans_inline, plans_out_of_line, PlanOf, RegionPlan, Serialized, serialized, SerializedRegion, serialized_region}
+use Rattle.archive_types.specs.Causes.{Explains, own_cause, of_isize, of_offset, of_position, of_length, of_number, of_string, of_layout, IsOwnCause, ValuePart, HindersPartAt, part_itself, part_of_one, owner_string, IsTooWide, stands_too_far, too_wide, text_too_long, anywhere, too_far_from_here, part_hinders, length_hinders, end_hinders, HindersRegion, HindersAt, HindersRegionAt, RegionReaches, IsRefused, IsRegionRefused}
 use Rattle.archive_types.proofs.Writing.Appending.{size_is, align_is, writes_number, lays_one}
 use Rattle.archive_types.proofs.Planning.Causes.{explains_write, explains_sooner, explains_later}
 use Rattle.archive_types.proofs.Writing.StringsWritten.{flat_inline, flat_out_of_line, writes_inline, lays_text, writes_out_of_line}
 
-pub is_here : (w : WriterState) → IsAt (cursor w) w
+pub is_here : (w : WriterState) → StandsAt (cursor w) w
 is_here w = record { position = refl; keys = λ k. refl }
 
 -- leaves
@@ -200,14 +200,14 @@ module _ (D : Definitions) (X : Shape) (ks : List Naming) (v : Value) where
             _,
             in_last q.steps _,
             part_hinders {r = region_at s t (one X) 0 false} {o = z.0} {Y = z.1} {w = z.2}
-                (part_of_one (subst (λ u. PartOf s X u z.0 z.1 z.2) (sym is) z.3)) (subst (λ p. HindersPartAt z.1 (p + z.0) z.2 e) (sym here) z.4),
+                (part_of_one (subst (λ u. ValuePart s X u z.0 z.1 z.2) (sym is) z.3)) (subst (λ p. HindersPartAt z.1 (p + z.0) z.2 e) (sym here) z.4),
           )));
         }
       ])
       (λ m x below s names l n. plan below s names l n _ (λ q t here is. omega (arith, here, x, size_is layout s l))) refused
     where
       plan : AreBelow (cursor old) → (s : Schema) (names : NameMap) → Knows s D → AreNamed names ks → (such : ℕ → List Step → Cursor → Type 0)
-          → ((q : PlanOf s names X v (cursor old) (λ w C b. (w ≡ flat) × IsAt b mid)) (t : ℕ) → t ≡ length low.bytes → q.flat ≡ flat
+          → ((q : PlanOf s names X v (cursor old) (λ w C b. (w ≡ flat) × StandsAt b mid)) (t : ℕ) → t ≡ length low.bytes → q.flat ≡ flat
           → such t (q.steps ++ lays (region_at s t (one X) 0 false) q.flat ∷ []) (record { position = t + size_of s.layouts X; states = q.stop.states }))
           → RegionPlan s names (one X) 0 v (cursor old) such
       plan below s names l n such f =

@@ -10,8 +10,8 @@ use Rattle.archive_check.specs.WriterState.{KeyStates, WriterState}
 use Rattle.archive_check.specs.declared.format.error.Error.{Error}
 use Rattle.archive_write.specs.Written.{GoesOn}
 use Rattle.archive_types.specs.Writing.{NameMap, Naming, AreNamed, World, Covers, Writes, WritesAll}
-use Rattle.archive_types.specs.Plans.{Cursor, cursor, IsAt, Step, PlansParts, plans_no_part, plans_part, plans_parts, Plans, AreBelow, Whatever, Foreseen, PlanOf, HasPlan, Serialized, serialized}
-use Rattle.archive_types.specs.Causes.{Explains, PartOf, PartOfParts, part_of_parts, in_first_part, in_later_part, HindersPart, HindersSome, IsOwnCause, Hinders, Reaches, IsRefused}
+use Rattle.archive_types.specs.Plans.{Cursor, cursor, StandsAt, Step, PlansParts, plans_no_part, plans_part, plans_parts, Plans, AreBelow, Whatever, Foreseen, PlanOf, HasPlan, Serialized, serialized}
+use Rattle.archive_types.specs.Causes.{Explains, ValuePart, PartOfParts, part_of_parts, in_first_part, in_later_part, HindersPart, HindersSome, IsOwnCause, Hinders, PlanReaches, IsRefused}
 use Rattle.archive_check.specs.Members.PartsLayout.{StandsFor, for_itself, by_name, IsRecord, knows_left, knows_right}
 use Rattle.archive_types.specs.Parts.{PartsPlan, HavePlan, SerializedParts, serialized_parts, HindersParts, PartsReach, ArePartsRefused}
 use Rattle.archive_types.specs.Members.Sides.{named_left, named_right}
@@ -22,11 +22,11 @@ use Rattle.archive_types.proofs.Writing.ResolvedParts.{standing_part as part_sta
 use Rattle.archive_types.proofs.Planning.PlansForward.{parts_forward, plans_below}
 
 -- a writer stands where a plan ends
-pub is_at_same : (b : Cursor) (w : WriterState) → IsAt b w → b ≡ cursor w
+pub is_at_same : (b : Cursor) (w : WriterState) → StandsAt b w → b ≡ cursor w
 is_at_same b w h = λ i. record { position = sym h.position i; states = λ k. sym (h.keys k) i }
 
 -- and the keys that are finished then stand below it
-pub below_later : (s : Schema) → LaidOut s → (names : NameMap) {X : Shape} {v w : Value} {a b : Cursor} {C : List Step} (mid : WriterState) → Plans s names X v a w C b → IsAt b mid → AreBelow a
+pub below_later : (s : Schema) → LaidOut s → (names : NameMap) {X : Shape} {v w : Value} {a b : Cursor} {C : List Step} (mid : WriterState) → Plans s names X v a w C b → StandsAt b mid → AreBelow a
     → AreBelow (cursor mid)
 below_later s l names {b = b} mid plans at below = subst AreBelow (is_at_same b mid at) (plans_below s l names plans below)
 
@@ -43,7 +43,7 @@ module _ (D E : Definitions) (X : Shape) (ps : Parts) (ks ls : List Naming) (v :
       (λ below s names k n. (
       let q = planned below s names (knows_left s D E k) (named_left names ks ls n) in
       let r = later (below_later s k.laid_out names mid q.plans q.such.1 below) s names (knows_right s D E k) (named_right names ks ls n) in
-      let there : PartsPlan s names ps vs q.stop (λ us C b. (us ≡ ws) × IsAt b new) = subst (λ c. PartsPlan s names ps vs c (λ us C b. (us ≡ ws) × IsAt b new)) (sym (is_at_same q.stop mid q.such.1)) r in
+      let there : PartsPlan s names ps vs q.stop (λ us C b. (us ≡ ws) × StandsAt b new) = subst (λ c. PartsPlan s names ps vs c (λ us C b. (us ≡ ws) × StandsAt b new)) (sym (is_at_same q.stop mid q.such.1)) r in
       part_plan X ps v vs s names (cursor old) _ _ _ q there (λ i. value (q.such.0 i) (there.such.0 i), there.such.1)))
 
   -- the first is refused
@@ -125,8 +125,8 @@ module _ (D : Definitions) (X : Shape) (E : Definitions) (ps : Parts) (is : IsRe
   serialized_record ws old new h = serialized_standing (product ws) old new (serialized_product E ps ks vs ws old new h)
 
   standing_cause : (s : Schema) (C : List Step) (flat : Value) (e : Error) → StandsFor s (parts ps) X
-      → HindersSome s C e ⊎ ((o : ℕ) × (Y : Shape) × (w : Value) × PartOf s (parts ps) flat o Y w × HindersPart Y w e)
-      → HindersSome s C e ⊎ ((o : ℕ) × (Y : Shape) × (w : Value) × PartOf s X flat o Y w × HindersPart Y w e)
+      → HindersSome s C e ⊎ ((o : ℕ) × (Y : Shape) × (w : Value) × ValuePart s (parts ps) flat o Y w × HindersPart Y w e)
+      → HindersSome s C e ⊎ ((o : ℕ) × (Y : Shape) × (w : Value) × ValuePart s X flat o Y w × HindersPart Y w e)
   standing_cause s C flat e stands (inl h) = inl h
   standing_cause s C flat e stands (inr h) = inr (h.0, h.1, h.2, part_standing s (parts ps) X flat h.0 h.1 h.2 stands h.3, h.4)
 

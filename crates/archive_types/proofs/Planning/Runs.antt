@@ -11,7 +11,7 @@ use Rattle.archive_check.specs.declared.format.error.Error.{Error}
 use Rattle.archive_write.specs.Written.{GoesOn}
 use Rattle.archive_types.specs.Writing.{NameMap, Naming, World, Covers, WritesAll}
 use Rattle.archive_types.specs.Members.Sides.{named_left, named_right}
-use Rattle.archive_types.specs.Plans.{Cursor, cursor, IsAt, Step, plans_none, plans_element, PlanOf, HasPlan, Serialized, serialized}
+use Rattle.archive_types.specs.Plans.{Cursor, cursor, StandsAt, Step, plans_none, plans_element, PlanOf, HasPlan, Serialized, serialized}
 use Rattle.archive_types.specs.Causes.{in_first_element, in_later_element, IsRefused}
 use Rattle.archive_types.specs.Runs.{each_meaning, each_flat, each_keys, EachBelongs, RunPlan, HasRunPlan, SerializedRun, serialized_run, IsRunRefused}
 use Rattle.archive_types.specs.Members.PlannedOwners.{each_planned}
@@ -49,7 +49,7 @@ module _ (D : Definitions) (X : Shape) where
     element_plan s names a holds rest such q r h = record { flats = value q.flat r.flats; steps = q.steps ++ r.steps; stop = r.stop; plans = plans_element q.plans r.plans; such = h }
 
     -- others planned from where the writer stands are planned from where the plan ends
-    from_stop : (s : Schema) (names : NameMap) (mid : WriterState) (b : Cursor) (such : Values → List Step → Cursor → Type 0) → IsAt b mid → RunPlan s names n X vs (cursor mid) such → RunPlan s names n X vs b such
+    from_stop : (s : Schema) (names : NameMap) (mid : WriterState) (b : Cursor) (such : Values → List Step → Cursor → Type 0) → StandsAt b mid → RunPlan s names n X vs (cursor mid) such → RunPlan s names n X vs b such
     from_stop s names mid b such at r = subst (λ c. RunPlan s names n X vs c such) (sym (is_at_same b mid at)) r
 
     pub serialized_element : (w : Value) (ws : Values) (old mid new : WriterState) → Serialized D X ks v w old mid → SerializedRun D X n ls vs ws mid new

@@ -16,7 +16,7 @@ use Rattle.archive_check.proofs.Tours.StandingBytes.{stands_fits, stands_zero, s
 use Rattle.archive_check.proofs.Tours.Tightness.{tight_append, clean_regions_append}
 use Rattle.archive_check.proofs.Elements.{contains_cases, contains_later}
 use Rattle.archive_check.proofs.Tours.Seen.{same_some, inserted_has, inserted_apart}
-use Rattle.archive_types.specs.Writing.{Naming, World, Covers, Known, Unseen, Found, Appends, Finishes, AreFinished, Writes, LaysOutShared, to_shared}
+use Rattle.archive_types.specs.Writing.{Naming, World, Covers, Known, Unseen, Found, Appends, FinishesKeys, AreFinished, Writes, LaysOutShared, to_shared}
 use Rattle.archive_types.proofs.SharedValues.KeyStates.{set_here, set_other}
 use Rattle.archive_types.proofs.Writing.Appending.{longer, finishes_nothing, finishes_wider}
 use Rattle.archive_types.proofs.Writing.Denoting.{one_value, one_entry}
@@ -31,7 +31,7 @@ finished_by s t v kept h k n = (let (q, is) = h k n in (q, kept k q is))
 finished_key : (s : KeyStates) (key t : ℕ) → s key ≡ Some (Some t) → AreFinished s (shared_value key)
 finished_key s key t h k names_itself = (t, h)
 
-module _ (a b c t key : ℕ) (old begun mid put new : KeyStates) (unknown : old key ≡ None) (start : IsSet old key (Some None) begun) (h : Finishes a b begun mid) (same : put ≡ mid) (finish : IsSet put key (Some (Some t)) new) (le : a ≤ b) (lower : b ≤ t) (inside : t < c) where
+module _ (a b c t key : ℕ) (old begun mid put new : KeyStates) (unknown : old key ≡ None) (start : IsSet old key (Some None) begun) (h : FinishesKeys a b begun mid) (same : put ≡ mid) (finish : IsSet put key (Some (Some t)) new) (le : a ≤ b) (lower : b ≤ t) (inside : t < c) where
   -- a key's state in the end, where it is another one
   in_the_middle : (k : ℕ) (y : Option (Option ℕ)) → (k ≡ key → ⊥) → new k ≡ y → mid k ≡ y
   in_the_middle k y n is = sym (ap (λ f. f k) same) ∙ sym (set_other put new key (Some (Some t)) finish k n) ∙ is
@@ -68,7 +68,7 @@ module _ (a b c t key : ℕ) (old begun mid put new : KeyStates) (unknown : old 
     ]
   ]
 
-  pub finishes_shared : Finishes a c old new
+  pub finishes_shared : FinishesKeys a c old new
   finishes_shared = record { kept = later_kept; settled = later_settled; apart = later_apart }
 
   pub finished_middle : (k q : ℕ) → mid k ≡ Some (Some q) → new k ≡ Some (Some q)

@@ -14,7 +14,7 @@ use Rattle.archive_check.specs.context.PositionStates.{finish_answer}
 use Rattle.archive_write.specs.declared.sharing.SharingState.{SharingState}
 use Rattle.archive_write.specs.declared.sharing.SharingState.TheVariants.{Started, Pending}
 use Rattle.archive_types.specs.Writing.{Naming, LaysOut}
-use Rattle.archive_types.specs.Plans.{cursor, begun, IsAt, LiesAsPlanned, SerializedRegion, serialized_region, SerializedShared, serialized_shared}
+use Rattle.archive_types.specs.Plans.{cursor, begun, StandsAt, LiesAsPlanned, SerializedRegion, serialized_region, SerializedShared, serialized_shared}
 use Rattle.archive_types.specs.Causes.{Explains, own_cause, HindersRegion, HindersShared, RegionReaches, IsRegionRefused}
 use Rattle.archive_types.proofs.SharedValues.KeyStates.{set_here, set_other}
 use Rattle.archive_types.proofs.Planning.Causes.{goes_kept, explains_later}
@@ -68,7 +68,7 @@ module _ (D : Definitions) (P : Pointee) (n : ℕ) (ks : List Naming) (v : Value
         ends = finish;
       })
       (λ below s names k l. (
-      let q = (subst (λ c. LiesAsPlanned D P n ks v c p (λ b. IsAt b low)) (begun_cursor old mid key unknown same set) planned) below s names k l in
+      let q = (subst (λ c. LiesAsPlanned D P n ks v c p (λ b. StandsAt b low)) (begun_cursor old mid key unknown same set) planned) below s names k l in
       record {
         begin = q.begin;
         steps = q.steps;

@@ -18,8 +18,8 @@ use Rattle.archive_write.specs.Written.{GoesOn, ExplainsRefusal}
 use Rattle.archive_write.specs.Sharing.{known_answer}
 use Rattle.archive_types.specs.Writing.{NameMap, Naming, to_shared}
 use Rattle.archive_types.specs.Members.SharedLaws.{naming_of, as_shared, as_weak}
-use Rattle.archive_types.specs.Plans.{Cursor, cursor, begun, ended, IsAt, Step, lays, plans_shared, plans_null, plans_new, PlanOf, RegionPlan, Serialized, serialized, SerializedShared, serialized_shared}
-use Rattle.archive_types.specs.Causes.{Explains, own_cause, of_position, of_length, PartOf, part_itself, IsOwner, owner_shared, owner_weak, HindersPart, stands_too_far, IsSharedOwner, shared_owner, weak_owner, shared_too_long, HindersStep, part_hinders, length_hinders, end_hinders, HindersSome, Hinders, HindersRegion, HindersShared, Reaches, RegionReaches, IsRefused}
+use Rattle.archive_types.specs.Plans.{Cursor, cursor, begun, ended, StandsAt, Step, lays, plans_shared, plans_null, plans_new, PlanOf, RegionPlan, Serialized, serialized, SerializedShared, serialized_shared}
+use Rattle.archive_types.specs.Causes.{Explains, own_cause, of_position, of_length, ValuePart, part_itself, IsOwner, owner_shared, owner_weak, HindersPart, stands_too_far, IsSharedOwner, shared_owner, weak_owner, shared_too_long, HindersStep, part_hinders, length_hinders, end_hinders, HindersSome, Hinders, HindersRegion, HindersShared, PlanReaches, RegionReaches, IsRefused}
 use Rattle.archive_types.proofs.Planning.Causes.{explains_sooner, explains_later, explains_write}
 use Rattle.archive_types.proofs.Planning.PlansForward.{begun_below}
 use Rattle.archive_types.proofs.Writing.Appending.{writes_nothing}
@@ -99,7 +99,7 @@ module _ (D : Definitions) (P : Pointee) (n : ℕ) (ks : List Naming) (v : Value
   module _ (r : Result ℕ Error) (p : ℕ) (old mid : WriterState) (is : r ≡ Ok p) (known : (s : Option ℕ) → old.states key ≡ Some s → r ≡ known_answer s)
       (kept : (s : Option ℕ) → old.states key ≡ Some s → KeepsBytes old mid × KeepsKeys old.states mid.states) (laid : old.states key ≡ None → SerializedShared D P n key ks v p old mid) where
     -- the byte behind an empty region is planned
-    planned_byte : length mid.bytes ≡ p → Reaches D (shared flavor P) all (shared_value key) (cursor old) (p + 1)
+    planned_byte : length mid.bytes ≡ p → PlanReaches D (shared flavor P) all (shared_value key) (cursor old) (p + 1)
     planned_byte here below s names k m = by_state (old.states key) refl
       where
         with_new : old.states key ≡ None → SerializedShared D P n key ks v p old mid → PlanOf s names (shared flavor P) (shared_value key) (cursor old) (λ flat C b. p + 1 ≤ b.position)
@@ -128,7 +128,7 @@ module _ (D : Definitions) (P : Pointee) (n : ℕ) (ks : List Naming) (v : Value
     pub byte_refused : (position : ℕ) (new : WriterState) (e : Error) → position ≡ length mid.bytes → position ≡ p → GoesOn old mid → GoesOn mid new → ExplainsRefusal 1 position (length new.bytes) mid.room mid.failures new.failures e
         → IsRefused D (shared flavor P) all (shared_value key) old new e
     byte_refused position new e here there g more h =
-        explains_later (Hinders D (shared flavor P) all (shared_value key) (cursor old)) _ (Reaches D (shared flavor P) all (shared_value key) (cursor old)) _ old mid new e g more (λ x. x) (λ m x. x)
+        explains_later (Hinders D (shared flavor P) all (shared_value key) (cursor old)) _ (PlanReaches D (shared flavor P) all (shared_value key) (cursor old)) _ old mid new e g more (λ x. x) (λ m x. x)
         (explains_write _ _ 1 position mid new e here (rw there (planned_byte (sym here ∙ there))) more h)
 
     -- it was written
@@ -174,8 +174,8 @@ weak_serialized D flavor P ks v flat old new (serialized writes planned) = seria
     let q = planned below s names k m in
     record { flat = q.flat; steps = q.steps; stop = q.stop; plans = as_weak q.plans; such = q.such }))
 
-weak_part : {s : Schema} {flavor : Flavor} {P : Pointee} {v : Value} {o : ℕ} {Y : Shape} {w : Value} {e : Error} → PartOf s (shared flavor P) v o Y w → HindersPart Y w e
-    → (Z : Shape) × PartOf s (weak flavor P) v o Z w × HindersPart Z w e
+weak_part : {s : Schema} {flavor : Flavor} {P : Pointee} {v : Value} {o : ℕ} {Y : Shape} {w : Value} {e : Error} → ValuePart s (shared flavor P) v o Y w → HindersPart Y w e
+    → (Z : Shape) × ValuePart s (weak flavor P) v o Z w × HindersPart Z w e
 weak_part {flavor = flavor} {P = P} part_itself (stands_too_far owner_shared there far) = (weak flavor P, part_itself, stands_too_far owner_weak there far)
 weak_part {flavor = flavor} {P = P} part_itself (shared_too_long shared_owner long) = (weak flavor P, part_itself, shared_too_long weak_owner long)
 

@@ -17,7 +17,7 @@ use Rattle.archive_check.proofs.Tours.JoinedTours.{tour_append}
 use Rattle.archive_check.proofs.Tours.StandingBytes.{stands_fits, stands_zero, zero_nowhere, stands_begun}
 use Rattle.archive_check.proofs.Tours.Tightness.{tight_append, clean_regions_append}
 pub use Rattle.archive_types.specs.Members.Sides.{knows_left, knows_right, named_left, named_right}
-use Rattle.archive_types.specs.Writing.{Naming, World, Covers, Known, Unseen, Found, Appends, Finishes, AreFinished, AllFinished, Writes, WritesAll, Puts, LaysOut, to_pointee}
+use Rattle.archive_types.specs.Writing.{Naming, World, Covers, Known, Unseen, Found, Appends, FinishesKeys, AreFinished, AllFinished, Writes, WritesAll, Puts, LaysOut, to_pointee}
 
 -- the layout, in a schema that knows the definitions
 
@@ -46,11 +46,11 @@ holds_right w D E new t ks ls h = record { knows = knows_right _ D E h.knows; re
 
 -- states
 
-pub finishes_nothing : (a : ℕ) (s : KeyStates) → Finishes a a s s
+pub finishes_nothing : (a : ℕ) (s : KeyStates) → FinishesKeys a a s s
 finishes_nothing a s = record { kept = λ k x h. h; settled = λ k x h i. cc; apart = λ k l t h i j m. cc }
 
 finishes_later : (a b c : ℕ) (s t u : KeyStates) (k : ℕ) (x : Option ℕ) (y : Option (Option ℕ)) → t k ≡ y → a ≤ b → b ≤ c
-    → Finishes a b s t → Finishes b c t u → s k ≡ None → u k ≡ Some x → (q : ℕ) × (x ≡ Some q) × (a ≤ q) × (q < c)
+    → FinishesKeys a b s t → FinishesKeys b c t u → s k ≡ None → u k ≡ Some x → (q : ℕ) × (x ≡ Some q) × (a ≤ q) × (q < c)
 finishes_later a b c s t u k x None is le ge h i old new =
     let later = i.settled k x is new in (later.0, later.1, omega (arith, later.2), later.3)
 finishes_later a b c s t u k x (Some y) is le ge h i old new =
@@ -58,7 +58,7 @@ finishes_later a b c s t u k x (Some y) is le ge h i old new =
     let same : x ≡ y = (let there = i.kept k y is in cc) in
     (early.0, same ∙ early.1, early.2, omega (arith, early.3))
 
-finishes_apart : (a b c : ℕ) (s t u : KeyStates) (k l q : ℕ) (x y : Option (Option ℕ)) → t k ≡ x → t l ≡ y → Finishes a b s t → Finishes b c t u
+finishes_apart : (a b c : ℕ) (s t u : KeyStates) (k l q : ℕ) (x y : Option (Option ℕ)) → t k ≡ x → t l ≡ y → FinishesKeys a b s t → FinishesKeys b c t u
     → s k ≡ None → s l ≡ None → u k ≡ Some (Some q) → u l ≡ Some (Some q) → k ≡ l
 finishes_apart a b c s t u k l q None None is js h i m n at too = i.apart k l q is js at too
 finishes_apart a b c s t u k l q None (Some y) is js h i m n at too =
@@ -94,14 +94,14 @@ finished_case s tag vs h k (names_case n) = h k n
 finished_box : (s : KeyStates) (v : Value) → AreFinished s v → AreFinished s (box v)
 finished_box s v h k (names_box n) = h k n
 
-pub finishes_both : (a b c : ℕ) (s t u : KeyStates) → a ≤ b → b ≤ c → Finishes a b s t → Finishes b c t u → Finishes a c s u
+pub finishes_both : (a b c : ℕ) (s t u : KeyStates) → a ≤ b → b ≤ c → FinishesKeys a b s t → FinishesKeys b c t u → FinishesKeys a c s u
 finishes_both a b c s t u le ge h i = record {
   kept = λ k x old. i.kept k x (h.kept k x old);
   settled = λ k x old new. finishes_later a b c s t u k x (t k) refl le ge h i old new;
   apart = λ k l q m n at too. finishes_apart a b c s t u k l q (t k) (t l) refl refl h i m n at too;
 }
 
-pub finishes_wider : (a b c : ℕ) (s t : KeyStates) → b ≤ c → Finishes a b s t → Finishes a c s t
+pub finishes_wider : (a b c : ℕ) (s t : KeyStates) → b ≤ c → FinishesKeys a b s t → FinishesKeys a c s t
 finishes_wider a b c s t le h = record { kept = h.kept; settled = λ k x old new. (let i = h.settled k x old new in (i.0, i.1, i.2, omega (arith, i.3))); apart = h.apart }
 
 -- tours

@@ -15,8 +15,8 @@ use Rattle.archive_check.specs.declared.format.error.Error.{Error}
 use Rattle.archive_check.proofs.Elements.{contains_first, contains_later}
 use Rattle.archive_check.proofs.Tours.JoinedTours.{tour_append}
 use Rattle.archive_write.specs.Written.{IsBeginning}
-use Rattle.archive_types.specs.Writing.{NameMap, Naming, AreNamed, World, Covers, Known, AreFinished, AllFinished, Finishes, Writes, WritesAll, Puts, to_pointee}
-use Rattle.archive_types.specs.Plans.{cursor, AreBelow, Plans, PlansRun, plans_none, plans_element, PlanOf, IsAt, Serialized, serialized}
+use Rattle.archive_types.specs.Writing.{NameMap, Naming, AreNamed, World, Covers, Known, AreFinished, AllFinished, FinishesKeys, Writes, WritesAll, Puts, to_pointee}
+use Rattle.archive_types.specs.Plans.{cursor, AreBelow, Plans, PlansRun, plans_none, plans_element, PlanOf, StandsAt, Serialized, serialized}
 use Rattle.archive_types.specs.Runs.{each_keys, each_meaning, SerializedRun, serialized_run, PutsRun}
 use Rattle.archive_types.specs.Members.Sides.{named_left, named_right}
 use Rattle.archive_types.specs.ItemsWritten.{AllShared, OwnNoRegion, ItemWritten, ItemRefused, ItemsWritten, no_item, one_item, ItemsLaid, ItemsRefused, one_refused}
@@ -47,9 +47,9 @@ unchanged None None p kept settled = refl
 unchanged None (Some z) p kept settled = (let h = settled z refl refl in absurd (omega (arith, h.2, h.3)))
 unchanged (Some z) y p kept settled = kept z refl
 
-silent_states : (p q : ℕ) (s t : KeyStates) → q ≡ p → Finishes p q s t → t ≡ s
+silent_states : (p q : ℕ) (s t : KeyStates) → q ≡ p → FinishesKeys p q s t → t ≡ s
 silent_states p q s t e h =
-    let f : Finishes p p s t = rw e at h in
+    let f : FinishesKeys p p s t = rw e at h in
     λ i k. unchanged (s k) (t k) p (λ z is. f.kept k z is) (λ z none new. f.settled k z none new) i
 
 -- What a value's pointers are to a writer that stood at `first`, and to each that has written since and keeps the keys: all lead to what was met.

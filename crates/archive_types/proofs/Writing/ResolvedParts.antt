@@ -11,7 +11,7 @@ use Rattle.archive_check.specs.declared.format.error.Error.{Error}
 use Rattle.archive_check.proofs.Tours.StandingBytes.{stands_front, stands_back, stands_zero}
 use Rattle.archive_types.specs.Writing.{Resolves}
 use Rattle.archive_types.specs.Parts.{ZeroedParts, ResolvesParts, HindersPartsAt}
-use Rattle.archive_types.specs.Causes.{PartOf, part_of_parts, part_of_named, in_first_part, in_later_part, HindersPartAt, HindersAt}
+use Rattle.archive_types.specs.Causes.{ValuePart, part_of_parts, part_of_named, in_first_part, in_later_part, HindersPartAt, HindersAt}
 use Rattle.archive_types.proofs.Writing.Appending.{size_is, align_is}
 
 -- behind the last part there are zeros
@@ -75,7 +75,7 @@ pub standing_clean : (s : Schema) (bytes : List ℕ) (p : ℕ) (Y X : Shape) →
 standing_clean s bytes p Y X for_itself h = h
 standing_clean s bytes p Y X (by_name d) h = clean_named d h
 
-pub standing_part : (s : Schema) (Z X : Shape) (v : Value) (o : ℕ) (Y : Shape) (w : Value) → StandsFor s Z X → PartOf s Z v o Y w → PartOf s X v o Y w
+pub standing_part : (s : Schema) (Z X : Shape) (v : Value) (o : ℕ) (Y : Shape) (w : Value) → StandsFor s Z X → ValuePart s Z v o Y w → ValuePart s X v o Y w
 standing_part s Z X v o Y w for_itself h = h
 standing_part s Z X v o Y w (by_name d) h = part_of_named d h
 

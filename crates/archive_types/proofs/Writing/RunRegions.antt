@@ -23,7 +23,7 @@ use Rattle.archive_check.proofs.Tours.StandingBytes.{stands_front, stands_back}
 use Rattle.archive_write.specs.Written.{GoesOn, padding, ExplainsRefusal}
 use Rattle.archive_write.proofs.Padding.{padded}
 use Rattle.archive_types.specs.Writing.{NameMap, Naming, AreNamed, AreFinished, AllFinished, Writes, WritesAll, Puts, LaysOut}
-use Rattle.archive_types.specs.Plans.{Cursor, cursor, AreBelow, IsAt, Step, lays, SerializedRegion, serialized_region, RegionPlan}
+use Rattle.archive_types.specs.Plans.{Cursor, cursor, AreBelow, StandsAt, Step, lays, SerializedRegion, serialized_region, RegionPlan}
 use Rattle.archive_types.specs.Causes.{Explains, own_cause, of_layout, of_length, PartOfRun, in_first_element, in_later_element, part_of_run, HindersPartAt, anywhere, part_hinders, length_hinders, end_hinders, HindersAt, HindersRegionAt, HindersRegion, RegionReaches, IsRegionRefused}
 use Rattle.archive_types.specs.Runs.{each_flat, EachBelongs, RunPlan, HasRunPlan, SerializedRun, serialized_run, IsRunRefused, PutsRun, HindersEachAt, HindersRunAt}
 use Rattle.archive_types.specs.Members.PlannedOwners.{run_plan}
@@ -277,7 +277,7 @@ module _ (D : Definitions) (X : Shape) (n : ℕ) (ks : List Naming) (vs : Values
       (λ p x below s names l m. plan below s names l m _ (λ q t here is. (let size : n * size_of s.layouts X ≡ n * L.size = ap (λ z. n * z) (size_is layout s l) in omega (arith, here, x, size)))) refused
     where
       plan : AreBelow (cursor old) → (s : Schema) (names : NameMap) → Knows s D → AreNamed names ks → (such : ℕ → List Step → Cursor → Type 0)
-          → ((q : RunPlan s names n X vs (cursor old) (λ us C b. (us ≡ ws) × IsAt b mid)) (t : ℕ) → t ≡ length low.bytes → q.flats ≡ ws
+          → ((q : RunPlan s names n X vs (cursor old) (λ us C b. (us ≡ ws) × StandsAt b mid)) (t : ℕ) → t ≡ length low.bytes → q.flats ≡ ws
           → such t (q.steps ++ lays (region_at s t (run X) n false) (list q.flats) ∷ []) (record { position = t + n * size_of s.layouts X; states = q.stop.states }))
           → RegionPlan s names (run X) n (list vs) (cursor old) such
       plan below s names l m such f =

@@ -3,7 +3,6 @@
 use denote.Triple.Both.{Both}
 use denote.Ref.{MutBor}
 use Rattle.std.specs.Prelude.{◌≡◌, ◌<◌, ◌⊎◌, ◌+◌, ◌++◌, ℕ, Bool, List, length, Result, IsErrOf}
-use Rattle.archive_check.specs.Words.Formats.{FormatOf}
 use Rattle.archive_check.specs.Layout.{pointer_size, has_length}
 use Rattle.archive_check.specs.Shape.{Pointee}
 use Rattle.archive_check.specs.Value.{Value}
@@ -11,21 +10,12 @@ use Rattle.archive_check.specs.declared.format.error.Error.{Error}
 use Rattle.archive_check.specs.declared.format.error.Error.TheVariants.{LengthTooLarge}
 use Rattle.archive_check.specs.declared.format.traits.ArchivePointee as ArchivePointee
 use Rattle.archive_check.specs.declared.format.traits.Keys as Keys
-use Rattle.archive_types.specs.Causes.{HindersAt}
 use Rattle.archive_num.specs.Offsets.{distance, IsTooFar}
 use Rattle.archive_num.specs.OwnerBytes.{owner_bytes, HindersPointerAt}
 use Rattle.archive_types.specs.Plans.{HasRegionPlan}
-use Rattle.archive_types.specs.Writing.{Naming, Resolves}
+use Rattle.archive_types.specs.Writing.{Naming}
 use Rattle.archive_types.specs.declared.place.Place.{Place}
 use Rattle.archive_write.specs.Written.{ExplainsRefusal}
-
--- the bytes of the place are clean and read as the value, with its pointers
-abbrev pub Resolved : {F M R : Type 0} → FormatOf M → Both (Place F) (MutBor (List ℕ) × R) → Value → Type 0
-Resolved f p w = Resolves f.definitions p.entry.pos p.exit.0.now f.shape w
-
--- what hinders that
-abbrev pub Hindered : {F M R : Type 0} → FormatOf M → Both (Place F) (MutBor (List ℕ) × R) → Value → Error → Type 0
-Hindered f p w e = HindersAt f.definitions f.shape w p.entry.pos e
 
 -- the place is as it was: the offset from there to t doesn't fit
 abbrev pub IsTooFarFrom : {F R : Type 0} → Both (Place F) (MutBor (List ℕ) × R) → ℕ → Error → Type 0
@@ -50,9 +40,6 @@ Added bytes k w p = (p ≡ length (k.state w.entry.now).bytes) × ((k.state w.ex
 -- these bytes alone were appended; so many were
 abbrev pub BytesAdded : {S : Type 0} → List ℕ → Keys.Ghosts S → Both (MutBor S) (MutBor S) → Type 0
 BytesAdded bytes k w = (k.state w.exit.now).bytes ≡ (k.state w.entry.now).bytes ++ bytes
-
-abbrev pub GrowsBy : {S : Type 0} → ℕ → Keys.Ghosts S → Both (MutBor S) (MutBor S) → Type 0
-GrowsBy n k w = length (k.state w.exit.now).bytes ≡ length (k.state w.entry.now).bytes + n
 
 -- why a write of n bytes was refused, where the writer stood at its position
 abbrev pub WriteRefused : {S : Type 0} → ℕ → (S → ℕ) → Keys.Ghosts S → Both (MutBor S) (MutBor S) → Error → Type 0

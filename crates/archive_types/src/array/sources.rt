@@ -2,11 +2,11 @@
 
 ghost use Rattle.std.specs.Prelude.{◌≡◌, ◌*◌, length, None, OnOk, IfOk, IfErr, All};
 ghost use Rattle.archive_check.specs.Value.{list};
-ghost use Rattle.archive_types.specs.Members.Arrays.{array_meaning, array_keys, array_keyed, array_planned};
-ghost use Rattle.archive_types.specs.Runs.{each_flat, EachBelongs};
-ghost use Rattle.archive_types.specs.Words.Sources.{ResolvedAs, HinderedAs, EachResolved, EachHinderedAt};
+ghost use Rattle.archive_types.specs.Members.Arrays.{array_meaning, array_keys, array_keyed, array_planned, ResolvesRun};
+ghost use Rattle.archive_types.specs.Runs.{each_flat, EachBelongs, HindersEachAt};
 ghost use Rattle.archive_types.specs.Writing.{ZeroedPlace};
 ghost use Rattle.archive_write.specs.Written.{GoesOn};
+ghost use Rattle.archive_types.specs.Outcomes.{ResolvesAs};
 
 use crate::place::Place;
 use crate::ser::resolve_into;
@@ -25,9 +25,13 @@ pub(super) fn resolve_elements<T: Archive>(
 ) -> Result<(), Error>
     requires zeroed { ZeroedPlace (length values.now * T.Archived.layout.size) pos bytes.old }
     requires same_values { EachBelongs T.belongs values.now resolvers.items }
-    ensures resolved { OnOk result (EachResolved T.Archive T.Archived.Portable pos values.now resolvers.items bytes.new) }
+    ensures resolved { OnOk result
+        (ResolvesRun T.Archived.definitions pos bytes.new (length values.now)
+        T.Archived.shape (each_flat T.flat values.now resolvers.items)) }
     ensures same_length { length bytes.new ≡ length bytes.old }
-    ensures refused { IfErr result (EachHinderedAt T.Archive T.Archived.Portable pos values.now resolvers.items) }
+    ensures refused { IfErr result
+        (HindersEachAt T.Archived.definitions T.Archived.shape (length values.now)
+        (each_flat T.flat values.now resolvers.items) pos) }
 {
     let size = T::Archived::size();
     let mut rest = values;
@@ -90,9 +94,8 @@ impl<T: Archive, const N: usize> Archive for [T; N] {
     ) -> Result<(), Error>
         requires zeroed { ZeroedPlace ⟦<Self::Archived as Portable>⟧.layout.size place.pos place.bytes.now }
         requires same_value { EachBelongs T.belongs self.now resolver.items }
-        ensures resolved { OnOk result (ResolvedAs ⟦<Self as Archive>⟧ ⟦<Self::Archived as Portable>⟧ place self.now resolver) }
-        ensures same_length { length place.exit.0.now ≡ length place.entry.bytes.now }
-        ensures refused { IfErr result (HinderedAs ⟦<Self as Archive>⟧ ⟦<Self::Archived as Portable>⟧ place self.now resolver) }
+        ensures { ResolvesAs ⟦<Self::Archived as Portable>⟧ place
+            (⟦<Self as Archive>⟧.flat self.now resolver) result }
     {
         let Place { bytes, pos, .. } = place;
         resolve_elements(self, resolver, pos, bytes)

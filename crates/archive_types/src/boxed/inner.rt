@@ -6,11 +6,11 @@ ghost use Rattle.archive_check.specs.Shape.{boxed, one};
 ghost use Rattle.archive_check.specs.Value.{box, hole};
 ghost use Rattle.archive_types.specs.Causes.{HindersAt, IsOfWriting};
 ghost use Rattle.archive_types.specs.Inner.{IsBoxed, IsNotBoxed};
-ghost use Rattle.archive_types.specs.Words.KindsWritten.{BoxCase, InnerResolved, InnerHindered};
-ghost use Rattle.archive_types.specs.Words.Sources.{InnerBoxed, InnerPut, InnerUnboxed};
 ghost use Rattle.archive_types.specs.Members.Variants.{HoldsCase};
-ghost use Rattle.archive_types.specs.Writing.{Resolves, to_pointee};
+ghost use Rattle.archive_types.specs.Writing.{Resolves, to_pointee, box_flat};
 ghost use Rattle.archive_write.specs.Written.{GoesOn};
+ghost use Rattle.archive_types.specs.Outcomes.{ResolvesTo};
+ghost use Rattle.archive_types.specs.SourceOutcomes.{BoxesInner};
 
 use super::{ArchivedBox, BoxResolver};
 use crate::owner_pointers::position_of;
@@ -36,11 +36,7 @@ pub fn serialize_inner<S: Writer + ResolverAlloc, T: Archive>(
     serializer: &mut S,
 ) -> Result<BoxResolver, Error>
     requires same_value { T.belongs value.now resolver }
-    ensures boxed { IfOk result (InnerBoxed T.Archive T.Archived.Portable value.now resolver S.Keys serializer) }
-    ensures put { IfOk result (InnerPut T.Archive T.Archived.Portable value.now resolver S.Keys serializer) }
-    ensures goes_on { GoesOn (S.state serializer.old) (S.state serializer.new) }
-    ensures refused { IfErr result (InnerUnboxed T.Archive T.Archived.Portable value.now resolver S.Keys serializer) }
-    ensures number { IfErr result IsOfWriting }
+    ensures { BoxesInner T.Archive T.Archived.Portable value.now resolver S.Keys serializer result }
 {
     let alloc = serializer.resolver_alloc();
     write_inner(alloc, value, resolver, serializer)
@@ -54,11 +50,7 @@ fn write_inner<A: Allocator + Drop, S: Writer, T: Archive>(
     serializer: &mut S,
 ) -> Result<BoxResolver, Error>
     requires same_value { T.belongs value.now resolver }
-    ensures boxed { IfOk result (InnerBoxed T.Archive T.Archived.Portable value.now resolver S.Keys serializer) }
-    ensures put { IfOk result (InnerPut T.Archive T.Archived.Portable value.now resolver S.Keys serializer) }
-    ensures goes_on { GoesOn (S.state serializer.old) (S.state serializer.new) }
-    ensures refused { IfErr result (InnerUnboxed T.Archive T.Archived.Portable value.now resolver S.Keys serializer) }
-    ensures number { IfErr result IsOfWriting }
+    ensures { BoxesInner T.Archive T.Archived.Portable value.now resolver S.Keys serializer result }
 {
     serializer.align_for::<T::Archived>()?;
     let pos = serializer.resolve_aligned(alloc, value, resolver)?;
@@ -79,9 +71,13 @@ pub fn resolve_inner<T: Portable>(
     requires zeroed { IsZeroed bytes.old }
     requires few { 8 ≤ length bytes.old }
     requires ends { pos + length bytes.old < 2 ^ 64 }
-    ensures held { OnOk result (BoxCase T.Portable pos tag resolver bytes.new) }
+    ensures held { OnOk result
+        (HoldsCase T.definitions pos tag 4 4 (boxed (one T.shape))
+        (box_flat (one T.shape) 0 resolver) bytes.new) }
     ensures same_length { length bytes.new ≡ length bytes.old }
-    ensures refused { IfErr result (InnerHindered T.Portable (pos + 4) resolver) }
+    ensures refused { IfErr result
+        (HindersAt T.definitions (boxed (one T.shape)) (box_flat (one T.shape) 0 resolver)
+        (pos + 4)) }
 {
     bytes[0] = tag;
     resolve_box::<T>(resolver, pos + 4, &mut bytes[4..8])
@@ -94,9 +90,9 @@ fn resolve_box<T: Portable>(
     bytes: &mut [u8],
 ) -> Result<(), Error>
     requires sized { length bytes.old ≡ 4 }
-    ensures resolved { OnOk result (InnerResolved T.Portable pos resolver bytes.new) }
-    ensures same_length { length bytes.new ≡ 4 }
-    ensures refused { IfErr result (InnerHindered T.Portable pos resolver) }
+    ensures outcome { ResolvesTo T.definitions (boxed (one T.shape)) (box_flat (one T.shape) 0 resolver)
+        pos bytes.old bytes.new result }
+    ensures sized { length bytes.new ≡ 4 }
 {
     ArchivedBox::<T>::resolve_from_raw_parts(resolver, 0, Place::new(pos, bytes))
 }

@@ -9,7 +9,6 @@ ghost use Rattle.archive_check.specs.Viewed.{Viewed};
 ghost use Rattle.archive_check.specs.declared.format.error.Error.TheVariants.{LengthTooLarge, OutOfMemory};
 ghost use Rattle.archive_types.specs.Causes.{HindersAt, IsRefused};
 ghost use Rattle.archive_types.specs.Members.Keyed.{box_keyed, each_keyed, text_keyed};
-ghost use Rattle.archive_types.specs.Words.KindsWritten.{SliceBoxResolved, SliceBoxHindered, TextBoxResolved, TextBoxHindered, TextBoxed, TextUnboxed};
 ghost use Rattle.archive_num.specs.Offsets.{distance, IsTooFar};
 ghost use Rattle.archive_num.specs.OwnerBytes.{owner_bytes};
 ghost use Rattle.archive_types.specs.Words.Placed.{PointsTo, AtOnce};
@@ -18,9 +17,11 @@ ghost use Rattle.archive_types.specs.Members.PlannedOwners.{box_planned, one_pla
 ghost use Rattle.archive_types.specs.Plans.{Serialized};
 ghost use Rattle.archive_types.specs.Runs.{each_keys, each_meaning};
 ghost use Rattle.archive_types.specs.Words.Seen.{IsPartOf, RefusesPart};
-ghost use Rattle.archive_types.specs.Words.Sources.{Read, SliceBoxed, SliceUnboxed};
+ghost use Rattle.archive_types.specs.Words.Sources.{Read};
 ghost use Rattle.archive_types.specs.Writing.{ZeroedPlace, Resolves, to_pointee};
 ghost use Rattle.archive_write.specs.Written.{GoesOn};
+ghost use Rattle.archive_types.specs.Outcomes.{ResolvesAs};
+ghost use Rattle.archive_types.specs.SourceOutcomes.{Serializes};
 
 use super::{ArchivedBox, BoxResolver};
 use crate::owner_pointers::position_of;
@@ -77,9 +78,8 @@ impl<T: Archive> Archive for BoxSlice<T> {
     ) -> Result<(), Error>
         requires zeroed { ZeroedPlace 8 place.pos place.bytes.now }
         requires same_value { length self.now.items.items ≤ 4294967295 }
-        ensures resolved { OnOk result (SliceBoxResolved T.Archived.Portable place resolver (length self.now.items.items)) }
-        ensures same_length { length place.exit.0.now ≡ length place.entry.bytes.now }
-        ensures refused { IfErr result (SliceBoxHindered T.Archived.Portable place resolver (length self.now.items.items)) }
+        ensures outcome { ResolvesAs ⟦<Self::Archived as Portable>⟧ place
+            (⟦<Self as Archive>⟧.flat self.now resolver) result }
         ensures written { OnOk result (PointsTo place true resolver (length self.now.items.items)) }
         ensures cause { IfErr result (λ e. IsTooFar e (distance place.entry.pos resolver)) }
     {
@@ -99,10 +99,8 @@ impl<S: Writer + ResolverAlloc, T: Serialize<S>> Serialize<S> for BoxSlice<T> {
     /// `serialize_unsized` of a `Slice` does.
     #[tactic(auto, using(crate::proofs::Planning::Owners::serialized_box, crate::proofs::Planning::Owners::box_refused, crate::proofs::Planning::Owners::far_box_refused))]
     fn serialize(&self, serializer: &mut S) -> Result<BoxResolver, Error>
-        ensures serialized { IfOk result (SliceBoxed T.Archive T.Archived.Portable self.now.items.items S.Keys serializer) }
-        ensures same_value { OnOk result (length self.now.items.items ≤ 4294967295) }
-        ensures goes_on { GoesOn (S.state serializer.old) (S.state serializer.new) }
-        ensures refused { IfErr result (SliceUnboxed T.Archive T.Archived.Portable self.now.items.items S.Keys serializer) }
+        ensures outcome { Serializes ⟦<Self as Archive>⟧ ⟦<Self::Archived as Portable>⟧ self.now S.Keys serializer
+            result }
         ensures too_long { 4294967295 < length self.now.items.items → AtOnce result LengthTooLarge S.Keys serializer }
     {
         let pos = serialize_slice(self.items.as_slice(), serializer)?;
@@ -181,9 +179,8 @@ impl Archive for BoxStr {
     ) -> Result<(), Error>
         requires zeroed { ZeroedPlace 8 place.pos place.bytes.now }
         requires same_value { length (string_bytes self.now.text) ≤ 4294967295 }
-        ensures resolved { OnOk result (TextBoxResolved place resolver (length (string_bytes self.now.text))) }
-        ensures same_length { length place.exit.0.now ≡ length place.entry.bytes.now }
-        ensures refused { IfErr result (TextBoxHindered place resolver (length (string_bytes self.now.text))) }
+        ensures outcome { ResolvesAs ⟦<Self::Archived as Portable>⟧ place
+            (⟦<Self as Archive>⟧.flat self.now resolver) result }
         ensures written { OnOk result (PointsTo place true resolver (length (string_bytes self.now.text))) }
         ensures cause { IfErr result (λ e. IsTooFar e (distance place.entry.pos resolver)) }
     {
@@ -202,10 +199,8 @@ impl<S: Writer + ResolverAlloc> Serialize<S> for BoxStr {
     /// lies above 4,294,967,295, and else as the writer does.
     #[tactic(auto, using(crate::proofs::Planning::Owners::serialized_box, crate::proofs::Planning::Owners::box_refused, crate::proofs::Planning::Owners::far_box_refused))]
     fn serialize(&self, serializer: &mut S) -> Result<BoxResolver, Error>
-        ensures serialized { IfOk result (TextBoxed (string_bytes self.now.text) S.Keys serializer) }
-        ensures same_value { OnOk result (length (string_bytes self.now.text) ≤ 4294967295) }
-        ensures goes_on { GoesOn (S.state serializer.old) (S.state serializer.new) }
-        ensures refused { IfErr result (TextUnboxed (string_bytes self.now.text) S.Keys serializer) }
+        ensures outcome { Serializes ⟦<Self as Archive>⟧ ⟦<Self::Archived as Portable>⟧ self.now S.Keys serializer
+            result }
         ensures too_long { 4294967295 < length (string_bytes self.now.text) → AtOnce result LengthTooLarge S.Keys serializer }
     {
         let pos = Text {

@@ -8,22 +8,23 @@ ghost use Rattle.archive_check.specs.Value.{box, hole};
 ghost use Rattle.archive_check.specs.declared.format.error.Error.TheVariants.{LengthTooLarge};
 ghost use Rattle.archive_types.specs.Causes.{HindersAt, IsRefused};
 ghost use Rattle.archive_types.specs.Members.Keyed.{box_keyed};
-ghost use Rattle.archive_types.specs.Words.KindsWritten.{BoxResolved, BoxHindered};
 ghost use Rattle.archive_num.specs.Offsets.{distance, IsTooFar};
 ghost use Rattle.archive_num.specs.OwnerBytes.{owner_bytes};
 ghost use Rattle.archive_types.specs.Words.Placed.{IsTooFarFrom, PointsTo, IsNoPointer};
 ghost use Rattle.archive_types.specs.Members.PlannedOwners.{one_planned, boxed_one_planned};
 ghost use Rattle.archive_types.specs.Plans.{Serialized};
-ghost use Rattle.archive_types.specs.Words.Sources.{BoxSerialized, BoxRefused, OneBoxed, OneUnboxed};
-ghost use Rattle.archive_types.specs.Writing.{ZeroedPlace, Resolves, to_pointee};
+ghost use Rattle.archive_types.specs.Writing.{ZeroedPlace, Resolves, to_pointee, box_flat};
 ghost use Rattle.archive_write.specs.Written.{GoesOn};
+ghost use Rattle.archive_types.specs.Outcomes.{ResolvesAs, SerializesAs};
 
 use super::ArchivedBox;
 use crate::owner_pointers::position_of;
 use crate::place::Place;
 use crate::rel_ptr::Metadata;
 use crate::ser::serialize_one;
-use crate::traits::{Archive, ArchiveUnsized, PortablePointee, Serialize, SerializeUnsized};
+use crate::traits::{
+    Archive, ArchiveUnsized, Portable, PortablePointee, Serialize, SerializeUnsized,
+};
 use archive_check::format::error::Error;
 use archive_num::FixedUsize;
 use archive_num::owners::emplace_pointer;
@@ -64,9 +65,8 @@ impl<T: PortablePointee> ArchivedBox<T> {
         value: &U,
         serializer: &mut S,
     ) -> Result<BoxResolver, Error>
-        ensures serialized { IfOk result (BoxSerialized T.ArchivePointee U.ArchiveUnsized value.now S.Keys serializer) }
-        ensures goes_on { GoesOn (S.state serializer.old) (S.state serializer.new) }
-        ensures refused { IfErr result (BoxRefused T.ArchivePointee U.ArchiveUnsized value.now S.Keys serializer) }
+        ensures { SerializesAs ⟦<Self as Portable>⟧ (U.keys value.now) (box (U.meaning value.now))
+            (box_flat T.pointee (U.source_length value.now)) (λ _. ⊤) S.Keys serializer result }
     {
         let pos = value.serialize_unsized(serializer)?;
         let pos = position_of(pos)?;
@@ -85,12 +85,10 @@ impl<T: PortablePointee> ArchivedBox<T> {
     ) -> Result<(), Error>
         requires sized { length place.bytes.now ≡ pointer_size T.pointee }
         requires plain { has_length T.pointee ≡ false → count ≡ 0 }
-        ensures resolved { OnOk result (BoxResolved T.ArchivePointee place resolver count) }
+        ensures outcome { ResolvesAs ⟦<Self as Portable>⟧ place (box_flat T.pointee count resolver) result }
         ensures written { OnOk result (PointsTo place (has_length T.pointee) resolver count) }
         ensures fits { OnOk result (FitsSigned w32 (distance place.entry.pos resolver)) }
-        ensures refused { IfErr result (BoxHindered T.ArchivePointee place resolver count) }
         ensures cause { IfErr result (IsTooFarFrom place resolver) }
-        ensures same_length { length place.exit.0.now ≡ length place.entry.bytes.now }
     {
         let Place { bytes, pos, .. } = place;
         emplace_pointer(T::has_length(), resolver.pos as usize, count, pos, bytes)
@@ -106,7 +104,9 @@ impl<T: PortablePointee> ArchivedBox<T> {
     where
         T::ArchivedMetadata: Metadata,
         requires sized { length place.bytes.now ≡ pointer_size T.pointee }
-        ensures resolved { OnOk result (BoxResolved T.ArchivePointee place resolver (U.source_length value.now)) }
+        ensures resolved { OnOk result
+            (Resolves T.definitions place.entry.pos place.exit.0.now (boxed T.pointee)
+            (box_flat T.pointee (U.source_length value.now) resolver)) }
         ensures written { OnOk result (PointsTo place (has_length T.pointee) resolver (U.source_length value.now)) }
         ensures refused { IfErr result (IsNoPointer place resolver (U.source_length value.now)) }
     {
@@ -141,9 +141,8 @@ impl<T: Archive> Archive for Box<T> {
     ) -> Result<(), Error>
         requires zeroed { ZeroedPlace (pointer_size T.Archived.pointee) place.pos place.bytes.now }
         requires same_value { ⊤ }
-        ensures resolved { OnOk result (BoxResolved T.Archived.ArchivePointee place resolver 0) }
-        ensures same_length { length place.exit.0.now ≡ length place.entry.bytes.now }
-        ensures refused { IfErr result (BoxHindered T.Archived.ArchivePointee place resolver 0) }
+        ensures outcome { ResolvesAs ⟦<Self::Archived as Portable>⟧ place
+            (⟦<Self as Archive>⟧.flat self.now resolver) result }
         ensures written { OnOk result (PointsTo place (has_length T.Archived.pointee) resolver 0) }
         ensures cause { IfErr result (λ e. IsTooFar e (distance place.entry.pos resolver)) }
     {
@@ -157,12 +156,7 @@ impl<S: Writer + ResolverAlloc, T: Serialize<S>> Serialize<S> for Box<T> {
     /// `PositionTooLarge` if it lies above 4,294,967,295, with `LayoutTooLarge` if it would end
     /// above `usize::MAX`, as the value does, and as the trait says it.
     #[tactic(auto, using(crate::proofs::Planning::Owners::serialized_boxed_one, crate::proofs::Planning::Owners::boxed_one_refused, crate::proofs::Planning::Owners::far_boxed_one_refused))]
-    fn serialize(&self, serializer: &mut S) -> Result<BoxResolver, Error>
-        ensures serialized { IfOk result (OneBoxed T.Archived.ArchivePointee T.Archive self.now.value S.Keys serializer) }
-        ensures same_value { ⊤ }
-        ensures goes_on { GoesOn (S.state serializer.old) (S.state serializer.new) }
-        ensures refused { IfErr result (OneUnboxed T.Archived.ArchivePointee T.Archive self.now.value S.Keys serializer) }
-    {
+    fn serialize(&self, serializer: &mut S) -> Result<BoxResolver, Error> {
         let pos = serialize_one(&**self, serializer)?;
         let pos = position_of(pos)?;
         Ok(BoxResolver { pos })

@@ -1,8 +1,8 @@
 // Parts that are serialized one after another.
 
 ghost use Rattle.std.specs.Prelude.{IfOk, IfErr};
-ghost use Rattle.archive_types.specs.Words.PartsStored.{PartsStored, PartsUnstored};
 ghost use Rattle.archive_write.specs.Written.{GoesOn};
+ghost use Rattle.archive_types.specs.SourceOutcomes.{SerializesParts};
 
 use super::{PartOf, SourceParts};
 use crate::traits::{Archive, Keys, Serialize};
@@ -15,10 +15,8 @@ pub trait SerializeParts<T, S: Writer + Keys>: SourceParts<T> {
     /// `Serialize::serialize` does, for a cause of one of them; existing bytes and known keys stay,
     /// after a failure too.
     fn serialize_parts(whole: &T, serializer: &mut S) -> Result<Self::Resolvers, Error>
-        ensures serialized { IfOk result (PartsStored Self.Archived.CheckedParts Self.SourceParts whole.now S.Keys serializer) }
-        ensures same_values { IfOk result (λ r. Self.belongs whole.now r) }
-        ensures goes_on { GoesOn (S.state serializer.old) (S.state serializer.new) }
-        ensures refused { IfErr result (PartsUnstored Self.Archived.CheckedParts Self.SourceParts whole.now S.Keys serializer) };
+        ensures { SerializesParts Self.Archived.CheckedParts Self.SourceParts whole.now S.Keys serializer
+            result };
 }
 
 impl<T, S: Writer + Keys> SerializeParts<T, S> for () {

@@ -4,7 +4,8 @@
 ghost use Rattle.std.specs.Prelude.{◌≡◌, ◌+◌, ◌*◌, ◌<◌, ◌≤◌, ◌^◌, Some, length, OnOk, IfErr};
 ghost use Rattle.archive_check.specs.Members.PartsLayout.{part_at};
 ghost use Rattle.archive_check.specs.Members.VariantsLayout.{payload_at};
-ghost use Rattle.archive_types.specs.Words.PlacedParts.{ChangesOnly, PartHindered, PartResolved, ZeroedPart};
+ghost use Rattle.archive_types.specs.Words.PlacedParts.{ChangesOnly, ZeroedPart};
+ghost use Rattle.archive_types.specs.Outcomes.{ResolvesPart};
 
 use super::Place;
 use crate::ser::resolve_into;
@@ -24,9 +25,8 @@ fn resolve_part<V: Archive>(
     requires ends { pos + length bytes.old < 2 ^ 64 }
     requires zeroed { ZeroedPart begin V.Archived.layout.size bytes.old }
     requires same_value { V.belongs value.now resolver }
-    ensures resolved { OnOk result (PartResolved V.Archived.Portable begin pos bytes.new (V.flat value.now resolver)) }
-    ensures others_stay { ChangesOnly begin V.Archived.layout.size bytes.old bytes.new }
-    ensures refused { IfErr result (PartHindered V.Archived.Portable begin pos (V.flat value.now resolver)) }
+    ensures { ResolvesPart V.Archived.Portable (V.flat value.now resolver) begin
+        pos bytes.old bytes.new result }
 {
     let end = begin + V::Archived::size();
     resolve_into(value, resolver, pos + begin, &mut bytes[begin..end])
@@ -50,9 +50,8 @@ impl<'a, T: Record> Place<'a, T> {
         requires same_value { V.belongs value.now resolver }
         ensures same_reference { self.new.bytes.ghost_name ≡ self.old.bytes.ghost_name }
         ensures position { self.new.pos ≡ self.old.pos }
-        ensures resolved { OnOk result (PartResolved V.Archived.Portable (T.Parts.begin 0 i) self.old.pos self.new.bytes.now (V.flat value.now resolver)) }
-        ensures others_stay { ChangesOnly (T.Parts.begin 0 i) V.Archived.layout.size self.old.bytes.now self.new.bytes.now }
-        ensures refused { IfErr result (PartHindered V.Archived.Portable (T.Parts.begin 0 i) self.old.pos (V.flat value.now resolver)) }
+        ensures outcome { ResolvesPart V.Archived.Portable (V.flat value.now resolver) (T.Parts.begin 0 i)
+            self.old.pos self.old.bytes.now self.new.bytes.now result }
     {
         resolve_part(value, resolver, self.pos, T::offset(i), self.bytes)
     }
@@ -75,9 +74,8 @@ impl<'a, T: Portable, const N: usize> Place<'a, [T; N]> {
         requires same_value { V.belongs value.now resolver }
         ensures same_reference { self.new.bytes.ghost_name ≡ self.old.bytes.ghost_name }
         ensures position { self.new.pos ≡ self.old.pos }
-        ensures resolved { OnOk result (PartResolved T.Portable (index * T.layout.size) self.old.pos self.new.bytes.now (V.flat value.now resolver)) }
-        ensures others_stay { ChangesOnly (index * T.layout.size) T.layout.size self.old.bytes.now self.new.bytes.now }
-        ensures refused { IfErr result (PartHindered T.Portable (index * T.layout.size) self.old.pos (V.flat value.now resolver)) }
+        ensures outcome { ResolvesPart T.Portable (V.flat value.now resolver) (index * T.layout.size)
+            self.old.pos self.old.bytes.now self.new.bytes.now result }
     {
         resolve_part(value, resolver, self.pos, index * T::size(), self.bytes)
     }
@@ -102,9 +100,8 @@ impl<'a, T: Choice> Place<'a, T> {
         requires same_value { V.belongs value.now resolver }
         ensures same_reference { self.new.bytes.ghost_name ≡ self.old.bytes.ghost_name }
         ensures position { self.new.pos ≡ self.old.pos }
-        ensures resolved { OnOk result (PartResolved V.Archived.Portable (T.Variants.begin tag i) self.old.pos self.new.bytes.now (V.flat value.now resolver)) }
-        ensures others_stay { ChangesOnly (T.Variants.begin tag i) V.Archived.layout.size self.old.bytes.now self.new.bytes.now }
-        ensures refused { IfErr result (PartHindered V.Archived.Portable (T.Variants.begin tag i) self.old.pos (V.flat value.now resolver)) }
+        ensures outcome { ResolvesPart V.Archived.Portable (V.flat value.now resolver) (T.Variants.begin tag i)
+            self.old.pos self.old.bytes.now self.new.bytes.now result }
     {
         resolve_part(value, resolver, self.pos, T::offset(tag, i), self.bytes)
     }

@@ -7,12 +7,12 @@ ghost use Rattle.archive_check.specs.Layout.{kind_size};
 ghost use Rattle.archive_check.specs.Shape.{Kind, leaf, non_zero};
 ghost use Rattle.archive_check.specs.Value.{number};
 ghost use Rattle.archive_types.specs.Members.Keyed.{number_keyed};
-ghost use Rattle.archive_types.specs.Words.KindsWritten.{NumberSerialized, NumberRefused};
-ghost use Rattle.archive_types.specs.Words.Placed.{Resolved, Hindered};
 ghost use Rattle.archive_types.specs.Members.Planned.{leaf_planned};
 ghost use Rattle.archive_types.specs.Members.PlannedOwners.{pointee_planned};
 ghost use Rattle.archive_types.specs.Writing.{ZeroedPlace, Resolves};
 ghost use Rattle.archive_write.specs.Written.{GoesOn};
+ghost use Rattle.archive_types.specs.Outcomes.{ResolvesAs};
+ghost use Rattle.archive_types.specs.SourceOutcomes.{Serializes};
 
 use super::{Source, write_leaf};
 use crate::place::Place;
@@ -148,9 +148,8 @@ impl<L: Leaf> Archive for L {
     fn resolve(&self, _resolver: (), place: Place<'_, L::LeafFormat>) -> Result<(), Error>
         requires zeroed { ZeroedPlace (L.LeafFormat.layout.size) place.pos place.bytes.now }
         requires same_value { ⊤ }
-        ensures resolved { OnOk result (Resolved L.LeafFormat.Portable place (number (L.leaf_number self.now))) }
-        ensures same_length { length place.exit.0.now ≡ length place.entry.bytes.now }
-        ensures refused { IfErr result (Hindered L.LeafFormat.Portable place (number (L.leaf_number self.now))) }
+        ensures outcome { ResolvesAs ⟦<Self::Archived as Portable>⟧ place
+            (⟦<Self as Archive>⟧.flat self.now _resolver) result }
         ensures written { place.exit.0.now ≡ L.leaf_bytes self.now }
         ensures succeeds { IsOk result }
     {
@@ -178,10 +177,8 @@ impl<L: Leaf, S: Writer + Keys> Serialize<S> for L {
     #[tactic(auto, using(crate::proofs::Planning::Causes::goes_nowhere))]
     #[inline(always)]
     fn serialize(&self, _serializer: &mut S) -> Result<(), Error>
-        ensures serialized { IfOk result (NumberSerialized L.LeafFormat.Portable (L.leaf_number self.now) S.Keys _serializer) }
-        ensures same_value { ⊤ }
-        ensures goes_on { GoesOn (S.state _serializer.old) (S.state _serializer.new) }
-        ensures refused { IfErr result (NumberRefused L.LeafFormat.Portable (L.leaf_number self.now) S.Keys _serializer) }
+        ensures outcome { Serializes ⟦<Self as Archive>⟧ ⟦<Self::Archived as Portable>⟧ self.now S.Keys
+            _serializer result }
         ensures unchanged { S.state _serializer.new ≡ S.state _serializer.old }
         ensures succeeds { IsOk result }
     {

@@ -13,7 +13,6 @@ ghost use Rattle.archive_check.specs.declared.format.error.Error.TheVariants.{Nu
 ghost use Rattle.archive_check.specs.LittleEndian.{little_bytes, little_number};
 ghost use Rattle.archive_types.specs.Members.Keyed.{number_keyed};
 ghost use Rattle.archive_types.specs.Causes.{HindersAt, IsRefused};
-ghost use Rattle.archive_types.specs.Words.KindsWritten.{LeafSerialized, LeafRefused, LeafResolved, LeafHindered};
 ghost use Rattle.archive_types.specs.Members.Planned.{leaf_planned};
 ghost use Rattle.archive_types.specs.Members.PlannedOwners.{one_planned};
 ghost use Rattle.archive_types.specs.Plans.{Serialized};
@@ -21,11 +20,13 @@ ghost use Rattle.archive_types.specs.Words.Seen.{IsPartOf, part_number};
 ghost use Rattle.archive_types.specs.Words.Sources.{Read};
 ghost use Rattle.archive_types.specs.Writing.{ZeroedPlace, Resolves};
 ghost use Rattle.archive_write.specs.Written.{GoesOn};
+ghost use Rattle.archive_types.specs.Outcomes.{ResolvesAs};
+ghost use Rattle.archive_types.specs.SourceOutcomes.{Serializes};
 
 use crate::place::Place;
 use crate::ser::serialize_one;
 use crate::traits::{
-    Archive, ArchivePointee, ArchiveUnsized, Deserialize, Entries, Keys, Serialize,
+    Archive, ArchivePointee, ArchiveUnsized, Deserialize, Entries, Keys, Portable, Serialize,
     SerializeUnsized,
 };
 use crate::view::{RawView, Ref};
@@ -55,9 +56,8 @@ impl Archive for usize {
     fn resolve(&self, _resolver: (), place: Place<'_, ArchivedUsize>) -> Result<(), Error>
         requires zeroed { ZeroedPlace 4 place.pos place.bytes.now }
         requires same_value { self.now < 2 ^ 32 }
-        ensures resolved { OnOk result (LeafResolved (number unsigned w32) place (pos self.now)) }
-        ensures same_length { length place.exit.0.now ≡ length place.entry.bytes.now }
-        ensures refused { IfErr result (LeafHindered (number unsigned w32) place (pos self.now)) }
+        ensures outcome { ResolvesAs ⟦<Self::Archived as Portable>⟧ place
+            (⟦<Self as Archive>⟧.flat self.now _resolver) result }
         ensures written { place.exit.0.now ≡ little_bytes 4 self.now }
         ensures succeeds { IsOk result }
     {
@@ -72,10 +72,8 @@ impl<S: Writer + Keys> Serialize<S> for usize {
     /// without a sign. rkyv 0.8.18 truncates it.
     #[tactic(auto, using(crate::proofs::Planning::Causes::goes_nowhere, crate::proofs::Planning::Planned::usize_refused))]
     fn serialize(&self, _serializer: &mut S) -> Result<(), Error>
-        ensures serialized { IfOk result (LeafSerialized (number unsigned w32) (pos self.now) S.Keys _serializer) }
-        ensures same_value { IfOk result (λ _. self.now < 2 ^ 32) }
-        ensures goes_on { GoesOn (S.state _serializer.old) (S.state _serializer.new) }
-        ensures refused { IfErr result (LeafRefused (number unsigned w32) (pos self.now) S.Keys _serializer) }
+        ensures outcome { Serializes ⟦<Self as Archive>⟧ ⟦<Self::Archived as Portable>⟧ self.now S.Keys
+            _serializer result }
         ensures unchanged { S.state _serializer.new ≡ S.state _serializer.old }
         ensures cause { IfErr result (λ e. (e ≡ NumberTooLarge) × (self.now < 2 ^ 32 → ⊥)) }
     {
@@ -151,9 +149,8 @@ impl Archive for isize {
     fn resolve(&self, _resolver: (), place: Place<'_, ArchivedIsize>) -> Result<(), Error>
         requires zeroed { ZeroedPlace 4 place.pos place.bytes.now }
         requires same_value { FitsSigned w32 self.now }
-        ensures resolved { OnOk result (LeafResolved (number signed w32) place self.now) }
-        ensures same_length { length place.exit.0.now ≡ length place.entry.bytes.now }
-        ensures refused { IfErr result (LeafHindered (number signed w32) place self.now) }
+        ensures outcome { ResolvesAs ⟦<Self::Archived as Portable>⟧ place
+            (⟦<Self as Archive>⟧.flat self.now _resolver) result }
         ensures written { place.exit.0.now ≡ little_bytes 4 (cast_unsigned w32 self.now) }
         ensures succeeds { IsOk result }
     {
@@ -168,10 +165,8 @@ impl<S: Writer + Keys> Serialize<S> for isize {
     /// sign. rkyv 0.8.18 truncates it.
     #[tactic(auto, using(crate::proofs::Planning::Causes::goes_nowhere, crate::proofs::Planning::Planned::isize_refused))]
     fn serialize(&self, _serializer: &mut S) -> Result<(), Error>
-        ensures serialized { IfOk result (LeafSerialized (number signed w32) self.now S.Keys _serializer) }
-        ensures same_value { IfOk result (λ _. FitsSigned w32 self.now) }
-        ensures goes_on { GoesOn (S.state _serializer.old) (S.state _serializer.new) }
-        ensures refused { IfErr result (LeafRefused (number signed w32) self.now S.Keys _serializer) }
+        ensures outcome { Serializes ⟦<Self as Archive>⟧ ⟦<Self::Archived as Portable>⟧ self.now S.Keys
+            _serializer result }
         ensures unchanged { S.state _serializer.new ≡ S.state _serializer.old }
         ensures cause { IfErr result (λ e. (e ≡ NumberTooLarge) × (FitsSigned w32 self.now → ⊥)) }
     {

@@ -1,6 +1,6 @@
 // How shared and weak pointers are written.
 
-ghost use Rattle.std.specs.Prelude.{◌≡◌, ◌∷◌, ◌≤◌, ℕ, pos as whole, suc, IfOk, OnOk, IfErr, IsOk, IsErrOf, FitsSigned, Option, None, Some, length, false};
+ghost use Rattle.std.specs.Prelude.{◌≡◌, ◌∷◌, ◌≤◌, ℕ, pos as whole, suc, IfOk, OnOk, IfErr, IsOk, IsErrOf, FitsSigned, Option, None, Some, length, false, ⊤};
 ghost use Rattle.std.specs.Int.{w32};
 ghost use Rattle.archive_check.specs.Layout.{pointer_size, has_length};
 ghost use Rattle.archive_check.specs.Shape.{shared, weak};
@@ -13,16 +13,17 @@ ghost use Rattle.archive_num.specs.OwnerBytes.{owner_bytes};
 ghost use Rattle.archive_types.specs.Words.Placed.{IsTooFarFrom};
 ghost use Rattle.archive_types.specs.Plans.{Serialized};
 ghost use Rattle.archive_types.specs.Members.SharedLaws.{flavor_as, naming_of, weak_value, weak_keys, weak_count, weak_flat};
-ghost use Rattle.archive_types.specs.Words.SharedWriting.{AnswersPending, SharedResolved, SharedHindered, WeakResolved, WeakHindered, IsShared, IsntShared, IsWeak, IsntWeak};
-ghost use Rattle.archive_types.specs.Writing.{Resolves, to_shared};
+ghost use Rattle.archive_types.specs.Words.SharedWriting.{AnswersPending, flavor_of, keys_under};
+ghost use Rattle.archive_types.specs.Writing.{Resolves, to_shared, shared_flat};
 ghost use Rattle.archive_write.specs.Written.{GoesOn};
+ghost use Rattle.archive_types.specs.Outcomes.{ResolvesAs, SerializesTo, SerializesAs};
 
 use super::{ArchivedRc, ArchivedRcWeak, Flavor};
 use crate::owner_pointers::position_of;
 use crate::place::Place;
 use crate::ser::Writer;
 use crate::sharing::{Sharing, SharingExt};
-use crate::traits::{ArchiveUnsized, PortablePointee, SerializeUnsized};
+use crate::traits::{ArchiveUnsized, Portable, PortablePointee, SerializeUnsized};
 use archive_check::format::error::Error;
 use archive_num::FixedUsize;
 use archive_num::owners::emplace_pointer;
@@ -66,9 +67,11 @@ pub fn write_shared<F: Flavor, U: SerializeUnsized<S>, S: Sharing + Writer>(
     value: &U,
     writer: &mut S,
 ) -> Result<usize, Error>
-    ensures serialized { IfOk result (IsShared F.Flavor U.Archived.ArchivePointee U.ArchiveUnsized key value.now S.Keys writer) }
-    ensures goes_on { GoesOn (S.state writer.old) (S.state writer.new) }
-    ensures refused { IfErr result (IsntShared F.Flavor U.Archived.ArchivePointee U.ArchiveUnsized key value.now S.Keys writer) }
+    ensures outcome { SerializesTo U.Archived.definitions (shared (flavor_of F.Flavor) U.Archived.pointee)
+        (keys_under F.Flavor U.Archived.ArchivePointee U.ArchiveUnsized key value.now)
+        (shared_value key)
+        (shared_flat (flavor_of F.Flavor) U.Archived.pointee (U.source_length value.now))
+        (λ _. ⊤) (S.state writer.old) (S.state writer.new) result }
     ensures pending { AnswersPending key result S.Keys writer }
 {
     let pos = writer.serialize_shared(key, value)?;
@@ -129,10 +132,11 @@ where
         value: &U,
         serializer: &mut S,
     ) -> Result<RcResolver, Error>
-        ensures serialized { IfOk result (IsShared F.Flavor T.ArchivePointee U.ArchiveUnsized key value.now S.Keys serializer) }
-        ensures held { OnOk result (U.source_length value.now ≤ 4294967295) }
-        ensures goes_on { GoesOn (S.state serializer.old) (S.state serializer.new) }
-        ensures refused { IfErr result (IsntShared F.Flavor T.ArchivePointee U.ArchiveUnsized key value.now S.Keys serializer) }
+        ensures outcome { SerializesAs ⟦<Self as Portable>⟧
+            (keys_under F.Flavor T.ArchivePointee U.ArchiveUnsized key value.now)
+            (shared_value key)
+            (shared_flat (flavor_of F.Flavor) T.pointee (U.source_length value.now))
+            (λ _. U.source_length value.now ≤ 4294967295) S.Keys serializer result }
         ensures pending { AnswersPending key result S.Keys serializer }
     {
         let pos = write_shared::<F, U, S>(key, value, serializer)?;
@@ -157,10 +161,9 @@ where
         requires sized { length place.bytes.now ≡ pointer_size T.pointee }
         requires one_value { has_length T.pointee ≡ false → U.source_length value.now ≡ 0 }
         requires held { U.source_length value.now ≤ 4294967295 }
-        ensures resolved { OnOk result (SharedResolved F.Flavor T.ArchivePointee U.ArchiveUnsized place value.now resolver) }
-        ensures refused { IfErr result (SharedHindered F.Flavor T.ArchivePointee U.ArchiveUnsized place value.now resolver) }
+        ensures outcome { ResolvesAs ⟦<Self as Portable>⟧ place
+            (shared_flat (flavor_of F.Flavor) T.pointee (U.source_length value.now) resolver) result }
         ensures cause { IfErr result (IsTooFarFrom place resolver) }
-        ensures same_length { length place.exit.0.now ≡ length place.entry.bytes.now }
     {
         let Place { bytes, pos, .. } = place;
         let count = length_of::<T, U>(value);
@@ -193,10 +196,12 @@ where
         value: Option<&U>,
         serializer: &mut S,
     ) -> Result<RcWeakResolver, Error>
-        ensures serialized { IfOk result (IsWeak F.Flavor T.ArchivePointee U.ArchiveUnsized key value.entry S.Keys serializer) }
-        ensures held { OnOk result (weak_count (λ u. U.source_length u.now) value.entry ≤ 4294967295) }
-        ensures goes_on { GoesOn (S.state serializer.old) (S.state serializer.new) }
-        ensures refused { IfErr result (IsntWeak F.Flavor T.ArchivePointee U.ArchiveUnsized key value.entry S.Keys serializer) }
+        ensures outcome { SerializesAs ⟦<Self as Portable>⟧
+            (weak_keys (λ u. keys_under F.Flavor T.ArchivePointee U.ArchiveUnsized key u.now) value.entry)
+            (weak_value (λ u. shared_value key) value.entry)
+            (weak_flat (flavor_of F.Flavor) T.pointee (weak_count (λ u. U.source_length u.now) value.entry))
+            (λ _. weak_count (λ u. U.source_length u.now) value.entry ≤ 4294967295) S.Keys
+            serializer result }
         ensures null { value.entry ≡ None → IsOk result × (S.state serializer.new ≡ S.state serializer.old) }
     {
         let Some(value) = value else {
@@ -221,10 +226,10 @@ where
         requires sized { length place.bytes.now ≡ pointer_size T.pointee }
         requires one_value { has_length T.pointee ≡ false → weak_count (λ u. U.source_length u.now) value ≡ 0 }
         requires held { weak_count (λ u. U.source_length u.now) value ≤ 4294967295 }
-        ensures resolved { OnOk result (WeakResolved F.Flavor T.ArchivePointee U.ArchiveUnsized place value.entry resolver) }
-        ensures refused { IfErr result (WeakHindered F.Flavor T.ArchivePointee U.ArchiveUnsized place value.entry resolver) }
+        ensures outcome { ResolvesAs ⟦<Self as Portable>⟧ place
+            (weak_flat (flavor_of F.Flavor) T.pointee
+            (weak_count (λ u. U.source_length u.now) value.entry) resolver) result }
         ensures null { resolver ≡ None → IsOk result × (place.exit.0.now ≡ owner_bytes (has_length T.pointee) (whole 1) 0) }
-        ensures same_length { length place.exit.0.now ≡ length place.entry.bytes.now }
     {
         let Place { bytes, pos, .. } = place;
         let Some(resolver) = resolver else {

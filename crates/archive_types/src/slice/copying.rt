@@ -4,10 +4,10 @@ ghost use Rattle.std.specs.Prelude.{◌≡◌, ◌+◌, ◌*◌, ◌^◌, ◌++�
 ghost use Rattle.archive_check.specs.WriterState.{KeepsKeys};
 ghost use Rattle.archive_types.specs.Copies.{each_bytes, copies_from};
 ghost use Rattle.archive_types.specs.Words.KindsWritten.{OwnsNothingAs, EachCopiedAs};
-ghost use Rattle.archive_types.specs.Words.Sources.{SliceStored, SliceUnstored, CopiesStored, CopiesStoredIf, CopiesUnstored, CopiesInBulkIf, CopiesNotInBulk};
 ghost use Rattle.archive_write.specs.Written.{GoesOn};
 ghost use Rattle.archive_types.specs.Words.CopiesWritten.{AllCopied, PiecesUnwritten, CopyRefused, CopiesRefused, Takes, AddedAligned};
 ghost use Rattle.archive_types.specs.Words.Placed.{BytesAdded, WriteRefused};
+ghost use Rattle.archive_types.specs.Outcomes.{WritesElements, CopiesElements};
 
 use crate::ser::run_fits;
 use crate::traits::{Copied, CopiedSource, Keys};
@@ -261,12 +261,11 @@ fn copy_together<S: Writer + Keys, T: Copied>(
     requires owns_nothing { (v : T) → OwnsNothingAs T.CopiedAs.Portable (T.copied_keys v) (T.copied_meaning v) }
     requires joined { 0 < together }
     requires small { together * size ≤ 1024 }
-    ensures serialized { IfOk result (CopiesStored T.Copied T.CopiedAs.Portable values.now S.Keys serializer) }
+    ensures outcome { WritesElements T.copied_keys T.copied_meaning T.CopiedAs.Portable values.now S.Keys
+        serializer result }
     ensures copied { OnOk result (AddedAligned T.CopiedAs.layout (each_bytes T.copied_bytes values.now) S.Keys serializer) }
     ensures read { OnOk result (AllCopied T.CopiedAs.Portable size T.copied_meaning T.copied_bytes values.now) }
     ensures position { IfOk result (λ p. p ≡ copies_from T.CopiedAs.layout (S.position serializer.old)) }
-    ensures goes_on { GoesOn (S.state serializer.old) (S.state serializer.new) }
-    ensures refused { IfErr result (CopiesUnstored T.Copied T.CopiedAs.Portable values.now S.Keys serializer) }
     ensures cause { IfErr result (CopiesRefused S.position S.Keys serializer T.CopiedAs.layout (length values.now)) }
     ensures memory { IsErrOf result Error.OutOfMemory → IsTrue S.takes_memory }
     ensures succeeds { Takes S.position S.Keys serializer S.takes_memory T.CopiedAs.layout (length values.now) → IsOk result }
@@ -288,11 +287,9 @@ pub fn copy_slice<S: Writer + Keys, T: CopiedSource>(
     values: &[T],
     serializer: &mut S,
 ) -> Result<usize, Error>
-    ensures serialized { IfOk result (SliceStored T.Archive T.Archived.Portable values.now S.Keys serializer) }
+    ensures outcome { WritesElements T.keys T.meaning T.Archived.Portable values.now S.Keys serializer result }
     ensures copied { OnOk result (AddedAligned T.Archived.layout (each_bytes T.copied_bytes values.now) S.Keys serializer) }
     ensures position { IfOk result (λ p. p ≡ copies_from T.Archived.layout (S.position serializer.old)) }
-    ensures goes_on { GoesOn (S.state serializer.old) (S.state serializer.new) }
-    ensures refused { IfErr result (SliceUnstored T.Archive T.Archived.Portable values.now S.Keys serializer) }
     ensures cause { IfErr result (CopiesRefused S.position S.Keys serializer T.Archived.layout (length values.now)) }
     ensures memory { IsErrOf result Error.OutOfMemory → IsTrue S.takes_memory }
     ensures succeeds { Takes S.position S.Keys serializer S.takes_memory T.Archived.layout (length values.now) → IsOk result }
@@ -311,12 +308,8 @@ pub fn copy_groups<S: Writer + Keys, T: Copied>(
     together: usize,
     serializer: &mut S,
 ) -> Result<Option<usize>, Error>
-    ensures serialized { IfOk result (CopiesStoredIf T.Copied T.CopiedAs.Portable values.now S.Keys serializer) }
-    ensures in_bulk { IfOk result (CopiesInBulkIf T.Copied T.CopiedAs.Portable values.now S.Keys serializer) }
-    ensures untouched { IfOk result (λ o. o ≡ None → S.state serializer.new ≡ S.state serializer.old) }
-    ensures goes_on { GoesOn (S.state serializer.old) (S.state serializer.new) }
-    ensures refused { IfErr result (CopiesUnstored T.Copied T.CopiedAs.Portable values.now S.Keys serializer) }
-    ensures not_in_bulk { IfErr result (CopiesNotInBulk T.Copied T.CopiedAs.Portable values.now S.Keys serializer) }
+    ensures { CopiesElements T.copied_keys T.copied_meaning T.CopiedAs.Portable values.now S.Keys
+        serializer result }
 {
     let size = T::copied_size();
     let together = together.max(1);

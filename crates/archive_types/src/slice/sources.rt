@@ -1,7 +1,7 @@
 // Borrowed slices as sources: what each element owns, and then all elements as one region.
 
 ghost use Rattle.std.specs.Prelude.{◌≡◌, ◌<◌, ◌≤◌, IfOk, OnOk, IfErr, IsErrOf, length};
-ghost use Rattle.archive_check.specs.Shape.{run};
+ghost use Rattle.archive_check.specs.Shape.{array, one, run};
 ghost use Rattle.archive_check.specs.Value.{list};
 ghost use Rattle.archive_check.specs.declared.format.error.Error.TheVariants.{LengthTooLarge};
 ghost use Rattle.archive_types.specs.Causes.{IsRegionRefused};
@@ -10,13 +10,14 @@ ghost use Rattle.archive_types.specs.Words.Placed.{AtOnce};
 ghost use Rattle.archive_types.specs.Members.PlannedOwners.{is_long, slice_planned};
 ghost use Rattle.archive_types.specs.Plans.{SerializedRegion};
 ghost use Rattle.archive_types.specs.Runs.{each_keys, each_meaning, each_flat, EachBelongs, SerializedRun, IsRunRefused};
-ghost use Rattle.archive_types.specs.Words.Sources.{EachOwned, EachRefused, SliceStored, SliceUnstored, ArrayStored, ArrayUnstored};
 ghost use Rattle.archive_write.specs.Written.{GoesOn};
+ghost use Rattle.archive_types.specs.Outcomes.{WritesRegion, WritesElements};
+ghost use Rattle.archive_types.specs.SourceOutcomes.{WritesUnsized};
 
 use super::ArchivedSlice;
 use crate::primitive::ArchivedUsize;
 use crate::ser::{ResolveExt, by_words};
-use crate::traits::{Archive, ArchiveUnsized, Serialize, SerializeUnsized};
+use crate::traits::{Archive, ArchivePointee, ArchiveUnsized, Serialize, SerializeUnsized};
 use archive_check::format::error::Error;
 use archive_write::ser::{ResolverAlloc, Writer, WriterExt};
 use std::alloc::{AllocError, Allocator};
@@ -36,10 +37,17 @@ pub(crate) fn serialize_each<A: Allocator + Drop, S: Writer, T: Serialize<S>>(
     values: &[T],
     serializer: &mut S,
 ) -> Result<Vec<T::Resolver, A>, Error>
-    ensures serialized { IfOk result (λ rs. EachOwned T.Archive T.Archived.Portable values.now rs.items S.Keys serializer) }
+    ensures serialized { IfOk result
+        (λ rs. SerializedRun T.Archived.definitions T.Archived.shape (length values.now)
+        (each_keys T.keys values.now) (each_meaning T.meaning values.now)
+        (each_flat T.flat values.now rs.items) (S.state serializer.old)
+        (S.state serializer.new)) }
     ensures same_values { IfOk result (λ rs. EachBelongs T.belongs values.now rs.items) }
     ensures goes_on { GoesOn (S.state serializer.old) (S.state serializer.new) }
-    ensures refused { IfErr result (EachRefused T.Archive T.Archived.Portable values.now S.Keys serializer) }
+    ensures refused { IfErr result
+        (IsRunRefused T.Archived.definitions T.Archived.shape (length values.now)
+        (each_keys T.keys values.now) (each_meaning T.meaning values.now)
+        (S.state serializer.old) (S.state serializer.new)) }
 {
     let mut resolvers = Vec::with_capacity(alloc, values.len())?;
     for value in values {
@@ -59,11 +67,10 @@ pub(crate) fn serialize_in_turn<S: Writer + ResolverAlloc, T: Serialize<S>>(
     values: &[T],
     serializer: &mut S,
 ) -> Result<usize, Error>
-    ensures serialized { IfOk result (SliceStored T.Archive T.Archived.Portable values.now S.Keys serializer) }
-    ensures as_array { IfOk result (ArrayStored T.Archive T.Archived.Portable values.now S.Keys serializer) }
-    ensures goes_on { GoesOn (S.state serializer.old) (S.state serializer.new) }
-    ensures refused { IfErr result (SliceUnstored T.Archive T.Archived.Portable values.now S.Keys serializer) }
-    ensures no_array { IfErr result (ArrayUnstored T.Archive T.Archived.Portable values.now S.Keys serializer) }
+    ensures outcome { WritesElements T.keys T.meaning T.Archived.Portable values.now S.Keys serializer result }
+    ensures as_array { WritesRegion T.Archived.definitions (one (array (length values.now) T.Archived.shape)) 0
+        (each_keys T.keys values.now) (list (each_meaning T.meaning values.now))
+        (S.state serializer.old) (S.state serializer.new) result }
 {
     let alloc = serializer.resolver_alloc();
     let resolvers = serialize_each(alloc, values, serializer)?;
@@ -78,10 +85,8 @@ pub(crate) fn serialize_slice<S: Writer + ResolverAlloc, T: Serialize<S>>(
     values: &[T],
     serializer: &mut S,
 ) -> Result<usize, Error>
-    ensures serialized { IfOk result (SliceStored T.Archive T.Archived.Portable values.now S.Keys serializer) }
+    ensures outcome { WritesElements T.keys T.meaning T.Archived.Portable values.now S.Keys serializer result }
     ensures held { OnOk result (length values.now ≤ 4294967295) }
-    ensures goes_on { GoesOn (S.state serializer.old) (S.state serializer.new) }
-    ensures refused { IfErr result (SliceUnstored T.Archive T.Archived.Portable values.now S.Keys serializer) }
     ensures too_long { 4294967295 < length values.now → AtOnce result LengthTooLarge S.Keys serializer }
 {
     if values.len() > u32::MAX as usize {
@@ -127,9 +132,8 @@ impl<'a, S: Writer + ResolverAlloc, T: Serialize<S>> SerializeUnsized<S> for Sli
     /// `usize::MAX`, as the elements do, and as the trait says it.
     #[inline(always)]
     fn serialize_unsized(&self, serializer: &mut S) -> Result<usize, Error>
-        ensures serialized { IfOk result (SliceStored T.Archive T.Archived.Portable self.now.slice.now S.Keys serializer) }
-        ensures goes_on { GoesOn (S.state serializer.old) (S.state serializer.new) }
-        ensures refused { IfErr result (SliceUnstored T.Archive T.Archived.Portable self.now.slice.now S.Keys serializer) }
+        ensures outcome { WritesUnsized ⟦<Self as ArchiveUnsized>⟧ ⟦<Self::Archived as ArchivePointee>⟧ self.now
+            S.Keys serializer result }
         ensures held { OnOk result (length self.now.slice.now ≤ 4294967295) }
         ensures too_long { 4294967295 < length self.now.slice.now → AtOnce result LengthTooLarge S.Keys serializer }
     {

@@ -5,8 +5,8 @@ ghost use Rattle.std.proofs.Common.{rules};
 ghost use Rattle.archive_check.specs.Value.{product};
 ghost use Rattle.archive_types.specs.Members.PartsPlanned.{whole_planned, whole_keyed};
 ghost use Rattle.archive_types.specs.Members.PlannedOwners.{one_planned};
-ghost use Rattle.archive_types.specs.Words.Sources.{ResolvedAs, HinderedAs};
 ghost use Rattle.archive_types.specs.Writing.{ZeroedPlace};
+ghost use Rattle.archive_types.specs.Outcomes.{ResolvesAs};
 
 use super::parts::{Part0, Part1, Part2, Part3, Part4, Part5, Part6, Part7, Part8, Parts9};
 use crate::parts::{FromParts, PartOf, SerializeParts, SourceParts};
@@ -47,9 +47,8 @@ where
     ) -> Result<(), Error>
         requires zeroed { ZeroedPlace ⟦<Self::Archived as Portable>⟧.layout.size place.pos place.bytes.now }
         requires same_value { ⟦<Self as Archive>⟧.belongs self.now resolver }
-        ensures resolved { OnOk result (ResolvedAs ⟦<Self as Archive>⟧ ⟦<Self::Archived as Portable>⟧ place self.now resolver) }
-        ensures same_length { length place.exit.0.now ≡ length place.entry.bytes.now }
-        ensures refused { IfErr result (HinderedAs ⟦<Self as Archive>⟧ ⟦<Self::Archived as Portable>⟧ place self.now resolver) }
+        ensures { ResolvesAs ⟦<Self::Archived as Portable>⟧ place
+            (⟦<Self as Archive>⟧.flat self.now resolver) result }
     {
         let Place { bytes, pos, .. } = place;
         resolve_record::<Self, Parts9, Self::Archived>(self, resolver, Place::new(pos, bytes))

@@ -5,8 +5,8 @@ ghost use Rattle.archive_check.specs.Value.{product};
 ghost use Rattle.archive_types.specs.Causes.{HindersAt};
 ghost use Rattle.archive_types.specs.Members.Keyed.{nothing_keyed, part_keyed, record_keyed};
 ghost use Rattle.archive_types.specs.Members.PartsPlanned.{no_part_planned, part_planned, product_planned};
-ghost use Rattle.archive_types.specs.Words.Sources.{ResolvedAs, HinderedAs};
 ghost use Rattle.archive_types.specs.Writing.{ZeroedPlace, Resolves};
+ghost use Rattle.archive_types.specs.Outcomes.{ResolvesAs};
 
 use super::parts::{Parts1, Parts2, Parts3};
 use crate::parts::SourceParts;
@@ -41,9 +41,8 @@ impl<A: Archive> Archive for (A,) {
     ) -> Result<(), Error>
         requires zeroed { ZeroedPlace ⟦<Self::Archived as Portable>⟧.layout.size place.pos place.bytes.now }
         requires same_value { ⟦<Self as Archive>⟧.belongs self.now resolver }
-        ensures resolved { OnOk result (ResolvedAs ⟦<Self as Archive>⟧ ⟦<Self::Archived as Portable>⟧ place self.now resolver) }
-        ensures same_length { length place.exit.0.now ≡ length place.entry.bytes.now }
-        ensures refused { IfErr result (HinderedAs ⟦<Self as Archive>⟧ ⟦<Self::Archived as Portable>⟧ place self.now resolver) }
+        ensures { ResolvesAs ⟦<Self::Archived as Portable>⟧ place
+            (⟦<Self as Archive>⟧.flat self.now resolver) result }
     {
         let Place { bytes, pos, .. } = place;
         resolve_record::<Self, Parts1, Self::Archived>(self, resolver, Place::new(pos, bytes))
@@ -80,9 +79,8 @@ impl<A: Archive, B: Archive> Archive for (A, B) {
     ) -> Result<(), Error>
         requires zeroed { ZeroedPlace ⟦<Self::Archived as Portable>⟧.layout.size place.pos place.bytes.now }
         requires same_value { ⟦<Self as Archive>⟧.belongs self.now resolver }
-        ensures resolved { OnOk result (ResolvedAs ⟦<Self as Archive>⟧ ⟦<Self::Archived as Portable>⟧ place self.now resolver) }
-        ensures same_length { length place.exit.0.now ≡ length place.entry.bytes.now }
-        ensures refused { IfErr result (HinderedAs ⟦<Self as Archive>⟧ ⟦<Self::Archived as Portable>⟧ place self.now resolver) }
+        ensures { ResolvesAs ⟦<Self::Archived as Portable>⟧ place
+            (⟦<Self as Archive>⟧.flat self.now resolver) result }
     {
         let Place { bytes, pos, .. } = place;
         resolve_record::<Self, Parts2, Self::Archived>(self, resolver, Place::new(pos, bytes))
@@ -119,9 +117,8 @@ impl<A: Archive, B: Archive, C: Archive> Archive for (A, B, C) {
     ) -> Result<(), Error>
         requires zeroed { ZeroedPlace ⟦<Self::Archived as Portable>⟧.layout.size place.pos place.bytes.now }
         requires same_value { ⟦<Self as Archive>⟧.belongs self.now resolver }
-        ensures resolved { OnOk result (ResolvedAs ⟦<Self as Archive>⟧ ⟦<Self::Archived as Portable>⟧ place self.now resolver) }
-        ensures same_length { length place.exit.0.now ≡ length place.entry.bytes.now }
-        ensures refused { IfErr result (HinderedAs ⟦<Self as Archive>⟧ ⟦<Self::Archived as Portable>⟧ place self.now resolver) }
+        ensures { ResolvesAs ⟦<Self::Archived as Portable>⟧ place
+            (⟦<Self as Archive>⟧.flat self.now resolver) result }
     {
         let Place { bytes, pos, .. } = place;
         resolve_record::<Self, Parts3, Self::Archived>(self, resolver, Place::new(pos, bytes))

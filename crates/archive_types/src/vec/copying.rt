@@ -1,12 +1,16 @@
 // Vectors of values that are copied.
 
 ghost use Rattle.std.specs.Prelude.{◌≡◌, ◌<◌, ◌≤◌, IfOk, OnOk, IfErr, IsOk, IsErrOf, IsTrue, length};
+ghost use Rattle.archive_check.specs.Shape.{vec as vec_shape};
 ghost use Rattle.archive_check.specs.declared.format.error.Error.TheVariants.{LengthTooLarge};
 ghost use Rattle.archive_types.specs.Copies.{each_bytes, copies_from};
 ghost use Rattle.archive_write.specs.Written.{GoesOn};
 ghost use Rattle.archive_types.specs.Words.CopiesWritten.{AddedAligned, ElementsRefused, CopiesSucceed};
-ghost use Rattle.archive_types.specs.Words.KindsWritten.{VecSerialized};
 ghost use Rattle.archive_types.specs.Words.Placed.{AtOnce};
+ghost use Rattle.archive_types.specs.Runs.{each_keys, each_meaning};
+ghost use Rattle.archive_types.specs.Writing.{vec_flat};
+ghost use Rattle.archive_check.specs.Value.{list};
+ghost use Rattle.archive_types.specs.Plans.{Serialized};
 
 use super::{ArchivedVec, VecResolver};
 use crate::owner_pointers::position_of;
@@ -31,7 +35,10 @@ impl<T: Portable> ArchivedVec<T> {
         value: &[U],
         serializer: &mut S,
     ) -> Result<VecResolver, Error>
-        ensures serialized { IfOk result (VecSerialized U.keys U.meaning T.Portable value.now S.Keys serializer) }
+        ensures serialized { IfOk result
+            (λ r. Serialized T.definitions (vec_shape T.shape) (each_keys U.keys value.now)
+            (list (each_meaning U.meaning value.now)) (vec_flat T.shape (length value.now) r)
+            (S.state serializer.old) (S.state serializer.new)) }
         ensures copied { OnOk result (AddedAligned T.layout (each_bytes U.copied_bytes value.now) S.Keys serializer) }
         ensures position { IfOk result (λ r. r ≡ copies_from T.layout (S.position serializer.old)) }
         ensures held { OnOk result (length value.now ≤ 4294967295) }

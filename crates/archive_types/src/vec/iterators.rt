@@ -4,8 +4,8 @@ ghost use Rattle.std.specs.Prelude.{◌≡◌, ◌≤◌, ◌⊎◌, List, IfOk,
 ghost use Rattle.std.specs.Iterator.{IsFinite, Drains};
 ghost use Rattle.archive_check.specs.declared.format.error.Error.TheVariants.{OutOfMemory};
 ghost use Rattle.archive_types.specs.ItemsWritten.{ItemPut, ItemUnput, ItemsStored, ItemsUnstored};
-ghost use Rattle.archive_types.specs.Words.KindsWritten.{VecOfItems, NoVecOfItems};
 ghost use Rattle.archive_write.specs.Written.{GoesOn};
+ghost use Rattle.archive_types.specs.Outcomes.{SerializesItems};
 
 use super::{ArchivedVec, VecResolver};
 use crate::owner_pointers::position_of;
@@ -48,9 +48,8 @@ impl<T: Portable> ArchivedVec<T> {
     >(iter: I, serializer: &mut S) -> Result<VecResolver, Error>
         requires can { I.can_next iter }
         requires ends { IsFinite (I.remaining iter) }
-        ensures serialized { IfOk result (VecOfItems (Drains I.next_gives iter) U.keys U.meaning T.Portable S.Keys serializer) }
-        ensures goes_on { GoesOn (S.state serializer.old) (S.state serializer.new) }
-        ensures refused { IfErr result (NoVecOfItems (Drains I.next_gives iter) U.keys U.meaning T.Portable S.Keys serializer) }
+        ensures { SerializesItems (Drains I.next_gives iter) U.keys U.meaning T.Portable S.Keys serializer
+            result }
     {
         let alloc = serializer.resolver_alloc();
         let Ok(items) = iter.collect::<Vec<U, S::Alloc>>(alloc) else {

@@ -7,15 +7,16 @@ ghost use Rattle.archive_check.specs.Value.{list, hole};
 ghost use Rattle.archive_check.specs.declared.format.error.Error.TheVariants.{LengthTooLarge};
 ghost use Rattle.archive_types.specs.Causes.{HindersAt, IsRefused};
 ghost use Rattle.archive_types.specs.Members.Keyed.{each_keyed};
-ghost use Rattle.archive_types.specs.Words.KindsWritten.{VecSerialized, VecRefused, VecResolved, VecHindered};
 ghost use Rattle.archive_num.specs.Offsets.{distance, IsTooFar};
 ghost use Rattle.archive_num.specs.OwnerBytes.{owner_bytes};
 ghost use Rattle.archive_types.specs.Words.Placed.{IsTooFarFrom, PointsTo, AtOnce};
 ghost use Rattle.archive_types.specs.Members.PlannedOwners.{one_planned, vec_planned, slice_planned};
 ghost use Rattle.archive_types.specs.Plans.{Serialized};
 ghost use Rattle.archive_types.specs.Runs.{each_keys, each_meaning};
-ghost use Rattle.archive_types.specs.Writing.{ZeroedPlace, Resolves, to_pointee};
+ghost use Rattle.archive_types.specs.Writing.{ZeroedPlace, Resolves, to_pointee, vec_flat};
 ghost use Rattle.archive_write.specs.Written.{GoesOn};
+ghost use Rattle.archive_types.specs.Outcomes.{ResolvesAs, SerializesAs};
+ghost use Rattle.archive_types.specs.SourceOutcomes.{Serializes};
 
 use super::ArchivedVec;
 use crate::owner_pointers::position_of;
@@ -72,10 +73,9 @@ impl<T: Portable> ArchivedVec<T> {
         value: &[U],
         serializer: &mut S,
     ) -> Result<VecResolver, Error>
-        ensures serialized { IfOk result (VecSerialized U.keys U.meaning T.Portable value.now S.Keys serializer) }
-        ensures held { OnOk result (length value.now ≤ 4294967295) }
-        ensures goes_on { GoesOn (S.state serializer.old) (S.state serializer.new) }
-        ensures refused { IfErr result (VecRefused U.keys U.meaning T.Portable value.now S.Keys serializer) }
+        ensures outcome { SerializesAs ⟦<Self as Portable>⟧ (each_keys U.keys value.now)
+            (list (each_meaning U.meaning value.now)) (vec_flat T.shape (length value.now))
+            (λ _. length value.now ≤ 4294967295) S.Keys serializer result }
         ensures too_long { 4294967295 < length value.now → AtOnce result LengthTooLarge S.Keys serializer }
     {
         let pos = serialize_slice(value, serializer)?;
@@ -96,12 +96,10 @@ impl<T: Portable> ArchivedVec<T> {
     ) -> Result<(), Error>
         requires sized { length place.bytes.now ≡ 8 }
         requires held { len ≤ 4294967295 }
-        ensures resolved { OnOk result (VecResolved T.Portable place resolver len) }
+        ensures outcome { ResolvesAs ⟦<Self as Portable>⟧ place (vec_flat T.shape len resolver) result }
         ensures written { OnOk result (PointsTo place true resolver len) }
         ensures fits { OnOk result (FitsSigned w32 (distance place.entry.pos resolver)) }
-        ensures refused { IfErr result (VecHindered T.Portable place resolver len) }
         ensures cause { IfErr result (IsTooFarFrom place resolver) }
-        ensures same_length { length place.exit.0.now ≡ length place.entry.bytes.now }
     {
         let Place { bytes, pos, .. } = place;
         emplace_long_owner(resolver.pos as usize, len as FixedUsize, pos, bytes)
@@ -116,12 +114,11 @@ impl<T: Portable> ArchivedVec<T> {
     ) -> Result<(), Error>
         requires sized { length place.bytes.now ≡ 8 }
         requires held { length value.now ≤ 4294967295 }
-        ensures resolved { OnOk result (VecResolved T.Portable place resolver (length value.now)) }
+        ensures outcome { ResolvesAs ⟦<Self as Portable>⟧ place (vec_flat T.shape (length value.now) resolver)
+            result }
         ensures written { OnOk result (PointsTo place true resolver (length value.now)) }
         ensures fits { OnOk result (FitsSigned w32 (distance place.entry.pos resolver)) }
-        ensures refused { IfErr result (VecHindered T.Portable place resolver (length value.now)) }
         ensures cause { IfErr result (IsTooFarFrom place resolver) }
-        ensures same_length { length place.exit.0.now ≡ length place.entry.bytes.now }
     {
         let Place { bytes, pos, .. } = place;
         Self::resolve_from_len(value.len(), resolver, Place::new(pos, bytes))
@@ -154,9 +151,8 @@ impl<T: Archive> Archive for Vec<T> {
     ) -> Result<(), Error>
         requires zeroed { ZeroedPlace 8 place.pos place.bytes.now }
         requires same_value { length self.now.items ≤ 4294967295 }
-        ensures resolved { OnOk result (VecResolved T.Archived.Portable place resolver (length self.now.items)) }
-        ensures same_length { length place.exit.0.now ≡ length place.entry.bytes.now }
-        ensures refused { IfErr result (VecHindered T.Archived.Portable place resolver (length self.now.items)) }
+        ensures outcome { ResolvesAs ⟦<Self::Archived as Portable>⟧ place
+            (⟦<Self as Archive>⟧.flat self.now resolver) result }
         ensures written { OnOk result (PointsTo place true resolver (length self.now.items)) }
         ensures cause { IfErr result (λ e. IsTooFar e (distance place.entry.pos resolver)) }
     {
@@ -169,10 +165,8 @@ impl<S: Writer + ResolverAlloc, T: Serialize<S>> Serialize<S> for Vec<T> {
     /// Writes the elements, as `ArchivedVec::serialize_from_slice` does, with its errors.
     #[inline(always)]
     fn serialize(&self, serializer: &mut S) -> Result<VecResolver, Error>
-        ensures serialized { IfOk result (VecSerialized T.keys T.meaning T.Archived.Portable self.now.items S.Keys serializer) }
-        ensures same_value { OnOk result (length self.now.items ≤ 4294967295) }
-        ensures goes_on { GoesOn (S.state serializer.old) (S.state serializer.new) }
-        ensures refused { IfErr result (VecRefused T.keys T.meaning T.Archived.Portable self.now.items S.Keys serializer) }
+        ensures outcome { Serializes ⟦<Self as Archive>⟧ ⟦<Self::Archived as Portable>⟧ self.now S.Keys serializer
+            result }
         ensures too_long { 4294967295 < length self.now.items → AtOnce result LengthTooLarge S.Keys serializer }
     {
         ArchivedVec::<T::Archived>::serialize_from_slice(self.as_slice(), serializer)

@@ -9,9 +9,9 @@ ghost use Rattle.archive_types.specs.Members.PlannedOwners.{one_planned};
 ghost use Rattle.archive_types.specs.Plans.{Serialized};
 ghost use Rattle.archive_types.specs.Members.SharedLaws.{weak_value, weak_keys, weak_flat, weak_keyed, weak_planned};
 ghost use Rattle.archive_types.specs.Members.SharedSources.{rc_flavor, rc_keys, rc_keyed, rc_one_planned};
-ghost use Rattle.archive_types.specs.Words.Sources.{ResolvedAs, HinderedAs, Wrote, Refused};
 ghost use Rattle.archive_types.specs.Writing.{ZeroedPlace, Resolves};
 ghost use Rattle.archive_write.specs.Written.{GoesOn};
+ghost use Rattle.archive_types.specs.Outcomes.{ResolvesAs};
 
 use super::Shared;
 use archive_check::format::error::Error;
@@ -57,9 +57,8 @@ impl<T: Archive> Archive for WeakShared<T> {
     ) -> Result<(), Error>
         requires zeroed { ZeroedPlace (pointer_size T.Archived.pointee) place.pos place.bytes.now }
         requires same_value { ⊤ }
-        ensures resolved { OnOk result (ResolvedAs ⟦<Self as Archive>⟧ ⟦<Self::Archived as Portable>⟧ place self.now resolver) }
-        ensures same_length { length place.exit.0.now ≡ length place.entry.bytes.now }
-        ensures refused { IfErr result (HinderedAs ⟦<Self as Archive>⟧ ⟦<Self::Archived as Portable>⟧ place self.now resolver) }
+        ensures { ResolvesAs ⟦<Self::Archived as Portable>⟧ place
+            (⟦<Self as Archive>⟧.flat self.now resolver) result }
     {
         let Place { bytes, pos, .. } = place;
         let Some(resolver) = resolver else {
@@ -77,12 +76,7 @@ impl<T: Serialize<S>, S: Sharing + Writer + ResolverAlloc> Serialize<S> for Weak
     /// Writes what it leads to as a shared value, with its errors; where that is none, nothing, and
     /// it doesn't fail.
     #[tactic(auto, using(archive_types::proofs::SharedValues::SharedWritten::weak_serialized, archive_types::proofs::SharedValues::SharedWritten::weak_refused, archive_types::proofs::SharedValues::SharedWritten::null_serialized, archive_types::proofs::Planning::Causes::goes_nowhere))]
-    fn serialize(&self, serializer: &mut S) -> Result<RcWeakResolver, Error>
-        ensures serialized { IfOk result (Wrote ⟦<Self as Archive>⟧ ⟦<Self::Archived as Portable>⟧ self.now S.Keys serializer) }
-        ensures same_value { ⊤ }
-        ensures goes_on { GoesOn (S.state serializer.old) (S.state serializer.new) }
-        ensures refused { IfErr result (Refused ⟦<Self as Archive>⟧ ⟦<Self::Archived as Portable>⟧ self.now S.Keys serializer) }
-    {
+    fn serialize(&self, serializer: &mut S) -> Result<RcWeakResolver, Error> {
         let Some(value) = &self.value else {
             return Ok(None);
         };

@@ -1,7 +1,15 @@
+use Rattle.std.proofs.Common.{rules}
 use Rattle.archive_check.specs.declared.format.error.Error.TheVariants.{OutOfMemory}
 use Rattle.archive_types.specs.Causes.{no_memory}
 use Rattle.archive_types.proofs.Planning.Causes.{err_by}
 use Rattle.archive_types.proofs.ser.resolve_large.Goals as goal
 
-pub returns-in_err-region-clause-refused : goal.returns-in_err-region-clause-refused
-returns-in_err-region-clause-refused g c = err_by c.from_residual.result OutOfMemory _ c.from_residual.ensures.1 no_memory
+pub returns-in_err-region : goal.returns-in_err-region
+returns-in_err-region g c = record {
+  region = search rules;
+  position = search rules;
+  sized = search rules;
+  refused = err_by c.from_residual.result OutOfMemory _ c.from_residual.ensures.1 no_memory;
+  goes_on = search rules;
+  keys = search rules;
+}

@@ -1,20 +1,30 @@
+use Rattle.std.proofs.Common.{rules}
 use Rattle.archive_types.proofs.Planning.Causes.{err_by, goes_both}
 use Rattle.archive_types.proofs.Planning.PlannedParts.{serialized_part, first_refused, later_refused}
 use Rattle.archive_types.proofs.parts.serializing.Tuple2SerializeParts.serialize_parts.Goals as goal
 
-pub returns-in_err-first-clause-refused : goal.returns-in_err-first-clause-refused
-returns-in_err-first-clause-refused g c = err_by c.from_residual.result c.in_err-first.field-0.0 _ c.from_residual.ensures.1
-    (first_refused _ _ _ _ _ _ _ _ _ _ _ (g.met.R.SourceParts.planned.each _) (rw c.part_of.ensures at c.in_err-first.ensures.refused))
+pub returns-in_err-first : goal.returns-in_err-first
+returns-in_err-first g c = record {
+  serialized = search rules;
+  same_values = search rules;
+  goes_on = search rules;
+  refused = err_by c.from_residual.result c.in_err-first.field-0.0 _ c.from_residual.ensures.1
+      (first_refused _ _ _ _ _ _ _ _ _ _ _ (g.met.R.SourceParts.planned.each _) (rw c.part_of.ensures at c.in_err-first.ensures.refused));
+}
 
-pub returns-in_err-others-clause-goes_on : goal.returns-in_err-others-clause-goes_on
-returns-in_err-others-clause-goes_on g c = goes_both _ _ _ c.serialize.ensures.goes_on c.serialize_parts.ensures.goes_on
+pub returns-in_err-others : goal.returns-in_err-others
+returns-in_err-others g c = record {
+  serialized = search rules;
+  same_values = search rules;
+  goes_on = goes_both _ _ _ c.serialize.ensures.goes_on c.serialize_parts.ensures.goes_on;
+  refused = err_by c.from_residual-in_err-others.result c.in_err-others.field-0.0 _ c.from_residual-in_err-others.ensures.1
+      (later_refused _ _ _ _ _ _ _ _ _ _ _ _ _ (rw c.part_of.ensures at c.in_ok-first.ensures.serialized) c.serialize.ensures.goes_on c.serialize_parts.ensures.goes_on c.in_err-others.ensures.refused);
+}
 
-pub returns-in_err-others-clause-refused : goal.returns-in_err-others-clause-refused
-returns-in_err-others-clause-refused g c = err_by c.from_residual-in_err-others.result c.in_err-others.field-0.0 _ c.from_residual-in_err-others.ensures.1
-    (later_refused _ _ _ _ _ _ _ _ _ _ _ _ _ (rw c.part_of.ensures at c.in_ok-first.ensures.serialized) c.serialize.ensures.goes_on c.serialize_parts.ensures.goes_on c.in_err-others.ensures.refused)
-
-pub returns-clause-serialized : goal.returns-clause-serialized
-returns-clause-serialized g c = serialized_part _ _ _ _ _ _ _ _ _ _ _ _ _ (rw c.part_of.ensures at c.in_ok-first.ensures.serialized) c.in_ok-others.ensures.serialized
-
-pub returns-clause-goes_on : goal.returns-clause-goes_on
-returns-clause-goes_on g c = goes_both _ _ _ c.serialize.ensures.goes_on c.serialize_parts.ensures.goes_on
+pub returns : goal.returns
+returns g c = record {
+  serialized = serialized_part _ _ _ _ _ _ _ _ _ _ _ _ _ (rw c.part_of.ensures at c.in_ok-first.ensures.serialized) c.in_ok-others.ensures.serialized;
+  same_values = search rules;
+  goes_on = goes_both _ _ _ c.serialize.ensures.goes_on c.serialize_parts.ensures.goes_on;
+  refused = search rules;
+}
