@@ -7,10 +7,13 @@ from .common import chain, doc_lines, infix
 from .formats import snake
 from .layout import Generic, Group, call, flat, implementation, literal, pair, signature, statement
 
-SERIALIZED = """    ensures serialized {{ IfOk result (Wrote ⟦<{T} as Archive>⟧ ⟦<{X} as Portable>⟧ {v}.now S.Keys serializer) }}
+SERIALIZED = """    ensures serialized {{ IfOk result (λ r. Serialized {D} {X} (⟦<{T} as Archive>⟧.keys {v}.now)
+        (⟦<{T} as Archive>⟧.meaning {v}.now) (⟦<{T} as Archive>⟧.flat {v}.now r)
+        (S.state serializer.old) (S.state serializer.new)) }}
     ensures same_value {{ IfOk result (λ r. ⟦<{T} as Archive>⟧.belongs {v}.now r) }}
     ensures goes_on {{ GoesOn (S.state serializer.old) (S.state serializer.new) }}
-    ensures refused {{ IfErr result (Refused ⟦<{T} as Archive>⟧ ⟦<{X} as Portable>⟧ {v}.now S.Keys serializer) }}
+    ensures refused {{ IfErr result (IsRefused {D} {X} (⟦<{T} as Archive>⟧.keys {v}.now)
+        (⟦<{T} as Archive>⟧.meaning {v}.now) (S.state serializer.old) (S.state serializer.new)) }}
 """
 READ = """    requires {{ IsPartOf ⟦<{X} as ArchivePointee>⟧ part }}
     ensures read {{ IfOk result (Read ⟦<{X} as ArchivePointee>⟧ part D.Entries deserializer ⟦<{T} as Archive>⟧) }}
@@ -40,18 +43,19 @@ def bring(it):
     f.use("archive_core::traits", "Archive", "ArchivePointee", "ArchiveUnsized", "Choice", "Deserialize", "Entries", "Keys", "Portable", "Record", "Serialize", "SerializeUnsized")
     f.use("archive_core::view", "RawView", "Ref")
     f.use("std::alloc", "AllocError", "Global")
-    f.ghost("std.specs.Prelude", "◌≡◌", "◌++◌", "◌+◌", "◌≤◌", "[]", "refl", "length", "Some", "OnOk", "IfOk", "IfErr", "codes")
+    f.ghost("std.specs.Prelude", "◌≡◌", "◌++◌", "◌+◌", "◌≤◌", "[]", "refl", "length", "Some", "IfOk", "IfErr", "codes")
     f.ghost("std.proofs.Common", "lit≤")
     f.ghost("SelfCheck.Laws", "by_schema")
     f.ghost("Expressions", "shape_of", "shapes_in")
-    f.ghost("Shape", "one")
+    f.ghost("Shape", "one", "boxed", "vec")
     f.ghost("Value", "case", "product", "value", "no_value")
     f.ghost("Error.TheVariants", "OutOfMemory")
     f.ghost("Seen", "IsPartOf", "RefusesPart", "ReadsPart", "part_tag")
-    f.ghost("Sources", "Read", "ResolvedAs", "HinderedAs", "Wrote", "Refused", "EachOwned", "EachRefused")
+    f.ghost("Sources", "Read")
+    f.ghost("CallOutcomes", "ResolvesAs")
     f.ghost("Causes", "IsRefused")
     f.ghost("Plans", "Serialized")
-    f.ghost("Runs", "EachBelongs")
+    f.ghost("Runs", "EachBelongs", "IsRunRefused", "SerializedRun", "each_flat", "each_keys", "each_meaning")
     f.ghost("Writing", "ZeroedPlace")
     f.ghost("PlannedOwners", "one_planned")
     f.ghost("Written", "GoesOn")
@@ -305,9 +309,8 @@ def archive(it):
     ) -> Result<(), Error>
         requires zeroed {{ ZeroedPlace {it.size} place.pos place.bytes.now }}
         requires same_value {{ ⟦<Self as Archive>⟧.belongs self.now resolver }}
-        ensures resolved {{ OnOk result (ResolvedAs ⟦<Self as Archive>⟧ ⟦<Self::Archived as Portable>⟧ place self.now resolver) }}
-        ensures same_length {{ length place.exit.0.now ≡ length place.entry.bytes.now }}
-        ensures refused {{ IfErr result (HinderedAs ⟦<Self as Archive>⟧ ⟦<Self::Archived as Portable>⟧ place self.now resolver) }}
+        ensures {{ ResolvesAs ⟦<Self::Archived as Portable>⟧ place
+            (⟦<Self as Archive>⟧.flat self.now resolver) result }}
     {{
         let Place {{ bytes, pos, .. }} = place;
 {body}    }}
@@ -344,7 +347,7 @@ def writing(it):
 
 
 def contract(it, type, v):
-    return SERIALIZED.format(T=it.formats.rust(type), X=it.formats.archived(type), v=v)
+    return SERIALIZED.format(T=it.formats.rust(type), D=it.terms.definitions(type), X=it.terms.shape(type), v=v)
 
 
 def owner_writing(it, type):
@@ -367,14 +370,18 @@ fn serialize_{name}<{WRITER}>(value: &{T}, serializer: &mut S) -> Result<BoxReso
     }}
 }}
 """
-    its, X = it.formats.rust(item), it.formats.archived(item)
+    its, D, X = it.formats.rust(item), it.terms.definitions(item), it.terms.shape(item)
+    run = f"{D} {X} (length values.now) (each_keys ⟦<{its} as Archive>⟧.keys values.now)\n        (each_meaning ⟦<{its} as Archive>⟧.meaning values.now)"
     return f"""// Writes what each of the values owns, in order.
 #[cycle(serialize_{it.n})]
 fn serialize_each_{it.word(item)}<{WRITER}>(values: &[{its}], serializer: &mut S) -> Result<Vec<<{its} as Archive>::Resolver, S::Alloc>, Error>
-    ensures serialized {{ IfOk result (λ rs. EachOwned ⟦<{its} as Archive>⟧ ⟦<{X} as Portable>⟧ values.now rs.items S.Keys serializer) }}
+    ensures serialized {{ IfOk result (λ rs. SerializedRun {run}
+        (each_flat ⟦<{its} as Archive>⟧.flat values.now rs.items) (S.state serializer.old)
+        (S.state serializer.new)) }}
     ensures same_values {{ IfOk result (λ rs. EachBelongs ⟦<{its} as Archive>⟧.belongs values.now rs.items) }}
     ensures goes_on {{ GoesOn (S.state serializer.old) (S.state serializer.new) }}
-    ensures refused {{ IfErr result (EachRefused ⟦<{its} as Archive>⟧ ⟦<{X} as Portable>⟧ values.now S.Keys serializer) }}
+    ensures refused {{ IfErr result (IsRunRefused {run}
+        (S.state serializer.old) (S.state serializer.new)) }}
 {{
     let alloc = serializer.resolver_alloc();
     let mut resolvers = Vec::with_capacity(alloc, values.len())?;
@@ -461,7 +468,7 @@ def choice_writing(it):
     return f"""// Writes what a value owns.
 #[cycle(serialize_{it.n})]
 fn serialize_{it.n}<{WRITER}>(value: &{it.name}, serializer: &mut S) -> Result<{it.resolver}, Error>
-{SERIALIZED.format(T=it.name, X=it.archived, v="value")}{{
+{SERIALIZED.format(T=it.name, D=f"{it.n}_definitions", X=f"{it.n}_shape", v="value")}{{
     match value {{
 {arms}    }}
 }}
@@ -474,7 +481,7 @@ def record_writing(it):
     return f"""// Writes what a value owns, part by part.
 #[cycle(serialize_{it.n})]
 fn serialize_{it.n}<{WRITER}>(value: &{it.name}, serializer: &mut S) -> Result<{it.resolver}, Error>
-{SERIALIZED.format(T=it.name, X=it.archived, v="value")}{{
+{SERIALIZED.format(T=it.name, D=f"{it.n}_definitions", X=f"{it.n}_shape", v="value")}{{
 {parts_written(it, case, values)}    Ok({it.resolver} {{ kept: {flat(pair(case.names))} }})
 }}
 """

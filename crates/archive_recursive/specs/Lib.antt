@@ -14,8 +14,11 @@ pub use Rattle.archive_fields.specs.OwnChoices
 pub use Rattle.archive_fields.specs.Plain
 pub use Rattle.archive_types.specs.Members.KnownParts
 pub use Rattle.archive_types.specs.Runs
-pub use Rattle.archive_types.specs.Words.KindsWritten
-pub use Rattle.archive_types.specs.Words.Placed
+pub use Rattle.archive_types.specs.Causes
+pub use Rattle.archive_types.specs.Fields
+pub use Rattle.archive_types.specs.Outcomes
+pub use Rattle.archive_types.specs.Payloads
+pub use Rattle.archive_types.specs.SourceOutcomes
 pub use Rattle.archive_types.specs.Words.Seen
 pub use Rattle.archive_types.specs.Words.Sources
 pub use Rattle.archive_types.specs.Writing

@@ -1,12 +1,11 @@
 // Parts whose values were written before: a recursive value is resolved with these in place of what it holds.
 
-ghost use Rattle.std.specs.Prelude.{◌≡◌, ◌≤◌, ⊤, length, OnOk, IfErr};
+ghost use Rattle.std.specs.Prelude.{◌≡◌, ◌≤◌, ⊤};
 ghost use Rattle.archive_check.specs.Layout.{pointer_size};
-ghost use Rattle.archive_check.specs.Shape.{run};
-ghost use Rattle.archive_check.specs.Value.{box, hole, shared_value};
+ghost use Rattle.archive_check.specs.Value.{shared_value};
 ghost use Rattle.archive_recursive.specs.Hollow.{named_twice, twice_keyed, no_two};
-ghost use Rattle.archive_types.specs.Words.KindsWritten.{BoxResolved, BoxHindered, VecResolved, VecHindered};
-ghost use Rattle.archive_types.specs.Writing.{ZeroedPlace, to_pointee};
+ghost use Rattle.archive_types.specs.Outcomes.{ResolvesAs};
+ghost use Rattle.archive_types.specs.Writing.{ZeroedPlace, box_flat, vec_flat};
 
 use archive_types::boxed::{ArchivedBox, BoxResolver};
 use archive_check::format::error::Error;
@@ -36,7 +35,7 @@ impl<X: Portable> Archive for BoxAt<X> {
 
     ghost meaning = { λ _. shared_value 0 };
 
-    ghost flat = { λ _ r. box (hole (to_pointee r X.pointee 0)) };
+    ghost flat = { λ _ r. box_flat X.pointee 0 r };
 
     ghost keys = { λ _. named_twice };
 
@@ -54,9 +53,8 @@ impl<X: Portable> Archive for BoxAt<X> {
     ) -> Result<(), Error>
         requires zeroed { ZeroedPlace (pointer_size X.pointee) place.pos place.bytes.now }
         requires same_value { ⊤ }
-        ensures resolved { OnOk result (BoxResolved X.ArchivePointee place resolver 0) }
-        ensures same_length { length place.exit.0.now ≡ length place.entry.bytes.now }
-        ensures refused { IfErr result (BoxHindered X.ArchivePointee place resolver 0) }
+        ensures { ResolvesAs ⟦<Self::Archived as Portable>⟧ place
+            (⟦<Self as Archive>⟧.flat self.now resolver) result }
     {
         let Place { bytes, pos, .. } = place;
         ArchivedBox::<X>::resolve_from_raw_parts(resolver, 0, Place::new(pos, bytes))
@@ -91,7 +89,7 @@ impl<X: Portable> Archive for VecAt<X> {
 
     ghost meaning = { λ _. shared_value 0 };
 
-    ghost flat = { λ v r. hole (to_pointee r (run X.shape) v.len) };
+    ghost flat = { λ v r. vec_flat X.shape v.len r };
 
     ghost keys = { λ _. named_twice };
 
@@ -109,9 +107,8 @@ impl<X: Portable> Archive for VecAt<X> {
     ) -> Result<(), Error>
         requires zeroed { ZeroedPlace 8 place.pos place.bytes.now }
         requires same_value { self.now.len ≤ 4294967295 }
-        ensures resolved { OnOk result (VecResolved X.Portable place resolver self.now.len) }
-        ensures same_length { length place.exit.0.now ≡ length place.entry.bytes.now }
-        ensures refused { IfErr result (VecHindered X.Portable place resolver self.now.len) }
+        ensures { ResolvesAs ⟦<Self::Archived as Portable>⟧ place
+            (⟦<Self as Archive>⟧.flat self.now resolver) result }
     {
         let Place { bytes, pos, .. } = place;
         ArchivedVec::<X>::resolve_from_len(self.len, resolver, Place::new(pos, bytes))

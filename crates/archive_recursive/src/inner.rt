@@ -2,7 +2,7 @@
 
 ghost use Rattle.std.specs.Prelude.{◌≡◌, ◌≤◌, IfOk, IfErr, length};
 ghost use Rattle.archive_types.specs.Runs.{EachBelongs};
-ghost use Rattle.archive_types.specs.Words.Sources.{Wrote, Refused};
+ghost use Rattle.archive_types.specs.SourceOutcomes.{Serializes};
 ghost use Rattle.archive_write.specs.Written.{GoesOn};
 ghost use Rattle.archive_recursive.specs.Held.{InnerListed, InnerUnlisted};
 
@@ -40,10 +40,7 @@ pub fn serialize_part<T: Serialize<S>, S: Writer + Keys>(
     value: &T,
     serializer: &mut S,
 ) -> Result<T::Resolver, Error>
-    ensures serialized { IfOk result (Wrote T.Archive T.Archived.Portable value.now S.Keys serializer) }
-    ensures same_value { IfOk result (λ r. T.belongs value.now r) }
-    ensures goes_on { GoesOn (S.state serializer.old) (S.state serializer.new) }
-    ensures refused { IfErr result (Refused T.Archive T.Archived.Portable value.now S.Keys serializer) }
+    ensures { Serializes T.Archive T.Archived.Portable value.now S.Keys serializer result }
 {
     value.serialize(serializer)
 }

@@ -13,6 +13,7 @@ pub enum Expr {
 
 // Below this line all is written by tools/derive: change what is above it, and run it again.
 
+ghost use Rattle.archive_core.specs.CallOutcomes.{ResolvesAs};
 ghost use Rattle.archive_core.specs.Causes.{IsRefused};
 ghost use Rattle.archive_core.specs.Definitions.{no_definition};
 ghost use Rattle.archive_core.specs.Error.TheVariants.{OutOfMemory};
@@ -20,19 +21,19 @@ ghost use Rattle.archive_core.specs.Expressions.{shape_of, shapes_in};
 ghost use Rattle.archive_core.specs.Payloads.{payload_in};
 ghost use Rattle.archive_core.specs.PlannedOwners.{one_planned};
 ghost use Rattle.archive_core.specs.Plans.{Serialized};
-ghost use Rattle.archive_core.specs.Runs.{EachBelongs};
+ghost use Rattle.archive_core.specs.Runs.{EachBelongs, IsRunRefused, SerializedRun, each_flat, each_keys, each_meaning};
 ghost use Rattle.archive_core.specs.SealsWritten.{SealsBeside, seal_tag};
 ghost use Rattle.archive_core.specs.Seen.{IsPartOf, RefusesPart, ShowsValueOf, part_tag, tag_of};
 ghost use Rattle.archive_core.specs.SelfCheck.Laws.{by_schema};
-ghost use Rattle.archive_core.specs.Shape.{one, part, parts, variant};
-ghost use Rattle.archive_core.specs.Sources.{EachOwned, EachRefused, HinderedAs, Read, Refused, ResolvedAs, Wrote};
+ghost use Rattle.archive_core.specs.Shape.{boxed, one, part, parts, variant, vec};
+ghost use Rattle.archive_core.specs.Sources.{Read};
 ghost use Rattle.archive_core.specs.Value.{case, no_value, value};
 ghost use Rattle.archive_core.specs.Viewed.{Viewed};
 ghost use Rattle.archive_core.specs.Writing.{ZeroedPlace};
 ghost use Rattle.archive_core.specs.Written.{GoesOn};
 ghost use Rattle.recursive_types.specs.ExprShape.{expr_call_parts, expr_definitions, expr_has_layout, expr_has_variants, expr_is_align, expr_layout, expr_name, expr_negated_parts, expr_no_others, expr_num_parts, expr_shape, expr_stands_for};
 ghost use Rattle.std.proofs.Common.{lit≤};
-ghost use Rattle.std.specs.Prelude.{IfErr, IfOk, OnOk, [], length, refl, ℕ, ◌++◌, ◌+◌, ◌≡◌, ◌≤◌};
+ghost use Rattle.std.specs.Prelude.{IfErr, IfOk, [], length, refl, ℕ, ◌++◌, ◌+◌, ◌≡◌, ◌≤◌};
 
 use archive_core::boxed::{ArchivedBox, BoxResolver, serialize_inner};
 use archive_core::error::Error;
@@ -206,9 +207,8 @@ impl Archive for Expr {
     ) -> Result<(), Error>
         requires zeroed { ZeroedPlace 24 place.pos place.bytes.now }
         requires same_value { ⟦<Self as Archive>⟧.belongs self.now resolver }
-        ensures resolved { OnOk result (ResolvedAs ⟦<Self as Archive>⟧ ⟦<Self::Archived as Portable>⟧ place self.now resolver) }
-        ensures same_length { length place.exit.0.now ≡ length place.entry.bytes.now }
-        ensures refused { IfErr result (HinderedAs ⟦<Self as Archive>⟧ ⟦<Self::Archived as Portable>⟧ place self.now resolver) }
+        ensures { ResolvesAs ⟦<Self::Archived as Portable>⟧ place
+            (⟦<Self as Archive>⟧.flat self.now resolver) result }
     {
         let Place { bytes, pos, .. } = place;
         match self {
@@ -250,10 +250,13 @@ impl Archive for Expr {
 // Writes what a box owns.
 #[cycle(serialize_expr)]
 fn serialize_box_expr<S: Writer + Keys + ResolverAlloc>(value: &Box<Expr>, serializer: &mut S) -> Result<BoxResolver, Error>
-    ensures serialized { IfOk result (Wrote ⟦<Box<Expr> as Archive>⟧ ⟦<ArchivedBox<ArchivedExpr> as Portable>⟧ value.now S.Keys serializer) }
+    ensures serialized { IfOk result (λ r. Serialized expr_definitions (boxed (one expr_shape)) (⟦<Box<Expr> as Archive>⟧.keys value.now)
+        (⟦<Box<Expr> as Archive>⟧.meaning value.now) (⟦<Box<Expr> as Archive>⟧.flat value.now r)
+        (S.state serializer.old) (S.state serializer.new)) }
     ensures same_value { IfOk result (λ r. ⟦<Box<Expr> as Archive>⟧.belongs value.now r) }
     ensures goes_on { GoesOn (S.state serializer.old) (S.state serializer.new) }
-    ensures refused { IfErr result (Refused ⟦<Box<Expr> as Archive>⟧ ⟦<ArchivedBox<ArchivedExpr> as Portable>⟧ value.now S.Keys serializer) }
+    ensures refused { IfErr result (IsRefused expr_definitions (boxed (one expr_shape)) (⟦<Box<Expr> as Archive>⟧.keys value.now)
+        (⟦<Box<Expr> as Archive>⟧.meaning value.now) (S.state serializer.old) (S.state serializer.new)) }
 {
     let inner = &**value;
     let kept = match serialize_expr(inner, serializer) {
@@ -269,10 +272,15 @@ fn serialize_box_expr<S: Writer + Keys + ResolverAlloc>(value: &Box<Expr>, seria
 // Writes what each of the values owns, in order.
 #[cycle(serialize_expr)]
 fn serialize_each_expr<S: Writer + Keys + ResolverAlloc>(values: &[Expr], serializer: &mut S) -> Result<Vec<<Expr as Archive>::Resolver, S::Alloc>, Error>
-    ensures serialized { IfOk result (λ rs. EachOwned ⟦<Expr as Archive>⟧ ⟦<ArchivedExpr as Portable>⟧ values.now rs.items S.Keys serializer) }
+    ensures serialized { IfOk result (λ rs. SerializedRun expr_definitions expr_shape (length values.now) (each_keys ⟦<Expr as Archive>⟧.keys values.now)
+        (each_meaning ⟦<Expr as Archive>⟧.meaning values.now)
+        (each_flat ⟦<Expr as Archive>⟧.flat values.now rs.items) (S.state serializer.old)
+        (S.state serializer.new)) }
     ensures same_values { IfOk result (λ rs. EachBelongs ⟦<Expr as Archive>⟧.belongs values.now rs.items) }
     ensures goes_on { GoesOn (S.state serializer.old) (S.state serializer.new) }
-    ensures refused { IfErr result (EachRefused ⟦<Expr as Archive>⟧ ⟦<ArchivedExpr as Portable>⟧ values.now S.Keys serializer) }
+    ensures refused { IfErr result (IsRunRefused expr_definitions expr_shape (length values.now) (each_keys ⟦<Expr as Archive>⟧.keys values.now)
+        (each_meaning ⟦<Expr as Archive>⟧.meaning values.now)
+        (S.state serializer.old) (S.state serializer.new)) }
 {
     let alloc = serializer.resolver_alloc();
     let mut resolvers = Vec::with_capacity(alloc, values.len())?;
@@ -289,10 +297,13 @@ fn serialize_each_expr<S: Writer + Keys + ResolverAlloc>(values: &[Expr], serial
 // Writes what a vector owns.
 #[cycle(serialize_expr)]
 fn serialize_vec_expr<S: Writer + Keys + ResolverAlloc>(value: &Vec<Expr>, serializer: &mut S) -> Result<VecResolver, Error>
-    ensures serialized { IfOk result (Wrote ⟦<Vec<Expr> as Archive>⟧ ⟦<ArchivedVec<ArchivedExpr> as Portable>⟧ value.now S.Keys serializer) }
+    ensures serialized { IfOk result (λ r. Serialized expr_definitions (vec expr_shape) (⟦<Vec<Expr> as Archive>⟧.keys value.now)
+        (⟦<Vec<Expr> as Archive>⟧.meaning value.now) (⟦<Vec<Expr> as Archive>⟧.flat value.now r)
+        (S.state serializer.old) (S.state serializer.new)) }
     ensures same_value { IfOk result (λ r. ⟦<Vec<Expr> as Archive>⟧.belongs value.now r) }
     ensures goes_on { GoesOn (S.state serializer.old) (S.state serializer.new) }
-    ensures refused { IfErr result (Refused ⟦<Vec<Expr> as Archive>⟧ ⟦<ArchivedVec<ArchivedExpr> as Portable>⟧ value.now S.Keys serializer) }
+    ensures refused { IfErr result (IsRefused expr_definitions (vec expr_shape) (⟦<Vec<Expr> as Archive>⟧.keys value.now)
+        (⟦<Vec<Expr> as Archive>⟧.meaning value.now) (S.state serializer.old) (S.state serializer.new)) }
 {
     if value.len() > u32::MAX as usize {
         return Err(Error::LengthTooLarge);
@@ -369,10 +380,13 @@ fn serialize_expr_call<S: Writer + Keys + ResolverAlloc>(
 // Writes what a value owns.
 #[cycle(serialize_expr)]
 fn serialize_expr<S: Writer + Keys + ResolverAlloc>(value: &Expr, serializer: &mut S) -> Result<ExprResolver, Error>
-    ensures serialized { IfOk result (Wrote ⟦<Expr as Archive>⟧ ⟦<ArchivedExpr as Portable>⟧ value.now S.Keys serializer) }
+    ensures serialized { IfOk result (λ r. Serialized expr_definitions expr_shape (⟦<Expr as Archive>⟧.keys value.now)
+        (⟦<Expr as Archive>⟧.meaning value.now) (⟦<Expr as Archive>⟧.flat value.now r)
+        (S.state serializer.old) (S.state serializer.new)) }
     ensures same_value { IfOk result (λ r. ⟦<Expr as Archive>⟧.belongs value.now r) }
     ensures goes_on { GoesOn (S.state serializer.old) (S.state serializer.new) }
-    ensures refused { IfErr result (Refused ⟦<Expr as Archive>⟧ ⟦<ArchivedExpr as Portable>⟧ value.now S.Keys serializer) }
+    ensures refused { IfErr result (IsRefused expr_definitions expr_shape (⟦<Expr as Archive>⟧.keys value.now)
+        (⟦<Expr as Archive>⟧.meaning value.now) (S.state serializer.old) (S.state serializer.new)) }
 {
     match value {
         Expr::Num(a0) => match serialize_expr_num(a0, serializer) {

@@ -11,6 +11,7 @@ pub enum List {
 
 // Below this line all is written by tools/derive: change what is above it, and run it again.
 
+ghost use Rattle.archive_core.specs.CallOutcomes.{ResolvesAs};
 ghost use Rattle.archive_core.specs.Causes.{IsRefused};
 ghost use Rattle.archive_core.specs.Definitions.{no_definition};
 ghost use Rattle.archive_core.specs.Error.TheVariants.{OutOfMemory};
@@ -21,15 +22,15 @@ ghost use Rattle.archive_core.specs.Plans.{Serialized};
 ghost use Rattle.archive_core.specs.SealsWritten.{SealsBeside, seal_tag};
 ghost use Rattle.archive_core.specs.Seen.{IsPartOf, RefusesPart, ShowsValueOf, part_tag, tag_of};
 ghost use Rattle.archive_core.specs.SelfCheck.Laws.{by_schema};
-ghost use Rattle.archive_core.specs.Shape.{one, part, parts, variant};
-ghost use Rattle.archive_core.specs.Sources.{HinderedAs, Read, Refused, ResolvedAs, Wrote};
+ghost use Rattle.archive_core.specs.Shape.{boxed, one, part, parts, variant, vec};
+ghost use Rattle.archive_core.specs.Sources.{Read};
 ghost use Rattle.archive_core.specs.Value.{case, no_value, value};
 ghost use Rattle.archive_core.specs.Viewed.{Viewed};
 ghost use Rattle.archive_core.specs.Writing.{ZeroedPlace};
 ghost use Rattle.archive_core.specs.Written.{GoesOn};
 ghost use Rattle.recursive_types.specs.ListShape.{list_cons_parts, list_definitions, list_has_layout, list_has_variants, list_is_align, list_layout, list_name, list_no_others, list_shape, list_stands_for};
 ghost use Rattle.std.proofs.Common.{lit≤};
-ghost use Rattle.std.specs.Prelude.{IfErr, IfOk, OnOk, [], length, refl, ℕ, ◌++◌, ◌+◌, ◌≡◌, ◌≤◌};
+ghost use Rattle.std.specs.Prelude.{IfErr, IfOk, [], length, refl, ℕ, ◌++◌, ◌+◌, ◌≡◌, ◌≤◌};
 
 use archive_core::boxed::{ArchivedBox, BoxResolver, serialize_inner};
 use archive_core::error::Error;
@@ -176,9 +177,8 @@ impl Archive for List {
     ) -> Result<(), Error>
         requires zeroed { ZeroedPlace 12 place.pos place.bytes.now }
         requires same_value { ⟦<Self as Archive>⟧.belongs self.now resolver }
-        ensures resolved { OnOk result (ResolvedAs ⟦<Self as Archive>⟧ ⟦<Self::Archived as Portable>⟧ place self.now resolver) }
-        ensures same_length { length place.exit.0.now ≡ length place.entry.bytes.now }
-        ensures refused { IfErr result (HinderedAs ⟦<Self as Archive>⟧ ⟦<Self::Archived as Portable>⟧ place self.now resolver) }
+        ensures { ResolvesAs ⟦<Self::Archived as Portable>⟧ place
+            (⟦<Self as Archive>⟧.flat self.now resolver) result }
     {
         let Place { bytes, pos, .. } = place;
         match self {
@@ -205,10 +205,13 @@ impl Archive for List {
 // Writes what a box owns.
 #[cycle(serialize_list)]
 fn serialize_box_list<S: Writer + Keys + ResolverAlloc>(value: &Box<List>, serializer: &mut S) -> Result<BoxResolver, Error>
-    ensures serialized { IfOk result (Wrote ⟦<Box<List> as Archive>⟧ ⟦<ArchivedBox<ArchivedList> as Portable>⟧ value.now S.Keys serializer) }
+    ensures serialized { IfOk result (λ r. Serialized list_definitions (boxed (one list_shape)) (⟦<Box<List> as Archive>⟧.keys value.now)
+        (⟦<Box<List> as Archive>⟧.meaning value.now) (⟦<Box<List> as Archive>⟧.flat value.now r)
+        (S.state serializer.old) (S.state serializer.new)) }
     ensures same_value { IfOk result (λ r. ⟦<Box<List> as Archive>⟧.belongs value.now r) }
     ensures goes_on { GoesOn (S.state serializer.old) (S.state serializer.new) }
-    ensures refused { IfErr result (Refused ⟦<Box<List> as Archive>⟧ ⟦<ArchivedBox<ArchivedList> as Portable>⟧ value.now S.Keys serializer) }
+    ensures refused { IfErr result (IsRefused list_definitions (boxed (one list_shape)) (⟦<Box<List> as Archive>⟧.keys value.now)
+        (⟦<Box<List> as Archive>⟧.meaning value.now) (S.state serializer.old) (S.state serializer.new)) }
 {
     let inner = &**value;
     let kept = match serialize_list(inner, serializer) {
@@ -247,10 +250,13 @@ fn serialize_list_cons<S: Writer + Keys + ResolverAlloc>(
 // Writes what a value owns.
 #[cycle(serialize_list)]
 fn serialize_list<S: Writer + Keys + ResolverAlloc>(value: &List, serializer: &mut S) -> Result<ListResolver, Error>
-    ensures serialized { IfOk result (Wrote ⟦<List as Archive>⟧ ⟦<ArchivedList as Portable>⟧ value.now S.Keys serializer) }
+    ensures serialized { IfOk result (λ r. Serialized list_definitions list_shape (⟦<List as Archive>⟧.keys value.now)
+        (⟦<List as Archive>⟧.meaning value.now) (⟦<List as Archive>⟧.flat value.now r)
+        (S.state serializer.old) (S.state serializer.new)) }
     ensures same_value { IfOk result (λ r. ⟦<List as Archive>⟧.belongs value.now r) }
     ensures goes_on { GoesOn (S.state serializer.old) (S.state serializer.new) }
-    ensures refused { IfErr result (Refused ⟦<List as Archive>⟧ ⟦<ArchivedList as Portable>⟧ value.now S.Keys serializer) }
+    ensures refused { IfErr result (IsRefused list_definitions list_shape (⟦<List as Archive>⟧.keys value.now)
+        (⟦<List as Archive>⟧.meaning value.now) (S.state serializer.old) (S.state serializer.new)) }
 {
     match value {
         List::Nil => Ok(ListResolver::Nil),

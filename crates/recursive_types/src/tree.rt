@@ -11,24 +11,27 @@ pub struct Tree {
 
 // Below this line all is written by tools/derive: change what is above it, and run it again.
 
+ghost use Rattle.archive_core.specs.CallOutcomes.{ResolvesAs};
+ghost use Rattle.archive_core.specs.Causes.{IsRefused};
 ghost use Rattle.archive_core.specs.Definitions.{no_definition};
 ghost use Rattle.archive_core.specs.Error.TheVariants.{OutOfMemory};
 ghost use Rattle.archive_core.specs.Expressions.{shape_of, shapes_in};
 ghost use Rattle.archive_core.specs.Fields.{field_in};
 ghost use Rattle.archive_core.specs.PlannedOwners.{one_planned};
-ghost use Rattle.archive_core.specs.Runs.{EachBelongs};
+ghost use Rattle.archive_core.specs.Plans.{Serialized};
+ghost use Rattle.archive_core.specs.Runs.{EachBelongs, IsRunRefused, SerializedRun, each_flat, each_keys, each_meaning};
 ghost use Rattle.archive_core.specs.SealsWritten.{SealsBeside};
 ghost use Rattle.archive_core.specs.Seen.{IsPartOf, RefusesPart, ShowsValueOf};
 ghost use Rattle.archive_core.specs.SelfCheck.Laws.{by_schema};
-ghost use Rattle.archive_core.specs.Shape.{one, part, parts};
-ghost use Rattle.archive_core.specs.Sources.{EachOwned, EachRefused, HinderedAs, Read, Refused, ResolvedAs, Wrote};
+ghost use Rattle.archive_core.specs.Shape.{one, part, parts, vec};
+ghost use Rattle.archive_core.specs.Sources.{Read};
 ghost use Rattle.archive_core.specs.Value.{value};
 ghost use Rattle.archive_core.specs.Viewed.{Viewed};
 ghost use Rattle.archive_core.specs.Writing.{ZeroedPlace};
 ghost use Rattle.archive_core.specs.Written.{GoesOn};
 ghost use Rattle.recursive_types.specs.TreeShape.{tree_definitions, tree_has_layout, tree_has_parts, tree_is_align, tree_layout, tree_no_others, tree_parts, tree_shape, tree_stands_for};
 ghost use Rattle.std.proofs.Common.{lit≤};
-ghost use Rattle.std.specs.Prelude.{IfErr, IfOk, OnOk, length, refl, ◌+◌, ◌≡◌, ◌≤◌};
+ghost use Rattle.std.specs.Prelude.{IfErr, IfOk, length, refl, ◌+◌, ◌≡◌, ◌≤◌};
 
 use archive_core::error::Error;
 use archive_core::place::Place;
@@ -165,9 +168,8 @@ impl Archive for Tree {
     ) -> Result<(), Error>
         requires zeroed { ZeroedPlace 12 place.pos place.bytes.now }
         requires same_value { ⟦<Self as Archive>⟧.belongs self.now resolver }
-        ensures resolved { OnOk result (ResolvedAs ⟦<Self as Archive>⟧ ⟦<Self::Archived as Portable>⟧ place self.now resolver) }
-        ensures same_length { length place.exit.0.now ≡ length place.entry.bytes.now }
-        ensures refused { IfErr result (HinderedAs ⟦<Self as Archive>⟧ ⟦<Self::Archived as Portable>⟧ place self.now resolver) }
+        ensures { ResolvesAs ⟦<Self::Archived as Portable>⟧ place
+            (⟦<Self as Archive>⟧.flat self.now resolver) result }
     {
         let Place { bytes, pos, .. } = place;
         let TreeResolver { kept } = resolver;
@@ -184,10 +186,15 @@ impl Archive for Tree {
 // Writes what each of the values owns, in order.
 #[cycle(serialize_tree)]
 fn serialize_each_tree<S: Writer + Keys + ResolverAlloc>(values: &[Tree], serializer: &mut S) -> Result<Vec<<Tree as Archive>::Resolver, S::Alloc>, Error>
-    ensures serialized { IfOk result (λ rs. EachOwned ⟦<Tree as Archive>⟧ ⟦<ArchivedTree as Portable>⟧ values.now rs.items S.Keys serializer) }
+    ensures serialized { IfOk result (λ rs. SerializedRun tree_definitions tree_shape (length values.now) (each_keys ⟦<Tree as Archive>⟧.keys values.now)
+        (each_meaning ⟦<Tree as Archive>⟧.meaning values.now)
+        (each_flat ⟦<Tree as Archive>⟧.flat values.now rs.items) (S.state serializer.old)
+        (S.state serializer.new)) }
     ensures same_values { IfOk result (λ rs. EachBelongs ⟦<Tree as Archive>⟧.belongs values.now rs.items) }
     ensures goes_on { GoesOn (S.state serializer.old) (S.state serializer.new) }
-    ensures refused { IfErr result (EachRefused ⟦<Tree as Archive>⟧ ⟦<ArchivedTree as Portable>⟧ values.now S.Keys serializer) }
+    ensures refused { IfErr result (IsRunRefused tree_definitions tree_shape (length values.now) (each_keys ⟦<Tree as Archive>⟧.keys values.now)
+        (each_meaning ⟦<Tree as Archive>⟧.meaning values.now)
+        (S.state serializer.old) (S.state serializer.new)) }
 {
     let alloc = serializer.resolver_alloc();
     let mut resolvers = Vec::with_capacity(alloc, values.len())?;
@@ -204,10 +211,13 @@ fn serialize_each_tree<S: Writer + Keys + ResolverAlloc>(values: &[Tree], serial
 // Writes what a vector owns.
 #[cycle(serialize_tree)]
 fn serialize_vec_tree<S: Writer + Keys + ResolverAlloc>(value: &Vec<Tree>, serializer: &mut S) -> Result<VecResolver, Error>
-    ensures serialized { IfOk result (Wrote ⟦<Vec<Tree> as Archive>⟧ ⟦<ArchivedVec<ArchivedTree> as Portable>⟧ value.now S.Keys serializer) }
+    ensures serialized { IfOk result (λ r. Serialized tree_definitions (vec tree_shape) (⟦<Vec<Tree> as Archive>⟧.keys value.now)
+        (⟦<Vec<Tree> as Archive>⟧.meaning value.now) (⟦<Vec<Tree> as Archive>⟧.flat value.now r)
+        (S.state serializer.old) (S.state serializer.new)) }
     ensures same_value { IfOk result (λ r. ⟦<Vec<Tree> as Archive>⟧.belongs value.now r) }
     ensures goes_on { GoesOn (S.state serializer.old) (S.state serializer.new) }
-    ensures refused { IfErr result (Refused ⟦<Vec<Tree> as Archive>⟧ ⟦<ArchivedVec<ArchivedTree> as Portable>⟧ value.now S.Keys serializer) }
+    ensures refused { IfErr result (IsRefused tree_definitions (vec tree_shape) (⟦<Vec<Tree> as Archive>⟧.keys value.now)
+        (⟦<Vec<Tree> as Archive>⟧.meaning value.now) (S.state serializer.old) (S.state serializer.new)) }
 {
     if value.len() > u32::MAX as usize {
         return Err(Error::LengthTooLarge);
@@ -226,10 +236,13 @@ fn serialize_vec_tree<S: Writer + Keys + ResolverAlloc>(value: &Vec<Tree>, seria
 // Writes what a value owns, part by part.
 #[cycle(serialize_tree)]
 fn serialize_tree<S: Writer + Keys + ResolverAlloc>(value: &Tree, serializer: &mut S) -> Result<TreeResolver, Error>
-    ensures serialized { IfOk result (Wrote ⟦<Tree as Archive>⟧ ⟦<ArchivedTree as Portable>⟧ value.now S.Keys serializer) }
+    ensures serialized { IfOk result (λ r. Serialized tree_definitions tree_shape (⟦<Tree as Archive>⟧.keys value.now)
+        (⟦<Tree as Archive>⟧.meaning value.now) (⟦<Tree as Archive>⟧.flat value.now r)
+        (S.state serializer.old) (S.state serializer.new)) }
     ensures same_value { IfOk result (λ r. ⟦<Tree as Archive>⟧.belongs value.now r) }
     ensures goes_on { GoesOn (S.state serializer.old) (S.state serializer.new) }
-    ensures refused { IfErr result (Refused ⟦<Tree as Archive>⟧ ⟦<ArchivedTree as Portable>⟧ value.now S.Keys serializer) }
+    ensures refused { IfErr result (IsRefused tree_definitions tree_shape (⟦<Tree as Archive>⟧.keys value.now)
+        (⟦<Tree as Archive>⟧.meaning value.now) (S.state serializer.old) (S.state serializer.new)) }
 {
     let a0 = match serialize_part(&value.value, serializer) {
         Ok(a0) => a0,

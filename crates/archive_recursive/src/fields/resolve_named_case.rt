@@ -7,8 +7,8 @@ ghost use Rattle.archive_check.specs.Layout.{up};
 ghost use Rattle.archive_check.specs.Shape.{part, no_part, variant_at};
 ghost use Rattle.archive_check.specs.Value.{value, no_value, case};
 ghost use Rattle.archive_fields.specs.OwnChoices.{variant_definitions};
-ghost use Rattle.archive_types.specs.Words.Placed.{Resolved, Hindered};
-ghost use Rattle.archive_types.specs.Writing.{ZeroedPlace};
+ghost use Rattle.archive_types.specs.Causes.{HindersAt};
+ghost use Rattle.archive_types.specs.Writing.{ZeroedPlace, Resolves};
 
 use archive_check::format::error::Error;
 use archive_fields::fields::{
@@ -29,9 +29,11 @@ pub fn resolve_named_case_0<X: Choice>(
     requires some { 0 < X.layout.size }
     requires zeroed { ZeroedPlace X.layout.size place.pos place.bytes.now }
     requires same_values { Unit {0} }
-    ensures resolved { OnOk result (Resolved X.Portable place (case tag no_value)) }
+    ensures resolved { OnOk result (Resolves X.definitions place.entry.pos place.exit.0.now X.shape
+        (case tag no_value)) }
     ensures same_length { length place.exit.0.now ≡ length place.entry.bytes.now }
-    ensures refused { IfErr result (Hindered X.Portable place (case tag no_value)) }
+    ensures refused { IfErr result (HindersAt X.definitions X.shape (case tag no_value)
+        place.entry.pos) }
 {
     let Place { bytes, pos, .. } = place;
     bytes[0] = tag;
@@ -46,14 +48,18 @@ pub fn resolve_named_case_1<A: Archive, X: Choice>(
     place: Place<'_, X>,
 ) -> Result<(), Error>
     requires variant { variant_at X.Variants.variants tag ≡ Some (part A.Archived.shape no_part) }
-    requires definitions { variant_definitions X.Variants.definitions tag ≡ (both A.Archived.definitions no_definition) }
-    requires inside { Unit {0} → (up 1 A.Archived.layout.align + A.Archived.layout.size) ≤ X.layout.size }
+    requires definitions { variant_definitions X.Variants.definitions tag
+        ≡ (both A.Archived.definitions no_definition) }
+    requires inside { Unit {0} → (up 1 A.Archived.layout.align + A.Archived.layout.size)
+        ≤ X.layout.size }
     requires some { 0 < X.layout.size }
     requires zeroed { ZeroedPlace X.layout.size place.pos place.bytes.now }
     requires same_values { A.belongs a.now resolvers.0 × Unit {0} }
-    ensures resolved { OnOk result (Resolved X.Portable place (case tag (value (A.flat a.now resolvers.0) no_value))) }
+    ensures resolved { OnOk result (Resolves X.definitions place.entry.pos place.exit.0.now X.shape
+        (case tag (value (A.flat a.now resolvers.0) no_value))) }
     ensures same_length { length place.exit.0.now ≡ length place.entry.bytes.now }
-    ensures refused { IfErr result (Hindered X.Portable place (case tag (value (A.flat a.now resolvers.0) no_value))) }
+    ensures refused { IfErr result (HindersAt X.definitions X.shape
+        (case tag (value (A.flat a.now resolvers.0) no_value)) place.entry.pos) }
 {
     let Place { bytes, pos, .. } = place;
     bytes[0] = tag;
@@ -68,15 +74,23 @@ pub fn resolve_named_case_2<A: Archive, B: Archive, X: Choice>(
     resolvers: (A::Resolver, (B::Resolver, ())),
     place: Place<'_, X>,
 ) -> Result<(), Error>
-    requires variant { variant_at X.Variants.variants tag ≡ Some (part A.Archived.shape (part B.Archived.shape no_part)) }
-    requires definitions { variant_definitions X.Variants.definitions tag ≡ (both A.Archived.definitions (both B.Archived.definitions no_definition)) }
-    requires inside { Unit {0} → (up (up 1 A.Archived.layout.align + A.Archived.layout.size) B.Archived.layout.align + B.Archived.layout.size) ≤ X.layout.size }
+    requires variant { variant_at X.Variants.variants tag
+        ≡ Some (part A.Archived.shape (part B.Archived.shape no_part)) }
+    requires definitions { variant_definitions X.Variants.definitions tag
+        ≡ (both A.Archived.definitions (both B.Archived.definitions no_definition)) }
+    requires inside { Unit {0} → (up (up 1 A.Archived.layout.align + A.Archived.layout.size)
+        B.Archived.layout.align + B.Archived.layout.size) ≤ X.layout.size }
     requires some { 0 < X.layout.size }
     requires zeroed { ZeroedPlace X.layout.size place.pos place.bytes.now }
-    requires same_values { A.belongs a.now resolvers.0 × (B.belongs b.now resolvers.1.0 × Unit {0}) }
-    ensures resolved { OnOk result (Resolved X.Portable place (case tag (value (A.flat a.now resolvers.0) (value (B.flat b.now resolvers.1.0) no_value)))) }
+    requires same_values { A.belongs a.now resolvers.0
+        × (B.belongs b.now resolvers.1.0 × Unit {0}) }
+    ensures resolved { OnOk result (Resolves X.definitions place.entry.pos place.exit.0.now X.shape
+        (case tag (value (A.flat a.now resolvers.0) (value (B.flat b.now resolvers.1.0)
+        no_value)))) }
     ensures same_length { length place.exit.0.now ≡ length place.entry.bytes.now }
-    ensures refused { IfErr result (Hindered X.Portable place (case tag (value (A.flat a.now resolvers.0) (value (B.flat b.now resolvers.1.0) no_value)))) }
+    ensures refused { IfErr result (HindersAt X.definitions X.shape
+        (case tag (value (A.flat a.now resolvers.0) (value (B.flat b.now resolvers.1.0) no_value)))
+        place.entry.pos) }
 {
     let Place { bytes, pos, .. } = place;
     bytes[0] = tag;
@@ -92,15 +106,25 @@ pub fn resolve_named_case_3<A: Archive, B: Archive, C: Archive, X: Choice>(
     resolvers: (A::Resolver, (B::Resolver, (C::Resolver, ()))),
     place: Place<'_, X>,
 ) -> Result<(), Error>
-    requires variant { variant_at X.Variants.variants tag ≡ Some (part A.Archived.shape (part B.Archived.shape (part C.Archived.shape no_part))) }
-    requires definitions { variant_definitions X.Variants.definitions tag ≡ (both A.Archived.definitions (both B.Archived.definitions (both C.Archived.definitions no_definition))) }
-    requires inside { Unit {0} → (up (up (up 1 A.Archived.layout.align + A.Archived.layout.size) B.Archived.layout.align + B.Archived.layout.size) C.Archived.layout.align + C.Archived.layout.size) ≤ X.layout.size }
+    requires variant { variant_at X.Variants.variants tag
+        ≡ Some (part A.Archived.shape (part B.Archived.shape (part C.Archived.shape no_part))) }
+    requires definitions { variant_definitions X.Variants.definitions tag
+        ≡ (both A.Archived.definitions (both B.Archived.definitions
+        (both C.Archived.definitions no_definition))) }
+    requires inside { Unit {0} → (up (up (up 1 A.Archived.layout.align + A.Archived.layout.size)
+        B.Archived.layout.align + B.Archived.layout.size) C.Archived.layout.align
+        + C.Archived.layout.size) ≤ X.layout.size }
     requires some { 0 < X.layout.size }
     requires zeroed { ZeroedPlace X.layout.size place.pos place.bytes.now }
-    requires same_values { A.belongs a.now resolvers.0 × (B.belongs b.now resolvers.1.0 × (C.belongs c.now resolvers.1.1.0 × Unit {0})) }
-    ensures resolved { OnOk result (Resolved X.Portable place (case tag (value (A.flat a.now resolvers.0) (value (B.flat b.now resolvers.1.0) (value (C.flat c.now resolvers.1.1.0) no_value))))) }
+    requires same_values { A.belongs a.now resolvers.0
+        × (B.belongs b.now resolvers.1.0 × (C.belongs c.now resolvers.1.1.0 × Unit {0})) }
+    ensures resolved { OnOk result (Resolves X.definitions place.entry.pos place.exit.0.now X.shape
+        (case tag (value (A.flat a.now resolvers.0) (value (B.flat b.now resolvers.1.0)
+        (value (C.flat c.now resolvers.1.1.0) no_value))))) }
     ensures same_length { length place.exit.0.now ≡ length place.entry.bytes.now }
-    ensures refused { IfErr result (Hindered X.Portable place (case tag (value (A.flat a.now resolvers.0) (value (B.flat b.now resolvers.1.0) (value (C.flat c.now resolvers.1.1.0) no_value))))) }
+    ensures refused { IfErr result (HindersAt X.definitions X.shape
+        (case tag (value (A.flat a.now resolvers.0) (value (B.flat b.now resolvers.1.0)
+        (value (C.flat c.now resolvers.1.1.0) no_value)))) place.entry.pos) }
 {
     let Place { bytes, pos, .. } = place;
     bytes[0] = tag;
@@ -117,15 +141,30 @@ pub fn resolve_named_case_4<A: Archive, B: Archive, C: Archive, D: Archive, X: C
     resolvers: (A::Resolver, (B::Resolver, (C::Resolver, (D::Resolver, ())))),
     place: Place<'_, X>,
 ) -> Result<(), Error>
-    requires variant { variant_at X.Variants.variants tag ≡ Some (part A.Archived.shape (part B.Archived.shape (part C.Archived.shape (part D.Archived.shape no_part)))) }
-    requires definitions { variant_definitions X.Variants.definitions tag ≡ (both A.Archived.definitions (both B.Archived.definitions (both C.Archived.definitions (both D.Archived.definitions no_definition)))) }
-    requires inside { Unit {0} → (up (up (up (up 1 A.Archived.layout.align + A.Archived.layout.size) B.Archived.layout.align + B.Archived.layout.size) C.Archived.layout.align + C.Archived.layout.size) D.Archived.layout.align + D.Archived.layout.size) ≤ X.layout.size }
+    requires variant { variant_at X.Variants.variants tag
+        ≡ Some (part A.Archived.shape (part B.Archived.shape
+        (part C.Archived.shape (part D.Archived.shape no_part)))) }
+    requires definitions { variant_definitions X.Variants.definitions tag
+        ≡ (both A.Archived.definitions (both B.Archived.definitions
+        (both C.Archived.definitions (both D.Archived.definitions no_definition)))) }
+    requires inside { Unit {0} → (up (up (up (up 1 A.Archived.layout.align + A.Archived.layout.size)
+        B.Archived.layout.align + B.Archived.layout.size) C.Archived.layout.align
+        + C.Archived.layout.size) D.Archived.layout.align + D.Archived.layout.size)
+        ≤ X.layout.size }
     requires some { 0 < X.layout.size }
     requires zeroed { ZeroedPlace X.layout.size place.pos place.bytes.now }
-    requires same_values { A.belongs a.now resolvers.0 × (B.belongs b.now resolvers.1.0 × (C.belongs c.now resolvers.1.1.0 × (D.belongs d.now resolvers.1.1.1.0 × Unit {0}))) }
-    ensures resolved { OnOk result (Resolved X.Portable place (case tag (value (A.flat a.now resolvers.0) (value (B.flat b.now resolvers.1.0) (value (C.flat c.now resolvers.1.1.0) (value (D.flat d.now resolvers.1.1.1.0) no_value)))))) }
+    requires same_values { A.belongs a.now resolvers.0
+        × (B.belongs b.now resolvers.1.0 × (C.belongs c.now resolvers.1.1.0
+        × (D.belongs d.now resolvers.1.1.1.0 × Unit {0}))) }
+    ensures resolved { OnOk result (Resolves X.definitions place.entry.pos place.exit.0.now X.shape
+        (case tag (value (A.flat a.now resolvers.0) (value (B.flat b.now resolvers.1.0)
+        (value (C.flat c.now resolvers.1.1.0) (value (D.flat d.now resolvers.1.1.1.0)
+        no_value)))))) }
     ensures same_length { length place.exit.0.now ≡ length place.entry.bytes.now }
-    ensures refused { IfErr result (Hindered X.Portable place (case tag (value (A.flat a.now resolvers.0) (value (B.flat b.now resolvers.1.0) (value (C.flat c.now resolvers.1.1.0) (value (D.flat d.now resolvers.1.1.1.0) no_value)))))) }
+    ensures refused { IfErr result (HindersAt X.definitions X.shape
+        (case tag (value (A.flat a.now resolvers.0) (value (B.flat b.now resolvers.1.0)
+        (value (C.flat c.now resolvers.1.1.0) (value (D.flat d.now resolvers.1.1.1.0) no_value)))))
+        place.entry.pos) }
 {
     let Place { bytes, pos, .. } = place;
     bytes[0] = tag;
@@ -146,15 +185,32 @@ pub fn resolve_named_case_5<A: Archive, B: Archive, C: Archive, D: Archive, E: A
     ),
     place: Place<'_, X>,
 ) -> Result<(), Error>
-    requires variant { variant_at X.Variants.variants tag ≡ Some (part A.Archived.shape (part B.Archived.shape (part C.Archived.shape (part D.Archived.shape (part E.Archived.shape no_part))))) }
-    requires definitions { variant_definitions X.Variants.definitions tag ≡ (both A.Archived.definitions (both B.Archived.definitions (both C.Archived.definitions (both D.Archived.definitions (both E.Archived.definitions no_definition))))) }
-    requires inside { Unit {0} → (up (up (up (up (up 1 A.Archived.layout.align + A.Archived.layout.size) B.Archived.layout.align + B.Archived.layout.size) C.Archived.layout.align + C.Archived.layout.size) D.Archived.layout.align + D.Archived.layout.size) E.Archived.layout.align + E.Archived.layout.size) ≤ X.layout.size }
+    requires variant { variant_at X.Variants.variants tag
+        ≡ Some (part A.Archived.shape (part B.Archived.shape
+        (part C.Archived.shape (part D.Archived.shape (part E.Archived.shape no_part))))) }
+    requires definitions { variant_definitions X.Variants.definitions tag
+        ≡ (both A.Archived.definitions (both B.Archived.definitions
+        (both C.Archived.definitions (both D.Archived.definitions
+        (both E.Archived.definitions no_definition))))) }
+    requires inside { Unit {0} → (up (up (up (up (up 1 A.Archived.layout.align
+        + A.Archived.layout.size) B.Archived.layout.align + B.Archived.layout.size)
+        C.Archived.layout.align + C.Archived.layout.size) D.Archived.layout.align
+        + D.Archived.layout.size) E.Archived.layout.align + E.Archived.layout.size)
+        ≤ X.layout.size }
     requires some { 0 < X.layout.size }
     requires zeroed { ZeroedPlace X.layout.size place.pos place.bytes.now }
-    requires same_values { A.belongs a.now resolvers.0 × (B.belongs b.now resolvers.1.0 × (C.belongs c.now resolvers.1.1.0 × (D.belongs d.now resolvers.1.1.1.0 × (E.belongs e.now resolvers.1.1.1.1.0 × Unit {0})))) }
-    ensures resolved { OnOk result (Resolved X.Portable place (case tag (value (A.flat a.now resolvers.0) (value (B.flat b.now resolvers.1.0) (value (C.flat c.now resolvers.1.1.0) (value (D.flat d.now resolvers.1.1.1.0) (value (E.flat e.now resolvers.1.1.1.1.0) no_value))))))) }
+    requires same_values { A.belongs a.now resolvers.0
+        × (B.belongs b.now resolvers.1.0 × (C.belongs c.now resolvers.1.1.0
+        × (D.belongs d.now resolvers.1.1.1.0 × (E.belongs e.now resolvers.1.1.1.1.0 × Unit {0})))) }
+    ensures resolved { OnOk result (Resolves X.definitions place.entry.pos place.exit.0.now X.shape
+        (case tag (value (A.flat a.now resolvers.0) (value (B.flat b.now resolvers.1.0)
+        (value (C.flat c.now resolvers.1.1.0) (value (D.flat d.now resolvers.1.1.1.0)
+        (value (E.flat e.now resolvers.1.1.1.1.0) no_value))))))) }
     ensures same_length { length place.exit.0.now ≡ length place.entry.bytes.now }
-    ensures refused { IfErr result (Hindered X.Portable place (case tag (value (A.flat a.now resolvers.0) (value (B.flat b.now resolvers.1.0) (value (C.flat c.now resolvers.1.1.0) (value (D.flat d.now resolvers.1.1.1.0) (value (E.flat e.now resolvers.1.1.1.1.0) no_value))))))) }
+    ensures refused { IfErr result (HindersAt X.definitions X.shape
+        (case tag (value (A.flat a.now resolvers.0) (value (B.flat b.now resolvers.1.0)
+        (value (C.flat c.now resolvers.1.1.0) (value (D.flat d.now resolvers.1.1.1.0)
+        (value (E.flat e.now resolvers.1.1.1.1.0) no_value)))))) place.entry.pos) }
 {
     let Place { bytes, pos, .. } = place;
     bytes[0] = tag;
@@ -187,15 +243,36 @@ pub fn resolve_named_case_6<
     ),
     place: Place<'_, X>,
 ) -> Result<(), Error>
-    requires variant { variant_at X.Variants.variants tag ≡ Some (part A.Archived.shape (part B.Archived.shape (part C.Archived.shape (part D.Archived.shape (part E.Archived.shape (part F.Archived.shape no_part)))))) }
-    requires definitions { variant_definitions X.Variants.definitions tag ≡ (both A.Archived.definitions (both B.Archived.definitions (both C.Archived.definitions (both D.Archived.definitions (both E.Archived.definitions (both F.Archived.definitions no_definition)))))) }
-    requires inside { Unit {0} → (up (up (up (up (up (up 1 A.Archived.layout.align + A.Archived.layout.size) B.Archived.layout.align + B.Archived.layout.size) C.Archived.layout.align + C.Archived.layout.size) D.Archived.layout.align + D.Archived.layout.size) E.Archived.layout.align + E.Archived.layout.size) F.Archived.layout.align + F.Archived.layout.size) ≤ X.layout.size }
+    requires variant { variant_at X.Variants.variants tag
+        ≡ Some (part A.Archived.shape (part B.Archived.shape
+        (part C.Archived.shape (part D.Archived.shape (part E.Archived.shape
+        (part F.Archived.shape no_part)))))) }
+    requires definitions { variant_definitions X.Variants.definitions tag
+        ≡ (both A.Archived.definitions (both B.Archived.definitions
+        (both C.Archived.definitions (both D.Archived.definitions
+        (both E.Archived.definitions (both F.Archived.definitions no_definition)))))) }
+    requires inside { Unit {0} → (up (up (up (up (up (up 1 A.Archived.layout.align
+        + A.Archived.layout.size) B.Archived.layout.align + B.Archived.layout.size)
+        C.Archived.layout.align + C.Archived.layout.size) D.Archived.layout.align
+        + D.Archived.layout.size) E.Archived.layout.align + E.Archived.layout.size)
+        F.Archived.layout.align + F.Archived.layout.size) ≤ X.layout.size }
     requires some { 0 < X.layout.size }
     requires zeroed { ZeroedPlace X.layout.size place.pos place.bytes.now }
-    requires same_values { A.belongs a.now resolvers.0 × (B.belongs b.now resolvers.1.0 × (C.belongs c.now resolvers.1.1.0 × (D.belongs d.now resolvers.1.1.1.0 × (E.belongs e.now resolvers.1.1.1.1.0 × (F.belongs f.now resolvers.1.1.1.1.1.0 × Unit {0}))))) }
-    ensures resolved { OnOk result (Resolved X.Portable place (case tag (value (A.flat a.now resolvers.0) (value (B.flat b.now resolvers.1.0) (value (C.flat c.now resolvers.1.1.0) (value (D.flat d.now resolvers.1.1.1.0) (value (E.flat e.now resolvers.1.1.1.1.0) (value (F.flat f.now resolvers.1.1.1.1.1.0) no_value)))))))) }
+    requires same_values { A.belongs a.now resolvers.0
+        × (B.belongs b.now resolvers.1.0 × (C.belongs c.now resolvers.1.1.0
+        × (D.belongs d.now resolvers.1.1.1.0 × (E.belongs e.now resolvers.1.1.1.1.0
+        × (F.belongs f.now resolvers.1.1.1.1.1.0 × Unit {0}))))) }
+    ensures resolved { OnOk result (Resolves X.definitions place.entry.pos place.exit.0.now X.shape
+        (case tag (value (A.flat a.now resolvers.0) (value (B.flat b.now resolvers.1.0)
+        (value (C.flat c.now resolvers.1.1.0) (value (D.flat d.now resolvers.1.1.1.0)
+        (value (E.flat e.now resolvers.1.1.1.1.0) (value (F.flat f.now resolvers.1.1.1.1.1.0)
+        no_value)))))))) }
     ensures same_length { length place.exit.0.now ≡ length place.entry.bytes.now }
-    ensures refused { IfErr result (Hindered X.Portable place (case tag (value (A.flat a.now resolvers.0) (value (B.flat b.now resolvers.1.0) (value (C.flat c.now resolvers.1.1.0) (value (D.flat d.now resolvers.1.1.1.0) (value (E.flat e.now resolvers.1.1.1.1.0) (value (F.flat f.now resolvers.1.1.1.1.1.0) no_value)))))))) }
+    ensures refused { IfErr result (HindersAt X.definitions X.shape
+        (case tag (value (A.flat a.now resolvers.0) (value (B.flat b.now resolvers.1.0)
+        (value (C.flat c.now resolvers.1.1.0) (value (D.flat d.now resolvers.1.1.1.0)
+        (value (E.flat e.now resolvers.1.1.1.1.0) (value (F.flat f.now resolvers.1.1.1.1.1.0)
+        no_value))))))) place.entry.pos) }
 {
     let Place { bytes, pos, .. } = place;
     bytes[0] = tag;
@@ -233,15 +310,39 @@ pub fn resolve_named_case_7<
     ),
     place: Place<'_, X>,
 ) -> Result<(), Error>
-    requires variant { variant_at X.Variants.variants tag ≡ Some (part A.Archived.shape (part B.Archived.shape (part C.Archived.shape (part D.Archived.shape (part E.Archived.shape (part F.Archived.shape (part G.Archived.shape no_part))))))) }
-    requires definitions { variant_definitions X.Variants.definitions tag ≡ (both A.Archived.definitions (both B.Archived.definitions (both C.Archived.definitions (both D.Archived.definitions (both E.Archived.definitions (both F.Archived.definitions (both G.Archived.definitions no_definition))))))) }
-    requires inside { Unit {0} → (up (up (up (up (up (up (up 1 A.Archived.layout.align + A.Archived.layout.size) B.Archived.layout.align + B.Archived.layout.size) C.Archived.layout.align + C.Archived.layout.size) D.Archived.layout.align + D.Archived.layout.size) E.Archived.layout.align + E.Archived.layout.size) F.Archived.layout.align + F.Archived.layout.size) G.Archived.layout.align + G.Archived.layout.size) ≤ X.layout.size }
+    requires variant { variant_at X.Variants.variants tag
+        ≡ Some (part A.Archived.shape (part B.Archived.shape
+        (part C.Archived.shape (part D.Archived.shape (part E.Archived.shape
+        (part F.Archived.shape (part G.Archived.shape no_part))))))) }
+    requires definitions { variant_definitions X.Variants.definitions tag
+        ≡ (both A.Archived.definitions (both B.Archived.definitions
+        (both C.Archived.definitions (both D.Archived.definitions
+        (both E.Archived.definitions (both F.Archived.definitions
+        (both G.Archived.definitions no_definition))))))) }
+    requires inside { Unit {0} → (up (up (up (up (up (up
+        (up 1 A.Archived.layout.align + A.Archived.layout.size) B.Archived.layout.align
+        + B.Archived.layout.size) C.Archived.layout.align + C.Archived.layout.size)
+        D.Archived.layout.align + D.Archived.layout.size) E.Archived.layout.align
+        + E.Archived.layout.size) F.Archived.layout.align + F.Archived.layout.size)
+        G.Archived.layout.align + G.Archived.layout.size) ≤ X.layout.size }
     requires some { 0 < X.layout.size }
     requires zeroed { ZeroedPlace X.layout.size place.pos place.bytes.now }
-    requires same_values { A.belongs a.now resolvers.0 × (B.belongs b.now resolvers.1.0 × (C.belongs c.now resolvers.1.1.0 × (D.belongs d.now resolvers.1.1.1.0 × (E.belongs e.now resolvers.1.1.1.1.0 × (F.belongs f.now resolvers.1.1.1.1.1.0 × (G.belongs g.now resolvers.1.1.1.1.1.1.0 × Unit {0})))))) }
-    ensures resolved { OnOk result (Resolved X.Portable place (case tag (value (A.flat a.now resolvers.0) (value (B.flat b.now resolvers.1.0) (value (C.flat c.now resolvers.1.1.0) (value (D.flat d.now resolvers.1.1.1.0) (value (E.flat e.now resolvers.1.1.1.1.0) (value (F.flat f.now resolvers.1.1.1.1.1.0) (value (G.flat g.now resolvers.1.1.1.1.1.1.0) no_value))))))))) }
+    requires same_values { A.belongs a.now resolvers.0
+        × (B.belongs b.now resolvers.1.0 × (C.belongs c.now resolvers.1.1.0
+        × (D.belongs d.now resolvers.1.1.1.0 × (E.belongs e.now resolvers.1.1.1.1.0
+        × (F.belongs f.now resolvers.1.1.1.1.1.0 × (G.belongs g.now resolvers.1.1.1.1.1.1.0
+        × Unit {0})))))) }
+    ensures resolved { OnOk result (Resolves X.definitions place.entry.pos place.exit.0.now X.shape
+        (case tag (value (A.flat a.now resolvers.0) (value (B.flat b.now resolvers.1.0)
+        (value (C.flat c.now resolvers.1.1.0) (value (D.flat d.now resolvers.1.1.1.0)
+        (value (E.flat e.now resolvers.1.1.1.1.0) (value (F.flat f.now resolvers.1.1.1.1.1.0)
+        (value (G.flat g.now resolvers.1.1.1.1.1.1.0) no_value))))))))) }
     ensures same_length { length place.exit.0.now ≡ length place.entry.bytes.now }
-    ensures refused { IfErr result (Hindered X.Portable place (case tag (value (A.flat a.now resolvers.0) (value (B.flat b.now resolvers.1.0) (value (C.flat c.now resolvers.1.1.0) (value (D.flat d.now resolvers.1.1.1.0) (value (E.flat e.now resolvers.1.1.1.1.0) (value (F.flat f.now resolvers.1.1.1.1.1.0) (value (G.flat g.now resolvers.1.1.1.1.1.1.0) no_value))))))))) }
+    ensures refused { IfErr result (HindersAt X.definitions X.shape
+        (case tag (value (A.flat a.now resolvers.0) (value (B.flat b.now resolvers.1.0)
+        (value (C.flat c.now resolvers.1.1.0) (value (D.flat d.now resolvers.1.1.1.0)
+        (value (E.flat e.now resolvers.1.1.1.1.0) (value (F.flat f.now resolvers.1.1.1.1.1.0)
+        (value (G.flat g.now resolvers.1.1.1.1.1.1.0) no_value)))))))) place.entry.pos) }
 {
     let Place { bytes, pos, .. } = place;
     bytes[0] = tag;

@@ -6,8 +6,8 @@ ghost use Rattle.archive_check.specs.Definitions.{both, no_definition};
 ghost use Rattle.archive_check.specs.Layout.{up};
 ghost use Rattle.archive_check.specs.Shape.{part, no_part};
 ghost use Rattle.archive_check.specs.Value.{value, no_value, product};
-ghost use Rattle.archive_types.specs.Words.Placed.{Resolved, Hindered};
-ghost use Rattle.archive_types.specs.Writing.{ZeroedPlace};
+ghost use Rattle.archive_types.specs.Causes.{HindersAt};
+ghost use Rattle.archive_types.specs.Writing.{ZeroedPlace, Resolves};
 
 use archive_check::format::error::Error;
 use archive_fields::fields::{
@@ -23,9 +23,11 @@ pub fn resolve_named_record_0<X: Record>(resolvers: (), place: Place<'_, X>) -> 
     requires inside { 0 ≤ X.layout.size }
     requires zeroed { ZeroedPlace X.layout.size place.pos place.bytes.now }
     requires same_values { Unit {0} }
-    ensures resolved { OnOk result (Resolved X.Portable place (product no_value)) }
+    ensures resolved { OnOk result (Resolves X.definitions place.entry.pos place.exit.0.now X.shape
+        (product no_value)) }
     ensures same_length { length place.exit.0.now ≡ length place.entry.bytes.now }
-    ensures refused { IfErr result (Hindered X.Portable place (product no_value)) }
+    ensures refused { IfErr result (HindersAt X.definitions X.shape (product no_value)
+        place.entry.pos) }
 {
     let Place { bytes, pos, .. } = place;
     resolve_0(resolvers, pos, 0, bytes)
@@ -42,9 +44,11 @@ pub fn resolve_named_record_1<A: Archive, X: Record>(
     requires inside { (up 0 A.Archived.layout.align + A.Archived.layout.size) ≤ X.layout.size }
     requires zeroed { ZeroedPlace X.layout.size place.pos place.bytes.now }
     requires same_values { A.belongs a.now resolvers.0 × Unit {0} }
-    ensures resolved { OnOk result (Resolved X.Portable place (product (value (A.flat a.now resolvers.0) no_value))) }
+    ensures resolved { OnOk result (Resolves X.definitions place.entry.pos place.exit.0.now X.shape
+        (product (value (A.flat a.now resolvers.0) no_value))) }
     ensures same_length { length place.exit.0.now ≡ length place.entry.bytes.now }
-    ensures refused { IfErr result (Hindered X.Portable place (product (value (A.flat a.now resolvers.0) no_value))) }
+    ensures refused { IfErr result (HindersAt X.definitions X.shape
+        (product (value (A.flat a.now resolvers.0) no_value)) place.entry.pos) }
 {
     let Place { bytes, pos, .. } = place;
     resolve_1(a, resolvers, pos, 0, bytes)
@@ -58,13 +62,20 @@ pub fn resolve_named_record_2<A: Archive, B: Archive, X: Record>(
     place: Place<'_, X>,
 ) -> Result<(), Error>
     requires parts { X.Parts.parts ≡ (part A.Archived.shape (part B.Archived.shape no_part)) }
-    requires definitions { X.Parts.definitions ≡ (both A.Archived.definitions (both B.Archived.definitions no_definition)) }
-    requires inside { (up (up 0 A.Archived.layout.align + A.Archived.layout.size) B.Archived.layout.align + B.Archived.layout.size) ≤ X.layout.size }
+    requires definitions { X.Parts.definitions ≡ (both A.Archived.definitions
+        (both B.Archived.definitions no_definition)) }
+    requires inside { (up (up 0 A.Archived.layout.align + A.Archived.layout.size)
+        B.Archived.layout.align + B.Archived.layout.size) ≤ X.layout.size }
     requires zeroed { ZeroedPlace X.layout.size place.pos place.bytes.now }
-    requires same_values { A.belongs a.now resolvers.0 × (B.belongs b.now resolvers.1.0 × Unit {0}) }
-    ensures resolved { OnOk result (Resolved X.Portable place (product (value (A.flat a.now resolvers.0) (value (B.flat b.now resolvers.1.0) no_value)))) }
+    requires same_values { A.belongs a.now resolvers.0
+        × (B.belongs b.now resolvers.1.0 × Unit {0}) }
+    ensures resolved { OnOk result (Resolves X.definitions place.entry.pos place.exit.0.now X.shape
+        (product (value (A.flat a.now resolvers.0) (value (B.flat b.now resolvers.1.0)
+        no_value)))) }
     ensures same_length { length place.exit.0.now ≡ length place.entry.bytes.now }
-    ensures refused { IfErr result (Hindered X.Portable place (product (value (A.flat a.now resolvers.0) (value (B.flat b.now resolvers.1.0) no_value)))) }
+    ensures refused { IfErr result (HindersAt X.definitions X.shape
+        (product (value (A.flat a.now resolvers.0) (value (B.flat b.now resolvers.1.0) no_value)))
+        place.entry.pos) }
 {
     let Place { bytes, pos, .. } = place;
     resolve_2(a, b, resolvers, pos, 0, bytes)
@@ -78,14 +89,23 @@ pub fn resolve_named_record_3<A: Archive, B: Archive, C: Archive, X: Record>(
     resolvers: (A::Resolver, (B::Resolver, (C::Resolver, ()))),
     place: Place<'_, X>,
 ) -> Result<(), Error>
-    requires parts { X.Parts.parts ≡ (part A.Archived.shape (part B.Archived.shape (part C.Archived.shape no_part))) }
-    requires definitions { X.Parts.definitions ≡ (both A.Archived.definitions (both B.Archived.definitions (both C.Archived.definitions no_definition))) }
-    requires inside { (up (up (up 0 A.Archived.layout.align + A.Archived.layout.size) B.Archived.layout.align + B.Archived.layout.size) C.Archived.layout.align + C.Archived.layout.size) ≤ X.layout.size }
+    requires parts { X.Parts.parts ≡ (part A.Archived.shape
+        (part B.Archived.shape (part C.Archived.shape no_part))) }
+    requires definitions { X.Parts.definitions ≡ (both A.Archived.definitions
+        (both B.Archived.definitions (both C.Archived.definitions no_definition))) }
+    requires inside { (up (up (up 0 A.Archived.layout.align + A.Archived.layout.size)
+        B.Archived.layout.align + B.Archived.layout.size) C.Archived.layout.align
+        + C.Archived.layout.size) ≤ X.layout.size }
     requires zeroed { ZeroedPlace X.layout.size place.pos place.bytes.now }
-    requires same_values { A.belongs a.now resolvers.0 × (B.belongs b.now resolvers.1.0 × (C.belongs c.now resolvers.1.1.0 × Unit {0})) }
-    ensures resolved { OnOk result (Resolved X.Portable place (product (value (A.flat a.now resolvers.0) (value (B.flat b.now resolvers.1.0) (value (C.flat c.now resolvers.1.1.0) no_value))))) }
+    requires same_values { A.belongs a.now resolvers.0
+        × (B.belongs b.now resolvers.1.0 × (C.belongs c.now resolvers.1.1.0 × Unit {0})) }
+    ensures resolved { OnOk result (Resolves X.definitions place.entry.pos place.exit.0.now X.shape
+        (product (value (A.flat a.now resolvers.0) (value (B.flat b.now resolvers.1.0)
+        (value (C.flat c.now resolvers.1.1.0) no_value))))) }
     ensures same_length { length place.exit.0.now ≡ length place.entry.bytes.now }
-    ensures refused { IfErr result (Hindered X.Portable place (product (value (A.flat a.now resolvers.0) (value (B.flat b.now resolvers.1.0) (value (C.flat c.now resolvers.1.1.0) no_value))))) }
+    ensures refused { IfErr result (HindersAt X.definitions X.shape
+        (product (value (A.flat a.now resolvers.0) (value (B.flat b.now resolvers.1.0)
+        (value (C.flat c.now resolvers.1.1.0) no_value)))) place.entry.pos) }
 {
     let Place { bytes, pos, .. } = place;
     resolve_3(a, b, c, resolvers, pos, 0, bytes)
@@ -100,14 +120,28 @@ pub fn resolve_named_record_4<A: Archive, B: Archive, C: Archive, D: Archive, X:
     resolvers: (A::Resolver, (B::Resolver, (C::Resolver, (D::Resolver, ())))),
     place: Place<'_, X>,
 ) -> Result<(), Error>
-    requires parts { X.Parts.parts ≡ (part A.Archived.shape (part B.Archived.shape (part C.Archived.shape (part D.Archived.shape no_part)))) }
-    requires definitions { X.Parts.definitions ≡ (both A.Archived.definitions (both B.Archived.definitions (both C.Archived.definitions (both D.Archived.definitions no_definition)))) }
-    requires inside { (up (up (up (up 0 A.Archived.layout.align + A.Archived.layout.size) B.Archived.layout.align + B.Archived.layout.size) C.Archived.layout.align + C.Archived.layout.size) D.Archived.layout.align + D.Archived.layout.size) ≤ X.layout.size }
+    requires parts { X.Parts.parts ≡ (part A.Archived.shape
+        (part B.Archived.shape (part C.Archived.shape (part D.Archived.shape no_part)))) }
+    requires definitions { X.Parts.definitions ≡ (both A.Archived.definitions
+        (both B.Archived.definitions (both C.Archived.definitions
+        (both D.Archived.definitions no_definition)))) }
+    requires inside { (up (up (up (up 0 A.Archived.layout.align + A.Archived.layout.size)
+        B.Archived.layout.align + B.Archived.layout.size) C.Archived.layout.align
+        + C.Archived.layout.size) D.Archived.layout.align + D.Archived.layout.size)
+        ≤ X.layout.size }
     requires zeroed { ZeroedPlace X.layout.size place.pos place.bytes.now }
-    requires same_values { A.belongs a.now resolvers.0 × (B.belongs b.now resolvers.1.0 × (C.belongs c.now resolvers.1.1.0 × (D.belongs d.now resolvers.1.1.1.0 × Unit {0}))) }
-    ensures resolved { OnOk result (Resolved X.Portable place (product (value (A.flat a.now resolvers.0) (value (B.flat b.now resolvers.1.0) (value (C.flat c.now resolvers.1.1.0) (value (D.flat d.now resolvers.1.1.1.0) no_value)))))) }
+    requires same_values { A.belongs a.now resolvers.0
+        × (B.belongs b.now resolvers.1.0 × (C.belongs c.now resolvers.1.1.0
+        × (D.belongs d.now resolvers.1.1.1.0 × Unit {0}))) }
+    ensures resolved { OnOk result (Resolves X.definitions place.entry.pos place.exit.0.now X.shape
+        (product (value (A.flat a.now resolvers.0) (value (B.flat b.now resolvers.1.0)
+        (value (C.flat c.now resolvers.1.1.0) (value (D.flat d.now resolvers.1.1.1.0)
+        no_value)))))) }
     ensures same_length { length place.exit.0.now ≡ length place.entry.bytes.now }
-    ensures refused { IfErr result (Hindered X.Portable place (product (value (A.flat a.now resolvers.0) (value (B.flat b.now resolvers.1.0) (value (C.flat c.now resolvers.1.1.0) (value (D.flat d.now resolvers.1.1.1.0) no_value)))))) }
+    ensures refused { IfErr result (HindersAt X.definitions X.shape
+        (product (value (A.flat a.now resolvers.0) (value (B.flat b.now resolvers.1.0)
+        (value (C.flat c.now resolvers.1.1.0) (value (D.flat d.now resolvers.1.1.1.0) no_value)))))
+        place.entry.pos) }
 {
     let Place { bytes, pos, .. } = place;
     resolve_4(a, b, c, d, resolvers, pos, 0, bytes)
@@ -133,14 +167,29 @@ pub fn resolve_named_record_5<
     ),
     place: Place<'_, X>,
 ) -> Result<(), Error>
-    requires parts { X.Parts.parts ≡ (part A.Archived.shape (part B.Archived.shape (part C.Archived.shape (part D.Archived.shape (part E.Archived.shape no_part))))) }
-    requires definitions { X.Parts.definitions ≡ (both A.Archived.definitions (both B.Archived.definitions (both C.Archived.definitions (both D.Archived.definitions (both E.Archived.definitions no_definition))))) }
-    requires inside { (up (up (up (up (up 0 A.Archived.layout.align + A.Archived.layout.size) B.Archived.layout.align + B.Archived.layout.size) C.Archived.layout.align + C.Archived.layout.size) D.Archived.layout.align + D.Archived.layout.size) E.Archived.layout.align + E.Archived.layout.size) ≤ X.layout.size }
+    requires parts { X.Parts.parts ≡ (part A.Archived.shape
+        (part B.Archived.shape (part C.Archived.shape (part D.Archived.shape
+        (part E.Archived.shape no_part))))) }
+    requires definitions { X.Parts.definitions ≡ (both A.Archived.definitions
+        (both B.Archived.definitions (both C.Archived.definitions
+        (both D.Archived.definitions (both E.Archived.definitions no_definition))))) }
+    requires inside { (up (up (up (up (up 0 A.Archived.layout.align + A.Archived.layout.size)
+        B.Archived.layout.align + B.Archived.layout.size) C.Archived.layout.align
+        + C.Archived.layout.size) D.Archived.layout.align + D.Archived.layout.size)
+        E.Archived.layout.align + E.Archived.layout.size) ≤ X.layout.size }
     requires zeroed { ZeroedPlace X.layout.size place.pos place.bytes.now }
-    requires same_values { A.belongs a.now resolvers.0 × (B.belongs b.now resolvers.1.0 × (C.belongs c.now resolvers.1.1.0 × (D.belongs d.now resolvers.1.1.1.0 × (E.belongs e.now resolvers.1.1.1.1.0 × Unit {0})))) }
-    ensures resolved { OnOk result (Resolved X.Portable place (product (value (A.flat a.now resolvers.0) (value (B.flat b.now resolvers.1.0) (value (C.flat c.now resolvers.1.1.0) (value (D.flat d.now resolvers.1.1.1.0) (value (E.flat e.now resolvers.1.1.1.1.0) no_value))))))) }
+    requires same_values { A.belongs a.now resolvers.0
+        × (B.belongs b.now resolvers.1.0 × (C.belongs c.now resolvers.1.1.0
+        × (D.belongs d.now resolvers.1.1.1.0 × (E.belongs e.now resolvers.1.1.1.1.0 × Unit {0})))) }
+    ensures resolved { OnOk result (Resolves X.definitions place.entry.pos place.exit.0.now X.shape
+        (product (value (A.flat a.now resolvers.0) (value (B.flat b.now resolvers.1.0)
+        (value (C.flat c.now resolvers.1.1.0) (value (D.flat d.now resolvers.1.1.1.0)
+        (value (E.flat e.now resolvers.1.1.1.1.0) no_value))))))) }
     ensures same_length { length place.exit.0.now ≡ length place.entry.bytes.now }
-    ensures refused { IfErr result (Hindered X.Portable place (product (value (A.flat a.now resolvers.0) (value (B.flat b.now resolvers.1.0) (value (C.flat c.now resolvers.1.1.0) (value (D.flat d.now resolvers.1.1.1.0) (value (E.flat e.now resolvers.1.1.1.1.0) no_value))))))) }
+    ensures refused { IfErr result (HindersAt X.definitions X.shape
+        (product (value (A.flat a.now resolvers.0) (value (B.flat b.now resolvers.1.0)
+        (value (C.flat c.now resolvers.1.1.0) (value (D.flat d.now resolvers.1.1.1.0)
+        (value (E.flat e.now resolvers.1.1.1.1.0) no_value)))))) place.entry.pos) }
 {
     let Place { bytes, pos, .. } = place;
     resolve_5(a, b, c, d, e, resolvers, pos, 0, bytes)
@@ -171,14 +220,34 @@ pub fn resolve_named_record_6<
     ),
     place: Place<'_, X>,
 ) -> Result<(), Error>
-    requires parts { X.Parts.parts ≡ (part A.Archived.shape (part B.Archived.shape (part C.Archived.shape (part D.Archived.shape (part E.Archived.shape (part F.Archived.shape no_part)))))) }
-    requires definitions { X.Parts.definitions ≡ (both A.Archived.definitions (both B.Archived.definitions (both C.Archived.definitions (both D.Archived.definitions (both E.Archived.definitions (both F.Archived.definitions no_definition)))))) }
-    requires inside { (up (up (up (up (up (up 0 A.Archived.layout.align + A.Archived.layout.size) B.Archived.layout.align + B.Archived.layout.size) C.Archived.layout.align + C.Archived.layout.size) D.Archived.layout.align + D.Archived.layout.size) E.Archived.layout.align + E.Archived.layout.size) F.Archived.layout.align + F.Archived.layout.size) ≤ X.layout.size }
+    requires parts { X.Parts.parts ≡ (part A.Archived.shape
+        (part B.Archived.shape (part C.Archived.shape (part D.Archived.shape
+        (part E.Archived.shape (part F.Archived.shape no_part)))))) }
+    requires definitions { X.Parts.definitions ≡ (both A.Archived.definitions
+        (both B.Archived.definitions (both C.Archived.definitions
+        (both D.Archived.definitions (both E.Archived.definitions
+        (both F.Archived.definitions no_definition)))))) }
+    requires inside { (up (up (up (up (up (up 0 A.Archived.layout.align + A.Archived.layout.size)
+        B.Archived.layout.align + B.Archived.layout.size) C.Archived.layout.align
+        + C.Archived.layout.size) D.Archived.layout.align + D.Archived.layout.size)
+        E.Archived.layout.align + E.Archived.layout.size) F.Archived.layout.align
+        + F.Archived.layout.size) ≤ X.layout.size }
     requires zeroed { ZeroedPlace X.layout.size place.pos place.bytes.now }
-    requires same_values { A.belongs a.now resolvers.0 × (B.belongs b.now resolvers.1.0 × (C.belongs c.now resolvers.1.1.0 × (D.belongs d.now resolvers.1.1.1.0 × (E.belongs e.now resolvers.1.1.1.1.0 × (F.belongs f.now resolvers.1.1.1.1.1.0 × Unit {0}))))) }
-    ensures resolved { OnOk result (Resolved X.Portable place (product (value (A.flat a.now resolvers.0) (value (B.flat b.now resolvers.1.0) (value (C.flat c.now resolvers.1.1.0) (value (D.flat d.now resolvers.1.1.1.0) (value (E.flat e.now resolvers.1.1.1.1.0) (value (F.flat f.now resolvers.1.1.1.1.1.0) no_value)))))))) }
+    requires same_values { A.belongs a.now resolvers.0
+        × (B.belongs b.now resolvers.1.0 × (C.belongs c.now resolvers.1.1.0
+        × (D.belongs d.now resolvers.1.1.1.0 × (E.belongs e.now resolvers.1.1.1.1.0
+        × (F.belongs f.now resolvers.1.1.1.1.1.0 × Unit {0}))))) }
+    ensures resolved { OnOk result (Resolves X.definitions place.entry.pos place.exit.0.now X.shape
+        (product (value (A.flat a.now resolvers.0) (value (B.flat b.now resolvers.1.0)
+        (value (C.flat c.now resolvers.1.1.0) (value (D.flat d.now resolvers.1.1.1.0)
+        (value (E.flat e.now resolvers.1.1.1.1.0) (value (F.flat f.now resolvers.1.1.1.1.1.0)
+        no_value)))))))) }
     ensures same_length { length place.exit.0.now ≡ length place.entry.bytes.now }
-    ensures refused { IfErr result (Hindered X.Portable place (product (value (A.flat a.now resolvers.0) (value (B.flat b.now resolvers.1.0) (value (C.flat c.now resolvers.1.1.0) (value (D.flat d.now resolvers.1.1.1.0) (value (E.flat e.now resolvers.1.1.1.1.0) (value (F.flat f.now resolvers.1.1.1.1.1.0) no_value)))))))) }
+    ensures refused { IfErr result (HindersAt X.definitions X.shape
+        (product (value (A.flat a.now resolvers.0) (value (B.flat b.now resolvers.1.0)
+        (value (C.flat c.now resolvers.1.1.0) (value (D.flat d.now resolvers.1.1.1.0)
+        (value (E.flat e.now resolvers.1.1.1.1.0) (value (F.flat f.now resolvers.1.1.1.1.1.0)
+        no_value))))))) place.entry.pos) }
 {
     let Place { bytes, pos, .. } = place;
     resolve_6(a, b, c, d, e, f, resolvers, pos, 0, bytes)
@@ -214,14 +283,36 @@ pub fn resolve_named_record_7<
     ),
     place: Place<'_, X>,
 ) -> Result<(), Error>
-    requires parts { X.Parts.parts ≡ (part A.Archived.shape (part B.Archived.shape (part C.Archived.shape (part D.Archived.shape (part E.Archived.shape (part F.Archived.shape (part G.Archived.shape no_part))))))) }
-    requires definitions { X.Parts.definitions ≡ (both A.Archived.definitions (both B.Archived.definitions (both C.Archived.definitions (both D.Archived.definitions (both E.Archived.definitions (both F.Archived.definitions (both G.Archived.definitions no_definition))))))) }
-    requires inside { (up (up (up (up (up (up (up 0 A.Archived.layout.align + A.Archived.layout.size) B.Archived.layout.align + B.Archived.layout.size) C.Archived.layout.align + C.Archived.layout.size) D.Archived.layout.align + D.Archived.layout.size) E.Archived.layout.align + E.Archived.layout.size) F.Archived.layout.align + F.Archived.layout.size) G.Archived.layout.align + G.Archived.layout.size) ≤ X.layout.size }
+    requires parts { X.Parts.parts ≡ (part A.Archived.shape
+        (part B.Archived.shape (part C.Archived.shape (part D.Archived.shape
+        (part E.Archived.shape (part F.Archived.shape (part G.Archived.shape no_part))))))) }
+    requires definitions { X.Parts.definitions ≡ (both A.Archived.definitions
+        (both B.Archived.definitions (both C.Archived.definitions
+        (both D.Archived.definitions (both E.Archived.definitions
+        (both F.Archived.definitions (both G.Archived.definitions no_definition))))))) }
+    requires inside { (up (up (up (up (up (up (up 0 A.Archived.layout.align
+        + A.Archived.layout.size) B.Archived.layout.align + B.Archived.layout.size)
+        C.Archived.layout.align + C.Archived.layout.size) D.Archived.layout.align
+        + D.Archived.layout.size) E.Archived.layout.align + E.Archived.layout.size)
+        F.Archived.layout.align + F.Archived.layout.size) G.Archived.layout.align
+        + G.Archived.layout.size) ≤ X.layout.size }
     requires zeroed { ZeroedPlace X.layout.size place.pos place.bytes.now }
-    requires same_values { A.belongs a.now resolvers.0 × (B.belongs b.now resolvers.1.0 × (C.belongs c.now resolvers.1.1.0 × (D.belongs d.now resolvers.1.1.1.0 × (E.belongs e.now resolvers.1.1.1.1.0 × (F.belongs f.now resolvers.1.1.1.1.1.0 × (G.belongs g.now resolvers.1.1.1.1.1.1.0 × Unit {0})))))) }
-    ensures resolved { OnOk result (Resolved X.Portable place (product (value (A.flat a.now resolvers.0) (value (B.flat b.now resolvers.1.0) (value (C.flat c.now resolvers.1.1.0) (value (D.flat d.now resolvers.1.1.1.0) (value (E.flat e.now resolvers.1.1.1.1.0) (value (F.flat f.now resolvers.1.1.1.1.1.0) (value (G.flat g.now resolvers.1.1.1.1.1.1.0) no_value))))))))) }
+    requires same_values { A.belongs a.now resolvers.0
+        × (B.belongs b.now resolvers.1.0 × (C.belongs c.now resolvers.1.1.0
+        × (D.belongs d.now resolvers.1.1.1.0 × (E.belongs e.now resolvers.1.1.1.1.0
+        × (F.belongs f.now resolvers.1.1.1.1.1.0 × (G.belongs g.now resolvers.1.1.1.1.1.1.0
+        × Unit {0})))))) }
+    ensures resolved { OnOk result (Resolves X.definitions place.entry.pos place.exit.0.now X.shape
+        (product (value (A.flat a.now resolvers.0) (value (B.flat b.now resolvers.1.0)
+        (value (C.flat c.now resolvers.1.1.0) (value (D.flat d.now resolvers.1.1.1.0)
+        (value (E.flat e.now resolvers.1.1.1.1.0) (value (F.flat f.now resolvers.1.1.1.1.1.0)
+        (value (G.flat g.now resolvers.1.1.1.1.1.1.0) no_value))))))))) }
     ensures same_length { length place.exit.0.now ≡ length place.entry.bytes.now }
-    ensures refused { IfErr result (Hindered X.Portable place (product (value (A.flat a.now resolvers.0) (value (B.flat b.now resolvers.1.0) (value (C.flat c.now resolvers.1.1.0) (value (D.flat d.now resolvers.1.1.1.0) (value (E.flat e.now resolvers.1.1.1.1.0) (value (F.flat f.now resolvers.1.1.1.1.1.0) (value (G.flat g.now resolvers.1.1.1.1.1.1.0) no_value))))))))) }
+    ensures refused { IfErr result (HindersAt X.definitions X.shape
+        (product (value (A.flat a.now resolvers.0) (value (B.flat b.now resolvers.1.0)
+        (value (C.flat c.now resolvers.1.1.0) (value (D.flat d.now resolvers.1.1.1.0)
+        (value (E.flat e.now resolvers.1.1.1.1.0) (value (F.flat f.now resolvers.1.1.1.1.1.0)
+        (value (G.flat g.now resolvers.1.1.1.1.1.1.0) no_value)))))))) place.entry.pos) }
 {
     let Place { bytes, pos, .. } = place;
     resolve_7(a, b, c, d, e, f, g, resolvers, pos, 0, bytes)
