@@ -360,7 +360,7 @@ def vec_read(it, type, answers):
     answers.invariant(
         "", f"invariant-{function}-loop-index",
         "(length l.items.items ≡ l.index) × (vec_len l.items ≡ l.index) × (l.list.len ≤ vec_capacity l.items)"
-        f" × FirstElements {D} {X} {L} l.list.bytes.now l.list.pos (run {X}) l.list.len {its} (g.D.Entries.entry_of l.initial.deserializer) (g.D.Entries.entry_of l.deserializer) l.items.items",
+        f" × FirstElements g.D.Entries.keeps {D} {X} {L} l.list.bytes.now l.list.pos (run {X}) l.list.len {its} (g.D.Entries.entry_of l.initial.deserializer) (g.D.Entries.entry_of l.deserializer) l.items.items",
     )
     lets = "let kept = c.loop-index.invariant in let b = c.listed-list.result.bytes.now in let q = c.listed-list.result.pos in let n = c.listed-list.result.len in"
     below = "let below : c.loop-index.index < n = omega (arith, c.loop-index-test.true, c.loop-index.auto.index-end, c.len-index-end.ensures) in"

@@ -1,5 +1,5 @@
 -- What a type that holds itself is written by: a variant of any parts, and the region of values that were serialized before, with the vector that owns it.
-use Rattle.std.specs.Prelude.{◌≡◌, ℕ, List, [], ◌∷◌, ◌++◌, Some, length, map, refl}
+use Rattle.std.specs.Prelude.{◌≡◌, ℕ, Bool, List, [], ◌∷◌, ◌++◌, Some, length, map, refl}
 use Rattle.std.proofs.Common.{ap, subst, inl, inr}
 use Rattle.std.proofs.lemmas.List.Elements.{Contains-append_cases}
 use Rattle.archive_types.specs.Members.Keyed.{nothing_keyed, part_keyed}
@@ -91,5 +91,5 @@ written_as e f i h = rw (e, f, i) h
 pub refused_as : {D : Definitions} {X : Shape} {ks ls : List Naming} {v w : Value} {old new : WriterState} {e : Error} → ks ≡ ls → v ≡ w → IsRefused D X ls w old new e → IsRefused D X ks v old new e
 refused_as e f h = rw (e, f) h
 
-pub read_as : {D : Definitions} {bytes : List ℕ} {q n : ℕ} {P : Pointee} {old new : Entries} {ks ls : List Naming} {v w : Value} → ks ≡ ls → v ≡ w → ReadsBack D bytes q P n old new w ls → ReadsBack D bytes q P n old new v ks
+pub read_as : {keeps : Bool} {D : Definitions} {bytes : List ℕ} {q n : ℕ} {P : Pointee} {old new : Entries} {ks ls : List Naming} {v w : Value} → ks ≡ ls → v ≡ w → ReadsBack keeps D bytes q P n old new w ls → ReadsBack keeps D bytes q P n old new v ks
 read_as e f h = rw (e, f) h

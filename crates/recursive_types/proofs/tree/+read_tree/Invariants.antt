@@ -16,4 +16,4 @@ abbrev pub decreases-read_tree : goal.decreases-read_tree
 decreases-read_tree g l = (l.part.pos + 12) * 4 + 3
 
 abbrev pub invariant-read_vec_tree-loop-index : goal.invariant-read_vec_tree-loop-index
-invariant-read_vec_tree-loop-index g l = (length l.items.items ≡ l.index) × (vec_len l.items ≡ l.index) × (l.list.len ≤ vec_capacity l.items) × FirstElements tree_definitions tree_shape tree_layout l.list.bytes.now l.list.pos (run tree_shape) l.list.len tree_meaning tree_keys (g.D.Entries.entry_of l.initial.deserializer) (g.D.Entries.entry_of l.deserializer) l.items.items
+invariant-read_vec_tree-loop-index g l = (length l.items.items ≡ l.index) × (vec_len l.items ≡ l.index) × (l.list.len ≤ vec_capacity l.items) × FirstElements g.D.Entries.keeps tree_definitions tree_shape tree_layout l.list.bytes.now l.list.pos (run tree_shape) l.list.len tree_meaning tree_keys (g.D.Entries.entry_of l.initial.deserializer) (g.D.Entries.entry_of l.deserializer) l.items.items
