@@ -1,7 +1,7 @@
 """What the impls of structs and of enums have in common."""
 
 from .formats import ALIGNS
-from .layout import WIDTH, flat, implementation, lay, one_line, statement
+from .layout import WIDTH, flat, implementation, lay, one_line, pair, statement
 
 
 def chain(head, words, end):
@@ -31,6 +31,25 @@ def ok_arm(values, made, indent):
     if len(f"{pad}Ok({values}) => Ok({made.head}") <= WIDTH:
         return f"{pad}Ok({values}) => Ok({lay(made, indent, indent + len(values) + 11, 2)}),\n"
     return f"{pad}Ok({values}) => {{\n{statement(indent + 4, 'Ok(', made, ')')}{pad}}}\n"
+
+
+def kept_of(formats, types):
+    """The argument of a call that is handed the resolvers of these fields: each by its name where they are taken apart."""
+    return pair([f"r{i}" for i in range(len(types))]) if are_taken_apart(formats, types) else "kept" if types else "()"
+
+
+def taken_apart(formats, types, indent):
+    """The line that names each resolver, if any does."""
+    return statement(indent, "let ", kept_of(formats, types), " = kept;") if are_taken_apart(formats, types) else ""
+
+
+# What is kept of these names a type of its own, as `Option<VecResolver>`.
+MADE_OF = {"Option", "Result", "array", "OwnedArray", "tuple"}
+
+
+def are_taken_apart(formats, types):
+    """Whether the resolvers of another declared type are handed on one by one: as one, the check isn't told where the types are that these are made of."""
+    return any(formats.holds(type, MADE_OF, False) for type in types)
 
 
 class Source:

@@ -141,6 +141,14 @@ class Formats:
         """The type as the declaration has it."""
         return type.text or self.spelled(type)
 
+    def read_as(self, type):
+        """The type that a field is read back as: no call returns an array of the machine."""
+        return self.spelled(replace(type, name="OwnedArray", text="")) if self.kind(type) == "array" else self.rust(type)
+
+    def read_value(self, type, name):
+        """The field's value, of what it was read back as."""
+        return f"{name}.into_array()" if self.kind(type) == "array" else name
+
     def spelled(self, type):
         """The type by its names, of which those of other modules are brought in."""
         if type.name == "()":
@@ -282,6 +290,15 @@ class Formats:
         if type.own is not None and not type.own.recursive and any(self.any_of(field, names) for field in self.fields(type)):
             return True
         return any(self.any_of(arg, names) for arg in type.args)
+
+    def holds(self, type, names, inside):
+        """Whether the type holds another declared one, and that one of these, both behind no pointer; `inside` that one already."""
+        if type.own is None and type.name in POINTERS:
+            return False
+        if inside and type.own is None and type.name in names:
+            return True
+        held = self.fields(type) if type.own is not None else type.args
+        return any(self.holds(x, names, inside or type.own is not None) for x in held)
 
     def shares(self, type):
         return self.any_of(type, SHARING)

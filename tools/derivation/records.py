@@ -7,12 +7,14 @@ from .common import (
     deserialize,
     doc_lines,
     infix,
+    kept_of,
     ok_arm,
     own_check,
     portable,
     region,
     resolve_head,
     sealed_clauses,
+    taken_apart,
     view_clauses,
 )
 from .formats import layout_of, snake
@@ -35,6 +37,7 @@ class Record(Source):
         self.count = len(self.types)
         self.formats_of = [formats.archived(type) for type in self.types]
         self.rust = [formats.rust(type) for type in self.types]
+        self.read = [formats.read_as(type) for type in self.types]
         self.size, self.align, self.offsets, self.end = layout_of([formats.layout(type) for type in self.types])
         self.span = self.end
         self.parts = chain("part", [formats.shape(type) for type in self.types], "no_part")
@@ -44,11 +47,12 @@ class Record(Source):
         self.values = [f"v.{field.name}" for field in self.fields]
 
     def built(self):
+        values = [self.formats.read_value(type, name) for type, name in zip(self.types, self.names)]
         if self.declaration.form == "unit":
             return self.name
         if self.declaration.form == "tuple":
-            return Group(f"{self.name}(", self.names, ")")
-        return literal(self.name, [f"{field.name}: {name}" for field, name in zip(self.fields, self.names)])
+            return Group(f"{self.name}(", values, ")")
+        return literal(self.name, [f"{field.name}: {value}" for field, value in zip(self.fields, values)])
 
 
 def text(formats, declaration):
@@ -74,7 +78,7 @@ def text(formats, declaration):
 def struct(record):
     archived = record.archived
     parts = statement(0, f"type {record.name}Parts = ", pair(record.formats_of), ";")
-    owned = statement(0, f"type {record.name}Owned = ", pair(record.rust), ";")
+    owned = statement(0, f"type {record.name}Owned = ", pair(record.read), ";")
     return f"""/// An archived `{record.name}`: {record.size} bytes at a multiple of {record.align}.
 {record.visibility}struct {archived};
 
@@ -129,8 +133,8 @@ def archive(record):
     planned = "no_part_planned"
     for type, q, v in reversed(list(zip(types, sources, values))):
         planned = f"(part_planned {f.definitions(type)} {f.shape(type)} ({q}.keys {v}) ({q}.meaning {v}) {f.planned(type, v)} {planned})"
-    kept = "kept" if record.count else "resolver"
-    opened = f"        let {record.resolver} {{ kept }} = resolver;\n" if record.count else ""
+    kept = kept_of(f, types) if record.count else "resolver"
+    opened = f"        let {record.resolver} {{ kept }} = resolver;\n{taken_apart(f, types, 8)}" if record.count else ""
     arguments = [f"&self.{field.name}" for field in record.fields] + [kept, "Place::new(pos, bytes)"]
     call = Generic(f"resolve_record_{record.count}", record.rust + [record.archived], arguments)
     return f"""impl Archive for {record.name} {{
@@ -194,7 +198,7 @@ def read(record):
 
 
 def made_of(record):
-    sources = [record.formats.source(type) for type in record.types]
+    sources = [f"⟦<{read} as Archive>⟧" for read in record.read]
     values = [f"values{'.1' * i}.0" for i in range(record.count)]
     meanings = chain("value", [f"({q}.meaning {v})" for q, v in zip(sources, values)], "no_value")
     keys = infix("++", [f"{q}.keys {v}" for q, v in zip(sources, values)], "[]")

@@ -7,12 +7,14 @@ from .common import (
     deserialize,
     doc_lines,
     infix,
+    kept_of,
     ok_arm,
     own_check,
     portable,
     region,
     resolve_head,
     sealed_clauses,
+    taken_apart,
     viewed,
 )
 from .formats import layout_of, snake
@@ -34,6 +36,7 @@ class Case:
         self.count = len(self.types)
         self.archived = [formats.archived(type) for type in self.types]
         self.rust = [formats.rust(type) for type in self.types]
+        self.read = [formats.read_as(type) for type in self.types]
         self.sources = [formats.source(type) for type in self.types]
         sizes = layout_of([formats.layout(type) for type in self.types], 1)
         self.align, self.offsets, self.end = sizes[1:]
@@ -43,12 +46,17 @@ class Case:
         self.names = self.binders
         self.word = f"{choice.name}{self.name}"
 
-    def pattern(self, of=None):
-        """The variant with a name for each field."""
-        path = f"{of or self.choice.name}::{self.name}"
+    def pattern(self, values=()):
+        """The variant with a name for each field, or with these values."""
+        path = f"{self.choice.name}::{self.name}"
+        values = values or self.names
         if self.form == "struct":
-            return literal(path, [f"{field.name}: {name}" for field, name in zip(self.fields, self.names)])
-        return Group(f"{path}(", self.names, ")") if self.form == "tuple" else path
+            return literal(path, [f"{field.name}: {value}" for field, value in zip(self.fields, values)])
+        return Group(f"{path}(", values, ")") if self.form == "tuple" else path
+
+    def built(self):
+        """The variant of what was read back."""
+        return self.pattern([self.choice.formats.read_value(type, name) for type, name in zip(self.types, self.names)])
 
     def bound(self, end=""):
         return " ".join([self.word + end] + self.binders)
@@ -113,7 +121,7 @@ def enum(choice):
     for case in choice.cases:
         if case.count:
             lines.append(statement(0, f"type {case.word}Parts = ", pair(case.archived), ";"))
-            lines.append(statement(0, f"type {case.word}Owned = ", pair(case.rust), ";"))
+            lines.append(statement(0, f"type {case.word}Owned = ", pair(case.read), ";"))
     parts = [f"{case.word}Parts" if case.count else "()" for case in choice.cases]
     lines.append(statement(0, f"type {choice.name}Variants = ", pair(parts), ";"))
     return f"""/// An archived `{choice.name}`: {choice.size} bytes at a multiple of {choice.align}.
@@ -223,7 +231,7 @@ def archive(choice):
 def resolve_arm(choice, case):
     place = "Place::new(pos, bytes)"
     pattern = flat(case.pattern())
-    call = Generic(f"resolve_case_{case.count}", case.rust + [choice.archived], [str(case.tag)] + case.names + ["kept" if case.count else "()", place])
+    call = Generic(f"resolve_case_{case.count}", case.rust + [choice.archived], [str(case.tag)] + case.names + [kept_of(choice.formats, case.types), place])
     if not case.count:
         one = f"            {pattern} => {flat(call)},\n"
         if len(one) <= WIDTH + 1:
@@ -233,7 +241,7 @@ def resolve_arm(choice, case):
     other = " else {\n                    unreachable!();\n                }" if len(choice.cases) > 1 else ""
     return f"""            {pattern} => {{
                 {opened}{other};
-{statement(16, "", call, "")}            }}
+{taken_apart(choice.formats, case.types, 16)}{statement(16, "", call, "")}            }}
 """
 
 
@@ -277,7 +285,7 @@ def read(choice):
         its = [f"{case.word}Parts", f"{case.word}Owned"] if case.count else ["()", "()"]
         call = Generic("read_case", ["Self"] + its + ["D"], [str(case.tag), "alloc", "part", "deserializer"])
         tag = "_" if case is choice.cases[-1] else str(case.tag)
-        arms.append(match_arm(tag, call, flat(pair(case.names)), case.pattern()))
+        arms.append(match_arm(tag, call, flat(pair(case.names)), case.built()))
     return deserialize(choice, f"        match known_tag::<Self>(part) {{\n{''.join(arms)}        }}\n")
 
 

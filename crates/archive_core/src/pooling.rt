@@ -215,7 +215,9 @@ impl Entries for Unpool {
 impl<T: Pooled> Pooling<T> for Unpool {
     fn start_pooling(&mut self, _pos: usize) -> Result<PoolingState<T>, Error>
         ensures answer { IfOk result (IsPoolAnswer T.kept (⟦<Self as Entries>⟧.entry_of self.old _pos)) }
-        ensures after { ⟦<Self as Entries>⟧.keeps ≡ true → OnOk result (PutAt ⟦<Self as Entries>⟧ self _pos (pooled (⟦<Self as Entries>⟧.entry_of self.old _pos))) }
+        ensures after { ⟦<Self as Entries>⟧.keeps ≡ true
+            → OnOk result (PutAt ⟦<Self as Entries>⟧ self _pos
+            (pooled (⟦<Self as Entries>⟧.entry_of self.old _pos))) }
         ensures unchanged { OnErr result (IsSame (⟦<Self as Entries>⟧.entry_of self.old) (⟦<Self as Entries>⟧.entry_of self.new)) }
         ensures refused { IfErr result (λ e. e ≡ OutOfMemory) }
         ensures succeeds { IsOk result }
@@ -225,7 +227,8 @@ impl<T: Pooled> Pooling<T> for Unpool {
 
     fn finish_pooling(&mut self, _pos: usize, _value: T) -> Result<(), Error>
         ensures answer { ⟦<Self as Entries>⟧.keeps ≡ true → IsFinishAnswer (⟦<Self as Entries>⟧.entry_of self.old _pos) result }
-        ensures after { ⟦<Self as Entries>⟧.keeps ≡ true → OnOk result (PutAt ⟦<Self as Entries>⟧ self _pos (Some (Some (T.kept _value)))) }
+        ensures after { ⟦<Self as Entries>⟧.keeps ≡ true
+            → OnOk result (PutAt ⟦<Self as Entries>⟧ self _pos (Some (Some (T.kept _value)))) }
         ensures unchanged { OnErr result (IsSame (⟦<Self as Entries>⟧.entry_of self.old) (⟦<Self as Entries>⟧.entry_of self.new)) }
         ensures refused { ⟦<Self as Entries>⟧.keeps ≡ false → IfErr result (λ e. e ≡ OutOfMemory) }
         ensures succeeds { IsOk result }

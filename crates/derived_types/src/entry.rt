@@ -60,7 +60,8 @@ type EntryOwned = (u64, (Event, ()));
 impl ArchivePointee for ArchivedEntry {
     type ArchivedMetadata = ();
 
-    ghost pointee = { one (parts (part ⟦<ArchivedU64 as Portable>⟧.shape (part ⟦<ArchivedEvent as Portable>⟧.shape no_part))) };
+    ghost pointee = { one (parts (part ⟦<ArchivedU64 as Portable>⟧.shape
+        (part ⟦<ArchivedEvent as Portable>⟧.shape no_part))) };
 
     ghost definitions = { no_definition };
 
@@ -72,7 +73,8 @@ impl ArchivePointee for ArchivedEntry {
 }
 
 impl Portable for ArchivedEntry {
-    ghost shape = { parts (part ⟦<ArchivedU64 as Portable>⟧.shape (part ⟦<ArchivedEvent as Portable>⟧.shape no_part)) };
+    ghost shape = { parts (part ⟦<ArchivedU64 as Portable>⟧.shape
+        (part ⟦<ArchivedEvent as Portable>⟧.shape no_part)) };
 
     ghost layout = { record { size = 24; align = 8 } };
 
@@ -84,7 +86,8 @@ impl Portable for ArchivedEntry {
 
     ghost has_layout = { record { solved = λ s k. refl } };
 
-    ghost no_others = { no_definition_reached (parts (part ⟦<ArchivedU64 as Portable>⟧.shape (part ⟦<ArchivedEvent as Portable>⟧.shape no_part))) };
+    ghost no_others = { no_definition_reached (parts (part ⟦<ArchivedU64 as Portable>⟧.shape
+        (part ⟦<ArchivedEvent as Portable>⟧.shape no_part))) };
 
     ghost checks = { λ _. plain_own_check _ _ _ _ _ refl refl refl refl };
 
@@ -106,7 +109,8 @@ impl Portable for ArchivedEntry {
 }
 
 impl SelfCheck for ArchivedEntry {
-    ghost shape = { parts (part ⟦<ArchivedU64 as Portable>⟧.shape (part ⟦<ArchivedEvent as Portable>⟧.shape no_part)) };
+    ghost shape = { parts (part ⟦<ArchivedU64 as Portable>⟧.shape
+        (part ⟦<ArchivedEvent as Portable>⟧.shape no_part)) };
 
     ghost definitions = { (both no_definition (both no_definition no_definition)) };
 
@@ -137,7 +141,9 @@ impl SelfCheck for ArchivedEntry {
 impl Record for ArchivedEntry {
     type Parts = EntryParts;
 
-    ghost has_parts = { plain_record (part ⟦<ArchivedU64 as Portable>⟧.shape (part ⟦<ArchivedEvent as Portable>⟧.shape no_part)) (both no_definition (both no_definition no_definition)) refl };
+    ghost has_parts = { plain_record (part ⟦<ArchivedU64 as Portable>⟧.shape
+        (part ⟦<ArchivedEvent as Portable>⟧.shape no_part))
+        (both no_definition (both no_definition no_definition)) refl };
 
     ghost holds = { lit≤ tt };
 }
@@ -158,17 +164,29 @@ impl Archive for Entry {
 
     type Resolver = EntryResolver;
 
-    ghost meaning = { λ v. product (value (⟦<u64 as Archive>⟧.meaning v.seconds) (value (⟦<Event as Archive>⟧.meaning v.event) no_value)) };
+    ghost meaning = { λ v. product (value (⟦<u64 as Archive>⟧.meaning v.seconds)
+        (value (⟦<Event as Archive>⟧.meaning v.event) no_value)) };
 
-    ghost flat = { λ v r. product (value (⟦<u64 as Archive>⟧.flat v.seconds r.kept.0) (value (⟦<Event as Archive>⟧.flat v.event r.kept.1.0) no_value)) };
+    ghost flat = { λ v r. product (value (⟦<u64 as Archive>⟧.flat v.seconds r.kept.0)
+        (value (⟦<Event as Archive>⟧.flat v.event r.kept.1.0) no_value)) };
 
-    ghost keys = { λ v. ⟦<u64 as Archive>⟧.keys v.seconds ++ (⟦<Event as Archive>⟧.keys v.event ++ []) };
+    ghost keys = { λ v. ⟦<u64 as Archive>⟧.keys v.seconds
+        ++ (⟦<Event as Archive>⟧.keys v.event ++ []) };
 
-    ghost belongs = { λ v r. ⟦<u64 as Archive>⟧.belongs v.seconds r.kept.0 × (⟦<Event as Archive>⟧.belongs v.event r.kept.1.0 × Unit {0}) };
+    ghost belongs = { λ v r. ⟦<u64 as Archive>⟧.belongs v.seconds r.kept.0
+        × (⟦<Event as Archive>⟧.belongs v.event r.kept.1.0 × Unit {0}) };
 
-    ghost keyed = { λ v. record_keyed (part_keyed (number_keyed _) (part_keyed (keyed_of_event v.event) nothing_keyed)) };
+    ghost keyed = { λ v. record_keyed (part_keyed (number_keyed _)
+        (part_keyed (keyed_of_event v.event) nothing_keyed)) };
 
-    ghost planned = { λ v. plain_record_planned (both no_definition (both no_definition no_definition)) (part ⟦<ArchivedU64 as Portable>⟧.shape (part ⟦<ArchivedEvent as Portable>⟧.shape no_part)) _ _ (part_planned no_definition ⟦<ArchivedU64 as Portable>⟧.shape (⟦<u64 as Archive>⟧.keys v.seconds) (⟦<u64 as Archive>⟧.meaning v.seconds) (leaf_planned no_definition _ _ [] _ refl) (part_planned no_definition ⟦<ArchivedEvent as Portable>⟧.shape (⟦<Event as Archive>⟧.keys v.event) (⟦<Event as Archive>⟧.meaning v.event) (planned_of_event v.event) no_part_planned)) refl };
+    ghost planned = { λ v. plain_record_planned (both no_definition
+        (both no_definition no_definition)) (part ⟦<ArchivedU64 as Portable>⟧.shape
+        (part ⟦<ArchivedEvent as Portable>⟧.shape no_part)) _ _
+        (part_planned no_definition ⟦<ArchivedU64 as Portable>⟧.shape
+        (⟦<u64 as Archive>⟧.keys v.seconds) (⟦<u64 as Archive>⟧.meaning v.seconds)
+        (leaf_planned no_definition _ _ [] _ refl) (part_planned no_definition
+        ⟦<ArchivedEvent as Portable>⟧.shape (⟦<Event as Archive>⟧.keys v.event)
+        (⟦<Event as Archive>⟧.meaning v.event) (planned_of_event v.event) no_part_planned)) refl };
 
     fn resolve(
         &self,
@@ -220,7 +238,9 @@ impl ArchiveUnsized for Entry {
 
     ghost one_length = { λ _ _. refl };
 
-    ghost planned = { λ v. one_planned no_definition (parts (part ⟦<ArchivedU64 as Portable>⟧.shape (part ⟦<ArchivedEvent as Portable>⟧.shape no_part))) (⟦<Entry as Archive>⟧.keys v) (⟦<Entry as Archive>⟧.meaning v) (planned_of_entry v) };
+    ghost planned = { λ v. one_planned no_definition (parts
+        (part ⟦<ArchivedU64 as Portable>⟧.shape (part ⟦<ArchivedEvent as Portable>⟧.shape no_part)))
+        (⟦<Entry as Archive>⟧.keys v) (⟦<Entry as Archive>⟧.meaning v) (planned_of_entry v) };
 
     fn archived_metadata(&self) -> Result<(), Error> {
         Ok(())
@@ -240,8 +260,10 @@ impl<D: Entries> Deserialize<Entry, D> for ArchivedEntry {
         deserializer: &mut D,
     ) -> Result<Entry, Error>
         requires { IsPartOf ⟦<Self as ArchivePointee>⟧ part }
-        ensures read { IfOk result (Read ⟦<Self as ArchivePointee>⟧ part D.Entries deserializer ⟦<Entry as Archive>⟧) }
-        ensures refused { IfErr result (RefusesPart ⟦<Self as ArchivePointee>⟧ part D.Entries deserializer) }
+        ensures read { IfOk result (Read ⟦<Self as ArchivePointee>⟧ part D.Entries deserializer
+            ⟦<Entry as Archive>⟧) }
+        ensures refused { IfErr result (RefusesPart ⟦<Self as ArchivePointee>⟧ part D.Entries
+            deserializer) }
     {
         match deserialize_record::<Self, EntryOwned, D>(alloc, part, deserializer) {
             Ok((a0, (a1, ()))) => Ok(Entry {
@@ -297,28 +319,35 @@ pub trait EntrySeal<'a> {
 }
 
 impl<'a> EntrySeal<'a> for Seal<'a, ArchivedEntry> {
-    ghost sealed = { λ s. Viewed no_definition s.bytes.now s.pos (one ⟦<ArchivedEntry as Portable>⟧.shape) s.len };
+    ghost sealed = { λ s. Viewed no_definition s.bytes.now s.pos
+        (one ⟦<ArchivedEntry as Portable>⟧.shape) s.len };
 
     fn seconds_mut(self) -> Seal<'a, ArchivedU64>
-        requires viewed { Viewed no_definition self.bytes.now self.pos (one ⟦<ArchivedEntry as Portable>⟧.shape) self.len }
+        requires viewed { Viewed no_definition self.bytes.now self.pos
+            (one ⟦<ArchivedEntry as Portable>⟧.shape) self.len }
         ensures same_reference { result.bytes.ghost_name ≡ self.entry.bytes.ghost_name }
         ensures buffer { result.bytes.now ≡ self.entry.bytes.now }
         ensures position { result.pos ≡ self.entry.pos + 0 }
         ensures length { result.len ≡ 0 }
-        ensures viewed { Viewed no_definition result.bytes.now result.pos ⟦<ArchivedU64 as ArchivePointee>⟧.pointee result.len }
-        ensures beside { SealsBeside no_definition (one ⟦<ArchivedEntry as Portable>⟧.shape) ⟦<ArchivedU64 as ArchivePointee>⟧.pointee result self.entry }
+        ensures viewed { Viewed no_definition result.bytes.now result.pos
+            ⟦<ArchivedU64 as ArchivePointee>⟧.pointee result.len }
+        ensures beside { SealsBeside no_definition (one ⟦<ArchivedEntry as Portable>⟧.shape)
+            ⟦<ArchivedU64 as ArchivePointee>⟧.pointee result self.entry }
     {
         sealed_part_in_record::<ArchivedEntry, ArchivedU64>(self, 0, 0)
     }
 
     fn event_mut(self) -> Seal<'a, ArchivedEvent>
-        requires viewed { Viewed no_definition self.bytes.now self.pos (one ⟦<ArchivedEntry as Portable>⟧.shape) self.len }
+        requires viewed { Viewed no_definition self.bytes.now self.pos
+            (one ⟦<ArchivedEntry as Portable>⟧.shape) self.len }
         ensures same_reference { result.bytes.ghost_name ≡ self.entry.bytes.ghost_name }
         ensures buffer { result.bytes.now ≡ self.entry.bytes.now }
         ensures position { result.pos ≡ self.entry.pos + 8 }
         ensures length { result.len ≡ 0 }
-        ensures viewed { Viewed no_definition result.bytes.now result.pos ⟦<ArchivedEvent as ArchivePointee>⟧.pointee result.len }
-        ensures beside { SealsBeside no_definition (one ⟦<ArchivedEntry as Portable>⟧.shape) ⟦<ArchivedEvent as ArchivePointee>⟧.pointee result self.entry }
+        ensures viewed { Viewed no_definition result.bytes.now result.pos
+            ⟦<ArchivedEvent as ArchivePointee>⟧.pointee result.len }
+        ensures beside { SealsBeside no_definition (one ⟦<ArchivedEntry as Portable>⟧.shape)
+            ⟦<ArchivedEvent as ArchivePointee>⟧.pointee result self.entry }
     {
         sealed_part_in_record::<ArchivedEntry, ArchivedEvent>(self, 1, 8)
     }

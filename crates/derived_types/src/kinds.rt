@@ -132,7 +132,10 @@ type NumbersOwned = (NonZero<u32>, (usize, (isize, (i128, (bool, ((), ()))))));
 impl ArchivePointee for ArchivedNumbers {
     type ArchivedMetadata = ();
 
-    ghost pointee = { one (parts (part ⟦<NonZero<u32> as Portable>⟧.shape (part ⟦<ArchivedUsize as Portable>⟧.shape (part ⟦<ArchivedIsize as Portable>⟧.shape (part ⟦<ArchivedI128 as Portable>⟧.shape (part ⟦<bool as Portable>⟧.shape (part ⟦<() as Portable>⟧.shape no_part))))))) };
+    ghost pointee = { one (parts (part ⟦<NonZero<u32> as Portable>⟧.shape
+        (part ⟦<ArchivedUsize as Portable>⟧.shape (part ⟦<ArchivedIsize as Portable>⟧.shape
+        (part ⟦<ArchivedI128 as Portable>⟧.shape (part ⟦<bool as Portable>⟧.shape
+        (part ⟦<() as Portable>⟧.shape no_part))))))) };
 
     ghost definitions = { no_definition };
 
@@ -144,7 +147,10 @@ impl ArchivePointee for ArchivedNumbers {
 }
 
 impl Portable for ArchivedNumbers {
-    ghost shape = { parts (part ⟦<NonZero<u32> as Portable>⟧.shape (part ⟦<ArchivedUsize as Portable>⟧.shape (part ⟦<ArchivedIsize as Portable>⟧.shape (part ⟦<ArchivedI128 as Portable>⟧.shape (part ⟦<bool as Portable>⟧.shape (part ⟦<() as Portable>⟧.shape no_part)))))) };
+    ghost shape = { parts (part ⟦<NonZero<u32> as Portable>⟧.shape
+        (part ⟦<ArchivedUsize as Portable>⟧.shape (part ⟦<ArchivedIsize as Portable>⟧.shape
+        (part ⟦<ArchivedI128 as Portable>⟧.shape (part ⟦<bool as Portable>⟧.shape
+        (part ⟦<() as Portable>⟧.shape no_part)))))) };
 
     ghost layout = { record { size = 48; align = 16 } };
 
@@ -156,7 +162,10 @@ impl Portable for ArchivedNumbers {
 
     ghost has_layout = { record { solved = λ s k. refl } };
 
-    ghost no_others = { no_definition_reached (parts (part ⟦<NonZero<u32> as Portable>⟧.shape (part ⟦<ArchivedUsize as Portable>⟧.shape (part ⟦<ArchivedIsize as Portable>⟧.shape (part ⟦<ArchivedI128 as Portable>⟧.shape (part ⟦<bool as Portable>⟧.shape (part ⟦<() as Portable>⟧.shape no_part))))))) };
+    ghost no_others = { no_definition_reached (parts (part ⟦<NonZero<u32> as Portable>⟧.shape
+        (part ⟦<ArchivedUsize as Portable>⟧.shape (part ⟦<ArchivedIsize as Portable>⟧.shape
+        (part ⟦<ArchivedI128 as Portable>⟧.shape (part ⟦<bool as Portable>⟧.shape
+        (part ⟦<() as Portable>⟧.shape no_part))))))) };
 
     ghost checks = { λ _. plain_own_check _ _ _ _ _ refl refl refl refl };
 
@@ -178,9 +187,14 @@ impl Portable for ArchivedNumbers {
 }
 
 impl SelfCheck for ArchivedNumbers {
-    ghost shape = { parts (part ⟦<NonZero<u32> as Portable>⟧.shape (part ⟦<ArchivedUsize as Portable>⟧.shape (part ⟦<ArchivedIsize as Portable>⟧.shape (part ⟦<ArchivedI128 as Portable>⟧.shape (part ⟦<bool as Portable>⟧.shape (part ⟦<() as Portable>⟧.shape no_part)))))) };
+    ghost shape = { parts (part ⟦<NonZero<u32> as Portable>⟧.shape
+        (part ⟦<ArchivedUsize as Portable>⟧.shape (part ⟦<ArchivedIsize as Portable>⟧.shape
+        (part ⟦<ArchivedI128 as Portable>⟧.shape (part ⟦<bool as Portable>⟧.shape
+        (part ⟦<() as Portable>⟧.shape no_part)))))) };
 
-    ghost definitions = { (both no_definition (both no_definition (both no_definition (both no_definition (both no_definition (both no_definition no_definition)))))) };
+    ghost definitions = { (both no_definition (both no_definition
+        (both no_definition (both no_definition (both no_definition
+        (both no_definition no_definition)))))) };
 
     ghost span = { 33 };
 
@@ -209,7 +223,12 @@ impl SelfCheck for ArchivedNumbers {
 impl Record for ArchivedNumbers {
     type Parts = NumbersParts;
 
-    ghost has_parts = { plain_record (part ⟦<NonZero<u32> as Portable>⟧.shape (part ⟦<ArchivedUsize as Portable>⟧.shape (part ⟦<ArchivedIsize as Portable>⟧.shape (part ⟦<ArchivedI128 as Portable>⟧.shape (part ⟦<bool as Portable>⟧.shape (part ⟦<() as Portable>⟧.shape no_part)))))) (both no_definition (both no_definition (both no_definition (both no_definition (both no_definition (both no_definition no_definition)))))) refl };
+    ghost has_parts = { plain_record (part ⟦<NonZero<u32> as Portable>⟧.shape
+        (part ⟦<ArchivedUsize as Portable>⟧.shape (part ⟦<ArchivedIsize as Portable>⟧.shape
+        (part ⟦<ArchivedI128 as Portable>⟧.shape (part ⟦<bool as Portable>⟧.shape
+        (part ⟦<() as Portable>⟧.shape no_part)))))) (both no_definition
+        (both no_definition (both no_definition (both no_definition
+        (both no_definition (both no_definition no_definition)))))) refl };
 
     ghost holds = { lit≤ tt };
 }
@@ -237,17 +256,57 @@ impl Archive for Numbers {
 
     type Resolver = NumbersResolver;
 
-    ghost meaning = { λ v. product (value (⟦<NonZero<u32> as Archive>⟧.meaning v.some) (value (⟦<usize as Archive>⟧.meaning v.size) (value (⟦<isize as Archive>⟧.meaning v.distance) (value (⟦<i128 as Archive>⟧.meaning v.wide) (value (⟦<bool as Archive>⟧.meaning v.so) (value (⟦<() as Archive>⟧.meaning v.nothing) no_value)))))) };
+    ghost meaning = { λ v. product (value (⟦<NonZero<u32> as Archive>⟧.meaning v.some)
+        (value (⟦<usize as Archive>⟧.meaning v.size) (value
+        (⟦<isize as Archive>⟧.meaning v.distance) (value (⟦<i128 as Archive>⟧.meaning v.wide)
+        (value (⟦<bool as Archive>⟧.meaning v.so) (value (⟦<() as Archive>⟧.meaning v.nothing)
+        no_value)))))) };
 
-    ghost flat = { λ v r. product (value (⟦<NonZero<u32> as Archive>⟧.flat v.some r.kept.0) (value (⟦<usize as Archive>⟧.flat v.size r.kept.1.0) (value (⟦<isize as Archive>⟧.flat v.distance r.kept.1.1.0) (value (⟦<i128 as Archive>⟧.flat v.wide r.kept.1.1.1.0) (value (⟦<bool as Archive>⟧.flat v.so r.kept.1.1.1.1.0) (value (⟦<() as Archive>⟧.flat v.nothing r.kept.1.1.1.1.1.0) no_value)))))) };
+    ghost flat = { λ v r. product (value (⟦<NonZero<u32> as Archive>⟧.flat v.some r.kept.0)
+        (value (⟦<usize as Archive>⟧.flat v.size r.kept.1.0)
+        (value (⟦<isize as Archive>⟧.flat v.distance r.kept.1.1.0)
+        (value (⟦<i128 as Archive>⟧.flat v.wide r.kept.1.1.1.0)
+        (value (⟦<bool as Archive>⟧.flat v.so r.kept.1.1.1.1.0)
+        (value (⟦<() as Archive>⟧.flat v.nothing r.kept.1.1.1.1.1.0) no_value)))))) };
 
-    ghost keys = { λ v. ⟦<NonZero<u32> as Archive>⟧.keys v.some ++ (⟦<usize as Archive>⟧.keys v.size ++ (⟦<isize as Archive>⟧.keys v.distance ++ (⟦<i128 as Archive>⟧.keys v.wide ++ (⟦<bool as Archive>⟧.keys v.so ++ (⟦<() as Archive>⟧.keys v.nothing ++ []))))) };
+    ghost keys = { λ v. ⟦<NonZero<u32> as Archive>⟧.keys v.some
+        ++ (⟦<usize as Archive>⟧.keys v.size ++ (⟦<isize as Archive>⟧.keys v.distance
+        ++ (⟦<i128 as Archive>⟧.keys v.wide ++ (⟦<bool as Archive>⟧.keys v.so
+        ++ (⟦<() as Archive>⟧.keys v.nothing ++ []))))) };
 
-    ghost belongs = { λ v r. ⟦<NonZero<u32> as Archive>⟧.belongs v.some r.kept.0 × (⟦<usize as Archive>⟧.belongs v.size r.kept.1.0 × (⟦<isize as Archive>⟧.belongs v.distance r.kept.1.1.0 × (⟦<i128 as Archive>⟧.belongs v.wide r.kept.1.1.1.0 × (⟦<bool as Archive>⟧.belongs v.so r.kept.1.1.1.1.0 × (⟦<() as Archive>⟧.belongs v.nothing r.kept.1.1.1.1.1.0 × Unit {0}))))) };
+    ghost belongs = { λ v r. ⟦<NonZero<u32> as Archive>⟧.belongs v.some r.kept.0
+        × (⟦<usize as Archive>⟧.belongs v.size r.kept.1.0
+        × (⟦<isize as Archive>⟧.belongs v.distance r.kept.1.1.0
+        × (⟦<i128 as Archive>⟧.belongs v.wide r.kept.1.1.1.0
+        × (⟦<bool as Archive>⟧.belongs v.so r.kept.1.1.1.1.0
+        × (⟦<() as Archive>⟧.belongs v.nothing r.kept.1.1.1.1.1.0 × Unit {0}))))) };
 
-    ghost keyed = { λ v. record_keyed (part_keyed (number_keyed _) (part_keyed (number_keyed _) (part_keyed (number_keyed _) (part_keyed (number_keyed _) (part_keyed (number_keyed _) (part_keyed (number_keyed _) nothing_keyed)))))) };
+    ghost keyed = { λ v. record_keyed (part_keyed (number_keyed _)
+        (part_keyed (number_keyed _) (part_keyed (number_keyed _)
+        (part_keyed (number_keyed _) (part_keyed (number_keyed _)
+        (part_keyed (number_keyed _) nothing_keyed)))))) };
 
-    ghost planned = { λ v. plain_record_planned (both no_definition (both no_definition (both no_definition (both no_definition (both no_definition (both no_definition no_definition)))))) (part ⟦<NonZero<u32> as Portable>⟧.shape (part ⟦<ArchivedUsize as Portable>⟧.shape (part ⟦<ArchivedIsize as Portable>⟧.shape (part ⟦<ArchivedI128 as Portable>⟧.shape (part ⟦<bool as Portable>⟧.shape (part ⟦<() as Portable>⟧.shape no_part)))))) _ _ (part_planned no_definition ⟦<NonZero<u32> as Portable>⟧.shape (⟦<NonZero<u32> as Archive>⟧.keys v.some) (⟦<NonZero<u32> as Archive>⟧.meaning v.some) (leaf_planned no_definition _ _ [] _ refl) (part_planned no_definition ⟦<ArchivedUsize as Portable>⟧.shape (⟦<usize as Archive>⟧.keys v.size) (⟦<usize as Archive>⟧.meaning v.size) (leaf_planned no_definition _ _ [] _ refl) (part_planned no_definition ⟦<ArchivedIsize as Portable>⟧.shape (⟦<isize as Archive>⟧.keys v.distance) (⟦<isize as Archive>⟧.meaning v.distance) (leaf_planned no_definition _ _ [] _ refl) (part_planned no_definition ⟦<ArchivedI128 as Portable>⟧.shape (⟦<i128 as Archive>⟧.keys v.wide) (⟦<i128 as Archive>⟧.meaning v.wide) (leaf_planned no_definition _ _ [] _ refl) (part_planned no_definition ⟦<bool as Portable>⟧.shape (⟦<bool as Archive>⟧.keys v.so) (⟦<bool as Archive>⟧.meaning v.so) (leaf_planned no_definition _ _ [] _ refl) (part_planned no_definition ⟦<() as Portable>⟧.shape (⟦<() as Archive>⟧.keys v.nothing) (⟦<() as Archive>⟧.meaning v.nothing) (leaf_planned no_definition _ _ [] _ refl) no_part_planned)))))) refl };
+    ghost planned = { λ v. plain_record_planned (both no_definition
+        (both no_definition (both no_definition (both no_definition
+        (both no_definition (both no_definition no_definition))))))
+        (part ⟦<NonZero<u32> as Portable>⟧.shape (part ⟦<ArchivedUsize as Portable>⟧.shape
+        (part ⟦<ArchivedIsize as Portable>⟧.shape (part ⟦<ArchivedI128 as Portable>⟧.shape
+        (part ⟦<bool as Portable>⟧.shape (part ⟦<() as Portable>⟧.shape no_part)))))) _ _
+        (part_planned no_definition ⟦<NonZero<u32> as Portable>⟧.shape
+        (⟦<NonZero<u32> as Archive>⟧.keys v.some) (⟦<NonZero<u32> as Archive>⟧.meaning v.some)
+        (leaf_planned no_definition _ _ [] _ refl) (part_planned no_definition
+        ⟦<ArchivedUsize as Portable>⟧.shape (⟦<usize as Archive>⟧.keys v.size)
+        (⟦<usize as Archive>⟧.meaning v.size) (leaf_planned no_definition _ _ [] _ refl)
+        (part_planned no_definition ⟦<ArchivedIsize as Portable>⟧.shape
+        (⟦<isize as Archive>⟧.keys v.distance) (⟦<isize as Archive>⟧.meaning v.distance)
+        (leaf_planned no_definition _ _ [] _ refl) (part_planned no_definition
+        ⟦<ArchivedI128 as Portable>⟧.shape (⟦<i128 as Archive>⟧.keys v.wide)
+        (⟦<i128 as Archive>⟧.meaning v.wide) (leaf_planned no_definition _ _ [] _ refl)
+        (part_planned no_definition ⟦<bool as Portable>⟧.shape (⟦<bool as Archive>⟧.keys v.so)
+        (⟦<bool as Archive>⟧.meaning v.so) (leaf_planned no_definition _ _ [] _ refl)
+        (part_planned no_definition ⟦<() as Portable>⟧.shape (⟦<() as Archive>⟧.keys v.nothing)
+        (⟦<() as Archive>⟧.meaning v.nothing) (leaf_planned no_definition _ _ [] _ refl)
+        no_part_planned)))))) refl };
 
     fn resolve(
         &self,
@@ -307,7 +366,11 @@ impl ArchiveUnsized for Numbers {
 
     ghost one_length = { λ _ _. refl };
 
-    ghost planned = { λ v. one_planned no_definition (parts (part ⟦<NonZero<u32> as Portable>⟧.shape (part ⟦<ArchivedUsize as Portable>⟧.shape (part ⟦<ArchivedIsize as Portable>⟧.shape (part ⟦<ArchivedI128 as Portable>⟧.shape (part ⟦<bool as Portable>⟧.shape (part ⟦<() as Portable>⟧.shape no_part))))))) (⟦<Numbers as Archive>⟧.keys v) (⟦<Numbers as Archive>⟧.meaning v) (planned_of_numbers v) };
+    ghost planned = { λ v. one_planned no_definition (parts
+        (part ⟦<NonZero<u32> as Portable>⟧.shape (part ⟦<ArchivedUsize as Portable>⟧.shape
+        (part ⟦<ArchivedIsize as Portable>⟧.shape (part ⟦<ArchivedI128 as Portable>⟧.shape
+        (part ⟦<bool as Portable>⟧.shape (part ⟦<() as Portable>⟧.shape no_part)))))))
+        (⟦<Numbers as Archive>⟧.keys v) (⟦<Numbers as Archive>⟧.meaning v) (planned_of_numbers v) };
 
     fn archived_metadata(&self) -> Result<(), Error> {
         Ok(())
@@ -327,8 +390,10 @@ impl<D: Entries> Deserialize<Numbers, D> for ArchivedNumbers {
         deserializer: &mut D,
     ) -> Result<Numbers, Error>
         requires { IsPartOf ⟦<Self as ArchivePointee>⟧ part }
-        ensures read { IfOk result (Read ⟦<Self as ArchivePointee>⟧ part D.Entries deserializer ⟦<Numbers as Archive>⟧) }
-        ensures refused { IfErr result (RefusesPart ⟦<Self as ArchivePointee>⟧ part D.Entries deserializer) }
+        ensures read { IfOk result (Read ⟦<Self as ArchivePointee>⟧ part D.Entries deserializer
+            ⟦<Numbers as Archive>⟧) }
+        ensures refused { IfErr result (RefusesPart ⟦<Self as ArchivePointee>⟧ part D.Entries
+            deserializer) }
     {
         match deserialize_record::<Self, NumbersOwned, D>(alloc, part, deserializer) {
             Ok((a0, (a1, (a2, (a3, (a4, (a5, ()))))))) => Ok(Numbers {
@@ -452,76 +517,95 @@ pub trait NumbersSeal<'a> {
 }
 
 impl<'a> NumbersSeal<'a> for Seal<'a, ArchivedNumbers> {
-    ghost sealed = { λ s. Viewed no_definition s.bytes.now s.pos (one ⟦<ArchivedNumbers as Portable>⟧.shape) s.len };
+    ghost sealed = { λ s. Viewed no_definition s.bytes.now s.pos
+        (one ⟦<ArchivedNumbers as Portable>⟧.shape) s.len };
 
     fn some_mut(self) -> Seal<'a, NonZero<u32>>
-        requires viewed { Viewed no_definition self.bytes.now self.pos (one ⟦<ArchivedNumbers as Portable>⟧.shape) self.len }
+        requires viewed { Viewed no_definition self.bytes.now self.pos
+            (one ⟦<ArchivedNumbers as Portable>⟧.shape) self.len }
         ensures same_reference { result.bytes.ghost_name ≡ self.entry.bytes.ghost_name }
         ensures buffer { result.bytes.now ≡ self.entry.bytes.now }
         ensures position { result.pos ≡ self.entry.pos + 0 }
         ensures length { result.len ≡ 0 }
-        ensures viewed { Viewed no_definition result.bytes.now result.pos ⟦<NonZero<u32> as ArchivePointee>⟧.pointee result.len }
-        ensures beside { SealsBeside no_definition (one ⟦<ArchivedNumbers as Portable>⟧.shape) ⟦<NonZero<u32> as ArchivePointee>⟧.pointee result self.entry }
+        ensures viewed { Viewed no_definition result.bytes.now result.pos
+            ⟦<NonZero<u32> as ArchivePointee>⟧.pointee result.len }
+        ensures beside { SealsBeside no_definition (one ⟦<ArchivedNumbers as Portable>⟧.shape)
+            ⟦<NonZero<u32> as ArchivePointee>⟧.pointee result self.entry }
     {
         sealed_part_in_record::<ArchivedNumbers, NonZero<u32>>(self, 0, 0)
     }
 
     fn size_mut(self) -> Seal<'a, ArchivedUsize>
-        requires viewed { Viewed no_definition self.bytes.now self.pos (one ⟦<ArchivedNumbers as Portable>⟧.shape) self.len }
+        requires viewed { Viewed no_definition self.bytes.now self.pos
+            (one ⟦<ArchivedNumbers as Portable>⟧.shape) self.len }
         ensures same_reference { result.bytes.ghost_name ≡ self.entry.bytes.ghost_name }
         ensures buffer { result.bytes.now ≡ self.entry.bytes.now }
         ensures position { result.pos ≡ self.entry.pos + 4 }
         ensures length { result.len ≡ 0 }
-        ensures viewed { Viewed no_definition result.bytes.now result.pos ⟦<ArchivedUsize as ArchivePointee>⟧.pointee result.len }
-        ensures beside { SealsBeside no_definition (one ⟦<ArchivedNumbers as Portable>⟧.shape) ⟦<ArchivedUsize as ArchivePointee>⟧.pointee result self.entry }
+        ensures viewed { Viewed no_definition result.bytes.now result.pos
+            ⟦<ArchivedUsize as ArchivePointee>⟧.pointee result.len }
+        ensures beside { SealsBeside no_definition (one ⟦<ArchivedNumbers as Portable>⟧.shape)
+            ⟦<ArchivedUsize as ArchivePointee>⟧.pointee result self.entry }
     {
         sealed_part_in_record::<ArchivedNumbers, ArchivedUsize>(self, 1, 4)
     }
 
     fn distance_mut(self) -> Seal<'a, ArchivedIsize>
-        requires viewed { Viewed no_definition self.bytes.now self.pos (one ⟦<ArchivedNumbers as Portable>⟧.shape) self.len }
+        requires viewed { Viewed no_definition self.bytes.now self.pos
+            (one ⟦<ArchivedNumbers as Portable>⟧.shape) self.len }
         ensures same_reference { result.bytes.ghost_name ≡ self.entry.bytes.ghost_name }
         ensures buffer { result.bytes.now ≡ self.entry.bytes.now }
         ensures position { result.pos ≡ self.entry.pos + 8 }
         ensures length { result.len ≡ 0 }
-        ensures viewed { Viewed no_definition result.bytes.now result.pos ⟦<ArchivedIsize as ArchivePointee>⟧.pointee result.len }
-        ensures beside { SealsBeside no_definition (one ⟦<ArchivedNumbers as Portable>⟧.shape) ⟦<ArchivedIsize as ArchivePointee>⟧.pointee result self.entry }
+        ensures viewed { Viewed no_definition result.bytes.now result.pos
+            ⟦<ArchivedIsize as ArchivePointee>⟧.pointee result.len }
+        ensures beside { SealsBeside no_definition (one ⟦<ArchivedNumbers as Portable>⟧.shape)
+            ⟦<ArchivedIsize as ArchivePointee>⟧.pointee result self.entry }
     {
         sealed_part_in_record::<ArchivedNumbers, ArchivedIsize>(self, 2, 8)
     }
 
     fn wide_mut(self) -> Seal<'a, ArchivedI128>
-        requires viewed { Viewed no_definition self.bytes.now self.pos (one ⟦<ArchivedNumbers as Portable>⟧.shape) self.len }
+        requires viewed { Viewed no_definition self.bytes.now self.pos
+            (one ⟦<ArchivedNumbers as Portable>⟧.shape) self.len }
         ensures same_reference { result.bytes.ghost_name ≡ self.entry.bytes.ghost_name }
         ensures buffer { result.bytes.now ≡ self.entry.bytes.now }
         ensures position { result.pos ≡ self.entry.pos + 16 }
         ensures length { result.len ≡ 0 }
-        ensures viewed { Viewed no_definition result.bytes.now result.pos ⟦<ArchivedI128 as ArchivePointee>⟧.pointee result.len }
-        ensures beside { SealsBeside no_definition (one ⟦<ArchivedNumbers as Portable>⟧.shape) ⟦<ArchivedI128 as ArchivePointee>⟧.pointee result self.entry }
+        ensures viewed { Viewed no_definition result.bytes.now result.pos
+            ⟦<ArchivedI128 as ArchivePointee>⟧.pointee result.len }
+        ensures beside { SealsBeside no_definition (one ⟦<ArchivedNumbers as Portable>⟧.shape)
+            ⟦<ArchivedI128 as ArchivePointee>⟧.pointee result self.entry }
     {
         sealed_part_in_record::<ArchivedNumbers, ArchivedI128>(self, 3, 16)
     }
 
     fn so_mut(self) -> Seal<'a, bool>
-        requires viewed { Viewed no_definition self.bytes.now self.pos (one ⟦<ArchivedNumbers as Portable>⟧.shape) self.len }
+        requires viewed { Viewed no_definition self.bytes.now self.pos
+            (one ⟦<ArchivedNumbers as Portable>⟧.shape) self.len }
         ensures same_reference { result.bytes.ghost_name ≡ self.entry.bytes.ghost_name }
         ensures buffer { result.bytes.now ≡ self.entry.bytes.now }
         ensures position { result.pos ≡ self.entry.pos + 32 }
         ensures length { result.len ≡ 0 }
-        ensures viewed { Viewed no_definition result.bytes.now result.pos ⟦<bool as ArchivePointee>⟧.pointee result.len }
-        ensures beside { SealsBeside no_definition (one ⟦<ArchivedNumbers as Portable>⟧.shape) ⟦<bool as ArchivePointee>⟧.pointee result self.entry }
+        ensures viewed { Viewed no_definition result.bytes.now result.pos
+            ⟦<bool as ArchivePointee>⟧.pointee result.len }
+        ensures beside { SealsBeside no_definition (one ⟦<ArchivedNumbers as Portable>⟧.shape)
+            ⟦<bool as ArchivePointee>⟧.pointee result self.entry }
     {
         sealed_part_in_record::<ArchivedNumbers, bool>(self, 4, 32)
     }
 
     fn nothing_mut(self) -> Seal<'a, ()>
-        requires viewed { Viewed no_definition self.bytes.now self.pos (one ⟦<ArchivedNumbers as Portable>⟧.shape) self.len }
+        requires viewed { Viewed no_definition self.bytes.now self.pos
+            (one ⟦<ArchivedNumbers as Portable>⟧.shape) self.len }
         ensures same_reference { result.bytes.ghost_name ≡ self.entry.bytes.ghost_name }
         ensures buffer { result.bytes.now ≡ self.entry.bytes.now }
         ensures position { result.pos ≡ self.entry.pos + 33 }
         ensures length { result.len ≡ 0 }
-        ensures viewed { Viewed no_definition result.bytes.now result.pos ⟦<() as ArchivePointee>⟧.pointee result.len }
-        ensures beside { SealsBeside no_definition (one ⟦<ArchivedNumbers as Portable>⟧.shape) ⟦<() as ArchivePointee>⟧.pointee result self.entry }
+        ensures viewed { Viewed no_definition result.bytes.now result.pos
+            ⟦<() as ArchivePointee>⟧.pointee result.len }
+        ensures beside { SealsBeside no_definition (one ⟦<ArchivedNumbers as Portable>⟧.shape)
+            ⟦<() as ArchivePointee>⟧.pointee result self.entry }
     {
         sealed_part_in_record::<ArchivedNumbers, ()>(self, 5, 33)
     }
@@ -552,7 +636,11 @@ type OwnersOwned = (
 impl ArchivePointee for ArchivedOwners {
     type ArchivedMetadata = ();
 
-    ghost pointee = { one (parts (part ⟦<ArchivedResult<u8, ArchivedString> as Portable>⟧.shape (part ⟦<ArchivedBox<ArchivedSlice<ArchivedU16>> as Portable>⟧.shape (part ⟦<ArchivedBox<ArchivedStr> as Portable>⟧.shape (part ⟦<ArchivedTuple2<u8, ArchivedString> as Portable>⟧.shape (part ⟦<PhantomData<u64> as Portable>⟧.shape no_part)))))) };
+    ghost pointee = { one (parts (part ⟦<ArchivedResult<u8, ArchivedString> as Portable>⟧.shape
+        (part ⟦<ArchivedBox<ArchivedSlice<ArchivedU16>> as Portable>⟧.shape
+        (part ⟦<ArchivedBox<ArchivedStr> as Portable>⟧.shape
+        (part ⟦<ArchivedTuple2<u8, ArchivedString> as Portable>⟧.shape
+        (part ⟦<PhantomData<u64> as Portable>⟧.shape no_part)))))) };
 
     ghost definitions = { no_definition };
 
@@ -564,7 +652,11 @@ impl ArchivePointee for ArchivedOwners {
 }
 
 impl Portable for ArchivedOwners {
-    ghost shape = { parts (part ⟦<ArchivedResult<u8, ArchivedString> as Portable>⟧.shape (part ⟦<ArchivedBox<ArchivedSlice<ArchivedU16>> as Portable>⟧.shape (part ⟦<ArchivedBox<ArchivedStr> as Portable>⟧.shape (part ⟦<ArchivedTuple2<u8, ArchivedString> as Portable>⟧.shape (part ⟦<PhantomData<u64> as Portable>⟧.shape no_part))))) };
+    ghost shape = { parts (part ⟦<ArchivedResult<u8, ArchivedString> as Portable>⟧.shape
+        (part ⟦<ArchivedBox<ArchivedSlice<ArchivedU16>> as Portable>⟧.shape
+        (part ⟦<ArchivedBox<ArchivedStr> as Portable>⟧.shape
+        (part ⟦<ArchivedTuple2<u8, ArchivedString> as Portable>⟧.shape
+        (part ⟦<PhantomData<u64> as Portable>⟧.shape no_part))))) };
 
     ghost layout = { record { size = 40; align = 4 } };
 
@@ -576,7 +668,12 @@ impl Portable for ArchivedOwners {
 
     ghost has_layout = { record { solved = λ s k. refl } };
 
-    ghost no_others = { no_definition_reached (parts (part ⟦<ArchivedResult<u8, ArchivedString> as Portable>⟧.shape (part ⟦<ArchivedBox<ArchivedSlice<ArchivedU16>> as Portable>⟧.shape (part ⟦<ArchivedBox<ArchivedStr> as Portable>⟧.shape (part ⟦<ArchivedTuple2<u8, ArchivedString> as Portable>⟧.shape (part ⟦<PhantomData<u64> as Portable>⟧.shape no_part)))))) };
+    ghost no_others = { no_definition_reached (parts (part
+        ⟦<ArchivedResult<u8, ArchivedString> as Portable>⟧.shape
+        (part ⟦<ArchivedBox<ArchivedSlice<ArchivedU16>> as Portable>⟧.shape
+        (part ⟦<ArchivedBox<ArchivedStr> as Portable>⟧.shape
+        (part ⟦<ArchivedTuple2<u8, ArchivedString> as Portable>⟧.shape
+        (part ⟦<PhantomData<u64> as Portable>⟧.shape no_part)))))) };
 
     ghost checks = { λ _. plain_own_check _ _ _ _ _ refl refl refl refl };
 
@@ -598,9 +695,15 @@ impl Portable for ArchivedOwners {
 }
 
 impl SelfCheck for ArchivedOwners {
-    ghost shape = { parts (part ⟦<ArchivedResult<u8, ArchivedString> as Portable>⟧.shape (part ⟦<ArchivedBox<ArchivedSlice<ArchivedU16>> as Portable>⟧.shape (part ⟦<ArchivedBox<ArchivedStr> as Portable>⟧.shape (part ⟦<ArchivedTuple2<u8, ArchivedString> as Portable>⟧.shape (part ⟦<PhantomData<u64> as Portable>⟧.shape no_part))))) };
+    ghost shape = { parts (part ⟦<ArchivedResult<u8, ArchivedString> as Portable>⟧.shape
+        (part ⟦<ArchivedBox<ArchivedSlice<ArchivedU16>> as Portable>⟧.shape
+        (part ⟦<ArchivedBox<ArchivedStr> as Portable>⟧.shape
+        (part ⟦<ArchivedTuple2<u8, ArchivedString> as Portable>⟧.shape
+        (part ⟦<PhantomData<u64> as Portable>⟧.shape no_part))))) };
 
-    ghost definitions = { (both (both no_definition no_definition) (both no_definition (both no_definition (both (both no_definition (both no_definition no_definition)) (both no_definition no_definition))))) };
+    ghost definitions = { (both (both no_definition no_definition)
+        (both no_definition (both no_definition (both (both no_definition
+        (both no_definition no_definition)) (both no_definition no_definition))))) };
 
     ghost span = { 40 };
 
@@ -629,7 +732,14 @@ impl SelfCheck for ArchivedOwners {
 impl Record for ArchivedOwners {
     type Parts = OwnersParts;
 
-    ghost has_parts = { plain_record (part ⟦<ArchivedResult<u8, ArchivedString> as Portable>⟧.shape (part ⟦<ArchivedBox<ArchivedSlice<ArchivedU16>> as Portable>⟧.shape (part ⟦<ArchivedBox<ArchivedStr> as Portable>⟧.shape (part ⟦<ArchivedTuple2<u8, ArchivedString> as Portable>⟧.shape (part ⟦<PhantomData<u64> as Portable>⟧.shape no_part))))) (both (both no_definition no_definition) (both no_definition (both no_definition (both (both no_definition (both no_definition no_definition)) (both no_definition no_definition))))) refl };
+    ghost has_parts = { plain_record (part ⟦<ArchivedResult<u8, ArchivedString> as Portable>⟧.shape
+        (part ⟦<ArchivedBox<ArchivedSlice<ArchivedU16>> as Portable>⟧.shape
+        (part ⟦<ArchivedBox<ArchivedStr> as Portable>⟧.shape
+        (part ⟦<ArchivedTuple2<u8, ArchivedString> as Portable>⟧.shape
+        (part ⟦<PhantomData<u64> as Portable>⟧.shape no_part)))))
+        (both (both no_definition no_definition) (both no_definition
+        (both no_definition (both (both no_definition (both no_definition no_definition))
+        (both no_definition no_definition))))) refl };
 
     ghost holds = { lit≤ tt };
 }
@@ -657,17 +767,82 @@ impl Archive for Owners {
 
     type Resolver = OwnersResolver;
 
-    ghost meaning = { λ v. product (value (⟦<Result<u8, String> as Archive>⟧.meaning v.outcome) (value (⟦<BoxSlice<u16> as Archive>⟧.meaning v.numbers) (value (⟦<BoxStr as Archive>⟧.meaning v.text) (value (⟦<(u8, String) as Archive>⟧.meaning v.both) (value (⟦<PhantomData<u64> as Archive>⟧.meaning v.of) no_value))))) };
+    ghost meaning = { λ v. product (value (⟦<Result<u8, String> as Archive>⟧.meaning v.outcome)
+        (value (⟦<BoxSlice<u16> as Archive>⟧.meaning v.numbers)
+        (value (⟦<BoxStr as Archive>⟧.meaning v.text) (value
+        (⟦<(u8, String) as Archive>⟧.meaning v.both) (value
+        (⟦<PhantomData<u64> as Archive>⟧.meaning v.of) no_value))))) };
 
-    ghost flat = { λ v r. product (value (⟦<Result<u8, String> as Archive>⟧.flat v.outcome r.kept.0) (value (⟦<BoxSlice<u16> as Archive>⟧.flat v.numbers r.kept.1.0) (value (⟦<BoxStr as Archive>⟧.flat v.text r.kept.1.1.0) (value (⟦<(u8, String) as Archive>⟧.flat v.both r.kept.1.1.1.0) (value (⟦<PhantomData<u64> as Archive>⟧.flat v.of r.kept.1.1.1.1.0) no_value))))) };
+    ghost flat = { λ v r. product (value (⟦<Result<u8, String> as Archive>⟧.flat v.outcome r.kept.0)
+        (value (⟦<BoxSlice<u16> as Archive>⟧.flat v.numbers r.kept.1.0)
+        (value (⟦<BoxStr as Archive>⟧.flat v.text r.kept.1.1.0)
+        (value (⟦<(u8, String) as Archive>⟧.flat v.both r.kept.1.1.1.0)
+        (value (⟦<PhantomData<u64> as Archive>⟧.flat v.of r.kept.1.1.1.1.0) no_value))))) };
 
-    ghost keys = { λ v. ⟦<Result<u8, String> as Archive>⟧.keys v.outcome ++ (⟦<BoxSlice<u16> as Archive>⟧.keys v.numbers ++ (⟦<BoxStr as Archive>⟧.keys v.text ++ (⟦<(u8, String) as Archive>⟧.keys v.both ++ (⟦<PhantomData<u64> as Archive>⟧.keys v.of ++ [])))) };
+    ghost keys = { λ v. ⟦<Result<u8, String> as Archive>⟧.keys v.outcome
+        ++ (⟦<BoxSlice<u16> as Archive>⟧.keys v.numbers
+        ++ (⟦<BoxStr as Archive>⟧.keys v.text ++ (⟦<(u8, String) as Archive>⟧.keys v.both
+        ++ (⟦<PhantomData<u64> as Archive>⟧.keys v.of ++ [])))) };
 
-    ghost belongs = { λ v r. ⟦<Result<u8, String> as Archive>⟧.belongs v.outcome r.kept.0 × (⟦<BoxSlice<u16> as Archive>⟧.belongs v.numbers r.kept.1.0 × (⟦<BoxStr as Archive>⟧.belongs v.text r.kept.1.1.0 × (⟦<(u8, String) as Archive>⟧.belongs v.both r.kept.1.1.1.0 × (⟦<PhantomData<u64> as Archive>⟧.belongs v.of r.kept.1.1.1.1.0 × Unit {0})))) };
+    ghost belongs = { λ v r. ⟦<Result<u8, String> as Archive>⟧.belongs v.outcome r.kept.0
+        × (⟦<BoxSlice<u16> as Archive>⟧.belongs v.numbers r.kept.1.0
+        × (⟦<BoxStr as Archive>⟧.belongs v.text r.kept.1.1.0
+        × (⟦<(u8, String) as Archive>⟧.belongs v.both r.kept.1.1.1.0
+        × (⟦<PhantomData<u64> as Archive>⟧.belongs v.of r.kept.1.1.1.1.0 × Unit {0})))) };
 
-    ghost keyed = { λ v. record_keyed (part_keyed (result_keyed ⟦<u8 as Archive>⟧.keys ⟦<String as Archive>⟧.keys ⟦<u8 as Archive>⟧.meaning ⟦<String as Archive>⟧.meaning (λ x. number_keyed _) (λ x. text_keyed (string_bytes x)) v.outcome) (part_keyed (box_keyed (each_keys ⟦<u16 as Archive>⟧.keys v.numbers.items.items) (list (each_meaning ⟦<u16 as Archive>⟧.meaning v.numbers.items.items)) (each_keyed ⟦<u16 as Archive>⟧.keys ⟦<u16 as Archive>⟧.meaning (λ x. number_keyed _) v.numbers.items.items)) (part_keyed (box_keyed [] (text_value (string_bytes v.text.text)) (text_keyed (string_bytes v.text.text))) (part_keyed (record_keyed (part_keyed (number_keyed _) (part_keyed (text_keyed (string_bytes v.both.1)) nothing_keyed))) (part_keyed empty_product_keyed nothing_keyed))))) };
+    ghost keyed = { λ v. record_keyed (part_keyed (result_keyed ⟦<u8 as Archive>⟧.keys
+        ⟦<String as Archive>⟧.keys ⟦<u8 as Archive>⟧.meaning ⟦<String as Archive>⟧.meaning
+        (λ x. number_keyed _) (λ x. text_keyed (string_bytes x)) v.outcome)
+        (part_keyed (box_keyed (each_keys ⟦<u16 as Archive>⟧.keys v.numbers.items.items)
+        (list (each_meaning ⟦<u16 as Archive>⟧.meaning v.numbers.items.items))
+        (each_keyed ⟦<u16 as Archive>⟧.keys ⟦<u16 as Archive>⟧.meaning (λ x. number_keyed _)
+        v.numbers.items.items)) (part_keyed (box_keyed [] (text_value (string_bytes v.text.text))
+        (text_keyed (string_bytes v.text.text))) (part_keyed
+        (record_keyed (part_keyed (number_keyed _) (part_keyed (text_keyed (string_bytes v.both.1))
+        nothing_keyed))) (part_keyed empty_product_keyed nothing_keyed))))) };
 
-    ghost planned = { λ v. plain_record_planned (both (both no_definition no_definition) (both no_definition (both no_definition (both (both no_definition (both no_definition no_definition)) (both no_definition no_definition))))) (part ⟦<ArchivedResult<u8, ArchivedString> as Portable>⟧.shape (part ⟦<ArchivedBox<ArchivedSlice<ArchivedU16>> as Portable>⟧.shape (part ⟦<ArchivedBox<ArchivedStr> as Portable>⟧.shape (part ⟦<ArchivedTuple2<u8, ArchivedString> as Portable>⟧.shape (part ⟦<PhantomData<u64> as Portable>⟧.shape no_part))))) _ _ (part_planned (both no_definition no_definition) ⟦<ArchivedResult<u8, ArchivedString> as Portable>⟧.shape (⟦<Result<u8, String> as Archive>⟧.keys v.outcome) (⟦<Result<u8, String> as Archive>⟧.meaning v.outcome) (result_planned ⟦<u8 as Archive>⟧.keys ⟦<String as Archive>⟧.keys ⟦<u8 as Archive>⟧.meaning ⟦<String as Archive>⟧.meaning no_definition no_definition ⟦<u8 as Portable>⟧.shape ⟦<ArchivedString as Portable>⟧.shape (λ x. leaf_planned no_definition _ _ [] _ refl) (λ x. string_planned no_definition [] (string_bytes x)) v.outcome) (part_planned no_definition ⟦<ArchivedBox<ArchivedSlice<ArchivedU16>> as Portable>⟧.shape (⟦<BoxSlice<u16> as Archive>⟧.keys v.numbers) (⟦<BoxSlice<u16> as Archive>⟧.meaning v.numbers) (box_planned no_definition (run ⟦<ArchivedU16 as Portable>⟧.shape) _ _ _ (slice_planned no_definition ⟦<ArchivedU16 as Portable>⟧.shape ⟦<u16 as Archive>⟧.keys ⟦<u16 as Archive>⟧.meaning (λ x. leaf_planned no_definition _ _ [] _ refl) v.numbers.items.items)) (part_planned no_definition ⟦<ArchivedBox<ArchivedStr> as Portable>⟧.shape (⟦<BoxStr as Archive>⟧.keys v.text) (⟦<BoxStr as Archive>⟧.meaning v.text) (box_planned no_definition text (length (string_bytes v.text.text)) [] (text_value (string_bytes v.text.text)) (text_planned no_definition [] (string_bytes v.text.text))) (part_planned (both no_definition (both no_definition no_definition)) ⟦<ArchivedTuple2<u8, ArchivedString> as Portable>⟧.shape (⟦<(u8, String) as Archive>⟧.keys v.both) (⟦<(u8, String) as Archive>⟧.meaning v.both) (product_planned (both no_definition (both no_definition no_definition)) (part ⟦<u8 as Portable>⟧.shape (part ⟦<ArchivedString as Portable>⟧.shape no_part)) (⟦<u8 as Archive>⟧.keys v.both.0 ++ (⟦<String as Archive>⟧.keys v.both.1 ++ [])) (value (⟦<u8 as Archive>⟧.meaning v.both.0) (value (⟦<String as Archive>⟧.meaning v.both.1) no_value)) (part_planned no_definition ⟦<u8 as Portable>⟧.shape (⟦<u8 as Archive>⟧.keys v.both.0) (⟦<u8 as Archive>⟧.meaning v.both.0) (leaf_planned no_definition _ _ [] _ refl) (part_planned no_definition ⟦<ArchivedString as Portable>⟧.shape (⟦<String as Archive>⟧.keys v.both.1) (⟦<String as Archive>⟧.meaning v.both.1) (string_planned no_definition [] (string_bytes v.both.1)) no_part_planned))) (part_planned no_definition ⟦<PhantomData<u64> as Portable>⟧.shape (⟦<PhantomData<u64> as Archive>⟧.keys v.of) (⟦<PhantomData<u64> as Archive>⟧.meaning v.of) empty_product_planned no_part_planned))))) refl };
+    ghost planned = { λ v. plain_record_planned (both (both no_definition no_definition)
+        (both no_definition (both no_definition (both (both no_definition
+        (both no_definition no_definition)) (both no_definition no_definition)))))
+        (part ⟦<ArchivedResult<u8, ArchivedString> as Portable>⟧.shape
+        (part ⟦<ArchivedBox<ArchivedSlice<ArchivedU16>> as Portable>⟧.shape
+        (part ⟦<ArchivedBox<ArchivedStr> as Portable>⟧.shape
+        (part ⟦<ArchivedTuple2<u8, ArchivedString> as Portable>⟧.shape
+        (part ⟦<PhantomData<u64> as Portable>⟧.shape no_part))))) _ _
+        (part_planned (both no_definition no_definition)
+        ⟦<ArchivedResult<u8, ArchivedString> as Portable>⟧.shape
+        (⟦<Result<u8, String> as Archive>⟧.keys v.outcome)
+        (⟦<Result<u8, String> as Archive>⟧.meaning v.outcome)
+        (result_planned ⟦<u8 as Archive>⟧.keys ⟦<String as Archive>⟧.keys ⟦<u8 as Archive>⟧.meaning
+        ⟦<String as Archive>⟧.meaning no_definition no_definition ⟦<u8 as Portable>⟧.shape
+        ⟦<ArchivedString as Portable>⟧.shape (λ x. leaf_planned no_definition _ _ [] _ refl)
+        (λ x. string_planned no_definition [] (string_bytes x)) v.outcome)
+        (part_planned no_definition ⟦<ArchivedBox<ArchivedSlice<ArchivedU16>> as Portable>⟧.shape
+        (⟦<BoxSlice<u16> as Archive>⟧.keys v.numbers) (⟦<BoxSlice<u16> as Archive>⟧.meaning
+        v.numbers) (box_planned no_definition (run ⟦<ArchivedU16 as Portable>⟧.shape) _ _ _
+        (slice_planned no_definition ⟦<ArchivedU16 as Portable>⟧.shape ⟦<u16 as Archive>⟧.keys
+        ⟦<u16 as Archive>⟧.meaning (λ x. leaf_planned no_definition _ _ [] _ refl)
+        v.numbers.items.items)) (part_planned no_definition
+        ⟦<ArchivedBox<ArchivedStr> as Portable>⟧.shape (⟦<BoxStr as Archive>⟧.keys v.text)
+        (⟦<BoxStr as Archive>⟧.meaning v.text) (box_planned no_definition text
+        (length (string_bytes v.text.text)) [] (text_value (string_bytes v.text.text))
+        (text_planned no_definition [] (string_bytes v.text.text)))
+        (part_planned (both no_definition (both no_definition no_definition))
+        ⟦<ArchivedTuple2<u8, ArchivedString> as Portable>⟧.shape
+        (⟦<(u8, String) as Archive>⟧.keys v.both) (⟦<(u8, String) as Archive>⟧.meaning v.both)
+        (product_planned (both no_definition (both no_definition no_definition))
+        (part ⟦<u8 as Portable>⟧.shape (part ⟦<ArchivedString as Portable>⟧.shape no_part))
+        (⟦<u8 as Archive>⟧.keys v.both.0 ++ (⟦<String as Archive>⟧.keys v.both.1 ++ []))
+        (value (⟦<u8 as Archive>⟧.meaning v.both.0) (value (⟦<String as Archive>⟧.meaning v.both.1)
+        no_value)) (part_planned no_definition ⟦<u8 as Portable>⟧.shape
+        (⟦<u8 as Archive>⟧.keys v.both.0) (⟦<u8 as Archive>⟧.meaning v.both.0)
+        (leaf_planned no_definition _ _ [] _ refl) (part_planned no_definition
+        ⟦<ArchivedString as Portable>⟧.shape (⟦<String as Archive>⟧.keys v.both.1)
+        (⟦<String as Archive>⟧.meaning v.both.1) (string_planned no_definition []
+        (string_bytes v.both.1)) no_part_planned))) (part_planned no_definition
+        ⟦<PhantomData<u64> as Portable>⟧.shape (⟦<PhantomData<u64> as Archive>⟧.keys v.of)
+        (⟦<PhantomData<u64> as Archive>⟧.meaning v.of) empty_product_planned no_part_planned)))))
+        refl };
 
     fn resolve(
         &self,
@@ -740,7 +915,13 @@ impl ArchiveUnsized for Owners {
 
     ghost one_length = { λ _ _. refl };
 
-    ghost planned = { λ v. one_planned no_definition (parts (part ⟦<ArchivedResult<u8, ArchivedString> as Portable>⟧.shape (part ⟦<ArchivedBox<ArchivedSlice<ArchivedU16>> as Portable>⟧.shape (part ⟦<ArchivedBox<ArchivedStr> as Portable>⟧.shape (part ⟦<ArchivedTuple2<u8, ArchivedString> as Portable>⟧.shape (part ⟦<PhantomData<u64> as Portable>⟧.shape no_part)))))) (⟦<Owners as Archive>⟧.keys v) (⟦<Owners as Archive>⟧.meaning v) (planned_of_owners v) };
+    ghost planned = { λ v. one_planned no_definition (parts
+        (part ⟦<ArchivedResult<u8, ArchivedString> as Portable>⟧.shape
+        (part ⟦<ArchivedBox<ArchivedSlice<ArchivedU16>> as Portable>⟧.shape
+        (part ⟦<ArchivedBox<ArchivedStr> as Portable>⟧.shape
+        (part ⟦<ArchivedTuple2<u8, ArchivedString> as Portable>⟧.shape
+        (part ⟦<PhantomData<u64> as Portable>⟧.shape no_part)))))) (⟦<Owners as Archive>⟧.keys v)
+        (⟦<Owners as Archive>⟧.meaning v) (planned_of_owners v) };
 
     fn archived_metadata(&self) -> Result<(), Error> {
         Ok(())
@@ -760,8 +941,10 @@ impl<D: Entries> Deserialize<Owners, D> for ArchivedOwners {
         deserializer: &mut D,
     ) -> Result<Owners, Error>
         requires { IsPartOf ⟦<Self as ArchivePointee>⟧ part }
-        ensures read { IfOk result (Read ⟦<Self as ArchivePointee>⟧ part D.Entries deserializer ⟦<Owners as Archive>⟧) }
-        ensures refused { IfErr result (RefusesPart ⟦<Self as ArchivePointee>⟧ part D.Entries deserializer) }
+        ensures read { IfOk result (Read ⟦<Self as ArchivePointee>⟧ part D.Entries deserializer
+            ⟦<Owners as Archive>⟧) }
+        ensures refused { IfErr result (RefusesPart ⟦<Self as ArchivePointee>⟧ part D.Entries
+            deserializer) }
     {
         match deserialize_record::<Self, OwnersOwned, D>(alloc, part, deserializer) {
             Ok((a0, (a1, (a2, (a3, (a4, ())))))) => Ok(Owners {
@@ -868,28 +1051,36 @@ pub trait OwnersSeal<'a> {
 }
 
 impl<'a> OwnersSeal<'a> for Seal<'a, ArchivedOwners> {
-    ghost sealed = { λ s. Viewed no_definition s.bytes.now s.pos (one ⟦<ArchivedOwners as Portable>⟧.shape) s.len };
+    ghost sealed = { λ s. Viewed no_definition s.bytes.now s.pos
+        (one ⟦<ArchivedOwners as Portable>⟧.shape) s.len };
 
     fn outcome_mut(self) -> Seal<'a, ArchivedResult<u8, ArchivedString>>
-        requires viewed { Viewed no_definition self.bytes.now self.pos (one ⟦<ArchivedOwners as Portable>⟧.shape) self.len }
+        requires viewed { Viewed no_definition self.bytes.now self.pos
+            (one ⟦<ArchivedOwners as Portable>⟧.shape) self.len }
         ensures same_reference { result.bytes.ghost_name ≡ self.entry.bytes.ghost_name }
         ensures buffer { result.bytes.now ≡ self.entry.bytes.now }
         ensures position { result.pos ≡ self.entry.pos + 0 }
         ensures length { result.len ≡ 0 }
-        ensures viewed { Viewed (both no_definition no_definition) result.bytes.now result.pos ⟦<ArchivedResult<u8, ArchivedString> as ArchivePointee>⟧.pointee result.len }
-        ensures beside { SealsBeside no_definition (one ⟦<ArchivedOwners as Portable>⟧.shape) ⟦<ArchivedResult<u8, ArchivedString> as ArchivePointee>⟧.pointee result self.entry }
+        ensures viewed { Viewed (both no_definition no_definition) result.bytes.now result.pos
+            ⟦<ArchivedResult<u8, ArchivedString> as ArchivePointee>⟧.pointee result.len }
+        ensures beside { SealsBeside no_definition (one ⟦<ArchivedOwners as Portable>⟧.shape)
+            ⟦<ArchivedResult<u8, ArchivedString> as ArchivePointee>⟧.pointee result self.entry }
     {
         sealed_part_in_record::<ArchivedOwners, ArchivedResult<u8, ArchivedString>>(self, 0, 0)
     }
 
     fn numbers_mut(self) -> Seal<'a, ArchivedBox<ArchivedSlice<ArchivedU16>>>
-        requires viewed { Viewed no_definition self.bytes.now self.pos (one ⟦<ArchivedOwners as Portable>⟧.shape) self.len }
+        requires viewed { Viewed no_definition self.bytes.now self.pos
+            (one ⟦<ArchivedOwners as Portable>⟧.shape) self.len }
         ensures same_reference { result.bytes.ghost_name ≡ self.entry.bytes.ghost_name }
         ensures buffer { result.bytes.now ≡ self.entry.bytes.now }
         ensures position { result.pos ≡ self.entry.pos + 12 }
         ensures length { result.len ≡ 0 }
-        ensures viewed { Viewed no_definition result.bytes.now result.pos ⟦<ArchivedBox<ArchivedSlice<ArchivedU16>> as ArchivePointee>⟧.pointee result.len }
-        ensures beside { SealsBeside no_definition (one ⟦<ArchivedOwners as Portable>⟧.shape) ⟦<ArchivedBox<ArchivedSlice<ArchivedU16>> as ArchivePointee>⟧.pointee result self.entry }
+        ensures viewed { Viewed no_definition result.bytes.now result.pos
+            ⟦<ArchivedBox<ArchivedSlice<ArchivedU16>> as ArchivePointee>⟧.pointee result.len }
+        ensures beside { SealsBeside no_definition (one ⟦<ArchivedOwners as Portable>⟧.shape)
+            ⟦<ArchivedBox<ArchivedSlice<ArchivedU16>> as ArchivePointee>⟧.pointee result
+            self.entry }
     {
         sealed_part_in_record::<ArchivedOwners, ArchivedBox<ArchivedSlice<ArchivedU16>>>(
             self, 1, 12,
@@ -897,37 +1088,47 @@ impl<'a> OwnersSeal<'a> for Seal<'a, ArchivedOwners> {
     }
 
     fn text_mut(self) -> Seal<'a, ArchivedBox<ArchivedStr>>
-        requires viewed { Viewed no_definition self.bytes.now self.pos (one ⟦<ArchivedOwners as Portable>⟧.shape) self.len }
+        requires viewed { Viewed no_definition self.bytes.now self.pos
+            (one ⟦<ArchivedOwners as Portable>⟧.shape) self.len }
         ensures same_reference { result.bytes.ghost_name ≡ self.entry.bytes.ghost_name }
         ensures buffer { result.bytes.now ≡ self.entry.bytes.now }
         ensures position { result.pos ≡ self.entry.pos + 20 }
         ensures length { result.len ≡ 0 }
-        ensures viewed { Viewed no_definition result.bytes.now result.pos ⟦<ArchivedBox<ArchivedStr> as ArchivePointee>⟧.pointee result.len }
-        ensures beside { SealsBeside no_definition (one ⟦<ArchivedOwners as Portable>⟧.shape) ⟦<ArchivedBox<ArchivedStr> as ArchivePointee>⟧.pointee result self.entry }
+        ensures viewed { Viewed no_definition result.bytes.now result.pos
+            ⟦<ArchivedBox<ArchivedStr> as ArchivePointee>⟧.pointee result.len }
+        ensures beside { SealsBeside no_definition (one ⟦<ArchivedOwners as Portable>⟧.shape)
+            ⟦<ArchivedBox<ArchivedStr> as ArchivePointee>⟧.pointee result self.entry }
     {
         sealed_part_in_record::<ArchivedOwners, ArchivedBox<ArchivedStr>>(self, 2, 20)
     }
 
     fn both_mut(self) -> Seal<'a, ArchivedTuple2<u8, ArchivedString>>
-        requires viewed { Viewed no_definition self.bytes.now self.pos (one ⟦<ArchivedOwners as Portable>⟧.shape) self.len }
+        requires viewed { Viewed no_definition self.bytes.now self.pos
+            (one ⟦<ArchivedOwners as Portable>⟧.shape) self.len }
         ensures same_reference { result.bytes.ghost_name ≡ self.entry.bytes.ghost_name }
         ensures buffer { result.bytes.now ≡ self.entry.bytes.now }
         ensures position { result.pos ≡ self.entry.pos + 28 }
         ensures length { result.len ≡ 0 }
-        ensures viewed { Viewed (both no_definition (both no_definition no_definition)) result.bytes.now result.pos ⟦<ArchivedTuple2<u8, ArchivedString> as ArchivePointee>⟧.pointee result.len }
-        ensures beside { SealsBeside no_definition (one ⟦<ArchivedOwners as Portable>⟧.shape) ⟦<ArchivedTuple2<u8, ArchivedString> as ArchivePointee>⟧.pointee result self.entry }
+        ensures viewed { Viewed (both no_definition (both no_definition no_definition))
+            result.bytes.now result.pos
+            ⟦<ArchivedTuple2<u8, ArchivedString> as ArchivePointee>⟧.pointee result.len }
+        ensures beside { SealsBeside no_definition (one ⟦<ArchivedOwners as Portable>⟧.shape)
+            ⟦<ArchivedTuple2<u8, ArchivedString> as ArchivePointee>⟧.pointee result self.entry }
     {
         sealed_part_in_record::<ArchivedOwners, ArchivedTuple2<u8, ArchivedString>>(self, 3, 28)
     }
 
     fn of_mut(self) -> Seal<'a, PhantomData<u64>>
-        requires viewed { Viewed no_definition self.bytes.now self.pos (one ⟦<ArchivedOwners as Portable>⟧.shape) self.len }
+        requires viewed { Viewed no_definition self.bytes.now self.pos
+            (one ⟦<ArchivedOwners as Portable>⟧.shape) self.len }
         ensures same_reference { result.bytes.ghost_name ≡ self.entry.bytes.ghost_name }
         ensures buffer { result.bytes.now ≡ self.entry.bytes.now }
         ensures position { result.pos ≡ self.entry.pos + 40 }
         ensures length { result.len ≡ 0 }
-        ensures viewed { Viewed no_definition result.bytes.now result.pos ⟦<PhantomData<u64> as ArchivePointee>⟧.pointee result.len }
-        ensures beside { SealsBeside no_definition (one ⟦<ArchivedOwners as Portable>⟧.shape) ⟦<PhantomData<u64> as ArchivePointee>⟧.pointee result self.entry }
+        ensures viewed { Viewed no_definition result.bytes.now result.pos
+            ⟦<PhantomData<u64> as ArchivePointee>⟧.pointee result.len }
+        ensures beside { SealsBeside no_definition (one ⟦<ArchivedOwners as Portable>⟧.shape)
+            ⟦<PhantomData<u64> as ArchivePointee>⟧.pointee result self.entry }
     {
         sealed_part_in_record::<ArchivedOwners, PhantomData<u64>>(self, 4, 40)
     }
@@ -952,7 +1153,9 @@ type ListsOwned = (
 impl ArchivePointee for ArchivedLists {
     type ArchivedMetadata = ();
 
-    ghost pointee = { one (parts (part ⟦<[ArchivedI16; 4] as Portable>⟧.shape (part ⟦<ArchivedVec<ArchivedOption<ArchivedSpot>> as Portable>⟧.shape (part ⟦<ArchivedPair<ArchivedU64, ArchivedSpot> as Portable>⟧.shape no_part)))) };
+    ghost pointee = { one (parts (part ⟦<[ArchivedI16; 4] as Portable>⟧.shape
+        (part ⟦<ArchivedVec<ArchivedOption<ArchivedSpot>> as Portable>⟧.shape
+        (part ⟦<ArchivedPair<ArchivedU64, ArchivedSpot> as Portable>⟧.shape no_part)))) };
 
     ghost definitions = { no_definition };
 
@@ -964,7 +1167,9 @@ impl ArchivePointee for ArchivedLists {
 }
 
 impl Portable for ArchivedLists {
-    ghost shape = { parts (part ⟦<[ArchivedI16; 4] as Portable>⟧.shape (part ⟦<ArchivedVec<ArchivedOption<ArchivedSpot>> as Portable>⟧.shape (part ⟦<ArchivedPair<ArchivedU64, ArchivedSpot> as Portable>⟧.shape no_part))) };
+    ghost shape = { parts (part ⟦<[ArchivedI16; 4] as Portable>⟧.shape
+        (part ⟦<ArchivedVec<ArchivedOption<ArchivedSpot>> as Portable>⟧.shape
+        (part ⟦<ArchivedPair<ArchivedU64, ArchivedSpot> as Portable>⟧.shape no_part))) };
 
     ghost layout = { record { size = 32; align = 8 } };
 
@@ -976,7 +1181,9 @@ impl Portable for ArchivedLists {
 
     ghost has_layout = { record { solved = λ s k. refl } };
 
-    ghost no_others = { no_definition_reached (parts (part ⟦<[ArchivedI16; 4] as Portable>⟧.shape (part ⟦<ArchivedVec<ArchivedOption<ArchivedSpot>> as Portable>⟧.shape (part ⟦<ArchivedPair<ArchivedU64, ArchivedSpot> as Portable>⟧.shape no_part)))) };
+    ghost no_others = { no_definition_reached (parts (part ⟦<[ArchivedI16; 4] as Portable>⟧.shape
+        (part ⟦<ArchivedVec<ArchivedOption<ArchivedSpot>> as Portable>⟧.shape
+        (part ⟦<ArchivedPair<ArchivedU64, ArchivedSpot> as Portable>⟧.shape no_part)))) };
 
     ghost checks = { λ _. plain_own_check _ _ _ _ _ refl refl refl refl };
 
@@ -998,9 +1205,12 @@ impl Portable for ArchivedLists {
 }
 
 impl SelfCheck for ArchivedLists {
-    ghost shape = { parts (part ⟦<[ArchivedI16; 4] as Portable>⟧.shape (part ⟦<ArchivedVec<ArchivedOption<ArchivedSpot>> as Portable>⟧.shape (part ⟦<ArchivedPair<ArchivedU64, ArchivedSpot> as Portable>⟧.shape no_part))) };
+    ghost shape = { parts (part ⟦<[ArchivedI16; 4] as Portable>⟧.shape
+        (part ⟦<ArchivedVec<ArchivedOption<ArchivedSpot>> as Portable>⟧.shape
+        (part ⟦<ArchivedPair<ArchivedU64, ArchivedSpot> as Portable>⟧.shape no_part))) };
 
-    ghost definitions = { (both no_definition (both no_definition (both (both no_definition (both no_definition no_definition)) no_definition))) };
+    ghost definitions = { (both no_definition (both no_definition
+        (both (both no_definition (both no_definition no_definition)) no_definition))) };
 
     ghost span = { 32 };
 
@@ -1029,7 +1239,11 @@ impl SelfCheck for ArchivedLists {
 impl Record for ArchivedLists {
     type Parts = ListsParts;
 
-    ghost has_parts = { plain_record (part ⟦<[ArchivedI16; 4] as Portable>⟧.shape (part ⟦<ArchivedVec<ArchivedOption<ArchivedSpot>> as Portable>⟧.shape (part ⟦<ArchivedPair<ArchivedU64, ArchivedSpot> as Portable>⟧.shape no_part))) (both no_definition (both no_definition (both (both no_definition (both no_definition no_definition)) no_definition))) refl };
+    ghost has_parts = { plain_record (part ⟦<[ArchivedI16; 4] as Portable>⟧.shape
+        (part ⟦<ArchivedVec<ArchivedOption<ArchivedSpot>> as Portable>⟧.shape
+        (part ⟦<ArchivedPair<ArchivedU64, ArchivedSpot> as Portable>⟧.shape no_part)))
+        (both no_definition (both no_definition (both (both no_definition
+        (both no_definition no_definition)) no_definition))) refl };
 
     ghost holds = { lit≤ tt };
 }
@@ -1053,17 +1267,61 @@ impl Archive for Lists {
 
     type Resolver = ListsResolver;
 
-    ghost meaning = { λ v. product (value (⟦<OwnedArray<i16, 4> as Archive>⟧.meaning v.four) (value (⟦<Vec<Option<Spot>> as Archive>⟧.meaning v.spots) (value (⟦<Pair<u64, Spot> as Archive>⟧.meaning v.pair) no_value))) };
+    ghost meaning = { λ v. product (value (⟦<OwnedArray<i16, 4> as Archive>⟧.meaning v.four)
+        (value (⟦<Vec<Option<Spot>> as Archive>⟧.meaning v.spots)
+        (value (⟦<Pair<u64, Spot> as Archive>⟧.meaning v.pair) no_value))) };
 
-    ghost flat = { λ v r. product (value (⟦<OwnedArray<i16, 4> as Archive>⟧.flat v.four r.kept.0) (value (⟦<Vec<Option<Spot>> as Archive>⟧.flat v.spots r.kept.1.0) (value (⟦<Pair<u64, Spot> as Archive>⟧.flat v.pair r.kept.1.1.0) no_value))) };
+    ghost flat = { λ v r. product (value (⟦<OwnedArray<i16, 4> as Archive>⟧.flat v.four r.kept.0)
+        (value (⟦<Vec<Option<Spot>> as Archive>⟧.flat v.spots r.kept.1.0)
+        (value (⟦<Pair<u64, Spot> as Archive>⟧.flat v.pair r.kept.1.1.0) no_value))) };
 
-    ghost keys = { λ v. ⟦<OwnedArray<i16, 4> as Archive>⟧.keys v.four ++ (⟦<Vec<Option<Spot>> as Archive>⟧.keys v.spots ++ (⟦<Pair<u64, Spot> as Archive>⟧.keys v.pair ++ [])) };
+    ghost keys = { λ v. ⟦<OwnedArray<i16, 4> as Archive>⟧.keys v.four
+        ++ (⟦<Vec<Option<Spot>> as Archive>⟧.keys v.spots
+        ++ (⟦<Pair<u64, Spot> as Archive>⟧.keys v.pair ++ [])) };
 
-    ghost belongs = { λ v r. ⟦<OwnedArray<i16, 4> as Archive>⟧.belongs v.four r.kept.0 × (⟦<Vec<Option<Spot>> as Archive>⟧.belongs v.spots r.kept.1.0 × (⟦<Pair<u64, Spot> as Archive>⟧.belongs v.pair r.kept.1.1.0 × Unit {0})) };
+    ghost belongs = { λ v r. ⟦<OwnedArray<i16, 4> as Archive>⟧.belongs v.four r.kept.0
+        × (⟦<Vec<Option<Spot>> as Archive>⟧.belongs v.spots r.kept.1.0
+        × (⟦<Pair<u64, Spot> as Archive>⟧.belongs v.pair r.kept.1.1.0 × Unit {0})) };
 
-    ghost keyed = { λ v. record_keyed (part_keyed (array_keyed 4 ⟦<i16 as Archive>⟧.keys ⟦<i16 as Archive>⟧.meaning (λ x. number_keyed _) v.four) (part_keyed (each_keyed ⟦<Option<Spot> as Archive>⟧.keys ⟦<Option<Spot> as Archive>⟧.meaning (λ x. option_keyed ⟦<Spot as Archive>⟧.keys ⟦<Spot as Archive>⟧.meaning keyed_of_spot x) v.spots.items) (part_keyed (record_keyed (part_keyed (number_keyed _) (part_keyed (keyed_of_spot v.pair.right) nothing_keyed))) nothing_keyed))) };
+    ghost keyed = { λ v. record_keyed (part_keyed (array_keyed 4 ⟦<i16 as Archive>⟧.keys
+        ⟦<i16 as Archive>⟧.meaning (λ x. number_keyed _) v.four)
+        (part_keyed (each_keyed ⟦<Option<Spot> as Archive>⟧.keys ⟦<Option<Spot> as Archive>⟧.meaning
+        (λ x. option_keyed ⟦<Spot as Archive>⟧.keys ⟦<Spot as Archive>⟧.meaning keyed_of_spot x)
+        v.spots.items) (part_keyed (record_keyed (part_keyed (number_keyed _)
+        (part_keyed (keyed_of_spot v.pair.right) nothing_keyed))) nothing_keyed))) };
 
-    ghost planned = { λ v. plain_record_planned (both no_definition (both no_definition (both (both no_definition (both no_definition no_definition)) no_definition))) (part ⟦<[ArchivedI16; 4] as Portable>⟧.shape (part ⟦<ArchivedVec<ArchivedOption<ArchivedSpot>> as Portable>⟧.shape (part ⟦<ArchivedPair<ArchivedU64, ArchivedSpot> as Portable>⟧.shape no_part))) _ _ (part_planned no_definition ⟦<[ArchivedI16; 4] as Portable>⟧.shape (⟦<OwnedArray<i16, 4> as Archive>⟧.keys v.four) (⟦<OwnedArray<i16, 4> as Archive>⟧.meaning v.four) (array_planned 4 no_definition ⟦<ArchivedI16 as Portable>⟧.shape ⟦<i16 as Archive>⟧.keys ⟦<i16 as Archive>⟧.meaning (λ x. leaf_planned no_definition _ _ [] _ refl) v.four) (part_planned no_definition ⟦<ArchivedVec<ArchivedOption<ArchivedSpot>> as Portable>⟧.shape (⟦<Vec<Option<Spot>> as Archive>⟧.keys v.spots) (⟦<Vec<Option<Spot>> as Archive>⟧.meaning v.spots) (vec_planned no_definition ⟦<ArchivedOption<ArchivedSpot> as Portable>⟧.shape _ _ _ (slice_planned no_definition ⟦<ArchivedOption<ArchivedSpot> as Portable>⟧.shape ⟦<Option<Spot> as Archive>⟧.keys ⟦<Option<Spot> as Archive>⟧.meaning (λ x. option_planned no_definition ⟦<ArchivedSpot as Portable>⟧.shape ⟦<Spot as Archive>⟧.keys ⟦<Spot as Archive>⟧.meaning planned_of_spot x) v.spots.items)) (part_planned (both no_definition (both no_definition no_definition)) ⟦<ArchivedPair<ArchivedU64, ArchivedSpot> as Portable>⟧.shape (⟦<Pair<u64, Spot> as Archive>⟧.keys v.pair) (⟦<Pair<u64, Spot> as Archive>⟧.meaning v.pair) (product_planned (both no_definition (both no_definition no_definition)) (part ⟦<ArchivedU64 as Portable>⟧.shape (part ⟦<ArchivedSpot as Portable>⟧.shape no_part)) (⟦<u64 as Archive>⟧.keys v.pair.left ++ (⟦<Spot as Archive>⟧.keys v.pair.right ++ [])) (value (⟦<u64 as Archive>⟧.meaning v.pair.left) (value (⟦<Spot as Archive>⟧.meaning v.pair.right) no_value)) (part_planned no_definition ⟦<ArchivedU64 as Portable>⟧.shape (⟦<u64 as Archive>⟧.keys v.pair.left) (⟦<u64 as Archive>⟧.meaning v.pair.left) (leaf_planned no_definition _ _ [] _ refl) (part_planned no_definition ⟦<ArchivedSpot as Portable>⟧.shape (⟦<Spot as Archive>⟧.keys v.pair.right) (⟦<Spot as Archive>⟧.meaning v.pair.right) (planned_of_spot v.pair.right) no_part_planned))) no_part_planned))) refl };
+    ghost planned = { λ v. plain_record_planned (both no_definition
+        (both no_definition (both (both no_definition (both no_definition no_definition))
+        no_definition))) (part ⟦<[ArchivedI16; 4] as Portable>⟧.shape
+        (part ⟦<ArchivedVec<ArchivedOption<ArchivedSpot>> as Portable>⟧.shape
+        (part ⟦<ArchivedPair<ArchivedU64, ArchivedSpot> as Portable>⟧.shape no_part))) _ _
+        (part_planned no_definition ⟦<[ArchivedI16; 4] as Portable>⟧.shape
+        (⟦<OwnedArray<i16, 4> as Archive>⟧.keys v.four)
+        (⟦<OwnedArray<i16, 4> as Archive>⟧.meaning v.four)
+        (array_planned 4 no_definition ⟦<ArchivedI16 as Portable>⟧.shape ⟦<i16 as Archive>⟧.keys
+        ⟦<i16 as Archive>⟧.meaning (λ x. leaf_planned no_definition _ _ [] _ refl) v.four)
+        (part_planned no_definition ⟦<ArchivedVec<ArchivedOption<ArchivedSpot>> as Portable>⟧.shape
+        (⟦<Vec<Option<Spot>> as Archive>⟧.keys v.spots)
+        (⟦<Vec<Option<Spot>> as Archive>⟧.meaning v.spots)
+        (vec_planned no_definition ⟦<ArchivedOption<ArchivedSpot> as Portable>⟧.shape _ _ _
+        (slice_planned no_definition ⟦<ArchivedOption<ArchivedSpot> as Portable>⟧.shape
+        ⟦<Option<Spot> as Archive>⟧.keys ⟦<Option<Spot> as Archive>⟧.meaning
+        (λ x. option_planned no_definition ⟦<ArchivedSpot as Portable>⟧.shape
+        ⟦<Spot as Archive>⟧.keys ⟦<Spot as Archive>⟧.meaning planned_of_spot x) v.spots.items))
+        (part_planned (both no_definition (both no_definition no_definition))
+        ⟦<ArchivedPair<ArchivedU64, ArchivedSpot> as Portable>⟧.shape
+        (⟦<Pair<u64, Spot> as Archive>⟧.keys v.pair) (⟦<Pair<u64, Spot> as Archive>⟧.meaning v.pair)
+        (product_planned (both no_definition (both no_definition no_definition))
+        (part ⟦<ArchivedU64 as Portable>⟧.shape (part ⟦<ArchivedSpot as Portable>⟧.shape no_part))
+        (⟦<u64 as Archive>⟧.keys v.pair.left ++ (⟦<Spot as Archive>⟧.keys v.pair.right ++ []))
+        (value (⟦<u64 as Archive>⟧.meaning v.pair.left)
+        (value (⟦<Spot as Archive>⟧.meaning v.pair.right) no_value))
+        (part_planned no_definition ⟦<ArchivedU64 as Portable>⟧.shape
+        (⟦<u64 as Archive>⟧.keys v.pair.left) (⟦<u64 as Archive>⟧.meaning v.pair.left)
+        (leaf_planned no_definition _ _ [] _ refl) (part_planned no_definition
+        ⟦<ArchivedSpot as Portable>⟧.shape (⟦<Spot as Archive>⟧.keys v.pair.right)
+        (⟦<Spot as Archive>⟧.meaning v.pair.right) (planned_of_spot v.pair.right) no_part_planned)))
+        no_part_planned))) refl };
 
     fn resolve(
         &self,
@@ -1119,7 +1377,11 @@ impl ArchiveUnsized for Lists {
 
     ghost one_length = { λ _ _. refl };
 
-    ghost planned = { λ v. one_planned no_definition (parts (part ⟦<[ArchivedI16; 4] as Portable>⟧.shape (part ⟦<ArchivedVec<ArchivedOption<ArchivedSpot>> as Portable>⟧.shape (part ⟦<ArchivedPair<ArchivedU64, ArchivedSpot> as Portable>⟧.shape no_part)))) (⟦<Lists as Archive>⟧.keys v) (⟦<Lists as Archive>⟧.meaning v) (planned_of_lists v) };
+    ghost planned = { λ v. one_planned no_definition (parts
+        (part ⟦<[ArchivedI16; 4] as Portable>⟧.shape (part
+        ⟦<ArchivedVec<ArchivedOption<ArchivedSpot>> as Portable>⟧.shape
+        (part ⟦<ArchivedPair<ArchivedU64, ArchivedSpot> as Portable>⟧.shape no_part))))
+        (⟦<Lists as Archive>⟧.keys v) (⟦<Lists as Archive>⟧.meaning v) (planned_of_lists v) };
 
     fn archived_metadata(&self) -> Result<(), Error> {
         Ok(())
@@ -1139,8 +1401,10 @@ impl<D: Entries> Deserialize<Lists, D> for ArchivedLists {
         deserializer: &mut D,
     ) -> Result<Lists, Error>
         requires { IsPartOf ⟦<Self as ArchivePointee>⟧ part }
-        ensures read { IfOk result (Read ⟦<Self as ArchivePointee>⟧ part D.Entries deserializer ⟦<Lists as Archive>⟧) }
-        ensures refused { IfErr result (RefusesPart ⟦<Self as ArchivePointee>⟧ part D.Entries deserializer) }
+        ensures read { IfOk result (Read ⟦<Self as ArchivePointee>⟧ part D.Entries deserializer
+            ⟦<Lists as Archive>⟧) }
+        ensures refused { IfErr result (RefusesPart ⟦<Self as ArchivePointee>⟧ part D.Entries
+            deserializer) }
     {
         match deserialize_record::<Self, ListsOwned, D>(alloc, part, deserializer) {
             Ok((a0, (a1, (a2, ())))) => Ok(Lists {
@@ -1213,28 +1477,36 @@ pub trait ListsSeal<'a> {
 }
 
 impl<'a> ListsSeal<'a> for Seal<'a, ArchivedLists> {
-    ghost sealed = { λ s. Viewed no_definition s.bytes.now s.pos (one ⟦<ArchivedLists as Portable>⟧.shape) s.len };
+    ghost sealed = { λ s. Viewed no_definition s.bytes.now s.pos
+        (one ⟦<ArchivedLists as Portable>⟧.shape) s.len };
 
     fn four_mut(self) -> Seal<'a, [ArchivedI16; 4]>
-        requires viewed { Viewed no_definition self.bytes.now self.pos (one ⟦<ArchivedLists as Portable>⟧.shape) self.len }
+        requires viewed { Viewed no_definition self.bytes.now self.pos
+            (one ⟦<ArchivedLists as Portable>⟧.shape) self.len }
         ensures same_reference { result.bytes.ghost_name ≡ self.entry.bytes.ghost_name }
         ensures buffer { result.bytes.now ≡ self.entry.bytes.now }
         ensures position { result.pos ≡ self.entry.pos + 0 }
         ensures length { result.len ≡ 0 }
-        ensures viewed { Viewed no_definition result.bytes.now result.pos ⟦<[ArchivedI16; 4] as ArchivePointee>⟧.pointee result.len }
-        ensures beside { SealsBeside no_definition (one ⟦<ArchivedLists as Portable>⟧.shape) ⟦<[ArchivedI16; 4] as ArchivePointee>⟧.pointee result self.entry }
+        ensures viewed { Viewed no_definition result.bytes.now result.pos
+            ⟦<[ArchivedI16; 4] as ArchivePointee>⟧.pointee result.len }
+        ensures beside { SealsBeside no_definition (one ⟦<ArchivedLists as Portable>⟧.shape)
+            ⟦<[ArchivedI16; 4] as ArchivePointee>⟧.pointee result self.entry }
     {
         sealed_part_in_record::<ArchivedLists, [ArchivedI16; 4]>(self, 0, 0)
     }
 
     fn spots_mut(self) -> Seal<'a, ArchivedVec<ArchivedOption<ArchivedSpot>>>
-        requires viewed { Viewed no_definition self.bytes.now self.pos (one ⟦<ArchivedLists as Portable>⟧.shape) self.len }
+        requires viewed { Viewed no_definition self.bytes.now self.pos
+            (one ⟦<ArchivedLists as Portable>⟧.shape) self.len }
         ensures same_reference { result.bytes.ghost_name ≡ self.entry.bytes.ghost_name }
         ensures buffer { result.bytes.now ≡ self.entry.bytes.now }
         ensures position { result.pos ≡ self.entry.pos + 8 }
         ensures length { result.len ≡ 0 }
-        ensures viewed { Viewed no_definition result.bytes.now result.pos ⟦<ArchivedVec<ArchivedOption<ArchivedSpot>> as ArchivePointee>⟧.pointee result.len }
-        ensures beside { SealsBeside no_definition (one ⟦<ArchivedLists as Portable>⟧.shape) ⟦<ArchivedVec<ArchivedOption<ArchivedSpot>> as ArchivePointee>⟧.pointee result self.entry }
+        ensures viewed { Viewed no_definition result.bytes.now result.pos
+            ⟦<ArchivedVec<ArchivedOption<ArchivedSpot>> as ArchivePointee>⟧.pointee result.len }
+        ensures beside { SealsBeside no_definition (one ⟦<ArchivedLists as Portable>⟧.shape)
+            ⟦<ArchivedVec<ArchivedOption<ArchivedSpot>> as ArchivePointee>⟧.pointee result
+            self.entry }
     {
         sealed_part_in_record::<ArchivedLists, ArchivedVec<ArchivedOption<ArchivedSpot>>>(
             self, 1, 8,
@@ -1242,13 +1514,18 @@ impl<'a> ListsSeal<'a> for Seal<'a, ArchivedLists> {
     }
 
     fn pair_mut(self) -> Seal<'a, ArchivedPair<ArchivedU64, ArchivedSpot>>
-        requires viewed { Viewed no_definition self.bytes.now self.pos (one ⟦<ArchivedLists as Portable>⟧.shape) self.len }
+        requires viewed { Viewed no_definition self.bytes.now self.pos
+            (one ⟦<ArchivedLists as Portable>⟧.shape) self.len }
         ensures same_reference { result.bytes.ghost_name ≡ self.entry.bytes.ghost_name }
         ensures buffer { result.bytes.now ≡ self.entry.bytes.now }
         ensures position { result.pos ≡ self.entry.pos + 16 }
         ensures length { result.len ≡ 0 }
-        ensures viewed { Viewed (both no_definition (both no_definition no_definition)) result.bytes.now result.pos ⟦<ArchivedPair<ArchivedU64, ArchivedSpot> as ArchivePointee>⟧.pointee result.len }
-        ensures beside { SealsBeside no_definition (one ⟦<ArchivedLists as Portable>⟧.shape) ⟦<ArchivedPair<ArchivedU64, ArchivedSpot> as ArchivePointee>⟧.pointee result self.entry }
+        ensures viewed { Viewed (both no_definition (both no_definition no_definition))
+            result.bytes.now result.pos
+            ⟦<ArchivedPair<ArchivedU64, ArchivedSpot> as ArchivePointee>⟧.pointee result.len }
+        ensures beside { SealsBeside no_definition (one ⟦<ArchivedLists as Portable>⟧.shape)
+            ⟦<ArchivedPair<ArchivedU64, ArchivedSpot> as ArchivePointee>⟧.pointee result
+            self.entry }
     {
         sealed_part_in_record::<ArchivedLists, ArchivedPair<ArchivedU64, ArchivedSpot>>(self, 2, 16)
     }
@@ -1400,7 +1677,8 @@ impl ArchiveUnsized for Empty {
 
     ghost one_length = { λ _ _. refl };
 
-    ghost planned = { λ v. one_planned no_definition (parts no_part) (⟦<Empty as Archive>⟧.keys v) (⟦<Empty as Archive>⟧.meaning v) (planned_of_empty v) };
+    ghost planned = { λ v. one_planned no_definition (parts no_part) (⟦<Empty as Archive>⟧.keys v)
+        (⟦<Empty as Archive>⟧.meaning v) (planned_of_empty v) };
 
     fn archived_metadata(&self) -> Result<(), Error> {
         Ok(())
@@ -1420,8 +1698,10 @@ impl<D: Entries> Deserialize<Empty, D> for ArchivedEmpty {
         deserializer: &mut D,
     ) -> Result<Empty, Error>
         requires { IsPartOf ⟦<Self as ArchivePointee>⟧ part }
-        ensures read { IfOk result (Read ⟦<Self as ArchivePointee>⟧ part D.Entries deserializer ⟦<Empty as Archive>⟧) }
-        ensures refused { IfErr result (RefusesPart ⟦<Self as ArchivePointee>⟧ part D.Entries deserializer) }
+        ensures read { IfOk result (Read ⟦<Self as ArchivePointee>⟧ part D.Entries deserializer
+            ⟦<Empty as Archive>⟧) }
+        ensures refused { IfErr result (RefusesPart ⟦<Self as ArchivePointee>⟧ part D.Entries
+            deserializer) }
     {
         match deserialize_record::<Self, EmptyOwned, D>(alloc, part, deserializer) {
             Ok(()) => Ok(Empty),
@@ -1440,7 +1720,8 @@ type UnnamedOwned = (u8, (String, ()));
 impl ArchivePointee for ArchivedUnnamed {
     type ArchivedMetadata = ();
 
-    ghost pointee = { one (parts (part ⟦<u8 as Portable>⟧.shape (part ⟦<ArchivedString as Portable>⟧.shape no_part))) };
+    ghost pointee = { one (parts (part ⟦<u8 as Portable>⟧.shape
+        (part ⟦<ArchivedString as Portable>⟧.shape no_part))) };
 
     ghost definitions = { no_definition };
 
@@ -1452,7 +1733,8 @@ impl ArchivePointee for ArchivedUnnamed {
 }
 
 impl Portable for ArchivedUnnamed {
-    ghost shape = { parts (part ⟦<u8 as Portable>⟧.shape (part ⟦<ArchivedString as Portable>⟧.shape no_part)) };
+    ghost shape = { parts (part ⟦<u8 as Portable>⟧.shape
+        (part ⟦<ArchivedString as Portable>⟧.shape no_part)) };
 
     ghost layout = { record { size = 12; align = 4 } };
 
@@ -1464,7 +1746,8 @@ impl Portable for ArchivedUnnamed {
 
     ghost has_layout = { record { solved = λ s k. refl } };
 
-    ghost no_others = { no_definition_reached (parts (part ⟦<u8 as Portable>⟧.shape (part ⟦<ArchivedString as Portable>⟧.shape no_part))) };
+    ghost no_others = { no_definition_reached (parts (part ⟦<u8 as Portable>⟧.shape
+        (part ⟦<ArchivedString as Portable>⟧.shape no_part))) };
 
     ghost checks = { λ _. plain_own_check _ _ _ _ _ refl refl refl refl };
 
@@ -1486,7 +1769,8 @@ impl Portable for ArchivedUnnamed {
 }
 
 impl SelfCheck for ArchivedUnnamed {
-    ghost shape = { parts (part ⟦<u8 as Portable>⟧.shape (part ⟦<ArchivedString as Portable>⟧.shape no_part)) };
+    ghost shape = { parts (part ⟦<u8 as Portable>⟧.shape
+        (part ⟦<ArchivedString as Portable>⟧.shape no_part)) };
 
     ghost definitions = { (both no_definition (both no_definition no_definition)) };
 
@@ -1517,7 +1801,9 @@ impl SelfCheck for ArchivedUnnamed {
 impl Record for ArchivedUnnamed {
     type Parts = UnnamedParts;
 
-    ghost has_parts = { plain_record (part ⟦<u8 as Portable>⟧.shape (part ⟦<ArchivedString as Portable>⟧.shape no_part)) (both no_definition (both no_definition no_definition)) refl };
+    ghost has_parts = { plain_record (part ⟦<u8 as Portable>⟧.shape
+        (part ⟦<ArchivedString as Portable>⟧.shape no_part))
+        (both no_definition (both no_definition no_definition)) refl };
 
     ghost holds = { lit≤ tt };
 }
@@ -1536,17 +1822,28 @@ impl Archive for Unnamed {
 
     type Resolver = UnnamedResolver;
 
-    ghost meaning = { λ v. product (value (⟦<u8 as Archive>⟧.meaning v.0) (value (⟦<String as Archive>⟧.meaning v.1) no_value)) };
+    ghost meaning = { λ v. product (value (⟦<u8 as Archive>⟧.meaning v.0)
+        (value (⟦<String as Archive>⟧.meaning v.1) no_value)) };
 
-    ghost flat = { λ v r. product (value (⟦<u8 as Archive>⟧.flat v.0 r.kept.0) (value (⟦<String as Archive>⟧.flat v.1 r.kept.1.0) no_value)) };
+    ghost flat = { λ v r. product (value (⟦<u8 as Archive>⟧.flat v.0 r.kept.0)
+        (value (⟦<String as Archive>⟧.flat v.1 r.kept.1.0) no_value)) };
 
     ghost keys = { λ v. ⟦<u8 as Archive>⟧.keys v.0 ++ (⟦<String as Archive>⟧.keys v.1 ++ []) };
 
-    ghost belongs = { λ v r. ⟦<u8 as Archive>⟧.belongs v.0 r.kept.0 × (⟦<String as Archive>⟧.belongs v.1 r.kept.1.0 × Unit {0}) };
+    ghost belongs = { λ v r. ⟦<u8 as Archive>⟧.belongs v.0 r.kept.0
+        × (⟦<String as Archive>⟧.belongs v.1 r.kept.1.0 × Unit {0}) };
 
-    ghost keyed = { λ v. record_keyed (part_keyed (number_keyed _) (part_keyed (text_keyed (string_bytes v.1)) nothing_keyed)) };
+    ghost keyed = { λ v. record_keyed (part_keyed (number_keyed _)
+        (part_keyed (text_keyed (string_bytes v.1)) nothing_keyed)) };
 
-    ghost planned = { λ v. plain_record_planned (both no_definition (both no_definition no_definition)) (part ⟦<u8 as Portable>⟧.shape (part ⟦<ArchivedString as Portable>⟧.shape no_part)) _ _ (part_planned no_definition ⟦<u8 as Portable>⟧.shape (⟦<u8 as Archive>⟧.keys v.0) (⟦<u8 as Archive>⟧.meaning v.0) (leaf_planned no_definition _ _ [] _ refl) (part_planned no_definition ⟦<ArchivedString as Portable>⟧.shape (⟦<String as Archive>⟧.keys v.1) (⟦<String as Archive>⟧.meaning v.1) (string_planned no_definition [] (string_bytes v.1)) no_part_planned)) refl };
+    ghost planned = { λ v. plain_record_planned (both no_definition
+        (both no_definition no_definition)) (part ⟦<u8 as Portable>⟧.shape
+        (part ⟦<ArchivedString as Portable>⟧.shape no_part)) _ _
+        (part_planned no_definition ⟦<u8 as Portable>⟧.shape (⟦<u8 as Archive>⟧.keys v.0)
+        (⟦<u8 as Archive>⟧.meaning v.0) (leaf_planned no_definition _ _ [] _ refl)
+        (part_planned no_definition ⟦<ArchivedString as Portable>⟧.shape
+        (⟦<String as Archive>⟧.keys v.1) (⟦<String as Archive>⟧.meaning v.1)
+        (string_planned no_definition [] (string_bytes v.1)) no_part_planned)) refl };
 
     fn resolve(
         &self,
@@ -1594,7 +1891,9 @@ impl ArchiveUnsized for Unnamed {
 
     ghost one_length = { λ _ _. refl };
 
-    ghost planned = { λ v. one_planned no_definition (parts (part ⟦<u8 as Portable>⟧.shape (part ⟦<ArchivedString as Portable>⟧.shape no_part))) (⟦<Unnamed as Archive>⟧.keys v) (⟦<Unnamed as Archive>⟧.meaning v) (planned_of_unnamed v) };
+    ghost planned = { λ v. one_planned no_definition (parts
+        (part ⟦<u8 as Portable>⟧.shape (part ⟦<ArchivedString as Portable>⟧.shape no_part)))
+        (⟦<Unnamed as Archive>⟧.keys v) (⟦<Unnamed as Archive>⟧.meaning v) (planned_of_unnamed v) };
 
     fn archived_metadata(&self) -> Result<(), Error> {
         Ok(())
@@ -1614,8 +1913,10 @@ impl<D: Entries> Deserialize<Unnamed, D> for ArchivedUnnamed {
         deserializer: &mut D,
     ) -> Result<Unnamed, Error>
         requires { IsPartOf ⟦<Self as ArchivePointee>⟧ part }
-        ensures read { IfOk result (Read ⟦<Self as ArchivePointee>⟧ part D.Entries deserializer ⟦<Unnamed as Archive>⟧) }
-        ensures refused { IfErr result (RefusesPart ⟦<Self as ArchivePointee>⟧ part D.Entries deserializer) }
+        ensures read { IfOk result (Read ⟦<Self as ArchivePointee>⟧ part D.Entries deserializer
+            ⟦<Unnamed as Archive>⟧) }
+        ensures refused { IfErr result (RefusesPart ⟦<Self as ArchivePointee>⟧ part D.Entries
+            deserializer) }
     {
         match deserialize_record::<Self, UnnamedOwned, D>(alloc, part, deserializer) {
             Ok((a0, (a1, ()))) => Ok(Unnamed(a0, a1)),
@@ -1668,28 +1969,35 @@ pub trait UnnamedSeal<'a> {
 }
 
 impl<'a> UnnamedSeal<'a> for Seal<'a, ArchivedUnnamed> {
-    ghost sealed = { λ s. Viewed no_definition s.bytes.now s.pos (one ⟦<ArchivedUnnamed as Portable>⟧.shape) s.len };
+    ghost sealed = { λ s. Viewed no_definition s.bytes.now s.pos
+        (one ⟦<ArchivedUnnamed as Portable>⟧.shape) s.len };
 
     fn field_0_mut(self) -> Seal<'a, u8>
-        requires viewed { Viewed no_definition self.bytes.now self.pos (one ⟦<ArchivedUnnamed as Portable>⟧.shape) self.len }
+        requires viewed { Viewed no_definition self.bytes.now self.pos
+            (one ⟦<ArchivedUnnamed as Portable>⟧.shape) self.len }
         ensures same_reference { result.bytes.ghost_name ≡ self.entry.bytes.ghost_name }
         ensures buffer { result.bytes.now ≡ self.entry.bytes.now }
         ensures position { result.pos ≡ self.entry.pos + 0 }
         ensures length { result.len ≡ 0 }
-        ensures viewed { Viewed no_definition result.bytes.now result.pos ⟦<u8 as ArchivePointee>⟧.pointee result.len }
-        ensures beside { SealsBeside no_definition (one ⟦<ArchivedUnnamed as Portable>⟧.shape) ⟦<u8 as ArchivePointee>⟧.pointee result self.entry }
+        ensures viewed { Viewed no_definition result.bytes.now result.pos
+            ⟦<u8 as ArchivePointee>⟧.pointee result.len }
+        ensures beside { SealsBeside no_definition (one ⟦<ArchivedUnnamed as Portable>⟧.shape)
+            ⟦<u8 as ArchivePointee>⟧.pointee result self.entry }
     {
         sealed_part_in_record::<ArchivedUnnamed, u8>(self, 0, 0)
     }
 
     fn field_1_mut(self) -> Seal<'a, ArchivedString>
-        requires viewed { Viewed no_definition self.bytes.now self.pos (one ⟦<ArchivedUnnamed as Portable>⟧.shape) self.len }
+        requires viewed { Viewed no_definition self.bytes.now self.pos
+            (one ⟦<ArchivedUnnamed as Portable>⟧.shape) self.len }
         ensures same_reference { result.bytes.ghost_name ≡ self.entry.bytes.ghost_name }
         ensures buffer { result.bytes.now ≡ self.entry.bytes.now }
         ensures position { result.pos ≡ self.entry.pos + 4 }
         ensures length { result.len ≡ 0 }
-        ensures viewed { Viewed no_definition result.bytes.now result.pos ⟦<ArchivedString as ArchivePointee>⟧.pointee result.len }
-        ensures beside { SealsBeside no_definition (one ⟦<ArchivedUnnamed as Portable>⟧.shape) ⟦<ArchivedString as ArchivePointee>⟧.pointee result self.entry }
+        ensures viewed { Viewed no_definition result.bytes.now result.pos
+            ⟦<ArchivedString as ArchivePointee>⟧.pointee result.len }
+        ensures beside { SealsBeside no_definition (one ⟦<ArchivedUnnamed as Portable>⟧.shape)
+            ⟦<ArchivedString as ArchivePointee>⟧.pointee result self.entry }
     {
         sealed_part_in_record::<ArchivedUnnamed, ArchivedString>(self, 1, 4)
     }

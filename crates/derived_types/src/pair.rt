@@ -73,16 +73,24 @@ impl<A: Archive, B: Archive> Archive for Pair<A, B> {
 
     ghost belongs = { λ v r. ⟦<PairFields<A, B> as SourceParts<Self>>⟧.belongs v r };
 
-    ghost keyed = { λ v. record_keyed (part_keyed (A.keyed v.left) (part_keyed (B.keyed v.right) nothing_keyed)) };
+    ghost keyed = { λ v. record_keyed (part_keyed (A.keyed v.left)
+        (part_keyed (B.keyed v.right) nothing_keyed)) };
 
-    ghost planned = { λ v. product_planned (both A.Archived.definitions (both B.Archived.definitions no_definition)) (part A.Archived.shape (part B.Archived.shape no_part)) (A.keys v.left ++ (B.keys v.right ++ [])) (value (A.meaning v.left) (value (B.meaning v.right) no_value)) (part_planned A.Archived.definitions A.Archived.shape (A.keys v.left) (A.meaning v.left) (A.planned v.left) (part_planned B.Archived.definitions B.Archived.shape (B.keys v.right) (B.meaning v.right) (B.planned v.right) no_part_planned)) };
+    ghost planned = { λ v. product_planned (both A.Archived.definitions
+        (both B.Archived.definitions no_definition)) (part A.Archived.shape
+        (part B.Archived.shape no_part)) (A.keys v.left ++ (B.keys v.right ++ []))
+        (value (A.meaning v.left) (value (B.meaning v.right) no_value))
+        (part_planned A.Archived.definitions A.Archived.shape (A.keys v.left) (A.meaning v.left)
+        (A.planned v.left) (part_planned B.Archived.definitions B.Archived.shape (B.keys v.right)
+        (B.meaning v.right) (B.planned v.right) no_part_planned)) };
 
     fn resolve(
         &self,
         resolver: Self::Resolver,
         place: Place<'_, Self::Archived>,
     ) -> Result<(), Error>
-        requires zeroed { ZeroedPlace ⟦<Self::Archived as Portable>⟧.layout.size place.pos place.bytes.now }
+        requires zeroed { ZeroedPlace ⟦<Self::Archived as Portable>⟧.layout.size place.pos
+            place.bytes.now }
         requires same_value { ⟦<Self as Archive>⟧.belongs self.now resolver }
         ensures { ResolvesAs ⟦<Self::Archived as Portable>⟧ place
             (⟦<Self as Archive>⟧.flat self.now resolver) result }
@@ -112,11 +120,19 @@ impl<A: Archive, B: Archive> ArchiveUnsized for Pair<A, B> {
 
     ghost keys = { ⟦<Pair<A, B> as Archive>⟧.keys };
 
-    ghost keyed = { λ v. record_keyed (part_keyed (A.keyed v.left) (part_keyed (B.keyed v.right) nothing_keyed)) };
+    ghost keyed = { λ v. record_keyed (part_keyed (A.keyed v.left)
+        (part_keyed (B.keyed v.right) nothing_keyed)) };
 
     ghost one_length = { λ _ _. refl };
 
-    ghost planned = { λ v. one_planned _ _ _ _ (product_planned (both A.Archived.definitions (both B.Archived.definitions no_definition)) (part A.Archived.shape (part B.Archived.shape no_part)) (A.keys v.left ++ (B.keys v.right ++ [])) (value (A.meaning v.left) (value (B.meaning v.right) no_value)) (part_planned A.Archived.definitions A.Archived.shape (A.keys v.left) (A.meaning v.left) (A.planned v.left) (part_planned B.Archived.definitions B.Archived.shape (B.keys v.right) (B.meaning v.right) (B.planned v.right) no_part_planned))) };
+    ghost planned = { λ v. one_planned _ _ _ _ (product_planned
+        (both A.Archived.definitions (both B.Archived.definitions no_definition))
+        (part A.Archived.shape (part B.Archived.shape no_part))
+        (A.keys v.left ++ (B.keys v.right ++ [])) (value (A.meaning v.left)
+        (value (B.meaning v.right) no_value)) (part_planned A.Archived.definitions A.Archived.shape
+        (A.keys v.left) (A.meaning v.left) (A.planned v.left)
+        (part_planned B.Archived.definitions B.Archived.shape (B.keys v.right) (B.meaning v.right)
+        (B.planned v.right) no_part_planned))) };
 
     fn archived_metadata(&self) -> Result<(), Error> {
         Ok(())
@@ -163,7 +179,8 @@ impl<'a, A: Portable, B: Portable> PairView for Ref<'a, ArchivedPair<A, B>> {
 
     fn left(self) -> Ref<'a, A>
         ensures buffer { result.bytes.now ≡ self.entry.bytes.now }
-        ensures position { result.pos ≡ self.entry.pos + ⟦<(A, (B, ())) as PortableParts>⟧.begin 0 0 }
+        ensures position { result.pos ≡ self.entry.pos + ⟦<(A, (B, ())) as PortableParts>⟧.begin 0
+            0 }
         ensures length { result.len ≡ 0 }
         ensures shows { ShowsValueOf result self.entry (field_in 0) }
     {
@@ -172,7 +189,8 @@ impl<'a, A: Portable, B: Portable> PairView for Ref<'a, ArchivedPair<A, B>> {
 
     fn right(self) -> Ref<'a, B>
         ensures buffer { result.bytes.now ≡ self.entry.bytes.now }
-        ensures position { result.pos ≡ self.entry.pos + ⟦<(A, (B, ())) as PortableParts>⟧.begin 0 1 }
+        ensures position { result.pos ≡ self.entry.pos + ⟦<(A, (B, ())) as PortableParts>⟧.begin 0
+            1 }
         ensures length { result.len ≡ 0 }
         ensures shows { ShowsValueOf result self.entry (field_in 1) }
     {
@@ -201,32 +219,43 @@ pub trait PairSeal {
 }
 
 impl<'a, A: Portable, B: Portable> PairSeal for Seal<'a, ArchivedPair<A, B>> {
-    ghost sealed = { λ s. Viewed ⟦<ArchivedPair<A, B> as ArchivePointee>⟧.definitions s.bytes.now s.pos ⟦<ArchivedPair<A, B> as ArchivePointee>⟧.pointee s.len };
+    ghost sealed = { λ s. Viewed ⟦<ArchivedPair<A, B> as ArchivePointee>⟧.definitions s.bytes.now
+        s.pos ⟦<ArchivedPair<A, B> as ArchivePointee>⟧.pointee s.len };
 
     type Left = Seal<'a, A>;
 
     type Right = Seal<'a, B>;
 
     fn left_mut(self) -> Seal<'a, A>
-        requires viewed { Viewed ⟦<ArchivedPair<A, B> as ArchivePointee>⟧.definitions self.bytes.now self.pos ⟦<ArchivedPair<A, B> as ArchivePointee>⟧.pointee self.len }
+        requires viewed { Viewed ⟦<ArchivedPair<A, B> as ArchivePointee>⟧.definitions self.bytes.now
+            self.pos ⟦<ArchivedPair<A, B> as ArchivePointee>⟧.pointee self.len }
         ensures same_reference { result.bytes.ghost_name ≡ self.entry.bytes.ghost_name }
         ensures buffer { result.bytes.now ≡ self.entry.bytes.now }
-        ensures position { result.pos ≡ self.entry.pos + ⟦<(A, (B, ())) as PortableParts>⟧.begin 0 0 }
+        ensures position { result.pos ≡ self.entry.pos + ⟦<(A, (B, ())) as PortableParts>⟧.begin 0
+            0 }
         ensures length { result.len ≡ 0 }
-        ensures viewed { Viewed ⟦<A as ArchivePointee>⟧.definitions result.bytes.now result.pos ⟦<A as ArchivePointee>⟧.pointee result.len }
-        ensures beside { SealsBeside ⟦<ArchivedPair<A, B> as ArchivePointee>⟧.definitions ⟦<ArchivedPair<A, B> as ArchivePointee>⟧.pointee ⟦<A as ArchivePointee>⟧.pointee result self.entry }
+        ensures viewed { Viewed ⟦<A as ArchivePointee>⟧.definitions result.bytes.now result.pos
+            ⟦<A as ArchivePointee>⟧.pointee result.len }
+        ensures beside { SealsBeside ⟦<ArchivedPair<A, B> as ArchivePointee>⟧.definitions
+            ⟦<ArchivedPair<A, B> as ArchivePointee>⟧.pointee ⟦<A as ArchivePointee>⟧.pointee result
+            self.entry }
     {
         self.field(0)
     }
 
     fn right_mut(self) -> Seal<'a, B>
-        requires viewed { Viewed ⟦<ArchivedPair<A, B> as ArchivePointee>⟧.definitions self.bytes.now self.pos ⟦<ArchivedPair<A, B> as ArchivePointee>⟧.pointee self.len }
+        requires viewed { Viewed ⟦<ArchivedPair<A, B> as ArchivePointee>⟧.definitions self.bytes.now
+            self.pos ⟦<ArchivedPair<A, B> as ArchivePointee>⟧.pointee self.len }
         ensures same_reference { result.bytes.ghost_name ≡ self.entry.bytes.ghost_name }
         ensures buffer { result.bytes.now ≡ self.entry.bytes.now }
-        ensures position { result.pos ≡ self.entry.pos + ⟦<(A, (B, ())) as PortableParts>⟧.begin 0 1 }
+        ensures position { result.pos ≡ self.entry.pos + ⟦<(A, (B, ())) as PortableParts>⟧.begin 0
+            1 }
         ensures length { result.len ≡ 0 }
-        ensures viewed { Viewed ⟦<B as ArchivePointee>⟧.definitions result.bytes.now result.pos ⟦<B as ArchivePointee>⟧.pointee result.len }
-        ensures beside { SealsBeside ⟦<ArchivedPair<A, B> as ArchivePointee>⟧.definitions ⟦<ArchivedPair<A, B> as ArchivePointee>⟧.pointee ⟦<B as ArchivePointee>⟧.pointee result self.entry }
+        ensures viewed { Viewed ⟦<B as ArchivePointee>⟧.definitions result.bytes.now result.pos
+            ⟦<B as ArchivePointee>⟧.pointee result.len }
+        ensures beside { SealsBeside ⟦<ArchivedPair<A, B> as ArchivePointee>⟧.definitions
+            ⟦<ArchivedPair<A, B> as ArchivePointee>⟧.pointee ⟦<B as ArchivePointee>⟧.pointee result
+            self.entry }
     {
         self.field(1)
     }

@@ -69,7 +69,9 @@ type PointOwned = (i32, (i32, (String, (Vec<String>, ()))));
 impl ArchivePointee for ArchivedPoint {
     type ArchivedMetadata = ();
 
-    ghost pointee = { one (parts (part ⟦<ArchivedI32 as Portable>⟧.shape (part ⟦<ArchivedI32 as Portable>⟧.shape (part ⟦<ArchivedString as Portable>⟧.shape (part ⟦<ArchivedVec<ArchivedString> as Portable>⟧.shape no_part))))) };
+    ghost pointee = { one (parts (part ⟦<ArchivedI32 as Portable>⟧.shape
+        (part ⟦<ArchivedI32 as Portable>⟧.shape (part ⟦<ArchivedString as Portable>⟧.shape
+        (part ⟦<ArchivedVec<ArchivedString> as Portable>⟧.shape no_part))))) };
 
     ghost definitions = { no_definition };
 
@@ -81,7 +83,9 @@ impl ArchivePointee for ArchivedPoint {
 }
 
 impl Portable for ArchivedPoint {
-    ghost shape = { parts (part ⟦<ArchivedI32 as Portable>⟧.shape (part ⟦<ArchivedI32 as Portable>⟧.shape (part ⟦<ArchivedString as Portable>⟧.shape (part ⟦<ArchivedVec<ArchivedString> as Portable>⟧.shape no_part)))) };
+    ghost shape = { parts (part ⟦<ArchivedI32 as Portable>⟧.shape
+        (part ⟦<ArchivedI32 as Portable>⟧.shape (part ⟦<ArchivedString as Portable>⟧.shape
+        (part ⟦<ArchivedVec<ArchivedString> as Portable>⟧.shape no_part)))) };
 
     ghost layout = { record { size = 24; align = 4 } };
 
@@ -93,7 +97,9 @@ impl Portable for ArchivedPoint {
 
     ghost has_layout = { record { solved = λ s k. refl } };
 
-    ghost no_others = { no_definition_reached (parts (part ⟦<ArchivedI32 as Portable>⟧.shape (part ⟦<ArchivedI32 as Portable>⟧.shape (part ⟦<ArchivedString as Portable>⟧.shape (part ⟦<ArchivedVec<ArchivedString> as Portable>⟧.shape no_part))))) };
+    ghost no_others = { no_definition_reached (parts (part ⟦<ArchivedI32 as Portable>⟧.shape
+        (part ⟦<ArchivedI32 as Portable>⟧.shape (part ⟦<ArchivedString as Portable>⟧.shape
+        (part ⟦<ArchivedVec<ArchivedString> as Portable>⟧.shape no_part))))) };
 
     ghost checks = { λ _. plain_own_check _ _ _ _ _ refl refl refl refl };
 
@@ -115,9 +121,12 @@ impl Portable for ArchivedPoint {
 }
 
 impl SelfCheck for ArchivedPoint {
-    ghost shape = { parts (part ⟦<ArchivedI32 as Portable>⟧.shape (part ⟦<ArchivedI32 as Portable>⟧.shape (part ⟦<ArchivedString as Portable>⟧.shape (part ⟦<ArchivedVec<ArchivedString> as Portable>⟧.shape no_part)))) };
+    ghost shape = { parts (part ⟦<ArchivedI32 as Portable>⟧.shape
+        (part ⟦<ArchivedI32 as Portable>⟧.shape (part ⟦<ArchivedString as Portable>⟧.shape
+        (part ⟦<ArchivedVec<ArchivedString> as Portable>⟧.shape no_part)))) };
 
-    ghost definitions = { (both no_definition (both no_definition (both no_definition (both no_definition no_definition)))) };
+    ghost definitions = { (both no_definition (both no_definition
+        (both no_definition (both no_definition no_definition)))) };
 
     ghost span = { 24 };
 
@@ -146,7 +155,11 @@ impl SelfCheck for ArchivedPoint {
 impl Record for ArchivedPoint {
     type Parts = PointParts;
 
-    ghost has_parts = { plain_record (part ⟦<ArchivedI32 as Portable>⟧.shape (part ⟦<ArchivedI32 as Portable>⟧.shape (part ⟦<ArchivedString as Portable>⟧.shape (part ⟦<ArchivedVec<ArchivedString> as Portable>⟧.shape no_part)))) (both no_definition (both no_definition (both no_definition (both no_definition no_definition)))) refl };
+    ghost has_parts = { plain_record (part ⟦<ArchivedI32 as Portable>⟧.shape
+        (part ⟦<ArchivedI32 as Portable>⟧.shape (part ⟦<ArchivedString as Portable>⟧.shape
+        (part ⟦<ArchivedVec<ArchivedString> as Portable>⟧.shape no_part))))
+        (both no_definition (both no_definition (both no_definition
+        (both no_definition no_definition)))) refl };
 
     ghost holds = { lit≤ tt };
 }
@@ -171,17 +184,45 @@ impl Archive for Point {
 
     type Resolver = PointResolver;
 
-    ghost meaning = { λ v. product (value (⟦<i32 as Archive>⟧.meaning v.x) (value (⟦<i32 as Archive>⟧.meaning v.y) (value (⟦<String as Archive>⟧.meaning v.name) (value (⟦<Vec<String> as Archive>⟧.meaning v.tags) no_value)))) };
+    ghost meaning = { λ v. product (value (⟦<i32 as Archive>⟧.meaning v.x)
+        (value (⟦<i32 as Archive>⟧.meaning v.y) (value (⟦<String as Archive>⟧.meaning v.name)
+        (value (⟦<Vec<String> as Archive>⟧.meaning v.tags) no_value)))) };
 
-    ghost flat = { λ v r. product (value (⟦<i32 as Archive>⟧.flat v.x r.kept.0) (value (⟦<i32 as Archive>⟧.flat v.y r.kept.1.0) (value (⟦<String as Archive>⟧.flat v.name r.kept.1.1.0) (value (⟦<Vec<String> as Archive>⟧.flat v.tags r.kept.1.1.1.0) no_value)))) };
+    ghost flat = { λ v r. product (value (⟦<i32 as Archive>⟧.flat v.x r.kept.0)
+        (value (⟦<i32 as Archive>⟧.flat v.y r.kept.1.0)
+        (value (⟦<String as Archive>⟧.flat v.name r.kept.1.1.0)
+        (value (⟦<Vec<String> as Archive>⟧.flat v.tags r.kept.1.1.1.0) no_value)))) };
 
-    ghost keys = { λ v. ⟦<i32 as Archive>⟧.keys v.x ++ (⟦<i32 as Archive>⟧.keys v.y ++ (⟦<String as Archive>⟧.keys v.name ++ (⟦<Vec<String> as Archive>⟧.keys v.tags ++ []))) };
+    ghost keys = { λ v. ⟦<i32 as Archive>⟧.keys v.x ++ (⟦<i32 as Archive>⟧.keys v.y
+        ++ (⟦<String as Archive>⟧.keys v.name ++ (⟦<Vec<String> as Archive>⟧.keys v.tags ++ []))) };
 
-    ghost belongs = { λ v r. ⟦<i32 as Archive>⟧.belongs v.x r.kept.0 × (⟦<i32 as Archive>⟧.belongs v.y r.kept.1.0 × (⟦<String as Archive>⟧.belongs v.name r.kept.1.1.0 × (⟦<Vec<String> as Archive>⟧.belongs v.tags r.kept.1.1.1.0 × Unit {0}))) };
+    ghost belongs = { λ v r. ⟦<i32 as Archive>⟧.belongs v.x r.kept.0
+        × (⟦<i32 as Archive>⟧.belongs v.y r.kept.1.0 × (⟦<String as Archive>⟧.belongs v.name
+        r.kept.1.1.0 × (⟦<Vec<String> as Archive>⟧.belongs v.tags r.kept.1.1.1.0 × Unit {0}))) };
 
-    ghost keyed = { λ v. record_keyed (part_keyed (number_keyed _) (part_keyed (number_keyed _) (part_keyed (text_keyed (string_bytes v.name)) (part_keyed (each_keyed ⟦<String as Archive>⟧.keys ⟦<String as Archive>⟧.meaning (λ x. text_keyed (string_bytes x)) v.tags.items) nothing_keyed)))) };
+    ghost keyed = { λ v. record_keyed (part_keyed (number_keyed _)
+        (part_keyed (number_keyed _) (part_keyed (text_keyed (string_bytes v.name))
+        (part_keyed (each_keyed ⟦<String as Archive>⟧.keys ⟦<String as Archive>⟧.meaning
+        (λ x. text_keyed (string_bytes x)) v.tags.items) nothing_keyed)))) };
 
-    ghost planned = { λ v. plain_record_planned (both no_definition (both no_definition (both no_definition (both no_definition no_definition)))) (part ⟦<ArchivedI32 as Portable>⟧.shape (part ⟦<ArchivedI32 as Portable>⟧.shape (part ⟦<ArchivedString as Portable>⟧.shape (part ⟦<ArchivedVec<ArchivedString> as Portable>⟧.shape no_part)))) _ _ (part_planned no_definition ⟦<ArchivedI32 as Portable>⟧.shape (⟦<i32 as Archive>⟧.keys v.x) (⟦<i32 as Archive>⟧.meaning v.x) (leaf_planned no_definition _ _ [] _ refl) (part_planned no_definition ⟦<ArchivedI32 as Portable>⟧.shape (⟦<i32 as Archive>⟧.keys v.y) (⟦<i32 as Archive>⟧.meaning v.y) (leaf_planned no_definition _ _ [] _ refl) (part_planned no_definition ⟦<ArchivedString as Portable>⟧.shape (⟦<String as Archive>⟧.keys v.name) (⟦<String as Archive>⟧.meaning v.name) (string_planned no_definition [] (string_bytes v.name)) (part_planned no_definition ⟦<ArchivedVec<ArchivedString> as Portable>⟧.shape (⟦<Vec<String> as Archive>⟧.keys v.tags) (⟦<Vec<String> as Archive>⟧.meaning v.tags) (vec_planned no_definition ⟦<ArchivedString as Portable>⟧.shape _ _ _ (slice_planned no_definition ⟦<ArchivedString as Portable>⟧.shape ⟦<String as Archive>⟧.keys ⟦<String as Archive>⟧.meaning (λ x. string_planned no_definition [] (string_bytes x)) v.tags.items)) no_part_planned)))) refl };
+    ghost planned = { λ v. plain_record_planned (both no_definition
+        (both no_definition (both no_definition (both no_definition no_definition))))
+        (part ⟦<ArchivedI32 as Portable>⟧.shape (part ⟦<ArchivedI32 as Portable>⟧.shape
+        (part ⟦<ArchivedString as Portable>⟧.shape (part
+        ⟦<ArchivedVec<ArchivedString> as Portable>⟧.shape no_part)))) _ _
+        (part_planned no_definition ⟦<ArchivedI32 as Portable>⟧.shape (⟦<i32 as Archive>⟧.keys v.x)
+        (⟦<i32 as Archive>⟧.meaning v.x) (leaf_planned no_definition _ _ [] _ refl)
+        (part_planned no_definition ⟦<ArchivedI32 as Portable>⟧.shape (⟦<i32 as Archive>⟧.keys v.y)
+        (⟦<i32 as Archive>⟧.meaning v.y) (leaf_planned no_definition _ _ [] _ refl)
+        (part_planned no_definition ⟦<ArchivedString as Portable>⟧.shape
+        (⟦<String as Archive>⟧.keys v.name) (⟦<String as Archive>⟧.meaning v.name)
+        (string_planned no_definition [] (string_bytes v.name))
+        (part_planned no_definition ⟦<ArchivedVec<ArchivedString> as Portable>⟧.shape
+        (⟦<Vec<String> as Archive>⟧.keys v.tags) (⟦<Vec<String> as Archive>⟧.meaning v.tags)
+        (vec_planned no_definition ⟦<ArchivedString as Portable>⟧.shape _ _ _
+        (slice_planned no_definition ⟦<ArchivedString as Portable>⟧.shape ⟦<String as Archive>⟧.keys
+        ⟦<String as Archive>⟧.meaning (λ x. string_planned no_definition [] (string_bytes x))
+        v.tags.items)) no_part_planned)))) refl };
 
     fn resolve(
         &self,
@@ -233,7 +274,11 @@ impl ArchiveUnsized for Point {
 
     ghost one_length = { λ _ _. refl };
 
-    ghost planned = { λ v. one_planned no_definition (parts (part ⟦<ArchivedI32 as Portable>⟧.shape (part ⟦<ArchivedI32 as Portable>⟧.shape (part ⟦<ArchivedString as Portable>⟧.shape (part ⟦<ArchivedVec<ArchivedString> as Portable>⟧.shape no_part))))) (⟦<Point as Archive>⟧.keys v) (⟦<Point as Archive>⟧.meaning v) (planned_of_point v) };
+    ghost planned = { λ v. one_planned no_definition (parts
+        (part ⟦<ArchivedI32 as Portable>⟧.shape (part ⟦<ArchivedI32 as Portable>⟧.shape
+        (part ⟦<ArchivedString as Portable>⟧.shape (part
+        ⟦<ArchivedVec<ArchivedString> as Portable>⟧.shape no_part))))) (⟦<Point as Archive>⟧.keys v)
+        (⟦<Point as Archive>⟧.meaning v) (planned_of_point v) };
 
     fn archived_metadata(&self) -> Result<(), Error> {
         Ok(())
@@ -253,8 +298,10 @@ impl<D: Entries> Deserialize<Point, D> for ArchivedPoint {
         deserializer: &mut D,
     ) -> Result<Point, Error>
         requires { IsPartOf ⟦<Self as ArchivePointee>⟧ part }
-        ensures read { IfOk result (Read ⟦<Self as ArchivePointee>⟧ part D.Entries deserializer ⟦<Point as Archive>⟧) }
-        ensures refused { IfErr result (RefusesPart ⟦<Self as ArchivePointee>⟧ part D.Entries deserializer) }
+        ensures read { IfOk result (Read ⟦<Self as ArchivePointee>⟧ part D.Entries deserializer
+            ⟦<Point as Archive>⟧) }
+        ensures refused { IfErr result (RefusesPart ⟦<Self as ArchivePointee>⟧ part D.Entries
+            deserializer) }
     {
         match deserialize_record::<Self, PointOwned, D>(alloc, part, deserializer) {
             Ok((a0, (a1, (a2, (a3, ()))))) => Ok(Point {
@@ -344,52 +391,65 @@ pub trait PointSeal<'a> {
 }
 
 impl<'a> PointSeal<'a> for Seal<'a, ArchivedPoint> {
-    ghost sealed = { λ s. Viewed no_definition s.bytes.now s.pos (one ⟦<ArchivedPoint as Portable>⟧.shape) s.len };
+    ghost sealed = { λ s. Viewed no_definition s.bytes.now s.pos
+        (one ⟦<ArchivedPoint as Portable>⟧.shape) s.len };
 
     fn x_mut(self) -> Seal<'a, ArchivedI32>
-        requires viewed { Viewed no_definition self.bytes.now self.pos (one ⟦<ArchivedPoint as Portable>⟧.shape) self.len }
+        requires viewed { Viewed no_definition self.bytes.now self.pos
+            (one ⟦<ArchivedPoint as Portable>⟧.shape) self.len }
         ensures same_reference { result.bytes.ghost_name ≡ self.entry.bytes.ghost_name }
         ensures buffer { result.bytes.now ≡ self.entry.bytes.now }
         ensures position { result.pos ≡ self.entry.pos + 0 }
         ensures length { result.len ≡ 0 }
-        ensures viewed { Viewed no_definition result.bytes.now result.pos ⟦<ArchivedI32 as ArchivePointee>⟧.pointee result.len }
-        ensures beside { SealsBeside no_definition (one ⟦<ArchivedPoint as Portable>⟧.shape) ⟦<ArchivedI32 as ArchivePointee>⟧.pointee result self.entry }
+        ensures viewed { Viewed no_definition result.bytes.now result.pos
+            ⟦<ArchivedI32 as ArchivePointee>⟧.pointee result.len }
+        ensures beside { SealsBeside no_definition (one ⟦<ArchivedPoint as Portable>⟧.shape)
+            ⟦<ArchivedI32 as ArchivePointee>⟧.pointee result self.entry }
     {
         sealed_part_in_record::<ArchivedPoint, ArchivedI32>(self, 0, 0)
     }
 
     fn y_mut(self) -> Seal<'a, ArchivedI32>
-        requires viewed { Viewed no_definition self.bytes.now self.pos (one ⟦<ArchivedPoint as Portable>⟧.shape) self.len }
+        requires viewed { Viewed no_definition self.bytes.now self.pos
+            (one ⟦<ArchivedPoint as Portable>⟧.shape) self.len }
         ensures same_reference { result.bytes.ghost_name ≡ self.entry.bytes.ghost_name }
         ensures buffer { result.bytes.now ≡ self.entry.bytes.now }
         ensures position { result.pos ≡ self.entry.pos + 4 }
         ensures length { result.len ≡ 0 }
-        ensures viewed { Viewed no_definition result.bytes.now result.pos ⟦<ArchivedI32 as ArchivePointee>⟧.pointee result.len }
-        ensures beside { SealsBeside no_definition (one ⟦<ArchivedPoint as Portable>⟧.shape) ⟦<ArchivedI32 as ArchivePointee>⟧.pointee result self.entry }
+        ensures viewed { Viewed no_definition result.bytes.now result.pos
+            ⟦<ArchivedI32 as ArchivePointee>⟧.pointee result.len }
+        ensures beside { SealsBeside no_definition (one ⟦<ArchivedPoint as Portable>⟧.shape)
+            ⟦<ArchivedI32 as ArchivePointee>⟧.pointee result self.entry }
     {
         sealed_part_in_record::<ArchivedPoint, ArchivedI32>(self, 1, 4)
     }
 
     fn name_mut(self) -> Seal<'a, ArchivedString>
-        requires viewed { Viewed no_definition self.bytes.now self.pos (one ⟦<ArchivedPoint as Portable>⟧.shape) self.len }
+        requires viewed { Viewed no_definition self.bytes.now self.pos
+            (one ⟦<ArchivedPoint as Portable>⟧.shape) self.len }
         ensures same_reference { result.bytes.ghost_name ≡ self.entry.bytes.ghost_name }
         ensures buffer { result.bytes.now ≡ self.entry.bytes.now }
         ensures position { result.pos ≡ self.entry.pos + 8 }
         ensures length { result.len ≡ 0 }
-        ensures viewed { Viewed no_definition result.bytes.now result.pos ⟦<ArchivedString as ArchivePointee>⟧.pointee result.len }
-        ensures beside { SealsBeside no_definition (one ⟦<ArchivedPoint as Portable>⟧.shape) ⟦<ArchivedString as ArchivePointee>⟧.pointee result self.entry }
+        ensures viewed { Viewed no_definition result.bytes.now result.pos
+            ⟦<ArchivedString as ArchivePointee>⟧.pointee result.len }
+        ensures beside { SealsBeside no_definition (one ⟦<ArchivedPoint as Portable>⟧.shape)
+            ⟦<ArchivedString as ArchivePointee>⟧.pointee result self.entry }
     {
         sealed_part_in_record::<ArchivedPoint, ArchivedString>(self, 2, 8)
     }
 
     fn tags_mut(self) -> Seal<'a, ArchivedVec<ArchivedString>>
-        requires viewed { Viewed no_definition self.bytes.now self.pos (one ⟦<ArchivedPoint as Portable>⟧.shape) self.len }
+        requires viewed { Viewed no_definition self.bytes.now self.pos
+            (one ⟦<ArchivedPoint as Portable>⟧.shape) self.len }
         ensures same_reference { result.bytes.ghost_name ≡ self.entry.bytes.ghost_name }
         ensures buffer { result.bytes.now ≡ self.entry.bytes.now }
         ensures position { result.pos ≡ self.entry.pos + 16 }
         ensures length { result.len ≡ 0 }
-        ensures viewed { Viewed no_definition result.bytes.now result.pos ⟦<ArchivedVec<ArchivedString> as ArchivePointee>⟧.pointee result.len }
-        ensures beside { SealsBeside no_definition (one ⟦<ArchivedPoint as Portable>⟧.shape) ⟦<ArchivedVec<ArchivedString> as ArchivePointee>⟧.pointee result self.entry }
+        ensures viewed { Viewed no_definition result.bytes.now result.pos
+            ⟦<ArchivedVec<ArchivedString> as ArchivePointee>⟧.pointee result.len }
+        ensures beside { SealsBeside no_definition (one ⟦<ArchivedPoint as Portable>⟧.shape)
+            ⟦<ArchivedVec<ArchivedString> as ArchivePointee>⟧.pointee result self.entry }
     {
         sealed_part_in_record::<ArchivedPoint, ArchivedVec<ArchivedString>>(self, 3, 16)
     }

@@ -97,7 +97,8 @@ type SpotOwned = (u16, (i16, ()));
 impl ArchivePointee for ArchivedSpot {
     type ArchivedMetadata = ();
 
-    ghost pointee = { one (parts (part ⟦<ArchivedU16 as Portable>⟧.shape (part ⟦<ArchivedI16 as Portable>⟧.shape no_part))) };
+    ghost pointee = { one (parts (part ⟦<ArchivedU16 as Portable>⟧.shape
+        (part ⟦<ArchivedI16 as Portable>⟧.shape no_part))) };
 
     ghost definitions = { no_definition };
 
@@ -109,7 +110,8 @@ impl ArchivePointee for ArchivedSpot {
 }
 
 impl Portable for ArchivedSpot {
-    ghost shape = { parts (part ⟦<ArchivedU16 as Portable>⟧.shape (part ⟦<ArchivedI16 as Portable>⟧.shape no_part)) };
+    ghost shape = { parts (part ⟦<ArchivedU16 as Portable>⟧.shape
+        (part ⟦<ArchivedI16 as Portable>⟧.shape no_part)) };
 
     ghost layout = { record { size = 4; align = 2 } };
 
@@ -121,7 +123,8 @@ impl Portable for ArchivedSpot {
 
     ghost has_layout = { record { solved = λ s k. refl } };
 
-    ghost no_others = { no_definition_reached (parts (part ⟦<ArchivedU16 as Portable>⟧.shape (part ⟦<ArchivedI16 as Portable>⟧.shape no_part))) };
+    ghost no_others = { no_definition_reached (parts (part ⟦<ArchivedU16 as Portable>⟧.shape
+        (part ⟦<ArchivedI16 as Portable>⟧.shape no_part))) };
 
     ghost checks = { λ _. plain_own_check _ _ _ _ _ refl refl refl refl };
 
@@ -143,7 +146,8 @@ impl Portable for ArchivedSpot {
 }
 
 impl SelfCheck for ArchivedSpot {
-    ghost shape = { parts (part ⟦<ArchivedU16 as Portable>⟧.shape (part ⟦<ArchivedI16 as Portable>⟧.shape no_part)) };
+    ghost shape = { parts (part ⟦<ArchivedU16 as Portable>⟧.shape
+        (part ⟦<ArchivedI16 as Portable>⟧.shape no_part)) };
 
     ghost definitions = { (both no_definition (both no_definition no_definition)) };
 
@@ -174,7 +178,9 @@ impl SelfCheck for ArchivedSpot {
 impl Record for ArchivedSpot {
     type Parts = SpotParts;
 
-    ghost has_parts = { plain_record (part ⟦<ArchivedU16 as Portable>⟧.shape (part ⟦<ArchivedI16 as Portable>⟧.shape no_part)) (both no_definition (both no_definition no_definition)) refl };
+    ghost has_parts = { plain_record (part ⟦<ArchivedU16 as Portable>⟧.shape
+        (part ⟦<ArchivedI16 as Portable>⟧.shape no_part))
+        (both no_definition (both no_definition no_definition)) refl };
 
     ghost holds = { lit≤ tt };
 }
@@ -190,17 +196,29 @@ impl Archive for Spot {
 
     type Resolver = SpotResolver;
 
-    ghost meaning = { λ v. product (value (⟦<u16 as Archive>⟧.meaning v.right) (value (⟦<i16 as Archive>⟧.meaning v.up) no_value)) };
+    ghost meaning = { λ v. product (value (⟦<u16 as Archive>⟧.meaning v.right)
+        (value (⟦<i16 as Archive>⟧.meaning v.up) no_value)) };
 
-    ghost flat = { λ v r. product (value (⟦<u16 as Archive>⟧.flat v.right r.kept.0) (value (⟦<i16 as Archive>⟧.flat v.up r.kept.1.0) no_value)) };
+    ghost flat = { λ v r. product (value (⟦<u16 as Archive>⟧.flat v.right r.kept.0)
+        (value (⟦<i16 as Archive>⟧.flat v.up r.kept.1.0) no_value)) };
 
     ghost keys = { λ v. ⟦<u16 as Archive>⟧.keys v.right ++ (⟦<i16 as Archive>⟧.keys v.up ++ []) };
 
-    ghost belongs = { λ v r. ⟦<u16 as Archive>⟧.belongs v.right r.kept.0 × (⟦<i16 as Archive>⟧.belongs v.up r.kept.1.0 × Unit {0}) };
+    ghost belongs = { λ v r. ⟦<u16 as Archive>⟧.belongs v.right r.kept.0
+        × (⟦<i16 as Archive>⟧.belongs v.up r.kept.1.0 × Unit {0}) };
 
-    ghost keyed = { λ v. record_keyed (part_keyed (number_keyed _) (part_keyed (number_keyed _) nothing_keyed)) };
+    ghost keyed = { λ v. record_keyed (part_keyed (number_keyed _)
+        (part_keyed (number_keyed _) nothing_keyed)) };
 
-    ghost planned = { λ v. plain_record_planned (both no_definition (both no_definition no_definition)) (part ⟦<ArchivedU16 as Portable>⟧.shape (part ⟦<ArchivedI16 as Portable>⟧.shape no_part)) _ _ (part_planned no_definition ⟦<ArchivedU16 as Portable>⟧.shape (⟦<u16 as Archive>⟧.keys v.right) (⟦<u16 as Archive>⟧.meaning v.right) (leaf_planned no_definition _ _ [] _ refl) (part_planned no_definition ⟦<ArchivedI16 as Portable>⟧.shape (⟦<i16 as Archive>⟧.keys v.up) (⟦<i16 as Archive>⟧.meaning v.up) (leaf_planned no_definition _ _ [] _ refl) no_part_planned)) refl };
+    ghost planned = { λ v. plain_record_planned (both no_definition
+        (both no_definition no_definition)) (part ⟦<ArchivedU16 as Portable>⟧.shape
+        (part ⟦<ArchivedI16 as Portable>⟧.shape no_part)) _ _
+        (part_planned no_definition ⟦<ArchivedU16 as Portable>⟧.shape
+        (⟦<u16 as Archive>⟧.keys v.right) (⟦<u16 as Archive>⟧.meaning v.right)
+        (leaf_planned no_definition _ _ [] _ refl) (part_planned no_definition
+        ⟦<ArchivedI16 as Portable>⟧.shape (⟦<i16 as Archive>⟧.keys v.up)
+        (⟦<i16 as Archive>⟧.meaning v.up) (leaf_planned no_definition _ _ [] _ refl)
+        no_part_planned)) refl };
 
     fn resolve(
         &self,
@@ -248,7 +266,9 @@ impl ArchiveUnsized for Spot {
 
     ghost one_length = { λ _ _. refl };
 
-    ghost planned = { λ v. one_planned no_definition (parts (part ⟦<ArchivedU16 as Portable>⟧.shape (part ⟦<ArchivedI16 as Portable>⟧.shape no_part))) (⟦<Spot as Archive>⟧.keys v) (⟦<Spot as Archive>⟧.meaning v) (planned_of_spot v) };
+    ghost planned = { λ v. one_planned no_definition (parts
+        (part ⟦<ArchivedU16 as Portable>⟧.shape (part ⟦<ArchivedI16 as Portable>⟧.shape no_part)))
+        (⟦<Spot as Archive>⟧.keys v) (⟦<Spot as Archive>⟧.meaning v) (planned_of_spot v) };
 
     fn archived_metadata(&self) -> Result<(), Error> {
         Ok(())
@@ -268,8 +288,10 @@ impl<D: Entries> Deserialize<Spot, D> for ArchivedSpot {
         deserializer: &mut D,
     ) -> Result<Spot, Error>
         requires { IsPartOf ⟦<Self as ArchivePointee>⟧ part }
-        ensures read { IfOk result (Read ⟦<Self as ArchivePointee>⟧ part D.Entries deserializer ⟦<Spot as Archive>⟧) }
-        ensures refused { IfErr result (RefusesPart ⟦<Self as ArchivePointee>⟧ part D.Entries deserializer) }
+        ensures read { IfOk result (Read ⟦<Self as ArchivePointee>⟧ part D.Entries deserializer
+            ⟦<Spot as Archive>⟧) }
+        ensures refused { IfErr result (RefusesPart ⟦<Self as ArchivePointee>⟧ part D.Entries
+            deserializer) }
     {
         match deserialize_record::<Self, SpotOwned, D>(alloc, part, deserializer) {
             Ok((a0, (a1, ()))) => Ok(Spot { right: a0, up: a1 }),
@@ -322,28 +344,35 @@ pub trait SpotSeal<'a> {
 }
 
 impl<'a> SpotSeal<'a> for Seal<'a, ArchivedSpot> {
-    ghost sealed = { λ s. Viewed no_definition s.bytes.now s.pos (one ⟦<ArchivedSpot as Portable>⟧.shape) s.len };
+    ghost sealed = { λ s. Viewed no_definition s.bytes.now s.pos
+        (one ⟦<ArchivedSpot as Portable>⟧.shape) s.len };
 
     fn right_mut(self) -> Seal<'a, ArchivedU16>
-        requires viewed { Viewed no_definition self.bytes.now self.pos (one ⟦<ArchivedSpot as Portable>⟧.shape) self.len }
+        requires viewed { Viewed no_definition self.bytes.now self.pos
+            (one ⟦<ArchivedSpot as Portable>⟧.shape) self.len }
         ensures same_reference { result.bytes.ghost_name ≡ self.entry.bytes.ghost_name }
         ensures buffer { result.bytes.now ≡ self.entry.bytes.now }
         ensures position { result.pos ≡ self.entry.pos + 0 }
         ensures length { result.len ≡ 0 }
-        ensures viewed { Viewed no_definition result.bytes.now result.pos ⟦<ArchivedU16 as ArchivePointee>⟧.pointee result.len }
-        ensures beside { SealsBeside no_definition (one ⟦<ArchivedSpot as Portable>⟧.shape) ⟦<ArchivedU16 as ArchivePointee>⟧.pointee result self.entry }
+        ensures viewed { Viewed no_definition result.bytes.now result.pos
+            ⟦<ArchivedU16 as ArchivePointee>⟧.pointee result.len }
+        ensures beside { SealsBeside no_definition (one ⟦<ArchivedSpot as Portable>⟧.shape)
+            ⟦<ArchivedU16 as ArchivePointee>⟧.pointee result self.entry }
     {
         sealed_part_in_record::<ArchivedSpot, ArchivedU16>(self, 0, 0)
     }
 
     fn up_mut(self) -> Seal<'a, ArchivedI16>
-        requires viewed { Viewed no_definition self.bytes.now self.pos (one ⟦<ArchivedSpot as Portable>⟧.shape) self.len }
+        requires viewed { Viewed no_definition self.bytes.now self.pos
+            (one ⟦<ArchivedSpot as Portable>⟧.shape) self.len }
         ensures same_reference { result.bytes.ghost_name ≡ self.entry.bytes.ghost_name }
         ensures buffer { result.bytes.now ≡ self.entry.bytes.now }
         ensures position { result.pos ≡ self.entry.pos + 2 }
         ensures length { result.len ≡ 0 }
-        ensures viewed { Viewed no_definition result.bytes.now result.pos ⟦<ArchivedI16 as ArchivePointee>⟧.pointee result.len }
-        ensures beside { SealsBeside no_definition (one ⟦<ArchivedSpot as Portable>⟧.shape) ⟦<ArchivedI16 as ArchivePointee>⟧.pointee result self.entry }
+        ensures viewed { Viewed no_definition result.bytes.now result.pos
+            ⟦<ArchivedI16 as ArchivePointee>⟧.pointee result.len }
+        ensures beside { SealsBeside no_definition (one ⟦<ArchivedSpot as Portable>⟧.shape)
+            ⟦<ArchivedI16 as ArchivePointee>⟧.pointee result self.entry }
     {
         sealed_part_in_record::<ArchivedSpot, ArchivedI16>(self, 1, 2)
     }
@@ -359,7 +388,8 @@ type LineOwned = (Spot, (Spot, ()));
 impl ArchivePointee for ArchivedLine {
     type ArchivedMetadata = ();
 
-    ghost pointee = { one (parts (part ⟦<ArchivedSpot as Portable>⟧.shape (part ⟦<ArchivedSpot as Portable>⟧.shape no_part))) };
+    ghost pointee = { one (parts (part ⟦<ArchivedSpot as Portable>⟧.shape
+        (part ⟦<ArchivedSpot as Portable>⟧.shape no_part))) };
 
     ghost definitions = { no_definition };
 
@@ -371,7 +401,8 @@ impl ArchivePointee for ArchivedLine {
 }
 
 impl Portable for ArchivedLine {
-    ghost shape = { parts (part ⟦<ArchivedSpot as Portable>⟧.shape (part ⟦<ArchivedSpot as Portable>⟧.shape no_part)) };
+    ghost shape = { parts (part ⟦<ArchivedSpot as Portable>⟧.shape
+        (part ⟦<ArchivedSpot as Portable>⟧.shape no_part)) };
 
     ghost layout = { record { size = 8; align = 2 } };
 
@@ -383,7 +414,8 @@ impl Portable for ArchivedLine {
 
     ghost has_layout = { record { solved = λ s k. refl } };
 
-    ghost no_others = { no_definition_reached (parts (part ⟦<ArchivedSpot as Portable>⟧.shape (part ⟦<ArchivedSpot as Portable>⟧.shape no_part))) };
+    ghost no_others = { no_definition_reached (parts (part ⟦<ArchivedSpot as Portable>⟧.shape
+        (part ⟦<ArchivedSpot as Portable>⟧.shape no_part))) };
 
     ghost checks = { λ _. plain_own_check _ _ _ _ _ refl refl refl refl };
 
@@ -405,7 +437,8 @@ impl Portable for ArchivedLine {
 }
 
 impl SelfCheck for ArchivedLine {
-    ghost shape = { parts (part ⟦<ArchivedSpot as Portable>⟧.shape (part ⟦<ArchivedSpot as Portable>⟧.shape no_part)) };
+    ghost shape = { parts (part ⟦<ArchivedSpot as Portable>⟧.shape
+        (part ⟦<ArchivedSpot as Portable>⟧.shape no_part)) };
 
     ghost definitions = { (both no_definition (both no_definition no_definition)) };
 
@@ -436,7 +469,9 @@ impl SelfCheck for ArchivedLine {
 impl Record for ArchivedLine {
     type Parts = LineParts;
 
-    ghost has_parts = { plain_record (part ⟦<ArchivedSpot as Portable>⟧.shape (part ⟦<ArchivedSpot as Portable>⟧.shape no_part)) (both no_definition (both no_definition no_definition)) refl };
+    ghost has_parts = { plain_record (part ⟦<ArchivedSpot as Portable>⟧.shape
+        (part ⟦<ArchivedSpot as Portable>⟧.shape no_part))
+        (both no_definition (both no_definition no_definition)) refl };
 
     ghost holds = { lit≤ tt };
 }
@@ -457,17 +492,28 @@ impl Archive for Line {
 
     type Resolver = LineResolver;
 
-    ghost meaning = { λ v. product (value (⟦<Spot as Archive>⟧.meaning v.from) (value (⟦<Spot as Archive>⟧.meaning v.to) no_value)) };
+    ghost meaning = { λ v. product (value (⟦<Spot as Archive>⟧.meaning v.from)
+        (value (⟦<Spot as Archive>⟧.meaning v.to) no_value)) };
 
-    ghost flat = { λ v r. product (value (⟦<Spot as Archive>⟧.flat v.from r.kept.0) (value (⟦<Spot as Archive>⟧.flat v.to r.kept.1.0) no_value)) };
+    ghost flat = { λ v r. product (value (⟦<Spot as Archive>⟧.flat v.from r.kept.0)
+        (value (⟦<Spot as Archive>⟧.flat v.to r.kept.1.0) no_value)) };
 
     ghost keys = { λ v. ⟦<Spot as Archive>⟧.keys v.from ++ (⟦<Spot as Archive>⟧.keys v.to ++ []) };
 
-    ghost belongs = { λ v r. ⟦<Spot as Archive>⟧.belongs v.from r.kept.0 × (⟦<Spot as Archive>⟧.belongs v.to r.kept.1.0 × Unit {0}) };
+    ghost belongs = { λ v r. ⟦<Spot as Archive>⟧.belongs v.from r.kept.0
+        × (⟦<Spot as Archive>⟧.belongs v.to r.kept.1.0 × Unit {0}) };
 
-    ghost keyed = { λ v. record_keyed (part_keyed (keyed_of_spot v.from) (part_keyed (keyed_of_spot v.to) nothing_keyed)) };
+    ghost keyed = { λ v. record_keyed (part_keyed (keyed_of_spot v.from)
+        (part_keyed (keyed_of_spot v.to) nothing_keyed)) };
 
-    ghost planned = { λ v. plain_record_planned (both no_definition (both no_definition no_definition)) (part ⟦<ArchivedSpot as Portable>⟧.shape (part ⟦<ArchivedSpot as Portable>⟧.shape no_part)) _ _ (part_planned no_definition ⟦<ArchivedSpot as Portable>⟧.shape (⟦<Spot as Archive>⟧.keys v.from) (⟦<Spot as Archive>⟧.meaning v.from) (planned_of_spot v.from) (part_planned no_definition ⟦<ArchivedSpot as Portable>⟧.shape (⟦<Spot as Archive>⟧.keys v.to) (⟦<Spot as Archive>⟧.meaning v.to) (planned_of_spot v.to) no_part_planned)) refl };
+    ghost planned = { λ v. plain_record_planned (both no_definition
+        (both no_definition no_definition)) (part ⟦<ArchivedSpot as Portable>⟧.shape
+        (part ⟦<ArchivedSpot as Portable>⟧.shape no_part)) _ _
+        (part_planned no_definition ⟦<ArchivedSpot as Portable>⟧.shape
+        (⟦<Spot as Archive>⟧.keys v.from) (⟦<Spot as Archive>⟧.meaning v.from)
+        (planned_of_spot v.from) (part_planned no_definition ⟦<ArchivedSpot as Portable>⟧.shape
+        (⟦<Spot as Archive>⟧.keys v.to) (⟦<Spot as Archive>⟧.meaning v.to) (planned_of_spot v.to)
+        no_part_planned)) refl };
 
     fn resolve(
         &self,
@@ -515,7 +561,9 @@ impl ArchiveUnsized for Line {
 
     ghost one_length = { λ _ _. refl };
 
-    ghost planned = { λ v. one_planned no_definition (parts (part ⟦<ArchivedSpot as Portable>⟧.shape (part ⟦<ArchivedSpot as Portable>⟧.shape no_part))) (⟦<Line as Archive>⟧.keys v) (⟦<Line as Archive>⟧.meaning v) (planned_of_line v) };
+    ghost planned = { λ v. one_planned no_definition (parts
+        (part ⟦<ArchivedSpot as Portable>⟧.shape (part ⟦<ArchivedSpot as Portable>⟧.shape no_part)))
+        (⟦<Line as Archive>⟧.keys v) (⟦<Line as Archive>⟧.meaning v) (planned_of_line v) };
 
     fn archived_metadata(&self) -> Result<(), Error> {
         Ok(())
@@ -535,8 +583,10 @@ impl<D: Entries> Deserialize<Line, D> for ArchivedLine {
         deserializer: &mut D,
     ) -> Result<Line, Error>
         requires { IsPartOf ⟦<Self as ArchivePointee>⟧ part }
-        ensures read { IfOk result (Read ⟦<Self as ArchivePointee>⟧ part D.Entries deserializer ⟦<Line as Archive>⟧) }
-        ensures refused { IfErr result (RefusesPart ⟦<Self as ArchivePointee>⟧ part D.Entries deserializer) }
+        ensures read { IfOk result (Read ⟦<Self as ArchivePointee>⟧ part D.Entries deserializer
+            ⟦<Line as Archive>⟧) }
+        ensures refused { IfErr result (RefusesPart ⟦<Self as ArchivePointee>⟧ part D.Entries
+            deserializer) }
     {
         match deserialize_record::<Self, LineOwned, D>(alloc, part, deserializer) {
             Ok((a0, (a1, ()))) => Ok(Line { from: a0, to: a1 }),
@@ -589,28 +639,35 @@ pub trait LineSeal<'a> {
 }
 
 impl<'a> LineSeal<'a> for Seal<'a, ArchivedLine> {
-    ghost sealed = { λ s. Viewed no_definition s.bytes.now s.pos (one ⟦<ArchivedLine as Portable>⟧.shape) s.len };
+    ghost sealed = { λ s. Viewed no_definition s.bytes.now s.pos
+        (one ⟦<ArchivedLine as Portable>⟧.shape) s.len };
 
     fn from_mut(self) -> Seal<'a, ArchivedSpot>
-        requires viewed { Viewed no_definition self.bytes.now self.pos (one ⟦<ArchivedLine as Portable>⟧.shape) self.len }
+        requires viewed { Viewed no_definition self.bytes.now self.pos
+            (one ⟦<ArchivedLine as Portable>⟧.shape) self.len }
         ensures same_reference { result.bytes.ghost_name ≡ self.entry.bytes.ghost_name }
         ensures buffer { result.bytes.now ≡ self.entry.bytes.now }
         ensures position { result.pos ≡ self.entry.pos + 0 }
         ensures length { result.len ≡ 0 }
-        ensures viewed { Viewed no_definition result.bytes.now result.pos ⟦<ArchivedSpot as ArchivePointee>⟧.pointee result.len }
-        ensures beside { SealsBeside no_definition (one ⟦<ArchivedLine as Portable>⟧.shape) ⟦<ArchivedSpot as ArchivePointee>⟧.pointee result self.entry }
+        ensures viewed { Viewed no_definition result.bytes.now result.pos
+            ⟦<ArchivedSpot as ArchivePointee>⟧.pointee result.len }
+        ensures beside { SealsBeside no_definition (one ⟦<ArchivedLine as Portable>⟧.shape)
+            ⟦<ArchivedSpot as ArchivePointee>⟧.pointee result self.entry }
     {
         sealed_part_in_record::<ArchivedLine, ArchivedSpot>(self, 0, 0)
     }
 
     fn to_mut(self) -> Seal<'a, ArchivedSpot>
-        requires viewed { Viewed no_definition self.bytes.now self.pos (one ⟦<ArchivedLine as Portable>⟧.shape) self.len }
+        requires viewed { Viewed no_definition self.bytes.now self.pos
+            (one ⟦<ArchivedLine as Portable>⟧.shape) self.len }
         ensures same_reference { result.bytes.ghost_name ≡ self.entry.bytes.ghost_name }
         ensures buffer { result.bytes.now ≡ self.entry.bytes.now }
         ensures position { result.pos ≡ self.entry.pos + 4 }
         ensures length { result.len ≡ 0 }
-        ensures viewed { Viewed no_definition result.bytes.now result.pos ⟦<ArchivedSpot as ArchivePointee>⟧.pointee result.len }
-        ensures beside { SealsBeside no_definition (one ⟦<ArchivedLine as Portable>⟧.shape) ⟦<ArchivedSpot as ArchivePointee>⟧.pointee result self.entry }
+        ensures viewed { Viewed no_definition result.bytes.now result.pos
+            ⟦<ArchivedSpot as ArchivePointee>⟧.pointee result.len }
+        ensures beside { SealsBeside no_definition (one ⟦<ArchivedLine as Portable>⟧.shape)
+            ⟦<ArchivedSpot as ArchivePointee>⟧.pointee result self.entry }
     {
         sealed_part_in_record::<ArchivedLine, ArchivedSpot>(self, 1, 4)
     }
@@ -635,7 +692,10 @@ type DrawingOwned = (Line, (Vec<Line>, (Option<Box<Line>>, (Event, ()))));
 impl ArchivePointee for ArchivedDrawing {
     type ArchivedMetadata = ();
 
-    ghost pointee = { one (parts (part ⟦<ArchivedLine as Portable>⟧.shape (part ⟦<ArchivedVec<ArchivedLine> as Portable>⟧.shape (part ⟦<ArchivedOption<ArchivedBox<ArchivedLine>> as Portable>⟧.shape (part ⟦<ArchivedEvent as Portable>⟧.shape no_part))))) };
+    ghost pointee = { one (parts (part ⟦<ArchivedLine as Portable>⟧.shape
+        (part ⟦<ArchivedVec<ArchivedLine> as Portable>⟧.shape
+        (part ⟦<ArchivedOption<ArchivedBox<ArchivedLine>> as Portable>⟧.shape
+        (part ⟦<ArchivedEvent as Portable>⟧.shape no_part))))) };
 
     ghost definitions = { no_definition };
 
@@ -647,7 +707,10 @@ impl ArchivePointee for ArchivedDrawing {
 }
 
 impl Portable for ArchivedDrawing {
-    ghost shape = { parts (part ⟦<ArchivedLine as Portable>⟧.shape (part ⟦<ArchivedVec<ArchivedLine> as Portable>⟧.shape (part ⟦<ArchivedOption<ArchivedBox<ArchivedLine>> as Portable>⟧.shape (part ⟦<ArchivedEvent as Portable>⟧.shape no_part)))) };
+    ghost shape = { parts (part ⟦<ArchivedLine as Portable>⟧.shape
+        (part ⟦<ArchivedVec<ArchivedLine> as Portable>⟧.shape
+        (part ⟦<ArchivedOption<ArchivedBox<ArchivedLine>> as Portable>⟧.shape
+        (part ⟦<ArchivedEvent as Portable>⟧.shape no_part)))) };
 
     ghost layout = { record { size = 36; align = 4 } };
 
@@ -659,7 +722,10 @@ impl Portable for ArchivedDrawing {
 
     ghost has_layout = { record { solved = λ s k. refl } };
 
-    ghost no_others = { no_definition_reached (parts (part ⟦<ArchivedLine as Portable>⟧.shape (part ⟦<ArchivedVec<ArchivedLine> as Portable>⟧.shape (part ⟦<ArchivedOption<ArchivedBox<ArchivedLine>> as Portable>⟧.shape (part ⟦<ArchivedEvent as Portable>⟧.shape no_part))))) };
+    ghost no_others = { no_definition_reached (parts (part ⟦<ArchivedLine as Portable>⟧.shape
+        (part ⟦<ArchivedVec<ArchivedLine> as Portable>⟧.shape
+        (part ⟦<ArchivedOption<ArchivedBox<ArchivedLine>> as Portable>⟧.shape
+        (part ⟦<ArchivedEvent as Portable>⟧.shape no_part))))) };
 
     ghost checks = { λ _. plain_own_check _ _ _ _ _ refl refl refl refl };
 
@@ -681,9 +747,13 @@ impl Portable for ArchivedDrawing {
 }
 
 impl SelfCheck for ArchivedDrawing {
-    ghost shape = { parts (part ⟦<ArchivedLine as Portable>⟧.shape (part ⟦<ArchivedVec<ArchivedLine> as Portable>⟧.shape (part ⟦<ArchivedOption<ArchivedBox<ArchivedLine>> as Portable>⟧.shape (part ⟦<ArchivedEvent as Portable>⟧.shape no_part)))) };
+    ghost shape = { parts (part ⟦<ArchivedLine as Portable>⟧.shape
+        (part ⟦<ArchivedVec<ArchivedLine> as Portable>⟧.shape
+        (part ⟦<ArchivedOption<ArchivedBox<ArchivedLine>> as Portable>⟧.shape
+        (part ⟦<ArchivedEvent as Portable>⟧.shape no_part)))) };
 
-    ghost definitions = { (both no_definition (both no_definition (both no_definition (both no_definition no_definition)))) };
+    ghost definitions = { (both no_definition (both no_definition
+        (both no_definition (both no_definition no_definition)))) };
 
     ghost span = { 36 };
 
@@ -712,7 +782,12 @@ impl SelfCheck for ArchivedDrawing {
 impl Record for ArchivedDrawing {
     type Parts = DrawingParts;
 
-    ghost has_parts = { plain_record (part ⟦<ArchivedLine as Portable>⟧.shape (part ⟦<ArchivedVec<ArchivedLine> as Portable>⟧.shape (part ⟦<ArchivedOption<ArchivedBox<ArchivedLine>> as Portable>⟧.shape (part ⟦<ArchivedEvent as Portable>⟧.shape no_part)))) (both no_definition (both no_definition (both no_definition (both no_definition no_definition)))) refl };
+    ghost has_parts = { plain_record (part ⟦<ArchivedLine as Portable>⟧.shape
+        (part ⟦<ArchivedVec<ArchivedLine> as Portable>⟧.shape
+        (part ⟦<ArchivedOption<ArchivedBox<ArchivedLine>> as Portable>⟧.shape
+        (part ⟦<ArchivedEvent as Portable>⟧.shape no_part))))
+        (both no_definition (both no_definition (both no_definition
+        (both no_definition no_definition)))) refl };
 
     ghost holds = { lit≤ tt };
 }
@@ -740,17 +815,56 @@ impl Archive for Drawing {
 
     type Resolver = DrawingResolver;
 
-    ghost meaning = { λ v. product (value (⟦<Line as Archive>⟧.meaning v.first) (value (⟦<Vec<Line> as Archive>⟧.meaning v.lines) (value (⟦<Option<Box<Line>> as Archive>⟧.meaning v.last) (value (⟦<Event as Archive>⟧.meaning v.event) no_value)))) };
+    ghost meaning = { λ v. product (value (⟦<Line as Archive>⟧.meaning v.first)
+        (value (⟦<Vec<Line> as Archive>⟧.meaning v.lines)
+        (value (⟦<Option<Box<Line>> as Archive>⟧.meaning v.last)
+        (value (⟦<Event as Archive>⟧.meaning v.event) no_value)))) };
 
-    ghost flat = { λ v r. product (value (⟦<Line as Archive>⟧.flat v.first r.kept.0) (value (⟦<Vec<Line> as Archive>⟧.flat v.lines r.kept.1.0) (value (⟦<Option<Box<Line>> as Archive>⟧.flat v.last r.kept.1.1.0) (value (⟦<Event as Archive>⟧.flat v.event r.kept.1.1.1.0) no_value)))) };
+    ghost flat = { λ v r. product (value (⟦<Line as Archive>⟧.flat v.first r.kept.0)
+        (value (⟦<Vec<Line> as Archive>⟧.flat v.lines r.kept.1.0)
+        (value (⟦<Option<Box<Line>> as Archive>⟧.flat v.last r.kept.1.1.0)
+        (value (⟦<Event as Archive>⟧.flat v.event r.kept.1.1.1.0) no_value)))) };
 
-    ghost keys = { λ v. ⟦<Line as Archive>⟧.keys v.first ++ (⟦<Vec<Line> as Archive>⟧.keys v.lines ++ (⟦<Option<Box<Line>> as Archive>⟧.keys v.last ++ (⟦<Event as Archive>⟧.keys v.event ++ []))) };
+    ghost keys = { λ v. ⟦<Line as Archive>⟧.keys v.first
+        ++ (⟦<Vec<Line> as Archive>⟧.keys v.lines ++ (⟦<Option<Box<Line>> as Archive>⟧.keys v.last
+        ++ (⟦<Event as Archive>⟧.keys v.event ++ []))) };
 
-    ghost belongs = { λ v r. ⟦<Line as Archive>⟧.belongs v.first r.kept.0 × (⟦<Vec<Line> as Archive>⟧.belongs v.lines r.kept.1.0 × (⟦<Option<Box<Line>> as Archive>⟧.belongs v.last r.kept.1.1.0 × (⟦<Event as Archive>⟧.belongs v.event r.kept.1.1.1.0 × Unit {0}))) };
+    ghost belongs = { λ v r. ⟦<Line as Archive>⟧.belongs v.first r.kept.0
+        × (⟦<Vec<Line> as Archive>⟧.belongs v.lines r.kept.1.0
+        × (⟦<Option<Box<Line>> as Archive>⟧.belongs v.last r.kept.1.1.0
+        × (⟦<Event as Archive>⟧.belongs v.event r.kept.1.1.1.0 × Unit {0}))) };
 
-    ghost keyed = { λ v. record_keyed (part_keyed (keyed_of_line v.first) (part_keyed (each_keyed ⟦<Line as Archive>⟧.keys ⟦<Line as Archive>⟧.meaning keyed_of_line v.lines.items) (part_keyed (option_keyed ⟦<Box<Line> as Archive>⟧.keys ⟦<Box<Line> as Archive>⟧.meaning (λ x. box_keyed (⟦<Line as Archive>⟧.keys x.value) (⟦<Line as Archive>⟧.meaning x.value) (keyed_of_line x.value)) v.last) (part_keyed (keyed_of_event v.event) nothing_keyed)))) };
+    ghost keyed = { λ v. record_keyed (part_keyed (keyed_of_line v.first)
+        (part_keyed (each_keyed ⟦<Line as Archive>⟧.keys ⟦<Line as Archive>⟧.meaning keyed_of_line
+        v.lines.items) (part_keyed (option_keyed ⟦<Box<Line> as Archive>⟧.keys
+        ⟦<Box<Line> as Archive>⟧.meaning (λ x. box_keyed (⟦<Line as Archive>⟧.keys x.value)
+        (⟦<Line as Archive>⟧.meaning x.value) (keyed_of_line x.value)) v.last)
+        (part_keyed (keyed_of_event v.event) nothing_keyed)))) };
 
-    ghost planned = { λ v. plain_record_planned (both no_definition (both no_definition (both no_definition (both no_definition no_definition)))) (part ⟦<ArchivedLine as Portable>⟧.shape (part ⟦<ArchivedVec<ArchivedLine> as Portable>⟧.shape (part ⟦<ArchivedOption<ArchivedBox<ArchivedLine>> as Portable>⟧.shape (part ⟦<ArchivedEvent as Portable>⟧.shape no_part)))) _ _ (part_planned no_definition ⟦<ArchivedLine as Portable>⟧.shape (⟦<Line as Archive>⟧.keys v.first) (⟦<Line as Archive>⟧.meaning v.first) (planned_of_line v.first) (part_planned no_definition ⟦<ArchivedVec<ArchivedLine> as Portable>⟧.shape (⟦<Vec<Line> as Archive>⟧.keys v.lines) (⟦<Vec<Line> as Archive>⟧.meaning v.lines) (vec_planned no_definition ⟦<ArchivedLine as Portable>⟧.shape _ _ _ (slice_planned no_definition ⟦<ArchivedLine as Portable>⟧.shape ⟦<Line as Archive>⟧.keys ⟦<Line as Archive>⟧.meaning planned_of_line v.lines.items)) (part_planned no_definition ⟦<ArchivedOption<ArchivedBox<ArchivedLine>> as Portable>⟧.shape (⟦<Option<Box<Line>> as Archive>⟧.keys v.last) (⟦<Option<Box<Line>> as Archive>⟧.meaning v.last) (option_planned no_definition ⟦<ArchivedBox<ArchivedLine> as Portable>⟧.shape ⟦<Box<Line> as Archive>⟧.keys ⟦<Box<Line> as Archive>⟧.meaning (λ x. boxed_one_planned no_definition (one ⟦<ArchivedLine as Portable>⟧.shape) ⟦<ArchivedLine as Portable>⟧.shape refl (⟦<Line as Archive>⟧.keys x.value) (⟦<Line as Archive>⟧.meaning x.value) (planned_of_line x.value)) v.last) (part_planned no_definition ⟦<ArchivedEvent as Portable>⟧.shape (⟦<Event as Archive>⟧.keys v.event) (⟦<Event as Archive>⟧.meaning v.event) (planned_of_event v.event) no_part_planned)))) refl };
+    ghost planned = { λ v. plain_record_planned (both no_definition
+        (both no_definition (both no_definition (both no_definition no_definition))))
+        (part ⟦<ArchivedLine as Portable>⟧.shape
+        (part ⟦<ArchivedVec<ArchivedLine> as Portable>⟧.shape
+        (part ⟦<ArchivedOption<ArchivedBox<ArchivedLine>> as Portable>⟧.shape
+        (part ⟦<ArchivedEvent as Portable>⟧.shape no_part)))) _ _
+        (part_planned no_definition ⟦<ArchivedLine as Portable>⟧.shape
+        (⟦<Line as Archive>⟧.keys v.first) (⟦<Line as Archive>⟧.meaning v.first)
+        (planned_of_line v.first) (part_planned no_definition
+        ⟦<ArchivedVec<ArchivedLine> as Portable>⟧.shape (⟦<Vec<Line> as Archive>⟧.keys v.lines)
+        (⟦<Vec<Line> as Archive>⟧.meaning v.lines) (vec_planned no_definition
+        ⟦<ArchivedLine as Portable>⟧.shape _ _ _ (slice_planned no_definition
+        ⟦<ArchivedLine as Portable>⟧.shape ⟦<Line as Archive>⟧.keys ⟦<Line as Archive>⟧.meaning
+        planned_of_line v.lines.items)) (part_planned no_definition
+        ⟦<ArchivedOption<ArchivedBox<ArchivedLine>> as Portable>⟧.shape
+        (⟦<Option<Box<Line>> as Archive>⟧.keys v.last) (⟦<Option<Box<Line>> as Archive>⟧.meaning
+        v.last) (option_planned no_definition ⟦<ArchivedBox<ArchivedLine> as Portable>⟧.shape
+        ⟦<Box<Line> as Archive>⟧.keys ⟦<Box<Line> as Archive>⟧.meaning
+        (λ x. boxed_one_planned no_definition (one ⟦<ArchivedLine as Portable>⟧.shape)
+        ⟦<ArchivedLine as Portable>⟧.shape refl (⟦<Line as Archive>⟧.keys x.value)
+        (⟦<Line as Archive>⟧.meaning x.value) (planned_of_line x.value)) v.last)
+        (part_planned no_definition ⟦<ArchivedEvent as Portable>⟧.shape
+        (⟦<Event as Archive>⟧.keys v.event) (⟦<Event as Archive>⟧.meaning v.event)
+        (planned_of_event v.event) no_part_planned)))) refl };
 
     fn resolve(
         &self,
@@ -806,7 +920,12 @@ impl ArchiveUnsized for Drawing {
 
     ghost one_length = { λ _ _. refl };
 
-    ghost planned = { λ v. one_planned no_definition (parts (part ⟦<ArchivedLine as Portable>⟧.shape (part ⟦<ArchivedVec<ArchivedLine> as Portable>⟧.shape (part ⟦<ArchivedOption<ArchivedBox<ArchivedLine>> as Portable>⟧.shape (part ⟦<ArchivedEvent as Portable>⟧.shape no_part))))) (⟦<Drawing as Archive>⟧.keys v) (⟦<Drawing as Archive>⟧.meaning v) (planned_of_drawing v) };
+    ghost planned = { λ v. one_planned no_definition (parts
+        (part ⟦<ArchivedLine as Portable>⟧.shape
+        (part ⟦<ArchivedVec<ArchivedLine> as Portable>⟧.shape
+        (part ⟦<ArchivedOption<ArchivedBox<ArchivedLine>> as Portable>⟧.shape
+        (part ⟦<ArchivedEvent as Portable>⟧.shape no_part))))) (⟦<Drawing as Archive>⟧.keys v)
+        (⟦<Drawing as Archive>⟧.meaning v) (planned_of_drawing v) };
 
     fn archived_metadata(&self) -> Result<(), Error> {
         Ok(())
@@ -826,8 +945,10 @@ impl<D: Entries> Deserialize<Drawing, D> for ArchivedDrawing {
         deserializer: &mut D,
     ) -> Result<Drawing, Error>
         requires { IsPartOf ⟦<Self as ArchivePointee>⟧ part }
-        ensures read { IfOk result (Read ⟦<Self as ArchivePointee>⟧ part D.Entries deserializer ⟦<Drawing as Archive>⟧) }
-        ensures refused { IfErr result (RefusesPart ⟦<Self as ArchivePointee>⟧ part D.Entries deserializer) }
+        ensures read { IfOk result (Read ⟦<Self as ArchivePointee>⟧ part D.Entries deserializer
+            ⟦<Drawing as Archive>⟧) }
+        ensures refused { IfErr result (RefusesPart ⟦<Self as ArchivePointee>⟧ part D.Entries
+            deserializer) }
     {
         match deserialize_record::<Self, DrawingOwned, D>(alloc, part, deserializer) {
             Ok((a0, (a1, (a2, (a3, ()))))) => Ok(Drawing {
@@ -917,40 +1038,51 @@ pub trait DrawingSeal<'a> {
 }
 
 impl<'a> DrawingSeal<'a> for Seal<'a, ArchivedDrawing> {
-    ghost sealed = { λ s. Viewed no_definition s.bytes.now s.pos (one ⟦<ArchivedDrawing as Portable>⟧.shape) s.len };
+    ghost sealed = { λ s. Viewed no_definition s.bytes.now s.pos
+        (one ⟦<ArchivedDrawing as Portable>⟧.shape) s.len };
 
     fn first_mut(self) -> Seal<'a, ArchivedLine>
-        requires viewed { Viewed no_definition self.bytes.now self.pos (one ⟦<ArchivedDrawing as Portable>⟧.shape) self.len }
+        requires viewed { Viewed no_definition self.bytes.now self.pos
+            (one ⟦<ArchivedDrawing as Portable>⟧.shape) self.len }
         ensures same_reference { result.bytes.ghost_name ≡ self.entry.bytes.ghost_name }
         ensures buffer { result.bytes.now ≡ self.entry.bytes.now }
         ensures position { result.pos ≡ self.entry.pos + 0 }
         ensures length { result.len ≡ 0 }
-        ensures viewed { Viewed no_definition result.bytes.now result.pos ⟦<ArchivedLine as ArchivePointee>⟧.pointee result.len }
-        ensures beside { SealsBeside no_definition (one ⟦<ArchivedDrawing as Portable>⟧.shape) ⟦<ArchivedLine as ArchivePointee>⟧.pointee result self.entry }
+        ensures viewed { Viewed no_definition result.bytes.now result.pos
+            ⟦<ArchivedLine as ArchivePointee>⟧.pointee result.len }
+        ensures beside { SealsBeside no_definition (one ⟦<ArchivedDrawing as Portable>⟧.shape)
+            ⟦<ArchivedLine as ArchivePointee>⟧.pointee result self.entry }
     {
         sealed_part_in_record::<ArchivedDrawing, ArchivedLine>(self, 0, 0)
     }
 
     fn lines_mut(self) -> Seal<'a, ArchivedVec<ArchivedLine>>
-        requires viewed { Viewed no_definition self.bytes.now self.pos (one ⟦<ArchivedDrawing as Portable>⟧.shape) self.len }
+        requires viewed { Viewed no_definition self.bytes.now self.pos
+            (one ⟦<ArchivedDrawing as Portable>⟧.shape) self.len }
         ensures same_reference { result.bytes.ghost_name ≡ self.entry.bytes.ghost_name }
         ensures buffer { result.bytes.now ≡ self.entry.bytes.now }
         ensures position { result.pos ≡ self.entry.pos + 8 }
         ensures length { result.len ≡ 0 }
-        ensures viewed { Viewed no_definition result.bytes.now result.pos ⟦<ArchivedVec<ArchivedLine> as ArchivePointee>⟧.pointee result.len }
-        ensures beside { SealsBeside no_definition (one ⟦<ArchivedDrawing as Portable>⟧.shape) ⟦<ArchivedVec<ArchivedLine> as ArchivePointee>⟧.pointee result self.entry }
+        ensures viewed { Viewed no_definition result.bytes.now result.pos
+            ⟦<ArchivedVec<ArchivedLine> as ArchivePointee>⟧.pointee result.len }
+        ensures beside { SealsBeside no_definition (one ⟦<ArchivedDrawing as Portable>⟧.shape)
+            ⟦<ArchivedVec<ArchivedLine> as ArchivePointee>⟧.pointee result self.entry }
     {
         sealed_part_in_record::<ArchivedDrawing, ArchivedVec<ArchivedLine>>(self, 1, 8)
     }
 
     fn last_mut(self) -> Seal<'a, ArchivedOption<ArchivedBox<ArchivedLine>>>
-        requires viewed { Viewed no_definition self.bytes.now self.pos (one ⟦<ArchivedDrawing as Portable>⟧.shape) self.len }
+        requires viewed { Viewed no_definition self.bytes.now self.pos
+            (one ⟦<ArchivedDrawing as Portable>⟧.shape) self.len }
         ensures same_reference { result.bytes.ghost_name ≡ self.entry.bytes.ghost_name }
         ensures buffer { result.bytes.now ≡ self.entry.bytes.now }
         ensures position { result.pos ≡ self.entry.pos + 16 }
         ensures length { result.len ≡ 0 }
-        ensures viewed { Viewed no_definition result.bytes.now result.pos ⟦<ArchivedOption<ArchivedBox<ArchivedLine>> as ArchivePointee>⟧.pointee result.len }
-        ensures beside { SealsBeside no_definition (one ⟦<ArchivedDrawing as Portable>⟧.shape) ⟦<ArchivedOption<ArchivedBox<ArchivedLine>> as ArchivePointee>⟧.pointee result self.entry }
+        ensures viewed { Viewed no_definition result.bytes.now result.pos
+            ⟦<ArchivedOption<ArchivedBox<ArchivedLine>> as ArchivePointee>⟧.pointee result.len }
+        ensures beside { SealsBeside no_definition (one ⟦<ArchivedDrawing as Portable>⟧.shape)
+            ⟦<ArchivedOption<ArchivedBox<ArchivedLine>> as ArchivePointee>⟧.pointee result
+            self.entry }
     {
         sealed_part_in_record::<ArchivedDrawing, ArchivedOption<ArchivedBox<ArchivedLine>>>(
             self, 2, 16,
@@ -958,13 +1090,16 @@ impl<'a> DrawingSeal<'a> for Seal<'a, ArchivedDrawing> {
     }
 
     fn event_mut(self) -> Seal<'a, ArchivedEvent>
-        requires viewed { Viewed no_definition self.bytes.now self.pos (one ⟦<ArchivedDrawing as Portable>⟧.shape) self.len }
+        requires viewed { Viewed no_definition self.bytes.now self.pos
+            (one ⟦<ArchivedDrawing as Portable>⟧.shape) self.len }
         ensures same_reference { result.bytes.ghost_name ≡ self.entry.bytes.ghost_name }
         ensures buffer { result.bytes.now ≡ self.entry.bytes.now }
         ensures position { result.pos ≡ self.entry.pos + 24 }
         ensures length { result.len ≡ 0 }
-        ensures viewed { Viewed no_definition result.bytes.now result.pos ⟦<ArchivedEvent as ArchivePointee>⟧.pointee result.len }
-        ensures beside { SealsBeside no_definition (one ⟦<ArchivedDrawing as Portable>⟧.shape) ⟦<ArchivedEvent as ArchivePointee>⟧.pointee result self.entry }
+        ensures viewed { Viewed no_definition result.bytes.now result.pos
+            ⟦<ArchivedEvent as ArchivePointee>⟧.pointee result.len }
+        ensures beside { SealsBeside no_definition (one ⟦<ArchivedDrawing as Portable>⟧.shape)
+            ⟦<ArchivedEvent as ArchivePointee>⟧.pointee result self.entry }
     {
         sealed_part_in_record::<ArchivedDrawing, ArchivedEvent>(self, 3, 24)
     }
@@ -980,7 +1115,8 @@ type AtlasOwned = (Vec<Drawing>, (u8, ()));
 impl ArchivePointee for ArchivedAtlas {
     type ArchivedMetadata = ();
 
-    ghost pointee = { one (parts (part ⟦<ArchivedVec<ArchivedDrawing> as Portable>⟧.shape (part ⟦<u8 as Portable>⟧.shape no_part))) };
+    ghost pointee = { one (parts (part ⟦<ArchivedVec<ArchivedDrawing> as Portable>⟧.shape
+        (part ⟦<u8 as Portable>⟧.shape no_part))) };
 
     ghost definitions = { no_definition };
 
@@ -992,7 +1128,8 @@ impl ArchivePointee for ArchivedAtlas {
 }
 
 impl Portable for ArchivedAtlas {
-    ghost shape = { parts (part ⟦<ArchivedVec<ArchivedDrawing> as Portable>⟧.shape (part ⟦<u8 as Portable>⟧.shape no_part)) };
+    ghost shape = { parts (part ⟦<ArchivedVec<ArchivedDrawing> as Portable>⟧.shape
+        (part ⟦<u8 as Portable>⟧.shape no_part)) };
 
     ghost layout = { record { size = 12; align = 4 } };
 
@@ -1004,7 +1141,9 @@ impl Portable for ArchivedAtlas {
 
     ghost has_layout = { record { solved = λ s k. refl } };
 
-    ghost no_others = { no_definition_reached (parts (part ⟦<ArchivedVec<ArchivedDrawing> as Portable>⟧.shape (part ⟦<u8 as Portable>⟧.shape no_part))) };
+    ghost no_others = { no_definition_reached (parts (part
+        ⟦<ArchivedVec<ArchivedDrawing> as Portable>⟧.shape
+        (part ⟦<u8 as Portable>⟧.shape no_part))) };
 
     ghost checks = { λ _. plain_own_check _ _ _ _ _ refl refl refl refl };
 
@@ -1026,7 +1165,8 @@ impl Portable for ArchivedAtlas {
 }
 
 impl SelfCheck for ArchivedAtlas {
-    ghost shape = { parts (part ⟦<ArchivedVec<ArchivedDrawing> as Portable>⟧.shape (part ⟦<u8 as Portable>⟧.shape no_part)) };
+    ghost shape = { parts (part ⟦<ArchivedVec<ArchivedDrawing> as Portable>⟧.shape
+        (part ⟦<u8 as Portable>⟧.shape no_part)) };
 
     ghost definitions = { (both no_definition (both no_definition no_definition)) };
 
@@ -1057,7 +1197,9 @@ impl SelfCheck for ArchivedAtlas {
 impl Record for ArchivedAtlas {
     type Parts = AtlasParts;
 
-    ghost has_parts = { plain_record (part ⟦<ArchivedVec<ArchivedDrawing> as Portable>⟧.shape (part ⟦<u8 as Portable>⟧.shape no_part)) (both no_definition (both no_definition no_definition)) refl };
+    ghost has_parts = { plain_record (part ⟦<ArchivedVec<ArchivedDrawing> as Portable>⟧.shape
+        (part ⟦<u8 as Portable>⟧.shape no_part)) (both no_definition
+        (both no_definition no_definition)) refl };
 
     ghost holds = { lit≤ tt };
 }
@@ -1078,17 +1220,33 @@ impl Archive for Atlas {
 
     type Resolver = AtlasResolver;
 
-    ghost meaning = { λ v. product (value (⟦<Vec<Drawing> as Archive>⟧.meaning v.drawings) (value (⟦<u8 as Archive>⟧.meaning v.pages) no_value)) };
+    ghost meaning = { λ v. product (value (⟦<Vec<Drawing> as Archive>⟧.meaning v.drawings)
+        (value (⟦<u8 as Archive>⟧.meaning v.pages) no_value)) };
 
-    ghost flat = { λ v r. product (value (⟦<Vec<Drawing> as Archive>⟧.flat v.drawings r.kept.0) (value (⟦<u8 as Archive>⟧.flat v.pages r.kept.1.0) no_value)) };
+    ghost flat = { λ v r. product (value (⟦<Vec<Drawing> as Archive>⟧.flat v.drawings r.kept.0)
+        (value (⟦<u8 as Archive>⟧.flat v.pages r.kept.1.0) no_value)) };
 
-    ghost keys = { λ v. ⟦<Vec<Drawing> as Archive>⟧.keys v.drawings ++ (⟦<u8 as Archive>⟧.keys v.pages ++ []) };
+    ghost keys = { λ v. ⟦<Vec<Drawing> as Archive>⟧.keys v.drawings
+        ++ (⟦<u8 as Archive>⟧.keys v.pages ++ []) };
 
-    ghost belongs = { λ v r. ⟦<Vec<Drawing> as Archive>⟧.belongs v.drawings r.kept.0 × (⟦<u8 as Archive>⟧.belongs v.pages r.kept.1.0 × Unit {0}) };
+    ghost belongs = { λ v r. ⟦<Vec<Drawing> as Archive>⟧.belongs v.drawings r.kept.0
+        × (⟦<u8 as Archive>⟧.belongs v.pages r.kept.1.0 × Unit {0}) };
 
-    ghost keyed = { λ v. record_keyed (part_keyed (each_keyed ⟦<Drawing as Archive>⟧.keys ⟦<Drawing as Archive>⟧.meaning keyed_of_drawing v.drawings.items) (part_keyed (number_keyed _) nothing_keyed)) };
+    ghost keyed = { λ v. record_keyed (part_keyed (each_keyed ⟦<Drawing as Archive>⟧.keys
+        ⟦<Drawing as Archive>⟧.meaning keyed_of_drawing v.drawings.items)
+        (part_keyed (number_keyed _) nothing_keyed)) };
 
-    ghost planned = { λ v. plain_record_planned (both no_definition (both no_definition no_definition)) (part ⟦<ArchivedVec<ArchivedDrawing> as Portable>⟧.shape (part ⟦<u8 as Portable>⟧.shape no_part)) _ _ (part_planned no_definition ⟦<ArchivedVec<ArchivedDrawing> as Portable>⟧.shape (⟦<Vec<Drawing> as Archive>⟧.keys v.drawings) (⟦<Vec<Drawing> as Archive>⟧.meaning v.drawings) (vec_planned no_definition ⟦<ArchivedDrawing as Portable>⟧.shape _ _ _ (slice_planned no_definition ⟦<ArchivedDrawing as Portable>⟧.shape ⟦<Drawing as Archive>⟧.keys ⟦<Drawing as Archive>⟧.meaning planned_of_drawing v.drawings.items)) (part_planned no_definition ⟦<u8 as Portable>⟧.shape (⟦<u8 as Archive>⟧.keys v.pages) (⟦<u8 as Archive>⟧.meaning v.pages) (leaf_planned no_definition _ _ [] _ refl) no_part_planned)) refl };
+    ghost planned = { λ v. plain_record_planned (both no_definition
+        (both no_definition no_definition)) (part ⟦<ArchivedVec<ArchivedDrawing> as Portable>⟧.shape
+        (part ⟦<u8 as Portable>⟧.shape no_part)) _ _ (part_planned no_definition
+        ⟦<ArchivedVec<ArchivedDrawing> as Portable>⟧.shape
+        (⟦<Vec<Drawing> as Archive>⟧.keys v.drawings) (⟦<Vec<Drawing> as Archive>⟧.meaning
+        v.drawings) (vec_planned no_definition ⟦<ArchivedDrawing as Portable>⟧.shape _ _ _
+        (slice_planned no_definition ⟦<ArchivedDrawing as Portable>⟧.shape
+        ⟦<Drawing as Archive>⟧.keys ⟦<Drawing as Archive>⟧.meaning planned_of_drawing
+        v.drawings.items)) (part_planned no_definition ⟦<u8 as Portable>⟧.shape
+        (⟦<u8 as Archive>⟧.keys v.pages) (⟦<u8 as Archive>⟧.meaning v.pages)
+        (leaf_planned no_definition _ _ [] _ refl) no_part_planned)) refl };
 
     fn resolve(
         &self,
@@ -1140,7 +1298,10 @@ impl ArchiveUnsized for Atlas {
 
     ghost one_length = { λ _ _. refl };
 
-    ghost planned = { λ v. one_planned no_definition (parts (part ⟦<ArchivedVec<ArchivedDrawing> as Portable>⟧.shape (part ⟦<u8 as Portable>⟧.shape no_part))) (⟦<Atlas as Archive>⟧.keys v) (⟦<Atlas as Archive>⟧.meaning v) (planned_of_atlas v) };
+    ghost planned = { λ v. one_planned no_definition (parts
+        (part ⟦<ArchivedVec<ArchivedDrawing> as Portable>⟧.shape
+        (part ⟦<u8 as Portable>⟧.shape no_part))) (⟦<Atlas as Archive>⟧.keys v)
+        (⟦<Atlas as Archive>⟧.meaning v) (planned_of_atlas v) };
 
     fn archived_metadata(&self) -> Result<(), Error> {
         Ok(())
@@ -1160,8 +1321,10 @@ impl<D: Entries> Deserialize<Atlas, D> for ArchivedAtlas {
         deserializer: &mut D,
     ) -> Result<Atlas, Error>
         requires { IsPartOf ⟦<Self as ArchivePointee>⟧ part }
-        ensures read { IfOk result (Read ⟦<Self as ArchivePointee>⟧ part D.Entries deserializer ⟦<Atlas as Archive>⟧) }
-        ensures refused { IfErr result (RefusesPart ⟦<Self as ArchivePointee>⟧ part D.Entries deserializer) }
+        ensures read { IfOk result (Read ⟦<Self as ArchivePointee>⟧ part D.Entries deserializer
+            ⟦<Atlas as Archive>⟧) }
+        ensures refused { IfErr result (RefusesPart ⟦<Self as ArchivePointee>⟧ part D.Entries
+            deserializer) }
     {
         match deserialize_record::<Self, AtlasOwned, D>(alloc, part, deserializer) {
             Ok((a0, (a1, ()))) => Ok(Atlas {
@@ -1217,28 +1380,35 @@ pub trait AtlasSeal<'a> {
 }
 
 impl<'a> AtlasSeal<'a> for Seal<'a, ArchivedAtlas> {
-    ghost sealed = { λ s. Viewed no_definition s.bytes.now s.pos (one ⟦<ArchivedAtlas as Portable>⟧.shape) s.len };
+    ghost sealed = { λ s. Viewed no_definition s.bytes.now s.pos
+        (one ⟦<ArchivedAtlas as Portable>⟧.shape) s.len };
 
     fn drawings_mut(self) -> Seal<'a, ArchivedVec<ArchivedDrawing>>
-        requires viewed { Viewed no_definition self.bytes.now self.pos (one ⟦<ArchivedAtlas as Portable>⟧.shape) self.len }
+        requires viewed { Viewed no_definition self.bytes.now self.pos
+            (one ⟦<ArchivedAtlas as Portable>⟧.shape) self.len }
         ensures same_reference { result.bytes.ghost_name ≡ self.entry.bytes.ghost_name }
         ensures buffer { result.bytes.now ≡ self.entry.bytes.now }
         ensures position { result.pos ≡ self.entry.pos + 0 }
         ensures length { result.len ≡ 0 }
-        ensures viewed { Viewed no_definition result.bytes.now result.pos ⟦<ArchivedVec<ArchivedDrawing> as ArchivePointee>⟧.pointee result.len }
-        ensures beside { SealsBeside no_definition (one ⟦<ArchivedAtlas as Portable>⟧.shape) ⟦<ArchivedVec<ArchivedDrawing> as ArchivePointee>⟧.pointee result self.entry }
+        ensures viewed { Viewed no_definition result.bytes.now result.pos
+            ⟦<ArchivedVec<ArchivedDrawing> as ArchivePointee>⟧.pointee result.len }
+        ensures beside { SealsBeside no_definition (one ⟦<ArchivedAtlas as Portable>⟧.shape)
+            ⟦<ArchivedVec<ArchivedDrawing> as ArchivePointee>⟧.pointee result self.entry }
     {
         sealed_part_in_record::<ArchivedAtlas, ArchivedVec<ArchivedDrawing>>(self, 0, 0)
     }
 
     fn pages_mut(self) -> Seal<'a, u8>
-        requires viewed { Viewed no_definition self.bytes.now self.pos (one ⟦<ArchivedAtlas as Portable>⟧.shape) self.len }
+        requires viewed { Viewed no_definition self.bytes.now self.pos
+            (one ⟦<ArchivedAtlas as Portable>⟧.shape) self.len }
         ensures same_reference { result.bytes.ghost_name ≡ self.entry.bytes.ghost_name }
         ensures buffer { result.bytes.now ≡ self.entry.bytes.now }
         ensures position { result.pos ≡ self.entry.pos + 8 }
         ensures length { result.len ≡ 0 }
-        ensures viewed { Viewed no_definition result.bytes.now result.pos ⟦<u8 as ArchivePointee>⟧.pointee result.len }
-        ensures beside { SealsBeside no_definition (one ⟦<ArchivedAtlas as Portable>⟧.shape) ⟦<u8 as ArchivePointee>⟧.pointee result self.entry }
+        ensures viewed { Viewed no_definition result.bytes.now result.pos
+            ⟦<u8 as ArchivePointee>⟧.pointee result.len }
+        ensures beside { SealsBeside no_definition (one ⟦<ArchivedAtlas as Portable>⟧.shape)
+            ⟦<u8 as ArchivePointee>⟧.pointee result self.entry }
     {
         sealed_part_in_record::<ArchivedAtlas, u8>(self, 1, 8)
     }

@@ -146,7 +146,8 @@ impl<
         requires { IsPartOf ⟦<Self as ArchivePointee>⟧ part }
         ensures read { IfOk result (Read ⟦<Self as ArchivePointee>⟧ part D.Entries deserializer ⟦<Shared<U> as Archive>⟧) }
         ensures handed_out { IfOk result (λ s. HandsOutTarget part D.Entries deserializer (⟦<Shared<U> as Pooled>⟧.kept s)) }
-        ensures finished { D.keeps ≡ true → IfOk result (λ s. FinishesTarget part D.Entries deserializer (⟦<Shared<U> as Pooled>⟧.kept s)) }
+        ensures finished { D.keeps ≡ true → IfOk result
+            (λ s. FinishesTarget part D.Entries deserializer (⟦<Shared<U> as Pooled>⟧.kept s)) }
         ensures refused { IfErr result (RefusesPart ⟦<Self as ArchivePointee>⟧ part D.Entries deserializer) }
     {
         let view: Ref<'_, ArchivedRc<T, F>> = Ref::at(part);
@@ -169,7 +170,9 @@ impl<
         requires { IsPartOf ⟦<Self as ArchivePointee>⟧ part }
         ensures read { IfOk result (Read ⟦<Self as ArchivePointee>⟧ part D.Entries deserializer ⟦<SharedSlice<U> as Archive>⟧) }
         ensures handed_out { IfOk result (λ s. HandsOutTarget part D.Entries deserializer (⟦<SharedSlice<U> as Pooled>⟧.kept s)) }
-        ensures finished { D.keeps ≡ true → IfOk result (λ s. FinishesTarget part D.Entries deserializer (⟦<SharedSlice<U> as Pooled>⟧.kept s)) }
+        ensures finished { D.keeps ≡ true → IfOk result
+            (λ s. FinishesTarget part D.Entries deserializer
+            (⟦<SharedSlice<U> as Pooled>⟧.kept s)) }
         ensures refused { IfErr result (RefusesPart ⟦<Self as ArchivePointee>⟧ part D.Entries deserializer) }
     {
         let view: Ref<'_, ArchivedRc<ArchivedSlice<T>, F>> = Ref::at(part);
@@ -187,7 +190,8 @@ impl<F: Flavor, D: Pooling<SharedStr>> Deserialize<SharedStr, D> for ArchivedRc<
         requires { IsPartOf ⟦<Self as ArchivePointee>⟧ part }
         ensures read { IfOk result (Read ⟦<Self as ArchivePointee>⟧ part D.Entries deserializer ⟦<SharedStr as Archive>⟧) }
         ensures handed_out { IfOk result (λ s. HandsOutTarget part D.Entries deserializer (⟦<SharedStr as Pooled>⟧.kept s)) }
-        ensures finished { D.keeps ≡ true → IfOk result (λ s. FinishesTarget part D.Entries deserializer (⟦<SharedStr as Pooled>⟧.kept s)) }
+        ensures finished { D.keeps ≡ true → IfOk result
+            (λ s. FinishesTarget part D.Entries deserializer (⟦<SharedStr as Pooled>⟧.kept s)) }
         ensures refused { IfErr result (RefusesPart ⟦<Self as ArchivePointee>⟧ part D.Entries deserializer) }
     {
         let view: Ref<'_, ArchivedRc<ArchivedStr, F>> = Ref::at(part);

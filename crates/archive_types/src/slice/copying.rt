@@ -330,12 +330,14 @@ pub fn copy_arrays<S: Writer + Keys, T: CopiedSource, const N: usize>(
     serializer: &mut S,
 ) -> Result<usize, Error>
     requires { length arrays.now * N < 2 ^ 64 }
-    ensures copied { OnOk result (AddedAligned T.Archived.layout (each_bytes (each_bytes T.copied_bytes) arrays.now) S.Keys serializer) }
+    ensures copied { OnOk result (AddedAligned T.Archived.layout
+        (each_bytes (each_bytes T.copied_bytes) arrays.now) S.Keys serializer) }
     ensures position { IfOk result (λ p. p ≡ copies_from T.Archived.layout (S.position serializer.old)) }
     ensures goes_on { GoesOn (S.state serializer.old) (S.state serializer.new) }
     ensures cause { IfErr result (CopiesRefused S.position S.Keys serializer T.Archived.layout (length arrays.now * N)) }
     ensures memory { IsErrOf result Error.OutOfMemory → IsTrue S.takes_memory }
-    ensures succeeds { Takes S.position S.Keys serializer S.takes_memory T.Archived.layout (length arrays.now * N) → IsOk result }
+    ensures succeeds { Takes S.position S.Keys serializer S.takes_memory T.Archived.layout
+        (length arrays.now * N) → IsOk result }
 {
     copy_slice(arrays.as_flattened(), serializer)
 }

@@ -127,7 +127,8 @@ impl<A: Allocator> Writer for Vec<u8, A> {
         ensures written { OnOk result (self.new.items ≡ self.old.items ++ bytes.now) }
         ensures kept { OnErr result (IsBeginning self.old.items self.new.items) }
         ensures room { RoomFalls None None self.old.items self.new.items }
-        ensures refusal { IfErr result (ExplainsRefusal (length bytes.now) (length self.old.items) (length self.new.items) None 0 0) }
+        ensures refusal { IfErr result (ExplainsRefusal (length bytes.now) (length self.old.items)
+            (length self.new.items) None 0 0) }
         ensures device { 0 ≤ 0 }
         ensures keys { KeepsKeys no_keys no_keys }
         ensures memory { IsErrOf result Error.OutOfMemory → IsTrue true }

@@ -54,7 +54,8 @@ fn write_part<R: Record>(
 ) -> Result<u32, Error>
     requires part { part_at R.Parts.parts i ≡ Some ⟦<ArchivedU32 as Portable>⟧.shape }
     requires definitions { KnowsAlso (definitions_at R.Parts.definitions i) ⟦<ArchivedU32 as ArchivePointee>⟧.definitions }
-    ensures edited { OnOk result (PartEdited bytes.old bytes.new R.layout (R.Parts.begin 0 i) (⟦<u32 as Native>⟧.bytes_of value)) }
+    ensures edited { OnOk result (PartEdited bytes.old bytes.new R.layout (R.Parts.begin 0 i)
+        (⟦<u32 as Native>⟧.bytes_of value)) }
     ensures refused { IsErr result → bytes.new ≡ bytes.old }
 {
     let root = match access::<R>(alloc, bytes) {
