@@ -38,7 +38,7 @@ def bring(it):
     f.use("archive_core::ser", "ResolverAlloc", "Writer", "serialize_one")
     f.use("archive_core::boxed", "BoxResolver", "serialize_inner")
     f.use("archive_core::vec", "VecResolver")
-    f.use("archive_recursive", "BoxAt", "VecAt", "boxed", "choice_of", "define_name", "listed", "part_of_record", "part_of_variant", "read_part", "record_of")
+    f.use("archive_recursive", "BoxAt", "VecAt", "before_box", "before_vec", "choice_of", "define_name", "part_of_record", "part_of_variant", "read_part", "record_of")
     f.use("archive_recursive", "serialize_inner_slice", "serialize_part", "tag_of_choice")
     f.use("archive_core::traits", "Archive", "ArchivePointee", "ArchiveUnsized", "Choice", "Deserialize", "Entries", "Keys", "Portable", "Record", "Serialize", "SerializeUnsized")
     f.use("archive_core::view", "RawView", "Ref")
@@ -559,13 +559,13 @@ def owner_reading(it, type):
     inner = f.archived(item)
     if type.name == "Box":
         body = f"""    let view: Ref<'_, ArchivedBox<{inner}>> = Ref::at(part);
-    let value = read_{it.word(item)}(alloc, boxed(view).part(), deserializer)?;
+    let value = read_{it.word(item)}(alloc, before_box(view).part(), deserializer)?;
     let whole = Box::new(alloc, value)?;
     Ok(whole)
 """
     else:
         body = f"""    let view: Ref<'_, ArchivedVec<{inner}>> = Ref::at(part);
-    let list = listed(view);
+    let list = before_vec(view);
     let mut items = Vec::with_capacity(alloc, list.len())?;
     for index in 0..list.len() {{
         let item = read_{it.word(item)}(alloc, list.index(index).part(), deserializer)?;

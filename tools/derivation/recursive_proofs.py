@@ -338,7 +338,7 @@ def box_read(it, type, answers):
     item = type.args[0]
     function = f"read_{it.word(type)}"
     D, X = it.terms.definitions(item), it.terms.shape(item)
-    steps = [f"c.{call}.ensures.{clause}" for call in ("part", "boxed") for clause in ("buffer", "position", "length")]
+    steps = [f"c.{call}.ensures.{clause}" for call in ("part", "before_box") for clause in ("buffer", "position", "length")]
     steps = ", ".join(steps + ["c.at-view.ensures.buffer", "c.at-view.ensures.position"])
     answers.answer(
         function, "returns-in_err-value-clause-refused",
@@ -362,12 +362,12 @@ def vec_read(it, type, answers):
         "(length l.items.items ≡ l.index) × (vec_len l.items ≡ l.index) × (l.list.len ≤ vec_capacity l.items)"
         f" × FirstElements g.D.Entries.keeps {D} {X} {L} l.list.bytes.now l.list.pos (run {X}) l.list.len {its} (g.D.Entries.entry_of l.initial.deserializer) (g.D.Entries.entry_of l.deserializer) l.items.items",
     )
-    lets = "let kept = c.loop-index.invariant in let b = c.listed-list.result.bytes.now in let q = c.listed-list.result.pos in let n = c.listed-list.result.len in"
+    lets = "let kept = c.loop-index.invariant in let b = c.before_vec-list.result.bytes.now in let q = c.before_vec-list.result.pos in let n = c.before_vec-list.result.len in"
     below = "let below : c.loop-index.index < n = omega (arith, c.loop-index-test.true, c.loop-index.auto.index-end, c.len-index-end.ensures) in"
     steps = ", ".join(f"c.{call}.ensures.{clause}" for call in ("part", "index") for clause in ("buffer", "position", "length"))
     here = f"{D} {X} {L} {laid} b q (run {X}) n n (all_have {D} {X} {L} {laid} b q n (run {X}) n (inl (refl, refl))) {its} {TOLD}"
     now = "(g.D.Entries.entry_of c.loop-index.deserializer)"
-    listed = ", ".join([f"c.listed-list.ensures.{clause}" for clause in ("buffer", "position", "length")] + ["c.at-view.ensures.buffer", "c.at-view.ensures.position"])
+    listed = ", ".join([f"c.before_vec-list.ensures.{clause}" for clause in ("buffer", "position", "length")] + ["c.at-view.ensures.buffer", "c.at-view.ensures.position"])
     refused = f"element_refused {here} {now} c.loop-index.items.items c.loop-index.index (one {X}) c.in_err-item.field-0.0 refl below (kept.3) h"
     answers.answer(
         function, "returns-in_err-item-clause-refused",

@@ -23,3 +23,5 @@ pub use Rattle.archive_types.specs.Words.Seen
 pub use Rattle.archive_types.specs.Words.Sources
 pub use Rattle.archive_types.specs.Writing
 pub use Rattle.archive_write.specs.Written
+pub use Rattle.archive_check.specs.Viewed
+pub use Rattle.archive_core.specs.SealsWritten

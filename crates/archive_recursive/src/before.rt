@@ -13,7 +13,7 @@ use archive_types::view::Ref;
 /// The view of what a box holds, which ends before the box.
 #[tactic(auto, using(crate::proofs::EndsBefore::box_ends))]
 #[inline(always)]
-pub fn boxed<'a, X: Portable>(view: Ref<'a, ArchivedBox<X>>) -> Ref<'a, X>
+pub fn before_box<'a, X: Portable>(view: Ref<'a, ArchivedBox<X>>) -> Ref<'a, X>
     ensures buffer { result.bytes.now ≡ view.entry.bytes.now }
     ensures position { result.pos ≡ target_from view.entry.bytes.now view.entry.pos view.entry.pos }
     ensures length { result.len ≡ length_at view.entry.bytes.now view.entry.pos X.pointee }
@@ -25,7 +25,7 @@ pub fn boxed<'a, X: Portable>(view: Ref<'a, ArchivedBox<X>>) -> Ref<'a, X>
 /// The view of a vector's elements, which end before the vector.
 #[tactic(auto, using(crate::proofs::EndsBefore::vec_ends))]
 #[inline(always)]
-pub fn listed<'a, X: Portable>(view: Ref<'a, ArchivedVec<X>>) -> Ref<'a, ArchivedSlice<X>>
+pub fn before_vec<'a, X: Portable>(view: Ref<'a, ArchivedVec<X>>) -> Ref<'a, ArchivedSlice<X>>
     ensures buffer { result.bytes.now ≡ view.entry.bytes.now }
     ensures position { result.pos ≡ target_from view.entry.bytes.now view.entry.pos view.entry.pos }
     ensures length { result.len ≡ u32_at view.entry.bytes.now (view.entry.pos + 4) }

@@ -3,12 +3,12 @@
 ghost use Rattle.std.specs.Prelude.{◌≡◌, ◌≤◌, ⊤};
 ghost use Rattle.archive_check.specs.Layout.{pointer_size};
 ghost use Rattle.archive_check.specs.Value.{shared_value};
-ghost use Rattle.archive_recursive.specs.Hollow.{named_twice, twice_keyed, no_two};
+ghost use Rattle.archive_recursive.specs.Hollow.{hollow_names, twice_keyed, no_two};
 ghost use Rattle.archive_types.specs.Outcomes.{ResolvesAs};
 ghost use Rattle.archive_types.specs.Writing.{ZeroedPlace, box_flat, vec_flat};
 
-use archive_types::boxed::{ArchivedBox, BoxResolver};
 use archive_check::format::error::Error;
+use archive_types::boxed::{ArchivedBox, BoxResolver};
 use archive_types::place::Place;
 use archive_types::traits::{Archive, Portable};
 use archive_types::vec::{ArchivedVec, VecResolver};
@@ -37,7 +37,7 @@ impl<X: Portable> Archive for BoxAt<X> {
 
     ghost flat = { λ _ r. box_flat X.pointee 0 r };
 
-    ghost keys = { λ _. named_twice };
+    ghost keys = { λ _. hollow_names };
 
     ghost belongs = { λ _ _. ⊤ };
 
@@ -46,11 +46,7 @@ impl<X: Portable> Archive for BoxAt<X> {
     ghost planned = { λ _ a s names known named. absurd (no_two names named) };
 
     #[inline(always)]
-    fn resolve(
-        &self,
-        resolver: BoxResolver,
-        place: Place<'_, ArchivedBox<X>>,
-    ) -> Result<(), Error>
+    fn resolve(&self, resolver: BoxResolver, place: Place<'_, ArchivedBox<X>>) -> Result<(), Error>
         requires zeroed { ZeroedPlace (pointer_size X.pointee) place.pos place.bytes.now }
         requires same_value { ⊤ }
         ensures { ResolvesAs ⟦<Self::Archived as Portable>⟧ place
@@ -91,7 +87,7 @@ impl<X: Portable> Archive for VecAt<X> {
 
     ghost flat = { λ v r. vec_flat X.shape v.len r };
 
-    ghost keys = { λ _. named_twice };
+    ghost keys = { λ _. hollow_names };
 
     ghost belongs = { λ v _. v.len ≤ 4294967295 };
 
@@ -100,11 +96,7 @@ impl<X: Portable> Archive for VecAt<X> {
     ghost planned = { λ _ a s names known named. absurd (no_two names named) };
 
     #[inline(always)]
-    fn resolve(
-        &self,
-        resolver: VecResolver,
-        place: Place<'_, ArchivedVec<X>>,
-    ) -> Result<(), Error>
+    fn resolve(&self, resolver: VecResolver, place: Place<'_, ArchivedVec<X>>) -> Result<(), Error>
         requires zeroed { ZeroedPlace 8 place.pos place.bytes.now }
         requires same_value { self.now.len ≤ 4294967295 }
         ensures { ResolvesAs ⟦<Self::Archived as Portable>⟧ place

@@ -10,7 +10,7 @@ mod naming;
 mod part_of;
 mod views;
 
-pub use before::{boxed, listed};
+pub use before::{before_box, before_vec};
 pub use fields::{
     resolve_named_case_0, resolve_named_case_1, resolve_named_case_2, resolve_named_case_3,
     resolve_named_case_4, resolve_named_case_5, resolve_named_case_6, resolve_named_case_7,

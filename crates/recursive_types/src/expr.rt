@@ -51,7 +51,7 @@ use archive_core::traits::{
 use archive_core::vec::{ArchivedVec, VecResolver};
 use archive_core::view::{RawView, Ref};
 use archive_recursive::{
-    BoxAt, VecAt, boxed, choice_of, define_name, listed, part_of_variant, read_part,
+    BoxAt, VecAt, before_box, before_vec, choice_of, define_name, part_of_variant, read_part,
     resolve_named_case_1, resolve_named_case_2, seal_of_payload, serialize_inner_slice,
     serialize_part, tag_of_choice, tag_of_view, view_of_payload,
 };
@@ -249,14 +249,19 @@ impl Archive for Expr {
 
 // Writes what a box owns.
 #[cycle(serialize_expr)]
-fn serialize_box_expr<S: Writer + Keys + ResolverAlloc>(value: &Box<Expr>, serializer: &mut S) -> Result<BoxResolver, Error>
-    ensures serialized { IfOk result (λ r. Serialized expr_definitions (boxed (one expr_shape)) (⟦<Box<Expr> as Archive>⟧.keys value.now)
-        (⟦<Box<Expr> as Archive>⟧.meaning value.now) (⟦<Box<Expr> as Archive>⟧.flat value.now r)
-        (S.state serializer.old) (S.state serializer.new)) }
+fn serialize_box_expr<S: Writer + Keys + ResolverAlloc>(
+    value: &Box<Expr>,
+    serializer: &mut S,
+) -> Result<BoxResolver, Error>
+    ensures serialized { IfOk result (λ r. Serialized expr_definitions (boxed (one expr_shape))
+        (⟦<Box<Expr> as Archive>⟧.keys value.now) (⟦<Box<Expr> as Archive>⟧.meaning value.now)
+        (⟦<Box<Expr> as Archive>⟧.flat value.now r) (S.state serializer.old)
+        (S.state serializer.new)) }
     ensures same_value { IfOk result (λ r. ⟦<Box<Expr> as Archive>⟧.belongs value.now r) }
     ensures goes_on { GoesOn (S.state serializer.old) (S.state serializer.new) }
-    ensures refused { IfErr result (IsRefused expr_definitions (boxed (one expr_shape)) (⟦<Box<Expr> as Archive>⟧.keys value.now)
-        (⟦<Box<Expr> as Archive>⟧.meaning value.now) (S.state serializer.old) (S.state serializer.new)) }
+    ensures refused { IfErr result (IsRefused expr_definitions (boxed (one expr_shape))
+        (⟦<Box<Expr> as Archive>⟧.keys value.now) (⟦<Box<Expr> as Archive>⟧.meaning value.now)
+        (S.state serializer.old) (S.state serializer.new)) }
 {
     let inner = &**value;
     let kept = match serialize_expr(inner, serializer) {
@@ -271,16 +276,22 @@ fn serialize_box_expr<S: Writer + Keys + ResolverAlloc>(value: &Box<Expr>, seria
 
 // Writes what each of the values owns, in order.
 #[cycle(serialize_expr)]
-fn serialize_each_expr<S: Writer + Keys + ResolverAlloc>(values: &[Expr], serializer: &mut S) -> Result<Vec<<Expr as Archive>::Resolver, S::Alloc>, Error>
-    ensures serialized { IfOk result (λ rs. SerializedRun expr_definitions expr_shape (length values.now) (each_keys ⟦<Expr as Archive>⟧.keys values.now)
+fn serialize_each_expr<S: Writer + Keys + ResolverAlloc>(
+    values: &[Expr],
+    serializer: &mut S,
+) -> Result<Vec<<Expr as Archive>::Resolver, S::Alloc>, Error>
+    ensures serialized { IfOk result (λ rs. SerializedRun expr_definitions expr_shape
+        (length values.now) (each_keys ⟦<Expr as Archive>⟧.keys values.now)
         (each_meaning ⟦<Expr as Archive>⟧.meaning values.now)
         (each_flat ⟦<Expr as Archive>⟧.flat values.now rs.items) (S.state serializer.old)
         (S.state serializer.new)) }
-    ensures same_values { IfOk result (λ rs. EachBelongs ⟦<Expr as Archive>⟧.belongs values.now rs.items) }
+    ensures same_values { IfOk result (λ rs. EachBelongs ⟦<Expr as Archive>⟧.belongs values.now
+        rs.items) }
     ensures goes_on { GoesOn (S.state serializer.old) (S.state serializer.new) }
-    ensures refused { IfErr result (IsRunRefused expr_definitions expr_shape (length values.now) (each_keys ⟦<Expr as Archive>⟧.keys values.now)
-        (each_meaning ⟦<Expr as Archive>⟧.meaning values.now)
-        (S.state serializer.old) (S.state serializer.new)) }
+    ensures refused { IfErr result (IsRunRefused expr_definitions expr_shape (length values.now)
+        (each_keys ⟦<Expr as Archive>⟧.keys values.now)
+        (each_meaning ⟦<Expr as Archive>⟧.meaning values.now) (S.state serializer.old)
+        (S.state serializer.new)) }
 {
     let alloc = serializer.resolver_alloc();
     let mut resolvers = Vec::with_capacity(alloc, values.len())?;
@@ -296,14 +307,19 @@ fn serialize_each_expr<S: Writer + Keys + ResolverAlloc>(values: &[Expr], serial
 
 // Writes what a vector owns.
 #[cycle(serialize_expr)]
-fn serialize_vec_expr<S: Writer + Keys + ResolverAlloc>(value: &Vec<Expr>, serializer: &mut S) -> Result<VecResolver, Error>
-    ensures serialized { IfOk result (λ r. Serialized expr_definitions (vec expr_shape) (⟦<Vec<Expr> as Archive>⟧.keys value.now)
-        (⟦<Vec<Expr> as Archive>⟧.meaning value.now) (⟦<Vec<Expr> as Archive>⟧.flat value.now r)
-        (S.state serializer.old) (S.state serializer.new)) }
+fn serialize_vec_expr<S: Writer + Keys + ResolverAlloc>(
+    value: &Vec<Expr>,
+    serializer: &mut S,
+) -> Result<VecResolver, Error>
+    ensures serialized { IfOk result (λ r. Serialized expr_definitions (vec expr_shape)
+        (⟦<Vec<Expr> as Archive>⟧.keys value.now) (⟦<Vec<Expr> as Archive>⟧.meaning value.now)
+        (⟦<Vec<Expr> as Archive>⟧.flat value.now r) (S.state serializer.old)
+        (S.state serializer.new)) }
     ensures same_value { IfOk result (λ r. ⟦<Vec<Expr> as Archive>⟧.belongs value.now r) }
     ensures goes_on { GoesOn (S.state serializer.old) (S.state serializer.new) }
-    ensures refused { IfErr result (IsRefused expr_definitions (vec expr_shape) (⟦<Vec<Expr> as Archive>⟧.keys value.now)
-        (⟦<Vec<Expr> as Archive>⟧.meaning value.now) (S.state serializer.old) (S.state serializer.new)) }
+    ensures refused { IfErr result (IsRefused expr_definitions (vec expr_shape)
+        (⟦<Vec<Expr> as Archive>⟧.keys value.now) (⟦<Vec<Expr> as Archive>⟧.meaning value.now)
+        (S.state serializer.old) (S.state serializer.new)) }
 {
     if value.len() > u32::MAX as usize {
         return Err(Error::LengthTooLarge);
@@ -324,10 +340,15 @@ fn serialize_expr_num<S: Writer + Keys + ResolverAlloc>(
     a0: &i64,
     serializer: &mut S,
 ) -> Result<(<i64 as Archive>::Resolver, ()), Error>
-    ensures serialized { IfOk result (λ r. Serialized expr_definitions expr_shape (⟦<i64 as Archive>⟧.keys a0.now ++ []) (case 0 (value (⟦<i64 as Archive>⟧.meaning a0.now) no_value)) (case 0 (value (⟦<i64 as Archive>⟧.flat a0.now r.0) no_value)) (S.state serializer.old) (S.state serializer.new)) }
+    ensures serialized { IfOk result (λ r. Serialized expr_definitions expr_shape
+        (⟦<i64 as Archive>⟧.keys a0.now ++ []) (case 0 (value (⟦<i64 as Archive>⟧.meaning a0.now)
+        no_value)) (case 0 (value (⟦<i64 as Archive>⟧.flat a0.now r.0) no_value))
+        (S.state serializer.old) (S.state serializer.new)) }
     ensures same_values { IfOk result (λ r. ⟦<i64 as Archive>⟧.belongs a0.now r.0 × Unit {0}) }
     ensures goes_on { GoesOn (S.state serializer.old) (S.state serializer.new) }
-    ensures refused { IfErr result (IsRefused expr_definitions expr_shape (⟦<i64 as Archive>⟧.keys a0.now ++ []) (case 0 (value (⟦<i64 as Archive>⟧.meaning a0.now) no_value)) (S.state serializer.old) (S.state serializer.new)) }
+    ensures refused { IfErr result (IsRefused expr_definitions expr_shape
+        (⟦<i64 as Archive>⟧.keys a0.now ++ []) (case 0 (value (⟦<i64 as Archive>⟧.meaning a0.now)
+        no_value)) (S.state serializer.old) (S.state serializer.new)) }
 {
     let a0 = match serialize_part(a0, serializer) {
         Ok(a0) => a0,
@@ -342,10 +363,18 @@ fn serialize_expr_negated<S: Writer + Keys + ResolverAlloc>(
     a0: &Box<Expr>,
     serializer: &mut S,
 ) -> Result<(BoxResolver, ()), Error>
-    ensures serialized { IfOk result (λ r. Serialized expr_definitions expr_shape (⟦<Box<Expr> as Archive>⟧.keys a0.now ++ []) (case 1 (value (⟦<Box<Expr> as Archive>⟧.meaning a0.now) no_value)) (case 1 (value (⟦<Box<Expr> as Archive>⟧.flat a0.now r.0) no_value)) (S.state serializer.old) (S.state serializer.new)) }
-    ensures same_values { IfOk result (λ r. ⟦<Box<Expr> as Archive>⟧.belongs a0.now r.0 × Unit {0}) }
+    ensures serialized { IfOk result (λ r. Serialized expr_definitions expr_shape
+        (⟦<Box<Expr> as Archive>⟧.keys a0.now ++ []) (case 1
+        (value (⟦<Box<Expr> as Archive>⟧.meaning a0.now) no_value))
+        (case 1 (value (⟦<Box<Expr> as Archive>⟧.flat a0.now r.0) no_value))
+        (S.state serializer.old) (S.state serializer.new)) }
+    ensures same_values { IfOk result (λ r. ⟦<Box<Expr> as Archive>⟧.belongs a0.now r.0
+        × Unit {0}) }
     ensures goes_on { GoesOn (S.state serializer.old) (S.state serializer.new) }
-    ensures refused { IfErr result (IsRefused expr_definitions expr_shape (⟦<Box<Expr> as Archive>⟧.keys a0.now ++ []) (case 1 (value (⟦<Box<Expr> as Archive>⟧.meaning a0.now) no_value)) (S.state serializer.old) (S.state serializer.new)) }
+    ensures refused { IfErr result (IsRefused expr_definitions expr_shape
+        (⟦<Box<Expr> as Archive>⟧.keys a0.now ++ []) (case 1
+        (value (⟦<Box<Expr> as Archive>⟧.meaning a0.now) no_value)) (S.state serializer.old)
+        (S.state serializer.new)) }
 {
     let a0 = match serialize_box_expr(a0, serializer) {
         Ok(a0) => a0,
@@ -361,10 +390,21 @@ fn serialize_expr_call<S: Writer + Keys + ResolverAlloc>(
     a1: &Vec<Expr>,
     serializer: &mut S,
 ) -> Result<(<String as Archive>::Resolver, (VecResolver, ())), Error>
-    ensures serialized { IfOk result (λ r. Serialized expr_definitions expr_shape (⟦<String as Archive>⟧.keys a0.now ++ (⟦<Vec<Expr> as Archive>⟧.keys a1.now ++ [])) (case 2 (value (⟦<String as Archive>⟧.meaning a0.now) (value (⟦<Vec<Expr> as Archive>⟧.meaning a1.now) no_value))) (case 2 (value (⟦<String as Archive>⟧.flat a0.now r.0) (value (⟦<Vec<Expr> as Archive>⟧.flat a1.now r.1.0) no_value))) (S.state serializer.old) (S.state serializer.new)) }
-    ensures same_values { IfOk result (λ r. ⟦<String as Archive>⟧.belongs a0.now r.0 × (⟦<Vec<Expr> as Archive>⟧.belongs a1.now r.1.0 × Unit {0})) }
+    ensures serialized { IfOk result (λ r. Serialized expr_definitions expr_shape
+        (⟦<String as Archive>⟧.keys a0.now ++ (⟦<Vec<Expr> as Archive>⟧.keys a1.now ++ []))
+        (case 2 (value (⟦<String as Archive>⟧.meaning a0.now)
+        (value (⟦<Vec<Expr> as Archive>⟧.meaning a1.now) no_value)))
+        (case 2 (value (⟦<String as Archive>⟧.flat a0.now r.0)
+        (value (⟦<Vec<Expr> as Archive>⟧.flat a1.now r.1.0) no_value))) (S.state serializer.old)
+        (S.state serializer.new)) }
+    ensures same_values { IfOk result (λ r. ⟦<String as Archive>⟧.belongs a0.now r.0
+        × (⟦<Vec<Expr> as Archive>⟧.belongs a1.now r.1.0 × Unit {0})) }
     ensures goes_on { GoesOn (S.state serializer.old) (S.state serializer.new) }
-    ensures refused { IfErr result (IsRefused expr_definitions expr_shape (⟦<String as Archive>⟧.keys a0.now ++ (⟦<Vec<Expr> as Archive>⟧.keys a1.now ++ [])) (case 2 (value (⟦<String as Archive>⟧.meaning a0.now) (value (⟦<Vec<Expr> as Archive>⟧.meaning a1.now) no_value))) (S.state serializer.old) (S.state serializer.new)) }
+    ensures refused { IfErr result (IsRefused expr_definitions expr_shape
+        (⟦<String as Archive>⟧.keys a0.now ++ (⟦<Vec<Expr> as Archive>⟧.keys a1.now ++ []))
+        (case 2 (value (⟦<String as Archive>⟧.meaning a0.now)
+        (value (⟦<Vec<Expr> as Archive>⟧.meaning a1.now) no_value))) (S.state serializer.old)
+        (S.state serializer.new)) }
 {
     let a0 = match serialize_part(a0, serializer) {
         Ok(a0) => a0,
@@ -379,14 +419,18 @@ fn serialize_expr_call<S: Writer + Keys + ResolverAlloc>(
 
 // Writes what a value owns.
 #[cycle(serialize_expr)]
-fn serialize_expr<S: Writer + Keys + ResolverAlloc>(value: &Expr, serializer: &mut S) -> Result<ExprResolver, Error>
-    ensures serialized { IfOk result (λ r. Serialized expr_definitions expr_shape (⟦<Expr as Archive>⟧.keys value.now)
-        (⟦<Expr as Archive>⟧.meaning value.now) (⟦<Expr as Archive>⟧.flat value.now r)
-        (S.state serializer.old) (S.state serializer.new)) }
+fn serialize_expr<S: Writer + Keys + ResolverAlloc>(
+    value: &Expr,
+    serializer: &mut S,
+) -> Result<ExprResolver, Error>
+    ensures serialized { IfOk result (λ r. Serialized expr_definitions expr_shape
+        (⟦<Expr as Archive>⟧.keys value.now) (⟦<Expr as Archive>⟧.meaning value.now)
+        (⟦<Expr as Archive>⟧.flat value.now r) (S.state serializer.old) (S.state serializer.new)) }
     ensures same_value { IfOk result (λ r. ⟦<Expr as Archive>⟧.belongs value.now r) }
     ensures goes_on { GoesOn (S.state serializer.old) (S.state serializer.new) }
-    ensures refused { IfErr result (IsRefused expr_definitions expr_shape (⟦<Expr as Archive>⟧.keys value.now)
-        (⟦<Expr as Archive>⟧.meaning value.now) (S.state serializer.old) (S.state serializer.new)) }
+    ensures refused { IfErr result (IsRefused expr_definitions expr_shape
+        (⟦<Expr as Archive>⟧.keys value.now) (⟦<Expr as Archive>⟧.meaning value.now)
+        (S.state serializer.old) (S.state serializer.new)) }
 {
     match value {
         Expr::Num(a0) => match serialize_expr_num(a0, serializer) {
@@ -426,7 +470,8 @@ impl ArchiveUnsized for Expr {
 
     ghost one_length = { λ _ _. refl };
 
-    ghost planned = { λ v. one_planned expr_definitions expr_shape (⟦<Expr as Archive>⟧.keys v) (⟦<Expr as Archive>⟧.meaning v) (planned_of_expr v) };
+    ghost planned = { λ v. one_planned expr_definitions expr_shape (⟦<Expr as Archive>⟧.keys v)
+        (⟦<Expr as Archive>⟧.meaning v) (planned_of_expr v) };
 
     fn archived_metadata(&self) -> Result<(), Error> {
         Ok(())
@@ -441,26 +486,38 @@ impl<S: Writer + Keys + ResolverAlloc> SerializeUnsized<S> for Expr {
 
 // Reads a box back.
 #[cycle(read_expr)]
-fn read_box_expr<D: Entries>(alloc: Global, part: RawView<'_>, deserializer: &mut D) -> Result<Box<Expr>, Error>
+fn read_box_expr<D: Entries>(
+    alloc: Global,
+    part: RawView<'_>,
+    deserializer: &mut D,
+) -> Result<Box<Expr>, Error>
     requires { IsPartOf ⟦<ArchivedBox<ArchivedExpr> as ArchivePointee>⟧ part }
-    ensures read { IfOk result (Read ⟦<ArchivedBox<ArchivedExpr> as ArchivePointee>⟧ part D.Entries deserializer ⟦<Box<Expr> as Archive>⟧) }
-    ensures refused { IfErr result (RefusesPart ⟦<ArchivedBox<ArchivedExpr> as ArchivePointee>⟧ part D.Entries deserializer) }
+    ensures read { IfOk result (Read ⟦<ArchivedBox<ArchivedExpr> as ArchivePointee>⟧ part D.Entries
+        deserializer ⟦<Box<Expr> as Archive>⟧) }
+    ensures refused { IfErr result (RefusesPart ⟦<ArchivedBox<ArchivedExpr> as ArchivePointee>⟧ part
+        D.Entries deserializer) }
 {
     let view: Ref<'_, ArchivedBox<ArchivedExpr>> = Ref::at(part);
-    let value = read_expr(alloc, boxed(view).part(), deserializer)?;
+    let value = read_expr(alloc, before_box(view).part(), deserializer)?;
     let whole = Box::new(alloc, value)?;
     Ok(whole)
 }
 
 // Reads a vector back.
 #[cycle(read_expr)]
-fn read_vec_expr<D: Entries>(alloc: Global, part: RawView<'_>, deserializer: &mut D) -> Result<Vec<Expr>, Error>
+fn read_vec_expr<D: Entries>(
+    alloc: Global,
+    part: RawView<'_>,
+    deserializer: &mut D,
+) -> Result<Vec<Expr>, Error>
     requires { IsPartOf ⟦<ArchivedVec<ArchivedExpr> as ArchivePointee>⟧ part }
-    ensures read { IfOk result (Read ⟦<ArchivedVec<ArchivedExpr> as ArchivePointee>⟧ part D.Entries deserializer ⟦<Vec<Expr> as Archive>⟧) }
-    ensures refused { IfErr result (RefusesPart ⟦<ArchivedVec<ArchivedExpr> as ArchivePointee>⟧ part D.Entries deserializer) }
+    ensures read { IfOk result (Read ⟦<ArchivedVec<ArchivedExpr> as ArchivePointee>⟧ part D.Entries
+        deserializer ⟦<Vec<Expr> as Archive>⟧) }
+    ensures refused { IfErr result (RefusesPart ⟦<ArchivedVec<ArchivedExpr> as ArchivePointee>⟧ part
+        D.Entries deserializer) }
 {
     let view: Ref<'_, ArchivedVec<ArchivedExpr>> = Ref::at(part);
-    let list = listed(view);
+    let list = before_vec(view);
     let mut items = Vec::with_capacity(alloc, list.len())?;
     for index in 0..list.len() {
         let item = read_expr(alloc, list.index(index).part(), deserializer)?;
@@ -470,11 +527,17 @@ fn read_vec_expr<D: Entries>(alloc: Global, part: RawView<'_>, deserializer: &mu
 }
 
 // Reads `Num` back.
-fn read_expr_num<D: Entries>(alloc: Global, part: RawView<'_>, deserializer: &mut D) -> Result<Expr, Error>
+fn read_expr_num<D: Entries>(
+    alloc: Global,
+    part: RawView<'_>,
+    deserializer: &mut D,
+) -> Result<Expr, Error>
     requires viewed { IsPartOf ⟦<ArchivedExpr as ArchivePointee>⟧ part }
     requires tag { part_tag part ≡ 0 }
-    ensures read { IfOk result (Read ⟦<ArchivedExpr as ArchivePointee>⟧ part D.Entries deserializer ⟦<Expr as Archive>⟧) }
-    ensures refused { IfErr result (RefusesPart ⟦<ArchivedExpr as ArchivePointee>⟧ part D.Entries deserializer) }
+    ensures read { IfOk result (Read ⟦<ArchivedExpr as ArchivePointee>⟧ part D.Entries deserializer
+        ⟦<Expr as Archive>⟧) }
+    ensures refused { IfErr result (RefusesPart ⟦<ArchivedExpr as ArchivePointee>⟧ part D.Entries
+        deserializer) }
 {
     let p0 = part_of_variant::<ArchivedExpr, ArchivedI64>(part, 0, 0, 8);
     let a0 = read_part::<ArchivedI64, i64, D>(alloc, p0, deserializer)?;
@@ -483,11 +546,17 @@ fn read_expr_num<D: Entries>(alloc: Global, part: RawView<'_>, deserializer: &mu
 
 // Reads `Negated` back.
 #[cycle(read_expr)]
-fn read_expr_negated<D: Entries>(alloc: Global, part: RawView<'_>, deserializer: &mut D) -> Result<Expr, Error>
+fn read_expr_negated<D: Entries>(
+    alloc: Global,
+    part: RawView<'_>,
+    deserializer: &mut D,
+) -> Result<Expr, Error>
     requires viewed { IsPartOf ⟦<ArchivedExpr as ArchivePointee>⟧ part }
     requires tag { part_tag part ≡ 1 }
-    ensures read { IfOk result (Read ⟦<ArchivedExpr as ArchivePointee>⟧ part D.Entries deserializer ⟦<Expr as Archive>⟧) }
-    ensures refused { IfErr result (RefusesPart ⟦<ArchivedExpr as ArchivePointee>⟧ part D.Entries deserializer) }
+    ensures read { IfOk result (Read ⟦<ArchivedExpr as ArchivePointee>⟧ part D.Entries deserializer
+        ⟦<Expr as Archive>⟧) }
+    ensures refused { IfErr result (RefusesPart ⟦<ArchivedExpr as ArchivePointee>⟧ part D.Entries
+        deserializer) }
 {
     let p0 = part_of_variant::<ArchivedExpr, ArchivedBox<ArchivedExpr>>(part, 1, 0, 4);
     let a0 = read_box_expr(alloc, p0, deserializer)?;
@@ -496,11 +565,17 @@ fn read_expr_negated<D: Entries>(alloc: Global, part: RawView<'_>, deserializer:
 
 // Reads `Call` back.
 #[cycle(read_expr)]
-fn read_expr_call<D: Entries>(alloc: Global, part: RawView<'_>, deserializer: &mut D) -> Result<Expr, Error>
+fn read_expr_call<D: Entries>(
+    alloc: Global,
+    part: RawView<'_>,
+    deserializer: &mut D,
+) -> Result<Expr, Error>
     requires viewed { IsPartOf ⟦<ArchivedExpr as ArchivePointee>⟧ part }
     requires tag { part_tag part ≡ 2 }
-    ensures read { IfOk result (Read ⟦<ArchivedExpr as ArchivePointee>⟧ part D.Entries deserializer ⟦<Expr as Archive>⟧) }
-    ensures refused { IfErr result (RefusesPart ⟦<ArchivedExpr as ArchivePointee>⟧ part D.Entries deserializer) }
+    ensures read { IfOk result (Read ⟦<ArchivedExpr as ArchivePointee>⟧ part D.Entries deserializer
+        ⟦<Expr as Archive>⟧) }
+    ensures refused { IfErr result (RefusesPart ⟦<ArchivedExpr as ArchivePointee>⟧ part D.Entries
+        deserializer) }
 {
     let p0 = part_of_variant::<ArchivedExpr, ArchivedString>(part, 2, 0, 4);
     let a0 = read_part::<ArchivedString, String, D>(alloc, p0, deserializer)?;
@@ -511,10 +586,16 @@ fn read_expr_call<D: Entries>(alloc: Global, part: RawView<'_>, deserializer: &m
 
 // Reads a value back.
 #[cycle(read_expr)]
-fn read_expr<D: Entries>(alloc: Global, part: RawView<'_>, deserializer: &mut D) -> Result<Expr, Error>
+fn read_expr<D: Entries>(
+    alloc: Global,
+    part: RawView<'_>,
+    deserializer: &mut D,
+) -> Result<Expr, Error>
     requires { IsPartOf ⟦<ArchivedExpr as ArchivePointee>⟧ part }
-    ensures read { IfOk result (Read ⟦<ArchivedExpr as ArchivePointee>⟧ part D.Entries deserializer ⟦<Expr as Archive>⟧) }
-    ensures refused { IfErr result (RefusesPart ⟦<ArchivedExpr as ArchivePointee>⟧ part D.Entries deserializer) }
+    ensures read { IfOk result (Read ⟦<ArchivedExpr as ArchivePointee>⟧ part D.Entries deserializer
+        ⟦<Expr as Archive>⟧) }
+    ensures refused { IfErr result (RefusesPart ⟦<ArchivedExpr as ArchivePointee>⟧ part D.Entries
+        deserializer) }
 {
     match tag_of_choice::<ArchivedExpr>(part) {
         0 => read_expr_num(alloc, part, deserializer),
@@ -530,8 +611,10 @@ impl<D: Entries> Deserialize<Expr, D> for ArchivedExpr {
         deserializer: &mut D,
     ) -> Result<Expr, Error>
         requires { IsPartOf ⟦<Self as ArchivePointee>⟧ part }
-        ensures read { IfOk result (Read ⟦<Self as ArchivePointee>⟧ part D.Entries deserializer ⟦<Expr as Archive>⟧) }
-        ensures refused { IfErr result (RefusesPart ⟦<Self as ArchivePointee>⟧ part D.Entries deserializer) }
+        ensures read { IfOk result (Read ⟦<Self as ArchivePointee>⟧ part D.Entries deserializer
+            ⟦<Expr as Archive>⟧) }
+        ensures refused { IfErr result (RefusesPart ⟦<Self as ArchivePointee>⟧ part D.Entries
+            deserializer) }
     {
         read_expr(alloc, part, deserializer)
     }
@@ -558,7 +641,19 @@ impl<'a> ExprView<'a> for Ref<'a, ArchivedExpr> {
     ghost use Rattle.recursive_types.specs.declared.expr.ViewOfExpr.TheVariants.{Call as ExprCallShown, Negated as ExprNegatedShown, Num as ExprNumShown};
 
     fn variant(self) -> ViewOfExpr<'a>
-        ensures shows { elim result [ ExprNumShown a0 ↦ (tag_of self.entry ≡ 0) × (a0.bytes.now ≡ self.entry.bytes.now) × (a0.pos ≡ self.entry.pos + 8) × (a0.len ≡ 0) × ShowsValueOf a0 self.entry (payload_in 0) | ExprNegatedShown a0 ↦ (tag_of self.entry ≡ 1) × (a0.bytes.now ≡ self.entry.bytes.now) × (a0.pos ≡ self.entry.pos + 4) × (a0.len ≡ 0) × ShowsValueOf a0 self.entry (payload_in 0) | ExprCallShown a0 a1 ↦ (tag_of self.entry ≡ 2) × (a0.bytes.now ≡ self.entry.bytes.now) × (a0.pos ≡ self.entry.pos + 4) × (a0.len ≡ 0) × ShowsValueOf a0 self.entry (payload_in 0) × (a1.bytes.now ≡ self.entry.bytes.now) × (a1.pos ≡ self.entry.pos + 12) × (a1.len ≡ 0) × ShowsValueOf a1 self.entry (payload_in 1) ] }
+        ensures shows { elim result [
+          | ExprNumShown a0 ↦ (tag_of self.entry ≡ 0) × (a0.bytes.now ≡ self.entry.bytes.now)
+              × (a0.pos ≡ self.entry.pos + 8) × (a0.len ≡ 0)
+              × ShowsValueOf a0 self.entry (payload_in 0)
+          | ExprNegatedShown a0 ↦ (tag_of self.entry ≡ 1) × (a0.bytes.now ≡ self.entry.bytes.now)
+              × (a0.pos ≡ self.entry.pos + 4) × (a0.len ≡ 0)
+              × ShowsValueOf a0 self.entry (payload_in 0)
+          | ExprCallShown a0 a1 ↦ (tag_of self.entry ≡ 2) × (a0.bytes.now ≡ self.entry.bytes.now)
+              × (a0.pos ≡ self.entry.pos + 4) × (a0.len ≡ 0)
+              × ShowsValueOf a0 self.entry (payload_in 0) × (a1.bytes.now ≡ self.entry.bytes.now)
+              × (a1.pos ≡ self.entry.pos + 12) × (a1.len ≡ 0)
+              × ShowsValueOf a1 self.entry (payload_in 1)
+        ] }
     {
         match tag_of_view(self) {
             0 => ViewOfExpr::Num(view_of_payload::<ArchivedExpr, ArchivedI64>(self, 0, 0, 8)),
@@ -605,58 +700,71 @@ pub trait ExprSeal<'a> {
 }
 
 impl<'a> ExprSeal<'a> for Seal<'a, ArchivedExpr> {
-    ghost sealed = { λ s. Viewed expr_definitions s.bytes.now s.pos (one ⟦<ArchivedExpr as Portable>⟧.shape) s.len };
+    ghost sealed = { λ s. Viewed expr_definitions s.bytes.now s.pos
+        (one ⟦<ArchivedExpr as Portable>⟧.shape) s.len };
 
     ghost tag = { λ s. seal_tag s };
 
     fn num_0_mut(self) -> Seal<'a, ArchivedI64>
-        requires viewed { Viewed expr_definitions self.bytes.now self.pos (one ⟦<ArchivedExpr as Portable>⟧.shape) self.len }
+        requires viewed { Viewed expr_definitions self.bytes.now self.pos
+            (one ⟦<ArchivedExpr as Portable>⟧.shape) self.len }
         requires tag { seal_tag self ≡ 0 }
         ensures same_reference { result.bytes.ghost_name ≡ self.entry.bytes.ghost_name }
         ensures buffer { result.bytes.now ≡ self.entry.bytes.now }
         ensures position { result.pos ≡ self.entry.pos + 8 }
         ensures length { result.len ≡ 0 }
-        ensures viewed { Viewed no_definition result.bytes.now result.pos ⟦<ArchivedI64 as ArchivePointee>⟧.pointee result.len }
-        ensures beside { SealsBeside expr_definitions (one ⟦<ArchivedExpr as Portable>⟧.shape) ⟦<ArchivedI64 as ArchivePointee>⟧.pointee result self.entry }
+        ensures viewed { Viewed no_definition result.bytes.now result.pos
+            ⟦<ArchivedI64 as ArchivePointee>⟧.pointee result.len }
+        ensures beside { SealsBeside expr_definitions (one ⟦<ArchivedExpr as Portable>⟧.shape)
+            ⟦<ArchivedI64 as ArchivePointee>⟧.pointee result self.entry }
     {
         seal_of_payload::<ArchivedExpr, ArchivedI64>(self, 0, 0, 8)
     }
 
     fn negated_0_mut(self) -> Seal<'a, ArchivedBox<ArchivedExpr>>
-        requires viewed { Viewed expr_definitions self.bytes.now self.pos (one ⟦<ArchivedExpr as Portable>⟧.shape) self.len }
+        requires viewed { Viewed expr_definitions self.bytes.now self.pos
+            (one ⟦<ArchivedExpr as Portable>⟧.shape) self.len }
         requires tag { seal_tag self ≡ 1 }
         ensures same_reference { result.bytes.ghost_name ≡ self.entry.bytes.ghost_name }
         ensures buffer { result.bytes.now ≡ self.entry.bytes.now }
         ensures position { result.pos ≡ self.entry.pos + 4 }
         ensures length { result.len ≡ 0 }
-        ensures viewed { Viewed ⟦<ArchivedExpr as ArchivePointee>⟧.definitions result.bytes.now result.pos ⟦<ArchivedBox<ArchivedExpr> as ArchivePointee>⟧.pointee result.len }
-        ensures beside { SealsBeside expr_definitions (one ⟦<ArchivedExpr as Portable>⟧.shape) ⟦<ArchivedBox<ArchivedExpr> as ArchivePointee>⟧.pointee result self.entry }
+        ensures viewed { Viewed ⟦<ArchivedExpr as ArchivePointee>⟧.definitions result.bytes.now
+            result.pos ⟦<ArchivedBox<ArchivedExpr> as ArchivePointee>⟧.pointee result.len }
+        ensures beside { SealsBeside expr_definitions (one ⟦<ArchivedExpr as Portable>⟧.shape)
+            ⟦<ArchivedBox<ArchivedExpr> as ArchivePointee>⟧.pointee result self.entry }
     {
         seal_of_payload::<ArchivedExpr, ArchivedBox<ArchivedExpr>>(self, 1, 0, 4)
     }
 
     fn call_0_mut(self) -> Seal<'a, ArchivedString>
-        requires viewed { Viewed expr_definitions self.bytes.now self.pos (one ⟦<ArchivedExpr as Portable>⟧.shape) self.len }
+        requires viewed { Viewed expr_definitions self.bytes.now self.pos
+            (one ⟦<ArchivedExpr as Portable>⟧.shape) self.len }
         requires tag { seal_tag self ≡ 2 }
         ensures same_reference { result.bytes.ghost_name ≡ self.entry.bytes.ghost_name }
         ensures buffer { result.bytes.now ≡ self.entry.bytes.now }
         ensures position { result.pos ≡ self.entry.pos + 4 }
         ensures length { result.len ≡ 0 }
-        ensures viewed { Viewed no_definition result.bytes.now result.pos ⟦<ArchivedString as ArchivePointee>⟧.pointee result.len }
-        ensures beside { SealsBeside expr_definitions (one ⟦<ArchivedExpr as Portable>⟧.shape) ⟦<ArchivedString as ArchivePointee>⟧.pointee result self.entry }
+        ensures viewed { Viewed no_definition result.bytes.now result.pos
+            ⟦<ArchivedString as ArchivePointee>⟧.pointee result.len }
+        ensures beside { SealsBeside expr_definitions (one ⟦<ArchivedExpr as Portable>⟧.shape)
+            ⟦<ArchivedString as ArchivePointee>⟧.pointee result self.entry }
     {
         seal_of_payload::<ArchivedExpr, ArchivedString>(self, 2, 0, 4)
     }
 
     fn call_1_mut(self) -> Seal<'a, ArchivedVec<ArchivedExpr>>
-        requires viewed { Viewed expr_definitions self.bytes.now self.pos (one ⟦<ArchivedExpr as Portable>⟧.shape) self.len }
+        requires viewed { Viewed expr_definitions self.bytes.now self.pos
+            (one ⟦<ArchivedExpr as Portable>⟧.shape) self.len }
         requires tag { seal_tag self ≡ 2 }
         ensures same_reference { result.bytes.ghost_name ≡ self.entry.bytes.ghost_name }
         ensures buffer { result.bytes.now ≡ self.entry.bytes.now }
         ensures position { result.pos ≡ self.entry.pos + 12 }
         ensures length { result.len ≡ 0 }
-        ensures viewed { Viewed ⟦<ArchivedExpr as ArchivePointee>⟧.definitions result.bytes.now result.pos ⟦<ArchivedVec<ArchivedExpr> as ArchivePointee>⟧.pointee result.len }
-        ensures beside { SealsBeside expr_definitions (one ⟦<ArchivedExpr as Portable>⟧.shape) ⟦<ArchivedVec<ArchivedExpr> as ArchivePointee>⟧.pointee result self.entry }
+        ensures viewed { Viewed ⟦<ArchivedExpr as ArchivePointee>⟧.definitions result.bytes.now
+            result.pos ⟦<ArchivedVec<ArchivedExpr> as ArchivePointee>⟧.pointee result.len }
+        ensures beside { SealsBeside expr_definitions (one ⟦<ArchivedExpr as Portable>⟧.shape)
+            ⟦<ArchivedVec<ArchivedExpr> as ArchivePointee>⟧.pointee result self.entry }
     {
         seal_of_payload::<ArchivedExpr, ArchivedVec<ArchivedExpr>>(self, 2, 1, 12)
     }

@@ -46,7 +46,7 @@ use archive_core::traits::{
 };
 use archive_core::view::{RawView, Ref};
 use archive_recursive::{
-    BoxAt, boxed, choice_of, define_name, part_of_variant, read_part, resolve_named_case_0,
+    BoxAt, before_box, choice_of, define_name, part_of_variant, read_part, resolve_named_case_0,
     resolve_named_case_2, seal_of_payload, serialize_part, tag_of_choice, tag_of_view,
     view_of_payload,
 };
@@ -182,9 +182,7 @@ impl Archive for List {
     {
         let Place { bytes, pos, .. } = place;
         match self {
-            List::Nil => {
-                resolve_named_case_0::<ArchivedList>(0, (), Place::new(pos, bytes))
-            }
+            List::Nil => { resolve_named_case_0::<ArchivedList>(0, (), Place::new(pos, bytes)) }
             List::Cons(a0, _a1) => {
                 let ListResolver::Cons(kept) = resolver else {
                     unreachable!();
@@ -204,14 +202,19 @@ impl Archive for List {
 
 // Writes what a box owns.
 #[cycle(serialize_list)]
-fn serialize_box_list<S: Writer + Keys + ResolverAlloc>(value: &Box<List>, serializer: &mut S) -> Result<BoxResolver, Error>
-    ensures serialized { IfOk result (λ r. Serialized list_definitions (boxed (one list_shape)) (⟦<Box<List> as Archive>⟧.keys value.now)
-        (⟦<Box<List> as Archive>⟧.meaning value.now) (⟦<Box<List> as Archive>⟧.flat value.now r)
-        (S.state serializer.old) (S.state serializer.new)) }
+fn serialize_box_list<S: Writer + Keys + ResolverAlloc>(
+    value: &Box<List>,
+    serializer: &mut S,
+) -> Result<BoxResolver, Error>
+    ensures serialized { IfOk result (λ r. Serialized list_definitions (boxed (one list_shape))
+        (⟦<Box<List> as Archive>⟧.keys value.now) (⟦<Box<List> as Archive>⟧.meaning value.now)
+        (⟦<Box<List> as Archive>⟧.flat value.now r) (S.state serializer.old)
+        (S.state serializer.new)) }
     ensures same_value { IfOk result (λ r. ⟦<Box<List> as Archive>⟧.belongs value.now r) }
     ensures goes_on { GoesOn (S.state serializer.old) (S.state serializer.new) }
-    ensures refused { IfErr result (IsRefused list_definitions (boxed (one list_shape)) (⟦<Box<List> as Archive>⟧.keys value.now)
-        (⟦<Box<List> as Archive>⟧.meaning value.now) (S.state serializer.old) (S.state serializer.new)) }
+    ensures refused { IfErr result (IsRefused list_definitions (boxed (one list_shape))
+        (⟦<Box<List> as Archive>⟧.keys value.now) (⟦<Box<List> as Archive>⟧.meaning value.now)
+        (S.state serializer.old) (S.state serializer.new)) }
 {
     let inner = &**value;
     let kept = match serialize_list(inner, serializer) {
@@ -231,10 +234,21 @@ fn serialize_list_cons<S: Writer + Keys + ResolverAlloc>(
     a1: &Box<List>,
     serializer: &mut S,
 ) -> Result<(<u32 as Archive>::Resolver, (BoxResolver, ())), Error>
-    ensures serialized { IfOk result (λ r. Serialized list_definitions list_shape (⟦<u32 as Archive>⟧.keys a0.now ++ (⟦<Box<List> as Archive>⟧.keys a1.now ++ [])) (case 1 (value (⟦<u32 as Archive>⟧.meaning a0.now) (value (⟦<Box<List> as Archive>⟧.meaning a1.now) no_value))) (case 1 (value (⟦<u32 as Archive>⟧.flat a0.now r.0) (value (⟦<Box<List> as Archive>⟧.flat a1.now r.1.0) no_value))) (S.state serializer.old) (S.state serializer.new)) }
-    ensures same_values { IfOk result (λ r. ⟦<u32 as Archive>⟧.belongs a0.now r.0 × (⟦<Box<List> as Archive>⟧.belongs a1.now r.1.0 × Unit {0})) }
+    ensures serialized { IfOk result (λ r. Serialized list_definitions list_shape
+        (⟦<u32 as Archive>⟧.keys a0.now ++ (⟦<Box<List> as Archive>⟧.keys a1.now ++ []))
+        (case 1 (value (⟦<u32 as Archive>⟧.meaning a0.now)
+        (value (⟦<Box<List> as Archive>⟧.meaning a1.now) no_value)))
+        (case 1 (value (⟦<u32 as Archive>⟧.flat a0.now r.0)
+        (value (⟦<Box<List> as Archive>⟧.flat a1.now r.1.0) no_value))) (S.state serializer.old)
+        (S.state serializer.new)) }
+    ensures same_values { IfOk result (λ r. ⟦<u32 as Archive>⟧.belongs a0.now r.0
+        × (⟦<Box<List> as Archive>⟧.belongs a1.now r.1.0 × Unit {0})) }
     ensures goes_on { GoesOn (S.state serializer.old) (S.state serializer.new) }
-    ensures refused { IfErr result (IsRefused list_definitions list_shape (⟦<u32 as Archive>⟧.keys a0.now ++ (⟦<Box<List> as Archive>⟧.keys a1.now ++ [])) (case 1 (value (⟦<u32 as Archive>⟧.meaning a0.now) (value (⟦<Box<List> as Archive>⟧.meaning a1.now) no_value))) (S.state serializer.old) (S.state serializer.new)) }
+    ensures refused { IfErr result (IsRefused list_definitions list_shape
+        (⟦<u32 as Archive>⟧.keys a0.now ++ (⟦<Box<List> as Archive>⟧.keys a1.now ++ []))
+        (case 1 (value (⟦<u32 as Archive>⟧.meaning a0.now)
+        (value (⟦<Box<List> as Archive>⟧.meaning a1.now) no_value))) (S.state serializer.old)
+        (S.state serializer.new)) }
 {
     let a0 = match serialize_part(a0, serializer) {
         Ok(a0) => a0,
@@ -249,14 +263,18 @@ fn serialize_list_cons<S: Writer + Keys + ResolverAlloc>(
 
 // Writes what a value owns.
 #[cycle(serialize_list)]
-fn serialize_list<S: Writer + Keys + ResolverAlloc>(value: &List, serializer: &mut S) -> Result<ListResolver, Error>
-    ensures serialized { IfOk result (λ r. Serialized list_definitions list_shape (⟦<List as Archive>⟧.keys value.now)
-        (⟦<List as Archive>⟧.meaning value.now) (⟦<List as Archive>⟧.flat value.now r)
-        (S.state serializer.old) (S.state serializer.new)) }
+fn serialize_list<S: Writer + Keys + ResolverAlloc>(
+    value: &List,
+    serializer: &mut S,
+) -> Result<ListResolver, Error>
+    ensures serialized { IfOk result (λ r. Serialized list_definitions list_shape
+        (⟦<List as Archive>⟧.keys value.now) (⟦<List as Archive>⟧.meaning value.now)
+        (⟦<List as Archive>⟧.flat value.now r) (S.state serializer.old) (S.state serializer.new)) }
     ensures same_value { IfOk result (λ r. ⟦<List as Archive>⟧.belongs value.now r) }
     ensures goes_on { GoesOn (S.state serializer.old) (S.state serializer.new) }
-    ensures refused { IfErr result (IsRefused list_definitions list_shape (⟦<List as Archive>⟧.keys value.now)
-        (⟦<List as Archive>⟧.meaning value.now) (S.state serializer.old) (S.state serializer.new)) }
+    ensures refused { IfErr result (IsRefused list_definitions list_shape
+        (⟦<List as Archive>⟧.keys value.now) (⟦<List as Archive>⟧.meaning value.now)
+        (S.state serializer.old) (S.state serializer.new)) }
 {
     match value {
         List::Nil => Ok(ListResolver::Nil),
@@ -289,7 +307,8 @@ impl ArchiveUnsized for List {
 
     ghost one_length = { λ _ _. refl };
 
-    ghost planned = { λ v. one_planned list_definitions list_shape (⟦<List as Archive>⟧.keys v) (⟦<List as Archive>⟧.meaning v) (planned_of_list v) };
+    ghost planned = { λ v. one_planned list_definitions list_shape (⟦<List as Archive>⟧.keys v)
+        (⟦<List as Archive>⟧.meaning v) (planned_of_list v) };
 
     fn archived_metadata(&self) -> Result<(), Error> {
         Ok(())
@@ -304,34 +323,52 @@ impl<S: Writer + Keys + ResolverAlloc> SerializeUnsized<S> for List {
 
 // Reads a box back.
 #[cycle(read_list)]
-fn read_box_list<D: Entries>(alloc: Global, part: RawView<'_>, deserializer: &mut D) -> Result<Box<List>, Error>
+fn read_box_list<D: Entries>(
+    alloc: Global,
+    part: RawView<'_>,
+    deserializer: &mut D,
+) -> Result<Box<List>, Error>
     requires { IsPartOf ⟦<ArchivedBox<ArchivedList> as ArchivePointee>⟧ part }
-    ensures read { IfOk result (Read ⟦<ArchivedBox<ArchivedList> as ArchivePointee>⟧ part D.Entries deserializer ⟦<Box<List> as Archive>⟧) }
-    ensures refused { IfErr result (RefusesPart ⟦<ArchivedBox<ArchivedList> as ArchivePointee>⟧ part D.Entries deserializer) }
+    ensures read { IfOk result (Read ⟦<ArchivedBox<ArchivedList> as ArchivePointee>⟧ part D.Entries
+        deserializer ⟦<Box<List> as Archive>⟧) }
+    ensures refused { IfErr result (RefusesPart ⟦<ArchivedBox<ArchivedList> as ArchivePointee>⟧ part
+        D.Entries deserializer) }
 {
     let view: Ref<'_, ArchivedBox<ArchivedList>> = Ref::at(part);
-    let value = read_list(alloc, boxed(view).part(), deserializer)?;
+    let value = read_list(alloc, before_box(view).part(), deserializer)?;
     let whole = Box::new(alloc, value)?;
     Ok(whole)
 }
 
 // Reads `Nil` back.
-fn read_list_nil<D: Entries>(_alloc: Global, part: RawView<'_>, _deserializer: &mut D) -> Result<List, Error>
+fn read_list_nil<D: Entries>(
+    _alloc: Global,
+    part: RawView<'_>,
+    _deserializer: &mut D,
+) -> Result<List, Error>
     requires viewed { IsPartOf ⟦<ArchivedList as ArchivePointee>⟧ part }
     requires tag { part_tag part ≡ 0 }
-    ensures read { IfOk result (Read ⟦<ArchivedList as ArchivePointee>⟧ part D.Entries _deserializer ⟦<List as Archive>⟧) }
-    ensures refused { IfErr result (RefusesPart ⟦<ArchivedList as ArchivePointee>⟧ part D.Entries _deserializer) }
+    ensures read { IfOk result (Read ⟦<ArchivedList as ArchivePointee>⟧ part D.Entries _deserializer
+        ⟦<List as Archive>⟧) }
+    ensures refused { IfErr result (RefusesPart ⟦<ArchivedList as ArchivePointee>⟧ part D.Entries
+        _deserializer) }
 {
     Ok(List::Nil)
 }
 
 // Reads `Cons` back.
 #[cycle(read_list)]
-fn read_list_cons<D: Entries>(alloc: Global, part: RawView<'_>, deserializer: &mut D) -> Result<List, Error>
+fn read_list_cons<D: Entries>(
+    alloc: Global,
+    part: RawView<'_>,
+    deserializer: &mut D,
+) -> Result<List, Error>
     requires viewed { IsPartOf ⟦<ArchivedList as ArchivePointee>⟧ part }
     requires tag { part_tag part ≡ 1 }
-    ensures read { IfOk result (Read ⟦<ArchivedList as ArchivePointee>⟧ part D.Entries deserializer ⟦<List as Archive>⟧) }
-    ensures refused { IfErr result (RefusesPart ⟦<ArchivedList as ArchivePointee>⟧ part D.Entries deserializer) }
+    ensures read { IfOk result (Read ⟦<ArchivedList as ArchivePointee>⟧ part D.Entries deserializer
+        ⟦<List as Archive>⟧) }
+    ensures refused { IfErr result (RefusesPart ⟦<ArchivedList as ArchivePointee>⟧ part D.Entries
+        deserializer) }
 {
     let p0 = part_of_variant::<ArchivedList, ArchivedU32>(part, 1, 0, 4);
     let a0 = read_part::<ArchivedU32, u32, D>(alloc, p0, deserializer)?;
@@ -342,10 +379,16 @@ fn read_list_cons<D: Entries>(alloc: Global, part: RawView<'_>, deserializer: &m
 
 // Reads a value back.
 #[cycle(read_list)]
-fn read_list<D: Entries>(alloc: Global, part: RawView<'_>, deserializer: &mut D) -> Result<List, Error>
+fn read_list<D: Entries>(
+    alloc: Global,
+    part: RawView<'_>,
+    deserializer: &mut D,
+) -> Result<List, Error>
     requires { IsPartOf ⟦<ArchivedList as ArchivePointee>⟧ part }
-    ensures read { IfOk result (Read ⟦<ArchivedList as ArchivePointee>⟧ part D.Entries deserializer ⟦<List as Archive>⟧) }
-    ensures refused { IfErr result (RefusesPart ⟦<ArchivedList as ArchivePointee>⟧ part D.Entries deserializer) }
+    ensures read { IfOk result (Read ⟦<ArchivedList as ArchivePointee>⟧ part D.Entries deserializer
+        ⟦<List as Archive>⟧) }
+    ensures refused { IfErr result (RefusesPart ⟦<ArchivedList as ArchivePointee>⟧ part D.Entries
+        deserializer) }
 {
     match tag_of_choice::<ArchivedList>(part) {
         0 => read_list_nil(alloc, part, deserializer),
@@ -360,8 +403,10 @@ impl<D: Entries> Deserialize<List, D> for ArchivedList {
         deserializer: &mut D,
     ) -> Result<List, Error>
         requires { IsPartOf ⟦<Self as ArchivePointee>⟧ part }
-        ensures read { IfOk result (Read ⟦<Self as ArchivePointee>⟧ part D.Entries deserializer ⟦<List as Archive>⟧) }
-        ensures refused { IfErr result (RefusesPart ⟦<Self as ArchivePointee>⟧ part D.Entries deserializer) }
+        ensures read { IfOk result (Read ⟦<Self as ArchivePointee>⟧ part D.Entries deserializer
+            ⟦<List as Archive>⟧) }
+        ensures refused { IfErr result (RefusesPart ⟦<Self as ArchivePointee>⟧ part D.Entries
+            deserializer) }
     {
         read_list(alloc, part, deserializer)
     }
@@ -386,7 +431,14 @@ impl<'a> ListView<'a> for Ref<'a, ArchivedList> {
     ghost use Rattle.recursive_types.specs.declared.list.ViewOfList.TheVariants.{Cons as ListConsShown, Nil as ListNilShown};
 
     fn variant(self) -> ViewOfList<'a>
-        ensures shows { elim result [ ListNilShown ↦ (tag_of self.entry ≡ 0) | ListConsShown a0 a1 ↦ (tag_of self.entry ≡ 1) × (a0.bytes.now ≡ self.entry.bytes.now) × (a0.pos ≡ self.entry.pos + 4) × (a0.len ≡ 0) × ShowsValueOf a0 self.entry (payload_in 0) × (a1.bytes.now ≡ self.entry.bytes.now) × (a1.pos ≡ self.entry.pos + 8) × (a1.len ≡ 0) × ShowsValueOf a1 self.entry (payload_in 1) ] }
+        ensures shows { elim result [
+          | ListNilShown ↦ (tag_of self.entry ≡ 0)
+          | ListConsShown a0 a1 ↦ (tag_of self.entry ≡ 1) × (a0.bytes.now ≡ self.entry.bytes.now)
+              × (a0.pos ≡ self.entry.pos + 4) × (a0.len ≡ 0)
+              × ShowsValueOf a0 self.entry (payload_in 0) × (a1.bytes.now ≡ self.entry.bytes.now)
+              × (a1.pos ≡ self.entry.pos + 8) × (a1.len ≡ 0)
+              × ShowsValueOf a1 self.entry (payload_in 1)
+        ] }
     {
         match tag_of_view(self) {
             0 => ViewOfList::Nil,
@@ -419,32 +471,39 @@ pub trait ListSeal<'a> {
 }
 
 impl<'a> ListSeal<'a> for Seal<'a, ArchivedList> {
-    ghost sealed = { λ s. Viewed list_definitions s.bytes.now s.pos (one ⟦<ArchivedList as Portable>⟧.shape) s.len };
+    ghost sealed = { λ s. Viewed list_definitions s.bytes.now s.pos
+        (one ⟦<ArchivedList as Portable>⟧.shape) s.len };
 
     ghost tag = { λ s. seal_tag s };
 
     fn cons_0_mut(self) -> Seal<'a, ArchivedU32>
-        requires viewed { Viewed list_definitions self.bytes.now self.pos (one ⟦<ArchivedList as Portable>⟧.shape) self.len }
+        requires viewed { Viewed list_definitions self.bytes.now self.pos
+            (one ⟦<ArchivedList as Portable>⟧.shape) self.len }
         requires tag { seal_tag self ≡ 1 }
         ensures same_reference { result.bytes.ghost_name ≡ self.entry.bytes.ghost_name }
         ensures buffer { result.bytes.now ≡ self.entry.bytes.now }
         ensures position { result.pos ≡ self.entry.pos + 4 }
         ensures length { result.len ≡ 0 }
-        ensures viewed { Viewed no_definition result.bytes.now result.pos ⟦<ArchivedU32 as ArchivePointee>⟧.pointee result.len }
-        ensures beside { SealsBeside list_definitions (one ⟦<ArchivedList as Portable>⟧.shape) ⟦<ArchivedU32 as ArchivePointee>⟧.pointee result self.entry }
+        ensures viewed { Viewed no_definition result.bytes.now result.pos
+            ⟦<ArchivedU32 as ArchivePointee>⟧.pointee result.len }
+        ensures beside { SealsBeside list_definitions (one ⟦<ArchivedList as Portable>⟧.shape)
+            ⟦<ArchivedU32 as ArchivePointee>⟧.pointee result self.entry }
     {
         seal_of_payload::<ArchivedList, ArchivedU32>(self, 1, 0, 4)
     }
 
     fn cons_1_mut(self) -> Seal<'a, ArchivedBox<ArchivedList>>
-        requires viewed { Viewed list_definitions self.bytes.now self.pos (one ⟦<ArchivedList as Portable>⟧.shape) self.len }
+        requires viewed { Viewed list_definitions self.bytes.now self.pos
+            (one ⟦<ArchivedList as Portable>⟧.shape) self.len }
         requires tag { seal_tag self ≡ 1 }
         ensures same_reference { result.bytes.ghost_name ≡ self.entry.bytes.ghost_name }
         ensures buffer { result.bytes.now ≡ self.entry.bytes.now }
         ensures position { result.pos ≡ self.entry.pos + 8 }
         ensures length { result.len ≡ 0 }
-        ensures viewed { Viewed ⟦<ArchivedList as ArchivePointee>⟧.definitions result.bytes.now result.pos ⟦<ArchivedBox<ArchivedList> as ArchivePointee>⟧.pointee result.len }
-        ensures beside { SealsBeside list_definitions (one ⟦<ArchivedList as Portable>⟧.shape) ⟦<ArchivedBox<ArchivedList> as ArchivePointee>⟧.pointee result self.entry }
+        ensures viewed { Viewed ⟦<ArchivedList as ArchivePointee>⟧.definitions result.bytes.now
+            result.pos ⟦<ArchivedBox<ArchivedList> as ArchivePointee>⟧.pointee result.len }
+        ensures beside { SealsBeside list_definitions (one ⟦<ArchivedList as Portable>⟧.shape)
+            ⟦<ArchivedBox<ArchivedList> as ArchivePointee>⟧.pointee result self.entry }
     {
         seal_of_payload::<ArchivedList, ArchivedBox<ArchivedList>>(self, 1, 1, 8)
     }

@@ -47,7 +47,7 @@ use archive_core::traits::{
 use archive_core::vec::{ArchivedVec, VecResolver};
 use archive_core::view::{RawView, Ref};
 use archive_recursive::{
-    VecAt, define_name, listed, part_of_record, read_part, record_of, resolve_named_record_2,
+    VecAt, before_vec, define_name, part_of_record, read_part, record_of, resolve_named_record_2,
     seal_of_field, serialize_inner_slice, serialize_part, view_of_field,
 };
 use std::alloc::{AllocError, Global};
@@ -185,16 +185,22 @@ impl Archive for Tree {
 
 // Writes what each of the values owns, in order.
 #[cycle(serialize_tree)]
-fn serialize_each_tree<S: Writer + Keys + ResolverAlloc>(values: &[Tree], serializer: &mut S) -> Result<Vec<<Tree as Archive>::Resolver, S::Alloc>, Error>
-    ensures serialized { IfOk result (λ rs. SerializedRun tree_definitions tree_shape (length values.now) (each_keys ⟦<Tree as Archive>⟧.keys values.now)
+fn serialize_each_tree<S: Writer + Keys + ResolverAlloc>(
+    values: &[Tree],
+    serializer: &mut S,
+) -> Result<Vec<<Tree as Archive>::Resolver, S::Alloc>, Error>
+    ensures serialized { IfOk result (λ rs. SerializedRun tree_definitions tree_shape
+        (length values.now) (each_keys ⟦<Tree as Archive>⟧.keys values.now)
         (each_meaning ⟦<Tree as Archive>⟧.meaning values.now)
         (each_flat ⟦<Tree as Archive>⟧.flat values.now rs.items) (S.state serializer.old)
         (S.state serializer.new)) }
-    ensures same_values { IfOk result (λ rs. EachBelongs ⟦<Tree as Archive>⟧.belongs values.now rs.items) }
+    ensures same_values { IfOk result (λ rs. EachBelongs ⟦<Tree as Archive>⟧.belongs values.now
+        rs.items) }
     ensures goes_on { GoesOn (S.state serializer.old) (S.state serializer.new) }
-    ensures refused { IfErr result (IsRunRefused tree_definitions tree_shape (length values.now) (each_keys ⟦<Tree as Archive>⟧.keys values.now)
-        (each_meaning ⟦<Tree as Archive>⟧.meaning values.now)
-        (S.state serializer.old) (S.state serializer.new)) }
+    ensures refused { IfErr result (IsRunRefused tree_definitions tree_shape (length values.now)
+        (each_keys ⟦<Tree as Archive>⟧.keys values.now)
+        (each_meaning ⟦<Tree as Archive>⟧.meaning values.now) (S.state serializer.old)
+        (S.state serializer.new)) }
 {
     let alloc = serializer.resolver_alloc();
     let mut resolvers = Vec::with_capacity(alloc, values.len())?;
@@ -210,14 +216,19 @@ fn serialize_each_tree<S: Writer + Keys + ResolverAlloc>(values: &[Tree], serial
 
 // Writes what a vector owns.
 #[cycle(serialize_tree)]
-fn serialize_vec_tree<S: Writer + Keys + ResolverAlloc>(value: &Vec<Tree>, serializer: &mut S) -> Result<VecResolver, Error>
-    ensures serialized { IfOk result (λ r. Serialized tree_definitions (vec tree_shape) (⟦<Vec<Tree> as Archive>⟧.keys value.now)
-        (⟦<Vec<Tree> as Archive>⟧.meaning value.now) (⟦<Vec<Tree> as Archive>⟧.flat value.now r)
-        (S.state serializer.old) (S.state serializer.new)) }
+fn serialize_vec_tree<S: Writer + Keys + ResolverAlloc>(
+    value: &Vec<Tree>,
+    serializer: &mut S,
+) -> Result<VecResolver, Error>
+    ensures serialized { IfOk result (λ r. Serialized tree_definitions (vec tree_shape)
+        (⟦<Vec<Tree> as Archive>⟧.keys value.now) (⟦<Vec<Tree> as Archive>⟧.meaning value.now)
+        (⟦<Vec<Tree> as Archive>⟧.flat value.now r) (S.state serializer.old)
+        (S.state serializer.new)) }
     ensures same_value { IfOk result (λ r. ⟦<Vec<Tree> as Archive>⟧.belongs value.now r) }
     ensures goes_on { GoesOn (S.state serializer.old) (S.state serializer.new) }
-    ensures refused { IfErr result (IsRefused tree_definitions (vec tree_shape) (⟦<Vec<Tree> as Archive>⟧.keys value.now)
-        (⟦<Vec<Tree> as Archive>⟧.meaning value.now) (S.state serializer.old) (S.state serializer.new)) }
+    ensures refused { IfErr result (IsRefused tree_definitions (vec tree_shape)
+        (⟦<Vec<Tree> as Archive>⟧.keys value.now) (⟦<Vec<Tree> as Archive>⟧.meaning value.now)
+        (S.state serializer.old) (S.state serializer.new)) }
 {
     if value.len() > u32::MAX as usize {
         return Err(Error::LengthTooLarge);
@@ -235,14 +246,18 @@ fn serialize_vec_tree<S: Writer + Keys + ResolverAlloc>(value: &Vec<Tree>, seria
 
 // Writes what a value owns, part by part.
 #[cycle(serialize_tree)]
-fn serialize_tree<S: Writer + Keys + ResolverAlloc>(value: &Tree, serializer: &mut S) -> Result<TreeResolver, Error>
-    ensures serialized { IfOk result (λ r. Serialized tree_definitions tree_shape (⟦<Tree as Archive>⟧.keys value.now)
-        (⟦<Tree as Archive>⟧.meaning value.now) (⟦<Tree as Archive>⟧.flat value.now r)
-        (S.state serializer.old) (S.state serializer.new)) }
+fn serialize_tree<S: Writer + Keys + ResolverAlloc>(
+    value: &Tree,
+    serializer: &mut S,
+) -> Result<TreeResolver, Error>
+    ensures serialized { IfOk result (λ r. Serialized tree_definitions tree_shape
+        (⟦<Tree as Archive>⟧.keys value.now) (⟦<Tree as Archive>⟧.meaning value.now)
+        (⟦<Tree as Archive>⟧.flat value.now r) (S.state serializer.old) (S.state serializer.new)) }
     ensures same_value { IfOk result (λ r. ⟦<Tree as Archive>⟧.belongs value.now r) }
     ensures goes_on { GoesOn (S.state serializer.old) (S.state serializer.new) }
-    ensures refused { IfErr result (IsRefused tree_definitions tree_shape (⟦<Tree as Archive>⟧.keys value.now)
-        (⟦<Tree as Archive>⟧.meaning value.now) (S.state serializer.old) (S.state serializer.new)) }
+    ensures refused { IfErr result (IsRefused tree_definitions tree_shape
+        (⟦<Tree as Archive>⟧.keys value.now) (⟦<Tree as Archive>⟧.meaning value.now)
+        (S.state serializer.old) (S.state serializer.new)) }
 {
     let a0 = match serialize_part(&value.value, serializer) {
         Ok(a0) => a0,
@@ -252,7 +267,9 @@ fn serialize_tree<S: Writer + Keys + ResolverAlloc>(value: &Tree, serializer: &m
         Ok(a1) => a1,
         Err(error) => return Err(error),
     };
-    Ok(TreeResolver { kept: (a0, (a1, ())) })
+    Ok(TreeResolver {
+        kept: (a0, (a1, ())),
+    })
 }
 
 impl<S: Writer + Keys + ResolverAlloc> Serialize<S> for Tree {
@@ -277,7 +294,8 @@ impl ArchiveUnsized for Tree {
 
     ghost one_length = { λ _ _. refl };
 
-    ghost planned = { λ v. one_planned tree_definitions tree_shape (⟦<Tree as Archive>⟧.keys v) (⟦<Tree as Archive>⟧.meaning v) (planned_of_tree v) };
+    ghost planned = { λ v. one_planned tree_definitions tree_shape (⟦<Tree as Archive>⟧.keys v)
+        (⟦<Tree as Archive>⟧.meaning v) (planned_of_tree v) };
 
     fn archived_metadata(&self) -> Result<(), Error> {
         Ok(())
@@ -292,13 +310,19 @@ impl<S: Writer + Keys + ResolverAlloc> SerializeUnsized<S> for Tree {
 
 // Reads a vector back.
 #[cycle(read_tree)]
-fn read_vec_tree<D: Entries>(alloc: Global, part: RawView<'_>, deserializer: &mut D) -> Result<Vec<Tree>, Error>
+fn read_vec_tree<D: Entries>(
+    alloc: Global,
+    part: RawView<'_>,
+    deserializer: &mut D,
+) -> Result<Vec<Tree>, Error>
     requires { IsPartOf ⟦<ArchivedVec<ArchivedTree> as ArchivePointee>⟧ part }
-    ensures read { IfOk result (Read ⟦<ArchivedVec<ArchivedTree> as ArchivePointee>⟧ part D.Entries deserializer ⟦<Vec<Tree> as Archive>⟧) }
-    ensures refused { IfErr result (RefusesPart ⟦<ArchivedVec<ArchivedTree> as ArchivePointee>⟧ part D.Entries deserializer) }
+    ensures read { IfOk result (Read ⟦<ArchivedVec<ArchivedTree> as ArchivePointee>⟧ part D.Entries
+        deserializer ⟦<Vec<Tree> as Archive>⟧) }
+    ensures refused { IfErr result (RefusesPart ⟦<ArchivedVec<ArchivedTree> as ArchivePointee>⟧ part
+        D.Entries deserializer) }
 {
     let view: Ref<'_, ArchivedVec<ArchivedTree>> = Ref::at(part);
-    let list = listed(view);
+    let list = before_vec(view);
     let mut items = Vec::with_capacity(alloc, list.len())?;
     for index in 0..list.len() {
         let item = read_tree(alloc, list.index(index).part(), deserializer)?;
@@ -309,10 +333,16 @@ fn read_vec_tree<D: Entries>(alloc: Global, part: RawView<'_>, deserializer: &mu
 
 // Reads a value back, part by part.
 #[cycle(read_tree)]
-fn read_tree<D: Entries>(alloc: Global, part: RawView<'_>, deserializer: &mut D) -> Result<Tree, Error>
+fn read_tree<D: Entries>(
+    alloc: Global,
+    part: RawView<'_>,
+    deserializer: &mut D,
+) -> Result<Tree, Error>
     requires { IsPartOf ⟦<ArchivedTree as ArchivePointee>⟧ part }
-    ensures read { IfOk result (Read ⟦<ArchivedTree as ArchivePointee>⟧ part D.Entries deserializer ⟦<Tree as Archive>⟧) }
-    ensures refused { IfErr result (RefusesPart ⟦<ArchivedTree as ArchivePointee>⟧ part D.Entries deserializer) }
+    ensures read { IfOk result (Read ⟦<ArchivedTree as ArchivePointee>⟧ part D.Entries deserializer
+        ⟦<Tree as Archive>⟧) }
+    ensures refused { IfErr result (RefusesPart ⟦<ArchivedTree as ArchivePointee>⟧ part D.Entries
+        deserializer) }
 {
     let p0 = part_of_record::<ArchivedTree, ArchivedU32>(part, 0, 0);
     let a0 = read_part::<ArchivedU32, u32, D>(alloc, p0, deserializer)?;
@@ -331,8 +361,10 @@ impl<D: Entries> Deserialize<Tree, D> for ArchivedTree {
         deserializer: &mut D,
     ) -> Result<Tree, Error>
         requires { IsPartOf ⟦<Self as ArchivePointee>⟧ part }
-        ensures read { IfOk result (Read ⟦<Self as ArchivePointee>⟧ part D.Entries deserializer ⟦<Tree as Archive>⟧) }
-        ensures refused { IfErr result (RefusesPart ⟦<Self as ArchivePointee>⟧ part D.Entries deserializer) }
+        ensures read { IfOk result (Read ⟦<Self as ArchivePointee>⟧ part D.Entries deserializer
+            ⟦<Tree as Archive>⟧) }
+        ensures refused { IfErr result (RefusesPart ⟦<Self as ArchivePointee>⟧ part D.Entries
+            deserializer) }
     {
         read_tree(alloc, part, deserializer)
     }
@@ -382,28 +414,35 @@ pub trait TreeSeal<'a> {
 }
 
 impl<'a> TreeSeal<'a> for Seal<'a, ArchivedTree> {
-    ghost sealed = { λ s. Viewed tree_definitions s.bytes.now s.pos (one ⟦<ArchivedTree as Portable>⟧.shape) s.len };
+    ghost sealed = { λ s. Viewed tree_definitions s.bytes.now s.pos
+        (one ⟦<ArchivedTree as Portable>⟧.shape) s.len };
 
     fn value_mut(self) -> Seal<'a, ArchivedU32>
-        requires viewed { Viewed tree_definitions self.bytes.now self.pos (one ⟦<ArchivedTree as Portable>⟧.shape) self.len }
+        requires viewed { Viewed tree_definitions self.bytes.now self.pos
+            (one ⟦<ArchivedTree as Portable>⟧.shape) self.len }
         ensures same_reference { result.bytes.ghost_name ≡ self.entry.bytes.ghost_name }
         ensures buffer { result.bytes.now ≡ self.entry.bytes.now }
         ensures position { result.pos ≡ self.entry.pos + 0 }
         ensures length { result.len ≡ 0 }
-        ensures viewed { Viewed no_definition result.bytes.now result.pos ⟦<ArchivedU32 as ArchivePointee>⟧.pointee result.len }
-        ensures beside { SealsBeside tree_definitions (one ⟦<ArchivedTree as Portable>⟧.shape) ⟦<ArchivedU32 as ArchivePointee>⟧.pointee result self.entry }
+        ensures viewed { Viewed no_definition result.bytes.now result.pos
+            ⟦<ArchivedU32 as ArchivePointee>⟧.pointee result.len }
+        ensures beside { SealsBeside tree_definitions (one ⟦<ArchivedTree as Portable>⟧.shape)
+            ⟦<ArchivedU32 as ArchivePointee>⟧.pointee result self.entry }
     {
         seal_of_field::<ArchivedTree, ArchivedU32>(self, 0, 0)
     }
 
     fn children_mut(self) -> Seal<'a, ArchivedVec<ArchivedTree>>
-        requires viewed { Viewed tree_definitions self.bytes.now self.pos (one ⟦<ArchivedTree as Portable>⟧.shape) self.len }
+        requires viewed { Viewed tree_definitions self.bytes.now self.pos
+            (one ⟦<ArchivedTree as Portable>⟧.shape) self.len }
         ensures same_reference { result.bytes.ghost_name ≡ self.entry.bytes.ghost_name }
         ensures buffer { result.bytes.now ≡ self.entry.bytes.now }
         ensures position { result.pos ≡ self.entry.pos + 4 }
         ensures length { result.len ≡ 0 }
-        ensures viewed { Viewed ⟦<ArchivedTree as ArchivePointee>⟧.definitions result.bytes.now result.pos ⟦<ArchivedVec<ArchivedTree> as ArchivePointee>⟧.pointee result.len }
-        ensures beside { SealsBeside tree_definitions (one ⟦<ArchivedTree as Portable>⟧.shape) ⟦<ArchivedVec<ArchivedTree> as ArchivePointee>⟧.pointee result self.entry }
+        ensures viewed { Viewed ⟦<ArchivedTree as ArchivePointee>⟧.definitions result.bytes.now
+            result.pos ⟦<ArchivedVec<ArchivedTree> as ArchivePointee>⟧.pointee result.len }
+        ensures beside { SealsBeside tree_definitions (one ⟦<ArchivedTree as Portable>⟧.shape)
+            ⟦<ArchivedVec<ArchivedTree> as ArchivePointee>⟧.pointee result self.entry }
     {
         seal_of_field::<ArchivedTree, ArchivedVec<ArchivedTree>>(self, 1, 4)
     }

@@ -17,7 +17,8 @@ pub(crate) fn list_of(alloc: Global, numbers: &[u32]) -> Result<List, AllocError
 }
 
 // The end of the list at 0, the last node at 12, and the first one at 24: a tag, the number four bytes behind it, and the offset of the box.
-const TWO: &[u8] = b"\0\0\0\0\0\0\0\0\0\0\0\0\x01\0\0\0\x02\0\0\0\xec\xff\xff\xff\x01\0\0\0\x01\0\0\0\xec\xff\xff\xff";
+const TWO: &[u8] =
+    b"\0\0\0\0\0\0\0\0\0\0\0\0\x01\0\0\0\x02\0\0\0\xec\xff\xff\xff\x01\0\0\0\x01\0\0\0\xec\xff\xff\xff";
 
 #[test]
 fn list_of_two(rt: HostRuntime) {
@@ -52,7 +53,8 @@ fn three(alloc: Global) -> Result<Tree, AllocError> {
 }
 
 // The tree below 3 at 0, with no child; those below 1 at 12 and 24; and 1 at 36. A vector is an offset and a length.
-const TREE: &[u8] = b"\x04\0\0\0\xfc\xff\xff\xff\0\0\0\0\x02\0\0\0\xf0\xff\xff\xff\0\0\0\0\x03\0\0\0\xe4\xff\xff\xff\x01\0\0\0\x01\0\0\0\xe4\xff\xff\xff\x02\0\0\0";
+const TREE: &[u8] =
+    b"\x04\0\0\0\xfc\xff\xff\xff\0\0\0\0\x02\0\0\0\xf0\xff\xff\xff\0\0\0\0\x03\0\0\0\xe4\xff\xff\xff\x01\0\0\0\x01\0\0\0\xe4\xff\xff\xff\x02\0\0\0";
 
 #[test]
 fn tree_of_four(rt: HostRuntime) {
@@ -69,7 +71,8 @@ fn sum(alloc: Global) -> Result<Expr, AllocError> {
 }
 
 // The number 5 at 0, -1 at 24, the call at 48 with its name in place, and the sum at 72. A number of 64 bits begins eight bytes behind the tag.
-const SUM: &[u8] = b"\0\0\0\0\0\0\0\0\x05\0\0\0\0\0\0\0\0\0\0\0\0\0\0\0\0\0\0\0\0\0\0\0\xff\xff\xff\xff\xff\xff\xff\xff\0\0\0\0\0\0\0\0\x02\0\0\0f\xff\xff\xff\xff\xff\xff\xff\xdc\xff\xff\xff\x01\0\0\0\0\0\0\0\x01\0\0\0\xb4\xff\xff\xff\xe0\xff\xff\xff\0\0\0\0\0\0\0\0\0\0\0\0";
+const SUM: &[u8] =
+    b"\0\0\0\0\0\0\0\0\x05\0\0\0\0\0\0\0\0\0\0\0\0\0\0\0\0\0\0\0\0\0\0\0\xff\xff\xff\xff\xff\xff\xff\xff\0\0\0\0\0\0\0\0\x02\0\0\0f\xff\xff\xff\xff\xff\xff\xff\xdc\xff\xff\xff\x01\0\0\0\0\0\0\0\x01\0\0\0\xb4\xff\xff\xff\xe0\xff\xff\xff\0\0\0\0\0\0\0\0\0\0\0\0";
 
 #[test]
 fn expression(rt: HostRuntime) {

@@ -17,10 +17,10 @@ use Rattle.std.specs.Prelude.{[], ◌++◌, ◌≡◌, refl, pos, length}
 use Rattle.recursive_types.proofs.list.+read_list.Goals as goal
 
 pub read_box_list-returns-in_err-value-clause-refused : goal.read_box_list-returns-in_err-value-clause-refused
-read_box_list-returns-in_err-value-clause-refused g t c = err_by c.from_residual.result c.in_err-value.field-0.0 _ c.from_residual.ensures.1 (box_unread list_definitions c.args.part.bytes.now c.args.part.pos c.args.part.len (one list_shape) (g.D.Entries.entry_of c.args.deserializer.now) c.in_err-value.field-0.0 c.requires (rw (c.part.ensures.buffer, c.part.ensures.position, c.part.ensures.length, c.boxed.ensures.buffer, c.boxed.ensures.position, c.boxed.ensures.length, c.at-view.ensures.buffer, c.at-view.ensures.position) at c.in_err-value.ensures.refused))
+read_box_list-returns-in_err-value-clause-refused g t c = err_by c.from_residual.result c.in_err-value.field-0.0 _ c.from_residual.ensures.1 (box_unread list_definitions c.args.part.bytes.now c.args.part.pos c.args.part.len (one list_shape) (g.D.Entries.entry_of c.args.deserializer.now) c.in_err-value.field-0.0 c.requires (rw (c.part.ensures.buffer, c.part.ensures.position, c.part.ensures.length, c.before_box.ensures.buffer, c.before_box.ensures.position, c.before_box.ensures.length, c.at-view.ensures.buffer, c.at-view.ensures.position) at c.in_err-value.ensures.refused))
 
 pub read_box_list-returns-clause-read : goal.read_box_list-returns-clause-read
-read_box_list-returns-clause-read g t c = (let same : c.in_ok-whole.whole.value ≡ c.in_ok-value.value = grind (arith, common_steps) in rw same (box_read list_definitions c.args.part.bytes.now c.args.part.pos c.args.part.len (one list_shape) _ _ _ _ c.requires (rw (c.part.ensures.buffer, c.part.ensures.position, c.part.ensures.length, c.boxed.ensures.buffer, c.boxed.ensures.position, c.boxed.ensures.length, c.at-view.ensures.buffer, c.at-view.ensures.position) at c.in_ok-value.ensures.read)))
+read_box_list-returns-clause-read g t c = (let same : c.in_ok-whole.whole.value ≡ c.in_ok-value.value = grind (arith, common_steps) in rw same (box_read list_definitions c.args.part.bytes.now c.args.part.pos c.args.part.len (one list_shape) _ _ _ _ c.requires (rw (c.part.ensures.buffer, c.part.ensures.position, c.part.ensures.length, c.before_box.ensures.buffer, c.before_box.ensures.position, c.before_box.ensures.length, c.at-view.ensures.buffer, c.at-view.ensures.position) at c.in_ok-value.ensures.read)))
 
 pub read_list_cons-returns-in_err-a0-clause-refused : goal.read_list_cons-returns-in_err-a0-clause-refused
 read_list_cons-returns-in_err-a0-clause-refused g t c = err_by c.from_residual.result c.in_err-a0.field-0.0 _ c.from_residual.ensures.1 (variant_refuses list_definitions list_shape list_name list_variant_definitions list_variants list_has_variants 1 list_cons_parts refl list_cons_definitions refl _ _ _ c.requires.tag _ _ (first_refuses no_definition (both list_definitions no_definition) (leaf (number_kind unsigned w32)) (record { size = 4; align = 4 }) (record { solved = λ s k. refl }) (part (boxed (one list_shape)) no_part) _ _ 1 _ _ (rw (c.part_of_variant-p0.ensures.buffer, c.part_of_variant-p0.ensures.position, c.part_of_variant-p0.ensures.length) at c.in_err-a0.ensures.refused)))

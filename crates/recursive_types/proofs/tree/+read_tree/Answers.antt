@@ -18,13 +18,13 @@ use Rattle.std.specs.Prelude.{[], ◌++◌, ◌≡◌, refl, pos, length}
 use Rattle.recursive_types.proofs.tree.+read_tree.Goals as goal
 
 pub read_vec_tree-returns-in_err-item-clause-refused : goal.read_vec_tree-returns-in_err-item-clause-refused
-read_vec_tree-returns-in_err-item-clause-refused g t c = (let kept = c.loop-index.invariant in let b = c.listed-list.result.bytes.now in let q = c.listed-list.result.pos in let n = c.listed-list.result.len in let below : c.loop-index.index < n = omega (arith, c.loop-index-test.true, c.loop-index.auto.index-end, c.len-index-end.ensures) in let h = rw (c.part.ensures.buffer, c.part.ensures.position, c.part.ensures.length, c.index.ensures.buffer, c.index.ensures.position, c.index.ensures.length) at c.in_err-item.ensures.refused in let r = element_refused tree_definitions tree_shape tree_layout tree_has_layout b q (run tree_shape) n n (all_have tree_definitions tree_shape tree_layout tree_has_layout b q n (run tree_shape) n (inl (refl, refl))) tree_meaning tree_keys (g.D.Entries.entry_of c.args.deserializer.now) (g.D.Entries.entry_of c.loop-index.deserializer) c.loop-index.items.items c.loop-index.index (one tree_shape) c.in_err-item.field-0.0 refl below (kept.3) h in err_by c.from_residual-in_err-item.result c.in_err-item.field-0.0 _ c.from_residual-in_err-item.ensures.1 (vec_unread tree_definitions c.args.part.bytes.now c.args.part.pos c.args.part.len tree_shape (g.D.Entries.entry_of c.args.deserializer.now) c.in_err-item.field-0.0 c.requires (rw (c.listed-list.ensures.buffer, c.listed-list.ensures.position, c.listed-list.ensures.length, c.at-view.ensures.buffer, c.at-view.ensures.position) at r)))
+read_vec_tree-returns-in_err-item-clause-refused g t c = (let kept = c.loop-index.invariant in let b = c.before_vec-list.result.bytes.now in let q = c.before_vec-list.result.pos in let n = c.before_vec-list.result.len in let below : c.loop-index.index < n = omega (arith, c.loop-index-test.true, c.loop-index.auto.index-end, c.len-index-end.ensures) in let h = rw (c.part.ensures.buffer, c.part.ensures.position, c.part.ensures.length, c.index.ensures.buffer, c.index.ensures.position, c.index.ensures.length) at c.in_err-item.ensures.refused in let r = element_refused tree_definitions tree_shape tree_layout tree_has_layout b q (run tree_shape) n n (all_have tree_definitions tree_shape tree_layout tree_has_layout b q n (run tree_shape) n (inl (refl, refl))) tree_meaning tree_keys (g.D.Entries.entry_of c.args.deserializer.now) (g.D.Entries.entry_of c.loop-index.deserializer) c.loop-index.items.items c.loop-index.index (one tree_shape) c.in_err-item.field-0.0 refl below (kept.3) h in err_by c.from_residual-in_err-item.result c.in_err-item.field-0.0 _ c.from_residual-in_err-item.ensures.1 (vec_unread tree_definitions c.args.part.bytes.now c.args.part.pos c.args.part.len tree_shape (g.D.Entries.entry_of c.args.deserializer.now) c.in_err-item.field-0.0 c.requires (rw (c.before_vec-list.ensures.buffer, c.before_vec-list.ensures.position, c.before_vec-list.ensures.length, c.at-view.ensures.buffer, c.at-view.ensures.position) at r)))
 
 pub read_vec_tree-loop-index-preserved : goal.read_vec_tree-loop-index-preserved
-read_vec_tree-loop-index-preserved g t c = (let kept = c.loop-index.invariant in let b = c.listed-list.result.bytes.now in let q = c.listed-list.result.pos in let n = c.listed-list.result.len in let below : c.loop-index.index < n = omega (arith, c.loop-index-test.true, c.loop-index.auto.index-end, c.len-index-end.ensures) in let pushed : c.push_reserved.new.self.items ≡ c.loop-index.items.items ++ c.in_ok-item.item ∷ [] = grind (arith, common_steps) in let more : length (c.loop-index.items.items ++ c.in_ok-item.item ∷ []) ≡ c.loop-index.index + 1 = grind (arith, common_steps, kept.0) in let h = rw (c.part.ensures.buffer, c.part.ensures.position, c.part.ensures.length, c.index.ensures.buffer, c.index.ensures.position, c.index.ensures.length) at c.in_ok-item.ensures.read in rw pushed (more, grind (arith, common_steps, kept.1), grind (arith, common_steps, kept.2), elements_more tree_definitions tree_shape tree_layout tree_has_layout b q (run tree_shape) n n (all_have tree_definitions tree_shape tree_layout tree_has_layout b q n (run tree_shape) n (inl (refl, refl))) tree_meaning tree_keys (g.D.Entries.entry_of c.args.deserializer.now) (g.D.Entries.entry_of c.loop-index.deserializer) (g.D.Entries.entry_of c.read_tree.new.deserializer) c.loop-index.items.items c.in_ok-item.item c.loop-index.index (one tree_shape) refl kept.0 below (kept.3) h))
+read_vec_tree-loop-index-preserved g t c = (let kept = c.loop-index.invariant in let b = c.before_vec-list.result.bytes.now in let q = c.before_vec-list.result.pos in let n = c.before_vec-list.result.len in let below : c.loop-index.index < n = omega (arith, c.loop-index-test.true, c.loop-index.auto.index-end, c.len-index-end.ensures) in let pushed : c.push_reserved.new.self.items ≡ c.loop-index.items.items ++ c.in_ok-item.item ∷ [] = grind (arith, common_steps) in let more : length (c.loop-index.items.items ++ c.in_ok-item.item ∷ []) ≡ c.loop-index.index + 1 = grind (arith, common_steps, kept.0) in let h = rw (c.part.ensures.buffer, c.part.ensures.position, c.part.ensures.length, c.index.ensures.buffer, c.index.ensures.position, c.index.ensures.length) at c.in_ok-item.ensures.read in rw pushed (more, grind (arith, common_steps, kept.1), grind (arith, common_steps, kept.2), elements_more tree_definitions tree_shape tree_layout tree_has_layout b q (run tree_shape) n n (all_have tree_definitions tree_shape tree_layout tree_has_layout b q n (run tree_shape) n (inl (refl, refl))) tree_meaning tree_keys (g.D.Entries.entry_of c.args.deserializer.now) (g.D.Entries.entry_of c.loop-index.deserializer) (g.D.Entries.entry_of c.read_tree.new.deserializer) c.loop-index.items.items c.in_ok-item.item c.loop-index.index (one tree_shape) refl kept.0 below (kept.3) h))
 
 pub read_vec_tree-returns-clause-read : goal.read_vec_tree-returns-clause-read
-read_vec_tree-returns-clause-read g t c = (let kept = c.loop-index.invariant in let b = c.listed-list.result.bytes.now in let q = c.listed-list.result.pos in let n = c.listed-list.result.len in let whole : length c.loop-index.items.items ≡ n = omega (arith, kept.0, c.loop-index-test.false, c.loop-index.auto.index-end, c.len-index-end.ensures) in let r = elements_all tree_definitions tree_shape tree_layout tree_has_layout b q (run tree_shape) n n (all_have tree_definitions tree_shape tree_layout tree_has_layout b q n (run tree_shape) n (inl (refl, refl))) tree_meaning tree_keys (g.D.Entries.entry_of c.args.deserializer.now) (g.D.Entries.entry_of c.loop-index.deserializer) c.loop-index.items.items whole (kept.3) in vec_read tree_definitions c.args.part.bytes.now c.args.part.pos c.args.part.len tree_shape _ _ _ _ c.requires (rw (c.listed-list.ensures.buffer, c.listed-list.ensures.position, c.listed-list.ensures.length, c.at-view.ensures.buffer, c.at-view.ensures.position) at r))
+read_vec_tree-returns-clause-read g t c = (let kept = c.loop-index.invariant in let b = c.before_vec-list.result.bytes.now in let q = c.before_vec-list.result.pos in let n = c.before_vec-list.result.len in let whole : length c.loop-index.items.items ≡ n = omega (arith, kept.0, c.loop-index-test.false, c.loop-index.auto.index-end, c.len-index-end.ensures) in let r = elements_all tree_definitions tree_shape tree_layout tree_has_layout b q (run tree_shape) n n (all_have tree_definitions tree_shape tree_layout tree_has_layout b q n (run tree_shape) n (inl (refl, refl))) tree_meaning tree_keys (g.D.Entries.entry_of c.args.deserializer.now) (g.D.Entries.entry_of c.loop-index.deserializer) c.loop-index.items.items whole (kept.3) in vec_read tree_definitions c.args.part.bytes.now c.args.part.pos c.args.part.len tree_shape _ _ _ _ c.requires (rw (c.before_vec-list.ensures.buffer, c.before_vec-list.ensures.position, c.before_vec-list.ensures.length, c.at-view.ensures.buffer, c.at-view.ensures.position) at r))
 
 pub read_tree-returns-in_err-a0-clause-refused : goal.read_tree-returns-in_err-a0-clause-refused
 read_tree-returns-in_err-a0-clause-refused g t c = err_by c.from_residual.result c.in_err-a0.field-0.0 _ c.from_residual.ensures.1 (record_refuses tree_definitions tree_shape tree_part_definitions tree_parts tree_has_parts _ _ _ _ _ (first_refuses no_definition (both tree_definitions no_definition) (leaf (number_kind unsigned w32)) (record { size = 4; align = 4 }) (record { solved = λ s k. refl }) (part (vec tree_shape) no_part) _ _ 0 _ _ (rw (c.part_of_record-p0.ensures.buffer, c.part_of_record-p0.ensures.position, c.part_of_record-p0.ensures.length) at c.in_err-a0.ensures.refused)))
