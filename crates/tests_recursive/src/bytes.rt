@@ -63,20 +63,19 @@ fn tree_of_four(rt: HostRuntime) {
     assert_read(&rt, rt.alloc(), TREE, &tree);
 }
 
-fn sum(alloc: Global) -> Result<Expr, AllocError> {
+fn call(alloc: Global) -> Result<Expr, AllocError> {
     let name = String::from_str(alloc, "f")?;
     let call = Expr::Call(name, vec![in alloc; Expr::Num(-1)]?);
-    let left = Box::new(alloc, Expr::Num(5))?;
-    Ok(Expr::Add(left, Box::new(alloc, call)?))
+    Ok(Expr::Negated(Box::new(alloc, call)?))
 }
 
-// The number 5 at 0, -1 at 24, the call at 48 with its name in place, and the sum at 72. A number of 64 bits begins eight bytes behind the tag.
-const SUM: &[u8] =
-    b"\0\0\0\0\0\0\0\0\x05\0\0\0\0\0\0\0\0\0\0\0\0\0\0\0\0\0\0\0\0\0\0\0\xff\xff\xff\xff\xff\xff\xff\xff\0\0\0\0\0\0\0\0\x02\0\0\0f\xff\xff\xff\xff\xff\xff\xff\xdc\xff\xff\xff\x01\0\0\0\0\0\0\0\x01\0\0\0\xb4\xff\xff\xff\xe0\xff\xff\xff\0\0\0\0\0\0\0\0\0\0\0\0";
+// The number -1 at 0, the call at 24 with its name in place, and at 48 the box that leads back to it. A number of 64 bits begins eight bytes behind the tag.
+const CALL: &[u8] =
+    b"\0\0\0\0\0\0\0\0\xff\xff\xff\xff\xff\xff\xff\xff\0\0\0\0\0\0\0\0\x02\0\0\0f\xff\xff\xff\xff\xff\xff\xff\xdc\xff\xff\xff\x01\0\0\0\0\0\0\0\x01\0\0\0\xe4\xff\xff\xff\0\0\0\0\0\0\0\0\0\0\0\0\0\0\0\0";
 
 #[test]
 fn expression(rt: HostRuntime) {
-    let sum = sum(rt.alloc()).expect(&rt, "an expression");
-    assert_written(&rt, rt.alloc(), &sum, SUM);
-    assert_read(&rt, rt.alloc(), SUM, &sum);
+    let call = call(rt.alloc()).expect(&rt, "an expression");
+    assert_written(&rt, rt.alloc(), &call, CALL);
+    assert_read(&rt, rt.alloc(), CALL, &call);
 }
