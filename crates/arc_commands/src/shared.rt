@@ -20,7 +20,7 @@ use archive_core::record::{resolve_record, serialize_record};
 use archive_core::self_check::BySchema;
 use archive_core::ser::Writer;
 use archive_core::slice::ArchivedSlice;
-use archive_core::traits::{Archive, Keys, Portable, Serialize};
+use archive_core::traits::{Archive, InTurn, Keys, Portable, Serialize};
 use std::alloc::Global;
 use std::marker::PhantomData;
 use std::rc::Rc;
@@ -165,6 +165,8 @@ impl<A: Archive, B: Archive> Archive for TwoRcOf<A, B> {
 
     type Resolver = <Parts<A, B> as SourceParts<Self>>::Resolvers;
 
+    type Slices = InTurn;
+
     ghost meaning = { λ v. product (⟦<Parts<A, B> as SourceParts<Self>>⟧.meanings v) };
 
     ghost flat = { λ v r. product (⟦<Parts<A, B> as SourceParts<Self>>⟧.flats v r) };
@@ -172,6 +174,8 @@ impl<A: Archive, B: Archive> Archive for TwoRcOf<A, B> {
     ghost keys = { λ v. ⟦<Parts<A, B> as SourceParts<Self>>⟧.keys v };
 
     ghost belongs = { λ v r. ⟦<Parts<A, B> as SourceParts<Self>>⟧.belongs v r };
+
+    ghost same_slices = { λ on. absurd on };
 
     ghost keyed = { λ v. record_keyed (part_keyed (A.keyed v.first) (part_keyed (B.keyed v.second) nothing_keyed)) };
 

@@ -5,5 +5,5 @@ use Rattle.archive_check.specs.Pooled.{Kept}
 use Rattle.archive_core.specs.Pooling.{kept_at}
 use Rattle.archive_types.specs.declared.traits.Archive as Archive
 
-abbrev pub kept_value : {T A R M C : Type 0} → ℕ → Pointee → ℕ → Archive.Ghosts T A R C M → T → Kept
+abbrev pub kept_value : {T A R H M C : Type 0} → ℕ → Pointee → ℕ → Archive.Ghosts T A R H C M → T → Kept
 kept_value t P n a v = kept_at t P n (a.meaning v) (a.keys v)

@@ -74,7 +74,14 @@ HindersCopies L count p e =
     ⊎ ((e ≡ PositionTooLarge) × (4294967295 < copies_from L p))
     ⊎ ((e ≡ LayoutTooLarge) × (2 ^ 64 ≤ copies_to L count p))
 
+-- Why they aren't written as a slice: the same, without a position.
+abbrev pub HindersSlice : Layout → ℕ → ℕ → Error → Type 0
+HindersSlice L count p e = ((e ≡ LengthTooLarge) × (4294967295 < count)) ⊎ ((e ≡ LayoutTooLarge) × (2 ^ 64 ≤ copies_to L count p))
+
 -- For one of these causes, or since they weren't written.
+abbrev pub IsSliceRefused : Layout → ℕ → ℕ → WriterState → WriterState → Error → Type 0
+IsSliceRefused L count p old new = Explains (HindersSlice L count p) (λ n. n ≤ copies_to L count p) old new
+
 abbrev pub AreCopiesRefused : Layout → ℕ → ℕ → WriterState → WriterState → Error → Type 0
 AreCopiesRefused L count p old new = Explains (HindersCopies L count p) (λ n. n ≤ copies_to L count p) old new
 

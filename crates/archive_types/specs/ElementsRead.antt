@@ -17,7 +17,7 @@ abbrev pub AreAllOf : Shape → ℕ → Pointee → ℕ → Type 0
 AreAllOf X n P m = ((P ≡ run X) × (m ≡ n)) ⊎ (P ≡ one (array n X))
 
 -- what was read back of so many, whichever they are, and why it wasn't
-abbrev pub ReadsEach : {M T A R N C D E : Type 0} → FormatOf M → ℕ → Both RawView E → Entries.Ghosts D → Both (MutBor D) (MutBor D) → Archive.Ghosts T A R C N → List T → Type 0
+abbrev pub ReadsEach : {M T A R H N C D E : Type 0} → FormatOf M → ℕ → Both RawView E → Entries.Ghosts D → Both (MutBor D) (MutBor D) → Archive.Ghosts T A R H C N → List T → Type 0
 ReadsEach f n p d b a xs =
     (P : Pointee) (m : ℕ) → AreAllOf f.shape n P m → ReadsBack d.keeps f.definitions p.entry.bytes.now p.entry.pos P m (d.entry_of b.entry.now) (d.entry_of b.exit.now)
     (list (each_meaning a.meaning xs)) (each_keys a.keys xs)

@@ -65,18 +65,18 @@ module _ {A R : Type 0} (D : Definitions) (X : Shape) (L : Layout) (k : A → Li
     one_refused : {e : Error} (xs : List A) (x : A) (t : ℕ) (mid : WriterState) → came (xs ++ x ∷ []) → ItemsLaid xs t old mid → ItemRefused x mid new e → ItemsRefused came old new e
 
 -- the same of an item of a source's type, and of the items of an iterator, which came to an end
-abbrev pub ItemPut : {T A R M C S : Type 0} → Archive.Ghosts T A R C M → FormatOf M → T → Keys.Ghosts S → Both (MutBor S) (MutBor S) → Type 0
+abbrev pub ItemPut : {T A R H M C S : Type 0} → Archive.Ghosts T A R H C M → FormatOf M → T → Keys.Ghosts S → Both (MutBor S) (MutBor S) → Type 0
 ItemPut a f x k w = ItemWritten f.definitions f.shape f.layout a.keys a.meaning a.flat a.belongs x (k.state w.entry.now) (k.state w.exit.now)
 
-abbrev pub ItemUnput : {T A R M C S : Type 0} → Archive.Ghosts T A R C M → FormatOf M → T → Keys.Ghosts S → Both (MutBor S) (MutBor S) → Error → Type 0
+abbrev pub ItemUnput : {T A R H M C S : Type 0} → Archive.Ghosts T A R H C M → FormatOf M → T → Keys.Ghosts S → Both (MutBor S) (MutBor S) → Error → Type 0
 ItemUnput a f x k w = ItemRefused f.definitions f.shape f.layout a.keys a.meaning a.flat a.belongs x (k.state w.entry.now) (k.state w.exit.now)
 
 -- They are as many as a vector may have, and stand from t on; where none has a pointer to a region of its own, they are a vector's elements.
-abbrev pub ItemsStored : {I T A R M C S : Type 0} → (I → Option T → I → Type 0) → I → Archive.Ghosts T A R C M → FormatOf M → Keys.Ghosts S → Both (MutBor S) (MutBor S) → ℕ → Type 0
+abbrev pub ItemsStored : {I T A R H M C S : Type 0} → (I → Option T → I → Type 0) → I → Archive.Ghosts T A R H C M → FormatOf M → Keys.Ghosts S → Both (MutBor S) (MutBor S) → ℕ → Type 0
 ItemsStored {T = T} steps s a f k w t = (xs : List T) × Drains steps s xs × (length xs ≤ 4294967295)
     × ItemsLaid f.definitions f.shape f.layout a.keys a.meaning a.flat a.belongs xs t (k.state w.entry.now) (k.state w.exit.now)
     × (OwnNoRegion a.flat a.belongs xs → VecSerialized a.keys a.meaning f xs k w t)
 
-abbrev pub ItemsUnstored : {I T A R M C S : Type 0} → (I → Option T → I → Type 0) → I → Archive.Ghosts T A R C M → FormatOf M → Keys.Ghosts S → Both (MutBor S) (MutBor S) → Error → Type 0
+abbrev pub ItemsUnstored : {I T A R H M C S : Type 0} → (I → Option T → I → Type 0) → I → Archive.Ghosts T A R H C M → FormatOf M → Keys.Ghosts S → Both (MutBor S) (MutBor S) → Error → Type 0
 ItemsUnstored {I = I} steps s a f k w =
     ItemsRefused f.definitions f.shape f.layout a.keys a.meaning a.flat a.belongs (λ xs. (u : I) × Yields steps s xs u) (k.state w.entry.now) (k.state w.exit.now)

@@ -23,6 +23,11 @@ NameMap = FinMap nat_cmp (Entry × Value)
 abbrev pub Naming : Type 0
 Naming = ℕ × (Entry × Value)
 
+-- values have these keys and this meaning, by whichever is asked
+pub record SaysTheSame {A : Type 0} (k : A → List Naming) (m : A → Value) (keys : A → List Naming) (meaning : A → Value) : Type 0 where
+  pub same_keys : k ≡ keys
+  pub same_meaning : m ≡ meaning
+
 -- each of these keys names what the map says
 abbrev pub AreNamed : NameMap → List Naming → Type 0
 AreNamed names [] = Unit {0}

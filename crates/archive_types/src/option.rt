@@ -16,10 +16,7 @@ ghost use Rattle.archive_types.specs.Writing.{ZeroedPlace, Resolves};
 
 use crate::place::Place;
 use crate::ser::serialize_one;
-use crate::traits::{
-    Archive, ArchivePointee, ArchiveUnsized, Deserialize, Entries, Keys, Portable, Serialize,
-    SerializeUnsized,
-};
+use crate::traits::{Archive, ArchivePointee, ArchiveUnsized, Deserialize, Entries, InTurn, Keys, Portable, Serialize, SerializeUnsized};
 use crate::variants::resolve_case;
 use crate::view::{RawView, Ref};
 use archive_check::format::error::Error;
@@ -33,6 +30,8 @@ impl<T: Archive> Archive for Option<T> {
 
     type Resolver = Option<T::Resolver>;
 
+    type Slices = InTurn;
+
     ghost meaning = { option_meaning T.meaning };
 
     ghost flat = { option_flat T.flat };
@@ -40,6 +39,8 @@ impl<T: Archive> Archive for Option<T> {
     ghost keys = { option_keys T.keys };
 
     ghost belongs = { OptionBelongs T.belongs };
+
+    ghost same_slices = { λ on. absurd on };
 
     ghost keyed = { option_keyed T.keys T.meaning T.keyed };
 

@@ -19,10 +19,9 @@ ghost use Rattle.archive_write.specs.Written.{GoesOn};
 
 use crate::place::Place;
 use crate::ser::serialize_one;
-use crate::slice::copy_groups;
 use crate::traits::{
-    Archive, ArchivePointee, ArchiveUnsized, Copied, CopiedSource, CopyOptimization, Deserialize,
-    Entries, Keys, Portable, Serialize, SerializeUnsized,
+    Archive, ArchivePointee, ArchiveUnsized, Copied, CopiedSource, Deserialize,
+    Entries, InBulk, Keys, Portable, Serialize, SerializeUnsized,
 };
 use crate::view::RawView;
 use archive_check::format::error::Error;
@@ -36,6 +35,8 @@ impl<T> Archive for PhantomData<T> {
 
     type Resolver = ();
 
+    type Slices = InBulk;
+
     ghost meaning = { λ _. product no_value };
 
     ghost flat = { λ _ _. product no_value };
@@ -43,6 +44,8 @@ impl<T> Archive for PhantomData<T> {
     ghost keys = { λ _. [] };
 
     ghost belongs = { λ _ _. ⊤ };
+
+    ghost same_slices = { λ _. record { same_keys = refl; same_meaning = refl } };
 
     ghost keyed = { λ _. empty_product_keyed };
 
@@ -59,18 +62,6 @@ impl<T> Archive for PhantomData<T> {
     {
         let Place { bytes: _bytes, .. } = place;
         Ok(())
-    }
-
-    fn copy_optimization() -> CopyOptimization<PhantomData<T>> {
-        CopyOptimization::enable()
-    }
-
-    fn serialize_copied<S: Writer + Keys>(
-        values: &[PhantomData<T>],
-        together: usize,
-        serializer: &mut S,
-    ) -> Result<Option<usize>, Error> {
-        copy_groups(values, together, serializer)
     }
 }
 

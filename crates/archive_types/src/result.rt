@@ -15,10 +15,7 @@ ghost use Rattle.archive_types.specs.Writing.{ZeroedPlace, Resolves};
 
 use crate::place::Place;
 use crate::ser::serialize_one;
-use crate::traits::{
-    Archive, ArchivePointee, ArchiveUnsized, Deserialize, Entries, Keys, Portable, Serialize,
-    SerializeUnsized,
-};
+use crate::traits::{Archive, ArchivePointee, ArchiveUnsized, Deserialize, Entries, InTurn, Keys, Portable, Serialize, SerializeUnsized};
 use crate::variants::resolve_case;
 use crate::view::{RawView, Ref};
 use archive_check::format::error::Error;
@@ -32,6 +29,8 @@ impl<T: Archive, E: Archive> Archive for Result<T, E> {
 
     type Resolver = Result<T::Resolver, E::Resolver>;
 
+    type Slices = InTurn;
+
     ghost meaning = { result_meaning T.meaning E.meaning };
 
     ghost flat = { result_flat T.flat E.flat };
@@ -39,6 +38,8 @@ impl<T: Archive, E: Archive> Archive for Result<T, E> {
     ghost keys = { result_keys T.keys E.keys };
 
     ghost belongs = { ResultBelongs T.belongs E.belongs };
+
+    ghost same_slices = { λ on. absurd on };
 
     ghost keyed = { result_keyed T.keys E.keys T.meaning E.meaning T.keyed E.keyed };
 

@@ -36,10 +36,7 @@ use crate::owner_pointers::position_of;
 use crate::place::Place;
 use crate::primitive::ArchivedUsize;
 use crate::ser::serialize_one;
-use crate::traits::{
-    Archive, ArchivePointee, ArchiveUnsized, Deserialize, DeserializeUnsized, Entries, Keys,
-    LayoutRaw, Portable, PortablePointee, Serialize, SerializeUnsized,
-};
+use crate::traits::{Archive, ArchivePointee, ArchiveUnsized, Deserialize, DeserializeUnsized, Entries, InTurn, Keys, LayoutRaw, Portable, PortablePointee, Serialize, SerializeUnsized};
 use crate::view::{RawView, Ref};
 use archive_check::format::error::Error;
 use archive_check::format::expr::{Defs, Expr, Pointee};
@@ -303,6 +300,8 @@ impl Archive for String {
 
     type Resolver = StringResolver;
 
+    type Slices = InTurn;
+
     ghost meaning = { λ s. text_value (string_bytes s) };
 
     ghost flat = { λ s r. string_flat (string_bytes s) r };
@@ -310,6 +309,8 @@ impl Archive for String {
     ghost keys = { λ _. [] };
 
     ghost belongs = { λ s _. length (string_bytes s) ≤ 1073741823 };
+
+    ghost same_slices = { λ on. absurd on };
 
     ghost keyed = { λ s. text_keyed (string_bytes s) };
 

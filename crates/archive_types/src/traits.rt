@@ -1,6 +1,6 @@
 //! What is archived and how, and what is read back. The traits are those of rkyv 0.8.18; their laws are our own.
 
-ghost use Rattle.std.specs.Prelude.{◌≡◌, ◌<◌, ◌≤◌, ℕ, length, IfOk, OnOk, IfErr, IfSome, IsErr, List, [], None, false};
+ghost use Rattle.std.specs.Prelude.{◌≡◌, ◌<◌, ◌≤◌, ℕ, length, IfOk, OnOk, ◌↔◌, IsTrue, IfErr, IfSome, IsErr, List, [], None, false};
 ghost use Rattle.std.specs.Vec.{vec_len, vec_capacity};
 ghost use Rattle.archive_check.specs.Entries.{ReadsBack, RefusesReading};
 ghost use Rattle.archive_check.specs.Layout.{has_length};
@@ -8,13 +8,12 @@ ghost use Rattle.archive_check.specs.Shape.{run};
 ghost use Rattle.archive_check.specs.Value.{Value, list};
 ghost use Rattle.archive_check.specs.Viewed.{Viewed};
 ghost use Rattle.archive_check.specs.declared.format.error.Error.TheVariants.{LengthTooLarge};
-ghost use Rattle.archive_types.specs.Words.KindsWritten.{RunStoredIf, RunUnstored, RunCopiedIf, RunUncopied};
 ghost use Rattle.archive_types.specs.Words.Placed.{Resolved, Hindered, IsPlanned};
 ghost use Rattle.archive_types.specs.Words.Seen.{IsPartOf, RefusesPart, ReadsView, RefusesView};
 ghost use Rattle.archive_types.specs.Causes.{HindersAt, IsRefused, IsRegionRefused};
 ghost use Rattle.archive_types.specs.Plans.{HasPlan, HasRegionPlan, Serialized, SerializedRegion};
 ghost use Rattle.archive_types.specs.Runs.{each_keys, each_meaning};
-ghost use Rattle.archive_types.specs.Writing.{Naming, IsKeyed, ZeroedPlace, Resolves};
+ghost use Rattle.archive_types.specs.Writing.{Naming, SaysTheSame, IsKeyed, ZeroedPlace, Resolves};
 ghost use Rattle.archive_write.specs.Written.{GoesOn};
 
 use crate::place::Place;
@@ -30,8 +29,10 @@ use std::alloc::Global;
 
 mod copying;
 mod one_value;
+mod slices;
 
 pub use copying::{Copied, CopiedSource, CopyOptimization};
+pub use slices::{InBulk, InGroups, InTurn, WritesSlices};
 
 /// The archived type of a source.
 pub type Archived<T> = <T as Archive>::Archived;
@@ -47,6 +48,9 @@ pub trait Archive {
 
     /// What is kept of a value from its serialization until it is resolved, such as the positions of what it owns.
     type Resolver: Drop;
+
+    /// How slices of such values are written: `InTurn`, as most, or in bulk. Our own.
+    type Slices: WritesSlices<Self, Self::Archived>;
 
     // What a value means, its shared values named by their keys.
     ghost meaning: { Self → Value };
@@ -74,30 +78,16 @@ pub trait Archive {
         ensures same_length { length place.exit.0.now ≡ length place.entry.bytes.now }
         ensures refused { IfErr result (Hindered Self.Archived.Portable place (flat self.now resolver)) };
 
-    /// Whether slices of such values are written in bulk, by `serialize_copied`. Off by default. As in rkyv 0.8.18, where it is a constant.
+    /// Whether slices of such values are written in bulk. As in rkyv 0.8.18, where it is a constant.
     #[inline(always)]
-    fn copy_optimization() -> CopyOptimization<Self> {
-        CopyOptimization::disable()
+    final fn copy_optimization() -> CopyOptimization<Self>
+        ensures { IsTrue result.is_enabled ↔ Self.Slices.in_bulk }
+    {
+        CopyOptimization::enable_if(Self::Slices::is_in_bulk())
     }
 
-    /// Writes `values` in bulk as a region of their own, so many `together` always in one piece, and answers its position, in bytes from the first one.
-    /// What is `Copied` writes this call with `slice::copy_groups`; by default nothing is written, and none is answered. Refused as `copy_slice` is.
-    #[tactic(auto, using(crate::proofs::Planning::Causes::goes_nowhere))]
-    #[inline(always)]
-    fn serialize_copied<S: Writer + Keys>(
-        _values: &[Self],
-        _together: usize,
-        _serializer: &mut S,
-    ) -> Result<Option<usize>, Error>
-        ensures serialized { IfOk result (RunStoredIf keys meaning Self.Archived.Portable _values.now S.Keys _serializer) }
-        ensures in_bulk { IfOk result (RunCopiedIf keys meaning Self.Archived.Portable _values.now S.Keys _serializer) }
-        ensures untouched { IfOk result (λ o. o ≡ None → S.state _serializer.new ≡ S.state _serializer.old) }
-        ensures goes_on { GoesOn (S.state _serializer.old) (S.state _serializer.new) }
-        ensures refused { IfErr result (RunUnstored keys meaning Self.Archived.Portable _values.now S.Keys _serializer) }
-        ensures not_in_bulk { IfErr result (RunUncopied keys meaning Self.Archived.Portable _values.now S.Keys _serializer) }
-    {
-        Ok(None)
-    }
+    // What is written in bulk has its keys and its meaning.
+    ghost same_slices: { Self.Slices.in_bulk → SaysTheSame Self.Slices.bulk_keys Self.Slices.bulk_meaning keys meaning };
 
     // Its keys are those that its meaning leads to.
     ghost keyed: { (v : Self) → IsKeyed (keys v) (meaning v) };

@@ -20,7 +20,7 @@ use archive_core::own::{
 use archive_core::place::Place;
 use archive_core::ser::{ResolverAlloc, Writer, serialize_one};
 use archive_core::shape::{Expr, Pointee};
-use archive_core::traits::{Archive, ArchiveUnsized, Keys, Portable, Serialize, SerializeUnsized};
+use archive_core::traits::{Archive, ArchiveUnsized, InTurn, Keys, Portable, Serialize, SerializeUnsized};
 use std::alloc::{AllocError, Global};
 
 /// Nothing, or a box of the rest.
@@ -105,6 +105,8 @@ impl Archive for Node {
 
     type Resolver = Option<BoxResolver>;
 
+    type Slices = InTurn;
+
     ghost meaning = { node_meaning };
 
     ghost flat = { λ _. node_flat };
@@ -112,6 +114,8 @@ impl Archive for Node {
     ghost keys = { λ _. [] };
 
     ghost belongs = { λ _ _. ⊤ };
+
+    ghost same_slices = { λ on. absurd on };
 
     ghost keyed = { λ n. nest_keyed (node_nest n) };
 

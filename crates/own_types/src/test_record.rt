@@ -20,7 +20,7 @@ use archive_core::record::{resolve_record, serialize_record};
 use archive_core::self_check::BySchema;
 use archive_core::ser::{ResolverAlloc, Writer, serialize_one};
 use archive_core::string::ArchivedString;
-use archive_core::traits::{Archive, ArchiveUnsized, Keys, Portable, Serialize, SerializeUnsized};
+use archive_core::traits::{Archive, ArchiveUnsized, InTurn, Keys, Portable, Serialize, SerializeUnsized};
 use archive_core::vec::ArchivedVec;
 use std::marker::PhantomData;
 
@@ -95,6 +95,8 @@ impl<A: Archive, B: Archive, C: Archive> Archive for TestOf<A, B, C> {
 
     type Resolver = <Parts<A, B, C> as SourceParts<Self>>::Resolvers;
 
+    type Slices = InTurn;
+
     ghost meaning = { λ v. product (⟦<Parts<A, B, C> as SourceParts<Self>>⟧.meanings v) };
 
     ghost flat = { λ v r. product (⟦<Parts<A, B, C> as SourceParts<Self>>⟧.flats v r) };
@@ -102,6 +104,8 @@ impl<A: Archive, B: Archive, C: Archive> Archive for TestOf<A, B, C> {
     ghost keys = { λ v. ⟦<Parts<A, B, C> as SourceParts<Self>>⟧.keys v };
 
     ghost belongs = { λ v r. ⟦<Parts<A, B, C> as SourceParts<Self>>⟧.belongs v r };
+
+    ghost same_slices = { λ on. absurd on };
 
     ghost keyed = { λ v. record_keyed (part_keyed (A.keyed v.number) (part_keyed (B.keyed v.text) (part_keyed (C.keyed v.list) nothing_keyed))) };
 

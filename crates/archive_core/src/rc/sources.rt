@@ -20,9 +20,7 @@ use archive_types::place::Place;
 use archive_types::rc::{ArchivedRc, RcFlavor, RcResolver, write_pointer, write_shared};
 use archive_types::ser::{ResolverAlloc, Writer, serialize_one};
 use archive_types::sharing::Sharing;
-use archive_types::traits::{
-    Archive, ArchivePointee, ArchiveUnsized, Portable, Serialize, SerializeUnsized,
-};
+use archive_types::traits::{Archive, ArchivePointee, ArchiveUnsized, InTurn, Portable, Serialize, SerializeUnsized};
 pub use long::{SharedSlice, SharedStr};
 use std::marker::PhantomData;
 use std::rc::Rc;
@@ -93,6 +91,8 @@ impl<T: Archive> Archive for Shared<T> {
 
     type Resolver = RcResolver;
 
+    type Slices = InTurn;
+
     ghost meaning = { λ s. shared_value s.key };
 
     ghost flat = { λ s r. rc_flat r T.Archived.pointee 0 };
@@ -100,6 +100,8 @@ impl<T: Archive> Archive for Shared<T> {
     ghost keys = { λ s. rc_keys s.key T.Archived.pointee 0 (T.meaning s.value.value) (T.keys s.value.value) };
 
     ghost belongs = { λ _ _. ⊤ };
+
+    ghost same_slices = { λ on. absurd on };
 
     ghost keyed = { λ s. rc_keyed s.key T.Archived.pointee 0 (T.meaning s.value.value) (T.keys s.value.value) (T.keyed s.value.value) };
 

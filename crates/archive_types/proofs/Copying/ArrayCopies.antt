@@ -1,6 +1,5 @@
 -- Slices of arrays are copied as the slice of all their elements is.
-use Rattle.std.proofs.Common.{◌≡◌, ℕ, suc, ◌+◌, ◌*◌, List, [], ◌∷◌, ◌++◌, length, refl, sym, ap, subst, ◌∙◌, arith, Bool, true, Option, Some, None, Result, Ok, Err, IfOk}
-use Rattle.std.specs.Prelude.{IfSome}
+use Rattle.std.proofs.Common.{◌≡◌, ℕ, suc, ◌+◌, ◌*◌, List, [], ◌∷◌, ◌++◌, length, refl, sym, ap, subst, ◌∙◌, arith, Bool, true, Result, Ok, Err, OnOk}
 use Rattle.std.specs.List.{All, AllByRecursion, flat_map}
 use Rattle.std.proofs.lemmas.List.Elements.{recursion_from_All}
 use Rattle.std.proofs.lemmas.List.{length-append}
@@ -8,20 +7,19 @@ use Rattle.std.proofs.Math.Nat.{suc-mul, mul_assoc, add-mul}
 use Rattle.archive_check.specs.Shape.{Shape, array, run}
 use Rattle.archive_check.specs.Layout.{Layout, size_of}
 use Rattle.archive_check.specs.Definitions.{Definitions, HasLayout, IsAlign}
-use Rattle.archive_check.specs.SelfCheck.Arrays.{array_layout, array_has_layout}
+use Rattle.archive_check.specs.SelfCheck.Arrays.{array_layout}
 use Rattle.archive_check.specs.Value.{Value, list}
 use Rattle.archive_check.specs.Reads.{Schema, Reads, ReadsRun, reads_none, reads_element, reads_array}
 use Rattle.archive_check.specs.CleanRegions.{CleanRun, clean_none, clean_element, clean_array}
 use Rattle.archive_check.specs.WriterState.{WriterState}
 use Rattle.archive_check.specs.declared.format.error.Error.{Error}
 use Rattle.archive_types.specs.Members.Arrays.{are, they_are, value_if, array_meaning, array_keys}
-use Rattle.archive_types.specs.Causes.{IsRegionRefused}
 use Rattle.archive_types.specs.Copies.{OwnsNothing, EachOwnsNothing, AreCopied, IsCopyRefused, copies_from, copies_to}
-use Rattle.archive_types.specs.Plans.{Serialized, SerializedRegion}
+use Rattle.archive_types.specs.Plans.{Serialized}
 use Rattle.archive_types.specs.Runs.{each_keys, each_meaning}
 use Rattle.archive_types.specs.Writing.{Naming}
 use Rattle.archive_types.proofs.Writing.Arrays.{serialized_array}
-use Rattle.archive_types.proofs.Copying.Copies.{serialized_as_each_is, copied_stored, copied_unstored}
+use Rattle.archive_types.proofs.Copying.Copies.{serialized_as_each_is}
 
 -- all elements of arrays
 abbrev pub flat : {A : Type 0} → List (List A) → List A
@@ -109,19 +107,9 @@ module _ {A : Type 0} (D : Definitions) (X : Shape) (k : A → List Naming) (m :
           }
 
       -- in a contract's form: where the slice of all is copied, so are the arrays
-      pub arrays_copied_if : (r : Result (Option ℕ) Error) (ys : List A) → ys ≡ flat xss → IfOk r (λ o. IfSome o (λ p. (p ≡ copies_from L (length old.bytes)) × AreCopied D X L k m ys old new))
-          → IfOk r (λ o. IfSome o (λ p. (p ≡ copies_from L (length old.bytes)) × AreCopied D (array n X) (array_layout n L) (array_keys n k) (array_meaning n m) xss old new))
-      arrays_copied_if (Ok (Some p)) ys same h = (h.0, arrays_copied (subst (λ zs. AreCopied D X L k m zs old new) same h.1))
-      arrays_copied_if (Ok None) ys same h = tt
+      pub arrays_copied_if : (r : Result ℕ Error) (ys : List A) → ys ≡ flat xss → OnOk r (AreCopied D X L k m ys old new) → OnOk r (AreCopied D (array n X) (array_layout n L) (array_keys n k) (array_meaning n m) xss old new)
+      arrays_copied_if (Ok p) ys same h = arrays_copied (subst (λ zs. AreCopied D X L k m zs old new) same h)
       arrays_copied_if (Err x) ys same h = tt
-
-      pub arrays_stored_if : (r : Result (Option ℕ) Error)
-          → IfOk r (λ o. IfSome o (λ p. (p ≡ copies_from L (length old.bytes)) × AreCopied D (array n X) (array_layout n L) (array_keys n k) (array_meaning n m) xss old new))
-          → IfOk r (λ o. IfSome o (λ p. SerializedRegion D (run (array n X)) (length xss) (each_keys (array_keys n k) xss) (list (each_meaning (array_meaning n m) xss)) p old new))
-      arrays_stored_if (Ok (Some p)) h =
-          copied_stored D (array n X) (array_layout n L) (array_keys n k) (array_meaning n m) xss old new p (array_has_layout n D X L layout) is h.0 h.1
-      arrays_stored_if (Ok None) h = tt
-      arrays_stored_if (Err x) h = tt
 
       -- where its copy is refused, so is that of the arrays
       pub arrays_uncopied : (ys : List A) (e : Error) → ys ≡ flat xss → EachOwnsNothing D X k m ys × IsCopyRefused (copies_to L (length ys) (length old.bytes)) old new e
@@ -132,8 +120,3 @@ module _ {A : Type 0} (D : Definitions) (X : Shape) (k : A → List Naming) (m :
             arrays_own xss each (subst (λ zs. EachOwnsNothing D X k m zs) same h.0),
             subst (λ c. IsCopyRefused (copies_from L (length old.bytes) + c) old new e) many h.1,
           )
-
-      pub arrays_unstored : (e : Error) → EachOwnsNothing D (array n X) (array_keys n k) (array_meaning n m) xss
-          × IsCopyRefused (copies_to (array_layout n L) (length xss) (length old.bytes)) old new e
-          → IsRegionRefused D (run (array n X)) (length xss) (each_keys (array_keys n k) xss) (list (each_meaning (array_meaning n m) xss)) old new e
-      arrays_unstored e h = copied_unstored D (array n X) (array_layout n L) (array_keys n k) (array_meaning n m) xss old new e (array_has_layout n D X L layout) is h.0 h.1

@@ -269,6 +269,11 @@ module _ {A : Type 0} (D : Definitions) (X : Shape) (L : Layout) (k : A → List
         states = states;
       }
 
+  pub are_copied_if : (r : Result ℕ Error) (b : A → List ℕ) (size : ℕ) → HasLayout D X L → ((x : A) → OwnsNothing D X (k x) (m x)) → size ≡ L.size → OnOk r (EachCopied D X size m b xs)
+      → OnOk r (new.bytes ≡ behind_zeros L old.bytes (each_bytes b xs)) → OnOk r (KeepsKeys old.states new.states) → OnOk r (AreCopied D X L k m xs old new)
+  are_copied_if (Ok t) b size layout own same each grown states = are_copied b size layout own same each grown states
+  are_copied_if (Err e) b size layout own same each grown states = tt
+
   abbrev zeros_behind : WriterState
   zeros_behind = record old { bytes = old.bytes ++ replicate (padding L.align (length old.bytes)) 0 }
 

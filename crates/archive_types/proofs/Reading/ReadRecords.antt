@@ -48,7 +48,7 @@ module _ (D : Definitions) (bytes : List ℕ) (q : ℕ) (P : Pointee) (n : ℕ) 
     pub knows : (s : Schema) → Knows s D → Knows s E
     pub reached : (s : Schema) → Knows s D → (l : Lies s bytes q P n) → (r : ℕ) (Y : Shape) → IsPart s q at ps r Y → (u : Value) × Reached s bytes l.root l.shape r (one Y) 0 u
 
-  module _ {keeps : Bool} {A E : Definitions} {X : Shape} {ps : Parts} {L : Layout} {at : ℕ} (laid : HasLayout A X L) (t : Tail (both A E) (part X ps) at) where
+  module _ {A E : Definitions} {X : Shape} {ps : Parts} {L : Layout} {at : ℕ} (laid : HasLayout A X L) (t : Tail (both A E) (part X ps) at) where
     first_reached : (s : Schema) → Knows s D → (l : Lies s bytes q P n) → (u : Value) × Reached s bytes l.root l.shape (q + up at L.align) (one X) 0 u
     first_reached s k l = subst (λ o. (u : Value) × Reached s bytes l.root l.shape (q + o) (one X) 0 u) (begins_there s A E X L laid (t.knows s k) at) (t.reached s k l _ X first_part)
 

@@ -9,7 +9,7 @@ use Rattle.archive_check.specs.Reads.{Schema, ReadsRun}
 use Rattle.archive_check.specs.CleanRegions.{Occurs, CleanRun}
 use Rattle.archive_check.specs.Tour.{Entry}
 use Rattle.archive_check.specs.Reached.{Names, names_itself}
-use Rattle.archive_types.specs.Writing.{Naming, NameMap, AreNamed, HasKeys, key_at_once, IsKeyed}
+use Rattle.archive_types.specs.Writing.{Naming, SaysTheSame, NameMap, AreNamed, HasKeys, key_at_once, IsKeyed}
 use Rattle.archive_types.specs.Plans.{plans_array, HasPlan}
 use Rattle.archive_types.specs.Runs.{each_meaning, each_keys, HasRunPlan}
 use Rattle.archive_types.specs.Members.PlannedOwners.{each_planned}
@@ -113,3 +113,7 @@ array_planned n D X k m h xs = by_length (are xs n) refl
     by_length : (b : Bool) → are xs n ≡ b → HasPlan D (array n X) (keys_if b (each_keys k xs)) (value_if b (list (each_meaning m xs)))
     by_length true all = (let count : length xs ≡ n = as_many xs n all in run_planned D X n (each_keys k xs) (each_meaning m xs) (rw (← count) (each_planned D X k m h xs)))
     by_length false all = λ a s names known named. absurd (no_two names named)
+
+-- arrays have the same keys and the same meaning where their elements do
+pub same_groups : {A : Type 0} (n : ℕ) (k l : A → List Naming) (m o : A → Value) → SaysTheSame k m l o → SaysTheSame (array_keys n k) (array_meaning n m) (array_keys n l) (array_meaning n o)
+same_groups n k l m o h = record { same_keys = ap (array_keys n) h.same_keys; same_meaning = ap (array_meaning n) h.same_meaning }

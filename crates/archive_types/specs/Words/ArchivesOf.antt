@@ -23,31 +23,31 @@ use Rattle.archive_types.specs.declared.traits.ArchiveUnsized as ArchiveUnsized
 use Rattle.archive_write.specs.Written.{GoesOn}
 
 -- behind what the writer held, an archive of the value was written, with its root there
-abbrev pub Leaves : {T A R M C W : Type 0} → Archive.Ghosts T A R C M → FormatOf M → T → Keys.Ghosts W → W → W → ℕ → Type 0
+abbrev pub Leaves : {T A R H M C W : Type 0} → Archive.Ghosts T A R H C M → FormatOf M → T → Keys.Ghosts W → W → W → ℕ → Type 0
 Leaves a f v k old new root = Archives f.definitions (k.state old).bytes (k.state new).bytes root f.shape f.layout.size (a.keys v) (a.meaning v)
 
 -- behind what the writer held, an archive of the value was written
-abbrev pub LeavesOne : {T A R M C W : Type 0} → Archive.Ghosts T A R C M → FormatOf M → T → Keys.Ghosts W → W → W → Type 0
+abbrev pub LeavesOne : {T A R H M C W : Type 0} → Archive.Ghosts T A R H C M → FormatOf M → T → Keys.Ghosts W → W → W → Type 0
 LeavesOne a f v k old new = (root : ℕ) × Leaves a f v k old new root
 
 -- behind what the lent writer held, an archive of the value was written, with its root there
-abbrev pub LeavesIn : {T A R M C W : Type 0} → Archive.Ghosts T A R C M → FormatOf M → T → Keys.Ghosts W → Both (MutBor W) (MutBor W) → ℕ → Type 0
+abbrev pub LeavesIn : {T A R H M C W : Type 0} → Archive.Ghosts T A R H C M → FormatOf M → T → Keys.Ghosts W → Both (MutBor W) (MutBor W) → ℕ → Type 0
 LeavesIn a f v k w root = Leaves a f v k w.entry.now w.exit.now root
 
 -- the bytes are an archive of the value
-abbrev pub IsArchiveOf : {T A R M C : Type 0} → Archive.Ghosts T A R C M → FormatOf M → T → List ℕ → Type 0
+abbrev pub IsArchiveOf : {T A R H M C : Type 0} → Archive.Ghosts T A R H C M → FormatOf M → T → List ℕ → Type 0
 IsArchiveOf a f v bytes = (root : ℕ) × Archives f.definitions [] bytes root f.shape f.layout.size (a.keys v) (a.meaning v)
 
 -- why no archive of it was written: into a vector; between these two, whatever keys the writers keep; up to what some writer tells in the end
-abbrev pub NoArchiveOf : {T A R M C : Type 0} → Archive.Ghosts T A R C M → FormatOf M → T → Error → Type 0
+abbrev pub NoArchiveOf : {T A R H M C : Type 0} → Archive.Ghosts T A R H C M → FormatOf M → T → Error → Type 0
 NoArchiveOf a f v e = (e ≡ OutOfMemory) ⊎ HindersRegion f.definitions (one f.shape) 0 (a.keys v) (a.meaning v) at_start e
 
 -- the same between two states of a writer
-abbrev pub WholeRefused : {T A R M C : Type 0} → Archive.Ghosts T A R C M → FormatOf M → T → WriterState → WriterState → Error → Type 0
+abbrev pub WholeRefused : {T A R H M C : Type 0} → Archive.Ghosts T A R H C M → FormatOf M → T → WriterState → WriterState → Error → Type 0
 WholeRefused a f v old new e = IsRegionRefused f.definitions (one f.shape) 0 (a.keys v) (a.meaning v) (unshared old) (unshared new) e
 
 -- the writer ends somewhere behind what it held, and this is why no archive was written
-abbrev pub EndsWithNone : {T A R M C W : Type 0} → Archive.Ghosts T A R C M → FormatOf M → T → Keys.Ghosts W → W → Error → Type 0
+abbrev pub EndsWithNone : {T A R H M C W : Type 0} → Archive.Ghosts T A R H C M → FormatOf M → T → Keys.Ghosts W → W → Error → Type 0
 EndsWithNone {W = W} a f v k old e =
     (end : W) × GoesOn (unshared (k.state old)) (unshared (k.state end))
     × IsRegionRefused f.definitions (one f.shape) 0 (a.keys v) (a.meaning v) (unshared (k.state old)) (unshared (k.state end)) e
@@ -64,7 +64,7 @@ abbrev pub IsArchiveIn : {M : Type 0} → FormatOf M → List ℕ → Type 0
 IsArchiveIn f bytes = IsArchive f.definitions bytes (root_in bytes f.layout) f.shape
 
 -- this value was read back of it; why none was; and that where no reading can meet an open position, only what refuses the check does
-abbrev pub ReadsArchive : {M D T A R N C : Type 0} → FormatOf M → List ℕ → Entries.Ghosts D → Both (MutBor D) (MutBor D) → Archive.Ghosts T A R C N → T → Type 0
+abbrev pub ReadsArchive : {M D T A R H N C : Type 0} → FormatOf M → List ℕ → Entries.Ghosts D → Both (MutBor D) (MutBor D) → Archive.Ghosts T A R H C N → T → Type 0
 ReadsArchive f bytes d b a t =
     ReadsWhole d.keeps f.definitions bytes (root_in bytes f.layout) f.shape (d.entry_of b.entry.now) (d.entry_of b.exit.now) (a.meaning t) (a.keys t)
 

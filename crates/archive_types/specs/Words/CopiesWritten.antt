@@ -2,13 +2,14 @@
 -- return.
 use denote.Triple.Both.{Both}
 use denote.Ref.{MutBor}
-use Rattle.std.specs.Prelude.{◌≡◌, ℕ, ◌+◌, ◌≤◌, List, length, Bool, IsTrue, Result, IsOk}
+use Rattle.std.specs.Prelude.{◌≡◌, ℕ, ◌+◌, ◌≤◌, List, length, Bool, IsTrue, Result, IsOk, OnOk, IfOk, IfErr, IsErrOf}
 use Rattle.archive_check.specs.Words.Formats.{FormatOf}
 use Rattle.archive_check.specs.Layout.{Layout}
 use Rattle.archive_check.specs.Value.{Value}
 use Rattle.archive_check.specs.declared.format.error.Error.{Error}
+use Rattle.archive_check.specs.declared.format.error.Error.TheVariants.{OutOfMemory}
 use Rattle.archive_check.specs.declared.format.traits.Keys as Keys
-use Rattle.archive_types.specs.Copies.{EachCopied, copies_from, copies_to, behind_zeros, IsUnwritten, IsCopyRefused, AreCopiesRefused, TakesCopy}
+use Rattle.archive_types.specs.Copies.{EachCopied, copies_from, copies_to, behind_zeros, IsUnwritten, IsCopyRefused, IsSliceRefused, AreCopiesRefused, TakesCopy}
 
 -- the bytes of each of the values read as it, wherever they stand
 abbrev pub AllCopied : {A M : Type 0} → FormatOf M → ℕ → (A → Value) → (A → List ℕ) → List A → Type 0
@@ -40,3 +41,24 @@ module _ {S : Type 0} (position : S → ℕ) (k : Keys.Ghosts S) (w : Both (MutB
 -- zeros came up to the values' alignment, and then these bytes
 abbrev pub AddedAligned : {S : Type 0} → Layout → List ℕ → Keys.Ghosts S → Both (MutBor S) (MutBor S) → Type 0
 AddedAligned L bytes k w = (k.state w.exit.now).bytes ≡ behind_zeros L (k.state w.entry.now).bytes bytes
+
+-- Values were written in bulk, or not: zeros came up to their alignment, and then their bytes, from this position on. Memory is refused only where the writer
+-- takes some, and else one of these causes refuses; where nothing does, and a pointer can say where they are, they are written.
+pub record WrittenInBulk {S : Type 0} (position : S → ℕ) (k : Keys.Ghosts S) (w : Both (MutBor S) (MutBor S)) (takes_memory : Bool) (L : Layout) (bytes : List ℕ) (count : ℕ)
+    (refused : Error → Type 0) (said : Type 0) (result : Result ℕ Error) : Type 0 where
+  pub copied : OnOk result (AddedAligned L bytes k w)
+  pub stands : IfOk result (λ p. p ≡ copies_from L (position w.entry.now))
+  pub cause : IfErr result refused
+  pub memory : IsErrOf result OutOfMemory → IsTrue takes_memory
+  pub succeeds : Takes position k w takes_memory L count → said → IsOk result
+
+module _ {S : Type 0} (position : S → ℕ) (k : Keys.Ghosts S) (w : Both (MutBor S) (MutBor S)) (takes_memory : Bool) (L : Layout) (bytes : List ℕ) (count : ℕ) (result : Result ℕ Error) where
+  -- as a slice, whose length a pointer can say
+  abbrev pub SliceInBulk : Type 0
+  SliceInBulk = WrittenInBulk position k w takes_memory L bytes count
+      (IsSliceRefused L count (position w.entry.now) (k.state w.entry.now) (k.state w.exit.now)) (count ≤ 4294967295) result
+
+  -- as an owner's elements, whose length and position it can
+  abbrev pub OwnedInBulk : Type 0
+  OwnedInBulk = WrittenInBulk position k w takes_memory L bytes count
+      (ElementsRefused position k w L count) ((count ≤ 4294967295) × (copies_from L (position w.entry.now) ≤ 4294967295)) result

@@ -73,18 +73,13 @@ abbrev pub RunStored : {T M S : Type 0} → (T → List Naming) → (T → Value
 RunStored keys meaning f xs k w p =
     SerializedRegion f.definitions (run f.shape) (length xs) (each_keys keys xs) (list (each_meaning meaning xs)) p (k.state w.entry.now) (k.state w.exit.now)
 
--- the same where there is a position
-abbrev pub RunStoredIf : {T M S : Type 0} → (T → List Naming) → (T → Value) → FormatOf M → List T → Keys.Ghosts S → Both (MutBor S) (MutBor S) → Option ℕ → Type 0
-RunStoredIf keys meaning f xs k w o = IfSome o (λ p. RunStored keys meaning f xs k w p)
-
 abbrev pub RunUnstored : {T M S : Type 0} → (T → List Naming) → (T → Value) → FormatOf M → List T → Keys.Ghosts S → Both (MutBor S) (MutBor S) → Error → Type 0
 RunUnstored keys meaning f xs k w e =
     IsRegionRefused f.definitions (run f.shape) (length xs) (each_keys keys xs) (list (each_meaning meaning xs)) (k.state w.entry.now) (k.state w.exit.now) e
 
 -- the same of elements that are copied; and why they weren't, though they own nothing
-abbrev pub RunCopiedIf : {T M S : Type 0} → (T → List Naming) → (T → Value) → FormatOf M → List T → Keys.Ghosts S → Both (MutBor S) (MutBor S) → Option ℕ → Type 0
-RunCopiedIf keys meaning f xs k w o =
-    IfSome o (λ p. (p ≡ copies_from f.layout (length (k.state w.entry.now).bytes)) × AreCopied f.definitions f.shape f.layout keys meaning xs (k.state w.entry.now) (k.state w.exit.now))
+abbrev pub RunCopied : {T M S : Type 0} → (T → List Naming) → (T → Value) → FormatOf M → List T → Keys.Ghosts S → Both (MutBor S) (MutBor S) → Type 0
+RunCopied keys meaning f xs k w = AreCopied f.definitions f.shape f.layout keys meaning xs (k.state w.entry.now) (k.state w.exit.now)
 
 abbrev pub RunUncopied : {T M S : Type 0} → (T → List Naming) → (T → Value) → FormatOf M → List T → Keys.Ghosts S → Both (MutBor S) (MutBor S) → Error → Type 0
 RunUncopied keys meaning f xs k w e =

@@ -10,7 +10,7 @@ ghost use Rattle.archive_types.specs.Writing.{ZeroedPlace};
 use super::sources::resolve_elements;
 use crate::place::Place;
 use crate::slice::serialize_each;
-use crate::traits::{Archive, CopyOptimization, Keys, Portable, Serialize};
+use crate::traits::{Archive, InTurn, Portable, Serialize};
 use archive_check::format::error::Error;
 use archive_write::ser::{ResolverAlloc, Writer};
 use std::alloc::Global;
@@ -77,6 +77,9 @@ impl<T: Archive, const N: usize> Archive for OwnedArray<T, N> {
 
     type Resolver = Vec<T::Resolver>;
 
+    // Each has its elements in memory of its own, so there is nothing to copy in one piece.
+    type Slices = InTurn;
+
     ghost meaning = { array_meaning N T.meaning };
 
     ghost flat = { λ v r. list (each_flat T.flat v r.items) };
@@ -84,6 +87,8 @@ impl<T: Archive, const N: usize> Archive for OwnedArray<T, N> {
     ghost keys = { array_keys N T.keys };
 
     ghost belongs = { λ v r. EachBelongs T.belongs v r.items };
+
+    ghost same_slices = { λ on. absurd on };
 
     ghost keyed = { array_keyed N T.keys T.meaning T.keyed };
 
@@ -102,22 +107,6 @@ impl<T: Archive, const N: usize> Archive for OwnedArray<T, N> {
     {
         let Place { bytes, pos, .. } = place;
         resolve_elements(self.as_slice(), resolver, pos, bytes)
-    }
-
-    // Each has its elements in memory of its own, so there is nothing to copy in one piece.
-    #[inline(always)]
-    fn copy_optimization() -> CopyOptimization<OwnedArray<T, N>> {
-        CopyOptimization::disable()
-    }
-
-    #[tactic(auto, using(crate::proofs::Planning::Causes::goes_nowhere))]
-    #[inline(always)]
-    fn serialize_copied<S: Writer + Keys>(
-        _values: &[OwnedArray<T, N>],
-        _together: usize,
-        _serializer: &mut S,
-    ) -> Result<Option<usize>, Error> {
-        Ok(None)
     }
 }
 

@@ -2,7 +2,7 @@
 
 ghost use Rattle.std.specs.Prelude.{◌≡◌, ◌*◌, length, None, OnOk, IfOk, IfErr, All};
 ghost use Rattle.archive_check.specs.Value.{list};
-ghost use Rattle.archive_types.specs.Members.Arrays.{array_meaning, array_keys, array_keyed, array_planned};
+ghost use Rattle.archive_types.specs.Members.Arrays.{array_meaning, array_keys, array_keyed, array_planned, same_groups};
 ghost use Rattle.archive_types.specs.Runs.{each_flat, EachBelongs};
 ghost use Rattle.archive_types.specs.Words.Sources.{ResolvedAs, HinderedAs, EachResolved, EachHinderedAt};
 ghost use Rattle.archive_types.specs.Writing.{ZeroedPlace};
@@ -10,8 +10,8 @@ ghost use Rattle.archive_write.specs.Written.{GoesOn};
 
 use crate::place::Place;
 use crate::ser::resolve_into;
-use crate::slice::{PIECE, serialize_each};
-use crate::traits::{Archive, CopyOptimization, Keys, Portable, Serialize};
+use crate::slice::serialize_each;
+use crate::traits::{Archive, InGroups, Portable, Serialize};
 use archive_check::format::error::Error;
 use archive_write::ser::{ResolverAlloc, Writer};
 use std::alloc::Global;
@@ -71,6 +71,8 @@ impl<T: Archive, const N: usize> Archive for [T; N] {
 
     type Resolver = Vec<T::Resolver>;
 
+    type Slices = InGroups<T::Slices>;
+
     ghost meaning = { array_meaning N T.meaning };
 
     ghost flat = { λ v r. list (each_flat T.flat v r.items) };
@@ -78,6 +80,8 @@ impl<T: Archive, const N: usize> Archive for [T; N] {
     ghost keys = { array_keys N T.keys };
 
     ghost belongs = { λ v r. EachBelongs T.belongs v r.items };
+
+    ghost same_slices = { λ on. same_groups N T.Slices.bulk_keys T.keys T.Slices.bulk_meaning T.meaning (T.same_slices on.0) };
 
     ghost keyed = { array_keyed N T.keys T.meaning T.keyed };
 
@@ -96,30 +100,6 @@ impl<T: Archive, const N: usize> Archive for [T; N] {
     {
         let Place { bytes, pos, .. } = place;
         resolve_elements(self, resolver, pos, bytes)
-    }
-
-    #[inline(always)]
-    fn copy_optimization() -> CopyOptimization<[T; N]> {
-        let is_small = T::Archived::size().saturating_mul(N) <= PIECE;
-        CopyOptimization::enable_if(is_small && T::copy_optimization().is_enabled())
-    }
-
-    #[tactic(auto, using(crate::proofs::Planning::Causes::goes_nowhere))]
-    #[inline(always)]
-    fn serialize_copied<S: Writer + Keys>(
-        values: &[[T; N]],
-        together: usize,
-        serializer: &mut S,
-    ) -> Result<Option<usize>, Error> {
-        each_is_whole(values);
-        if values.len().checked_mul(N).is_none() {
-            return Ok(None);
-        }
-        T::serialize_copied(
-            values.as_flattened(),
-            together.saturating_mul(N),
-            serializer,
-        )
     }
 }
 

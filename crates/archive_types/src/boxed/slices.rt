@@ -8,6 +8,8 @@ ghost use Rattle.archive_check.specs.Entries.{ReadsBack, RefusesReading};
 ghost use Rattle.archive_check.specs.Viewed.{Viewed};
 ghost use Rattle.archive_check.specs.declared.format.error.Error.TheVariants.{LengthTooLarge, OutOfMemory};
 ghost use Rattle.archive_types.specs.Causes.{HindersAt, IsRefused};
+ghost use Rattle.archive_types.specs.Copies.{each_bytes};
+ghost use Rattle.archive_types.specs.Words.CopiesWritten.{OwnedInBulk};
 ghost use Rattle.archive_types.specs.Members.Keyed.{box_keyed, each_keyed, text_keyed};
 ghost use Rattle.archive_types.specs.Words.KindsWritten.{SliceBoxResolved, SliceBoxHindered, TextBoxResolved, TextBoxHindered, TextBoxed, TextUnboxed};
 ghost use Rattle.archive_num.specs.Offsets.{distance, IsTooFar};
@@ -28,10 +30,7 @@ use crate::place::Place;
 use crate::ser::serialize_one;
 use crate::slice::{ArchivedSlice, read_elements, serialize_slice};
 use crate::string::{ArchivedStr, Text};
-use crate::traits::{
-    Archive, ArchivePointee, ArchiveUnsized, Deserialize, DeserializeUnsized, Entries, Portable,
-    Serialize, SerializeUnsized,
-};
+use crate::traits::{Archive, ArchivePointee, ArchiveUnsized, Deserialize, DeserializeUnsized, Entries, InTurn, Portable, Serialize, SerializeUnsized};
 use crate::view::{RawView, Ref};
 use archive_check::format::error::Error;
 use archive_num::FixedUsize;
@@ -57,6 +56,8 @@ impl<T: Archive> Archive for BoxSlice<T> {
 
     type Resolver = BoxResolver;
 
+    type Slices = InTurn;
+
     ghost meaning = { λ b. box (list (each_meaning T.meaning b.items.items)) };
 
     ghost flat = { λ b r. box (hole (to_pointee r (run T.Archived.shape) (length b.items.items))) };
@@ -64,6 +65,8 @@ impl<T: Archive> Archive for BoxSlice<T> {
     ghost keys = { λ b. each_keys T.keys b.items.items };
 
     ghost belongs = { λ b _. length b.items.items ≤ 4294967295 };
+
+    ghost same_slices = { λ on. absurd on };
 
     ghost keyed = { λ b. box_keyed (each_keys T.keys b.items.items) (list (each_meaning T.meaning b.items.items)) (each_keyed T.keys T.meaning T.keyed b.items.items) };
 
@@ -95,7 +98,7 @@ impl<T: Archive> Archive for BoxSlice<T> {
 impl<S: Writer + ResolverAlloc, T: Serialize<S>> Serialize<S> for BoxSlice<T> {
     /// Writes what each element owns, in order, and then all elements as one region. Refused with `LengthTooLarge`, 5, before anything is written,
     /// exactly where there are more than 4,294,967,295 elements, with `PositionTooLarge`, 4, where they stand above 4,294,967,295, and else as
-    /// `serialize_unsized` of a `Slice` refuses.
+    /// `serialize_unsized` of a `Slice` refuses; in bulk, as that does.
     #[tactic(auto, using(crate::proofs::Planning::Owners::serialized_box, crate::proofs::Planning::Owners::box_refused, crate::proofs::Planning::Owners::far_box_refused))]
     fn serialize(&self, serializer: &mut S) -> Result<BoxResolver, Error>
         ensures serialized { IfOk result (SliceBoxed T.Archive T.Archived.Portable self.now.items.items S.Keys serializer) }
@@ -103,6 +106,8 @@ impl<S: Writer + ResolverAlloc, T: Serialize<S>> Serialize<S> for BoxSlice<T> {
         ensures goes_on { GoesOn (S.state serializer.old) (S.state serializer.new) }
         ensures refused { IfErr result (SliceUnboxed T.Archive T.Archived.Portable self.now.items.items S.Keys serializer) }
         ensures too_long { 4294967295 < length self.now.items.items → AtOnce result LengthTooLarge S.Keys serializer }
+        ensures in_bulk { T.Slices.in_bulk → OwnedInBulk S.position S.Keys serializer S.takes_memory T.Archived.layout
+            (each_bytes T.Slices.bulk_bytes self.now.items.items) (length self.now.items.items) result }
     {
         let pos = serialize_slice(self.items.as_slice(), serializer)?;
         let pos = position_of(pos)?;
@@ -161,6 +166,8 @@ impl Archive for BoxStr {
 
     type Resolver = BoxResolver;
 
+    type Slices = InTurn;
+
     ghost meaning = { λ b. box (text_value (string_bytes b.text)) };
 
     ghost flat = { λ b r. box (hole (to_pointee r text_pointee (length (string_bytes b.text)))) };
@@ -168,6 +175,8 @@ impl Archive for BoxStr {
     ghost keys = { λ _. [] };
 
     ghost belongs = { λ b _. length (string_bytes b.text) ≤ 4294967295 };
+
+    ghost same_slices = { λ on. absurd on };
 
     ghost keyed = { λ b. box_keyed [] (text_value (string_bytes b.text)) (text_keyed (string_bytes b.text)) };
 

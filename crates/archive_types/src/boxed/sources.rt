@@ -23,7 +23,7 @@ use crate::owner_pointers::position_of;
 use crate::place::Place;
 use crate::rel_ptr::Metadata;
 use crate::ser::serialize_one;
-use crate::traits::{Archive, ArchiveUnsized, PortablePointee, Serialize, SerializeUnsized};
+use crate::traits::{Archive, ArchiveUnsized, InTurn, PortablePointee, Serialize, SerializeUnsized};
 use archive_check::format::error::Error;
 use archive_num::FixedUsize;
 use archive_num::owners::emplace_pointer;
@@ -118,6 +118,8 @@ impl<T: Archive> Archive for Box<T> {
 
     type Resolver = BoxResolver;
 
+    type Slices = InTurn;
+
     ghost meaning = { λ b. box (T.meaning b.value) };
 
     ghost flat = { λ b r. box (hole (to_pointee r T.Archived.pointee 0)) };
@@ -125,6 +127,8 @@ impl<T: Archive> Archive for Box<T> {
     ghost keys = { λ b. T.keys b.value };
 
     ghost belongs = { λ _ _. ⊤ };
+
+    ghost same_slices = { λ on. absurd on };
 
     ghost keyed = { λ b. box_keyed (T.keys b.value) (T.meaning b.value) (T.keyed b.value) };
 

@@ -17,10 +17,9 @@ ghost use Rattle.archive_write.specs.Written.{GoesOn};
 use super::{Source, write_leaf};
 use crate::place::Place;
 use crate::ser::serialize_one;
-use crate::slice::copy_groups;
 use crate::traits::{
     Archive, ArchivePointee, ArchiveUnsized, ArchivedMetadata, Copied, CopiedSource,
-    CopyOptimization, Keys, Portable, Serialize, SerializeUnsized,
+    InBulk, Keys, Portable, Serialize, SerializeUnsized,
 };
 use archive_check::format::error::Error;
 use archive_nonzero::NonZero;
@@ -132,6 +131,8 @@ impl<L: Leaf> Archive for L {
 
     type Resolver = ();
 
+    type Slices = InBulk;
+
     ghost meaning = { λ n. number (L.leaf_number n) };
 
     ghost flat = { λ n _. number (L.leaf_number n) };
@@ -139,6 +140,8 @@ impl<L: Leaf> Archive for L {
     ghost keys = { λ n. [] };
 
     ghost belongs = { λ _ _. ⊤ };
+
+    ghost same_slices = { λ _. record { same_keys = refl; same_meaning = refl } };
 
     ghost keyed = { λ n. number_keyed (L.leaf_number n) };
 
@@ -157,20 +160,6 @@ impl<L: Leaf> Archive for L {
         let Place { bytes, .. } = place;
         self.write_bytes(bytes);
         Ok(())
-    }
-
-    #[inline(always)]
-    fn copy_optimization() -> CopyOptimization<L> {
-        CopyOptimization::enable()
-    }
-
-    #[inline(always)]
-    fn serialize_copied<S: Writer + Keys>(
-        values: &[L],
-        together: usize,
-        serializer: &mut S,
-    ) -> Result<Option<usize>, Error> {
-        copy_groups(values, together, serializer)
     }
 }
 

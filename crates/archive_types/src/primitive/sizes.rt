@@ -24,10 +24,7 @@ ghost use Rattle.archive_write.specs.Written.{GoesOn};
 
 use crate::place::Place;
 use crate::ser::serialize_one;
-use crate::traits::{
-    Archive, ArchivePointee, ArchiveUnsized, Deserialize, Entries, Keys, Serialize,
-    SerializeUnsized,
-};
+use crate::traits::{Archive, ArchivePointee, ArchiveUnsized, Deserialize, Entries, InTurn, Keys, Serialize, SerializeUnsized};
 use crate::view::{RawView, Ref};
 use archive_check::format::error::Error;
 use archive_num::{ArchivedIsize, ArchivedUsize, FixedIsize, FixedUsize, Native};
@@ -39,6 +36,8 @@ impl Archive for usize {
 
     type Resolver = ();
 
+    type Slices = InTurn;
+
     ghost meaning = { λ n. number_value (pos n) };
 
     ghost flat = { λ n _. number_value (pos n) };
@@ -46,6 +45,8 @@ impl Archive for usize {
     ghost keys = { λ _. [] };
 
     ghost belongs = { λ n _. n < 2 ^ 32 };
+
+    ghost same_slices = { λ on. absurd on };
 
     ghost keyed = { λ n. number_keyed (pos n) };
 
@@ -134,6 +135,8 @@ impl Archive for isize {
 
     type Resolver = ();
 
+    type Slices = InTurn;
+
     ghost meaning = { λ n. number_value n };
 
     ghost flat = { λ n _. number_value n };
@@ -141,6 +144,8 @@ impl Archive for isize {
     ghost keys = { λ _. [] };
 
     ghost belongs = { λ n _. FitsSigned w32 n };
+
+    ghost same_slices = { λ on. absurd on };
 
     ghost keyed = { λ n. number_keyed n };
 

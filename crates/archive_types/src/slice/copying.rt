@@ -4,7 +4,7 @@ ghost use Rattle.std.specs.Prelude.{◌≡◌, ◌+◌, ◌*◌, ◌^◌, ◌++�
 ghost use Rattle.archive_check.specs.WriterState.{KeepsKeys};
 ghost use Rattle.archive_types.specs.Copies.{each_bytes, copies_from};
 ghost use Rattle.archive_types.specs.Words.KindsWritten.{OwnsNothingAs, EachCopiedAs};
-ghost use Rattle.archive_types.specs.Words.Sources.{SliceStored, SliceUnstored, CopiesStored, CopiesStoredIf, CopiesUnstored, CopiesInBulkIf, CopiesNotInBulk};
+ghost use Rattle.archive_types.specs.Words.Sources.{SliceStored, SliceUnstored, CopiesStored, CopiesUnstored};
 ghost use Rattle.archive_write.specs.Written.{GoesOn};
 ghost use Rattle.archive_types.specs.Words.CopiesWritten.{AllCopied, PiecesUnwritten, CopyRefused, CopiesRefused, Takes, AddedAligned};
 ghost use Rattle.archive_types.specs.Words.Placed.{BytesAdded, WriteRefused};
@@ -251,7 +251,7 @@ fn copy_aligned<W: Writer, T: Copied>(
 
 // Writes zeros up to the values' alignment, and then the bytes of all, `together` of them always in one piece.
 #[inline(always)]
-fn copy_together<S: Writer + Keys, T: Copied>(
+pub(crate) fn copy_together<S: Writer + Keys, T: Copied>(
     values: &[T],
     size: usize,
     together: usize,
@@ -297,31 +297,6 @@ pub fn copy_slice<S: Writer + Keys, T: CopiedSource>(
 {
     let size = T::copied_size();
     copy_together(values, size, 1, serializer)
-}
-
-/// The same, so many values `together` always in one piece: those of an array. Where these have more than 1,024 bytes, nothing is written, and no position
-/// is answered. An own type's `serialize_copied` is this call. Our own.
-#[tactic(auto, using(crate::proofs::Planning::Causes::goes_nowhere))]
-#[inline(always)]
-pub fn copy_groups<S: Writer + Keys, T: Copied>(
-    values: &[T],
-    together: usize,
-    serializer: &mut S,
-) -> Result<Option<usize>, Error>
-    ensures serialized { IfOk result (CopiesStoredIf T.Copied T.CopiedAs.Portable values.now S.Keys serializer) }
-    ensures in_bulk { IfOk result (CopiesInBulkIf T.Copied T.CopiedAs.Portable values.now S.Keys serializer) }
-    ensures untouched { IfOk result (λ o. o ≡ None → S.state serializer.new ≡ S.state serializer.old) }
-    ensures goes_on { GoesOn (S.state serializer.old) (S.state serializer.new) }
-    ensures refused { IfErr result (CopiesUnstored T.Copied T.CopiedAs.Portable values.now S.Keys serializer) }
-    ensures not_in_bulk { IfErr result (CopiesNotInBulk T.Copied T.CopiedAs.Portable values.now S.Keys serializer) }
-{
-    let size = T::copied_size();
-    let together = together.max(1);
-    if together.saturating_mul(size) > PIECE {
-        return Ok(None);
-    }
-    let pos = copy_together(values, size, together, serializer)?;
-    Ok(Some(pos))
 }
 
 /// Writes arrays of values that are copied, as `copy_slice` writes the values of all: zeros up to their alignment, and then the bytes of each array, one

@@ -5,6 +5,8 @@ ghost use Rattle.archive_check.specs.Shape.{run};
 ghost use Rattle.archive_check.specs.Value.{list};
 ghost use Rattle.archive_check.specs.declared.format.error.Error.TheVariants.{LengthTooLarge};
 ghost use Rattle.archive_types.specs.Causes.{IsRegionRefused};
+ghost use Rattle.archive_types.specs.Copies.{each_bytes};
+ghost use Rattle.archive_types.specs.Words.CopiesWritten.{SliceInBulk};
 ghost use Rattle.archive_types.specs.Members.Keyed.{each_keyed};
 ghost use Rattle.archive_types.specs.Words.Placed.{AtOnce};
 ghost use Rattle.archive_types.specs.Members.PlannedOwners.{is_long, slice_planned};
@@ -16,7 +18,7 @@ ghost use Rattle.archive_write.specs.Written.{GoesOn};
 use super::ArchivedSlice;
 use crate::primitive::ArchivedUsize;
 use crate::ser::{ResolveExt, by_words};
-use crate::traits::{Archive, ArchiveUnsized, Serialize, SerializeUnsized};
+use crate::traits::{Archive, ArchiveUnsized, Keys, Serialize, SerializeUnsized, WritesSlices};
 use archive_check::format::error::Error;
 use archive_write::ser::{ResolverAlloc, Writer, WriterExt};
 use std::alloc::{AllocError, Allocator};
@@ -71,7 +73,24 @@ pub(crate) fn serialize_in_turn<S: Writer + ResolverAlloc, T: Serialize<S>>(
     serializer.resolve_slice_aligned(alloc, values, resolvers)
 }
 
-// The same in bulk, where the type is copied so. Refused with `LengthTooLarge`, 5, before anything is written, exactly where there are more than
+// The same in bulk.
+#[inline(always)]
+fn serialize_in_bulk<S: Writer + Keys, T: Archive>(
+    values: &[T],
+    serializer: &mut S,
+) -> Result<usize, Error>
+    requires on { T.Slices.in_bulk }
+    requires small { T.Archived.layout.size ≤ 1024 }
+    requires few { length values.now ≤ 4294967295 }
+    ensures serialized { IfOk result (SliceStored T.Archive T.Archived.Portable values.now S.Keys serializer) }
+    ensures goes_on { GoesOn (S.state serializer.old) (S.state serializer.new) }
+    ensures refused { IfErr result (SliceUnstored T.Archive T.Archived.Portable values.now S.Keys serializer) }
+    ensures in_bulk { SliceInBulk S.position S.Keys serializer S.takes_memory T.Archived.layout (each_bytes T.Slices.bulk_bytes values.now) (length values.now) result }
+{
+    T::Slices::write_in_bulk(values, 1, serializer)
+}
+
+// In turn, or in bulk where the type is written so. Refused with `LengthTooLarge`, 5, before anything is written, exactly where there are more than
 // 4,294,967,295 values.
 #[inline(always)]
 pub(crate) fn serialize_slice<S: Writer + ResolverAlloc, T: Serialize<S>>(
@@ -83,14 +102,13 @@ pub(crate) fn serialize_slice<S: Writer + ResolverAlloc, T: Serialize<S>>(
     ensures goes_on { GoesOn (S.state serializer.old) (S.state serializer.new) }
     ensures refused { IfErr result (SliceUnstored T.Archive T.Archived.Portable values.now S.Keys serializer) }
     ensures too_long { 4294967295 < length values.now → AtOnce result LengthTooLarge S.Keys serializer }
+    ensures in_bulk { T.Slices.in_bulk → SliceInBulk S.position S.Keys serializer S.takes_memory T.Archived.layout (each_bytes T.Slices.bulk_bytes values.now) (length values.now) result }
 {
     if values.len() > u32::MAX as usize {
         return Err(Error::LengthTooLarge);
     }
-    if T::copy_optimization().is_enabled() {
-        if let Some(pos) = T::serialize_copied(values, 1, serializer)? {
-            return Ok(pos);
-        }
+    if T::Slices::is_in_bulk() {
+        return serialize_in_bulk(values, serializer);
     }
     serialize_in_turn(values, serializer)
 }
@@ -120,8 +138,9 @@ impl<'a, T: Archive> ArchiveUnsized for Slice<'a, T> {
 }
 
 impl<'a, S: Writer + ResolverAlloc, T: Serialize<S>> SerializeUnsized<S> for Slice<'a, T> {
-    /// Writes what each element owns, in order, zeros up to the elements' alignment, and then all elements. The resolvers of all are kept meanwhile, in
-    /// memory from the serializer's allocator. Refused with `LengthTooLarge`, 5, before anything is written, exactly where there are more than
+    /// Writes what each element owns, in order, zeros up to the elements' alignment, and then all elements. Where slices of the elements are written in bulk
+    /// that is the bytes of each, and takes no memory but the writer's; else the resolvers of all are kept meanwhile, in memory from the serializer's
+    /// allocator. Refused with `LengthTooLarge`, 5, before anything is written, exactly where there are more than
     /// 4,294,967,295 elements, with `LayoutTooLarge`, 23, where the region would end above `usize::MAX`, as the elements refuse, and as the trait
     /// says it.
     #[inline(always)]
@@ -131,6 +150,8 @@ impl<'a, S: Writer + ResolverAlloc, T: Serialize<S>> SerializeUnsized<S> for Sli
         ensures refused { IfErr result (SliceUnstored T.Archive T.Archived.Portable self.now.slice.now S.Keys serializer) }
         ensures held { OnOk result (length self.now.slice.now ≤ 4294967295) }
         ensures too_long { 4294967295 < length self.now.slice.now → AtOnce result LengthTooLarge S.Keys serializer }
+        ensures in_bulk { T.Slices.in_bulk → SliceInBulk S.position S.Keys serializer S.takes_memory T.Archived.layout
+            (each_bytes T.Slices.bulk_bytes self.now.slice.now) (length self.now.slice.now) result }
     {
         serialize_slice(self.slice, serializer)
     }

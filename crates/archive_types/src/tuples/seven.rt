@@ -13,9 +13,7 @@ use crate::parts::{FromParts, PartOf, SerializeParts, SourceParts};
 use crate::place::Place;
 use crate::record::{resolve_record, serialize_record};
 use crate::ser::serialize_one;
-use crate::traits::{
-    Archive, ArchiveUnsized, FourParts, Keys, Portable, Serialize, SerializeUnsized,
-};
+use crate::traits::{Archive, ArchiveUnsized, FourParts, InTurn, Keys, Portable, Serialize, SerializeUnsized};
 use archive_check::format::error::Error;
 use archive_tuple::ArchivedTuple;
 use archive_write::ser::{ResolverAlloc, Writer};
@@ -28,6 +26,8 @@ where
 
     type Resolver = <Parts7 as SourceParts<Self>>::Resolvers;
 
+    type Slices = InTurn;
+
     ghost meaning = { λ v. product (⟦<Parts7 as SourceParts<Self>>⟧.meanings v) };
 
     ghost flat = { λ v r. product (⟦<Parts7 as SourceParts<Self>>⟧.flats v r) };
@@ -35,6 +35,8 @@ where
     ghost keys = { λ v. ⟦<Parts7 as SourceParts<Self>>⟧.keys v };
 
     ghost belongs = { λ v r. ⟦<Parts7 as SourceParts<Self>>⟧.belongs v r };
+
+    ghost same_slices = { λ on. absurd on };
 
     ghost keyed = { whole_keyed ⟦<Parts7 as SourceParts<Self>>⟧.keys ⟦<Parts7 as SourceParts<Self>>⟧.meanings (Prim.search rules) };
 

@@ -12,7 +12,7 @@ use super::parts::{Parts1, Parts2, Parts3};
 use crate::parts::SourceParts;
 use crate::place::Place;
 use crate::record::{resolve_record, serialize_record};
-use crate::traits::{Archive, ArchivePointee, Keys, Portable, Serialize};
+use crate::traits::{Archive, ArchivePointee, InTurn, Keys, Portable, Serialize};
 use archive_check::format::error::Error;
 use archive_tuple::{ArchivedTuple1, ArchivedTuple2, ArchivedTuple3};
 use archive_write::ser::Writer;
@@ -22,6 +22,8 @@ impl<A: Archive> Archive for (A,) {
 
     type Resolver = (A::Resolver, ());
 
+    type Slices = InTurn;
+
     ghost meaning = { λ v. product (⟦<Parts1 as SourceParts<(A,)>>⟧.meanings v) };
 
     ghost flat = { λ v r. product (⟦<Parts1 as SourceParts<(A,)>>⟧.flats v r) };
@@ -29,6 +31,8 @@ impl<A: Archive> Archive for (A,) {
     ghost keys = { λ v. ⟦<Parts1 as SourceParts<(A,)>>⟧.keys v };
 
     ghost belongs = { λ v r. ⟦<Parts1 as SourceParts<(A,)>>⟧.belongs v r };
+
+    ghost same_slices = { λ on. absurd on };
 
     ghost keyed = { λ v. record_keyed (part_keyed (A.keyed v.0) nothing_keyed) };
 
@@ -61,6 +65,8 @@ impl<A: Archive, B: Archive> Archive for (A, B) {
 
     type Resolver = (A::Resolver, (B::Resolver, ()));
 
+    type Slices = InTurn;
+
     ghost meaning = { λ v. product (⟦<Parts2 as SourceParts<(A, B)>>⟧.meanings v) };
 
     ghost flat = { λ v r. product (⟦<Parts2 as SourceParts<(A, B)>>⟧.flats v r) };
@@ -68,6 +74,8 @@ impl<A: Archive, B: Archive> Archive for (A, B) {
     ghost keys = { λ v. ⟦<Parts2 as SourceParts<(A, B)>>⟧.keys v };
 
     ghost belongs = { λ v r. ⟦<Parts2 as SourceParts<(A, B)>>⟧.belongs v r };
+
+    ghost same_slices = { λ on. absurd on };
 
     ghost keyed = { λ v. record_keyed (part_keyed (A.keyed v.0) (part_keyed (B.keyed v.1) nothing_keyed)) };
 
@@ -100,6 +108,8 @@ impl<A: Archive, B: Archive, C: Archive> Archive for (A, B, C) {
 
     type Resolver = (A::Resolver, (B::Resolver, (C::Resolver, ())));
 
+    type Slices = InTurn;
+
     ghost meaning = { λ v. product (⟦<Parts3 as SourceParts<(A, B, C)>>⟧.meanings v) };
 
     ghost flat = { λ v r. product (⟦<Parts3 as SourceParts<(A, B, C)>>⟧.flats v r) };
@@ -107,6 +117,8 @@ impl<A: Archive, B: Archive, C: Archive> Archive for (A, B, C) {
     ghost keys = { λ v. ⟦<Parts3 as SourceParts<(A, B, C)>>⟧.keys v };
 
     ghost belongs = { λ v r. ⟦<Parts3 as SourceParts<(A, B, C)>>⟧.belongs v r };
+
+    ghost same_slices = { λ on. absurd on };
 
     ghost keyed = { λ v. record_keyed (part_keyed (A.keyed v.0) (part_keyed (B.keyed v.1) (part_keyed (C.keyed v.2) nothing_keyed))) };
 

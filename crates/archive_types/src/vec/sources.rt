@@ -6,6 +6,8 @@ ghost use Rattle.archive_check.specs.Shape.{vec as vec_shape, run};
 ghost use Rattle.archive_check.specs.Value.{list, hole};
 ghost use Rattle.archive_check.specs.declared.format.error.Error.TheVariants.{LengthTooLarge};
 ghost use Rattle.archive_types.specs.Causes.{HindersAt, IsRefused};
+ghost use Rattle.archive_types.specs.Copies.{each_bytes};
+ghost use Rattle.archive_types.specs.Words.CopiesWritten.{OwnedInBulk};
 ghost use Rattle.archive_types.specs.Members.Keyed.{each_keyed};
 ghost use Rattle.archive_types.specs.Words.KindsWritten.{VecSerialized, VecRefused, VecResolved, VecHindered};
 ghost use Rattle.archive_num.specs.Offsets.{distance, IsTooFar};
@@ -22,7 +24,7 @@ use crate::owner_pointers::position_of;
 use crate::place::Place;
 use crate::ser::serialize_one;
 use crate::slice::serialize_slice;
-use crate::traits::{Archive, ArchiveUnsized, Portable, Serialize, SerializeUnsized};
+use crate::traits::{Archive, ArchiveUnsized, InTurn, Portable, Serialize, SerializeUnsized};
 use archive_check::format::error::Error;
 use archive_num::FixedUsize;
 use archive_num::owners::emplace_long_owner;
@@ -59,8 +61,9 @@ impl<T: Portable> ArchivedVec<T> {
     /// Writes what each element of `value` owns, in order, and then all elements as one region, and answers where. It asks nothing. Refused with
     /// `LengthTooLarge`, 5, before anything is written, exactly where there are more than 4,294,967,295 elements; with `PositionTooLarge`, 4, where
     /// they stand above 4,294,967,295; with `LayoutTooLarge`, 23, where their region would end above `usize::MAX`; with `OutOfMemory`, 1, where
-    /// memory for the elements' resolvers is refused; as the elements refuse, and as the writer does (`BufferOverflow`, 8; `WriterFailed`, 9). rkyv
-    /// 0.8.18 cuts the length off.
+    /// memory for the elements' resolvers is refused; as the elements refuse, and as the writer does (`BufferOverflow`, 8; `WriterFailed`, 9). Where slices
+    /// of the elements are written in bulk it appends the bytes of each, takes no memory but the writer's, and succeeds where they fit. rkyv 0.8.18 cuts
+    /// the length off.
     #[tactic(auto, using(crate::proofs::Planning::Owners::serialized_vec, crate::proofs::Planning::Owners::vec_refused, crate::proofs::Planning::Owners::far_vec_refused))]
     #[inline(always)]
     pub fn serialize_from_slice<U: Serialize<S, Archived = T>, S: Writer + ResolverAlloc>(
@@ -72,6 +75,7 @@ impl<T: Portable> ArchivedVec<T> {
         ensures goes_on { GoesOn (S.state serializer.old) (S.state serializer.new) }
         ensures refused { IfErr result (VecRefused U.keys U.meaning T.Portable value.now S.Keys serializer) }
         ensures too_long { 4294967295 < length value.now → AtOnce result LengthTooLarge S.Keys serializer }
+        ensures in_bulk { U.Slices.in_bulk → OwnedInBulk S.position S.Keys serializer S.takes_memory T.layout (each_bytes U.Slices.bulk_bytes value.now) (length value.now) result }
     {
         let pos = serialize_slice(value, serializer)?;
         let pos = position_of(pos)?;
@@ -127,6 +131,8 @@ impl<T: Archive> Archive for Vec<T> {
 
     type Resolver = VecResolver;
 
+    type Slices = InTurn;
+
     ghost meaning = { λ v. list (each_meaning T.meaning v.items) };
 
     ghost flat = { λ v r. hole (to_pointee r (run T.Archived.shape) (length v.items)) };
@@ -134,6 +140,8 @@ impl<T: Archive> Archive for Vec<T> {
     ghost keys = { λ v. each_keys T.keys v.items };
 
     ghost belongs = { λ v _. length v.items ≤ 4294967295 };
+
+    ghost same_slices = { λ on. absurd on };
 
     ghost keyed = { λ v. each_keyed T.keys T.meaning T.keyed v.items };
 
@@ -168,6 +176,8 @@ impl<S: Writer + ResolverAlloc, T: Serialize<S>> Serialize<S> for Vec<T> {
         ensures goes_on { GoesOn (S.state serializer.old) (S.state serializer.new) }
         ensures refused { IfErr result (VecRefused T.keys T.meaning T.Archived.Portable self.now.items S.Keys serializer) }
         ensures too_long { 4294967295 < length self.now.items → AtOnce result LengthTooLarge S.Keys serializer }
+        ensures in_bulk { T.Slices.in_bulk → OwnedInBulk S.position S.Keys serializer S.takes_memory T.Archived.layout
+            (each_bytes T.Slices.bulk_bytes self.now.items) (length self.now.items) result }
     {
         ArchivedVec::<T::Archived>::serialize_from_slice(self.as_slice(), serializer)
     }

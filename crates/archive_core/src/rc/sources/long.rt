@@ -23,7 +23,7 @@ use archive_types::ser::{ResolverAlloc, Writer, serialize_one};
 use archive_types::sharing::Sharing;
 use archive_types::slice::{ArchivedSlice, Slice};
 use archive_types::string::{ArchivedStr, Text};
-use archive_types::traits::{Archive, ArchiveUnsized, Portable, Serialize, SerializeUnsized};
+use archive_types::traits::{Archive, ArchiveUnsized, InTurn, Portable, Serialize, SerializeUnsized};
 use std::rc::{RcSlice, RcStr};
 
 /// A shared text, with the key that names it. Our own: it stands for `Rc<str>` of rkyv 0.8.18, which goes by the address.
@@ -49,6 +49,8 @@ impl Archive for SharedStr {
 
     type Resolver = RcResolver;
 
+    type Slices = InTurn;
+
     ghost meaning = { λ s. shared_value s.key };
 
     ghost flat = { λ s r. rc_flat r text (length (rc_str_bytes s.value)) };
@@ -56,6 +58,8 @@ impl Archive for SharedStr {
     ghost keys = { λ s. rc_keys s.key text (length (rc_str_bytes s.value)) (text_value (rc_str_bytes s.value)) [] };
 
     ghost belongs = { λ s _. length (rc_str_bytes s.value) ≤ 4294967295 };
+
+    ghost same_slices = { λ on. absurd on };
 
     ghost keyed = { λ s. rc_keyed s.key text (length (rc_str_bytes s.value)) (text_value (rc_str_bytes s.value)) [] (text_keyed (rc_str_bytes s.value)) };
 
@@ -130,6 +134,8 @@ impl<T: Archive> Archive for SharedSlice<T> {
 
     type Resolver = RcResolver;
 
+    type Slices = InTurn;
+
     ghost meaning = { λ s. shared_value s.key };
 
     ghost flat = { λ s r. rc_flat r (run T.Archived.shape) (length (rc_slice_items s.value)) };
@@ -138,6 +144,8 @@ impl<T: Archive> Archive for SharedSlice<T> {
         (each_keys T.keys (rc_slice_items s.value)) };
 
     ghost belongs = { λ s _. length (rc_slice_items s.value) ≤ 4294967295 };
+
+    ghost same_slices = { λ on. absurd on };
 
     ghost keyed = { λ s. rc_keyed s.key (run T.Archived.shape) (length (rc_slice_items s.value)) (list (each_meaning T.meaning (rc_slice_items s.value)))
         (each_keys T.keys (rc_slice_items s.value)) (each_keyed T.keys T.meaning T.keyed (rc_slice_items s.value)) };

@@ -19,7 +19,7 @@ use archive_types::place::Place;
 use archive_types::rc::{ArchivedRcWeak, RcFlavor, RcWeakResolver, write_null, write_pointer};
 use archive_types::ser::{ResolverAlloc, Writer, serialize_one};
 use archive_types::sharing::Sharing;
-use archive_types::traits::{Archive, ArchiveUnsized, Portable, Serialize, SerializeUnsized};
+use archive_types::traits::{Archive, ArchiveUnsized, InTurn, Portable, Serialize, SerializeUnsized};
 
 /// A weak pointer to a shared value, or to none. Our own: it stands for `rc::Weak` of rkyv 0.8.18, which is null where its value is gone.
 #[derive(Drop)]
@@ -33,6 +33,8 @@ impl<T: Archive> Archive for WeakShared<T> {
 
     type Resolver = RcWeakResolver;
 
+    type Slices = InTurn;
+
     ghost meaning = { λ w. weak_value (λ s. shared_value s.key) w.value };
 
     ghost flat = { λ w r. weak_flat rc_flavor T.Archived.pointee 0 r };
@@ -40,6 +42,8 @@ impl<T: Archive> Archive for WeakShared<T> {
     ghost keys = { λ w. weak_keys (λ s. rc_keys s.key T.Archived.pointee 0 (T.meaning s.value.value) (T.keys s.value.value)) w.value };
 
     ghost belongs = { λ _ _. ⊤ };
+
+    ghost same_slices = { λ on. absurd on };
 
     ghost keyed = { λ w. weak_keyed (λ s. rc_keys s.key T.Archived.pointee 0 (T.meaning s.value.value) (T.keys s.value.value)) (λ s. shared_value s.key)
         (λ s. rc_keyed s.key T.Archived.pointee 0 (T.meaning s.value.value) (T.keys s.value.value) (T.keyed s.value.value)) w.value };
