@@ -30,20 +30,23 @@ pub trait Context {
     ghost positions: { Self → Positions };
 }
 
-/// What a check asks about the regions of a buffer. A refused call changes nothing. Positions are in bytes from the buffer's first one.
-/// The calls are those of rkyv 0.8.18, with positions in place of addresses.
+/// What a check asks about the regions of a buffer. A failed call changes nothing. Positions are in
+/// bytes from the buffer's first one. The calls are those of rkyv 0.8.18, with positions in place
+/// of addresses.
 pub trait ArchiveContext: Context {
-    /// Whether a region of `layout` may begin at `position`: refused with `InvalidSubtreePointer`, 16, where it doesn't lie within the range, and
-    /// else with `UnalignedPointer`, 17, where `position` is no multiple of its alignment. It asks nothing: `position` may be negative.
+    /// Whether a region of `layout` may begin at `position`. Fails with `InvalidSubtreePointer` if
+    /// it doesn't lie within the range, and else with `UnalignedPointer` if `position` is no
+    /// multiple of its alignment. `position` may be negative.
     fn check_subtree_ptr(&mut self, position: i128, layout: &Layout) -> Result<(), Error>
         ensures answer { result ≡ subtree_answer (Self.state self.old) position layout.now.size layout.now.align }
         ensures fits { OnOk result ((Self.state self.old).end < 18446744073709551616) }
         ensures unchanged { Self.state self.new ≡ Self.state self.old }
         ensures positions { Self.positions self.new ≡ Self.positions self.old };
 
-    /// Enters a region from `root` to `end`: regions may now lie before it alone. Answers the range to be given back by
-    /// `pop_subtree_range`. Asks that the region lies in the range: `root` isn't below its start, nor above `end`, nor `end` above its end.
-    /// Refused with `ExceededMaximumSubtreeDepth`, 18, exactly where one level is left.
+    /// Enters a region from `root` to `end`: regions may now lie before it alone. Returns the range
+    /// to be given back by `pop_subtree_range`. The caller must ensure that the region lies in the
+    /// range: `root` isn't below its start, nor above `end`, nor `end` above its end. Fails with
+    /// `ExceededMaximumSubtreeDepth` exactly if one level is left.
     fn push_subtree_range(&mut self, root: usize, end: usize) -> Result<Range<usize>, Error>
         requires rising { ((Self.state self.old).start ≤ root) × (root ≤ end) × (end ≤ (Self.state self.old).end) }
         ensures refused { IsErrOf result Error.ExceededMaximumSubtreeDepth ↔ (Self.state self.old).depth ≡ Some 1 }
@@ -53,8 +56,9 @@ pub trait ArchiveContext: Context {
         ensures unchanged { OnErr result (Self.state self.new ≡ Self.state self.old) }
         ensures positions { Self.positions self.new ≡ Self.positions self.old };
 
-    /// Leaves a region: regions may lie in `range` again. Refused with `RangePoppedOutOfOrder`, 20, where it begins below the current end, and else
-    /// with `RangePoppedTooManyTimes`, 19, where the levels left are `usize::MAX`. rkyv 0.8.18 sets the range before that refusal.
+    /// Leaves a region: regions may lie in `range` again. Fails with `RangePoppedOutOfOrder` if it
+    /// begins below the current end, and else with `RangePoppedTooManyTimes` if the levels left are
+    /// `usize::MAX`. rkyv 0.8.18 sets the range before that refusal.
     fn pop_subtree_range(&mut self, range: Range<usize>) -> Result<(), Error>
         ensures answer { result ≡ pop_answer (Self.state self.old) range.start }
         ensures left { OnOk result (Self.state self.new ≡ popped (Self.state self.old) range.start range.end) }
@@ -73,12 +77,14 @@ pub enum ValidationState {
     Finished,
 }
 
-/// What a check asks about shared positions, each known by itself alone. A refused call changes nothing.
-/// The calls are those of rkyv 0.8.18, with positions in place of addresses and with a flavor and an expression in place of a type's number.
+/// What a check asks about shared positions, each known by itself alone. A failed call changes
+/// nothing. The calls are those of rkyv 0.8.18, with positions in place of addresses and with a
+/// flavor and an expression in place of a type's number.
 pub trait SharedContext: Context {
-    /// Comes to a pointee at `position`; `length` is its length in elements or bytes, 0 for one value. Refused with `TypeMismatch`, 21, where the
-    /// position was started with another flavor or pointee, else with `MetadataMismatch`, 22, where it was with another length; and with
-    /// `OutOfMemory`, 1, where it is new and memory is refused.
+    /// Comes to a pointee at `position`; `length` is its length in elements or bytes, 0 for one
+    /// value. Fails with `TypeMismatch` if the position was started with another flavor or pointee,
+    /// else with `MetadataMismatch` if it was with another length; and with `OutOfMemory` if it is
+    /// new and memory is refused.
     fn start_shared(
         &mut self,
         flavor: &FlavorInfo,
@@ -91,8 +97,9 @@ pub trait SharedContext: Context {
         ensures unchanged { OnErr result (Self.positions self.new ≡ Self.positions self.old) }
         ensures range { Self.state self.new ≡ Self.state self.old };
 
-    /// Whether the position was started with this flavor, pointee and length, and is finished: exactly where `start_shared` answers `Finished`, which
-    /// changes nothing. Our own, so that the many pointers to what was checked before are passed over with no wide answer.
+    /// Whether the position was started with this flavor, pointee and length, and is finished:
+    /// exactly if `start_shared` returns `Finished`, which changes nothing. Our own, so that the
+    /// many pointers to what was checked before are passed over with no wide answer.
     fn is_finished(
         &self,
         flavor: &FlavorInfo,
@@ -102,8 +109,8 @@ pub trait SharedContext: Context {
     ) -> bool
         ensures { IsTrue result ↔ IsFinishedAs (Self.positions self.now position) (entry_as flavor.now pointee.now length) };
 
-    /// Leaves the pointee at `position`, whatever its flavor and pointee. Refused with `NotStarted`, 14, exactly where it wasn't started, and with
-    /// `AlreadyFinished`, 15, exactly where it is finished.
+    /// Leaves the pointee at `position`, whatever its flavor and pointee. Fails with `NotStarted`
+    /// exactly if it wasn't started, and with `AlreadyFinished` exactly if it is finished.
     fn finish_shared(
         &mut self,
         flavor: &FlavorInfo,

@@ -14,7 +14,7 @@ pub fn meaning_unique()
     ensures { MeaningUnique }
 {}
 
-/// A check's walk comes to an end exactly where the buffer is accepted and no region is too deep.
+/// A check's walk comes to an end exactly if the buffer is accepted and no region is too deep.
 pub fn accepted_where_walked()
     ensures { AcceptedWhereWalked }
 {}

@@ -1,5 +1,5 @@
-//! Types that check themselves: with no schema, no list and no memory. A type names its check; one whose values share something or hold themselves
-//! names `BySchema`.
+//! Types that validate themselves: with no schema, no list and no memory. A type names its check;
+//! one whose values are shared or recursive names `BySchema`.
 
 ghost use Rattle.std.specs.Prelude.{Bool, ◌≡◌, ◌+◌, ◌≤◌, ℕ, length, OnSome, IfNone, false, IsTrue};
 ghost use Rattle.std.specs.Int.{w8};
@@ -32,7 +32,7 @@ pub use tuples::TupleCheck;
 pub use values::BoxCheck;
 pub use variants::{CheckedVariants, check_choice};
 
-/// What checks values where they lie. A type that checks itself names one for its own shape.
+/// What checks values where they lie. A type that validates itself names one for its own shape.
 pub trait SelfCheck {
     // What is checked.
     ghost shape: { Shape };
@@ -57,8 +57,9 @@ pub trait SelfCheck {
     fn is_nameless() -> bool
         ensures { result ≡ nameless };
 
-    /// Checks the value at `at`, in bytes from the first one. `None` where the check stops, and `refusal` is why: the first fault, in the order that
-    /// docs/FORMAT.md gives. Our own choice in place of rkyv's `CheckBytes`.
+    /// Checks the value at `at`, in bytes from the first one. `None` if the check stops, and
+    /// `refusal` is why: the first fault, in the order that docs/FORMAT.md gives. Our own choice in
+    /// place of rkyv's `CheckBytes`.
     fn check_at<C: ArchiveContext>(
         bytes: &[u8],
         at: usize,
@@ -73,7 +74,7 @@ pub trait SelfCheck {
         ensures positions { OnSome result (C.positions context.new ≡ C.positions context.old) };
 }
 
-/// The check of a type that doesn't check itself: it goes by its schema.
+/// The check of a type that doesn't validate itself: it goes by its schema.
 pub struct BySchema;
 
 impl SelfCheck for BySchema {

@@ -1,5 +1,5 @@
 -- Variants with no part or one, of a choice that stands under its own name; and those whose part is a box of one value, as of a type that holds itself.
-use Rattle.std.proofs.Common.{◌≡◌, ℕ, ◌+◌, ◌<◌, List, [], length, slice_index, Some, refl}
+use Rattle.std.proofs.Common.{◌≡◌, ℕ, ◌+◌, ◌<◌, List, [], length, slice_index, Some, refl, Bool}
 use Rattle.archive_check.specs.Shape.{Name, Shape, choice, named, boxed, one, Variants, part, no_part, variant_at, definition}
 use Rattle.archive_check.specs.Layout.{Layout, up}
 use Rattle.archive_check.specs.Definitions.{Definitions, Knows, HasLayout}
@@ -27,7 +27,7 @@ module _ (D : Definitions) (name : Name) (vs : Variants) (has : (s : Schema) →
     pub empty_serialized : (w : WriterState) → Serialized D (named name) [] (case tag no_value) (case tag no_value) w w
     empty_serialized w = serialized_named D name (choice name vs) has _ _ _ _ _ (serialized_empty_case D name vs tag is w)
 
-    pub empty_read_back : (bytes : List ℕ) (q n : ℕ) → slice_index bytes q ≡ tag → (old new : Entries) → new ≡ old → ReadsBack D bytes q (one (named name)) n old new (case tag no_value) []
+    pub empty_read_back : {keeps : Bool} (bytes : List ℕ) (q n : ℕ) → slice_index bytes q ≡ tag → (old new : Entries) → new ≡ old → ReadsBack keeps D bytes q (one (named name)) n old new (case tag no_value) []
     empty_read_back bytes q n first old new same = named_read_back D name (choice name vs) has bytes q n old new _ _ (empty_case_read_back D name vs tag is bytes q 0 first old new same)
 
   -- a variant with one part, with definitions that are known where the choice's are
@@ -46,7 +46,7 @@ module _ (D : Definitions) (name : Name) (vs : Variants) (has : (s : Schema) →
       part_hindered_at p flat e h = named_hindered_at D name (choice name vs) has _ p e (case_hindered_at D E known name vs tag X is L inner flat p offset e there h)
 
       module _ (bytes : List ℕ) (q n : ℕ) (first : slice_index bytes q ≡ tag) where
-        pub part_read_back : (old new : Entries) (w : Value) (ks : List Naming) → ReadsBack E bytes (q + offset) (one X) 0 old new w ks → ReadsBack D bytes q (one (named name)) n old new (case_of tag w) ks
+        pub part_read_back : {keeps : Bool} (old new : Entries) (w : Value) (ks : List Naming) → ReadsBack keeps E bytes (q + offset) (one X) 0 old new w ks → ReadsBack keeps D bytes q (one (named name)) n old new (case_of tag w) ks
         part_read_back old new w ks h = named_read_back D name (choice name vs) has bytes q n old new _ _ (case_read_back D E known name vs tag X is L inner bytes q 0 offset there first old new w ks h)
 
         pub part_refuses : (told : Entries) (e : Error) → RefusesReading E bytes (q + offset) (one X) 0 told e → RefusesReading D bytes q (one (named name)) n told e

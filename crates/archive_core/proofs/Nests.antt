@@ -1,6 +1,6 @@
 -- Choices that hold themselves in boxes: what is written of them, and what is read back, by what a box holds.
 use denote.Ref.{Bor}
-use Rattle.std.proofs.Common.{◌≡◌, inl, inr, ℕ, zero, suc, ◌+◌, ◌<◌, ◌≤◌, true, is_some, List, [], length, slice_index, slice_set, Option, Some, None, refl, sym, ap, subst, ◌∙◌, arith}
+use Rattle.std.proofs.Common.{◌≡◌, inl, inr, ℕ, zero, suc, ◌+◌, ◌<◌, ◌≤◌, true, is_some, List, [], length, slice_index, slice_set, Option, Some, None, refl, sym, ap, subst, ◌∙◌, arith, Bool}
 use Rattle.std.proofs.Math.Logic.{∥∥₁_elim}
 use Rattle.std.proofs.lemmas.List.{length-set, get_or-set_same, get_or-set_other}
 use Rattle.std.specs.Coded.{le_prop}
@@ -150,7 +150,7 @@ module _ (D : Definitions) (name : Name) (E : Definitions) (vs : Variants) (is :
   has : (s : Schema) → Knows s D → definition s.table name ≡ Some (choice name vs)
   has = has_choice D (named name) name E vs is refl
 
-  pub empty_back : HoldsNothing 0 vs tag → (old new : Entries) → new ≡ old → ReadsBack D bytes q (one (named name)) n old new (case tag no_value) []
+  pub empty_back : {keeps : Bool} → HoldsNothing 0 vs tag → (old new : Entries) → new ≡ old → ReadsBack keeps D bytes q (one (named name)) n old new (case tag no_value) []
   empty_back h old new same = empty_read_back D name vs has tag (nothing_there vs tag h) bytes q n first old new same
 
   module _ (h : HoldsBox 0 vs tag) (v : Viewed D bytes q (one (named name)) n) where
@@ -174,9 +174,9 @@ module _ (D : Definitions) (name : Name) (E : Definitions) (vs : Variants) (is :
         let ends = lies_before s bytes k.laid_out l c (box_has bytes (q + 4) 0 (one (named name)) s u c) refl (box_shown D bytes (q + 4) 0 (one (named name)) box_viewed).lands in
         omega (arith, ends, eight s k))
 
-    pub box_back : (old new : Entries) (w : Value) (ks : List Naming) → ReadsBack D bytes (target_from bytes (q + 4) (q + 4)) (one (named name)) (length_at bytes (q + 4) (one (named name))) old new w ks
-        → ReadsBack D bytes q (one (named name)) n old new (case_of tag (box w)) ks
-    box_back old new w ks r = named_read_back D name (choice name vs) has bytes q n old new _ ks
+    pub box_back : (keeps : Bool) (old new : Entries) (w : Value) (ks : List Naming) → ReadsBack keeps D bytes (target_from bytes (q + 4) (q + 4)) (one (named name)) (length_at bytes (q + 4) (one (named name))) old new w ks
+        → ReadsBack keeps D bytes q (one (named name)) n old new (case_of tag (box w)) ks
+    box_back keeps old new w ks r = named_read_back D name (choice name vs) has bytes q n old new _ ks
         (case_read_back D D (λ s k. k) name vs tag (boxed (one (named name))) at (record { size = 4; align = 4 }) (record { solved = λ s k. refl }) bytes q 0 4 refl first old new (box w) ks
         (box_read D bytes (q + 4) 0 (one (named name)) old new w ks box_viewed r))
 

@@ -38,7 +38,7 @@ module _ (keeps : Bool) (old new : Entries) (t : ℕ) (k : Kept) (nothing : keep
 -- one that is read
 module _ (D : Definitions) (bytes : List ℕ) (t n : ℕ) (P : Pointee) (keeps : Bool) (old started mid new : Entries) (k copy : Kept) (count : ℕ) (w : Value) (keys : List Naming)
     (no_old : keeps ≡ false → NoEntries old) (no_started : keeps ≡ false → NoEntries started) (no_new : keeps ≡ false → NoEntries new) (unknown : old t ≡ None)
-    (start : keeps ≡ true → IsPut old t (pooled (old t)) started) (h : ReadsBack D bytes t P n started mid w keys) (is : k ≡ kept_at t P count w keys) (cloned : copy ≡ k)
+    (start : keeps ≡ true → IsPut old t (pooled (old t)) started) (h : ReadsBack keeps D bytes t P n started mid w keys) (is : k ≡ kept_at t P count w keys) (cloned : copy ≡ k)
     (finish : keeps ≡ true → IsPut mid t (Some (Some copy)) new) where
   pub new_handed_out : (l : Kept) → old t ≡ Some (Some l) → k ≡ l
   new_handed_out l known = cc

@@ -13,7 +13,7 @@ use Rattle.archive_check.specs.Layout.{has_length}
 use Rattle.archive_check.specs.Reads.{length_at}
 use Rattle.archive_check.specs.Pooled.{Kept, EntryState, Entries, pooled}
 use Rattle.archive_check.specs.Viewed.{Viewed, Says}
-use Rattle.archive_check.specs.Entries.{NoEntries, AreNamedByPosition, IsCyclic, KeepsEntries, ReadsBack, RefusesReading}
+use Rattle.archive_check.specs.Entries.{NoEntries, AreNamedByPosition, IsCyclic, KeepsEntries, ReadsBack, RefusesReading, AreKept}
 use Rattle.archive_check.proofs.Reading.ReadShared.{meets_within, meets_alone, again_read_back, pending_cyclic, inner_cyclic, shared_read_back, alone_cyclic, alone_read_back}
 use Rattle.archive_check.proofs.Tours.Seen.{same_some}
 use Rattle.archive_types.specs.Members.SharedSources.{rc_flavor}
@@ -41,9 +41,13 @@ still_named old started t here others named u k is = elim (cases_eq u t) [
   | inr n ↦ named u k (sym (others u n) ∙ is)
 ]
 
+-- what is kept is so where each is the same
+kept_as : (mid new : Entries) → IsSame mid new → (keys : List Naming) → AreKept mid keys → AreKept new keys
+kept_as mid new same keys h key c = let (j, at, is) = h key c in (j, same key.0 ∙ at, is)
+
 module _ (D : Definitions) (bytes : List ℕ) (q m : ℕ) (Q : Pointee) (w : Value) where
   -- states that are the same each
-  read_after : (old mid new : Entries) (keys : List Naming) → ReadsBack D bytes q Q m old mid w keys → IsSame mid new → ReadsBack D bytes q Q m old new w keys
+  read_after : {keeps : Bool} (old mid new : Entries) (keys : List Naming) → ReadsBack keeps D bytes q Q m old mid w keys → IsSame mid new → ReadsBack keeps D bytes q Q m old new w keys
   read_after old mid new keys h same = record {
     kept = record {
       finished = λ u k is. same u ∙ h.kept.finished u k is;
@@ -54,11 +58,19 @@ module _ (D : Definitions) (bytes : List ℕ) (q m : ℕ) (Q : Pointee) (w : Val
     shared = λ named s n knows l d right. (let x = h.shared named s n knows l d right in (x.0, λ u k is. x.1 u k (sym (same u) ∙ is)));
     unmet = h.unmet;
     closed = λ s knows l u k none is. h.closed s knows l u k none (sym (same u) ∙ is);
+    once = λ on named complete. (let x = h.once on named complete in (kept_as mid new same keys x.0, λ u k is. kept_as mid new same k.keys (x.1 u k (sym (same u) ∙ is))));
   }
 
   -- keys that are the same where positions are named by themselves
-  read_keys : (old new : Entries) (keys others : List Naming) → ReadsBack D bytes q Q m old new w keys → (AreNamedByPosition old → others ≡ keys) → ReadsBack D bytes q Q m old new w others
-  read_keys old new keys others h same = record { kept = h.kept; value = h.value; shared = λ named. rw (same named) (h.shared named); unmet = h.unmet; closed = h.closed }
+  read_keys : {keeps : Bool} (old new : Entries) (keys others : List Naming) → ReadsBack keeps D bytes q Q m old new w keys → (AreNamedByPosition old → others ≡ keys) → ReadsBack keeps D bytes q Q m old new w others
+  read_keys old new keys others h same = record {
+    kept = h.kept;
+    value = h.value;
+    shared = λ named. rw (same named) (h.shared named);
+    unmet = h.unmet;
+    closed = h.closed;
+    once = λ on named. rw (same named) (h.once on named);
+  }
 
   -- and what is kept of a new position
   module _ (old new other : Entries) (t : ℕ) (k l : Kept) (unknown : old t ≡ None) (here : new t ≡ Some (Some k)) (there : other t ≡ Some (Some l)) (apart : (u : ℕ) → (u ≡ t → ⊥) → other u ≡ new u)
@@ -96,7 +108,7 @@ module _ (D : Definitions) (bytes : List ℕ) (q m : ℕ) (Q : Pointee) (w : Val
       | inr n ↦ apart u n
     ]
 
-    read_kept : (keys others : List Naming) → ReadsBack D bytes q Q m old new w keys → (AreNamedByPosition old → others ≡ keys) → ReadsBack D bytes q Q m old other w others
+    read_kept : {keeps : Bool} (keys others : List Naming) → ReadsBack keeps D bytes q Q m old new w keys → (AreNamedByPosition old → others ≡ keys) → ReadsBack keeps D bytes q Q m old other w others
     read_kept keys others h also = record {
       kept = record {
         finished = λ u x is. apart u (none_at u x is) ∙ h.kept.finished u x is;
@@ -110,6 +122,11 @@ module _ (D : Definitions) (bytes : List ℕ) (q m : ℕ) (Q : Pointee) (w : Val
           );
       unmet = h.unmet;
       closed = λ s knows lies u x none is. let (y, at) = finished_back u x is in h.closed s knows lies u y none at;
+      once = λ on named complete. (
+          let x = h.once on named complete in
+          let each = all_same named in
+          (rw (also named) (kept_as new other each keys x.0), λ u y is. kept_as new other each y.keys (x.1 u y (sym (each u) ∙ is)))
+          );
     }
 
 -- whether pending positions are kept
@@ -129,7 +146,7 @@ no_length bytes q text e = cc
 
 module _ (D : Definitions) (bytes : List ℕ) (t : ℕ) (P : Pointee) (n : ℕ) (keeps : Bool) where
   -- one that is kept
-  pub kept_again : (old new : Entries) (k : Kept) → (keeps ≡ false → NoEntries old) → (keeps ≡ true → IsPut old t (pooled (old t)) new) → old t ≡ Some (Some k) → ReadsShared D bytes t P n old new k
+  pub kept_again : (old new : Entries) (k : Kept) → (keeps ≡ false → NoEntries old) → (keeps ≡ true → IsPut old t (pooled (old t)) new) → old t ≡ Some (Some k) → ReadsShared keeps D bytes t P n old new k
   kept_again old new k nothing after known q m X h = read_after D bytes q m (one X) (shared_value k.name) old old new (keys_of k) (again_read_back D bytes q m t h.flavor P h.target X h.reads old k known)
       (by_keeping keeps (λ e. start_same old new t k known (after e)) (λ e. let no : old t ≡ None = nothing e t in cc))
 
@@ -155,7 +172,7 @@ module _ (D : Definitions) (bytes : List ℕ) (t : ℕ) (P : Pointee) (n : ℕ) 
   -- a new one
   module _ (old started mid new : Entries) (k copy : Kept) (count : ℕ) (w : Value) (keys : List Naming) (no_old : keeps ≡ false → NoEntries old) (no_started : keeps ≡ false → NoEntries started)
       (no_mid : keeps ≡ false → NoEntries mid) (no_new : keeps ≡ false → NoEntries new) (unknown : old t ≡ None) (start : keeps ≡ true → IsPut old t (pooled (old t)) started)
-      (h : ReadsBack D bytes t P n started mid w keys) (is : k ≡ kept_at t P count w keys) (cloned : copy ≡ k) (finish : keeps ≡ true → IsPut mid t (Some (Some copy)) new)
+      (h : ReadsBack keeps D bytes t P n started mid w keys) (is : k ≡ kept_at t P count w keys) (cloned : copy ≡ k) (finish : keeps ≡ true → IsPut mid t (Some (Some copy)) new)
       (spans : Spans D P count w) (viewed : Viewed D bytes t P n) where
     counted : (q : ℕ) → length_at bytes q P ≡ n → AreNamedByPosition started → count ≡ n
     counted q same named = spans bytes t n (λ e. sym same ∙ no_length bytes q P e) viewed (h.value named)
@@ -170,7 +187,7 @@ module _ (D : Definitions) (bytes : List ℕ) (t : ℕ) (P : Pointee) (n : ℕ) 
       name : k.name ≡ t
       name = ap (λ (z : Kept). z.name) is
 
-      new_kept : keeps ≡ true → ReadsBack D bytes q (one X) m old new (shared_value t) (keys_of k)
+      new_kept : keeps ≡ true → ReadsBack keeps D bytes q (one X) m old new (shared_value t) (keys_of k)
       new_kept e =
           let here : started t ≡ Some None = rw unknown at (put_here old started t (pooled (old t)) (start e)) in
           let others = put_apart old started t (pooled (old t)) (start e) in
@@ -182,10 +199,10 @@ module _ (D : Definitions) (bytes : List ℕ) (t : ℕ) (P : Pointee) (n : ℕ) 
           read_kept D bytes q m (one X) (shared_value t) old told new t right k unknown (update_here mid t (Some (Some right))) there
           (λ u d. put_apart mid new t (Some (Some copy)) (finish e) u d ∙ sym (update_apart mid t (Some (Some right)) u d)) name same (keys_of right) (keys_of k) back (λ named. ap keys_of (same named))
 
-      new_alone : keeps ≡ false → ReadsBack D bytes q (one X) m old new (shared_value t) (keys_of k)
+      new_alone : keeps ≡ false → ReadsBack keeps D bytes q (one X) m old new (shared_value t) (keys_of k)
       new_alone e =
-          let back = alone_read_back D bytes q m t l.flavor P l.target X l.reads old started mid new (no_old e) (no_started e) (no_mid e) (no_new e) rc_flavor w keys (rw (l.length) h) in
+          let back = alone_read_back D bytes q m t l.flavor P l.target X l.reads old started mid new (no_old e) (no_started e) (no_mid e) (no_new e) e rc_flavor w keys (rw (l.length) h) in
           read_keys D bytes q m (one X) (shared_value t) old new (keys_of right) (keys_of k) back (λ named. ap keys_of (is_right (λ u x at. let no : started u ≡ None = no_started e u in cc)))
 
-    pub kept_new : ReadsShared D bytes t P n old new k
-    kept_new q m X l = subst (λ z. ReadsBack D bytes q (one X) m old new (shared_value z) (keys_of k)) (sym (name q m X l)) (by_keeping keeps (new_kept q m X l) (new_alone q m X l))
+    pub kept_new : ReadsShared keeps D bytes t P n old new k
+    kept_new q m X l = subst (λ z. ReadsBack keeps D bytes q (one X) m old new (shared_value z) (keys_of k)) (sym (name q m X l)) (by_keeping keeps (new_kept q m X l) (new_alone q m X l))

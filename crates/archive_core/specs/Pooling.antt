@@ -1,5 +1,5 @@
 -- Pools: what their calls answer and leave, and what is read back of what a shared pointer leads to.
-use Rattle.std.specs.Prelude.{◌≡◌, ◌⊎◌, ℕ, nat_eq, pos, List, ◌∷◌, Option, Some, None, is_some, Result, Err, false}
+use Rattle.std.specs.Prelude.{◌≡◌, ◌⊎◌, ℕ, nat_eq, pos, List, ◌∷◌, Option, Some, None, is_some, Result, Err, false, Bool}
 use Rattle.std.specs.Map.{update}
 use Rattle.archive_check.specs.declared.format.error.Error.{Error}
 use Rattle.archive_check.specs.declared.format.error.Error.TheVariants.{OutOfMemory, CyclicDeserialize}
@@ -54,8 +54,9 @@ pub record LeadsHere (bytes : List ℕ) (q m : ℕ) (X : Shape) (P : Pointee) (t
   pub reads : (s : Schema) (v : Value) → Contents s bytes q (one X) m v → v ≡ hole (pointer_at bytes q (Some flavor) P)
 
 -- each pointer to P at t is read back as the name of what is kept
-abbrev pub ReadsShared : Definitions → List ℕ → ℕ → Pointee → ℕ → Entries → Entries → Kept → Type 0
-ReadsShared D bytes t P n old new k = (q m : ℕ) (X : Shape) → LeadsHere bytes q m X P t n → ReadsBack D bytes q (one X) m old new (shared_value k.name) ((k.name, (k.entry, k.value)) ∷ k.keys)
+abbrev pub ReadsShared : Bool → Definitions → List ℕ → ℕ → Pointee → ℕ → Entries → Entries → Kept → Type 0
+ReadsShared keeps D bytes t P n old new k =
+    (q m : ℕ) (X : Shape) → LeadsHere bytes q m X P t n → ReadsBack keeps D bytes q (one X) m old new (shared_value k.name) ((k.name, (k.entry, k.value)) ∷ k.keys)
 
 -- P at t is pending or leads to an open position, and so the reading of each pointer to it meets one
 pub record IsCyclicAt (D : Definitions) (bytes : List ℕ) (t : ℕ) (P : Pointee) (n : ℕ) (told : Entries) : Type 0 where

@@ -16,7 +16,7 @@ use Rattle.archive_types.specs.declared.view.Ref.{Ref}
 
 -- what the view shows was read back as this shared value, by its pointers; and why it wasn't
 abbrev pub ReadsKept : {T M D : Type 0} {g : ArchivePointee.Ghosts T M} → Ref T M g → Entries.Ghosts D → Both (MutBor D) (MutBor D) → Kept → Type 0
-ReadsKept {g = g} v d b kept = ReadsShared g.definitions v.bytes.now v.pos g.pointee v.len (d.entry_of b.entry.now) (d.entry_of b.exit.now) kept
+ReadsKept {g = g} v d b kept = ReadsShared d.keeps g.definitions v.bytes.now v.pos g.pointee v.len (d.entry_of b.entry.now) (d.entry_of b.exit.now) kept
 
 abbrev pub RefusesKept : {T M D : Type 0} {g : ArchivePointee.Ghosts T M} → Ref T M g → Entries.Ghosts D → Both (MutBor D) (MutBor D) → Error → Type 0
 RefusesKept {g = g} v d b e = RefusesShared g.definitions v.bytes.now v.pos g.pointee v.len (d.entry_of b.entry.now) e

@@ -40,7 +40,8 @@ pub type HighSerializer<W, A> = Serializer<W, A, Share>;
 /// What the calls that read a whole archive back may be handed, where it shares values of one type: a pool of them. As in rkyv 0.8.18.
 pub type HighDeserializer<T> = Pool<T>;
 
-/// Where the root of an archive of `len` bytes lies: so many bytes before its end as a `T` has, or at 0 where there are fewer.
+/// The position of the root of an archive of `len` bytes: `len` less the size of a `T`, or 0 if
+/// there are fewer bytes.
 pub fn root_position<T: Portable>(len: usize) -> usize
     ensures { result ≡ len - T.layout.size }
 {
@@ -63,10 +64,15 @@ fn serialize_whole<
     (serializer.into_writer(), root)
 }
 
-/// Appends an archive of `value` to what `writer` holds, its root at the end, and answers the writer. Memory comes from `alloc`. Refused with what
-/// the value's parts or the writer refuse with (`BufferOverflow`, 8; `WriterFailed`, 9), with `LayoutTooLarge`, 23, where the root would end above
-/// `usize::MAX`, or with `OutOfMemory`, 1, where memory is refused. It asks nothing. After a refusal the writer is gone: who lends one, and has to know
-/// what it holds then, calls `to_bytes_into`.
+/// Appends an archive of `value` to what `writer` holds, its root at the end, and returns the
+/// writer. Memory comes from `alloc`. After a failure the writer is gone: lend it to
+/// `to_bytes_into` to know what it holds then.
+///
+/// Errors:
+/// - `OutOfMemory`: memory is refused.
+/// - `BufferOverflow`, `WriterFailed`: the writer's.
+/// - `LayoutTooLarge`: the root would end above `usize::MAX`.
+/// - an error caused by the value's parts.
 #[inline(always)]
 pub fn to_bytes_in<W: Writer + Drop, T: Serialize<HighSerializer<W, Global>>>(
     alloc: Global,
@@ -94,9 +100,10 @@ fn append_whole<W: Writer + Drop, T: Serialize<HighSerializer<W, Global>>>(
     serialize_whole(alloc, alloc, value, writer)
 }
 
-/// Appends an archive of `value` to what `writer` holds, its root at the end, and answers the root's position, in bytes from the first one. As
-/// `to_bytes_in`, over a writer that is lent: also after a refusal the existing bytes are a beginning of those that it holds, and an error of the
-/// writer is explained by what it holds then. Memory comes from `alloc`. Our own.
+/// Appends an archive of `value` to what `writer` holds, its root at the end, and returns the
+/// root's position in bytes. Memory comes from `alloc`. Existing bytes stay, after a failure too,
+/// and an error of the writer is explained by what it holds then. Fails as `to_bytes_in` does. Our
+/// own.
 #[inline(always)]
 pub fn to_bytes_into<W: Writer + Drop, T: Serialize<HighSerializer<W, Global>>>(
     alloc: Global,
@@ -110,8 +117,12 @@ pub fn to_bytes_into<W: Writer + Drop, T: Serialize<HighSerializer<W, Global>>>(
     replace_with(writer, (alloc, value), append_whole::<W, T>)
 }
 
-/// An archive of `value`, its root at the end. Memory comes from `alloc`. It asks nothing. Refused with what the value's parts refuse with, with
-/// `LayoutTooLarge`, 23, where the root would end above `usize::MAX`, or with `OutOfMemory`, 1, where memory is refused.
+/// An archive of `value`, its root at the end. Memory comes from `alloc`.
+///
+/// Errors:
+/// - `OutOfMemory`: memory is refused.
+/// - `LayoutTooLarge`: the root would end above `usize::MAX`.
+/// - an error caused by the value's parts.
 #[inline(always)]
 pub fn to_bytes<T: Serialize<HighSerializer<Vec<u8>, Global>>>(
     alloc: Global,
@@ -123,13 +134,18 @@ pub fn to_bytes<T: Serialize<HighSerializer<Vec<u8>, Global>>>(
     to_bytes_with_alloc(alloc, value, alloc)
 }
 
-/// Checks that `bytes` are an archive whose root, a `T`, lies at `pos`. Asks that the context's range ends in the buffer. In a context for these bytes
-/// that met nothing yet the answer is exact. Memory for the schema and the check comes from `alloc`: refused with `OutOfMemory`, 1, where it is
-/// refused, with `ShapeConflict`, 30, or `RecursiveLayout`, 31, where the definitions of `T` have no meaning, before any byte is looked at, and else
-/// with the first fault of the bytes, in the order that docs/FORMAT.md gives. A type that checks itself takes
-/// no memory. In any context with levels left it is refused with 30 or 31 or with what a check can answer (1, 12, 16 to 18, 21 to 29), and keeps
-/// levels where it is accepted. Accepted or refused, in any context, it enters at most one region, and one for each four bytes of the context's
-/// range: 1 + n / 4 in n bytes.
+/// Checks that `bytes` are an archive whose root, a `T`, lies at `pos`. The caller must ensure that
+/// the context's range ends in the buffer. In a fresh context for these bytes the result is exact.
+/// In any context the check enters at most one region and one for each four bytes of the context's
+/// range, so 1 + n / 4 in n bytes; and if it succeeds with levels left, levels are left. A type
+/// that validates itself takes no memory; else it comes from `alloc`.
+///
+/// Errors:
+/// - `OutOfMemory`: memory is refused.
+/// - `ShapeConflict`, `RecursiveLayout`: the definitions of `T` have no meaning; no byte is looked
+///   at.
+/// - in a fresh context the first fault of the bytes, in the order that docs/FORMAT.md gives; in
+///   any with levels left an error that a check can find.
 pub fn check_pos_with_context<T: Portable, C: ArchiveContext + SharedContext>(
     alloc: Global,
     bytes: &[u8],
@@ -151,10 +167,14 @@ pub fn check_pos_with_context<T: Portable, C: ArchiveContext + SharedContext>(
     schema.check(bytes, pos, context)
 }
 
-/// Checks that `bytes` are an archive whose root, a `T`, lies at `pos`, and answers the root's view. It asks nothing. Memory for the schema and the
-/// check comes from `alloc`: refused with `OutOfMemory`, 1, where it is refused, with `ShapeConflict`, 30, or `RecursiveLayout`, 31, where the
-/// definitions of `T` have no meaning, before any byte is looked at, and else with the first fault of the bytes, in the order that docs/FORMAT.md
-/// gives.
+/// Checks that `bytes` are an archive whose root, a `T`, lies at `pos`, and returns the root's
+/// view. Memory comes from `alloc`.
+///
+/// Errors:
+/// - `OutOfMemory`: memory is refused.
+/// - `ShapeConflict`, `RecursiveLayout`: the definitions of `T` have no meaning; no byte is looked
+///   at.
+/// - the first fault of the bytes, in the order that docs/FORMAT.md gives.
 pub fn access_pos<'a, T: Portable>(
     alloc: Global,
     bytes: &'a [u8],
@@ -169,8 +189,8 @@ pub fn access_pos<'a, T: Portable>(
     access_pos_with_context::<T, HighValidator<'_>>(alloc, bytes, pos, &mut context)
 }
 
-/// Checks that `bytes` are an archive whose root, a `T`, lies at the end, and answers the root's view. Memory for the schema and the check comes
-/// from `alloc`. Refused as by `access_pos`.
+/// Checks that `bytes` are an archive whose root, a `T`, lies at the end, and returns the root's
+/// view. Memory comes from `alloc`. Fails as `access_pos` does.
 pub fn access<'a, T: Portable>(alloc: Global, bytes: &'a [u8]) -> Result<Ref<'a, T>, Error>
     ensures answer { Answers T.definitions bytes.now None (root_in bytes.now T.layout) T.shape result }
     ensures buffer { IfOk result (λ r. r.bytes.now ≡ bytes.now) }
@@ -180,9 +200,10 @@ pub fn access<'a, T: Portable>(alloc: Global, bytes: &'a [u8]) -> Result<Ref<'a,
     access_pos(alloc, bytes, root_position::<T>(bytes.len()))
 }
 
-/// Checks that `bytes` are an archive whose root, a `T`, lies at `pos`, in a context, and answers the root's view. Asks for a context of these bytes
-/// that met nothing yet. Memory for the schema and the check comes from `alloc`. Refused as by `access_pos`, and with
-/// `ExceededMaximumSubtreeDepth`, 18, where a region is deeper than the context allows.
+/// Checks that `bytes` are an archive whose root, a `T`, lies at `pos`, and returns the root's
+/// view. The caller must ensure that the context is a fresh one of these bytes. Memory comes from
+/// `alloc`. Fails as `access_pos` does, or with `ExceededMaximumSubtreeDepth` if a region is deeper
+/// than the context allows.
 #[inline(always)]
 pub fn access_pos_with_context<'a, T: Portable, C: ArchiveContext + SharedContext>(
     alloc: Global,
@@ -204,8 +225,9 @@ pub fn access_pos_with_context<'a, T: Portable, C: ArchiveContext + SharedContex
     Ok(Ref::at(RawView { bytes, pos, len: 0 }))
 }
 
-/// Checks that `bytes` are an archive whose root, a `T`, lies at the end, in a context, and answers the root's view. Asks for a context of these bytes
-/// that met nothing yet. Memory for the schema and the check comes from `alloc`. Refused as by `access_pos_with_context`.
+/// Checks that `bytes` are an archive whose root, a `T`, lies at the end, and returns the root's
+/// view. The caller must ensure that the context is a fresh one of these bytes. Memory comes from
+/// `alloc`. Fails as `access_pos_with_context` does.
 pub fn access_with_context<'a, T: Portable, C: ArchiveContext + SharedContext>(
     alloc: Global,
     bytes: &'a [u8],
@@ -222,10 +244,14 @@ pub fn access_with_context<'a, T: Portable, C: ArchiveContext + SharedContext>(
     access_pos_with_context(alloc, bytes, root_position::<T>(bytes.len()), context)
 }
 
-/// Checks that `bytes` are an archive of a `T`, its root at the end, and reads it back: the answer means what the archive denotes, its shared values
-/// named by their positions, where `deserializer` knows no position yet; it is `()` where nothing is shared. It asks nothing. Memory comes from
-/// `alloc`: refused with `OutOfMemory`, 1, where it is refused, else as `access` refuses, and with `CyclicDeserialize`, 13, only where a shared
-/// position is met that is still being read, so never where the type shares nothing.
+/// Checks that `bytes` are an archive of a `T`, its root at the end, and reads it back: the result
+/// is the value that the archive denotes, its shared values named by their positions.
+/// `deserializer` is `()` if nothing is shared, else one that knows no position yet. Memory comes
+/// from `alloc`.
+///
+/// Errors, besides those of `access`:
+/// - `CyclicDeserialize`: only if a shared position is met that is still being read; so never if
+///   the type shares nothing.
 pub fn from_bytes<T: Archive, D: Entries>(
     alloc: Global,
     bytes: &[u8],
@@ -242,9 +268,14 @@ where
     <T::Archived as Deserialize<T, D>>::deserialize(alloc, root, deserializer)
 }
 
-/// Reads back what `view` shows, with a `deserializer` that may have met shared positions of this buffer before, each finished one named by its
-/// position: the answer means what the archive says there. It asks nothing. Memory comes from `alloc`: refused with `OutOfMemory`, 1, where it is
-/// refused, and with `CyclicDeserialize`, 13, only where a shared position is met that is still being read, from before this call, too.
+/// Reads back what `view` shows, with a `deserializer` that may have met shared positions of this
+/// buffer before, each finished one named by its position: the result means what the archive says
+/// there. Memory comes from `alloc`.
+///
+/// Errors:
+/// - `OutOfMemory`: memory is refused.
+/// - `CyclicDeserialize`: only if a shared position is met that is still being read, from before
+///   this call too.
 pub fn deserialize_using<T: Archive, U: Deserialize<T, D>, D: Entries>(
     alloc: Global,
     view: Ref<'_, U>,
@@ -256,9 +287,13 @@ pub fn deserialize_using<T: Archive, U: Deserialize<T, D>, D: Entries>(
     U::deserialize(alloc, view, deserializer)
 }
 
-/// Reads back what `view` shows, with a `deserializer` that knows no position yet, `()` where nothing is shared: the answer means what the archive says
-/// there, its shared values named by their positions. It asks nothing. Memory comes from `alloc`: refused with `OutOfMemory`, 1, where it is refused,
-/// and with `CyclicDeserialize`, 13, only where a shared position is met that is still being read.
+/// Reads back what `view` shows, with a `deserializer` that knows no position yet, `()` if nothing
+/// is shared: the result means what the archive says there, its shared values named by their
+/// positions. Memory comes from `alloc`.
+///
+/// Errors:
+/// - `OutOfMemory`: memory is refused.
+/// - `CyclicDeserialize`: only if a shared position is met that is still being read.
 pub fn deserialize<T: Archive, U: Deserialize<T, D>, D: Entries>(
     alloc: Global,
     view: Ref<'_, U>,

@@ -1,5 +1,7 @@
-//! Arrays and tuples, as archives hold them. `N` archived values of a type `T` are archived as the array `[T; N]`, which is read back as an `OwnedArray`; a
-//! tuple of `N` values is archived as `ArchivedTupleN`, and as sources its parts are found by `Part0` and its likes. rkyv 0.8.18 shows the tuples in `tuple`.
+//! Arrays and tuples, as archives hold them. `N` archived values of a type `T` are archived as the
+//! array `[T; N]`, which is read back as an `OwnedArray`; a tuple of `N` values is archived as
+//! `ArchivedTupleN`, and as sources its parts are found by `Part0` and so on. rkyv 0.8.18 shows the
+//! tuples in `tuple`.
 
 pub use archive_tuple::{
     ArchivedTuple, ArchivedTuple1, ArchivedTuple2, ArchivedTuple3, ArchivedTuple4, ArchivedTuple5,

@@ -1,5 +1,5 @@
-//! Records and choices of your own, under a name: their formats, which are told once for all of them. Where rkyv 0.8.18 derives an archived type for each
-//! struct and enum.
+//! User-defined records and choices under a name: their formats, stated once for all of them. rkyv
+//! 0.8.18 derives an archived type for each struct and enum.
 
 ghost use Rattle.std.specs.Prelude.{◌≡◌, IfOk, IfErr, IsTrue, refl};
 ghost use Rattle.archive_check.specs.Definitions.{both, defines};
@@ -35,13 +35,25 @@ use std::alloc::Global;
 use std::marker::PhantomData;
 pub use variants::{deserialize_variant, resolve_variant, serialize_variant};
 
-/// What tells one archived record from others: its name and its parts. A type of its own implements this for each record. Our own, where rkyv 0.8.18
-/// derives an archived type for each struct.
+/// Describes an archived record by hand: its name and its parts. `tools/derive` doesn't need it.
+///
+/// A type of yours without values implements it; `ArchivedRecord` of that is the archived type.
+///
+/// ```
+/// impl NamedRecord for PointFormat {
+///     type Parts = (ArchivedI32, (ArchivedI32, ()));
+///     type Check = RecordCheck<Self::Parts>;
+///     ..
+/// }
+/// ```
+///
+/// Our own, where rkyv 0.8.18 derives an archived type.
 pub trait NamedRecord {
     /// Its parts, nested pair by pair: `(A, (B, ()))` for an `A` and then a `B`.
     type Parts: PortableParts;
 
-    /// The check of its values where they lie: `RecordCheck` of its parts, or `BySchema` where they share something or hold themselves.
+    /// How its values are validated: `RecordCheck` of its parts, or `BySchema` if they share values
+    /// or are recursive.
     type Check: SelfCheck;
 
     // The name.
@@ -56,8 +68,8 @@ pub trait NamedRecord {
         Self.Check.nameless };
 }
 
-/// An archived record under the name and with the parts of `N`: each part at the next multiple of its alignment, in the order in which they are named.
-/// Our own.
+/// An archived record with the name and the parts of `N`, laid out in order, each at the next
+/// multiple of its alignment. Our own.
 pub struct ArchivedRecord<N> {
     of: PhantomData<N>,
 }
@@ -134,7 +146,8 @@ where
     }
 }
 
-/// A value whose field with the index `I` is a `U`: how it is found. A record implements this once for each of its fields. Our own.
+/// Finds the field with the index `I`, a `U`. A record by hand implements it once for each field.
+/// Our own.
 pub trait HasField<const I: usize, U> {
     // The field of a value.
     ghost field: { Self → U };
@@ -144,7 +157,8 @@ pub trait HasField<const I: usize, U> {
         ensures { result.now ≡ field self.now };
 }
 
-/// The field with the index `I`, which is a `U`, as a part. The parts of a record are a nest of these: `(Field<0, A>, (Field<1, B>, ()))`. Our own.
+/// The field with the index `I`, a `U`, as a part: `(Field<0, A>, (Field<1, B>, ()))` are those of
+/// a record of two. Our own.
 pub struct Field<const I: usize, U> {
     of: PhantomData<U>,
 }

@@ -28,7 +28,8 @@ pub enum PoolingState<T> {
     Finished(T),
 }
 
-/// A shared value that a pool hands out at each pointer to it. Our own.
+/// A shared value that a pool hands out at each pointer to it. `Shared`, `SharedSlice` and
+/// `SharedStr` implement it. Our own.
 pub trait Pooled: Clone + Drop {
     /// What is read back where it lies.
     type Value: Archive + Drop;
@@ -42,8 +43,8 @@ pub trait Pooled: Clone + Drop {
     // How many elements or bytes a value has that is read back; 0 for one value.
     ghost count: { Self.Value → ℕ };
 
-    /// The shared value whose key is this position, in bytes from the first one. Memory comes from `alloc`; refused with `OutOfMemory`, 1, where it is
-    /// refused.
+    /// The shared value whose key is this position, in bytes from the first one. Fails with
+    /// `OutOfMemory` if memory from `alloc` is refused.
     fn from_value(alloc: Global, pos: usize, value: Self::Value) -> Result<Self, Error>
         ensures kept { IfOk result (λ s. kept s ≡ kept_value pos Self.Archived.pointee (count value) Self.Value.Archive value) }
         ensures refused { IfErr result (λ e. e ≡ OutOfMemory) };
@@ -55,18 +56,33 @@ pub trait Pooled: Clone + Drop {
     ghost spans: { (v : Self.Value) → Spans Self.Archived.definitions Self.Archived.pointee (count v) (Self.Value.meaning v) };
 }
 
-/// What keeps the shared values that were read back, by their positions in one buffer. A refused call changes nothing. What keeps none
-/// (`keeps` is false) knows no position. The calls are those of rkyv 0.8.18.
+/// Keeps the shared values that were read back, by their positions in one buffer, so that each is
+/// read once. A failed call changes nothing.
+///
+/// `Pool` implements it, and `Unpool`, which keeps none, so that a shared value is read at each
+/// pointer.
+///
+/// ```
+/// let mut pool: Pool<Shared<u32>> = Pool::new(alloc);
+/// let pair: (Shared<u32>, Shared<u32>) = from_bytes(alloc, bytes.as_slice(), &mut pool)?;
+/// ```
+///
+/// The calls are those of rkyv 0.8.18.
 pub trait Pooling<T: Pooled>: Entries {
-    /// Answers what the position was, and makes it pending where it was unknown. Refused with `OutOfMemory`, 1, where memory is refused.
+    /// Returns what the position was, and makes an unknown one pending. Fails with `OutOfMemory` if
+    /// memory is refused.
     fn start_pooling(&mut self, pos: usize) -> Result<PoolingState<T>, Error>
         ensures answer { IfOk result (IsPoolAnswer T.kept (Self.entry_of self.old pos)) }
         ensures after { Self.keeps ≡ true → OnOk result (PutAt Self.Entries self pos (pooled (Self.entry_of self.old pos))) }
         ensures unchanged { OnErr result (IsSame (Self.entry_of self.old) (Self.entry_of self.new)) }
         ensures refused { IfErr result (λ e. e ≡ OutOfMemory) };
 
-    /// Finishes the pending position with `value`. Refused with `NotStarted`, 14, where it is unknown, with `AlreadyFinished`, 15, where it is finished,
-    /// and with `OutOfMemory`, 1, where memory is refused.
+    /// Finishes the pending position with `value`.
+    ///
+    /// Errors:
+    /// - `NotStarted`: the position is unknown.
+    /// - `AlreadyFinished`: it is finished.
+    /// - `OutOfMemory`: memory is refused.
     fn finish_pooling(&mut self, pos: usize, value: T) -> Result<(), Error>
         ensures answer { Self.keeps ≡ true → IsFinishAnswer (Self.entry_of self.old pos) result }
         ensures after { Self.keeps ≡ true → OnOk result (PutAt Self.Entries self pos (Some (Some (T.kept value)))) }
@@ -76,9 +92,12 @@ pub trait Pooling<T: Pooled>: Entries {
 
 /// What everything that keeps shared values can do besides. As in rkyv 0.8.18.
 pub trait PoolingExt<T: Pooled>: Pooling<T> {
-    /// The shared value that the view shows: read back where its position is unknown, and finished there; of a finished position the kept one. It is
-    /// named by its position. Memory comes from `alloc`: refused with `OutOfMemory`, 1, where it is refused, and with `CyclicDeserialize`, 13, only where
-    /// a position is met that is pending.
+    /// The shared value that the view shows, named by its position: a finished position's is
+    /// returned as kept, an unknown one is read back and finished.
+    ///
+    /// Errors:
+    /// - `OutOfMemory`: memory from `alloc` is refused.
+    /// - `CyclicDeserialize`: only if a pending position is met.
     final fn deserialize_shared(
         &mut self,
         alloc: Global,
@@ -128,7 +147,8 @@ impl<T: Pooled> Pool<T> {
         }
     }
 
-    /// Knows no position, and has room for `capacity` of them. Memory comes from `alloc`; refused with `OutOfMemory`, 1, where it is refused.
+    /// Knows no position, and has room for `capacity` of them. Fails with `OutOfMemory` if memory
+    /// from `alloc` is refused.
     pub fn with_capacity(alloc: Global, capacity: usize) -> Result<Pool<T>, Error>
         ensures fresh { IfOk result (λ p. NoEntries (⟦<Pool<T> as Entries>⟧.entry_of p)) }
         ensures room { IfOk result (λ p. capacity ≤ spare p.values) }

@@ -19,8 +19,16 @@ pub use cases::{sealed_part_in_case, sealed_part_in_record};
 use std::alloc::AllocError;
 use std::marker::PhantomData;
 
-/// Where a part stands that was checked, without its bytes: a position and a length. It is had from a view, by `spot`, and with the bytes it gives a
-/// view or a seal again. Our own.
+/// Where a validated part lies, without its bytes: a position and a length. It is copied freely and
+/// borrows nothing. A view returns it (`spot`), and with the bytes it gives a view or a seal again.
+///
+/// ```
+/// let spot = access::<ArchivedU32>(alloc, bytes.as_slice())?.spot();
+/// spot.seal(bytes.as_mut_slice()).write(7);
+/// let seven = spot.view(bytes.as_slice()).get();
+/// ```
+///
+/// Our own.
 pub struct Spot<T> {
     pos: usize,
     len: usize,
@@ -39,8 +47,16 @@ impl<T> Clone for Spot<T> {
 
 impl<T> Copy for Spot<T> {}
 
-/// A view that may change what it shows: a part of a buffer that was checked. As in rkyv 0.8.18, over the whole buffer. Its calls are never refused,
-/// and take no memory.
+/// A part of a validated buffer, to be changed in place: its value may change, its form may not. As
+/// in rkyv 0.8.18, over the whole buffer.
+///
+/// `access_mut` returns the root's seal, and its calls those of parts. They never fail and take no
+/// memory.
+///
+/// ```
+/// let seal = access_mut::<ArchivedVec<ArchivedU32>>(alloc, bytes.as_mut_slice())?;
+/// seal.index(0).write(7);
+/// ```
 #[derive(Drop)]
 pub struct Seal<'a, T> {
     bytes: &'a mut [u8],
@@ -81,7 +97,8 @@ impl<T: ArchivePointee> Spot<T> {
         self.pos
     }
 
-    /// The view of what stands there. Asks that the part lies in a buffer that was checked, as it does in that from which the spot was had. Our own.
+    /// The view of what lies there. The caller must ensure that the part is one of a validated
+    /// buffer, as in that from which the spot came. Our own.
     pub fn view(self, bytes: &[u8]) -> Ref<'_, T>
         requires { Viewed T.definitions bytes.now self.pos T.pointee self.len }
         ensures buffer { result.bytes.now ≡ bytes.now }
@@ -95,8 +112,9 @@ impl<T: ArchivePointee> Spot<T> {
         })
     }
 
-    /// The seal of what stands there. Asks that the part lies in a buffer that was checked, as it does in that from which the spot was had. No byte
-    /// changes. What is called on the seal afterwards changes these very bytes. Our own.
+    /// The seal of what lies there. The caller must ensure that the part is one of a validated
+    /// buffer, as in that from which the spot came. No byte changes; calls on the seal change these
+    /// very bytes. Our own.
     pub fn seal<'a>(self, bytes: &'a mut [u8]) -> Seal<'a, T>
         requires { Viewed T.definitions bytes.old self.pos T.pointee self.len }
         ensures same_reference { result.bytes.ghost_name ≡ bytes.entry.ghost_name }
@@ -116,7 +134,7 @@ impl<T: ArchivePointee> Spot<T> {
 
 /// The call `spot` of a view. Our own.
 pub trait SpotExt<T> {
-    /// Where what the view shows stands, without its bytes.
+    /// Where what the view shows lies, without its bytes.
     fn spot(self) -> Spot<T>;
 }
 
@@ -139,8 +157,8 @@ impl<'a, T: ArchivePointee> Seal<'a, T> {
         self.pos
     }
 
-    /// A view of what it shows. Asks that this is a part of a buffer that was checked, as it is when the seal is made. No byte changes. Our own, where
-    /// rkyv 0.8.18 has `Deref`.
+    /// A view of what it shows. The caller must ensure that this is a part of a validated buffer,
+    /// as when the seal was made. Our own, for `Deref` of rkyv 0.8.18.
     pub fn as_ref(&self) -> Ref<'_, T>
         requires { Viewed T.definitions self.now.bytes.now self.now.pos T.pointee self.now.len }
         ensures buffer { result.bytes.now ≡ self.now.bytes.now }

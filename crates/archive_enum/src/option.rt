@@ -31,7 +31,8 @@ impl<T> ArchivedOption<T> {
         }
     }
 
-    /// The value. Asks that there is one, where rkyv 0.8.18 panics; as `Option::unwrap`.
+    /// The value. The caller must ensure that there is one, where rkyv 0.8.18 panics; as
+    /// `Option::unwrap`.
     pub fn unwrap(self) -> T
         requires { IsSome (option_of self) }
         ensures { option_of self ≡ OfSome result }

@@ -33,7 +33,8 @@ impl<T, E> ArchivedResult<T, E> {
         }
     }
 
-    /// The value. Asks that it is an `Ok`, where rkyv 0.8.18 panics; as `Result::unwrap`.
+    /// The value. The caller must ensure that it is an `Ok`, where rkyv 0.8.18 panics; as
+    /// `Result::unwrap`.
     pub fn unwrap(self) -> T
         requires { IsOk (result_of self) }
         ensures { result_of self ≡ OfOk result }

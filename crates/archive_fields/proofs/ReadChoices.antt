@@ -88,10 +88,10 @@ module _ (D : Definitions) (X : Shape) (name : Name) (E : Definitions) (vs : Var
     }
 
   -- in a contract's form
-  pub variant_read : {keeps : Bool} {T : Type 0} (old new : Entries) (meanings : T → Values) (keys : T → List Naming) (r : Result T Error) → IfOk r (λ t. PartsReadBack keeps bytes q F ps 1 old new (meanings t) (keys t))
+  pub variant_read : (keeps : Bool) {T : Type 0} (old new : Entries) (meanings : T → Values) (keys : T → List Naming) (r : Result T Error) → IfOk r (λ t. PartsReadBack keeps bytes q F ps 1 old new (meanings t) (keys t))
       → IfOk r (λ t. ReadsBack keeps D bytes q (one X) n old new (case tag (meanings t)) (keys t))
-  variant_read old new meanings keys (Ok t) h = variant_read_back old new (meanings t) (keys t) h
-  variant_read old new meanings keys (Err e) h = tt
+  variant_read keeps old new meanings keys (Ok t) h = variant_read_back old new (meanings t) (keys t) h
+  variant_read keeps old new meanings keys (Err e) h = tt
 
   pub variant_refuses : (told : Entries) (e : Error) → RefusesParts F bytes q ps 1 told e → RefusesReading D bytes q (one X) n told e
   variant_refuses told e (inl memory) = inl memory

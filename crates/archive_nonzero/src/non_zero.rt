@@ -21,8 +21,8 @@ use std::fmt;
 use std::hash::{Hash, Hasher};
 use std::marker::Model;
 
-/// A number that isn't 0, as an archive holds it: its bytes, the lowest first. In a contract it is its number. It stands where rkyv 0.8.18 has the
-/// types of rend, one for each number.
+/// A number that isn't 0, as an archive holds it: its bytes, the lowest first. In a contract it is
+/// its number. In its place rkyv 0.8.18 has the types of rend, one for each number.
 #[derive(Copy, PartialEq, Eq, PartialOrd, Ord, Hash, Debug)]
 pub struct NonZero<N: Integer> {
     number: N,
@@ -49,7 +49,8 @@ impl<N: Integer> Clone for NonZero<N> {
 }
 
 impl<N: Integer> NonZero<N> {
-    /// The archived form of `number`. Asks that it isn't 0, which `Integer::is_zero` tells; it is never refused.
+    /// The archived form of `number`. The caller must ensure that it isn't 0, which
+    /// `Integer::is_zero` tells; it never fails.
     pub fn from_native(number: N) -> NonZero<N>
         requires { is_zero (N.value_of number) ≡ false }
         ensures { result ≡ number }

@@ -19,8 +19,8 @@ use std::fmt;
 use std::hash::{Hash, Hasher};
 use std::marker::Model;
 
-/// A number as an archive holds it: its bytes, the lowest first. In a contract it is its number. It stands where rkyv 0.8.18 has the types of rend,
-/// one for each number.
+/// A number as an archive holds it: its bytes, the lowest first. In a contract it is its number. In
+/// its place rkyv 0.8.18 has the types of rend, one for each number.
 #[derive(Clone, Copy, PartialEq, Eq, PartialOrd, Ord, Hash, Debug)]
 pub struct LittleEndian<N> {
     number: N,
@@ -35,7 +35,7 @@ impl<N> Model for LittleEndian<N> {
 }
 
 impl<N: Native> LittleEndian<N> {
-    /// The archived form of a number. It asks nothing and is never refused.
+    /// The archived form of a number. It never fails.
     pub fn from_native(number: N) -> LittleEndian<N>
         ensures { result ≡ number }
     {

@@ -17,7 +17,8 @@ mod others;
 mod signed;
 mod unsigned;
 
-/// A value of the machine, and the bytes that stand for it: a number, a bool, a char, or nothing. Our own: rkyv 0.8.18 has code for each type.
+/// A native value, and the bytes that stand for it: a number, a bool, a char, or nothing. Our own:
+/// rkyv 0.8.18 has code for each type.
 pub trait Native: Copy + Ord + Hash {
     // The leaf that it is archived as.
     ghost kind: { KindOf };
@@ -48,14 +49,16 @@ pub trait Native: Copy + Ord + Hash {
     fn byte_count() -> usize
         ensures { result ≡ byte_count };
 
-    /// Writes the bytes that stand for `self` over `out`, the lowest first. Asks that `out` has `byte_count` bytes.
+    /// Writes the bytes that stand for `self` over `out`, the lowest first. The caller must ensure
+    /// that `out` has `byte_count` bytes.
     fn write_to(self, out: &mut [u8])
         requires { length out.old ≡ byte_count }
         ensures bytes { out.new ≡ bytes_of self }
         ensures fits { fits self };
 
-    /// The value that `bytes` stand for, the lowest first. Asks that they are `byte_count` bytes, and that they stand for a value of the type, as those
-    /// do that are a leaf of its kind (`archive_check::format::leaf::is_legal`).
+    /// The value that `bytes` stand for, the lowest first. The caller must ensure that they are
+    /// `byte_count` bytes, and that they stand for a value of the type, as those do that are a leaf
+    /// of its kind (`archive_check::format::leaf::is_legal`).
     fn read_from(bytes: &[u8]) -> Self
         requires length { length bytes.now ≡ byte_count }
         requires legal { are_legal bytes.now }

@@ -8,8 +8,8 @@ ghost use Rattle.archive_num.specs.Distances.{GivesDistance, GivesNumber};
 use crate::{Integer, LittleEndian};
 use archive_check::format::error::Error;
 
-/// How far it is from one position to another, in bytes. Refused with `IsizeOverflow`, 2, exactly where the difference doesn't fit `isize`. As in rkyv
-/// 0.8.18.
+/// How far it is from one position to another, in bytes. Fails with `IsizeOverflow` exactly if the
+/// difference doesn't fit `isize`. As in rkyv 0.8.18.
 #[inline(always)]
 pub fn signed_offset(from: usize, to: usize) -> Result<isize, Error>
     ensures { GivesDistance from to result }
@@ -22,7 +22,8 @@ pub fn signed_offset(from: usize, to: usize) -> Result<isize, Error>
 
 /// A number of the machine that an offset may be: of at most 64 bits. Our own, so that each format of it is one implementation of `Offset`.
 pub trait OffsetNumber: Integer {
-    /// The number that is this distance, in bytes. Refused with `OffsetOverflow`, 3, exactly where it doesn't fit the type.
+    /// The number that is this distance, in bytes. Fails with `OffsetOverflow` exactly if it
+    /// doesn't fit the type.
     fn from_distance(distance: isize) -> Result<Self, Error>
         ensures { GivesNumber Self.value_of Self.sign Self.width distance result };
 
@@ -156,7 +157,8 @@ pub trait Offset: Copy {
     fn to_number(self) -> Self::Number
         ensures { result ≡ number_in self };
 
-    /// The offset of this distance, in bytes. Refused with `OffsetOverflow`, 3, exactly where it doesn't fit.
+    /// The offset of this distance, in bytes. Fails with `OffsetOverflow` exactly if it doesn't
+    /// fit.
     final fn from_isize(value: isize) -> Result<Self, Error>
         ensures { GivesNumber (λ o. Self.Number.value_of (Self.number_in o)) Self.Number.sign Self.Number.width value result }
     {

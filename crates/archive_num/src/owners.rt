@@ -24,9 +24,10 @@ fn emplace_owner(target: usize, pos: usize, bytes: &mut [u8]) -> Result<(), Erro
     Ok(())
 }
 
-/// Writes over the eight bytes of an owner at `pos` that it leads to `target`, both in bytes from the buffer's first one, and behind the offset the
-/// length `count`. Asks for its eight bytes. Refused with `IsizeOverflow`, 2, exactly where the distance doesn't fit `isize`, and else with
-/// `OffsetOverflow`, 3, exactly where it doesn't fit 32 bits; the bytes are then unchanged. Our own: in rkyv 0.8.18 each pointer writes its parts.
+/// Writes over the eight bytes of an owner at `pos` that it leads to `target`, with the length
+/// `count`. Fails with `IsizeOverflow` exactly if the distance doesn't fit `isize`, else with
+/// `OffsetOverflow` exactly if it doesn't fit 32 bits; the bytes are then unchanged. Our own: in
+/// rkyv 0.8.18 each pointer writes its parts.
 #[inline(always)]
 pub fn emplace_long_owner(
     target: usize,
@@ -47,8 +48,8 @@ pub fn emplace_long_owner(
     Ok(())
 }
 
-/// The same over as many bytes as the pointer has: eight, with the length behind the offset, where `is_long` holds, and else four with no length, which
-/// asks that `count` is 0. Our own.
+/// The same over as many bytes as the pointer has: eight, with the length behind the offset, where
+/// `is_long` holds, and else four with no length, which requires that `count` is 0. Our own.
 #[inline(always)]
 pub fn emplace_pointer(
     is_long: bool,

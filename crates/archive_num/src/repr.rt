@@ -14,8 +14,8 @@ pub const INLINE_CAPACITY: usize = 8;
 /// A string's text of more bytes than these can't be archived. As in rkyv 0.8.18.
 pub const OUT_OF_LINE_CAPACITY: usize = 1_073_741_823;
 
-/// Writes a short text over the string's bytes, and 0xff over those that it leaves. Asks for a text of at most `INLINE_CAPACITY` bytes and for the
-/// eight bytes of the string; it is never refused.
+/// Writes a short text over the string's bytes, and 0xff over those that it leaves. Requires a text
+/// of at most `INLINE_CAPACITY` bytes and the eight bytes of the string; it never fails.
 #[inline(always)]
 pub fn emplace_inline(value: &str, out: &mut [u8])
     requires short { length value.now ≤ 8 }
@@ -37,10 +37,11 @@ fn coded(len: usize) -> u32
     ((len & 0x3f) | 0x80 | ((len & !0x3f) << 2)) as u32
 }
 
-/// Writes over the bytes of the string at `pos` that its text stands at `target`, both in bytes from the buffer's first one. Asks for a text of more
-/// than `INLINE_CAPACITY` and at most `OUT_OF_LINE_CAPACITY` bytes, and for the eight bytes of the string. Refused with `IsizeOverflow`, 2, exactly
-/// where the offset doesn't fit `isize`, and else with `OffsetOverflow`, 3, exactly where it doesn't fit 32 bits; the bytes are then unchanged,
-/// where rkyv 0.8.18 has written the length.
+/// Writes over the eight bytes of the string at `pos` that its text lies at `target`. The caller
+/// must ensure that the text has more than `INLINE_CAPACITY` and at most `OUT_OF_LINE_CAPACITY`
+/// bytes. Fails with `IsizeOverflow` exactly if the offset doesn't fit `isize`, else with
+/// `OffsetOverflow` exactly if it doesn't fit 32 bits; the bytes are then unchanged, where rkyv
+/// 0.8.18 has written the length.
 #[inline(always)]
 pub fn try_emplace_out_of_line(
     value: &str,

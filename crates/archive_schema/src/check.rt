@@ -76,8 +76,9 @@ impl Checker<'_> {
         Some(self.variants[first + tag])
     }
 
-    /// The variant that the tag at `at` names, of those from `first` up to `last` of the choice of this name. Refused with 24 where it names
-    /// none. It stands in its callers, since what it answers is wide.
+    /// The variant that the tag at `at` names, of those from `first` up to `last` of the choice of
+    /// this name. Fails with `InvalidDiscriminant` if it names none. It stands in its callers,
+    /// since what it returns is wide.
     #[inline(always)]
     pub fn chosen(
         &self,

@@ -58,9 +58,13 @@ impl Schema {
     ghost use Rattle.archive_check.specs.Archives.{ExplainsNoSchema};
     ghost use Rattle.archive_check.specs.Expressions.{shape_of};
 
-    /// The schema of `T`: its expression and the definitions of all names that it reaches, compiled. Memory comes from `alloc`, also that which a
-    /// check takes. Refused with `OutOfMemory`, 1, where memory is refused, with `ShapeConflict`, 30, exactly where a name that is reached has none
-    /// or two definitions, and else with `RecursiveLayout`, 31, exactly where a name holds itself other than behind a pointer.
+    /// The schema of `T`: its expression and the definitions of all names that it reaches,
+    /// compiled. Memory comes from `alloc`, also that which a check takes.
+    ///
+    /// Errors:
+    /// - `OutOfMemory`: memory is refused.
+    /// - `ShapeConflict`: exactly if a name that is reached has none or two definitions.
+    /// - `RecursiveLayout`: else, exactly if a name contains itself other than behind a pointer.
     pub fn of<T: Portable>(alloc: Global) -> Result<Schema, Error>
         ensures made { IfOk result (λ s. IsSchemaOf s T.shape T.definitions) }
         ensures held { IfOk result (λ s. missing false (listed (definitions_in s)) T.shape ≡ None) }
@@ -80,9 +84,10 @@ impl Schema {
         })
     }
 
-    /// The layout of an expression, in bytes. It asks that each name that `expr` holds, other than behind a pointer, is defined in the schema, as
-    /// those of the type's own expression are. It takes no memory. Refused with `LayoutTooLarge`, 23, exactly where the size is above `usize::MAX`; an
-    /// array of nothing has size 0, whatever its element.
+    /// The layout of an expression, in bytes. The caller must ensure that each name that `expr`
+    /// holds, other than behind a pointer, is defined in the schema, as those of the type's own
+    /// expression are. It takes no memory. Fails with `LayoutTooLarge` exactly if the size is above
+    /// `usize::MAX`; an array of nothing has size 0, whatever its element.
     pub fn layout(&self, expr: &Expr) -> Result<Layout, Error>
         requires { missing false (listed (definitions_in self.now)) (shape_of expr.now) ≡ None }
         ensures meaning { HasMeaning self.now }
@@ -100,13 +105,14 @@ impl Schema {
         }
     }
 
-    /// Whether `bytes` hold a value of the schema at `pos`, in bytes from the first one. The order of the tests is our own; docs/FORMAT.md has it.
-    /// Asks that the context's range ends in the buffer. In a context for these bytes that met nothing yet the answer is exact: Ok where the buffer
-    /// is an archive with its root there and with no region too deep, and else the refusal of the first test that is false, with its fields
-    /// (12, 16 to 18 and 21 to 29 of docs/FORMAT.md). Refused with `OutOfMemory`, 1, where memory is refused for the list of what is left to check
-    /// or for a shared position. In any context with levels left a refusal is one of these (1, 12, 16 to 18, 21 to 29), and after a success levels are
-    /// left. Accepted or refused, in any context, it enters at most one region, and one for each four bytes of the context's range: 1 + n / 4 in n
-    /// bytes. What else a context is left with isn't said: make a new one for the next check.
+    /// Checks that `bytes` hold a value of the schema at `pos`. The caller must ensure that the
+    /// context's range ends in the buffer. Exact in a fresh context for these bytes. In any context
+    /// at most one region is entered, and one for each four bytes of its range; levels left before
+    /// a success are left after it.
+    ///
+    /// Errors:
+    /// - `OutOfMemory`: memory is refused.
+    /// - the first fault, in the order of docs/FORMAT.md; with levels left always one of a check.
     pub fn check<C: ArchiveContext + SharedContext>(
         &self,
         bytes: &[u8],

@@ -1,4 +1,5 @@
-//! Tuples, as archives hold them: their parts, one behind another. The names are those of rkyv 0.8.18.
+//! Tuples, as archives hold them: their parts, one after another. The names are those of rkyv
+//! 0.8.18.
 #![tactic(auto)]
 
 ghost use Rattle.std.specs.Prelude.{refl};

@@ -1,4 +1,5 @@
-//! Arrays: elements one behind another, where they lie. As sources they are written element by element, and so they are read back.
+//! Arrays: elements one after another, where they lie. As sources they are written element by
+//! element, and so they are read back.
 
 ghost use Rattle.std.specs.Prelude.{◌≡◌, ◌+◌, ◌-◌, ◌*◌, ◌<◌, ◌↔◌, IfSome, IsSome, IsTrue};
 ghost use Rattle.archive_check.specs.Shape.{one};
@@ -31,7 +32,8 @@ impl<'a, T: Portable, const N: usize> Ref<'a, [T; N]> {
         N == 0
     }
 
-    /// The element `index`, of which 0 is the first. Asks that there is one, where rkyv 0.8.18 panics.
+    /// The element `index`, of which 0 is the first. The caller must ensure that there is one,
+    /// where rkyv 0.8.18 panics.
     pub fn index(self, index: usize) -> Ref<'a, T>
         requires { index < N }
         ensures buffer { result.bytes.now ≡ self.entry.bytes.now }

@@ -1,4 +1,4 @@
-//! Choices: views of their tags and of what stands behind them, and places of their tags.
+//! Choices: views of their tags and of what is behind them, and places of their tags.
 
 ghost use Rattle.std.specs.Prelude.{◌≡◌, ◌+◌, ◌<◌, ◌^◌, Some, is_some, length, slice_index, slice_set, true};
 ghost use Rattle.archive_check.specs.Reads.{bytes_at};
@@ -44,7 +44,8 @@ impl<'a, T: Choice> Ref<'a, T> {
 }
 
 impl<'a, T: Choice> Place<'a, T> {
-    /// Writes the tag, which is the first byte; every other one stays. Asks that it names a variant, and that there is a byte. Our own.
+    /// Writes the tag, which is the first byte; every other one stays. The caller must ensure that
+    /// it names a variant, and that there is a byte. Our own.
     pub fn write_tag(&mut self, tag: u8)
         requires known { is_some (variant_at T.Variants.variants tag) ≡ true }
         requires some { 0 < length self.old.bytes.now }

@@ -1,5 +1,6 @@
-//! Comparisons: equality, order and hashes of views of one type, as in rkyv 0.8.18 of references to the archived type. They compare what the views
-//! show, wherever it lies; they are never refused, and take no memory.
+//! Comparisons: equality, order and hashes of views of one type, as in rkyv 0.8.18 of references to
+//! the archived type. They compare what the views show, wherever it lies; they never fail and take
+//! no memory.
 
 ghost use Rattle.std.specs.Prelude.{◌≡◌, List, ℕ, IsTrue, fold, refl};
 ghost use Rattle.std.specs.Cmp.{IsTotalOrder, on_total, on_per, on_equiv, on_po, partial_equiv_from_equiv, eq_by_cmp_equiv, partial_order_from_total};
@@ -28,7 +29,19 @@ pub use native::CompareNative;
 use std::cmp::Ordering;
 use std::hash::{Hash, Hasher};
 
-/// What is compared where its views are. Our own: rkyv 0.8.18 has code for each type.
+/// Gives the views of an archived type their equality, order and hash: those of the values that
+/// they mean.
+///
+/// Numbers, `bool`, `char`, texts, strings, slices, vectors, boxes, options, results and acyclic
+/// shared pointers implement it. Callers use the operators of views:
+///
+/// ```
+/// let first = access::<ArchivedString>(alloc, one.as_slice())?;
+/// let second = access::<ArchivedString>(alloc, other.as_slice())?;
+/// let is_less = first < second;
+/// ```
+///
+/// Our own: rkyv 0.8.18 has code for each type.
 pub trait Ordered: ArchivePointee {
     // The order of two parts.
     ghost order: { Standing → Standing → Order };
@@ -36,13 +49,13 @@ pub trait Ordered: ArchivePointee {
     // What a part feeds a hasher.
     ghost hash_input: { Standing → List (List ℕ) };
 
-    /// The order of what two parts show. Asks that both were checked.
+    /// The order of what two parts show. The caller must ensure that both were validated.
     fn compare(a: RawView<'_>, b: RawView<'_>) -> Ordering
         requires first { Viewed Self.definitions a.bytes.now a.pos Self.pointee a.len }
         requires second { Viewed Self.definitions b.bytes.now b.pos Self.pointee b.len }
         ensures { result ≡ order (part_shown a.entry) (part_shown b.entry) };
 
-    /// Feeds a hasher with what a part shows. Asks that it was checked.
+    /// Feeds a hasher with what a part shows. The caller must ensure that it was validated.
     fn hash_part<H: Hasher>(part: RawView<'_>, state: &mut H)
         requires { Viewed Self.definitions part.bytes.now part.pos Self.pointee part.len }
         ensures { state.new ≡ fold H.write state.old (hash_input (part_shown part.entry)) };

@@ -109,7 +109,8 @@ impl<T: Serialize<S>, S: Writer + ResolverAlloc> SerializeUnsized<S> for Option<
 }
 
 impl<'a, T: Portable> Ref<'a, ArchivedOption<T>> {
-    /// The view of the value, if there is one; as `Option::as_ref`. What stands behind a `None` isn't looked at.
+    /// The view of the value, if there is one; as `Option::as_ref`. What is behind a `None` isn't
+    /// looked at.
     pub fn as_ref(self) -> Option<Ref<'a, T>>
         ensures tag { MatchOption result (tag_of self.entry ≡ 0) (λ v. tag_of self.entry ≡ 1) }
         ensures buffer { IfSome result (λ v. v.bytes.now ≡ self.entry.bytes.now) }

@@ -54,9 +54,11 @@ pub trait SourceParts<T> {
     // The resolvers are those of these values.
     ghost belongs: { T → Self.Resolvers → Type 0 };
 
-    /// Writes the archived parts over `bytes`, which stand at the offset `start` of what begins at `pos`: each at the next multiple of its alignment,
-    /// which is counted from there. Asks that the bytes are zeros, that the parts end in them, and that the resolvers are those of these parts.
-    /// Refused as the parts are: with `IsizeOverflow`, 2, or `OffsetOverflow`, 3, where an offset doesn't fit.
+    /// Writes the archived parts over `bytes`, which lie at the offset `start` of what begins at
+    /// `pos`: each at the next multiple of its alignment, which is counted from there. The caller
+    /// must ensure that the bytes are zeros, that the parts end in them, and that the resolvers are
+    /// those of these parts. Fails as the parts do: with `IsizeOverflow` or `OffsetOverflow` if an
+    /// offset doesn't fit.
     fn resolve_parts(
         whole: &T,
         resolvers: Self::Resolvers,
@@ -169,9 +171,10 @@ impl<A: Archive, R: OwnedParts> OwnedParts for (A, R) {
 
 /// Archived parts that can be read back as the values `T`, one after another.
 pub trait DeserializeParts<T: OwnedParts, D: Entries>: PortableParts {
-    /// The values that lie in `bytes` from the offset `start` on of what begins at `pos`. Asks that they lie in a buffer that was checked, as the parts of
-    /// a view do. Memory comes from `alloc`: refused with `OutOfMemory`, 1, where it is refused, and with `CyclicDeserialize`, 13, only where a shared
-    /// position is met that is still being read.
+    /// The values that lie in `bytes` from the offset `start` on of what begins at `pos`. The
+    /// caller must ensure that they lie in a validated buffer, as the parts of a view do. Memory
+    /// comes from `alloc`. Fails with `OutOfMemory` if it is refused, and with `CyclicDeserialize`
+    /// only if a shared position is met that is still being read.
     fn deserialize_parts(
         alloc: Global,
         bytes: &[u8],

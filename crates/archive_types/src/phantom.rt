@@ -29,7 +29,7 @@ use archive_write::ser::{ResolverAlloc, Writer};
 use std::alloc::Global;
 use std::marker::PhantomData;
 
-/// It is never refused, and takes no byte. As in rkyv 0.8.18.
+/// It never fails, and takes no byte. As in rkyv 0.8.18.
 impl<T> Archive for PhantomData<T> {
     type Archived = PhantomData<T>;
 

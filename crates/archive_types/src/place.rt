@@ -10,11 +10,13 @@ use std::marker::PhantomData;
 
 mod filling;
 
-/// The bytes that an archived `T` is to have, and the position of the first one in the buffer. What implements `Archive` takes it apart by a
-/// pattern, so that its caller knows the bytes afterwards. It stands where rkyv 0.8.18 has a place over a raw pointer.
+/// The bytes that an archived `T` is to have, and the position of the first one in the buffer. What
+/// implements `Archive` takes it apart by a pattern, so that its caller knows the bytes afterwards.
+/// In its place rkyv 0.8.18 has a place over a raw pointer.
 #[derive(Drop)]
 pub struct Place<'a, T> {
-    /// The bytes: as many as a `T` has, all of them 0 before something is written. `resolve` asks for both.
+    /// The bytes: as many as a `T` has, all of them 0 before something is written. `resolve`
+    /// requires both.
     pub bytes: &'a mut [u8],
     /// Where they stand, in bytes from the buffer's first one.
     pub pos: usize,
@@ -22,8 +24,8 @@ pub struct Place<'a, T> {
 }
 
 impl<'a, T> Place<'a, T> {
-    /// The place of these bytes, which stand at `pos`, in bytes from the buffer's first one. It asks nothing; what takes the place asks for the size
-    /// that a `T` has. Our own.
+    /// The place of these bytes, which lie at `pos`, in bytes from the buffer's first one. What
+    /// takes the place asks for the size that a `T` has. Our own.
     #[inline(always)]
     pub fn new(pos: usize, bytes: &'a mut [u8]) -> Place<'a, T>
         ensures same_reference { result.bytes.ghost_name ≡ bytes.entry.ghost_name }
@@ -62,8 +64,9 @@ impl<'a, T> Place<'a, T> {
 }
 
 impl<'a, T: SealedLeaf> Place<'a, T> {
-    /// Writes a number, bool or char as its bytes, the lowest first. Asks that the place has as many, and for a `NonZero` a number that isn't 0. As in
-    /// rkyv 0.8.18, where whatever is archived is written so.
+    /// Writes a number, bool or char as its bytes, the lowest first. The caller must ensure that
+    /// the place has as many, and for a `NonZero` a number that isn't 0. As in rkyv 0.8.18, where
+    /// whatever is archived is written so.
     pub fn write(&mut self, value: T::Written)
         requires sized { length self.old.bytes.now ≡ T.Written.byte_count }
         requires can_hold { T.can_hold value }

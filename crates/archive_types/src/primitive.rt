@@ -1,5 +1,5 @@
-//! Numbers, bools, chars and `()`: their formats, and how they are archived and read back, as in rkyv 0.8.18. None of them is ever refused but a
-//! `usize` or `isize` that doesn't fit 32 bits: `NumberTooLarge`, 6.
+//! Numbers, bools, chars and `()`: their formats, and how they are archived and read back, as in
+//! rkyv 0.8.18. None fails but a `usize` or `isize` that doesn't fit 32 bits: `NumberTooLarge`.
 
 ghost use Rattle.std.specs.Prelude.{◌≡◌, ℕ, length, IfOk, IsOk};
 ghost use Rattle.archive_check.specs.Shape.{leaf, one};
@@ -35,12 +35,13 @@ use blocks::read_blocks;
 pub use leaves::Leaf;
 pub use sealed::SealedLeaf;
 
-/// A value of the machine that is archived as the bytes that stand for it. Our own, so that one implementation archives all of them.
+/// A native value that is archived as the bytes that stand for it. Our own, so that one
+/// implementation archives all of them.
 pub trait Source: Native {
     /// Its archived type.
     type Format: Portable;
 
-    /// What stands in a pointer to it beside the offset: nothing.
+    /// What is in a pointer to it beside the offset: nothing.
     fn metadata() -> <Self::Format as ArchivePointee>::ArchivedMetadata
         ensures { Self.Format.metadata_length result ≡ 0 };
 
@@ -57,7 +58,8 @@ pub trait Plain: Source + Portable {
     ghost same_pointee: { Self.pointee ≡ one (leaf Self.kind) };
 }
 
-/// Writes the bytes of a leaf: wherever they stand, they are read as the value. Asks for as many bytes as the value has. Our own.
+/// Writes the bytes of a leaf: wherever they lie, they are read as the value. Requires as many
+/// bytes as the value has. Our own.
 #[inline(always)]
 pub fn write_leaf<N: Native>(value: N, bytes: &mut [u8])
     requires { length bytes.old ≡ N.byte_count }

@@ -37,7 +37,8 @@ pub trait Flavor {
         ensures { result.now ≡ name };
 }
 
-/// A flavor whose values never hold a pointer to themselves: what compares pointees, or reads them back at each pointer, asks for one. Our own.
+/// A flavor whose values never hold a pointer to themselves: what compares pointees, or reads them
+/// back at each pointer, requires one. Our own.
 pub trait Acyclic: Flavor {
     ghost acyclic: { Self.ALLOW_CYCLES ≡ false };
 }

@@ -1,4 +1,5 @@
-//! Records by their parts: what an own type's impls call. Our own, where rkyv 0.8.18 derives the impls.
+//! Records by their parts: what the impls of a user-defined record call. Our own, where rkyv 0.8.18
+//! derives the impls.
 
 ghost use Rattle.std.specs.Prelude.{◌≡◌, length, IfOk, OnOk, IfErr};
 ghost use Rattle.archive_check.specs.Entries.{ReadsBack, RefusesReading};
@@ -20,8 +21,8 @@ use archive_check::format::error::Error;
 use archive_write::ser::Writer;
 use std::alloc::Global;
 
-/// Writes what the parts of a record own, one after another, and answers their resolvers. It asks nothing. Refused as `Serialize::serialize` is, for
-/// a cause of one of the parts.
+/// Writes what the parts of a record own, one after another, and returns their resolvers. Fails as
+/// `Serialize::serialize` does, for a cause of one of the parts.
 #[tactic(auto, using(crate::proofs::Planning::PlannedParts::serialized_record, crate::proofs::Planning::PlannedParts::record_refused))]
 #[inline(always)]
 pub fn serialize_record<
@@ -38,9 +39,10 @@ pub fn serialize_record<
     P::serialize_parts(whole, serializer)
 }
 
-/// Writes the archived record over the bytes of `place`, part by part, each at its offset; between them and behind the last one zeros stay. Asks that
-/// the bytes are zeros, as many as the record has, and that the resolvers are those of these parts. Refused as the parts are: with `IsizeOverflow`,
-/// 2, or `OffsetOverflow`, 3, where an offset doesn't fit.
+/// Writes the archived record over the bytes of `place`, part by part, each at its offset; between
+/// them and behind the last one zeros stay. The caller must ensure that the bytes are zeros, as
+/// many as the record has, and that the resolvers are those of these parts. Fails as the parts do:
+/// with `IsizeOverflow` or `OffsetOverflow` if an offset doesn't fit.
 #[inline(always)]
 pub fn resolve_record<T, P: SourceParts<T>, X: Record<Parts = P::Archived>>(
     whole: &T,
@@ -57,8 +59,9 @@ pub fn resolve_record<T, P: SourceParts<T>, X: Record<Parts = P::Archived>>(
     P::resolve_parts(whole, resolvers, pos, 0, bytes)
 }
 
-/// The values of a record's parts, which `part` shows, one after another. Asks for what a view promises of it. Memory comes from `alloc`: refused with
-/// `OutOfMemory`, 1, where it is refused, and with `CyclicDeserialize`, 13, only where a shared position is met that is still being read.
+/// The values of a record's parts, which `part` shows, one after another. Requires what a view
+/// promises of it. Memory comes from `alloc`. Fails with `OutOfMemory` if it is refused, and with
+/// `CyclicDeserialize` only if a shared position is met that is still being read.
 #[inline(always)]
 pub fn deserialize_record<X: Record, T: OwnedParts, D: Entries>(
     alloc: Global,

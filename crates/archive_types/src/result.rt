@@ -114,7 +114,8 @@ impl<T: Serialize<S>, E: Serialize<S>, S: Writer + ResolverAlloc> SerializeUnsiz
 }
 
 impl<'a, T: Portable, E: Portable> Ref<'a, ArchivedResult<T, E>> {
-    /// The view of the value or of the error; as `Result::as_ref`. What stands behind it isn't looked at.
+    /// The view of the value or of the error; as `Result::as_ref`. What is behind it isn't looked
+    /// at.
     pub fn as_ref(self) -> Result<Ref<'a, T>, Ref<'a, E>>
         ensures tag { MatchResult result (λ v. tag_of self.entry ≡ 0) (λ e. tag_of self.entry ≡ 1) }
         ensures buffer { MatchResult result (IsBufferOf self.entry) (IsBufferOf self.entry) }

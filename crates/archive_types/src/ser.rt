@@ -207,11 +207,15 @@ pub(crate) fn run_fits(pos: usize, count: usize, size: usize) -> bool
 
 /// The regions that every writer can take. rkyv 0.8.18 has the call in `WriterExt`.
 pub trait ResolveExt: Writer {
-    /// Resolves `value` into the next region and writes it; answers the region's position, in bytes from the first one. Asks that the writer stands
-    /// at a multiple of the archived type's alignment, as `align_for` leaves it, and that the resolver is one of this value. Memory for a region
-    /// above 64 bytes comes from `alloc`: refused with `OutOfMemory`, 1, where it is refused, with `LayoutTooLarge`, 23, where the region would end
-    /// above `usize::MAX`, with what `resolve` refuses with, or as the writer refuses (`BufferOverflow`, 8; `WriterFailed`, 9). After a refusal,
-    /// too, the bytes from before are a beginning of those that the writer holds.
+    /// Resolves `value` into the next region, writes it, and returns its position in bytes. The
+    /// caller must ensure that the writer is at a multiple of the type's alignment, as after
+    /// `align_for`, and that the resolver is one of this value. Existing bytes stay, after a
+    /// failure too.
+    ///
+    /// Errors:
+    /// - `OutOfMemory`: memory from `alloc`, for a region above 64 bytes, is refused.
+    /// - `LayoutTooLarge`: the region would end above `usize::MAX`.
+    /// - those of `resolve` and of the writer.
     #[inline(always)]
     final fn resolve_aligned<A: Allocator + Drop, T: Archive>(
         &mut self,
@@ -233,12 +237,15 @@ pub trait ResolveExt: Writer {
         resolve_next(self, alloc, value, resolver)
     }
 
-    /// Resolves `values`, one after another, into the next region and writes it; answers the region's position, in bytes from the first one. Asks
-    /// that the writer stands at a multiple of the archived type's alignment, as `align_for` leaves it, and for a resolver of each value, in order.
-    /// Memory for a value above 64 bytes comes from `alloc`, once for all: refused with `OutOfMemory`, 1, where it is refused, with
-    /// `LayoutTooLarge`, 23, where the region would end above `usize::MAX`, with what `resolve` refuses with, or as the writer refuses
-    /// (`BufferOverflow`, 8; `WriterFailed`, 9). After a refusal, too, the bytes from before are a beginning of those that the writer holds. Our own:
-    /// rkyv 0.8.18 has it within `serialize_unsized` of a slice.
+    /// Resolves `values`, in order, into the next region, writes it, and returns its position in
+    /// bytes. The caller must ensure that the writer is at a multiple of the type's alignment, and
+    /// that the resolvers are those of the values. Existing bytes stay. rkyv 0.8.18 has it within a
+    /// slice's `serialize_unsized`.
+    ///
+    /// Errors:
+    /// - `OutOfMemory`: memory from `alloc`, for values above 64 bytes, is refused.
+    /// - `LayoutTooLarge`: the region would end above `usize::MAX`.
+    /// - those of `resolve` and of the writer.
     #[tactic(auto, using(crate::proofs::Writing::RunRegions::run_too_large, crate::proofs::Planning::Causes::goes_nowhere))]
     #[inline(always)]
     final fn resolve_slice_aligned<A: Allocator + Drop, T: Archive, B: Allocator + Drop>(
@@ -271,11 +278,15 @@ pub trait ResolveExt: Writer {
         Ok(pos)
     }
 
-    /// Writes a pointer to the region of `value`, which stands at `to`: an offset of four bytes, and behind it the length, of four, where `value` is a
-    /// slice or a text. Answers the pointer's position, in bytes from the first one. Asks that the writer stands at a multiple of four. It takes no
-    /// memory. Refused with `LengthTooLarge`, 5, exactly where the length is above 4,294,967,295, with `LayoutTooLarge`, 23, where the pointer would end
-    /// above `usize::MAX`, else exactly where the offset doesn't fit, with `IsizeOverflow`, 2, or `OffsetOverflow`, 3, nothing being written, or as the writer refuses
-    /// (`BufferOverflow`, 8; `WriterFailed`, 9). rkyv 0.8.18 has the call in `WriterExt`, and panics where the offset doesn't fit.
+    /// Writes a pointer to the region of `value` at `to`, and returns its position: an offset of
+    /// four bytes, with a length of four for a slice or text. The caller must ensure that the
+    /// writer is at a multiple of four. rkyv 0.8.18 panics.
+    ///
+    /// Errors, nothing being written but by the writer's:
+    /// - `LengthTooLarge`: exactly if the length is above 4,294,967,295.
+    /// - `LayoutTooLarge`: the pointer would end above `usize::MAX`.
+    /// - `IsizeOverflow`, `OffsetOverflow`: exactly if the offset doesn't fit.
+    /// - those of the writer.
     #[tactic(auto, using(crate::proofs::Writing::Owned::size_by_length, crate::proofs::Planning::Causes::goes_nowhere, crate::proofs::Planning::Causes::goes_written, crate::proofs::Planning::Causes::goes_refused))]
     #[inline(always)]
     final fn resolve_unsized_aligned<T: ArchiveUnsized>(
@@ -333,11 +344,14 @@ pub fn serialize_with<A: Allocator + Drop, S: Writer, T: Serialize<S>>(
     serializer.resolve_aligned(alloc, value, resolver)
 }
 
-/// Writes what `value` owns and then the value as a region of its own, at the next multiple of its alignment, and answers the region's position, in
-/// bytes from the first one. It asks nothing. Refused as the value's serialization or its resolving refuses, with `LayoutTooLarge`, 23, where the
-/// region would end above `usize::MAX`, with `OutOfMemory`, 1, where memory is refused, or as the writer refuses (`BufferOverflow`, 8;
-/// `WriterFailed`, 9). After a refusal, too, the bytes from before are a beginning of those that `serializer` holds, and known keys keep their
-/// states. Our own: rkyv 0.8.18 has it as `SerializeUnsized` of a value.
+/// Writes what `value` owns and then the value as a region, at the next multiple of its alignment,
+/// and returns the region's position in bytes. Existing bytes and known keys stay, after a failure
+/// too. Our own: rkyv 0.8.18 has it as `SerializeUnsized` of a value.
+///
+/// Errors:
+/// - `OutOfMemory`: memory is refused.
+/// - `LayoutTooLarge`: the region would end above `usize::MAX`.
+/// - those of the value's `serialize` and `resolve`, and of the writer.
 #[inline(always)]
 pub fn serialize_one<S: Writer + ResolverAlloc, T: Serialize<S>>(
     value: &T,

@@ -1,4 +1,4 @@
-//! Shared values: each is written once, and its key answers where.
+//! Shared values: each is written once, and its key returns where.
 
 ghost use Rattle.std.specs.Prelude.{◌≡◌, ◌⊎◌, None, Option, Some, ℕ, IfOk, IfErr, OnErr};
 ghost use Rattle.archive_check.specs.WriterState.{KeepsBytes, KeepsKeys};
@@ -15,11 +15,14 @@ pub use archive_write::sharing::{Share, Sharing, SharingState};
 
 /// What everything that writes and keeps shared keys can do besides. As in rkyv 0.8.18, with a key in place of an address.
 pub trait SharingExt: Sharing + Writer {
-    /// Writes `value` where `key` is unknown, finishes the key there and answers the position, in bytes from the first one; of a finished key
-    /// answers the kept position and writes nothing, whatever `value` is: a key should name one value, and nothing tests it. Refused with
-    /// `CyclicSerialize`, 11, where the key is pending, so that its value holds itself; nothing changes then. Else refused with `OutOfMemory`, 1,
-    /// where memory is refused, or as the value and the writer refuse; the key is then unknown or pending. Never refused with `NotStarted`, 14, or
-    /// `AlreadyFinished`, 15.
+    /// Writes `value` if `key` is unknown, finishes the key and returns the position in bytes; of a
+    /// finished key returns the kept position, whatever `value` is. A key should name one value;
+    /// nothing tests it.
+    ///
+    /// Errors, never `NotStarted` or `AlreadyFinished`:
+    /// - `CyclicSerialize`: the key is pending, so its value contains itself; nothing changes.
+    /// - `OutOfMemory`: memory is refused.
+    /// - those of the value and the writer; the key is then unknown or pending.
     #[tactic(auto, using(crate::proofs::Planning::Causes::goes_nowhere))]
     final fn serialize_shared<T: SerializeUnsized<Self>>(
         &mut self,

@@ -1,4 +1,4 @@
-//! Slices: elements one behind another, in a region of their own.
+//! Slices: elements one after another, in a region of their own.
 
 ghost use Rattle.std.specs.Prelude.{◌≡◌, ◌+◌, ◌*◌, ◌<◌, ◌↔◌, IfOk, IfErr, IfSome, IsSome, IsTrue};
 ghost use Rattle.archive_check.specs.Shape.{run};
@@ -28,7 +28,8 @@ pub(crate) use sources::{serialize_each, serialize_in_turn, serialize_slice};
 use std::alloc::Global;
 use std::marker::PhantomData;
 
-/// An archived slice: elements one behind another, as many as the pointer to it says. It stands where rkyv 0.8.18 has a slice of archived values.
+/// An archived slice: elements one after another, as many as the pointer to it says. In its place
+/// rkyv 0.8.18 has a slice of archived values.
 #[derive(Debug)]
 pub struct ArchivedSlice<T> {
     of: PhantomData<T>,
@@ -89,7 +90,8 @@ impl<'a, T: Portable> Ref<'a, ArchivedSlice<T>> {
         self.len() == 0
     }
 
-    /// The element `index`, of which 0 is the first. Asks that there is one. As in rkyv 0.8.18, which panics where there is none.
+    /// The element `index`, of which 0 is the first. The caller must ensure that there is one. As
+    /// in rkyv 0.8.18, which panics where there is none.
     pub fn index(self, index: usize) -> Ref<'a, T>
         requires { index < self.len }
         ensures buffer { result.bytes.now ≡ self.entry.bytes.now }

@@ -54,13 +54,13 @@ pub struct ArchivedString {
     _private: (),
 }
 
-/// An archived text in a region of its own. It stands where rkyv 0.8.18 has an archived `str`.
+/// An archived text in a region of its own. In its place rkyv 0.8.18 has an archived `str`.
 #[derive(Clone, Copy, Debug)]
 pub struct ArchivedStr {
     _private: (),
 }
 
-/// A borrowed text, as a source. It stands where rkyv 0.8.18 has `str`.
+/// A borrowed text, as a source. In its place rkyv 0.8.18 has `str`.
 #[derive(Clone, Copy, Debug)]
 pub struct Text<'a> {
     /// The text.
@@ -235,10 +235,13 @@ impl<D: Entries> DeserializeUnsized<String, D> for ArchivedStr {
 }
 
 impl ArchivedString {
-    /// Writes the text, if it is longer than eight bytes, and answers where. It asks nothing. Refused with `StringTooLong`, 7, exactly where it is
-    /// longer than 1,073,741,823 bytes, before anything is written, with `PositionTooLarge`, 4, where it was written above position 4,294,967,295, or
-    /// as the writer refuses (`OutOfMemory`, 1; `BufferOverflow`, 8; `WriterFailed`, 9). After a refusal, too, the bytes from before are a beginning
-    /// of those that `serializer` holds. rkyv 0.8.18 cuts such a position off.
+    /// Writes the text if it is longer than eight bytes, and returns the string's resolver.
+    /// Existing bytes stay, after a failure too. rkyv 0.8.18 truncates the position.
+    ///
+    /// Errors:
+    /// - `StringTooLong`: exactly if it has more than 1,073,741,823 bytes; nothing is written.
+    /// - `PositionTooLarge`: it lies above 4,294,967,295.
+    /// - those of the writer.
     #[tactic(auto, using(crate::proofs::Planning::Planned::serialized_inline, crate::proofs::Planning::Planned::serialized_out_of_line, crate::proofs::Planning::Planned::string_refused, crate::proofs::Planning::Planned::long_string_refused, crate::proofs::Planning::Planned::far_string_refused, crate::proofs::Planning::Causes::goes_nowhere))]
     #[inline(always)]
     pub fn serialize_from_str<S: Writer + Keys>(
@@ -267,9 +270,11 @@ impl ArchivedString {
         Ok(StringResolver { pos })
     }
 
-    /// Writes the string's bytes over those of `place`. Asks that these are eight, and that `value` has at most 1,073,741,823 bytes; `resolver` should
-    /// be the answer of `serialize_from_str` for it. Refused with `IsizeOverflow`, 2, or `OffsetOverflow`, 3, exactly where the offset to a text of
-    /// more than eight bytes doesn't fit; they are then unchanged. rkyv 0.8.18 panics there.
+    /// Writes the string's bytes over those of `place`. The caller must ensure that these are
+    /// eight, and that `value` has at most 1,073,741,823 bytes; `resolver` should be that of
+    /// `serialize_from_str`. Fails with `IsizeOverflow` or `OffsetOverflow` exactly if the offset
+    /// to a text of more than eight bytes doesn't fit; the bytes are then unchanged. rkyv 0.8.18
+    /// panics there.
     #[tactic(auto, using(crate::proofs::Writing::StringsWritten::resolves_inline_flat, crate::proofs::Writing::StringsWritten::resolves_out_of_line_flat))]
     #[inline(always)]
     pub fn resolve_from_str(

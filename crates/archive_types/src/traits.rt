@@ -37,11 +37,22 @@ pub use slices::{InBulk, InGroups, InTurn, WritesSlices};
 /// The archived type of a source.
 pub type Archived<T> = <T as Archive>::Archived;
 
-/// What stands in a pointer to an archived source beside its offset.
+/// What a pointer to an archived source has beside its offset.
 pub type ArchivedMetadata<T> =
     <<T as ArchiveUnsized>::Archived as ArchivePointee>::ArchivedMetadata;
 
-/// A source: what can be archived. As in rkyv 0.8.18, where `resolve` can't be refused and panics.
+/// A type whose values can be archived.
+///
+/// Numbers, strings, options, results, boxes, vectors, arrays, tuples and shared values implement
+/// it; for structs and enums `tools/derive` writes it. A value is written in two steps: `Serialize`
+/// writes what it owns, and `resolve` its own bytes. As in rkyv 0.8.18, whose `resolve` panics
+/// instead of failing.
+///
+/// ```
+/// let value = String::from_str(alloc, "hello world")?;
+/// let bytes = to_bytes(alloc, &value)?;
+/// let view = access::<Archived<String>>(alloc, bytes.as_slice())?;
+/// ```
 pub trait Archive {
     /// The archived type.
     type Archived: Portable;
@@ -64,9 +75,13 @@ pub trait Archive {
     // The resolver is one of this value.
     ghost belongs: { Self → Self.Resolver → Type 0 };
 
-    /// Writes the archived value over the bytes of `place`. Asks that these are zeros, as many as the archived type has, that their end fits `usize`,
-    /// and that `resolver` is one of this value. Refused with `IsizeOverflow`, 2, or `OffsetOverflow`, 3, where an offset doesn't fit, else with
-    /// what the value's parts refuse with.
+    /// Writes the value's own bytes over `place`. The caller must ensure that these are zeros, as
+    /// many as the archived type has, that their end fits `usize`, and that `resolver` is one of
+    /// this value.
+    ///
+    /// Errors:
+    /// - `IsizeOverflow`, `OffsetOverflow`: an offset doesn't fit.
+    /// - those of the value's parts.
     fn resolve(
         &self,
         resolver: Self::Resolver,
@@ -96,14 +111,28 @@ pub trait Archive {
     ghost planned: { (v : Self) → HasPlan Self.Archived.definitions Self.Archived.shape (keys v) (meaning v) };
 }
 
-/// A source that can be serialized to an `S`. As in rkyv 0.8.18.
+/// A source that can be written by a serializer `S`: a writer with what the value needs besides,
+/// memory for resolvers (`ResolverAlloc`) or shared keys (`Sharing`).
+///
+/// Each `Archive` type implements it. Callers use `api::to_bytes`, or a serializer of their own:
+///
+/// ```
+/// let mut serializer = Serializer::new(Vec::new(alloc), alloc, Share::new(alloc));
+/// let root = serialize_one(&value, &mut serializer)?;
+/// let bytes = serializer.into_writer();
+/// ```
+///
+/// As in rkyv 0.8.18.
 pub trait Serialize<S: Writer + Keys>: Archive {
     ghost use Rattle.archive_types.specs.Words.Sources.{Wrote, Refused};
 
-    /// Writes what the value owns, region by region, and answers what its archived form is resolved with. It asks nothing. Refused for a cause of the
-    /// value's own, as the writer refuses (`BufferOverflow`, 8; `WriterFailed`, 9), or with `OutOfMemory`, 1, where memory is refused; never with
-    /// `NotStarted`, 14, or `AlreadyFinished`, 15. After a refusal, too, the bytes from before are a beginning of those that `serializer` holds, and
-    /// each key that was known keeps its state.
+    /// Writes what the value owns, region by region, and returns what `resolve` needs. Existing
+    /// bytes and the states of known keys stay, after a failure too.
+    ///
+    /// Errors, never `NotStarted` or `AlreadyFinished`:
+    /// - `OutOfMemory`: memory is refused.
+    /// - `BufferOverflow`, `WriterFailed`: the writer's.
+    /// - an error caused by the value, such as `LengthTooLarge` or `CyclicSerialize`.
     fn serialize(&self, serializer: &mut S) -> Result<Self::Resolver, Error>
         ensures serialized { IfOk result (Wrote Self.Archive Self.Archived.Portable self.now S.Keys serializer) }
         ensures same_value { IfOk result (λ r. Self.belongs self.now r) }
@@ -111,21 +140,34 @@ pub trait Serialize<S: Writer + Keys>: Archive {
         ensures refused { IfErr result (Refused Self.Archive Self.Archived.Portable self.now S.Keys serializer) };
 }
 
-/// A format that can be read back as a `T`. As in rkyv 0.8.18, by views in place of references.
+/// An archived type whose views can be read back as a `T`. `D` keeps the shared values: `()` if
+/// there are none, else a `Pool`.
+///
+/// The archived type of each source implements it; for structs and enums `tools/derive` writes it.
+/// Callers use `api::from_bytes` or `deserialize`, implementors write `deserialize_part`.
+///
+/// ```
+/// let view = access::<ArchivedVec<ArchivedU32>>(alloc, bytes.as_slice())?;
+/// let numbers: Vec<u32> = api::deserialize(alloc, view, &mut ())?;
+/// ```
+///
+/// As in rkyv 0.8.18, by views in place of references.
 pub trait Deserialize<T: Archive, D: Entries>: ArchivePointee {
     ghost use Rattle.archive_types.specs.FirstRead.{AreFirstRead};
     ghost use Rattle.archive_types.specs.Words.Sources.{Read};
     ghost use Rattle.archive_types.specs.Views.{AreViewed};
 
-    /// What implements this trait writes this call, over the part of a view, and callers use `deserialize`. Asks for what a view promises of the part.
-    /// Our own.
+    /// What implementors write, over the part of a view; callers use `deserialize`. The caller must
+    /// ensure what a view promises of the part. Our own.
     fn deserialize_part(alloc: Global, part: RawView<'_>, deserializer: &mut D) -> Result<T, Error>
         requires { IsPartOf Self.ArchivePointee part }
         ensures read { IfOk result (Read Self.ArchivePointee part D.Entries deserializer T.Archive) }
         ensures refused { IfErr result (RefusesPart Self.ArchivePointee part D.Entries deserializer) };
 
-    /// Puts the first of `count` values that stand `step` bytes apart from the position `pos` on into `items`, in which there is nothing but room: as many
-    /// as are read many at once, by default none. The others are read by `deserialize_part`. Asks for what a view promises of each. Our own.
+    /// Reads the first of `count` values, which lie `step` bytes apart from the position `pos` on,
+    /// into `items`: as many as can be read in bulk, by default none. `deserialize_part` reads the
+    /// others. The caller must ensure what a view promises of each, and that `items` is empty with
+    /// room for all. Our own.
     #[inline(always)]
     fn deserialize_first(
         _alloc: Global,
@@ -143,9 +185,12 @@ pub trait Deserialize<T: Archive, D: Entries>: ArchivePointee {
         ensures read { AreFirstRead Self.definitions _bytes.now _pos _step Self.pointee T.meaning T.keys _items.new.items }
     {}
 
-    /// The value that the view shows, each shared value named by its position, as those are that `deserializer` keeps from before; it keeps what it
-    /// kept. Memory comes from `alloc`: refused with `OutOfMemory`, 1, where it is refused, and with `CyclicDeserialize`, 13, only where a shared
-    /// position is met that is still being read.
+    /// The value that the view shows, its shared values named by their positions. What
+    /// `deserializer` has kept stays.
+    ///
+    /// Errors:
+    /// - `OutOfMemory`: memory from `alloc` is refused.
+    /// - `CyclicDeserialize`: only if a shared position is met that is still being read.
     #[inline(always)]
     final fn deserialize(
         alloc: Global,
@@ -173,8 +218,8 @@ pub trait ArchiveUnsized {
     // The keys that it holds, with what each names.
     ghost keys: { Self → List Naming };
 
-    /// What stands in a pointer to it beside the offset. Refused with `LengthTooLarge`, 5, exactly where its length is above 4,294,967,295, where rkyv
-    /// 0.8.18 cuts it off.
+    /// What a pointer to it has beside the offset. Fails with `LengthTooLarge` exactly if the
+    /// length is above 4,294,967,295, where rkyv 0.8.18 truncates it.
     fn archived_metadata(&self) -> Result<ArchivedMetadata<Self>, Error>
         ensures value { IfOk result (λ m. Self.Archived.metadata_length m ≡ source_length self.now) }
         ensures refused { IfErr result (λ e. (e ≡ LengthTooLarge) × (4294967295 < source_length self.now)) }
@@ -194,10 +239,13 @@ pub trait ArchiveUnsized {
 pub trait SerializeUnsized<S: Writer + Keys>: ArchiveUnsized {
     ghost use Rattle.archive_types.specs.Words.ArchivesOf.{Stored, Unstored};
 
-    /// Writes what the source owns and then its region, and answers the region's position, in bytes from the first one. It asks nothing. Refused for a
-    /// cause of the source's own, as the writer refuses (`BufferOverflow`, 8; `WriterFailed`, 9), or with `OutOfMemory`, 1, where memory is refused;
-    /// never with `NotStarted`, 14, or `AlreadyFinished`, 15. After a refusal, too, the bytes from before are a beginning of those that `serializer`
-    /// holds, and each key that was known keeps its state.
+    /// Writes what the source owns and then its region, and returns the region's position in bytes.
+    /// Existing bytes and the states of known keys stay, after a failure too.
+    ///
+    /// Errors, never `NotStarted` or `AlreadyFinished`:
+    /// - `OutOfMemory`: memory is refused.
+    /// - `BufferOverflow`, `WriterFailed`: the writer's.
+    /// - an error caused by the source, such as `LengthTooLarge`.
     fn serialize_unsized(&self, serializer: &mut S) -> Result<usize, Error>
         ensures serialized { IfOk result (Stored Self.ArchiveUnsized Self.Archived.ArchivePointee self.now S.Keys serializer) }
         ensures goes_on { GoesOn (S.state serializer.old) (S.state serializer.new) }
@@ -208,8 +256,8 @@ pub trait SerializeUnsized<S: Writer + Keys>: ArchiveUnsized {
 pub trait DeserializeUnsized<T: Archive, D: Entries>: ArchivePointee {
     ghost use Rattle.archive_types.specs.Words.Sources.{Read};
 
-    /// What implements this trait writes this call, over the part of a view, and callers use `deserialize_unsized`. Asks for what a view promises of
-    /// the part. Our own.
+    /// What implementors write, over the part of a view; callers use `deserialize_unsized`. The
+    /// caller must ensure what a view promises of the part. Our own.
     fn deserialize_unsized_part(
         alloc: Global,
         part: RawView<'_>,
@@ -219,8 +267,7 @@ pub trait DeserializeUnsized<T: Archive, D: Entries>: ArchivePointee {
         ensures read { IfOk result (Read Self.ArchivePointee part D.Entries deserializer T.Archive) }
         ensures refused { IfErr result (RefusesPart Self.ArchivePointee part D.Entries deserializer) };
 
-    /// What the view shows, as `Deserialize::deserialize` says it. Memory comes from `alloc`: refused with `OutOfMemory`, 1, where it is refused, and
-    /// with `CyclicDeserialize`, 13, only where a shared position is met that is still being read.
+    /// What the view shows, as `Deserialize::deserialize` says it, with the same errors.
     final fn deserialize_unsized(
         alloc: Global,
         view: Ref<'_, Self>,

@@ -1,4 +1,5 @@
-//! Tuples of values, archived as `ArchivedTuple1` and its likes: their parts one after another. As in rkyv 0.8.18.
+//! Tuples of values, archived as `ArchivedTuple1` and so on: their parts one after another. As in
+//! rkyv 0.8.18.
 
 mod eight;
 mod eleven;

@@ -16,8 +16,18 @@ use archive_num::{Integer, LittleEndian, Native};
 use std::alloc::AllocError;
 use std::marker::PhantomData;
 
-/// A view of an archived value, slice or text: a part of a buffer that was checked. It stands where rkyv 0.8.18 has a reference to the archived type.
-/// Its calls are never refused, and take no memory.
+/// A view of an archived value, slice or text: a part of a validated buffer. It stands for rkyv
+/// 0.8.18's reference to the archived type.
+///
+/// `access` returns the root's view, and its calls those of parts. They never fail and take no
+/// memory, since what they read was validated.
+///
+/// ```
+/// let view = access::<ArchivedVec<ArchivedString>>(alloc, bytes.as_slice())?;
+/// for text in view.as_slice().iter() {
+///     println!(rt; "{}", text.as_str())?;
+/// }
+/// ```
 pub struct Ref<'a, T: ArchivePointee> {
     bytes: &'a [u8],
     pos: usize,
@@ -38,7 +48,7 @@ impl<'a, T: ArchivePointee> Clone for Ref<'a, T> {
 
 impl<'a, T: ArchivePointee> Copy for Ref<'a, T> {}
 
-/// Bytes, a position in them and a length, of which nothing is known: a view without its promise.
+/// A buffer, a position and a length, of which nothing is known: a view without its invariant.
 #[derive(Clone, Copy, Debug)]
 pub struct RawView<'a> {
     /// The whole buffer.
@@ -57,8 +67,9 @@ impl<'a, T: ArchivePointee> Ref<'a, T> {
         self.pos
     }
 
-    /// The view of a part. Asks that the part lies in a buffer that was checked: it is a region of an accepted archive, or lies in one. The calls of
-    /// `api` answer the root's view, so only what implements `Deserialize` needs this one. Our own.
+    /// The view of a part. The caller must ensure that it is a region of a validated buffer, or
+    /// lies in one. The calls of `api` return the root's view; only implementors of `Deserialize`
+    /// need this. Our own.
     pub fn at(part: RawView<'a>) -> Ref<'a, T>
         requires { Viewed T.definitions part.bytes.now part.pos T.pointee part.len }
         ensures buffer { result.bytes.now ≡ part.entry.bytes.now }

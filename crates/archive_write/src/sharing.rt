@@ -26,11 +26,12 @@ pub enum SharingState {
     Finished(usize),
 }
 
-/// What keeps the states of shared keys. The told bytes stay as they are, and a refused call changes nothing. The calls are those of rkyv 0.8.18; a key
-/// is a number that the owner chooses, in place of an address.
+/// What keeps the states of shared keys. The told bytes stay as they are, and a failed call changes
+/// nothing. The calls are those of rkyv 0.8.18; a key is a number that the owner chooses, in place
+/// of an address.
 pub trait Sharing: Keys {
-    /// Answers what `key` was, and makes it pending where it was unknown. Refused with `OutOfMemory`, 1, where memory is refused, for an unknown key
-    /// alone.
+    /// Returns what `key` was, and makes it pending where it was unknown. Fails with `OutOfMemory`
+    /// if memory is refused, for an unknown key alone.
     fn start_sharing(&mut self, key: u64) -> Result<SharingState, Error>
         ensures answer { IfOk result (λ s. s ≡ start_answer ((Self.state self.old).states key)) }
         ensures after { OnOk result (IsStarted (Self.state self.old).states key (Self.state self.new).states) }
@@ -38,8 +39,9 @@ pub trait Sharing: Keys {
         ensures refusal { IfErr result (λ e. (e ≡ Error.OutOfMemory) × ((Self.state self.old).states key ≡ None)) }
         ensures bytes { KeepsBytes (Self.state self.old) (Self.state self.new) };
 
-    /// Finishes the pending `key` at `pos`, in bytes from the first one. Refused with `NotStarted`, 14, exactly where it is unknown, and with
-    /// `AlreadyFinished`, 15, exactly where it is finished already. Takes no memory.
+    /// Finishes the pending `key` at `pos`, in bytes from the first one. Fails with `NotStarted`
+    /// exactly if it is unknown, and with `AlreadyFinished` exactly if it is finished already.
+    /// Takes no memory.
     fn finish_sharing(&mut self, key: u64, pos: usize) -> Result<(), Error>
         ensures answer { result ≡ finish_answer is_some ((Self.state self.old).states key) }
         ensures after { OnOk result (IsSet (Self.state self.old).states key (Some (Some pos)) (Self.state self.new).states) }
@@ -89,8 +91,8 @@ impl<A: Allocator + Clone> Share<A> {
         }
     }
 
-    /// Knows no key, and has room for `capacity` of them: no start of so many keys is refused. Memory comes from `alloc`; refused with `OutOfMemory`,
-    /// 1, where it is refused.
+    /// Knows no key, and has room for `capacity` of them: the next `capacity` starts don't fail.
+    /// Memory comes from `alloc`. Fails with `OutOfMemory` if it is refused.
     pub fn with_capacity(alloc: A, capacity: usize) -> Result<Share<A>, Error>
         ensures fresh { IfOk result (λ s. KnowsNone (⟦<Share<A> as Keys>⟧.state s).states) }
         ensures room { IfOk result (λ s. capacity ≤ spare_keys s.states) }
@@ -133,7 +135,8 @@ impl<A: Allocator + Clone> Keys for Share<A> {
     ghost state = { λ s. only_keys (known_keys s.states) };
 }
 
-/// A start takes memory only where no room is left; it uses up room for one key at most. A finish uses up none.
+/// A start takes memory only if no room is left; it uses up room for one key at most. A finish uses
+/// up none.
 impl<A: Allocator + Clone> Sharing for Share<A> {
     fn start_sharing(&mut self, key: u64) -> Result<SharingState, Error>
         ensures answer { IfOk result (λ s. s ≡ start_answer (known_keys self.old.states key)) }

@@ -109,11 +109,13 @@ module _ {A : Type 0} (D : Definitions) (bytes : List ℕ) (q : ℕ) (P : Pointe
     once_all : KeepsRead keeps old new (keys ++ more)
     once_all on named complete =
         let first = h.once on named complete in
-        let second = g.once on (h.kept.named named) first.1 in
-        (λ key c. ⊎_elim
-        (λ a. let (k, at, is) = first.0 key a in (k, g.kept.finished key.0 k at, is))
-        (λ b. second.0 key b)
-        (Contains-append_cases keys more key c), second.1)
+        let second = g.once on (h.kept.named named) first.1 in (
+          λ key c. ⊎_elim
+              (λ a. let (k, at, is) = first.0 key a in (k, g.kept.finished key.0 k at, is))
+              (λ b. second.0 key b)
+              (Contains-append_cases keys more key c),
+          second.1,
+        )
 
     -- one more
     pub one_more_read : ReadFirst keeps D bytes q P n at Y old new meaning (items ++ x ∷ []) (keys ++ more)

@@ -133,7 +133,8 @@ impl<A: Allocator + Copy> SharedValidator<A> {
         }
     }
 
-    /// No position, and room for `capacity` of them. Memory comes from `alloc`; refused with `OutOfMemory`, 1, where it is refused.
+    /// No position, and room for `capacity` of them. Memory comes from `alloc`. Fails with
+    /// `OutOfMemory` if it is refused.
     pub fn with_capacity(alloc: A, capacity: usize) -> Result<SharedValidator<A>, Error>
         ensures nothing { IfOk result (λ v. positions_of v ≡ nothing_met) }
         ensures room { IfOk result (λ v. capacity ≤ room_of v) }

@@ -58,8 +58,8 @@ impl<'a> ArchiveValidator<'a> {
         ArchiveValidator::with_max_depth(bytes, None)
     }
 
-    /// The whole of `bytes`; of `depth` levels the last lets no region be entered, so 2 lets one be. Asks that `depth` isn't 0, as the type of rkyv
-    /// 0.8.18 says it.
+    /// The whole of `bytes`; of `depth` levels the last lets no region be entered, so 2 lets one
+    /// be. The caller must ensure that `depth` isn't 0, as the type of rkyv 0.8.18 says it.
     pub fn with_max_depth(bytes: &'a [u8], depth: Option<usize>) -> ArchiveValidator<'a>
         requires { depth ≢ Some 0 }
         ensures { result ≡ whole (length bytes.now) depth }

@@ -1,4 +1,5 @@
-//! How a check stops whose refusal is kept beside its answer: a refusal is wide, and a call that answers one costs each caller a place for it.
+//! How a check stops whose refusal is kept beside its answer: a refusal is wide, and a call that
+//! returns one costs each caller a place for it.
 
 ghost use Rattle.std.specs.Prelude.{◌≡◌, None};
 
@@ -13,7 +14,7 @@ pub(crate) fn keep(refusal: &mut Error, fault: Error)
     *refusal = fault;
 }
 
-/// Stops the check: `None`, and `refusal` is `fault`, whatever it was. It asks nothing. Our own.
+/// Stops the check: `None`, and `refusal` is `fault`, whatever it was. Our own.
 #[inline]
 pub fn refuse<T>(refusal: &mut Error, fault: Error) -> Option<T>
     ensures none { result ≡ None }

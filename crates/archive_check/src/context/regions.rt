@@ -1,4 +1,5 @@
-//! Regions are entered and left, and why not is kept beside the answer. The calls that do so stand in their callers, since what they answer is wide.
+//! Regions are entered and left, and why not is kept beside the answer. The calls that do so stand
+//! in their callers, since what they return is wide.
 
 ghost use Rattle.std.specs.Prelude.{◌≡◌, ◌+◌, ◌<◌, ◌≤◌, ℕ, pos, OnSome, IfSome, IfNone, Some, Err, is_err, true};
 ghost use Rattle.archive_check.specs.context.Ranges.{subtree_answer, pop_answer, popped};
@@ -52,9 +53,9 @@ fn refuse_range<C: ArchiveContext>(start: usize, end: usize, refusal: &mut Error
     }
 }
 
-/// Leaves a region: the range is the one from `start` to `end` again, in bytes from the buffer's first one, as `Region` keeps it. It asks nothing. `None`
-/// where that is refused as by `pop_subtree_range`, and `refusal` is why: `RangePoppedOutOfOrder`, 20, or `RangePoppedTooManyTimes`, 19. Then nothing has
-/// changed. Our own.
+/// Leaves a region: the range is that from `start` to `end` again, as `Region` keeps it. On failure
+/// returns `None`, nothing has changed, and `refusal` is `RangePoppedOutOfOrder` or
+/// `RangePoppedTooManyTimes`, as of `pop_subtree_range`. Our own.
 #[inline(always)]
 pub fn leave<C: ArchiveContext>(
     start: usize,
@@ -75,10 +76,11 @@ pub fn leave<C: ArchiveContext>(
     Some(())
 }
 
-/// Enters the region at `position`, in bytes from the buffer's first one, of `whole` bytes, which is no number where they are above `usize::MAX`, and of this
-/// alignment. Asks that the alignment isn't 0. Answers the region with the range to be given back by `leave`. `None` where it isn't entered, and `refusal` is
-/// why: `LayoutTooLarge`, 23, `InvalidSubtreePointer`, 16, `UnalignedPointer`, 17, or `ExceededMaximumSubtreeDepth`, 18, the first that applies. Then nothing
-/// has changed. Our own.
+/// Enters the region of `whole` bytes at `position`; `None` bytes are more than `usize::MAX`.
+/// Returns it with the range to be given back by `leave`. The caller must ensure that the alignment
+/// isn't 0. On failure returns `None`, nothing has changed, and `refusal` is the first that applies
+/// of `LayoutTooLarge`, `InvalidSubtreePointer`, `UnalignedPointer` and
+/// `ExceededMaximumSubtreeDepth`. Our own.
 #[inline(always)]
 pub fn enter<C: ArchiveContext>(
     whole: Option<usize>,

@@ -10,10 +10,13 @@ use crate::format::traits::LayoutRaw;
 
 /// What is made of the calls of any `ArchiveContext`.
 pub trait ArchiveContextExt: ArchiveContext {
-    /// Calls `f` within the region of `layout` at `position`, in bytes from the buffer's first one: the region is checked (`InvalidSubtreePointer`,
-    /// 16; `UnalignedPointer`, 17) and entered (`ExceededMaximumSubtreeDepth`, 18), then `f` is called, and then the region is left
-    /// (`RangePoppedOutOfOrder`, 20; `RangePoppedTooManyTimes`, 19). The first refusal is answered, `f`'s own too, and nothing more is called after
-    /// it. Asks that `f` may be called in each state that entering leaves. As in rkyv 0.8.18, with a position in place of an address.
+    /// Checks the region of `layout` at `position`, enters it, calls `f`, and leaves it, up to the
+    /// first error, which may be that of `f`. The caller must ensure that `f` may be called in each
+    /// state that entering leaves. As in rkyv 0.8.18, with a position for an address.
+    ///
+    /// Errors, besides those of `f`:
+    /// - `InvalidSubtreePointer`, `UnalignedPointer`, `ExceededMaximumSubtreeDepth`: of entering.
+    /// - `RangePoppedOutOfOrder`, `RangePoppedTooManyTimes`: of leaving.
     final fn in_subtree_raw<
         R: Drop,
         E: From<Error> + Drop,
@@ -30,9 +33,9 @@ pub trait ArchiveContextExt: ArchiveContext {
         Ok(answer)
     }
 
-    /// Calls `f` within the region at `position`, in bytes from the buffer's first one, of a pointer to a `T` with this length: 0 for one value, else the
-    /// number of elements or bytes. First its layout is made (`LayoutTooLarge`, 23, as `layout_raw`, and then nothing has changed); the rest is
-    /// `in_subtree_raw`. Asks that `f` may be called in each state that entering leaves. As in rkyv 0.8.18, with a position and a length in place of a
+    /// As `in_subtree_raw`, within the region of a pointer to a `T` with this length: 0 for one
+    /// value, else the number of elements or bytes. Fails with `LayoutTooLarge` as `layout_raw`
+    /// does, and then nothing has changed. As in rkyv 0.8.18, with a position and a length for a
     /// pointer.
     final fn in_subtree<
         T: LayoutRaw,

@@ -113,8 +113,9 @@ impl<'a> HighValidator<'a> {
         HighValidator::with_max_depth(alloc, bytes, None)
     }
 
-    /// The whole of `bytes`, of which nothing was met yet; of `depth` levels the last lets no region be entered, so 2 lets one be, the root. Asks
-    /// that `depth` isn't 0; None is no limit. Memory comes from `alloc`, and none is taken yet. Our own.
+    /// The whole of `bytes`, of which nothing was met yet; of `depth` levels the last lets no
+    /// region be entered, so 2 lets one be, the root. The caller must ensure that `depth` isn't 0;
+    /// None is no limit. Memory comes from `alloc`, and none is taken yet. Our own.
     pub fn with_max_depth(alloc: Global, bytes: &'a [u8], depth: Option<usize>) -> HighValidator<'a>
         requires { depth ≢ Some 0 }
         ensures whole { IsWholeIn ⟦<HighValidator<'a> as Context>⟧ result bytes.now }

@@ -7,7 +7,8 @@ ghost use Rattle.archive_check.specs.Readable.{target_from};
 
 use std::simd::prelude::*;
 
-/// The number in the four bytes at `p`, the lowest first. Asks that they lie in the buffer.
+/// The number in the four bytes at `p`, the lowest first. The caller must ensure that they lie in
+/// the buffer.
 pub fn read_u32(bytes: &[u8], p: usize) -> u32
     requires { p + 4 ≤ length bytes.now }
     ensures { result ≡ u32_at bytes.now p }
@@ -15,7 +16,8 @@ pub fn read_u32(bytes: &[u8], p: usize) -> u32
     u32::from_le_bytes([bytes[p], bytes[p + 1], bytes[p + 2], bytes[p + 3]])
 }
 
-/// The signed number in the four bytes at `p`, the lowest first, in two's complement. Asks that they lie in the buffer.
+/// The signed number in the four bytes at `p`, the lowest first, in two's complement. The caller
+/// must ensure that they lie in the buffer.
 pub fn read_i32(bytes: &[u8], p: usize) -> i32
     requires { p + 4 ≤ length bytes.now }
     ensures { result ≡ i32_at bytes.now p }
@@ -23,7 +25,8 @@ pub fn read_i32(bytes: &[u8], p: usize) -> i32
     i32::from_le_bytes([bytes[p], bytes[p + 1], bytes[p + 2], bytes[p + 3]])
 }
 
-/// Where the offset in the four bytes at `p` leads, which counts from `q`, be it in the buffer or not. Asks that the four bytes lie in the buffer.
+/// Where the offset in the four bytes at `p` leads, which counts from `q`, be it in the buffer or
+/// not. The caller must ensure that the four bytes lie in the buffer.
 pub fn read_position(bytes: &[u8], q: usize, p: usize) -> i128
     requires { p + 4 ≤ length bytes.now }
     ensures { result ≡ pos q +ℤ i32_at bytes.now p }
@@ -31,8 +34,8 @@ pub fn read_position(bytes: &[u8], q: usize, p: usize) -> i128
     q as i128 + read_i32(bytes, p) as i128
 }
 
-/// Where the offset in the four bytes at `p` leads, which counts from `q`. Asks that the four bytes lie in the buffer, and that the offset leads
-/// into it or to its end.
+/// Where the offset in the four bytes at `p` leads, which counts from `q`. The caller must ensure
+/// that the four bytes lie in the buffer, and that the offset leads into it or to its end.
 pub fn read_target(bytes: &[u8], q: usize, p: usize) -> usize
     requires within { p + 4 ≤ length bytes.now }
     requires lands { pos q +ℤ i32_at bytes.now p ≡ pos (target_from bytes.now q p) }
@@ -47,8 +50,8 @@ pub fn read_target(bytes: &[u8], q: usize, p: usize) -> usize
     }
 }
 
-/// Whether the string at `p` says that its text stands elsewhere: the top two bits of its first byte are 10. Asks that this byte lies in the
-/// buffer.
+/// Whether the string at `p` says that its text is elsewhere: the top two bits of its first byte
+/// are 10. The caller must ensure that this byte lies in the buffer.
 pub fn is_out_of_line(bytes: &[u8], p: usize) -> bool
     requires { p < length bytes.now }
     ensures { IsTrue result ↔ IsOutOfLine bytes.now p }
@@ -56,7 +59,8 @@ pub fn is_out_of_line(bytes: &[u8], p: usize) -> bool
     bytes[p] & 0xc0 == 0x80
 }
 
-/// The length in bytes that the first four bytes of the out-of-line string at `p` code. Asks that they lie in the buffer.
+/// The length in bytes that the first four bytes of the out-of-line string at `p` code. The caller
+/// must ensure that they lie in the buffer.
 pub fn read_coded_length(bytes: &[u8], p: usize) -> usize
     requires { p + 4 ≤ length bytes.now }
     ensures { result ≡ decoded_length (u32_at bytes.now p) }
@@ -65,7 +69,8 @@ pub fn read_coded_length(bytes: &[u8], p: usize) -> usize
     code % 64 + code / 256 * 64
 }
 
-/// How many of the eight bytes at `p` stand before the first 0xff; 8 where there is none. Asks that they lie in the buffer.
+/// How many of the eight bytes at `p` stand before the first 0xff; 8 where there is none. The
+/// caller must ensure that they lie in the buffer.
 pub fn inline_length(bytes: &[u8], p: usize) -> usize
     requires { p + 8 ≤ length bytes.now }
     ensures short { result ≤ 8 }
@@ -157,7 +162,7 @@ fn is_any_text(bytes: &[u8], p: usize, n: usize) -> bool
     is_long_utf8(&bytes[p..p + n])
 }
 
-/// Whether the `n` bytes at `p` are UTF-8. Asks that they lie in the buffer.
+/// Whether the `n` bytes at `p` are UTF-8. The caller must ensure that they lie in the buffer.
 #[inline(always)]
 pub fn is_text(bytes: &[u8], p: usize, n: usize) -> bool
     requires { p + n ≤ length bytes.now }
@@ -166,7 +171,8 @@ pub fn is_text(bytes: &[u8], p: usize, n: usize) -> bool
     is_short_ascii(bytes, p, n) || is_any_text(bytes, p, n)
 }
 
-/// The `n` bytes at `p` as a text. Asks that they lie in the buffer and are UTF-8, as after `is_text` answered true.
+/// The `n` bytes at `p` as a text. The caller must ensure that they lie in the buffer and are
+/// UTF-8, as after `is_text` returned true.
 pub fn read_text(bytes: &[u8], p: usize, n: usize) -> &str
     requires within { p + n ≤ length bytes.now }
     requires utf8 { IsUtf8 (bytes_at bytes.now p n) }

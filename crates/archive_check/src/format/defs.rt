@@ -35,9 +35,10 @@ impl Defs {
         }
     }
 
-    /// Defines `name`. Answers true where the name is new, and false where it has this very definition already. Refused with `ShapeConflict`, 30,
-    /// where it has another one, and with `OutOfMemory`, 1, where it is new and memory is refused; a refused call changes nothing. Memory comes
-    /// from the allocator that the definitions were made with.
+    /// Defines `name`. Returns true where the name is new, and false where it has this very
+    /// definition already. Fails with `ShapeConflict` if it has another one, and with `OutOfMemory`
+    /// if it is new and memory is refused; a failed call changes nothing. Memory comes from the
+    /// allocator that the definitions were made with.
     #[tactic(auto, using(crate::proofs::Names::Named::tables))]
     pub fn add(&mut self, name: &'static str, expr: Expr) -> Result<bool, Error>
         ensures answer { IsAddAnswer (definition (table_of self.old) name.now) (shape_of expr) result }

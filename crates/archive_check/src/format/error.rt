@@ -115,7 +115,7 @@ pub enum Error {
     /// 30: a name that a type reaches has no definition, or two different ones.
     #[error("the name of a type has no definition, or two different ones")]
     ShapeConflict,
-    /// 31: a name holds itself other than behind a pointer.
+    /// 31: a name contains itself other than behind a pointer.
     #[error("a type contains itself without a pointer between")]
     RecursiveLayout,
     /// 32: kept for sorted maps. No call answers it yet.

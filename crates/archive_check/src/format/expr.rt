@@ -1,5 +1,6 @@
-//! Expressions: what the bytes of an archived type are read as. They are our own: rkyv 0.8.18 has a trait that each type checks itself by. The bytes
-//! that they stand for are those of rkyv 0.8.18.
+//! Expressions: what the bytes of an archived type are read as. They are our own: rkyv 0.8.18 has a
+//! trait that each type validates itself by. The bytes that they stand for are those of rkyv
+//! 0.8.18.
 
 ghost use Rattle.std.specs.Prelude.{◌≡◌, ◌↔◌, IsTrue, IfOk, Ok};
 ghost use Rattle.std.specs.Int.{byte_len};
@@ -192,8 +193,8 @@ impl Eq for Pointee {
     ghost laws = { on_equiv pointee_of same_pointee-equiv };
 }
 
-/// A copy is written alike. Its memory comes from the allocators of what is copied; it is refused where they refuse, and a `?` makes
-/// `OutOfMemory`, 1, of that.
+/// A copy is written alike. Its memory comes from the allocators of what is copied; it fails if
+/// they do, and a `?` makes `OutOfMemory` of that.
 impl Clone for Expr {
     ghost is_clone = { λ a b. shape_of b ≡ shape_of a };
 

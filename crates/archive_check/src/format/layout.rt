@@ -2,8 +2,8 @@
 
 ghost use Rattle.std.specs.Prelude.{◌<◌};
 
-/// What a value takes: its size and its alignment, both in bytes. It stands where rkyv 0.8.18 has `core::alloc::Layout`; an alignment need not
-/// be a power of two.
+/// What a value takes: its size and its alignment, both in bytes. In its place rkyv 0.8.18 has
+/// `core::alloc::Layout`; an alignment need not be a power of two.
 #[derive(Clone, Copy)]
 pub struct Layout {
     /// How many bytes it has.

@@ -23,7 +23,8 @@ fn has_bits(bytes: &[u8], at: usize, n: usize) -> bool
     false
 }
 
-/// Whether the bytes at `at` are a leaf of the kind. Asks that as many bytes as the kind has lie in the buffer from there on.
+/// Whether the bytes at `at` are a leaf of the kind. The caller must ensure that as many bytes as
+/// the kind has lie in the buffer from there on.
 pub fn is_legal(kind: Kind, bytes: &[u8], at: usize) -> bool
     requires { at + kind_size (kind_of kind) ≤ length bytes.now }
     ensures { IsTrue result ↔ IsLegal (kind_of kind) (bytes_at bytes.now at (kind_size (kind_of kind))) }
@@ -39,8 +40,9 @@ pub fn is_legal(kind: Kind, bytes: &[u8], at: usize) -> bool
     }
 }
 
-/// The refusal of bytes that are no leaf of the kind: `InvalidBool`, 25, of a bool, `InvalidChar`, 26, of a char, and `ZeroNumber`, 27, of a number
-/// that is 0. Asks for a kind that has illegal bytes: no others do.
+/// The error of bytes that are no leaf of the kind: `InvalidBool` of a bool, `InvalidChar` of a
+/// char, and `ZeroNumber` of a number that is 0. Requires a kind that has illegal bytes: no others
+/// do.
 #[inline]
 pub fn illegal(kind: Kind) -> Error
     requires { (bytes : List ℕ) × (length bytes ≡ kind_size (kind_of kind)) × (IsLegal (kind_of kind) bytes → ⊥) }

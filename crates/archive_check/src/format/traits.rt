@@ -33,9 +33,10 @@ pub use variants::{
     Choice, PortableVariants, align_of_choice, define_choice, expr_of_choice, size_of_choice,
 };
 
-/// What a pointer may lead to: an archived value, a slice or a text. As in rkyv 0.8.18, with a length in place of a pointer's metadata.
+/// What a pointer can lead to: an archived value, a slice (`ArchivedSlice`) or a text
+/// (`ArchivedStr`). As in rkyv 0.8.18, with a length in place of a pointer's metadata.
 pub trait ArchivePointee {
-    /// What stands in a pointer beside its offset: nothing for one value, else a length.
+    /// What is in a pointer beside its offset: nothing for one value, else a length.
     type ArchivedMetadata;
 
     // What the pointee is.
@@ -52,8 +53,19 @@ pub trait ArchivePointee {
         ensures { result ≡ metadata_length metadata.now };
 }
 
-/// A type whose values lie in an archive as they are. The trait is rkyv 0.8.18's, its calls are our own: there a type's layout is Rust's, and each
-/// type checks itself.
+/// An archived type: its values lie in an archive as they are used. It gives its size, its
+/// alignment and an expression of its form, from which bytes are validated.
+///
+/// Archived numbers, strings, options, boxes and so on implement it; for structs and enums
+/// `tools/derive` writes it.
+///
+/// ```
+/// let size = ArchivedString::size();            // 8
+/// let align = ArchivedString::align();          // 4
+/// let expr = ArchivedString::expr(alloc)?;      // Expr::Str
+/// ```
+///
+/// The trait is rkyv 0.8.18's, its calls are our own: there a type's layout is Rust's.
 pub trait Portable: ArchivePointee {
     // What its bytes are read as.
     ghost shape: { Shape };
@@ -61,7 +73,8 @@ pub trait Portable: ArchivePointee {
     // Its size and alignment.
     ghost layout: { LayoutOf };
 
-    /// The check of its values where they lie. `BySchema` where they share something or hold themselves: then a schema checks them.
+    /// How its values are validated: by a check of its own, or `BySchema`, as for types that share
+    /// values or are recursive.
     type Check: SelfCheck;
 
     /// The size in bytes, `usize::MAX` where it is that or more.
@@ -72,13 +85,16 @@ pub trait Portable: ArchivePointee {
     fn align() -> usize
         ensures { result ≡ layout.align };
 
-    /// The type's expression. Memory comes from `alloc`; refused with `OutOfMemory`, 1, where it is refused.
+    /// The type's expression. Fails with `OutOfMemory` if memory from `alloc` is refused.
     fn expr(alloc: Global) -> Result<Expr, Error>
         ensures shape { IfOk result (λ e. shape_of e ≡ shape) }
         ensures refused { IfErr result (λ e. e ≡ OutOfMemory) };
 
-    /// Adds the definitions of the names that the type reaches, and no others. Refused with `OutOfMemory`, 1, where memory is refused, and with
-    /// `ShapeConflict`, 30, where a name has another definition in `defs` already, or two. Memory comes from `alloc` and from that of `defs`.
+    /// Adds the definitions of the names that the type reaches, and no others.
+    ///
+    /// Errors:
+    /// - `OutOfMemory`: memory from `alloc` or `defs` is refused.
+    /// - `ShapeConflict`: a name has two definitions, or another one in `defs` already.
     fn define(alloc: Global, defs: &mut Defs) -> Result<(), Error>
         ensures added { OnOk result (Extended (table_of defs.old) Self.definitions (table_of defs.new)) }
         ensures refused { IfErr result (ExplainsConflict (table_of defs.old) Self.definitions) };
@@ -96,13 +112,15 @@ pub trait Portable: ArchivePointee {
         Self.Check.nameless };
 }
 
-/// What tells contracts the state of a writer: its bytes, its room, its device's failures and the states of the shared keys. It has no calls. Our own.
+/// What models a writer in contracts: its bytes, its room, its device's failures and the states of
+/// its shared keys. It has no calls. Our own.
 pub trait Keys {
     // The state.
     ghost state: { Self → WriterState };
 }
 
-/// What tells contracts the state of each position that is read, whatever its type. It has no calls. Our own.
+/// What models a deserializer in contracts: the state of each position, whatever its type. It has
+/// no calls. Our own.
 pub trait Entries {
     // The state of a position: none where it is unknown, then pending, then finished with what is kept of it: its name, flavor, pointee and length,
     // what it holds, and what the names in that lead to.

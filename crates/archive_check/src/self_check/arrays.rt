@@ -11,7 +11,7 @@ use crate::format::error::Error;
 use crate::format::traits::Portable;
 use std::marker::PhantomData;
 
-/// The check of an array: its elements, one behind another.
+/// The check of an array: its elements, one after another.
 pub struct ArrayCheck<T, const N: usize> {
     of: PhantomData<T>,
 }

@@ -1,4 +1,5 @@
-// Values one behind another: where they lie, in a region of their own, and behind a pointer with their number.
+// Values one after another: where they lie, in a region of their own, and behind a pointer with
+// their number.
 
 ghost use Rattle.std.specs.Prelude.{◌≡◌, ◌+◌, ◌*◌, ◌≤◌, length, OnSome, IfNone, IsTrue};
 ghost use Rattle.archive_check.specs.Shape.{run, vec};

@@ -17,8 +17,9 @@ use crate::format::error::Error;
 use crate::format::expr::{IntegerKind, Kind};
 use crate::format::leaf::{illegal, is_legal};
 
-/// Checks the leaf of this kind at `at`, in bytes from the first one. Asks that it lies in `bytes`. `None` where the check stops, and `refusal` is why:
-/// `InvalidBool`, 25, `InvalidChar`, 26, or `ZeroNumber`, 27, at a number that may not be 0. Our own.
+/// Checks the leaf of this kind at `at`, in bytes from the first one. The caller must ensure that
+/// it lies in `bytes`. `None` if the check stops, and `refusal` is why: `InvalidBool`,
+/// `InvalidChar` or `ZeroNumber` at a number that may not be 0. Our own.
 #[inline(always)]
 pub fn check_leaf<C: ArchiveContext>(
     kind: Kind,

@@ -1,4 +1,4 @@
-// Parts laid out one behind another.
+// Parts laid out one after another.
 
 ghost use Rattle.std.specs.Prelude.{Bool, ◌&&◌, ◌||◌, ◌≡◌, ◌+◌, ◌-◌, ◌≤◌, ℕ, length, OnSome, IfNone, true, false, IsTrue};
 ghost use Rattle.archive_check.specs.Shape.{Parts, part, no_part, parts};
@@ -18,7 +18,8 @@ use crate::format::extents::offset_of;
 use crate::format::traits::Portable;
 use std::marker::PhantomData;
 
-/// Parts that are checked one behind another: `()`, or `(A, R)` for an `A` and then the parts of `R`, or four at once by `FourParts`.
+/// Parts that are checked one after another: `()`, or `(A, R)` for an `A` and then the parts of
+/// `R`, or four at once by `FourParts`.
 pub trait CheckedParts {
     // What they are.
     ghost parts: { Parts };
@@ -38,7 +39,7 @@ pub trait CheckedParts {
     // Whether at most one brings definitions.
     ghost lone: { Bool };
 
-    /// Whether each checks itself.
+    /// Whether each validates itself.
     fn are_direct() -> bool
         ensures { result ≡ direct };
 
@@ -50,7 +51,8 @@ pub trait CheckedParts {
     fn are_lone() -> bool
         ensures { result ≡ lone };
 
-    /// Checks the parts from the offset `start` on, of what begins at `base`. `None` where the check stops, and `refusal` is why.
+    /// Checks the parts from the offset `start` on, of what begins at `base`. `None` if the check
+    /// stops, and `refusal` is why.
     fn check_parts<C: ArchiveContext>(
         bytes: &[u8],
         base: usize,

@@ -13,12 +13,13 @@ use crate::context::ArchiveContext;
 use crate::format::error::Error;
 use crate::format::traits::Portable;
 
-/// Checks that `bytes` are an archive whose root, a `T`, lies at `pos`, where `T` checks itself. In a context for these bytes that met nothing yet
-/// the answer is exact: Ok where they are one with no region too deep, else the refusal of the first test that is false, in the order that
-/// docs/FORMAT.md gives. It takes no memory and is never refused with 30 or 31: such a type has a meaning. In any context with levels left a refusal is
-/// one of those that a check can answer (1, 12, 16 to 18, 21 to 29), and after a success levels are left. A type that doesn't check itself is never
-/// accepted. Accepted or refused, in any context, it
-/// enters at most one region, and one for each four bytes of the context's range.
+/// Checks that `bytes` are an archive whose root, a `T` that validates itself, lies at `pos`; any
+/// other `T` is rejected. It takes no memory. Exact in a fresh context for these bytes. In any
+/// context at most one region is entered, and one for each four bytes of its range; levels left
+/// before a success are left after it.
+///
+/// Fails with the first fault, in the order of docs/FORMAT.md, with levels left always one of a
+/// check.
 #[inline(always)]
 pub fn check_root<T: Portable, C: ArchiveContext>(
     bytes: &[u8],

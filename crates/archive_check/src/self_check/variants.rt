@@ -25,12 +25,12 @@ pub trait CheckedVariants {
     // Whether each checks itself.
     ghost direct: { Bool };
 
-    /// Whether each checks itself.
+    /// Whether each validates itself.
     fn are_direct() -> bool
         ensures { result ≡ direct };
 
-    /// Checks the variant of this tag, of what begins at `base`, and answers whether there is one. `None` where the check stops, and `refusal` is
-    /// why.
+    /// Checks the variant of this tag, of what begins at `base`, and returns whether there is one.
+    /// `None` if the check stops, and `refusal` is why.
     fn check_variant<C: ArchiveContext>(
         bytes: &[u8],
         base: usize,
@@ -101,8 +101,10 @@ impl<P: CheckedParts, V: CheckedVariants> CheckedVariants for (P, V) {
     }
 }
 
-/// Checks the choice of this name at `at`, in bytes from the first one: the tag, and then the variant that it names. `None` where the check stops, and
-/// `refusal` is why: `InvalidDiscriminant`, 24, where no variant has the tag. Asks that the tag and the longest variant lie in `bytes`. Our own.
+/// Checks the choice of this name at `at`, in bytes from the first one: the tag, and then the
+/// variant that it names. `None` if the check stops, and `refusal` is why: `InvalidDiscriminant` if
+/// no variant has the tag. The caller must ensure that the tag and the longest variant lie in
+/// `bytes`. Our own.
 #[inline(always)]
 pub fn check_choice<V: CheckedVariants, C: ArchiveContext>(
     name: &'static str,

@@ -1,4 +1,4 @@
-// A check that is made once.
+// `Access`: what is made once for a type, to access many archives.
 
 ghost use Rattle.std.specs.Prelude.{◌≡◌, ◌≤◌, length, IsTrue, IsOk, IfSome, IfNone, IfOk, OnOk, IfErr};
 ghost use Rattle.std.proofs.Props.{props};
@@ -22,8 +22,17 @@ use archive_types::view::{RawView, Ref};
 use std::alloc::Global;
 use std::marker::PhantomData;
 
-/// What accesses archives whose root is a `T`. It is made once, and keeps what the check of one takes: the schema of `T`, where `T` doesn't check
-/// itself, and else nothing. It answers views of any number of buffers, and each call promises what the call of that name in `api` does. Our own.
+/// Accesses archives whose root is a `T`, any number of them, with the work for the type done once:
+/// it keeps the schema of `T`, or nothing if `T` validates itself. Each call promises what the call
+/// of that name in `api` does.
+///
+/// ```
+/// let messages: Access<ArchivedVec<ArchivedString>> = Access::new(alloc)?;
+/// let view = messages.access(bytes.as_slice())?;
+/// let next = messages.access(others.as_slice())?;
+/// ```
+///
+/// Our own.
 #[derive(Drop)]
 pub struct Access<T: Portable> {
     alloc: Global,
@@ -35,9 +44,12 @@ pub struct Access<T: Portable> {
 }
 
 impl<T: Portable> Access<T> {
-    /// Makes what a check takes; where `T` checks itself, nothing. Memory comes from `alloc`, also that which a check takes. Refused with
-    /// `OutOfMemory`, 1, where it is refused, and with `ShapeConflict`, 30, or `RecursiveLayout`, 31, where the definitions of `T` have no meaning. Our
-    /// own.
+    /// Makes what checks of a `T` need, for which memory comes from `alloc` as well. Never fails if
+    /// `T` validates itself. Our own.
+    ///
+    /// Errors:
+    /// - `OutOfMemory`: memory is refused.
+    /// - `ShapeConflict`, `RecursiveLayout`: the definitions of `T` have no meaning.
     pub fn new(alloc: Global) -> Result<Access<T>, Error>
         ensures meaning { OnOk result (WellFormed (listed T.definitions) T.shape) }
         ensures refused { IfErr result (λ e. ExplainsNoSchema T.shape T.definitions e) }
@@ -58,9 +70,13 @@ impl<T: Portable> Access<T> {
         })
     }
 
-    /// Checks that `bytes` are an archive whose root lies at `pos`. Asks that the context's range ends in the buffer. In a context for these bytes that
-    /// met nothing yet the answer is exact: refused with `OutOfMemory`, 1, where memory is refused, else with the first fault of the bytes, in the order
-    /// that docs/FORMAT.md gives. Our own.
+    /// Checks that `bytes` are an archive whose root lies at `pos`. The caller must ensure that the
+    /// context's range ends in the buffer; in a fresh context for these bytes the result is exact.
+    /// Our own.
+    ///
+    /// Errors, as of `api::check_pos_with_context`:
+    /// - `OutOfMemory`: memory is refused.
+    /// - the first fault of the bytes, in the order that docs/FORMAT.md gives.
     pub fn check_pos_with_context<C: ArchiveContext + SharedContext>(
         &self,
         bytes: &[u8],
@@ -80,8 +96,12 @@ impl<T: Portable> Access<T> {
         }
     }
 
-    /// Checks that `bytes` are an archive whose root lies at `pos`, and answers the root's view. It asks nothing. Refused with `OutOfMemory`, 1, where
-    /// memory is refused, else with the first fault of the bytes, in the order that docs/FORMAT.md gives. Our own.
+    /// Checks that `bytes` are an archive whose root lies at `pos`, and returns the root's view.
+    /// Our own.
+    ///
+    /// Errors:
+    /// - `OutOfMemory`: memory is refused.
+    /// - the first fault of the bytes, in the order that docs/FORMAT.md gives.
     pub fn access_pos<'a>(&self, bytes: &'a [u8], pos: usize) -> Result<Ref<'a, T>, Error>
         ensures answer { Answers T.definitions bytes.now None pos T.shape result }
         ensures buffer { IfOk result (λ r. r.bytes.now ≡ bytes.now) }
@@ -95,7 +115,8 @@ impl<T: Portable> Access<T> {
         Ok(Ref::at(RawView { bytes, pos, len: 0 }))
     }
 
-    /// Checks that `bytes` are an archive whose root lies at the end, and answers the root's view. It asks nothing. Refused as by `access_pos`. Our own.
+    /// Checks that `bytes` are an archive whose root lies at the end, and returns the root's view.
+    /// Fails as `access_pos` does. Our own.
     pub fn access<'a>(&self, bytes: &'a [u8]) -> Result<Ref<'a, T>, Error>
         ensures answer { Answers T.definitions bytes.now None (root_in bytes.now T.layout) T.shape result }
         ensures buffer { IfOk result (λ r. r.bytes.now ≡ bytes.now) }
@@ -105,10 +126,13 @@ impl<T: Portable> Access<T> {
         self.access_pos(bytes, super::root_position::<T>(bytes.len()))
     }
 
-    /// Checks that `bytes` are an archive of a `U`, its root at the end, and reads it back: the answer means what the archive denotes, its shared
-    /// values named by their positions, where `deserializer` knows no position yet; it is `()` where nothing is shared. It asks nothing. Refused as by
-    /// `access`, and with `CyclicDeserialize`, 13, only where a shared position is met that is still being read, so never where the type shares
-    /// nothing. Our own.
+    /// Checks that `bytes` are an archive of a `U`, its root at the end, and reads it back: the
+    /// result is the value that the archive denotes, its shared values named by their positions.
+    /// `deserializer` is `()` if nothing is shared, else one that knows no position yet. Our own.
+    ///
+    /// Errors, besides those of `access`:
+    /// - `CyclicDeserialize`: only if a shared position is met that is still being read; so never
+    ///   if the type shares nothing.
     pub fn from_bytes<U: Archive<Archived = T>, D: Entries>(
         &self,
         bytes: &[u8],

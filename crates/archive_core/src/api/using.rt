@@ -1,4 +1,4 @@
-// Calls with a serializer of the caller's own, or with memory for resolvers from an allocator of its own.
+// Calls with a serializer of the caller, or with memory for resolvers from an allocator of its own.
 
 ghost use Rattle.std.specs.Prelude.{◌≡◌, ◌⊎◌, IfOk, IfErr, ℕ, []};
 ghost use Rattle.archive_check.specs.Shape.{one};
@@ -50,8 +50,8 @@ pub fn to_bytes_with_alloc<A: Allocator + Copy + Drop, T: Serialize<HighSerializ
     Ok(bytes)
 }
 
-/// Writes what `value` owns and then its region, with a serializer of the caller's own, and answers the root's position, in bytes from the first one.
-/// It asks nothing, and refuses as `serialize_unsized` of `value` does. As in rkyv 0.8.18.
+/// Writes what `value` owns and then its region, with a serializer of yours, and returns the root's
+/// position in bytes. Fails as `serialize_unsized` of `value` does. As in rkyv 0.8.18.
 pub fn serialize_using<S: Writer + Keys, T: SerializeUnsized<S>>(
     value: &T,
     serializer: &mut S,

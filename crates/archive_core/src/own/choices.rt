@@ -1,4 +1,4 @@
-// Choices of your own, under a name: their format, which is told once for all of them.
+// User-defined choices under a name: their format, stated once for all of them.
 
 ghost use Rattle.std.specs.Prelude.{◌≡◌, IsTrue, refl};
 ghost use Rattle.archive_check.specs.Definitions.{both, defines};
@@ -19,14 +19,26 @@ use archive_types::traits::{
 use std::alloc::Global;
 use std::marker::PhantomData;
 
-/// What tells one archived choice from others: its name and its variants. A type of its own implements this for each choice. Our own, where rkyv 0.8.18
-/// derives an archived type for each enum.
+/// Describes an archived enum by hand: its name and its variants. `tools/derive` doesn't need it.
+///
+/// A type of yours without values implements it; `ArchivedChoice` of that is the archived type.
+///
+/// ```
+/// impl NamedChoice for ShapeFormat {
+///     type Variants = ((), ((ArchivedU32, ()), ()));      // no part, and then one with a number
+///     type Check = BySchema;
+///     ..
+/// }
+/// ```
+///
+/// Our own, where rkyv 0.8.18 derives an archived type.
 pub trait NamedChoice {
-    /// Its variants, in the order of their tags, nested pair by pair, each by its parts: `((), ((A, (B, ())), ()))` for one with no part and then one with
-    /// an `A` and a `B`.
+    /// Its variants in the order of their tags, nested pair by pair, each by its parts: `((), ((A,
+    /// (B, ())), ()))` for one without parts and one with an `A` and a `B`.
     type Variants: PortableVariants;
 
-    /// The check of its values where they lie: `BySchema`, or a `SelfCheck` of its own that calls `check_choice`.
+    /// How its values are validated: `BySchema`, or a `SelfCheck` of yours that calls
+    /// `check_choice`.
     type Check: SelfCheck;
 
     // The name.
@@ -41,7 +53,8 @@ pub trait NamedChoice {
         Self.Check.nameless };
 }
 
-/// An archived choice under the name and with the variants of `N`: a tag of one byte, and behind it the parts of the variant that it names. Our own.
+/// An archived enum with the name and the variants of `N`: a tag of one byte, and behind it the
+/// parts of the variant that it names. Our own.
 pub struct ArchivedChoice<N> {
     of: PhantomData<N>,
 }

@@ -1,5 +1,5 @@
-// Sources that hold themselves in boxes: a choice of which each variant holds nothing, or a box of a further value. They are written and read back by calls
-// that are told once for all of them.
+// Sources that are recursive through boxes: a choice of which each variant holds nothing, or a box
+// of a further value. They are written and read back by calls that are stated once for all of them.
 
 ghost use Rattle.std.specs.Prelude.{◌≡◌, ◌<◌, ◌≤◌, [], IfSome, IfNone, IfOk, OnOk, IfErr, length};
 ghost use Rattle.archive_check.specs.Shape.{named};
@@ -22,8 +22,19 @@ use archive_types::view::{RawView, Ref};
 use archive_write::ser::{ResolverAlloc, Writer};
 use std::alloc::Global;
 
-/// A source that holds itself: a choice of which each variant holds nothing, or a box of a further value. A type of its own implements this beside
-/// `Archive`, and is then written by `serialize_nested`. Our own.
+/// A source that is recursive through boxes: an enum each of whose variants holds nothing, or a box
+/// of the enum.
+///
+/// A type of yours implements it beside `Archive`, and `serialize_nested` and `resolve_nested` then
+/// write it.
+///
+/// ```
+/// fn inner(&self) -> (u8, Option<&Node>) {
+///     match self { Node::Nil => (0, None), Node::Cons(rest) => (1, Some(&**rest)) }
+/// }
+/// ```
+///
+/// Our own.
 pub trait Nested<X: Choice>: Archive<Archived = X, Resolver = Option<BoxResolver>> {
     /// The tag of the value's variant, and what the variant's box holds, if there is one.
     fn inner(&self) -> (u8, Option<&Self>)
@@ -38,7 +49,17 @@ pub trait Nested<X: Choice>: Archive<Archived = X, Resolver = Option<BoxResolver
     ghost no_keys: { (v : Self) → Self.keys v ≡ [] };
 }
 
-/// A source that holds itself, and is made of the value in its box when it is read back. Our own.
+/// A source that is recursive through boxes, to be read back: it is made of the value in its box.
+///
+/// A type of yours implements it, and `ArchivedRecursive` then implements `Deserialize` for it.
+///
+/// ```
+/// fn around(_tag: u8, inner: Box<Node>) -> Node {
+///     Node::Cons(inner)
+/// }
+/// ```
+///
+/// Our own.
 pub trait FromNested<N: RecursiveChoice>: Archive {
     /// The value of the variant with this tag, if that holds nothing.
     fn empty(tag: u8) -> Option<Self>
@@ -46,7 +67,8 @@ pub trait FromNested<N: RecursiveChoice>: Archive {
         ensures meaning { IfSome result (λ v. Self.meaning v ≡ case tag no_value) }
         ensures holds_more { IfNone result (HoldsNothing 0 N.Variants.variants tag → ⊥) };
 
-    /// The value of the variant with this tag, with what the variant's box holds. Asks that there is a box.
+    /// The value of the variant with this tag, with what its box holds. The caller must ensure that
+    /// the variant has a box.
     fn around(tag: u8, inner: Box<Self>) -> Self
         requires { HoldsBox 0 N.Variants.variants tag }
         ensures { Self.meaning result ≡ case_of tag (box (Self.meaning inner.value)) };
@@ -58,7 +80,8 @@ pub trait FromNested<N: RecursiveChoice>: Archive {
     ghost no_keys: { (v : Self) → Self.keys v ≡ [] };
 }
 
-/// Writes what `value` owns: what its box holds is a region of its own, and so on. It asks nothing, and is refused as `Serialize::serialize` is. Our own.
+/// Writes what `value` owns: the region of what its box holds, and so on. Fails as
+/// `Serialize::serialize` does. Our own.
 pub fn serialize_nested<X: Choice, T: Nested<X>, S: Writer + ResolverAlloc>(
     value: &T,
     serializer: &mut S,
@@ -82,9 +105,10 @@ pub fn serialize_nested<X: Choice, T: Nested<X>, S: Writer + ResolverAlloc>(
     }
 }
 
-/// Writes the choice over the bytes of `place`: the tag, and four bytes behind it the box of what `serialize_nested` wrote, if there is one. Asks for a
-/// choice that goes by its name, for a variant with this tag which holds such a box, or nothing, and for zeros, as many as the choice has, which are eight
-/// or more. Refused with `IsizeOverflow`, 2, or `OffsetOverflow`, 3, where the box's offset doesn't fit. Our own.
+/// Writes the enum over the bytes of `place`: the tag, and four bytes behind it the box of what
+/// `serialize_nested` wrote, if there is one. The caller must ensure that the variant with this tag
+/// holds such a box or nothing, and that the bytes are zeros, as many as the type has, at least
+/// eight. Fails with `IsizeOverflow` or `OffsetOverflow` if the box's offset doesn't fit. Our own.
 #[inline(always)]
 pub fn resolve_nested<X: Choice>(
     tag: u8,

@@ -1,4 +1,4 @@
-// Types of your own that hold themselves behind pointers: their format, which is told once for all of them.
+// User-defined recursive types: their format, stated once for all of them.
 
 ghost use Rattle.std.specs.Prelude.{◌≡◌, ◌≤◌, IfOk, IfErr, OnOk, min, refl};
 ghost use Rattle.archive_check.specs.Words.AddedDefinitions.{AreAdded};
@@ -17,8 +17,21 @@ use archive_types::traits::{ArchivePointee, Choice, Portable, PortableVariants};
 use std::alloc::{AllocError, Global};
 use std::marker::PhantomData;
 
-/// What tells one archived type that holds itself from others: its name, and what the name stands for, in which it may stand behind pointers. A type of
-/// its own implements this for each such type. Our own.
+/// Describes a recursive archived type: its name, and what the name stands for, in which the name
+/// may be behind pointers.
+///
+/// A type of yours without values implements it; `ArchivedRecursive` of that is the archived type.
+/// `Node` of the crate `own_types` is a model:
+///
+/// ```
+/// impl NamedRecursive for NodeFormat {
+///     fn name() -> &'static str { "ArchivedNode" }
+///     ..
+/// }
+/// pub type ArchivedNode = ArchivedRecursive<NodeFormat>;
+/// ```
+///
+/// Our own.
 pub trait NamedRecursive {
     // The name.
     ghost name: { Name };
@@ -41,7 +54,7 @@ pub trait NamedRecursive {
     fn align() -> usize
         ensures { result ≡ layout.align };
 
-    /// What the name stands for. Memory comes from `alloc`; an error where it is refused.
+    /// What the name stands for, as an expression. Fails if memory from `alloc` is refused.
     fn definition(alloc: Global) -> Result<Expr, AllocError>
         ensures { IfOk result (λ e. shape_of e ≡ stands_for) };
 
@@ -50,9 +63,19 @@ pub trait NamedRecursive {
     ghost laid_out: { HasLayout (defines name stands_for) stands_for layout };
 }
 
-/// The variants of a type that holds itself, where its name stands for a choice under this name. Our own.
+/// Names the variants of a recursive enum as types, so that `tag` and `payload` may be called on
+/// its views and places. A `NamedRecursive` type whose name stands for a choice implements it.
+///
+/// ```
+/// impl RecursiveChoice for NodeFormat {
+///     type Variants = ((), ((ArchivedBox<ArchivedNode>, ()), ()));      // Nil, and Cons with a box
+///     ..
+/// }
+/// ```
+///
+/// Our own.
 pub trait RecursiveChoice: NamedRecursive {
-    /// Its variants, as `NamedChoice` names them. The type itself may stand in them behind pointers.
+    /// Its variants, as in `NamedChoice`. The type itself may be in them behind pointers.
     type Variants: PortableVariants;
 
     ghost has_variants: { IsChoice (defines Self.name Self.stands_for) (named Self.name) Self.name Self.Variants.definitions Self.Variants.variants };
@@ -61,7 +84,8 @@ pub trait RecursiveChoice: NamedRecursive {
     ghost holds: { Self.Variants.end ≤ Self.layout.size };
 }
 
-/// An archived type that holds itself, under the name of `N`. A schema checks it, so that its depth takes no stack. Our own.
+/// A recursive archived type with the name of `N`. It is validated by a schema, so that its depth
+/// takes no machine stack. Our own.
 pub struct ArchivedRecursive<N> {
     of: PhantomData<N>,
 }
@@ -134,7 +158,8 @@ fn define_name(name: &'static str, definition: Expr, defs: &mut Defs) -> Result<
     Ok(())
 }
 
-/// A choice under this name of these variants, each by the expressions of its parts: what a definition is where a type holds itself. Our own.
+/// An expression of a choice with this name and these variants, each by the expressions of its
+/// parts: the definition of a recursive enum. Our own.
 pub fn choice_of(name: &'static str, variants: Vec<Vec<Expr>>) -> Expr
     ensures { shape_of result ≡ choice name.now (variants_in variants.items) }
 {

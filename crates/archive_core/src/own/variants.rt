@@ -1,4 +1,4 @@
-// Variants of a choice by their parts: what an own choice's impls call.
+// Variants of a choice by their parts: what the impls of a user-defined choice call.
 
 ghost use Rattle.std.specs.Prelude.{◌≡◌, ◌+◌, ◌<◌, ◌≤◌, Some, IfOk, OnOk, IfErr, length};
 ghost use Rattle.archive_check.specs.Shape.{variant_at};
@@ -18,8 +18,9 @@ use archive_types::view::RawView;
 use archive_write::ser::Writer;
 use std::alloc::Global;
 
-/// Writes what the parts of a variant own, one after another, and answers their resolvers. The parts are those of `whole`, which the variant holds. Asks
-/// that the variant with this tag has such parts. Refused as `Serialize::serialize` is, for a cause of one of the parts. Our own.
+/// Writes what the parts of a variant own, in order, and returns their resolvers. The caller must
+/// ensure that the variant with this tag has these parts of `whole`. Fails as
+/// `Serialize::serialize` does, with an error caused by one of the parts. Our own.
 pub fn serialize_variant<T, P: SerializeParts<T, S>, X: Choice, S: Writer + Keys>(
     tag: u8,
     whole: &T,
@@ -35,9 +36,10 @@ pub fn serialize_variant<T, P: SerializeParts<T, S>, X: Choice, S: Writer + Keys
     P::serialize_parts(whole, serializer)
 }
 
-/// Writes the tag of a variant over the first byte of `place`, and then part by part, each at its offset; between them and behind the last one zeros stay.
-/// Asks that the variant with this tag has such parts, which end in the choice, that the bytes are zeros, as many as the choice has, and that the resolvers
-/// are those of these parts. Refused as the parts are: with `IsizeOverflow`, 2, or `OffsetOverflow`, 3, where an offset doesn't fit. Our own.
+/// Writes a variant's tag over the first byte of `place`, and then its parts, each at its offset;
+/// padding stays zero. The caller must ensure that the variant with this tag has such parts, which
+/// end in the choice, that the bytes are zeros, as many as the choice has, and that the resolvers
+/// are theirs. Fails with `IsizeOverflow` or `OffsetOverflow` if an offset doesn't fit. Our own.
 pub fn resolve_variant<T, P: SourceParts<T>, X: Choice>(
     tag: u8,
     whole: &T,
@@ -58,9 +60,12 @@ pub fn resolve_variant<T, P: SourceParts<T>, X: Choice>(
     P::resolve_parts(whole, resolvers, pos, 1, &mut bytes[1..])
 }
 
-/// The values of a variant's parts, one after another, where `part` shows a choice. Asks for what a view promises of it, and that the variant that its tag
-/// names has such parts. Memory comes from `alloc`: refused with `OutOfMemory`, 1, where it is refused, and with `CyclicDeserialize`, 13, only where a
-/// shared position is met that is still being read. Our own.
+/// The values of a variant's parts, in order. The caller must ensure what a view promises of
+/// `part`, and that the variant that its tag names has such parts. Our own.
+///
+/// Errors:
+/// - `OutOfMemory`: memory from `alloc` is refused.
+/// - `CyclicDeserialize`: only if a shared position is met that is still being read.
 pub fn deserialize_variant<X: Choice, P: DeserializeParts<T, D>, T: OwnedParts, D: Entries>(
     alloc: Global,
     part: RawView<'_>,

@@ -1,4 +1,4 @@
-// Seals of what stands behind the tags of choices.
+// Seals of what is behind the tags of choices.
 
 ghost use Rattle.std.specs.Prelude.{◌≡◌, ◌+◌, Some, slice_index};
 ghost use Rattle.archive_check.specs.Members.VariantsLayout.{payload_at, payload_definitions};
@@ -11,8 +11,9 @@ use super::{Seal, Spot};
 use archive_types::traits::{Choice, Portable};
 
 impl<'a, T: Choice> Seal<'a, T> {
-    /// A seal of part `i` of the variant that the tag names. The caller must ensure what `payload` of a view requires, and that the seal shows a part of a
-    /// buffer that was checked, as it does when it is made. No byte changes. Our own.
+    /// A seal of part `i` of the variant that the tag names. The caller must ensure what `payload`
+    /// of a view requires, and that the seal shows a part of a validated buffer, as it does when it
+    /// is made. No byte changes. Our own.
     pub fn payload<U: Portable>(self, i: usize) -> Seal<'a, U>
         requires viewed { Viewed T.definitions self.bytes.now self.pos T.pointee self.len }
         requires part { payload_at T.Variants.variants (slice_index self.bytes.now self.pos) i ≡ Some U.shape }

@@ -11,8 +11,9 @@ use super::{Seal, Spot};
 use archive_types::traits::{Portable, Record};
 
 impl<'a, T: Record> Seal<'a, T> {
-    /// A seal of part `i`. The caller must ensure what `field` of a view requires, and that the seal shows a part of a buffer that was checked, as it does
-    /// when it is made. No byte changes. Our own, where rkyv 0.8.18 has a macro that goes to the type's fields.
+    /// A seal of part `i`. The caller must ensure what `field` of a view requires, and that the
+    /// seal shows a part of a validated buffer, as it does when it is made. No byte changes. Our
+    /// own, where rkyv 0.8.18 has a macro that goes to the type's fields.
     pub fn field<U: Portable>(self, i: usize) -> Seal<'a, U>
         requires viewed { Viewed T.definitions self.bytes.now self.pos T.pointee self.len }
         requires part { part_at T.Parts.parts i ≡ Some U.shape }

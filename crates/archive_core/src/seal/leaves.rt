@@ -36,9 +36,10 @@ fn write_over<T: SealedLeaf>(bytes: &mut [u8], pos: usize, value: T::Written)
 }
 
 impl<'a, T: SealedLeaf> Seal<'a, T> {
-    /// Writes a value over the leaf that it shows: its bytes, the lowest first. Asks that the seal shows a part of a buffer that was checked, as it
-    /// does when it is made, and for a `NonZero` a number that isn't 0. Every other byte stays, and in every archive in which the leaf stands it
-    /// alone changes. As in rkyv 0.8.18.
+    /// Writes a value over the leaf that it shows: its bytes, the lowest first. The caller must
+    /// ensure that the seal shows a part of a validated buffer, as it does when it is made, and for
+    /// a `NonZero` a number that isn't 0. Every other byte stays, and in every archive that has the
+    /// leaf, it alone changes. As in rkyv 0.8.18.
     pub fn write(self, value: T::Written)
         requires viewed { Viewed T.definitions self.bytes.now self.pos T.pointee self.len }
         requires can_hold { T.can_hold value }
@@ -55,8 +56,9 @@ impl<'a, T: SealedLeaf> Seal<'a, T> {
 }
 
 impl<'a, T: ArchivePointee> Seal<'a, T> {
-    /// Writes a value over a leaf elsewhere in the same buffer. Asks that a leaf which was checked stands there, and for a `NonZero` a number that
-    /// isn't 0. Every other byte stays, and in every archive in which the leaf stands it alone changes. Our own.
+    /// Writes a value over a leaf elsewhere in the same buffer. The caller must ensure that a
+    /// validated leaf lies there, and for a `NonZero` a number that isn't 0. Every other byte
+    /// stays, and in every archive that has the leaf, it alone changes. Our own.
     pub fn write_at<U: SealedLeaf>(&mut self, spot: Spot<U>, value: U::Written)
         requires viewed { Viewed U.definitions self.old.bytes.now spot.pos U.pointee spot.len }
         requires can_hold { U.can_hold value }

@@ -22,8 +22,9 @@ use archive_types::traits::{Portable, PortablePointee};
 use archive_types::vec::ArchivedVec;
 
 impl<'a, T: PortablePointee> Seal<'a, ArchivedBox<T>> {
-    /// A seal of what the box holds: a value, a slice or a text. Asks that the seal shows a part of a buffer that was checked, as it does when it is
-    /// made. No byte changes. As in rkyv 0.8.18.
+    /// A seal of what the box holds: a value, a slice or a text. The caller must ensure that the
+    /// seal shows a part of a validated buffer, as it does when it is made. No byte changes. As in
+    /// rkyv 0.8.18.
     pub fn get_seal(self) -> Seal<'a, T>
         requires { Viewed T.definitions self.bytes.now self.pos (one (boxed T.pointee)) self.len }
         ensures same_reference { result.bytes.ghost_name ≡ self.entry.bytes.ghost_name }
@@ -40,8 +41,9 @@ impl<'a, T: PortablePointee> Seal<'a, ArchivedBox<T>> {
 }
 
 impl<'a> Seal<'a, ArchivedBox<ArchivedStr>> {
-    /// A seal of the text that the box holds. Asks that the seal shows a part of a buffer that was checked, as it does when it is made. No byte changes.
-    /// In rkyv 0.8.18 it is the box's `get_seal`.
+    /// A seal of the text that the box holds. The caller must ensure that the seal shows a part of
+    /// a validated buffer, as it does when it is made. No byte changes. In rkyv 0.8.18 it is the
+    /// box's `get_seal`.
     pub fn as_str_seal(self) -> Seal<'a, ArchivedStr>
         requires { Viewed no_definition self.bytes.now self.pos (one (boxed text)) self.len }
         ensures same_reference { result.bytes.ghost_name ≡ self.entry.bytes.ghost_name }
@@ -58,9 +60,10 @@ impl<'a> Seal<'a, ArchivedBox<ArchivedStr>> {
 }
 
 impl<'a, T: PortablePointee, F: Flavor> Seal<'a, ArchivedRc<T, F>> {
-    /// A seal of what the pointer leads to. Asks that the seal shows a part of a buffer that was checked, as it does when it is made. No byte changes.
-    /// In rkyv 0.8.18 it is unsafe (`get_seal_unchecked`); here the whole buffer is borrowed for writing, so no other pointer to the value can be used
-    /// meanwhile.
+    /// A seal of what the pointer leads to. The caller must ensure that the seal shows a part of a
+    /// validated buffer, as it does when it is made. No byte changes. In rkyv 0.8.18 it is unsafe
+    /// (`get_seal_unchecked`); here the whole buffer is borrowed for writing, so no other pointer
+    /// to the value can be used meanwhile.
     pub fn get_seal(self) -> Seal<'a, T>
         requires { Viewed T.definitions self.bytes.now self.pos (one (shared (flavor_of F.Flavor) T.pointee)) self.len }
         ensures same_reference { result.bytes.ghost_name ≡ self.entry.bytes.ghost_name }
@@ -77,8 +80,9 @@ impl<'a, T: PortablePointee, F: Flavor> Seal<'a, ArchivedRc<T, F>> {
 }
 
 impl<'a, T: PortablePointee, F: Flavor> Seal<'a, ArchivedRcWeak<T, F>> {
-    /// A seal of what the pointer leads to; none exactly where it is null, whose offset is 1. Asks that the seal shows a part of a buffer that was
-    /// checked, as it does when it is made. No byte changes. As in rkyv 0.8.18.
+    /// A seal of what the pointer leads to; none exactly if it is null, whose offset is 1. The
+    /// caller must ensure that the seal shows a part of a validated buffer, as it does when it is
+    /// made. No byte changes. As in rkyv 0.8.18.
     pub fn upgrade_seal(self) -> Option<Seal<'a, T>>
         requires { Viewed T.definitions self.bytes.now self.pos (weak_to F.Flavor T.pointee) self.len }
         ensures offset { IfSome result (λ _. i32_at self.entry.bytes.now self.entry.pos ≡ whole 1 → ⊥) }
@@ -100,8 +104,8 @@ impl<'a, T: PortablePointee, F: Flavor> Seal<'a, ArchivedRcWeak<T, F>> {
 }
 
 impl<'a, T: Portable> Seal<'a, ArchivedVec<T>> {
-    /// A seal of the elements. Asks that the seal shows a part of a buffer that was checked, as it does when it is made. No byte changes. As in rkyv
-    /// 0.8.18.
+    /// A seal of the elements. The caller must ensure that the seal shows a part of a validated
+    /// buffer, as it does when it is made. No byte changes. As in rkyv 0.8.18.
     pub fn as_slice_seal(self) -> Seal<'a, ArchivedSlice<T>>
         requires { Viewed T.definitions self.bytes.now self.pos (one (vec_shape T.shape)) self.len }
         ensures same_reference { result.bytes.ghost_name ≡ self.entry.bytes.ghost_name }
@@ -118,8 +122,10 @@ impl<'a, T: Portable> Seal<'a, ArchivedVec<T>> {
 }
 
 impl<'a, T: Portable> Seal<'a, ArchivedVec<T>> {
-    /// A seal of the element `index`, of which 0 is the first. Asks that there is one, and that the seal shows a part of a buffer that was checked, as
-    /// it does when it is made. No byte changes. In rkyv 0.8.18 it is `index` of the vector's slice, which panics where there is none.
+    /// A seal of the element `index`, of which 0 is the first. The caller must ensure that there is
+    /// one, and that the seal shows a part of a validated buffer, as it does when it is made. No
+    /// byte changes. In rkyv 0.8.18 it is `index` of the vector's slice, which panics where there
+    /// is none.
     pub fn index(self, index: usize) -> Seal<'a, T>
         requires viewed { Viewed T.definitions self.bytes.now self.pos (one (vec_shape T.shape)) self.len }
         requires below { index < u32_at self.bytes.now (self.pos + 4) }
@@ -144,8 +150,9 @@ impl<'a, T: Portable> Seal<'a, ArchivedSlice<T>> {
         self.len
     }
 
-    /// A seal of the element `index`, of which 0 is the first. Asks that there is one, and that the seal shows a part of a buffer that was checked, as
-    /// it does when it is made. No byte changes. As in rkyv 0.8.18, which panics where there is none.
+    /// A seal of the element `index`, of which 0 is the first. The caller must ensure that there is
+    /// one, and that the seal shows a part of a validated buffer, as it does when it is made. No
+    /// byte changes. As in rkyv 0.8.18, which panics where there is none.
     pub fn index(self, index: usize) -> Seal<'a, T>
         requires viewed { Viewed T.definitions self.bytes.now self.pos (run T.shape) self.len }
         requires below { index < self.len }
@@ -163,8 +170,9 @@ impl<'a, T: Portable> Seal<'a, ArchivedSlice<T>> {
 }
 
 impl<'a, T: Portable, const N: usize> Seal<'a, [T; N]> {
-    /// A seal of the element `index`, of which 0 is the first. Asks that there is one, and that the seal shows a part of a buffer that was checked, as
-    /// it does when it is made. No byte changes. As in rkyv 0.8.18, which panics where there is none.
+    /// A seal of the element `index`, of which 0 is the first. The caller must ensure that there is
+    /// one, and that the seal shows a part of a validated buffer, as it does when it is made. No
+    /// byte changes. As in rkyv 0.8.18, which panics where there is none.
     pub fn index(self, index: usize) -> Seal<'a, T>
         requires viewed { Viewed T.definitions self.bytes.now self.pos (one (array N T.shape)) self.len }
         requires below { index < N }
@@ -182,8 +190,9 @@ impl<'a, T: Portable, const N: usize> Seal<'a, [T; N]> {
 }
 
 impl<'a, T: Portable> Seal<'a, ArchivedOption<T>> {
-    /// A seal of the value, if there is one. Asks that the seal shows a part of a buffer that was checked, as it does when it is made. No byte changes,
-    /// and what stands behind a `None` isn't looked at. As in rkyv 0.8.18.
+    /// A seal of the value, if there is one. The caller must ensure that the seal shows a part of a
+    /// validated buffer, as it does when it is made. No byte changes, and what is behind a `None`
+    /// isn't looked at. As in rkyv 0.8.18.
     pub fn as_seal(self) -> Option<Seal<'a, T>>
         requires { Viewed T.definitions self.bytes.now self.pos (one (option_shape T.shape)) self.len }
         ensures tag { MatchOption result (seal_tag self.entry ≡ 0) (λ s. seal_tag self.entry ≡ 1) }
@@ -202,8 +211,9 @@ impl<'a, T: Portable> Seal<'a, ArchivedOption<T>> {
         Some(spot.seal(bytes))
     }
 
-    /// An iterator over the seal of the value: it comes once, from either end, and then none. Asks that the seal shows a part of a buffer that was
-    /// checked, as it does when it is made. No byte changes. As in rkyv 0.8.18.
+    /// An iterator over the seal of the value: it comes once, from either end, and then none. The
+    /// caller must ensure that the seal shows a part of a validated buffer, as it does when it is
+    /// made. No byte changes. As in rkyv 0.8.18.
     pub fn iter_seal(self) -> Iter<Seal<'a, T>>
         requires { Viewed T.definitions self.bytes.now self.pos (one (option_shape T.shape)) self.len }
         ensures tag { MatchOption result (seal_tag self.entry ≡ 0) (λ s. seal_tag self.entry ≡ 1) }

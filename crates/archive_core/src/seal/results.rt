@@ -10,8 +10,9 @@ use archive_types::result::{ArchivedResult, Iter};
 use archive_types::traits::Portable;
 
 impl<'a, T: Portable, E: Portable> Seal<'a, ArchivedResult<T, E>> {
-    /// A seal of the value or of the error. Asks that the seal shows a part of a buffer that was checked, as it does when it is made. No byte changes,
-    /// and what stands behind the shorter one isn't looked at. As in rkyv 0.8.18.
+    /// A seal of the value or of the error. The caller must ensure that the seal shows a part of a
+    /// validated buffer, as it does when it is made. No byte changes, and what is behind the
+    /// shorter one isn't looked at. As in rkyv 0.8.18.
     pub fn as_seal(self) -> Result<Seal<'a, T>, Seal<'a, E>>
         requires { ShowsResult T.Portable E.Portable self }
         ensures tag { MatchResult result (λ s. seal_tag self.entry ≡ 0) (λ e. seal_tag self.entry ≡ 1) }
@@ -36,8 +37,9 @@ impl<'a, T: Portable, E: Portable> Seal<'a, ArchivedResult<T, E>> {
         }
     }
 
-    /// An iterator over the seal of the value, if it is an `Ok`: it comes once, from either end, and then none. Asks that the seal shows a part of a
-    /// buffer that was checked, as it does when it is made. No byte changes. As in rkyv 0.8.18.
+    /// An iterator over the seal of the value, if it is an `Ok`: it comes once, from either end,
+    /// and then none. The caller must ensure that the seal shows a part of a validated buffer, as
+    /// it does when it is made. No byte changes. As in rkyv 0.8.18.
     pub fn iter_seal(self) -> Iter<Seal<'a, T>>
         requires { ShowsResult T.Portable E.Portable self }
         ensures tag { MatchOption result (seal_tag self.entry ≡ 1) (λ s. seal_tag self.entry ≡ 0) }

@@ -72,9 +72,10 @@ fn write_string_over(value: &str, bytes: &mut [u8], string: Spot<ArchivedString>
 }
 
 impl<'a> Seal<'a, ArchivedStr> {
-    /// Writes a text over the one that it shows. Asks that the seal shows a part of a buffer that was checked, as it does when it is made, and that
-    /// both texts have equally many bytes. Every other byte stays, and in every archive in which the text stands it alone changes. Our own: in rkyv
-    /// 0.8.18 unsafe code alone writes a sealed `str`.
+    /// Writes a text over the one that it shows. The caller must ensure that the seal shows a part
+    /// of a validated buffer, as it does when it is made, and that both texts have the same number
+    /// of bytes. Every other byte stays, and in every archive that has the text, it alone changes.
+    /// Our own: in rkyv 0.8.18 unsafe code alone writes a sealed `str`.
     pub fn write_str(self, value: &str)
         requires viewed { Viewed no_definition self.bytes.now self.pos text self.len }
         requires same_length { length value.now ≡ self.len }
@@ -90,8 +91,8 @@ impl<'a> Seal<'a, ArchivedStr> {
 }
 
 impl<'a> Seal<'a, ArchivedString> {
-    /// A seal of its text, wherever it stands. Asks that the seal shows a part of a buffer that was checked, as it does when it is made. No byte
-    /// changes. As in rkyv 0.8.18.
+    /// A seal of its text, wherever it lies. The caller must ensure that the seal shows a part of a
+    /// validated buffer, as it does when it is made. No byte changes. As in rkyv 0.8.18.
     pub fn as_str_seal(self) -> Seal<'a, ArchivedStr>
         requires { Viewed no_definition self.bytes.now self.pos (one str_shape) self.len }
         ensures same_reference { result.bytes.ghost_name ≡ self.entry.bytes.ghost_name }
@@ -106,8 +107,10 @@ impl<'a> Seal<'a, ArchivedString> {
         spot.seal(bytes)
     }
 
-    /// Writes a text over that of the string, wherever it stands. Asks that the seal shows a part of a buffer that was checked, as it does when it is
-    /// made, and that both texts have equally many bytes. Every other byte stays, and in every archive in which the text stands it alone changes. Our own.
+    /// Writes a text over that of the string, wherever it lies. The caller must ensure that the
+    /// seal shows a part of a validated buffer, as it does when it is made, and that both texts
+    /// have the same number of bytes. Every other byte stays, and in every archive that has the
+    /// text, it alone changes. Our own.
     pub fn write_str(self, value: &str)
         requires viewed { Viewed no_definition self.bytes.now self.pos (one str_shape) self.len }
         requires same_length { length value.now ≡ length (string_text self.bytes.now self.pos) }
@@ -129,9 +132,10 @@ impl<'a> Seal<'a, ArchivedString> {
 }
 
 impl<'a, T: ArchivePointee> Seal<'a, T> {
-    /// Writes a text over a boxed or shared one elsewhere in the same buffer. The caller must ensure that the spot is of a text that was checked, and
-    /// that both texts have the same number of bytes. Every other byte stays, in every archive in which the text stands it alone changes, and the seal
-    /// shows what it showed. Our own.
+    /// Writes a text over a boxed or shared one elsewhere in the same buffer. The caller must
+    /// ensure that the spot is of a text that was checked, and that both texts have the same number
+    /// of bytes. Every other byte stays, in every archive that has the text, it alone changes, and
+    /// the seal shows what it showed. Our own.
     pub fn write_str_at(&mut self, spot: Spot<ArchivedStr>, value: &str)
         requires viewed { Viewed no_definition self.old.bytes.now spot.pos text spot.len }
         requires same_length { length value.now ≡ spot.len }

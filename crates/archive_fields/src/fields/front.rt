@@ -28,9 +28,11 @@ fn resolve_into<T: Archive>(
 ) -> Result<(), Error>
     requires zeroed { ZeroedPlace T.Archived.layout.size pos bytes.old }
     requires same_value { T.belongs value.now resolver }
-    ensures resolved { OnOk result (BytesResolved T.Archived.Portable pos bytes.new (T.flat value.now resolver)) }
+    ensures resolved { OnOk result (BytesResolved T.Archived.Portable pos bytes.new
+        (T.flat value.now resolver)) }
     ensures same_length { length bytes.new ≡ length bytes.old }
-    ensures refused { IfErr result (HindersAt T.Archived.definitions T.Archived.shape (T.flat value.now resolver) pos) }
+    ensures refused { IfErr result (HindersAt T.Archived.definitions T.Archived.shape
+        (T.flat value.now resolver) pos) }
 {
     value.resolve(resolver, Place::new(pos, bytes))
 }
@@ -51,13 +53,16 @@ pub(super) fn resolve_front<T: Archive>(
     start: usize,
     bytes: &mut [u8],
 ) -> Result<usize, Error>
-    requires zeroed { ZeroedParts (up start T.Archived.layout.align + T.Archived.layout.size) start pos bytes.old }
+    requires zeroed { ZeroedParts (up start T.Archived.layout.align + T.Archived.layout.size) start
+        pos bytes.old }
     requires same_value { T.belongs value.now resolver }
-    ensures put { IfOk result (FrontPut T.Archived.definitions T.Archived.shape T.Archived.layout (T.flat value.now resolver) pos start bytes.old bytes.new) }
+    ensures put { IfOk result (FrontPut T.Archived.definitions T.Archived.shape T.Archived.layout
+        (T.flat value.now resolver) pos start bytes.old bytes.new) }
     ensures low { IfOk result (λ end. start ≤ end) }
     ensures few { IfOk result (λ end. end - start ≤ length bytes.new) }
     ensures same_length { length bytes.new ≡ length bytes.old }
-    ensures refused { IfErr result (HindersAt T.Archived.definitions T.Archived.shape (T.flat value.now resolver) (pos + up start T.Archived.layout.align)) }
+    ensures refused { IfErr result (HindersAt T.Archived.definitions T.Archived.shape
+        (T.flat value.now resolver) (pos + up start T.Archived.layout.align)) }
 {
     let first = begin_of::<T::Archived>(start);
     let end = first + T::Archived::size();
@@ -73,9 +78,11 @@ pub(super) fn resolve_front<T: Archive>(
 /// Writes what no field owns, which is nothing.
 #[tactic(auto, using(archive_types::proofs::Planning::PlannedParts::serialized_no_part, archive_types::proofs::Planning::Causes::goes_nowhere))]
 pub fn serialize_0<S: Writer + Keys>(_serializer: &mut S) -> Result<(), Error>
-    ensures serialized { IfOk result (λ r. SerializedParts no_definition no_part [] no_value no_value (S.state _serializer.old) (S.state _serializer.new)) }
+    ensures serialized { IfOk result (λ r. SerializedParts no_definition no_part [] no_value
+        no_value (S.state _serializer.old) (S.state _serializer.new)) }
     ensures goes_on { GoesOn (S.state _serializer.old) (S.state _serializer.new) }
-    ensures refused { IfErr result (λ refusal. ArePartsRefused no_definition no_part [] no_value (S.state _serializer.old) (S.state _serializer.new) refusal) }
+    ensures refused { IfErr result (λ refusal. ArePartsRefused no_definition no_part [] no_value
+        (S.state _serializer.old) (S.state _serializer.new) refusal) }
 {
     Ok(())
 }
@@ -83,9 +90,11 @@ pub fn serialize_0<S: Writer + Keys>(_serializer: &mut S) -> Result<(), Error>
 /// Leaves zeros where there is no field.
 pub fn resolve_0(resolvers: (), pos: usize, start: usize, bytes: &mut [u8]) -> Result<(), Error>
     requires zeroed { ZeroedParts start start pos bytes.old }
-    ensures resolved { OnOk result (ResolvesParts no_definition pos start bytes.new no_part no_value) }
+    ensures resolved { OnOk result (ResolvesParts no_definition pos start bytes.new no_part
+        no_value) }
     ensures same_length { length bytes.new ≡ length bytes.old }
-    ensures refused { IfErr result (λ refusal. HindersPartsAt no_definition no_part no_value pos start refusal) }
+    ensures refused { IfErr result (λ refusal. HindersPartsAt no_definition no_part no_value pos
+        start refusal) }
 {
     let () = resolvers;
     Ok(())

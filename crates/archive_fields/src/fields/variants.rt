@@ -48,7 +48,8 @@ pub fn read_case<X: Portable, P: DeserializeParts<T, D>, T: OwnedParts, D: Entri
     requires tag { part_tag part ≡ tag }
     requires variant { variant_in X.shape tag ≡ Some P.parts }
     requires nameless { are_none P.definitions ≡ true }
-    ensures read { IfOk result (λ t. ReadsPart X.ArchivePointee part D.Entries deserializer (case tag (T.meanings t)) (T.keys t)) }
+    ensures read { IfOk result (λ t. ReadsPart X.ArchivePointee part D.Entries deserializer
+        (case tag (T.meanings t)) (T.keys t)) }
     ensures refused { IfErr result (RefusesPart X.ArchivePointee part D.Entries deserializer) }
 {
     let RawView { bytes, pos, .. } = part;

@@ -19,7 +19,8 @@ use archive_check::format::bytes::is_text;
 use archive_check::format::error::Error;
 use archive_check::format::extents::times;
 
-/// Leaves a region: the range is the one from `start` to `end` again. Refused as `pop_subtree_range` is.
+/// Leaves a region: the range is the one from `start` to `end` again. Fails as `pop_subtree_range`
+/// does.
 #[inline(always)]
 pub fn leave_region<C: ArchiveContext>(
     start: usize,
@@ -35,7 +36,8 @@ pub fn leave_region<C: ArchiveContext>(
 }
 
 impl Checker<'_> {
-    /// Enters the region of so many of the pointee at `position`. It stands in its callers, since what it answers is wide.
+    /// Enters the region of so many of the pointee at `position`. It stands in its callers, since
+    /// what it returns is wide.
     #[inline(always)]
     pub fn enter_region<C: ArchiveContext>(
         &self,
@@ -56,7 +58,8 @@ impl Checker<'_> {
         enter(size, node.align, position, &mut work.fault, context)
     }
 
-    /// Checks what a region of so many of the pointee holds, where that is shallow. Answers whether it is.
+    /// Checks what a region of so many of the pointee holds, where that is shallow. Returns whether
+    /// it is.
     #[inline(always)]
     fn contents<C: ArchiveContext>(
         &self,

@@ -137,7 +137,8 @@ impl Checker<'_> {
         Some(())
     }
 
-    /// Checks the node at `at` where it is a string or a pointer, which takes no call. Answers whether it is one.
+    /// Checks the node at `at` where it is a string or a pointer, which takes no call. Returns
+    /// whether it is one.
     #[inline(always)]
     fn check_single<C: ArchiveContext>(
         &self,
@@ -167,8 +168,8 @@ impl Checker<'_> {
         }
     }
 
-    /// Checks a variant's part at its place in what begins at `at`, where the part stands alone and is a string or a pointer. Answers whether
-    /// it is so.
+    /// Checks a variant's part at its place in what begins at `at`, where the part stands alone and
+    /// is a string or a pointer. Returns whether it is so.
     #[inline(always)]
     fn check_alone<C: ArchiveContext>(
         &self,

@@ -16,9 +16,10 @@ use archive_check::format::error::Error;
 use std::alloc::Global;
 
 impl Checker<'_> {
-    /// Whether the bytes are an archive of what the root node stands for, with the root at a position in bytes. In a context for these
-    /// bytes that met nothing yet the answer is exact: Ok where they are one with no region too deep, else the refusal of the first test
-    /// that is false, with the numbers of `Error`; and 1 where memory is refused.
+    /// Whether the bytes are an archive of what the root node stands for, with the root at a
+    /// position in bytes. In a fresh context for these bytes the result is exact: Ok where they are
+    /// one with no region too deep, else the error of the first test that is false, or
+    /// `OutOfMemory` if memory is refused.
     pub fn check<C: ArchiveContext + SharedContext>(
         &self,
         alloc: Global,

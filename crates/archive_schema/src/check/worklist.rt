@@ -84,7 +84,7 @@ impl Worklist {
         refuse(&mut self.fault, fault)
     }
 
-    /// One entry more. Refused with 1 where memory is refused.
+    /// One entry more. Fails with `OutOfMemory` if memory is refused.
     #[inline(always)]
     fn push(&mut self, entry: Work) -> Option<()>
         ensures some { OnSome result (list_of self.new ≡ entry ∷ list_of self.old) }
@@ -98,7 +98,8 @@ impl Worklist {
         Some(())
     }
 
-    /// The node at `at` is left. Refused with 1 where memory is refused, as are the next ones.
+    /// The node at `at` is left. Fails with `OutOfMemory` if memory is refused, as are the next
+    /// ones.
     #[inline(always)]
     pub fn part(&mut self, node: usize, at: usize) -> Option<()>
         ensures some { OnSome result (list_of self.new ≡ Work.Part node at ∷ list_of self.old) }

@@ -49,7 +49,8 @@ pub fn greater(a: Option<usize>, b: Option<usize>) -> Option<usize>
     }
 }
 
-/// Where what is laid out ends, and the greatest alignment in it: of parts one behind another, or of variants each for itself.
+/// Where what is laid out ends, and the greatest alignment in it: of parts one after another, or of
+/// variants each for itself.
 #[derive(Clone, Copy)]
 pub struct Extent {
     /// Where it ends. None: above `usize::MAX`.

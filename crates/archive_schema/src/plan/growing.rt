@@ -22,7 +22,7 @@ pub struct NamedNode {
     pub node: usize,
 }
 
-/// Parts that are laid out one behind another.
+/// Parts that are laid out one after another.
 #[derive(Drop)]
 pub struct LaidParts {
     /// The parts.

@@ -131,8 +131,8 @@ fn gather(name: &str, rest: &mut Vec<Def>, found: &mut Vec<Def>) -> Result<(), E
     Ok(())
 }
 
-/// The definitions that the root reaches, each once, taken out of those given. Refused with 30 where one of them is missing, and with 1 where memory
-/// is refused.
+/// The definitions that the root reaches, each once, taken out of those given. Fails with
+/// `ShapeConflict` if one of them is missing, and with `OutOfMemory` if memory is refused.
 pub fn collect(alloc: Global, root: &Expr, rest: &mut Vec<Def>) -> Result<Vec<Def>, Error>
     ensures ok { IfOk result (λ found. Collected (entries_of rest.old.items) (shape_of root.now) (entries_of found.items)) }
     ensures err { IfErr result (ExplainsMissing (entries_of rest.old.items) (shape_of root.now)) }
@@ -173,8 +173,9 @@ fn order_next(placed: &mut Vec<Def>, rest: &mut Vec<Def>) -> Result<(), Error>
     Ok(())
 }
 
-/// The definitions in an order in which each holds, other than behind a pointer, only names before it. Refused with 31 where a name holds
-/// itself, and with 1 where memory is refused.
+/// The definitions in an order in which each holds, other than behind a pointer, only names before
+/// it. Fails with `RecursiveLayout` if a name contains itself, and with `OutOfMemory` if memory is
+/// refused.
 pub fn in_order(alloc: Global, rest: &mut Vec<Def>) -> Result<Vec<Def>, Error>
     requires { Complete (entries_of rest.old.items) }
     ensures ok { IfOk result (λ placed. Arranged (entries_of rest.old.items) (entries_of placed.items)) }
@@ -187,8 +188,9 @@ pub fn in_order(alloc: Global, rest: &mut Vec<Def>) -> Result<Vec<Def>, Error>
     Ok(placed)
 }
 
-/// The definitions that `T` brings and its shape reaches, in order. Refused with 30 where a name that is reached has none or two, else with 31
-/// where one holds itself other than behind a pointer, and with 1 where memory is refused.
+/// The definitions that `T` brings and its shape reaches, in order. Fails with `ShapeConflict` if a
+/// name that is reached has none or two, else with `RecursiveLayout` if one contains itself other
+/// than behind a pointer, and with `OutOfMemory` if memory is refused.
 pub fn definitions_of<T: Portable>(alloc: Global, root: &Expr) -> Result<Vec<Def>, Error>
     requires { shape_of root.now ≡ T.shape }
     ensures made { IfOk result (λ ds. Prepared T.definitions T.shape (entries_of ds.items)) }

@@ -13,7 +13,8 @@ use archive_check::format::defs::Def;
 use archive_check::format::expr::{Expr, Pointee};
 use std::alloc::{AllocError, Global};
 
-/// So many and so many. Refused with 1 where that is above `usize::MAX`: there is no memory for it.
+/// So many and so many. Fails with `OutOfMemory` if that is above `usize::MAX`: there is no memory
+/// for it.
 pub fn add(a: usize, b: usize) -> Result<usize, AllocError>
     ensures { IfOk result (λ n. n ≡ a + b) }
 {
@@ -30,7 +31,8 @@ fn count_pointee(pointee: &Pointee) -> usize
     }
 }
 
-/// How many nodes an expression is compiled to, but for what its pointers lead to. Refused with 1 where that is above `usize::MAX`.
+/// How many nodes an expression is compiled to, but for what its pointers lead to. Fails with
+/// `OutOfMemory` if that is above `usize::MAX`.
 #[cycle(count)]
 #[tactic(auto, using(archive_check::proofs::format::Views::views))]
 pub fn count(expr: &Expr) -> Result<usize, AllocError>
@@ -84,8 +86,8 @@ fn count_variants(variants: &[Vec<Expr>]) -> Result<usize, AllocError>
     Ok(total)
 }
 
-/// The node of an expression whose nodes begin at `start`, and where they end: a name has its own, which is elsewhere and known. Refused with
-/// 1 where the end is above `usize::MAX`.
+/// The node of an expression whose nodes begin at `start`, and where they end: a name has its own,
+/// which is elsewhere and known. Fails with `OutOfMemory` if the end is above `usize::MAX`.
 pub fn root(names: &[NamedNode], expr: &Expr, start: usize) -> Result<(usize, usize), AllocError>
     requires { (name : Name) → shape_of expr.now ≡ named name → IsSome (node_of names.now name) }
     ensures { IfOk result (λ r. IsNumberedFrom names.now start (shape_of expr.now) r.0 r.1) }
@@ -98,8 +100,8 @@ pub fn root(names: &[NamedNode], expr: &Expr, start: usize) -> Result<(usize, us
     Ok((end - 1, end))
 }
 
-/// The nodes that definitions are compiled to, one after another, and how many there are. Each is a name only where that is defined before it.
-/// Memory comes from `alloc`.
+/// The nodes that definitions are compiled to, one after another, and how many there are. Each is a
+/// name only if that is defined before it. Memory comes from `alloc`.
 pub fn number(alloc: Global, defs: &[Def]) -> Result<(Vec<NamedNode>, usize), AllocError>
     requires { DefsInOrder defs.now }
     ensures { IfOk result (λ r. AreNumbered defs.now r.0.items r.1) }

@@ -133,11 +133,13 @@ module _ (D : Definitions) (bytes : List ℕ) (q : ℕ) (P : Pointee) (n : ℕ) 
     once_both : KeepsRead keeps old new (ks ++ ls)
     once_both on by complete =
         let first = h.once on by complete in
-        let second = g.once on (h.kept.named by) first.1 in
-        (λ key c. ⊎_elim
-        (λ a. let (k, at', is) = first.0 key a in (k, g.kept.finished key.0 k at', is))
-        (λ b. second.0 key b)
-        (Contains-append_cases ks ls key c), second.1)
+        let second = g.once on (h.kept.named by) first.1 in (
+          λ key c. ⊎_elim
+              (λ a. let (k, at', is) = first.0 key a in (k, g.kept.finished key.0 k at', is))
+              (λ b. second.0 key b)
+              (Contains-append_cases ks ls key c),
+          second.1,
+        )
 
     both_read : TailRead keeps (part X ps) at old new (value v vs) (ks ++ ls)
     both_read = record { kept = keeps_both old mid new h.kept g.kept; fills = fills_both; shared = shared_both; unmet = unmet_both; closed = closed_both; once = once_both }
@@ -225,10 +227,10 @@ module _ (D : Definitions) (X : Shape) (E : Definitions) (ps : Parts) (is : IsRe
     }
 
   -- in a contract's form
-  pub record_read : {keeps : Bool} {T : Type 0} (old new : Entries) (meanings : T → Values) (keys : T → List Naming) (r : Result T Error) → IfOk r (λ t. PartsReadBack keeps bytes q E ps 0 old new (meanings t) (keys t))
+  pub record_read : (keeps : Bool) {T : Type 0} (old new : Entries) (meanings : T → Values) (keys : T → List Naming) (r : Result T Error) → IfOk r (λ t. PartsReadBack keeps bytes q E ps 0 old new (meanings t) (keys t))
       → IfOk r (λ t. ReadsBack keeps D bytes q (one X) n old new (product (meanings t)) (keys t))
-  record_read old new meanings keys (Ok t) h = record_read_back old new (meanings t) (keys t) h
-  record_read old new meanings keys (Err e) h = tt
+  record_read keeps old new meanings keys (Ok t) h = record_read_back old new (meanings t) (keys t) h
+  record_read keeps old new meanings keys (Err e) h = tt
 
   pub record_refuses : (told : Entries) (e : Error) → RefusesParts E bytes q ps 0 told e → RefusesReading D bytes q (one X) n told e
   record_refuses told e (inl memory) = inl memory

@@ -1,4 +1,4 @@
-// The region of a value that was serialized before, for types that hold themselves.
+// The region of a value that was serialized before, for recursive types.
 
 ghost use Rattle.std.specs.Prelude.{◌≡◌, ◌+◌, ◌<◌, ◌≤◌, ◌^◌, length, OnOk, IfOk, IfErr};
 ghost use Rattle.archive_check.specs.CleanRegions.{IsZeroed};
@@ -21,11 +21,15 @@ use archive_check::format::error::Error;
 use archive_write::ser::{ResolverAlloc, Writer, WriterExt};
 use std::alloc::Allocator;
 
-/// Writes the region of a value that was serialized, and answers the resolver of a box of it. A type that holds itself behind a box calls its own
-/// `serialize` for the inner value, and then this, where another one calls `serialize` of the box. Asks that the resolver is one of this value.
-/// Refused as the value's resolving refuses, with `PositionTooLarge`, 4, where the region stands above 4,294,967,295, with `LayoutTooLarge`, 23,
-/// where it would end above `usize::MAX`, with `OutOfMemory`, 1, where memory is refused, or as the writer refuses (`BufferOverflow`, 8;
-/// `WriterFailed`, 9). After a refusal, too, the bytes from before are a beginning of those that `serializer` holds. Our own.
+/// Writes the region of a value that was serialized, and returns the resolver of a box of it: for
+/// recursive types, which call their own `serialize` for the inner value first. The caller must
+/// ensure that the resolver is one of this value. Existing bytes stay, after a failure too. Our
+/// own.
+///
+/// Errors:
+/// - `PositionTooLarge`: the region lies above 4,294,967,295.
+/// - `LayoutTooLarge`: it would end above `usize::MAX`.
+/// - those of the value's `resolve`, of memory and of the writer.
 pub fn serialize_inner<S: Writer + ResolverAlloc, T: Archive>(
     value: &T,
     resolver: T::Resolver,
@@ -62,9 +66,10 @@ fn write_inner<A: Allocator + Drop, S: Writer, T: Archive>(
     Ok(BoxResolver::from_pos(pos as usize))
 }
 
-/// Writes the variant with this tag whose only part is a box of what `serialize_inner` wrote, over zeros that stand at `pos`, in bytes from the
-/// buffer's first one: the tag, and the box four bytes behind it. Asks for eight zeros at least, and that their end fits `usize`. Refused with
-/// `IsizeOverflow`, 2, or `OffsetOverflow`, 3, where the box's offset doesn't fit. Our own.
+/// Writes a variant whose only part is a box of what `serialize_inner` wrote, over zeros at `pos`:
+/// the tag, and the box four bytes behind it. The caller must ensure that there are at least eight
+/// zeros, whose end fits `usize`. Fails with `IsizeOverflow` or `OffsetOverflow` if the offset
+/// doesn't fit. Our own.
 pub fn resolve_inner<T: Portable>(
     tag: u8,
     resolver: BoxResolver,

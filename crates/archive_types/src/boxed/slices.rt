@@ -37,14 +37,14 @@ use archive_num::FixedUsize;
 use archive_write::ser::{ResolverAlloc, Writer};
 use std::alloc::Global;
 
-/// Elements that are archived as a boxed slice. It stands where rkyv 0.8.18 has a `Box<[T]>`.
+/// Elements that are archived as a boxed slice. In its place rkyv 0.8.18 has a `Box<[T]>`.
 #[derive(Drop)]
 pub struct BoxSlice<T> {
     /// The elements.
     pub items: Vec<T>,
 }
 
-/// A text that is archived as a boxed one. It stands where rkyv 0.8.18 has a `Box<str>`.
+/// A text that is archived as a boxed one. In its place rkyv 0.8.18 has a `Box<str>`.
 #[derive(Drop)]
 pub struct BoxStr {
     /// The text.
@@ -96,9 +96,10 @@ impl<T: Archive> Archive for BoxSlice<T> {
 }
 
 impl<S: Writer + ResolverAlloc, T: Serialize<S>> Serialize<S> for BoxSlice<T> {
-    /// Writes what each element owns, in order, and then all elements as one region. Refused with `LengthTooLarge`, 5, before anything is written,
-    /// exactly where there are more than 4,294,967,295 elements, with `PositionTooLarge`, 4, where they stand above 4,294,967,295, and else as
-    /// `serialize_unsized` of a `Slice` refuses; in bulk, as that does.
+    /// Writes what each element owns, in order, and then all elements as one region. Fails with
+    /// `LengthTooLarge` before anything is written, exactly if there are more than 4,294,967,295
+    /// elements, with `PositionTooLarge` if they lie above 4,294,967,295, and else as
+    /// `serialize_unsized` of a `Slice` does; in bulk, as that does.
     #[tactic(auto, using(crate::proofs::Planning::Owners::serialized_box, crate::proofs::Planning::Owners::box_refused, crate::proofs::Planning::Owners::far_box_refused))]
     fn serialize(&self, serializer: &mut S) -> Result<BoxResolver, Error>
         ensures serialized { IfOk result (SliceBoxed T.Archive T.Archived.Portable self.now.items.items S.Keys serializer) }
@@ -205,8 +206,9 @@ impl Archive for BoxStr {
 }
 
 impl<S: Writer + ResolverAlloc> Serialize<S> for BoxStr {
-    /// Writes the text as a region of its own. Refused with `LengthTooLarge`, 5, before anything is written, exactly where it is longer than
-    /// 4,294,967,295 bytes, with `PositionTooLarge`, 4, where it stands above 4,294,967,295, and else as the writer refuses.
+    /// Writes the text as a region of its own. Fails with `LengthTooLarge` before anything is
+    /// written, exactly if it is longer than 4,294,967,295 bytes, with `PositionTooLarge` if it
+    /// lies above 4,294,967,295, and else as the writer does.
     #[tactic(auto, using(crate::proofs::Planning::Owners::serialized_box, crate::proofs::Planning::Owners::box_refused, crate::proofs::Planning::Owners::far_box_refused))]
     fn serialize(&self, serializer: &mut S) -> Result<BoxResolver, Error>
         ensures serialized { IfOk result (TextBoxed (string_bytes self.now.text) S.Keys serializer) }

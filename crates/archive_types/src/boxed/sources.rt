@@ -45,7 +45,8 @@ impl Model for BoxResolver {
 }
 
 impl BoxResolver {
-    /// The resolver of a box of what stands at `pos`, in bytes from the first one. Asks that it fits 32 bits. As in rkyv 0.8.18, where it may be any.
+    /// The resolver of a box of what is at `pos`, in bytes from the first one. The caller must
+    /// ensure that it fits 32 bits. As in rkyv 0.8.18, where it may be any.
     pub fn from_pos(pos: usize) -> BoxResolver
         requires { pos ≤ 4294967295 }
         ensures { result ≡ pos }
@@ -55,8 +56,9 @@ impl BoxResolver {
 }
 
 impl<T: PortablePointee> ArchivedBox<T> {
-    /// Writes what `value` owns and then its region, and answers where. It asks nothing. Refused with `PositionTooLarge`, 4, where the region stands
-    /// above 4,294,967,295, and as `serialize_unsized` of `value` refuses.
+    /// Writes what `value` owns and then its region, and returns where. Fails with
+    /// `PositionTooLarge` if the region lies above 4,294,967,295, and as `serialize_unsized` of
+    /// `value` does.
     #[tactic(auto, using(crate::proofs::Planning::Owners::serialized_box, crate::proofs::Planning::Owners::box_refused, crate::proofs::Planning::Owners::far_box_refused))]
     pub fn serialize_from_ref<S: Writer, U: SerializeUnsized<S, Archived = T>>(
         value: &U,
@@ -71,9 +73,10 @@ impl<T: PortablePointee> ArchivedBox<T> {
         Ok(BoxResolver { pos })
     }
 
-    /// Writes the box's bytes over those of `place`, with this length of what it leads to. Asks that they are as many as the box has, and that the
-    /// length is 0 where that is one value. Refused with `IsizeOverflow`, 2, or `OffsetOverflow`, 3, exactly where the offset doesn't fit; they are then
-    /// unchanged. rkyv 0.8.18 takes the pointer's metadata, and panics there.
+    /// Writes the box's bytes over those of `place`, with this length of what it leads to. The
+    /// caller must ensure that they are as many as the box has, and that the length is 0 where that
+    /// is one value. Fails with `IsizeOverflow` or `OffsetOverflow` exactly if the offset doesn't
+    /// fit; they are then unchanged. rkyv 0.8.18 takes the pointer's metadata, and panics there.
     #[tactic(auto, using(crate::proofs::Writing::OwnersWritten::resolves_box, crate::proofs::Writing::OwnersWritten::box_hindered_at))]
     pub fn resolve_from_raw_parts(
         resolver: BoxResolver,
@@ -93,7 +96,8 @@ impl<T: PortablePointee> ArchivedBox<T> {
         emplace_pointer(T::has_length(), resolver.pos as usize, count, pos, bytes)
     }
 
-    /// The same with the length of `value`. Refused with `LengthTooLarge`, 5, exactly where that is above 4,294,967,295.
+    /// The same with the length of `value`. Fails with `LengthTooLarge` exactly if that is above
+    /// 4,294,967,295.
     pub fn resolve_from_ref<U: ArchiveUnsized<Archived = T>>(
         value: &U,
         resolver: BoxResolver,
@@ -153,8 +157,9 @@ impl<T: Archive> Archive for Box<T> {
 }
 
 impl<S: Writer + ResolverAlloc, T: Serialize<S>> Serialize<S> for Box<T> {
-    /// Writes what the value owns and then the value as a region of its own. Refused with `PositionTooLarge`, 4, where it stands above 4,294,967,295,
-    /// with `LayoutTooLarge`, 23, where it would end above `usize::MAX`, as the value refuses, and as the trait says it.
+    /// Writes what the value owns and then the value as a region of its own. Fails with
+    /// `PositionTooLarge` if it lies above 4,294,967,295, with `LayoutTooLarge` if it would end
+    /// above `usize::MAX`, as the value does, and as the trait says it.
     #[tactic(auto, using(crate::proofs::Planning::Owners::serialized_boxed_one, crate::proofs::Planning::Owners::boxed_one_refused, crate::proofs::Planning::Owners::far_boxed_one_refused))]
     fn serialize(&self, serializer: &mut S) -> Result<BoxResolver, Error>
         ensures serialized { IfOk result (OneBoxed T.Archived.ArchivePointee T.Archive self.now.value S.Keys serializer) }

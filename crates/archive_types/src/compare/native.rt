@@ -1,4 +1,4 @@
-// Views compared to values of the machine.
+// Views compared to native values.
 
 ghost use Rattle.std.specs.Prelude.{◌≡◌, IsTrue, nat_eq};
 ghost use Rattle.std.proofs.Common.{sym};
@@ -26,12 +26,24 @@ use archive_nonzero::NonZero;
 use archive_num::{Integer, LittleEndian};
 use std::cmp::Ordering;
 
-/// What is compared to values of the type `U`, where its views are. Our own: rkyv 0.8.18 has operators between the two types.
+/// Compares an archived type with native values of type `U`, such as `ArchivedString` with
+/// `String`.
+///
+/// Archived numbers, `bool`, `char`, strings, boxes, vectors and options implement it, for what
+/// they archive. Callers use `cmp_native` and `eq_native` of a view:
+///
+/// ```
+/// let view = access::<ArchivedVec<ArchivedU32>>(alloc, bytes.as_slice())?;
+/// let same = view.eq_native(&numbers);          // numbers: Vec<u32>
+/// ```
+///
+/// Our own: rkyv 0.8.18 has operators between the two types.
 pub trait CompareNative<U: Archive>: Ordered {
     // The order of a part and a value.
     ghost native_order: { Standing → U → Order };
 
-    /// The order of what a part shows and a value. Asks that the part was checked.
+    /// The order of what the part shows and `value`. The caller must ensure that the part was
+    /// validated.
     fn compare_native(part: RawView<'_>, value: &U) -> Ordering
         requires { Viewed Self.definitions part.bytes.now part.pos Self.pointee part.len }
         ensures { result ≡ native_order (standing part.entry.bytes.now part.entry.pos part.entry.len) value.now };
@@ -44,7 +56,7 @@ pub trait CompareNative<U: Archive>: Ordered {
 }
 
 impl<'a, T: Ordered> Ref<'a, T> {
-    /// The order of what the view shows and a value of the machine. Our own.
+    /// The order of what the view shows and a native value. Our own.
     #[tactic(auto, using(crate::proofs::Comparing::ComparedValues::compares))]
     pub fn cmp_native<U: Archive>(self, value: &U) -> Ordering
     where
@@ -55,7 +67,7 @@ impl<'a, T: Ordered> Ref<'a, T> {
         T::compare_native(self.part(), value)
     }
 
-    /// Whether what the view shows equals a value of the machine. Our own.
+    /// Whether what the view shows equals a native value. Our own.
     #[tactic(auto, using(crate::proofs::Comparing::ComparedValues::equals))]
     pub fn eq_native<U: Archive>(self, value: &U) -> bool
     where
@@ -125,7 +137,7 @@ impl<'a> Ref<'a, ArchivedStr> {
 }
 
 impl<'a> Ref<'a, ArchivedString> {
-    /// The order of the text, wherever it stands, and another one, by their bytes. Our own.
+    /// The order of the text, wherever it lies, and another one, by their bytes. Our own.
     pub fn cmp_str(self, text: &str) -> Ordering
         ensures bytes { result ≡ slice_cmp nat_cmp (string_text self.entry.bytes.now self.entry.pos) text.now }
         ensures by_value { ViewComparesTo self.entry (text_value text.now) result }
@@ -133,7 +145,7 @@ impl<'a> Ref<'a, ArchivedString> {
         text_order(self.as_str(), text)
     }
 
-    /// Whether the text, wherever it stands, is the same as another one. Our own.
+    /// Whether the text, wherever it lies, is the same as another one. Our own.
     pub fn eq_str(self, text: &str) -> bool
         ensures bytes { result ≡ pointwise nat_eq (string_text self.entry.bytes.now self.entry.pos) text.now }
         ensures by_value { ViewEquals self.entry (text_value text.now) result }

@@ -1,4 +1,4 @@
-// Views of slices, vectors, options and results compared to those of the machine.
+// Views of slices, vectors, options and results compared to native ones.
 
 ghost use Rattle.std.specs.Prelude.{◌≡◌, ◌+◌, ◌*◌, ◌<◌};
 ghost use Rattle.std.specs.Cmp.Lexicographic.{slice_cmp};
@@ -22,7 +22,8 @@ use crate::view::Ref;
 use std::cmp::Ordering;
 
 impl<'a, T: Portable> Ref<'a, ArchivedSlice<T>> {
-    /// The order of the elements and of those of a slice of the machine: the first that differ decide, and else the lengths. Our own.
+    /// The order of the elements and of those of a native slice: the first that differ decide, and
+    /// else the lengths. Our own.
     pub fn cmp_slice<U: Archive>(self, values: &[U]) -> Ordering
     where
         T: CompareNative<U>,
@@ -32,7 +33,7 @@ impl<'a, T: Portable> Ref<'a, ArchivedSlice<T>> {
         compare_slice(self, values)
     }
 
-    /// Whether the elements equal those of a slice of the machine, and are as many. Our own.
+    /// Whether the elements equal those of a native slice, and are as many. Our own.
     #[tactic(auto, using(crate::proofs::Comparing::ComparedValues::slice_equals))]
     pub fn eq_slice<U: Archive>(self, values: &[U]) -> bool
     where
@@ -45,7 +46,8 @@ impl<'a, T: Portable> Ref<'a, ArchivedSlice<T>> {
 }
 
 impl<'a, T: Portable> Ref<'a, ArchivedVec<T>> {
-    /// The order of the elements and of those of a slice of the machine: the first that differ decide, and else the lengths. Our own.
+    /// The order of the elements and of those of a native slice: the first that differ decide, and
+    /// else the lengths. Our own.
     pub fn cmp_slice<U: Archive>(self, values: &[U]) -> Ordering
     where
         T: CompareNative<U>,
@@ -55,7 +57,7 @@ impl<'a, T: Portable> Ref<'a, ArchivedVec<T>> {
         self.as_slice().cmp_slice(values)
     }
 
-    /// Whether the elements equal those of a slice of the machine, and are as many. Our own.
+    /// Whether the elements equal those of a native slice, and are as many. Our own.
     #[tactic(auto, using(crate::proofs::Comparing::ComparedValues::vec_equals))]
     pub fn eq_slice<U: Archive>(self, values: &[U]) -> bool
     where

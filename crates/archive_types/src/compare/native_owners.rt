@@ -1,4 +1,5 @@
-// Strings, boxes, vectors and options compared to those of the machine: so what holds them, as a vector of strings, is compared too.
+// Strings, boxes, vectors and options compared to native ones: so what holds them, as a vector of
+// strings, is compared too.
 
 ghost use Rattle.std.specs.Prelude.{◌≡◌, string_bytes};
 ghost use Rattle.std.specs.Cmp.Lexicographic.{slice_cmp};

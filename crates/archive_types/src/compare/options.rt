@@ -1,4 +1,5 @@
-// Options are compared as Rust's are: `None` is less than `Some`, and two values are compared as values. What stands behind a `None` isn't looked at.
+// Options are compared as Rust's are: `None` is less than `Some`, and two values are compared as
+// values. What is behind a `None` isn't looked at.
 
 ghost use Rattle.std.specs.Prelude.{◌≡◌};
 ghost use Rattle.std.specs.Cmp.{on_total};

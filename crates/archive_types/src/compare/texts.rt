@@ -1,4 +1,4 @@
-// Texts are compared by their bytes, wherever they stand, as `str` is.
+// Texts are compared by their bytes, wherever they lie, as `str` is.
 
 ghost use Rattle.std.specs.Prelude.{◌≡◌, ◌+◌, ◌≤◌, IfSome, length};
 ghost use Rattle.std.specs.Hash as fed;

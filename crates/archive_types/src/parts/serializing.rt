@@ -11,8 +11,9 @@ use archive_write::ser::Writer;
 
 /// Parts of a `T` one after another that can be serialized to an `S`.
 pub trait SerializeParts<T, S: Writer + Keys>: SourceParts<T> {
-    /// Writes what each of the parts owns, in order, and answers their resolvers. It asks nothing. Refused as `Serialize::serialize` is, for a cause
-    /// of one of them; after a refusal, too, the bytes from before are a beginning of those that `serializer` holds, and known keys keep their states.
+    /// Writes what each of the parts owns, in order, and returns their resolvers. Fails as
+    /// `Serialize::serialize` does, for a cause of one of them; existing bytes and known keys stay,
+    /// after a failure too.
     fn serialize_parts(whole: &T, serializer: &mut S) -> Result<Self::Resolvers, Error>
         ensures serialized { IfOk result (PartsStored Self.Archived.CheckedParts Self.SourceParts whole.now S.Keys serializer) }
         ensures same_values { IfOk result (λ r. Self.belongs whole.now r) }

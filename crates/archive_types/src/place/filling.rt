@@ -1,4 +1,5 @@
-// The parts of a place, resolved where they lie: a record's fields, an array's elements, and what stands behind a choice's tag.
+// The parts of a place, resolved where they lie: a record's fields, an array's elements, and what
+// is behind a choice's tag.
 
 ghost use Rattle.std.specs.Prelude.{◌≡◌, ◌+◌, ◌*◌, ◌<◌, ◌≤◌, ◌^◌, Some, length, OnOk, IfErr};
 ghost use Rattle.archive_check.specs.Members.PartsLayout.{part_at};

@@ -1,5 +1,6 @@
-// Numbers that stand one behind another are read a block at a time. A block is an array of its own, which nothing else reaches, so that its reading and
-// its moving into a list become one copy of memory.
+// Numbers that stand one after another are read a block at a time. A block is an array of its own,
+// which nothing else reaches, so that its reading and its moving into a list become one copy of
+// memory.
 
 ghost use Rattle.std.specs.Prelude.{◌≡◌, ◌<◌, ◌≤◌, ◌+◌, ◌^◌, length, []};
 ghost use Rattle.std.specs.Vec.{vec_len, vec_capacity};

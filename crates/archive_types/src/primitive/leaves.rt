@@ -41,12 +41,12 @@ pub trait Leaf {
     // The bytes that stand for a value.
     ghost leaf_bytes: { Self → List ℕ };
 
-    /// What stands in a pointer to it beside the offset: nothing.
+    /// What is in a pointer to it beside the offset: nothing.
     fn leaf_metadata() -> <Self::LeafFormat as ArchivePointee>::ArchivedMetadata
         ensures { Self.LeafFormat.metadata_length result ≡ 0 };
 
-    /// Writes the bytes of the value over `out`, the lowest first. Asks that these are as many as the leaf has. Wherever they stand, they are read as
-    /// the value.
+    /// Writes the bytes of the value over `out`, the lowest first. The caller must ensure that
+    /// these are as many as the leaf has. Wherever they lie, they are read as the value.
     fn write_bytes(&self, out: &mut [u8])
         requires { length out.old ≡ kind_size leaf_kind }
         ensures bytes { out.new ≡ leaf_bytes self.now }

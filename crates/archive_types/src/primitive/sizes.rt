@@ -69,7 +69,8 @@ impl Archive for usize {
 }
 
 impl<S: Writer + Keys> Serialize<S> for usize {
-    /// Writes nothing. Refused with `NumberTooLarge`, 6, exactly where the number doesn't fit 32 bits without a sign. rkyv 0.8.18 cuts it off.
+    /// Writes nothing. Fails with `NumberTooLarge` exactly if the number doesn't fit 32 bits
+    /// without a sign. rkyv 0.8.18 truncates it.
     #[tactic(auto, using(crate::proofs::Planning::Causes::goes_nowhere, crate::proofs::Planning::Planned::usize_refused))]
     fn serialize(&self, _serializer: &mut S) -> Result<(), Error>
         ensures serialized { IfOk result (LeafSerialized (number unsigned w32) (pos self.now) S.Keys _serializer) }
@@ -168,7 +169,8 @@ impl Archive for isize {
 }
 
 impl<S: Writer + Keys> Serialize<S> for isize {
-    /// Writes nothing. Refused with `NumberTooLarge`, 6, exactly where the number doesn't fit 32 bits with a sign. rkyv 0.8.18 cuts it off.
+    /// Writes nothing. Fails with `NumberTooLarge` exactly if the number doesn't fit 32 bits with a
+    /// sign. rkyv 0.8.18 truncates it.
     #[tactic(auto, using(crate::proofs::Planning::Causes::goes_nowhere, crate::proofs::Planning::Planned::isize_refused))]
     fn serialize(&self, _serializer: &mut S) -> Result<(), Error>
         ensures serialized { IfOk result (LeafSerialized (number signed w32) self.now S.Keys _serializer) }

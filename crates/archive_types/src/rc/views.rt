@@ -45,7 +45,7 @@ impl<'a, T: PortablePointee, F: Flavor> Ref<'a, ArchivedRc<T, F>> {
 }
 
 impl<'a, T: PortablePointee, F: Flavor> Ref<'a, ArchivedRcWeak<T, F>> {
-    /// What the pointer leads to; none exactly where it is null, whose offset is 1. As in rkyv 0.8.18.
+    /// What the pointer leads to; none exactly if it is null, whose offset is 1. As in rkyv 0.8.18.
     pub fn upgrade(self) -> Option<Ref<'a, T>>
         ensures some { IfSome result (IsTargetOf self.entry) }
         ensures none { IfNone result (ShowsValue self.entry null) }

@@ -44,8 +44,8 @@ impl Model for RcResolver {
 }
 
 impl RcResolver {
-    /// The resolver of a pointer to what stands at `pos`, in bytes from the first one. Asks that it fits 32 bits. As in rkyv 0.8.18, where it may be
-    /// any.
+    /// The resolver of a pointer to what is at `pos`, in bytes from the first one. The caller must
+    /// ensure that it fits 32 bits. As in rkyv 0.8.18, where it may be any.
     pub fn from_pos(pos: usize) -> RcResolver
         requires { pos ≤ 4294967295 }
         ensures { result ≡ pos }
@@ -57,8 +57,10 @@ impl RcResolver {
 /// Where what a weak pointer leads to was written; none where it is null. rkyv 0.8.18 has an enum of its own.
 pub type RcWeakResolver = Option<RcResolver>;
 
-/// Writes a value under its key, where that is unknown, and a zero byte where the writer still stands at its position: what comes next would stand there,
-/// too. Answers the position, in bytes from the first one. Refused as `ArchivedRc::serialize_from_ref` is, but never with 4 or 5. Our own.
+/// Writes a value under its key, where that is unknown, and a zero byte where the writer is still
+/// at its position: what comes next would stand there, too. Returns the position, in bytes from the
+/// first one. Fails as `ArchivedRc::serialize_from_ref` does, but never with `PositionTooLarge` or
+/// `LengthTooLarge`. Our own.
 pub fn write_shared<F: Flavor, U: SerializeUnsized<S>, S: Sharing + Writer>(
     key: u64,
     value: &U,
@@ -77,8 +79,9 @@ pub fn write_shared<F: Flavor, U: SerializeUnsized<S>, S: Sharing + Writer>(
     Ok(pos)
 }
 
-/// Writes the bytes of a pointer at `pos` to `target`, both in bytes from the buffer's first one, with the length `count`. Asks for as many bytes as the
-/// pointer has, and that one value has the length 0. Refused with `IsizeOverflow`, 2, or `OffsetOverflow`, 3, exactly where the offset doesn't fit. Our
+/// Writes the bytes of a pointer at `pos` to `target`, both in bytes from the buffer's first one,
+/// with the length `count`. Requires as many bytes as the pointer has, and that one value has the
+/// length 0. Fails with `IsizeOverflow` or `OffsetOverflow` exactly if the offset doesn't fit. Our
 /// own.
 #[tactic(auto, using(crate::proofs::Writing::Owned::size_by_length))]
 pub fn write_pointer<T: PortablePointee>(
@@ -97,8 +100,8 @@ pub fn write_pointer<T: PortablePointee>(
     emplace_pointer(T::has_length(), target, count, pos, bytes)
 }
 
-/// Writes the bytes of a null: the offset 1, and the length 0 where there is one. Asks for as many bytes as the pointer has; it is never refused. Our
-/// own.
+/// Writes the bytes of a null: the offset 1, and the length 0 where there is one. Requires as many
+/// bytes as the pointer has; it never fails. Our own.
 pub fn write_null<T: PortablePointee>(bytes: &mut [u8]) -> Result<(), Error>
     requires { length bytes.old ≡ pointer_size T.pointee }
     ensures written { bytes.new ≡ owner_bytes (has_length T.pointee) (whole 1) 0 }
@@ -111,12 +114,15 @@ impl<T: PortablePointee, F: Flavor> ArchivedRc<T, F>
 where
     T::ArchivedMetadata: Drop,
 {
-    /// Writes `value` where `key` is unknown, and a zero byte behind it where it has no size, and answers where the value stands; of a finished key,
-    /// where the key's value does. It asks nothing: a key should name one value, and nothing tests it. Refused with `CyclicSerialize`, 11, exactly
-    /// where the key is pending, so that its value holds itself, and nothing changes then; with `LengthTooLarge`, 5, where the value has more than
-    /// 4,294,967,295 elements or bytes; with `PositionTooLarge`, 4, where it stands above 4,294,967,295; as the value refuses, and as the writer does
-    /// (`OutOfMemory`, 1; `BufferOverflow`, 8; `WriterFailed`, 9). After a refusal, too, the bytes from before are a beginning of those that
-    /// `serializer` holds. As in rkyv 0.8.18, with a key in place of an address.
+    /// Writes `value` if `key` is unknown, with a zero byte behind it if it has no size; a finished
+    /// key leads to its value. A key should name one value; nothing tests it. As in rkyv 0.8.18,
+    /// with a key for an address.
+    ///
+    /// Errors:
+    /// - `CyclicSerialize`: exactly if the key is pending; nothing changes.
+    /// - `LengthTooLarge`: more than 4,294,967,295 elements or bytes.
+    /// - `PositionTooLarge`: the value lies above 4,294,967,295.
+    /// - those of the value and the writer.
     #[tactic(auto, using(crate::proofs::SharedValues::SharedWritten::far_shared_refused, crate::proofs::SharedValues::SharedWritten::long_shared_refused))]
     pub fn serialize_from_ref<U: SerializeUnsized<S, Archived = T>, S: Sharing + Writer>(
         key: u64,
@@ -137,10 +143,11 @@ where
         Ok(RcResolver { pos })
     }
 
-    /// Writes the pointer's bytes over those of `place`. Asks that these are as many as the pointer has, that one value has the length 0, as each here
-    /// has, and that there are at most 4,294,967,295 elements or bytes; `resolver` should be the answer of `serialize_from_ref` for `value`. Refused
-    /// with `IsizeOverflow`, 2, or `OffsetOverflow`, 3, exactly where the offset to the value doesn't fit; the bytes are then unchanged. rkyv 0.8.18
-    /// panics there.
+    /// Writes the pointer's bytes over those of `place`. The caller must ensure that these are as
+    /// many as the pointer has, that one value has the length 0, and that there are at most
+    /// 4,294,967,295 elements or bytes; `resolver` should be that of `serialize_from_ref`. Fails
+    /// with `IsizeOverflow` or `OffsetOverflow` exactly if the offset doesn't fit; the bytes are
+    /// then unchanged. rkyv 0.8.18 panics.
     #[tactic(auto, using(crate::proofs::SharedValues::SharedBytes::resolves_shared, crate::proofs::SharedValues::SharedBytes::shared_hindered_at))]
     pub fn resolve_from_ref<U: ArchiveUnsized<Archived = T>>(
         value: &U,
@@ -178,7 +185,8 @@ impl<T: PortablePointee, F: Flavor> ArchivedRcWeak<T, F>
 where
     T::ArchivedMetadata: Drop,
 {
-    /// Writes `value`, where there is one, as `ArchivedRc::serialize_from_ref` does, with its refusals; where there is none, nothing, and it isn't refused.
+    /// Writes `value`, where there is one, as `ArchivedRc::serialize_from_ref` does, with its
+    /// errors; where there is none, nothing, and it doesn't fail.
     #[tactic(auto, using(crate::proofs::SharedValues::SharedWritten::weak_serialized, crate::proofs::SharedValues::SharedWritten::weak_refused, crate::proofs::SharedValues::SharedWritten::null_serialized, crate::proofs::Planning::Causes::goes_nowhere))]
     pub fn serialize_from_ref<U: SerializeUnsized<S, Archived = T>, S: Sharing + Writer>(
         key: u64,
@@ -200,9 +208,10 @@ where
         }
     }
 
-    /// Writes the pointer's bytes over those of `place`: a null where `resolver` is none, which is never refused. Asks what
-    /// `ArchivedRc::resolve_from_ref` asks, and refuses as it does; with `OffsetOverflow`, 3, also where the value stands one byte behind the pointer,
-    /// which the offset 1 of a null would say. rkyv 0.8.18 panics in place of a refusal.
+    /// Writes the pointer's bytes over those of `place`: a null if `resolver` is none, which never
+    /// fails. Requires what `ArchivedRc::resolve_from_ref` does, and fails as that; also with
+    /// `OffsetOverflow` if the value lies one byte behind the pointer, which the offset 1 of a null
+    /// would say. rkyv 0.8.18 panics.
     #[tactic(auto, using(crate::proofs::SharedValues::SharedBytes::resolves_weak, crate::proofs::SharedValues::SharedBytes::resolves_null, crate::proofs::SharedValues::SharedBytes::weak_hindered_at, crate::proofs::SharedValues::SharedBytes::null_hindered_at))]
     pub fn resolve_from_ref<U: ArchiveUnsized<Archived = T>>(
         value: Option<&U>,

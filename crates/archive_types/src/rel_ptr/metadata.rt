@@ -1,10 +1,11 @@
-// What stands in a relative pointer behind its offset.
+// What is in a relative pointer behind its offset.
 
 ghost use Rattle.std.specs.Prelude.{◌≡◌, ℕ, Bool, true, false};
 
 use archive_num::{ArchivedUsize, FixedUsize};
 
-/// What stands in a relative pointer behind its offset: nothing, or a length. Our own: rkyv 0.8.18 takes any archived type there.
+/// What is in a relative pointer behind its offset: nothing, or a length. Our own: rkyv 0.8.18
+/// takes any archived type there.
 pub trait Metadata: Copy {
     // Whether a length stands there.
     ghost is_length: { Bool };
@@ -12,15 +13,15 @@ pub trait Metadata: Copy {
     // The length.
     ghost count: { Self → ℕ };
 
-    /// Whether a length stands there.
+    /// Whether there is a length.
     fn is_length() -> bool
         ensures { result ≡ is_length };
 
-    /// The metadata of this length, which is left out where none stands there.
+    /// The metadata of this length, which is left out if there is none.
     fn from_length(length: FixedUsize) -> Self
         ensures { is_length ≡ true → count result ≡ length };
 
-    /// The length; 0 where none stands there.
+    /// The length; 0 if there is none.
     fn to_length(self) -> FixedUsize
         ensures { result ≡ count self };
 }

@@ -167,9 +167,10 @@ impl<O: Offset> SelfCheck for RawRelPtr<O> {
 }
 
 impl<O: Offset> RawRelPtr<O> {
-    /// Writes a pointer to the position `to` over the bytes of `place`. Asks that they are as many as the offset has. Refused with `IsizeOverflow`, 2,
-    /// exactly where the distance doesn't fit `isize`, and else with `OffsetOverflow`, 3, exactly where it doesn't fit the offset; the bytes are then
-    /// unchanged.
+    /// Writes a pointer to the position `to` over the bytes of `place`. The caller must ensure that
+    /// they are as many as the offset has. Fails with `IsizeOverflow` exactly if the distance
+    /// doesn't fit `isize`, and else with `OffsetOverflow` exactly if it doesn't fit the offset;
+    /// the bytes are then unchanged.
     pub fn try_emplace(to: usize, place: Place<'_, RawRelPtr<O>>) -> Result<(), Error>
         requires { length place.bytes.now ≡ byte_len O.Number.width }
         ensures { OffsetPut O.Number.sign O.Number.width to place result }
@@ -179,7 +180,8 @@ impl<O: Offset> RawRelPtr<O> {
         write_offset::<O::Number>(distance, bytes)
     }
 
-    /// Writes an invalid pointer over the bytes of `place`: one with the offset 1. Asks that they are as many as the offset has. It is never refused.
+    /// Writes an invalid pointer over the bytes of `place`: one with the offset 1. The caller must
+    /// ensure that they are as many as the offset has. It never fails.
     pub fn try_emplace_invalid(place: Place<'_, RawRelPtr<O>>) -> Result<(), Error>
         requires { length place.bytes.now ≡ byte_len O.Number.width }
         ensures written { place.exit.0.now ≡ offset_bytes O.Number.width (pos 1) }

@@ -159,9 +159,11 @@ impl<T: ArchivePointee, O: Offset> RelPtr<T, O>
 where
     T::ArchivedMetadata: Metadata,
 {
-    /// Writes a pointer to the position `to` over the bytes of `place`, with this metadata. Asks that they are as many as the pointer has. Refused with
-    /// `IsizeOverflow`, 2, exactly where the distance doesn't fit `isize`, and else with `OffsetOverflow`, 3, exactly where it doesn't fit the offset;
-    /// the bytes are then unchanged. Bytes between offset and length, and behind the length, stay as they were.
+    /// Writes a pointer to the position `to` over the bytes of `place`, with this metadata. The
+    /// caller must ensure that they are as many as the pointer has. Fails with `IsizeOverflow`
+    /// exactly if the distance doesn't fit `isize`, and else with `OffsetOverflow` exactly if it
+    /// doesn't fit the offset; the bytes are then unchanged. Bytes between offset and length, and
+    /// behind the length, stay as they were.
     pub fn try_emplace_unsized(
         to: usize,
         metadata: T::ArchivedMetadata,
@@ -175,8 +177,9 @@ where
         write_pointer::<O::Number, T::ArchivedMetadata>(distance, metadata, bytes)
     }
 
-    /// Writes an invalid pointer over the bytes of `place`: one with the offset 1, and the length 0 where one stands there. Asks that they are as many
-    /// as the pointer has. It is never refused.
+    /// Writes an invalid pointer over the bytes of `place`: one with the offset 1, and the length 0
+    /// if there is one. The caller must ensure that they are as many as the pointer has. It never
+    /// fails.
     pub fn try_emplace_invalid(place: Place<'_, RelPtr<T, O>>) -> Result<(), Error>
         requires { length place.bytes.now ≡ (rel_layout O.Number.width T.ArchivedMetadata.is_length).size }
         ensures written { InvalidPut O.Number.width T.ArchivedMetadata.is_length place }
@@ -189,7 +192,8 @@ where
 }
 
 impl<T: ArchivePointee<ArchivedMetadata = ()>, O: Offset> RelPtr<T, O> {
-    /// Writes a pointer to the position `to` over the bytes of `place`, where a `T` is one value. Asks and refuses as `try_emplace_unsized` does.
+    /// Writes a pointer to the position `to` over the bytes of `place`, where a `T` is one value.
+    /// Requires what `try_emplace_unsized` does, and fails as that.
     pub fn try_emplace(to: usize, place: Place<'_, RelPtr<T, O>>) -> Result<(), Error>
         requires { length place.bytes.now ≡ byte_len O.Number.width }
         ensures { RelPut O.Number.sign O.Number.width false 0 to place result }
@@ -218,7 +222,7 @@ where
         self.offset() == 1
     }
 
-    /// What stands behind the offset: nothing, or a length.
+    /// What is behind the offset: nothing, or a length.
     pub fn metadata(self) -> T::ArchivedMetadata
         ensures { T.ArchivedMetadata.is_length ≡ true → T.ArchivedMetadata.count result ≡ length_of O.Number.width self.entry }
     {

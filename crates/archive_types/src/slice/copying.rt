@@ -276,11 +276,13 @@ pub(crate) fn copy_together<S: Writer + Keys, T: Copied>(
     copy_aligned(values, size, together, serializer)
 }
 
-/// Writes zeros up to the values' alignment, and then the bytes of all, one behind another, a piece of at most 1,024 bytes at a time, and several pieces at
-/// once where the writer has the room for them at hand; answers the region's position, in bytes from the first one. It asks nothing, and takes no memory of
-/// its own. Refused with `LayoutTooLarge`, 23, where the region would end above `usize::MAX`, or as the writer refuses (`OutOfMemory`, 1; `BufferOverflow`,
-/// 8; `WriterFailed`, 9); so over a `Buffer` exactly where the bytes don't fit. After a refusal, too, the bytes from before are
-/// a beginning of those that `serializer` holds. rkyv 0.8.18 has it within `serialize_unsized` of a slice, and copies memory.
+/// Writes zeros up to the values' alignment, then the bytes of all, in pieces of at most 1,024
+/// bytes or blocks of pieces; returns the position in bytes. Takes no memory of its own. Existing
+/// bytes stay, after a failure too. rkyv 0.8.18 has it within `serialize_unsized` of a slice.
+///
+/// Errors:
+/// - `LayoutTooLarge`: the region would end above `usize::MAX`.
+/// - those of the writer; over a `Buffer` exactly if the bytes don't fit.
 #[inline(always)]
 pub fn copy_slice<S: Writer + Keys, T: CopiedSource>(
     values: &[T],
@@ -299,8 +301,10 @@ pub fn copy_slice<S: Writer + Keys, T: CopiedSource>(
     copy_together(values, size, 1, serializer)
 }
 
-/// Writes arrays of values that are copied, as `copy_slice` writes the values of all: zeros up to their alignment, and then the bytes of each array, one
-/// behind another; returns the position of the first. The caller must ensure that the values can be counted. Fails as `copy_slice` does. Our own.
+/// Writes arrays of values that are copied, as `copy_slice` writes the values of all: zeros up to
+/// their alignment, and then the bytes of each array, one after another; returns the position of
+/// the first. The caller must ensure that the values can be counted. Fails as `copy_slice` does.
+/// Our own.
 #[inline(always)]
 pub fn copy_arrays<S: Writer + Keys, T: CopiedSource, const N: usize>(
     arrays: &[[T; N]],

@@ -23,7 +23,7 @@ use archive_check::format::error::Error;
 use archive_write::ser::{ResolverAlloc, Writer, WriterExt};
 use std::alloc::{AllocError, Allocator};
 
-/// A borrowed slice, as a source. It stands where rkyv 0.8.18 has a slice.
+/// A borrowed slice, as a source. In its place rkyv 0.8.18 has a slice.
 #[derive(Drop)]
 pub struct Slice<'a, T> {
     /// The slice.
@@ -138,11 +138,12 @@ impl<'a, T: Archive> ArchiveUnsized for Slice<'a, T> {
 }
 
 impl<'a, S: Writer + ResolverAlloc, T: Serialize<S>> SerializeUnsized<S> for Slice<'a, T> {
-    /// Writes what each element owns, in order, zeros up to the elements' alignment, and then all elements. Where slices of the elements are written in bulk
-    /// that is the bytes of each, and takes no memory but the writer's; else the resolvers of all are kept meanwhile, in memory from the serializer's
-    /// allocator. Refused with `LengthTooLarge`, 5, before anything is written, exactly where there are more than
-    /// 4,294,967,295 elements, with `LayoutTooLarge`, 23, where the region would end above `usize::MAX`, as the elements refuse, and as the trait
-    /// says it.
+    /// Writes what each element owns, in order, zeros up to the elements' alignment, and then all
+    /// elements. If slices of them are written in bulk that is the bytes of each, and takes no
+    /// memory but the writer's; else the resolvers of all are kept meanwhile, in memory from the
+    /// serializer's allocator. Fails with `LengthTooLarge` before anything is written, exactly if there are more
+    /// than 4,294,967,295 elements, with `LayoutTooLarge` if the region would end above
+    /// `usize::MAX`, as the elements do, and as the trait says it.
     #[inline(always)]
     fn serialize_unsized(&self, serializer: &mut S) -> Result<usize, Error>
         ensures serialized { IfOk result (SliceStored T.Archive T.Archived.Portable self.now.slice.now S.Keys serializer) }

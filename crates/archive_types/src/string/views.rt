@@ -56,7 +56,7 @@ fn codes_sixteen(code: u32) -> bool
 }
 
 impl<'a> Ref<'a, ArchivedString> {
-    /// The text, wherever it stands.
+    /// The text, wherever it lies.
     pub fn as_str(self) -> &'a str
         ensures text { result.now ≡ string_text self.entry.bytes.now self.entry.pos }
         ensures says { ShowsValue self.entry (text_value result.now) }
@@ -108,7 +108,7 @@ impl<'a> Ref<'a, ArchivedString> {
         self.len() == 0
     }
 
-    /// The text's bytes, wherever they stand. As in rkyv 0.8.18.
+    /// The text's bytes, wherever they lie. As in rkyv 0.8.18.
     pub fn as_bytes(self) -> &'a [u8]
         ensures { result.now ≡ string_text self.entry.bytes.now self.entry.pos }
     {
@@ -124,8 +124,8 @@ impl<'a> Ref<'a, ArchivedString> {
         !is_out_of_line(bytes, pos)
     }
 
-    /// How far it is to the text, in bytes from the string's first one. Asks that the text stands elsewhere, as where `is_inline` answers false. As in
-    /// rkyv 0.8.18.
+    /// How far it is to the text, in bytes from the string's first one. The caller must ensure that
+    /// the text is elsewhere, as where `is_inline` returns false. As in rkyv 0.8.18.
     pub fn out_of_line_offset(self) -> isize
         requires { IsOutOfLine self.bytes.now self.pos }
         ensures { result ≡ i32_at self.entry.bytes.now (self.entry.pos + 4) }

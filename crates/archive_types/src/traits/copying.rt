@@ -70,13 +70,15 @@ pub trait Copied {
         ensures small { result ≤ 1024 }
         ensures owns_nothing { (v : Self) → OwnsNothingAs Self.CopiedAs.Portable (copied_keys v) (copied_meaning v) };
 
-    /// Writes the value's bytes over `bytes`. Asks that these are as many as `copied_size` says.
+    /// Writes the value's bytes over `bytes`. The caller must ensure that these are as many as
+    /// `copied_size` says.
     fn copy_one(&self, bytes: &mut [u8])
         requires sized { length bytes.old ≡ Self.CopiedAs.layout.size }
         ensures copied { bytes.new ≡ copied_bytes self.now }
         ensures read { IsCopiedAs Self.CopiedAs.Portable (copied_meaning self.now) (copied_bytes self.now) };
 
-    /// Writes the bytes of the values, one behind another, over `bytes`. Asks that these are as many as the values have together.
+    /// Writes the bytes of the values, one after another, over `bytes`. The caller must ensure that
+    /// these are as many as the values have together.
     #[inline(always)]
     final fn copy_into(values: &[Self], bytes: &mut [u8])
         requires sized { length bytes.old ≡ length values.now * Self.CopiedAs.layout.size }

@@ -16,10 +16,15 @@ use archive_check::format::error::Error;
 use archive_write::ser::Writer;
 
 impl<T: Portable> ArchivedVec<T> {
-    /// Writes all elements of `value`, which are copied, as one region, and answers where: zeros up to their alignment, and then the bytes of each, one
-    /// behind another. So does `serialize_from_slice` where the elements' type says that they are copied; this call takes no allocator, and no memory
-    /// but the writer's. It asks nothing. Refused with `LengthTooLarge`, 5, before anything is written, exactly where there are more than 4,294,967,295
-    /// elements; with `PositionTooLarge`, 4, only where they would stand above 4,294,967,295; else as `copy_slice`. Our own.
+    /// Writes the elements, which are copied, as one region: zeros up to their alignment, and then
+    /// the bytes of each. It takes no memory but the writer's. So does `serialize_from_slice`, if
+    /// the elements' type is on in bulk. Our own.
+    ///
+    /// Errors:
+    /// - `LengthTooLarge`: exactly if there are more than 4,294,967,295 elements; nothing is
+    ///   written.
+    /// - `PositionTooLarge`: only if they would lie above 4,294,967,295.
+    /// - those of `copy_slice`.
     #[tactic(auto, using(crate::proofs::Planning::Owners::serialized_vec, crate::proofs::Planning::Causes::goes_nowhere, crate::proofs::Copying::Copies::copies_refused, crate::proofs::Copying::Copies::long_copies_refused, crate::proofs::Copying::Copies::far_copies_refused))]
     #[inline(always)]
     pub fn serialize_from_copied<U: CopiedSource + Archive<Archived = T>, S: Writer + Keys>(

@@ -35,9 +35,12 @@ fn write_item<A: Allocator + Drop, S: Writer, U: Serialize<S>>(
 }
 
 impl<T: Portable> ArchivedVec<T> {
-    /// Writes the items of `iter` as `serialize_from_slice` writes a slice's: what each owns, in order, and then all of them as one region. Asks that the
-    /// iterator ends. The items are kept meanwhile, in memory from the serializer's allocator: `OutOfMemory`, 1, where that is refused, and then nothing is
-    /// written; else refused as `serialize_from_slice`. rkyv 0.8.18 walks the iterator twice and keeps the resolvers alone.
+    /// Writes the items of `iter` as `serialize_from_slice` writes a slice's, and keeps them
+    /// meanwhile. The caller must ensure that the iterator ends. rkyv 0.8.18 goes over it twice.
+    ///
+    /// Errors:
+    /// - `OutOfMemory`: memory for the items is refused; nothing is written then.
+    /// - those of `serialize_from_slice`.
     pub fn serialize_from_iter<
         U: Serialize<S, Archived = T> + Drop,
         I: Iterator<Item = U> + Drop,
@@ -56,11 +59,15 @@ impl<T: Portable> ArchivedVec<T> {
         Self::serialize_from_slice(items.as_slice(), serializer)
     }
 
-    /// Writes the items of `iter` one behind another as they come, from the next multiple of their alignment on, and keeps none of them. Asks that the
-    /// iterator ends. An item may write nothing in its `serialize`: refused with `ItemWrote`, 10, exactly where that of an item succeeded and wrote;
-    /// with `PositionTooLarge`, 4, before an item is taken, where the first one would stand above 4,294,967,295; with `LengthTooLarge`, 5, where more
-    /// than 4,294,967,295 items come; as the items refuse, and as the writer does (`BufferOverflow`, 8; `WriterFailed`, 9). Items with no pointer to
-    /// a region of their own are then a vector's elements, as `serialize_from_slice` writes them. rkyv 0.8.18 panics where an item writes.
+    /// Writes the items of `iter` one after another as they come, and keeps none. The caller must
+    /// ensure that the iterator ends. Items without a pointer to a region of their own are then a
+    /// vector's elements. rkyv 0.8.18 panics if an item writes.
+    ///
+    /// Errors:
+    /// - `ItemWrote`: exactly if an item's `serialize` succeeded and wrote.
+    /// - `PositionTooLarge`: the first item would lie above 4,294,967,295.
+    /// - `LengthTooLarge`: more than 4,294,967,295 items come.
+    /// - those of the items and the writer.
     pub fn serialize_from_unknown_length_iter<
         U: Serialize<S, Archived = T> + Drop,
         I: Iterator<Item = U> + Drop,

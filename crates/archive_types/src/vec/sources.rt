@@ -46,8 +46,8 @@ impl Model for VecResolver {
 }
 
 impl VecResolver {
-    /// The resolver of a vector whose elements stand at `pos`, in bytes from the first one. Asks that it fits 32 bits. As in rkyv 0.8.18, where it
-    /// may be any.
+    /// The resolver of a vector whose elements lie at `pos`, in bytes from the first one. The
+    /// caller must ensure that it fits 32 bits. As in rkyv 0.8.18, where it may be any.
     #[inline(always)]
     pub fn from_pos(pos: usize) -> VecResolver
         requires { pos ≤ 4294967295 }
@@ -58,12 +58,17 @@ impl VecResolver {
 }
 
 impl<T: Portable> ArchivedVec<T> {
-    /// Writes what each element of `value` owns, in order, and then all elements as one region, and answers where. It asks nothing. Refused with
-    /// `LengthTooLarge`, 5, before anything is written, exactly where there are more than 4,294,967,295 elements; with `PositionTooLarge`, 4, where
-    /// they stand above 4,294,967,295; with `LayoutTooLarge`, 23, where their region would end above `usize::MAX`; with `OutOfMemory`, 1, where
-    /// memory for the elements' resolvers is refused; as the elements refuse, and as the writer does (`BufferOverflow`, 8; `WriterFailed`, 9). Where slices
-    /// of the elements are written in bulk it appends the bytes of each, takes no memory but the writer's, and succeeds where they fit. rkyv 0.8.18 cuts
-    /// the length off.
+    /// Writes what each element owns, in order, and then all elements as one region. If slices
+    /// of them are written in bulk it appends the bytes of each, takes no memory but the writer's,
+    /// and succeeds if they fit. rkyv 0.8.18 truncates the length.
+    ///
+    /// Errors:
+    /// - `LengthTooLarge`: exactly if there are more than 4,294,967,295 elements; nothing is
+    ///   written.
+    /// - `PositionTooLarge`: they lie above 4,294,967,295.
+    /// - `LayoutTooLarge`: their region would end above `usize::MAX`.
+    /// - `OutOfMemory`: memory for their resolvers is refused.
+    /// - those of the elements and the writer.
     #[tactic(auto, using(crate::proofs::Planning::Owners::serialized_vec, crate::proofs::Planning::Owners::vec_refused, crate::proofs::Planning::Owners::far_vec_refused))]
     #[inline(always)]
     pub fn serialize_from_slice<U: Serialize<S, Archived = T>, S: Writer + ResolverAlloc>(
@@ -82,9 +87,10 @@ impl<T: Portable> ArchivedVec<T> {
         Ok(VecResolver { pos })
     }
 
-    /// Writes the vector's bytes over those of `place`, of `len` elements. Asks that these are eight, and that `len` is at most 4,294,967,295;
-    /// `resolver` should be that of so many elements. Refused with `IsizeOverflow`, 2, or `OffsetOverflow`, 3, exactly where the offset to the elements
-    /// doesn't fit; they are then unchanged. rkyv 0.8.18 panics there.
+    /// Writes the vector's bytes over those of `place`, of `len` elements. The caller must ensure
+    /// that these are eight, and that `len` is at most 4,294,967,295; `resolver` should be that of
+    /// so many elements. Fails with `IsizeOverflow` or `OffsetOverflow` exactly if the offset to
+    /// the elements doesn't fit; they are then unchanged. rkyv 0.8.18 panics there.
     #[tactic(auto, using(crate::proofs::Writing::OwnersWritten::resolves_vec, crate::proofs::Writing::OwnersWritten::vec_hindered_at))]
     #[inline(always)]
     pub fn resolve_from_len(
@@ -168,7 +174,7 @@ impl<T: Archive> Archive for Vec<T> {
 }
 
 impl<S: Writer + ResolverAlloc, T: Serialize<S>> Serialize<S> for Vec<T> {
-    /// Writes the elements, as `ArchivedVec::serialize_from_slice` does, with its refusals.
+    /// Writes the elements, as `ArchivedVec::serialize_from_slice` does, with its errors.
     #[inline(always)]
     fn serialize(&self, serializer: &mut S) -> Result<VecResolver, Error>
         ensures serialized { IfOk result (VecSerialized T.keys T.meaning T.Archived.Portable self.now.items S.Keys serializer) }

@@ -58,7 +58,8 @@ impl<'a> Keys for Buffer<'a> {
     ghost state = { λ b. record { bytes = take b.len b.bytes.now; room = Some (length b.bytes.now - b.len); failures = 0; states = no_keys } };
 }
 
-/// A write is refused with `BufferOverflow`, 8, exactly where the bytes don't fit, and then changes nothing. It takes no memory.
+/// A write fails with `BufferOverflow` exactly if the bytes don't fit, and then changes nothing. It
+/// takes no memory.
 impl<'a> Writer for Buffer<'a> {
     ghost takes_memory = { false };
 

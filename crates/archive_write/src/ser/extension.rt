@@ -20,10 +20,10 @@ fn zeros_due(pos: usize, align: usize) -> usize
     (align - past) % align
 }
 
-/// What every writer can do besides. Refusals are those of the writer: `OutOfMemory`, 1, `BufferOverflow`, 8, and `WriterFailed`, 9, as its `write`
-/// has them; the bytes from before are then a beginning of those that it holds. As in rkyv 0.8.18.
+/// What every writer can do besides. Errors are those of the writer's `write`: `OutOfMemory`,
+/// `BufferOverflow` and `WriterFailed`; existing bytes stay. As in rkyv 0.8.18.
 pub trait WriterExt: Writer {
-    /// Writes `n` zeros. Asks for fewer than 32, where rkyv 0.8.18 takes 32, too.
+    /// Writes `n` zeros. Requires fewer than 32, where rkyv 0.8.18 takes 32, too.
     #[inline(always)]
     final fn pad(&mut self, n: usize) -> Result<(), Error>
     where
@@ -44,8 +44,9 @@ pub trait WriterExt: Writer {
         self.write(&zeros[..n])
     }
 
-    /// Writes zeros up to the next multiple of `align` bytes, none where the writer stands at one, and answers the position there, in bytes from
-    /// the first one. Asks that `align` is from 1 to 32; it need not be a power of two.
+    /// Writes zeros up to the next multiple of `align` bytes, none where the writer is at one, and
+    /// returns the position there, in bytes from the first one. The caller must ensure that `align`
+    /// is from 1 to 32; it need not be a power of two.
     #[inline(always)]
     final fn align(&mut self, align: usize) -> Result<usize, Error>
     where
@@ -65,7 +66,8 @@ pub trait WriterExt: Writer {
         Ok(self.pos())
     }
 
-    /// Writes zeros up to the next multiple of the alignment of `T`, and answers the position there, in bytes from the first one. It asks nothing.
+    /// Writes zeros up to the next multiple of the alignment of `T`, and returns the position
+    /// there, in bytes from the first one.
     #[tactic(auto, using(crate::proofs::Padding::pads_by))]
     #[inline(always)]
     final fn align_for<T: Portable>(&mut self) -> Result<usize, Error>

@@ -10,7 +10,7 @@ use archive_check::format::traits::Keys;
 use core::mem::replace_with;
 use std::alloc::Allocator;
 
-/// What stands at a position. As in rkyv 0.8.18.
+/// What is at a position. As in rkyv 0.8.18.
 pub trait Positional {
     // The position: how many bytes stand before it.
     ghost position: { Self → ℕ };
@@ -25,9 +25,10 @@ pub trait Writer: Positional + Keys {
     // Whether a write may ask for memory.
     ghost takes_memory: { Bool };
 
-    /// Appends `bytes`. Refused with `OutOfMemory`, 1, where memory is refused, never where a write takes none; with `BufferOverflow`, 8, only where
-    /// its room is less, and then nothing is taken; and with `WriterFailed`, 9, only where its device fails in this call or has failed `u64::MAX` times. After a refusal the
-    /// bytes from before are a beginning of those that it holds. The shared keys are as before.
+    /// Appends `bytes`. Fails with `OutOfMemory` if memory is refused, never where a write takes
+    /// none; with `BufferOverflow` only if its room is less, and then nothing is taken; and with
+    /// `WriterFailed` only if its device fails in this call or has failed `u64::MAX` times.
+    /// Existing bytes stay, after a failure too. The shared keys are as before.
     fn write(&mut self, bytes: &[u8]) -> Result<(), Error>
         ensures written { OnOk result ((Self.state self.new).bytes ≡ (Self.state self.old).bytes ++ bytes.now) }
         ensures kept { OnErr result (IsBeginning (Self.state self.old).bytes (Self.state self.new).bytes) }
@@ -37,8 +38,9 @@ pub trait Writer: Positional + Keys {
         ensures keys { KeepsKeys (Self.state self.old).states (Self.state self.new).states }
         ensures memory { IsErrOf result Error.OutOfMemory → IsTrue takes_memory };
 
-    /// Appends `bytes` where the room for them is at hand, so that no memory is asked for and nothing can refuse; else changes nothing and answers false.
-    /// So it answers by default: who then writes, writes as ever. It asks nothing. Our own.
+    /// Appends `bytes` where the room for them is at hand, so that no memory is requested and
+    /// nothing can fail; else changes nothing and returns false. By default it returns false, and
+    /// the caller then writes as ever. Our own.
     #[inline(always)]
     fn write_at_once(&mut self, bytes: &[u8]) -> bool
         ensures written { IsTrue result → (Self.state self.new).bytes ≡ (Self.state self.old).bytes ++ bytes.now }
@@ -114,7 +116,7 @@ fn with_bytes<A: Allocator>(mut list: Vec<u8, A>, bytes: &[u8]) -> (Vec<u8, A>, 
     (list, written)
 }
 
-/// A vector has no limit but memory: refused with `OutOfMemory`, 1, alone, and then unchanged.
+/// A vector has no limit but memory. Fails with `OutOfMemory` alone, and then unchanged.
 impl<A: Allocator> Writer for Vec<u8, A> {
     ghost takes_memory = { true };
 

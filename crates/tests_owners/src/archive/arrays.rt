@@ -6,8 +6,8 @@ use crate::assertions::{
 };
 use archive_core::api::{HighSerializer, access_mut, serialize_using};
 use archive_core::array::OwnedArray;
-use archive_core::primitive::ArchivedU16;
-use archive_core::ser::{ResolveExt, Serializer};
+use archive_core::primitive::{ArchivedU16, ArchivedU32};
+use archive_core::ser::{ResolveExt, Serializer, WriterExt};
 use archive_core::string::ArchivedString;
 use archive_core::traits::{Deserialize, Serialize};
 use std::alloc::Global;
@@ -166,6 +166,8 @@ fn an_array_is_a_region_of_its_own(rt: HostRuntime) {
     let mut serializer = Serializer::new(Vec::new(rt.alloc()), rt.alloc(), ());
     let region = serialize_using(&numbers, &mut serializer).expect(&rt, "an array");
     assert_same(&rt, "the array", region, 0);
+    let end = serializer.align_for::<ArchivedU32>().expect(&rt, "zeros");
+    assert_same(&rt, "the end of the array", end, 4);
     let pointer = serializer
         .resolve_unsized_aligned(&numbers, region)
         .expect(&rt, "a pointer");

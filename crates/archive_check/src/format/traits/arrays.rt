@@ -1,4 +1,4 @@
-// Arrays: elements one behind another, as many as the type says.
+// Arrays: elements one after another, as many as the type says.
 
 ghost use Rattle.std.specs.Prelude.{refl};
 ghost use Rattle.archive_check.specs.Shape.{one, array};
@@ -25,7 +25,8 @@ impl<T: Portable, const N: usize> ArchivePointee for [T; N] {
     }
 }
 
-/// An array lies in an archive as its elements do, one behind another, at a multiple of their alignment.
+/// An array lies in an archive as its elements do, one after another, at a multiple of their
+/// alignment.
 impl<T: Portable, const N: usize> Portable for [T; N] {
     ghost shape = { array N T.shape };
 

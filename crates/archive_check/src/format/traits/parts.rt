@@ -17,8 +17,9 @@ use crate::format::extents::multiple_of;
 use crate::self_check::CheckedParts;
 use std::alloc::Global;
 
-/// The parts of a record, laid out one behind another: `()`, or `(A, R)` for an `A` and then the parts of `R`, or four at once by `FourParts`. Our own,
-/// so that the layout and the definitions of every record, tuple and variant are told by one logic.
+/// The parts of a record, laid out one after another: `()`, or `(A, R)` for an `A` and then the
+/// parts of `R`, or four at once by `FourParts`. Our own, so that the layout and the definitions of
+/// every record, tuple and variant are told by one logic.
 pub trait PortableParts: CheckedParts {
     // The greatest alignment.
     ghost greatest: { ℕ };
@@ -42,13 +43,14 @@ pub trait PortableParts: CheckedParts {
     fn offset_from(start: usize, i: usize) -> usize
         ensures { result ≡ min (begin start i) 18446744073709551615 };
 
-    /// Puts the parts' expressions behind those in `list`. Memory comes from `alloc` and from that of the list; refused with `OutOfMemory`, 1, where it is
-    /// refused.
+    /// Puts the parts' expressions behind those in `list`. Memory comes from `alloc` and from that
+    /// of the list. Fails with `OutOfMemory` if it is refused.
     fn push_exprs(alloc: Global, list: &mut Vec<Expr>) -> Result<(), Error>
         ensures pushed { OnOk result (shapes_in list.new.items ≡ joined (shapes_in list.old.items) Self.parts) }
         ensures refused { IfErr result (λ e. e ≡ OutOfMemory) };
 
-    /// Adds the definitions of the names that the parts reach, and no others. Refused as `Portable::define` is: `OutOfMemory`, 1, and `ShapeConflict`, 30.
+    /// Adds the definitions of the names that the parts reach, and no others. Fails as
+    /// `Portable::define` does: `OutOfMemory` and `ShapeConflict`.
     fn define(alloc: Global, defs: &mut Defs) -> Result<(), Error>
         ensures added { OnOk result (Extended (table_of defs.old) Self.definitions (table_of defs.new)) }
         ensures refused { IfErr result (ExplainsConflict (table_of defs.old) Self.definitions) };
@@ -158,7 +160,8 @@ impl<A: Portable, R: PortableParts> PortableParts for (A, R) {
     }
 }
 
-/// A record: it has parts, which lie one behind another. Our own; it stands where rkyv 0.8.18 has a type's fields.
+/// A record: it has parts, which lie one after another. Our own; it stands where rkyv 0.8.18 has a
+/// type's fields.
 pub trait Record: Portable {
     /// Its parts.
     type Parts: PortableParts;
@@ -184,7 +187,8 @@ pub fn size_of_record<P: PortableParts>() -> usize
     multiple_of(P::end_from(0), P::align())
 }
 
-/// The expression of a record, by its parts. Memory comes from `alloc`; refused with `OutOfMemory`, 1, where it is refused. Our own.
+/// The expression of a record, by its parts. Memory comes from `alloc`. Fails with `OutOfMemory` if
+/// it is refused. Our own.
 #[tactic(auto, using(crate::proofs::format::Views::views))]
 pub fn expr_of_record<P: PortableParts>(alloc: Global) -> Result<Expr, Error>
     ensures shape { IfOk result (λ e. shape_of e ≡ parts P.parts) }
@@ -195,8 +199,9 @@ pub fn expr_of_record<P: PortableParts>(alloc: Global) -> Result<Expr, Error>
     Ok(Expr::Record(list))
 }
 
-/// Adds the definition of a record that has a name, and those that its parts bring. Memory comes from `alloc` and from that of `defs`. Refused with
-/// `OutOfMemory`, 1, where memory is refused, and with `ShapeConflict`, 30, where a name has another definition already, or two. Our own.
+/// Adds the definition of a record that has a name, and those that its parts bring. Memory comes
+/// from `alloc` and from that of `defs`. Fails with `OutOfMemory` if memory is refused, and with
+/// `ShapeConflict` if a name has another definition already, or two. Our own.
 #[tactic(auto, using(crate::proofs::format::AddedDefinitions::adding))]
 pub fn define_record<P: PortableParts>(
     alloc: Global,

@@ -18,20 +18,21 @@ use std::alloc::Global;
 /// What a pointer of an archive leads to: a value, a slice or a text, with its expression and the check of a box that leads to it. Each `Portable`
 /// type is one. Our own.
 pub trait PortablePointee: ArchivePointee {
-    /// The check of a box that leads to it. `BySchema` where its type doesn't check itself.
+    /// The check of a box that leads to it. `BySchema` if its type doesn't validate itself.
     type BoxCheck: SelfCheck;
 
     /// Whether a pointer to it has a length beside its offset: not to one value.
     fn has_length() -> bool
         ensures { result ≡ has_length Self.pointee };
 
-    /// What a pointer to it leads to, as an expression. Memory comes from `alloc`; refused with `OutOfMemory`, 1, where it is refused.
+    /// What a pointer to it leads to, as an expression. Memory comes from `alloc`. Fails with
+    /// `OutOfMemory` if it is refused.
     fn pointee_expr(alloc: Global) -> Result<Pointee, Error>
         ensures pointee { IfOk result (λ p. pointee_of p ≡ Self.pointee) }
         ensures refused { IfErr result (λ e. e ≡ OutOfMemory) };
 
-    /// Adds the definitions of the names that it reaches, as `Portable::define` does, with the refusals of that: `OutOfMemory`, 1, and
-    /// `ShapeConflict`, 30.
+    /// Adds the definitions of the names that it reaches, as `Portable::define` does, with the
+    /// errors of that: `OutOfMemory` and `ShapeConflict`.
     fn define_pointee(alloc: Global, defs: &mut Defs) -> Result<(), Error>
         ensures added { OnOk result (Extended (table_of defs.old) Self.definitions (table_of defs.new)) }
         ensures refused { IfErr result (ExplainsConflict (table_of defs.old) Self.definitions) };

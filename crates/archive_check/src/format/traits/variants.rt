@@ -44,13 +44,15 @@ pub trait PortableVariants: CheckedVariants {
     fn payload_offset(tag: usize, i: usize) -> usize
         ensures { result ≡ min (begin tag i) 18446744073709551615 };
 
-    /// Puts the expressions of the variants' parts behind those in `list`, a list for each variant. Memory comes from `alloc` and from that of the list;
-    /// refused with `OutOfMemory`, 1, where it is refused.
+    /// Puts the expressions of the variants' parts behind those in `list`, a list for each variant.
+    /// Memory comes from `alloc` and from that of the list. Fails with `OutOfMemory` if it is
+    /// refused.
     fn push_variants(alloc: Global, list: &mut Vec<Vec<Expr>>) -> Result<(), Error>
         ensures pushed { OnOk result (variants_in list.new.items ≡ joined_variants (variants_in list.old.items) Self.variants) }
         ensures refused { IfErr result (λ e. e ≡ OutOfMemory) };
 
-    /// Adds the definitions of the names that the parts reach, and no others. Refused as `Portable::define` is: `OutOfMemory`, 1, and `ShapeConflict`, 30.
+    /// Adds the definitions of the names that the parts reach, and no others. Fails as
+    /// `Portable::define` does: `OutOfMemory` and `ShapeConflict`.
     fn define(alloc: Global, defs: &mut Defs) -> Result<(), Error>
         ensures added { OnOk result (Extended (table_of defs.old) Self.definitions (table_of defs.new)) }
         ensures refused { IfErr result (ExplainsConflict (table_of defs.old) Self.definitions) };
@@ -191,7 +193,8 @@ pub fn align_of_choice<V: PortableVariants>() -> usize
     V::align()
 }
 
-/// The expression of a choice of this name, by its variants. Memory comes from `alloc`; refused with `OutOfMemory`, 1, where it is refused. Our own.
+/// The expression of a choice of this name, by its variants. Memory comes from `alloc`. Fails with
+/// `OutOfMemory` if it is refused. Our own.
 #[tactic(auto, using(crate::proofs::format::Views::views))]
 pub fn expr_of_choice<V: PortableVariants>(alloc: Global, name: &'static str) -> Result<Expr, Error>
     ensures shape { IfOk result (λ e. shape_of e ≡ choice name.now V.variants) }
@@ -202,8 +205,9 @@ pub fn expr_of_choice<V: PortableVariants>(alloc: Global, name: &'static str) ->
     Ok(Expr::Choice(name, list))
 }
 
-/// Adds the definition of a choice that stands under its own name, and those that its parts bring. Memory comes from `alloc` and from that of `defs`.
-/// Refused with `OutOfMemory`, 1, where memory is refused, and with `ShapeConflict`, 30, where a name has another definition already, or two. Our own.
+/// Adds the definition of a choice that stands under its own name, and those that its parts bring.
+/// Memory comes from `alloc` and from that of `defs`. Fails with `OutOfMemory` if memory is
+/// refused, and with `ShapeConflict` if a name has another definition already, or two. Our own.
 #[tactic(auto, using(crate::proofs::format::AddedDefinitions::adding))]
 pub fn define_choice<V: PortableVariants>(
     alloc: Global,

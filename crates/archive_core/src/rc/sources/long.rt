@@ -90,7 +90,7 @@ impl Archive for SharedStr {
 }
 
 impl<S: Sharing + Writer> Serialize<S> for SharedStr {
-    /// Writes the text as `ArchivedRc::serialize_from_ref` does, with its refusals.
+    /// Writes the text as `ArchivedRc::serialize_from_ref` does, with its errors.
     fn serialize(&self, serializer: &mut S) -> Result<RcResolver, Error> {
         let text = Text {
             text: self.value.as_str(),
@@ -178,7 +178,7 @@ impl<T: Archive> Archive for SharedSlice<T> {
 }
 
 impl<T: Serialize<S>, S: Sharing + Writer + ResolverAlloc> Serialize<S> for SharedSlice<T> {
-    /// Writes the elements as `ArchivedRc::serialize_from_ref` does, with its refusals.
+    /// Writes the elements as `ArchivedRc::serialize_from_ref` does, with its errors.
     fn serialize(&self, serializer: &mut S) -> Result<RcResolver, Error> {
         let slice = Slice {
             slice: self.value.as_slice(),

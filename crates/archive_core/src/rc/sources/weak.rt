@@ -78,7 +78,8 @@ impl<T: Archive> Archive for WeakShared<T> {
 }
 
 impl<T: Serialize<S>, S: Sharing + Writer + ResolverAlloc> Serialize<S> for WeakShared<T> {
-    /// Writes what it leads to as a shared value, with its refusals; where that is none, nothing, and it isn't refused.
+    /// Writes what it leads to as a shared value, with its errors; where that is none, nothing, and
+    /// it doesn't fail.
     #[tactic(auto, using(archive_types::proofs::SharedValues::SharedWritten::weak_serialized, archive_types::proofs::SharedValues::SharedWritten::weak_refused, archive_types::proofs::SharedValues::SharedWritten::null_serialized, archive_types::proofs::Planning::Causes::goes_nowhere))]
     fn serialize(&self, serializer: &mut S) -> Result<RcWeakResolver, Error>
         ensures serialized { IfOk result (Wrote ⟦<Self as Archive>⟧ ⟦<Self::Archived as Portable>⟧ self.now S.Keys serializer) }

@@ -27,4 +27,4 @@ returns-clause-read g t c =
     let first : slice_index c.args.part.bytes.now c.args.part.pos ≡ c.tag-tag.result = sym (rw (c.at-view.ensures.buffer, c.at-view.ensures.position) at c.tag-tag.ensures.value) in
     let same : c.in_ok-new.field-0.value ≡ c.in_ok-inner.inner = grind (arith, common_steps) in
     let h = rw (g.met.T.FromNested.no_keys c.in_ok-inner.inner) at c.in_ok-inner.ensures.read in
-    rw (c.around.ensures, same, g.met.T.FromNested.no_keys c.around.result, ← first) (c.inner_part.ensures.read _ _ _ [] h)
+    rw (c.around.ensures, same, g.met.T.FromNested.no_keys c.around.result, ← first) (c.inner_part.ensures.read _ _ _ _ [] h)

@@ -9,7 +9,7 @@ deserialize_parts-requires g c = record {
 }
 
 pub returns-clause-read : goal.returns-clause-read
-returns-clause-read g c = rw g.met.X.Portable.is_one (variant_read _ _ _ _ _ g.met.X.Choice.has_variants _ _ c.requires.variant _ c.requires.definitions _ _ _ refl _ _ g.T.OwnedParts.meanings g.T.OwnedParts.keys
+returns-clause-read g c = rw g.met.X.Portable.is_one (variant_read _ _ _ _ _ g.met.X.Choice.has_variants _ _ c.requires.variant _ c.requires.definitions _ _ _ refl g.D.Entries.keeps _ _ g.T.OwnedParts.meanings g.T.OwnedParts.keys
     c.deserialize_parts.result c.deserialize_parts.ensures.read)
 
 pub returns-clause-refused : goal.returns-clause-refused

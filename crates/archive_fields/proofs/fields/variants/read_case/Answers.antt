@@ -10,7 +10,7 @@ deserialize_parts-requires g c = record {
 }
 
 pub returns-clause-read : goal.returns-clause-read
-returns-clause-read g c = rw g.met.X.Portable.is_one (variant_read _ _ _ _ _ (plain_case c.requires.nothing (variant_of _ _ _ c.requires.variant) _ c.requires.nameless) c.args.tag _ (variant_of _ _ _ c.requires.variant).at _ (lone_at c.args.tag _) _ _ _ c.requires.tag _ _ g.T.OwnedParts.meanings g.T.OwnedParts.keys
+returns-clause-read g c = rw g.met.X.Portable.is_one (variant_read _ _ _ _ _ (plain_case c.requires.nothing (variant_of _ _ _ c.requires.variant) _ c.requires.nameless) c.args.tag _ (variant_of _ _ _ c.requires.variant).at _ (lone_at c.args.tag _) _ _ _ c.requires.tag g.D.Entries.keeps _ _ g.T.OwnedParts.meanings g.T.OwnedParts.keys
     c.deserialize_parts.result c.deserialize_parts.ensures.read)
 
 pub returns-clause-refused : goal.returns-clause-refused
