@@ -10,9 +10,9 @@ ghost use Rattle.archive_check.specs.Shape.{one};
 ghost use Rattle.archive_types.specs.Words.ArchivesOf.{Leaves, LeavesOne, LeavesIn, IsArchiveOf, NoArchiveOf, EndsWithNone, IsArchiveIn, ReadsArchive, RefusesArchive, AsCheckIfNeverOpen, LacksSchema, AnswersRoot, WholeRefused};
 ghost use Rattle.archive_types.specs.Causes.{IsRegionRefused};
 ghost use Rattle.archive_types.specs.Plans.{unshared};
-ghost use Rattle.archive_types.specs.Words.Seen.{ReadsView, RefusesView};
 ghost use Rattle.archive_write.specs.Written.{GoesOn};
 ghost use Rattle.archive_schema.specs.ContextAnswers.{AnswersIn};
+ghost use Rattle.archive_types.specs.Outcomes.{ReadsView};
 
 mod editing;
 mod kept;
@@ -250,8 +250,7 @@ pub fn deserialize_using<T: Archive, U: Deserialize<T, D>, D: Entries>(
     view: Ref<'_, U>,
     deserializer: &mut D,
 ) -> Result<T, Error>
-    ensures read { IfOk result (λ t. ReadsView view.entry D.Entries deserializer (T.meaning t) (T.keys t)) }
-    ensures refused { IfErr result (RefusesView view.entry D.Entries deserializer) }
+    ensures { ReadsView view.entry D.Entries deserializer T.meaning T.keys result }
 {
     U::deserialize(alloc, view, deserializer)
 }
@@ -264,8 +263,7 @@ pub fn deserialize<T: Archive, U: Deserialize<T, D>, D: Entries>(
     view: Ref<'_, U>,
     deserializer: &mut D,
 ) -> Result<T, Error>
-    ensures read { IfOk result (λ t. ReadsView view.entry D.Entries deserializer (T.meaning t) (T.keys t)) }
-    ensures refused { IfErr result (RefusesView view.entry D.Entries deserializer) }
+    ensures { ReadsView view.entry D.Entries deserializer T.meaning T.keys result }
 {
     deserialize_using(alloc, view, deserializer)
 }

@@ -9,8 +9,8 @@ ghost use Rattle.archive_check.specs.Members.PartsLayout.{holds_parts, is_named_
 ghost use Rattle.archive_check.specs.SelfCheck.Laws.{IsCheckOf};
 ghost use Rattle.archive_check.specs.Shape.{Name, named, one, parts};
 ghost use Rattle.archive_check.specs.Value.{product};
-ghost use Rattle.archive_types.specs.Words.Seen.{IsPartOf, RefusesPart};
-ghost use Rattle.archive_types.specs.Words.Sources.{Read};
+ghost use Rattle.archive_types.specs.Words.Seen.{IsPartOf};
+ghost use Rattle.archive_types.specs.Outcomes.{ReadsAs};
 
 mod choices;
 mod nested;
@@ -126,8 +126,7 @@ where
     #[inline(always)]
     fn deserialize_part(alloc: Global, part: RawView<'_>, deserializer: &mut D) -> Result<T, Error>
         requires { IsPartOf ⟦<Self as ArchivePointee>⟧ part }
-        ensures read { IfOk result (Read ⟦<Self as ArchivePointee>⟧ part D.Entries deserializer T.Archive) }
-        ensures refused { IfErr result (RefusesPart ⟦<Self as ArchivePointee>⟧ part D.Entries deserializer) }
+        ensures { ReadsAs ⟦<Self as ArchivePointee>⟧ part D.Entries deserializer T.Archive result }
     {
         let values = deserialize_record::<Self, T::Owned, D>(alloc, part, deserializer)?;
         Ok(T::from_parts(values))

@@ -5,6 +5,8 @@ use denote.Ref.{MutBor}
 use Rattle.std.specs.Prelude.{◌≡◌, ◌⊎◌, ◌+◌, ◌≤◌, ◌*◌, ℕ, List, length, Option, None, Result, OnOk, IfOk, IfErr, IfSome}
 use Rattle.archive_check.specs.Definitions.{Definitions}
 use Rattle.archive_check.specs.Words.Formats.{FormatOf}
+use Rattle.archive_check.specs.Entries.{ReadsBack, RefusesReading}
+use Rattle.archive_check.specs.Pooled.{Entries}
 use Rattle.archive_check.specs.Reads.{bytes_at}
 use Rattle.archive_check.specs.Shape.{Shape, Pointee, vec, one, run}
 use Rattle.archive_check.specs.Value.{Value, Values, list}
@@ -12,6 +14,7 @@ use Rattle.archive_check.specs.WriterState.{WriterState, KeepsKeys}
 use Rattle.archive_check.specs.declared.format.error.Error.{Error}
 use Rattle.archive_check.specs.declared.format.error.Error.TheVariants.{OutOfMemory}
 use Rattle.archive_check.specs.declared.format.traits.ArchivePointee as ArchivePointee
+use Rattle.archive_check.specs.declared.format.traits.Entries as EntriesOf
 use Rattle.archive_check.specs.declared.format.traits.Keys as Keys
 use Rattle.archive_check.specs.declared.self_check.parts.CheckedParts as CheckedParts
 use Rattle.archive_types.specs.Causes.{Explains, HindersAt, HindersRegionAt, IsOfWriting, IsRefused, IsRegionRefused}
@@ -19,6 +22,7 @@ use Rattle.archive_types.specs.Copies.{AreCopied, EachOwnsNothing, IsCopyRefused
 use Rattle.archive_types.specs.Inner.{IsBoxed, IsPutAt, IsNotBoxed}
 use Rattle.archive_types.specs.Parts.{SerializedParts, ArePartsRefused, ResolvesParts, HindersPartsAt}
 use Rattle.archive_types.specs.Words.PlacedParts.{ChangesOnly}
+use Rattle.archive_types.specs.PartsReading.{PartsReadBack, RefusesParts}
 use Rattle.archive_types.specs.Plans.{Serialized, SerializedRegion}
 use Rattle.archive_types.specs.Runs.{each_keys, each_meaning, each_flat, HindersRunAt, PutsRun}
 use Rattle.archive_types.specs.Writing.{Naming, Puts, Resolves, vec_flat}
@@ -26,6 +30,8 @@ use Rattle.archive_types.specs.declared.parts.SourceParts as SourceParts
 use Rattle.archive_types.specs.declared.place.Place.{Place}
 use Rattle.archive_types.specs.declared.traits.Archive as Archive
 use Rattle.archive_types.specs.declared.traits.ArchiveUnsized as ArchiveUnsized
+use Rattle.archive_types.specs.declared.view.RawView.{RawView}
+use Rattle.archive_types.specs.declared.view.Ref.{Ref}
 use Rattle.archive_write.specs.Written.{GoesOn}
 
 -- Resolving: the bytes at p are clean and read as the value, with its pointers, or why not; they stay as many.
@@ -145,3 +151,27 @@ pub record BoxesInner {T A R M C S : Type 0} (a : Archive.Ghosts T A R C M) (f :
   pub goes_on : GoesOn (k.state w.entry.now) (k.state w.exit.now)
   pub refused : IfErr result (IsNotBoxed f.definitions f.shape (a.keys v) (a.meaning v) (a.flat v r) (k.state w.entry.now) (k.state w.exit.now))
   pub number : IfErr result IsOfWriting
+
+-- Reading back: what lies there was read back as this value, with its keys, or why not.
+pub record ReadsTo {T : Type 0} (D : Definitions) (P : Pointee) (n : ℕ) (bytes : List ℕ) (p : ℕ) (old new : Entries) (value : T → Value) (keys : T → List Naming) (result : Result T Error) : Type 0 where
+  pub read : IfOk result (λ t. ReadsBack D bytes p P n old new (value t) (keys t))
+  pub refused : IfErr result (RefusesReading D bytes p P n old)
+
+-- of a part, which has the type's definitions and pointee: as a source, and as what means this and has these keys
+abbrev pub ReadsAs : {P N T A R M C D E : Type 0} → ArchivePointee.Ghosts P N → Both RawView E → EntriesOf.Ghosts D → Both (MutBor D) (MutBor D) → Archive.Ghosts T A R C M → Result T Error → Type 0
+ReadsAs g p d b a result =
+    ReadsTo g.definitions g.pointee p.entry.len p.entry.bytes.now p.entry.pos (d.entry_of b.entry.now) (d.entry_of b.exit.now) a.meaning a.keys result
+
+abbrev pub ReadsPart : {P N T D E : Type 0} → ArchivePointee.Ghosts P N → Both RawView E → EntriesOf.Ghosts D → Both (MutBor D) (MutBor D) → (T → Value) → (T → List Naming) → Result T Error → Type 0
+ReadsPart g p d b value keys result =
+    ReadsTo g.definitions g.pointee p.entry.len p.entry.bytes.now p.entry.pos (d.entry_of b.entry.now) (d.entry_of b.exit.now) value keys result
+
+-- of what a view shows
+abbrev pub ReadsView : {P N T D : Type 0} {g : ArchivePointee.Ghosts P N} → Ref P N g → EntriesOf.Ghosts D → Both (MutBor D) (MutBor D) → (T → Value) → (T → List Naming) → Result T Error → Type 0
+ReadsView {g = g} v d b value keys result =
+    ReadsTo g.definitions g.pointee v.len v.bytes.now v.pos (d.entry_of b.entry.now) (d.entry_of b.exit.now) value keys result
+
+-- The same of parts, behind the offset `start` of what begins at p.
+pub record ReadsAllParts {P T D : Type 0} (g : CheckedParts.Ghosts P) (bytes : List ℕ) (p start : ℕ) (d : EntriesOf.Ghosts D) (b : Both (MutBor D) (MutBor D)) (meanings : T → Values) (keys : T → List Naming) (result : Result T Error) : Type 0 where
+  pub read : IfOk result (λ t. PartsReadBack bytes p g.definitions g.parts start (d.entry_of b.entry.now) (d.entry_of b.exit.now) (meanings t) (keys t))
+  pub refused : IfErr result (RefusesParts g.definitions bytes p g.parts start (d.entry_of b.entry.now))

@@ -9,8 +9,7 @@ ghost use Rattle.archive_types.specs.Parts.{ArePlanned, AreKeyed, ZeroedParts};
 ghost use Rattle.archive_types.specs.Members.PartsPlanned.{no_part_planned, part_planned};
 ghost use Rattle.archive_types.specs.PartsReading.{PartsViewed};
 ghost use Rattle.archive_types.specs.Writing.{Naming};
-ghost use Rattle.archive_types.specs.Words.PartsWritten.{ReadsParts, UnreadParts};
-ghost use Rattle.archive_types.specs.Outcomes.{ResolvesAllParts};
+ghost use Rattle.archive_types.specs.Outcomes.{ResolvesAllParts, ReadsAllParts};
 
 mod four_parts;
 mod serializing;
@@ -182,8 +181,10 @@ pub trait DeserializeParts<T: OwnedParts, D: Entries>: PortableParts {
         deserializer: &mut D,
     ) -> Result<T, Error>
         requires viewed { PartsViewed Self.definitions bytes.now pos start Self.parts }
-        ensures read { IfOk result (ReadsParts Self.CheckedParts bytes.now pos start D.Entries deserializer T.meanings T.keys) }
-        ensures refused { IfErr result (UnreadParts Self.CheckedParts bytes.now pos start D.Entries deserializer) };
+        ensures {
+            ReadsAllParts Self.CheckedParts bytes.now pos start D.Entries deserializer T.meanings
+                T.keys result
+        };
 }
 
 impl<D: Entries> DeserializeParts<(), D> for () {

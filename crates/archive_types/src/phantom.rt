@@ -11,10 +11,9 @@ ghost use Rattle.archive_types.specs.Members.Nothing.{empty_product_keyed, empty
 ghost use Rattle.archive_types.specs.Members.PlannedOwners.{one_planned};
 ghost use Rattle.archive_types.specs.Plans.{Serialized};
 ghost use Rattle.archive_types.specs.Words.Seen.{IsPartOf};
-ghost use Rattle.archive_types.specs.Words.Sources.{Read};
 ghost use Rattle.archive_types.specs.Writing.{ZeroedPlace, Resolves};
 ghost use Rattle.archive_write.specs.Written.{GoesOn};
-ghost use Rattle.archive_types.specs.Outcomes.{ResolvesAs, Serializes};
+ghost use Rattle.archive_types.specs.Outcomes.{ResolvesAs, Serializes, ReadsAs};
 
 use crate::place::Place;
 use crate::ser::serialize_one;
@@ -146,7 +145,10 @@ impl<T, D: Entries> Deserialize<PhantomData<T>, D> for PhantomData<T> {
         _deserializer: &mut D,
     ) -> Result<PhantomData<T>, Error>
         requires { IsPartOf ⟦<Self as ArchivePointee>⟧ part }
-        ensures read { IfOk result (Read ⟦<Self as ArchivePointee>⟧ part D.Entries _deserializer ⟦<Self as Archive>⟧) }
+        ensures outcome {
+            ReadsAs ⟦<Self as ArchivePointee>⟧ part D.Entries _deserializer ⟦<Self as Archive>⟧
+                result
+        }
         ensures unchanged { D.entry_of _deserializer.new ≡ D.entry_of _deserializer.old }
         ensures succeeds { IsOk result }
     {

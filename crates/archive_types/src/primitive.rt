@@ -7,8 +7,8 @@ ghost use Rattle.archive_check.specs.Reads.{bytes_at, IsLegal};
 ghost use Rattle.archive_check.specs.Definitions.{Definitions};
 ghost use Rattle.archive_check.specs.Value.{number};
 ghost use Rattle.archive_types.specs.Words.Seen.{IsPartOf};
-ghost use Rattle.archive_types.specs.Words.Sources.{Read};
 ghost use Rattle.archive_types.specs.Writing.{Resolves};
+ghost use Rattle.archive_types.specs.Outcomes.{ReadsAs};
 
 use crate::traits::{Archive, ArchivePointee, Deserialize, Entries, Portable};
 use crate::view::{RawView, Ref};
@@ -78,7 +78,9 @@ impl<N: Source, D: Entries> Deserialize<N, D> for LittleEndian<N> {
         _deserializer: &mut D,
     ) -> Result<N, Error>
         requires { IsPartOf ⟦<Self as ArchivePointee>⟧ part }
-        ensures read { IfOk result (Read ⟦<Self as ArchivePointee>⟧ part D.Entries _deserializer ⟦<N as Archive>⟧) }
+        ensures outcome {
+            ReadsAs ⟦<Self as ArchivePointee>⟧ part D.Entries _deserializer ⟦<N as Archive>⟧ result
+        }
         ensures number { IfOk result (λ n. n ≡ N.number_of (bytes_at part.entry.bytes.now part.entry.pos N.byte_count)) }
         ensures unchanged { D.entry_of _deserializer.new ≡ D.entry_of _deserializer.old }
         ensures succeeds { IsOk result }
@@ -111,7 +113,10 @@ impl<N: Native, D: Entries> Deserialize<LittleEndian<N>, D> for LittleEndian<N> 
         _deserializer: &mut D,
     ) -> Result<LittleEndian<N>, Error>
         requires { IsPartOf ⟦<Self as ArchivePointee>⟧ part }
-        ensures read { IfOk result (Read ⟦<Self as ArchivePointee>⟧ part D.Entries _deserializer ⟦<Self as Archive>⟧) }
+        ensures outcome {
+            ReadsAs ⟦<Self as ArchivePointee>⟧ part D.Entries _deserializer ⟦<Self as Archive>⟧
+                result
+        }
         ensures number { IfOk result (λ n. n ≡ N.number_of (bytes_at part.entry.bytes.now part.entry.pos N.byte_count)) }
         ensures unchanged { D.entry_of _deserializer.new ≡ D.entry_of _deserializer.old }
         ensures succeeds { IsOk result }
@@ -129,7 +134,10 @@ impl<N: Integer, D: Entries> Deserialize<NonZero<N>, D> for NonZero<N> {
         _deserializer: &mut D,
     ) -> Result<NonZero<N>, Error>
         requires { IsPartOf ⟦<Self as ArchivePointee>⟧ part }
-        ensures read { IfOk result (Read ⟦<Self as ArchivePointee>⟧ part D.Entries _deserializer ⟦<Self as Archive>⟧) }
+        ensures outcome {
+            ReadsAs ⟦<Self as ArchivePointee>⟧ part D.Entries _deserializer ⟦<Self as Archive>⟧
+                result
+        }
         ensures number { IfOk result (λ n. n ≡ N.number_of (bytes_at part.entry.bytes.now part.entry.pos N.byte_count)) }
         ensures unchanged { D.entry_of _deserializer.new ≡ D.entry_of _deserializer.old }
         ensures succeeds { IsOk result }
@@ -147,7 +155,9 @@ impl<N: Plain, D: Entries> Deserialize<N, D> for N {
         _deserializer: &mut D,
     ) -> Result<N, Error>
         requires { IsPartOf ⟦<Self as ArchivePointee>⟧ part }
-        ensures read { IfOk result (Read ⟦<Self as ArchivePointee>⟧ part D.Entries _deserializer ⟦<N as Archive>⟧) }
+        ensures outcome {
+            ReadsAs ⟦<Self as ArchivePointee>⟧ part D.Entries _deserializer ⟦<N as Archive>⟧ result
+        }
         ensures number { IfOk result (λ n. n ≡ N.number_of (bytes_at part.entry.bytes.now part.entry.pos N.byte_count)) }
         ensures unchanged { D.entry_of _deserializer.new ≡ D.entry_of _deserializer.old }
         ensures succeeds { IsOk result }

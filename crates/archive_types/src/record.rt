@@ -6,10 +6,10 @@ ghost use Rattle.archive_check.specs.Value.{product};
 ghost use Rattle.archive_check.specs.Viewed.{Viewed};
 ghost use Rattle.archive_types.specs.Causes.{HindersAt, IsRefused};
 ghost use Rattle.archive_types.specs.Plans.{Serialized};
-ghost use Rattle.archive_types.specs.Words.Seen.{IsPartOf, RefusesPart, ReadsRecord};
+ghost use Rattle.archive_types.specs.Words.Seen.{IsPartOf};
 ghost use Rattle.archive_types.specs.Writing.{ZeroedPlace, Resolves};
 ghost use Rattle.archive_write.specs.Written.{GoesOn};
-ghost use Rattle.archive_types.specs.Outcomes.{ResolvesAs, SerializesAs};
+ghost use Rattle.archive_types.specs.Outcomes.{ResolvesAs, SerializesAs, ReadsPart};
 
 use crate::parts::{DeserializeParts, OwnedParts, SerializeParts, SourceParts};
 use crate::place::Place;
@@ -65,8 +65,10 @@ pub fn deserialize_record<X: Record, T: OwnedParts, D: Entries>(
 where
     X::Parts: DeserializeParts<T, D>,
     requires { IsPartOf X.ArchivePointee part }
-    ensures read { IfOk result (ReadsRecord X.ArchivePointee part D.Entries deserializer T.meanings T.keys) }
-    ensures refused { IfErr result (RefusesPart X.ArchivePointee part D.Entries deserializer) }
+    ensures {
+        ReadsPart X.ArchivePointee part D.Entries deserializer (λ t. product (T.meanings t)) T.keys
+            result
+    }
 {
     let RawView { bytes, pos, .. } = part;
     <X::Parts as DeserializeParts<T, D>>::deserialize_parts(alloc, bytes, pos, 0, deserializer)

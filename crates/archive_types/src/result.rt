@@ -9,10 +9,9 @@ ghost use Rattle.archive_enum.specs.ResultShapes.{result_shape, result_layout};
 ghost use Rattle.archive_types.specs.Causes.{HindersAt};
 ghost use Rattle.archive_types.specs.Members.PlannedOwners.{one_planned};
 ghost use Rattle.archive_types.specs.Members.Results.{result_meaning, result_keys, result_flat, ResultBelongs, result_keyed, result_planned};
-ghost use Rattle.archive_types.specs.Words.Seen.{tag_of, StandsBeside, IsPartOf, RefusesPart, IsBufferOf, IsBehind};
-ghost use Rattle.archive_types.specs.Words.Sources.{Read};
+ghost use Rattle.archive_types.specs.Words.Seen.{tag_of, StandsBeside, IsPartOf, IsBufferOf, IsBehind};
 ghost use Rattle.archive_types.specs.Writing.{ZeroedPlace, Resolves};
-ghost use Rattle.archive_types.specs.Outcomes.{ResolvesAs};
+ghost use Rattle.archive_types.specs.Outcomes.{ResolvesAs, ReadsAs};
 
 use crate::place::Place;
 use crate::ser::serialize_one;
@@ -167,8 +166,10 @@ impl<
         deserializer: &mut D,
     ) -> Result<Result<T, E>, Error>
         requires { IsPartOf ⟦<Self as ArchivePointee>⟧ part }
-        ensures read { IfOk result (Read ⟦<Self as ArchivePointee>⟧ part D.Entries deserializer ⟦<Result<T, E> as Archive>⟧) }
-        ensures refused { IfErr result (RefusesPart ⟦<Self as ArchivePointee>⟧ part D.Entries deserializer) }
+        ensures {
+            ReadsAs ⟦<Self as ArchivePointee>⟧ part D.Entries deserializer
+                ⟦<Result<T, E> as Archive>⟧ result
+        }
     {
         let view: Ref<'_, ArchivedResult<A, B>> = Ref::at(part);
         match view.as_ref() {

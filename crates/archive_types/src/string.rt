@@ -25,11 +25,10 @@ ghost use Rattle.archive_types.specs.Members.Planned.{string_planned, text_plann
 ghost use Rattle.archive_types.specs.Members.PlannedOwners.{is_long, one_planned};
 ghost use Rattle.archive_types.specs.Plans.{Serialized, SerializedRegion};
 ghost use Rattle.archive_types.specs.Words.Seen.{IsPartOf};
-ghost use Rattle.archive_types.specs.Words.Sources.{Read};
 ghost use Rattle.archive_types.specs.Strings.{string_form, string_flat};
 ghost use Rattle.archive_types.specs.TextPlans.{HindersStringAt, ExplainsTextRefusal, ExplainsStringRefusal};
 ghost use Rattle.archive_types.specs.Writing.{ZeroedPlace, Resolves};
-ghost use Rattle.archive_types.specs.Outcomes.{ResolvesAs, Serializes, SerializesAs, WritesUnsized};
+ghost use Rattle.archive_types.specs.Outcomes.{ResolvesAs, Serializes, SerializesAs, WritesUnsized, ReadsAs};
 
 mod views;
 
@@ -229,10 +228,13 @@ impl<D: Entries> DeserializeUnsized<String, D> for ArchivedStr {
         _deserializer: &mut D,
     ) -> Result<String, Error>
         requires { IsPartOf ⟦<Self as ArchivePointee>⟧ part }
-        ensures read { IfOk result (Read ⟦<Self as ArchivePointee>⟧ part D.Entries _deserializer ⟦<String as Archive>⟧) }
+        ensures outcome {
+            ReadsAs ⟦<Self as ArchivePointee>⟧ part D.Entries _deserializer ⟦<String as Archive>⟧
+                result
+        }
         ensures text { IfOk result (λ s. string_bytes s ≡ bytes_at part.entry.bytes.now part.entry.pos part.entry.len) }
         ensures unchanged { D.entry_of _deserializer.new ≡ D.entry_of _deserializer.old }
-        ensures refused { IfErr result (λ e. e ≡ OutOfMemory) }
+        ensures cause { IfErr result (λ e. e ≡ OutOfMemory) }
     {
         let view: Ref<'_, ArchivedStr> = Ref::at(part);
         Ok(String::from_str(alloc, view.as_str())?)
@@ -394,10 +396,13 @@ impl<D: Entries> Deserialize<String, D> for ArchivedString {
         _deserializer: &mut D,
     ) -> Result<String, Error>
         requires { IsPartOf ⟦<Self as ArchivePointee>⟧ part }
-        ensures read { IfOk result (Read ⟦<Self as ArchivePointee>⟧ part D.Entries _deserializer ⟦<String as Archive>⟧) }
+        ensures outcome {
+            ReadsAs ⟦<Self as ArchivePointee>⟧ part D.Entries _deserializer ⟦<String as Archive>⟧
+                result
+        }
         ensures text { IfOk result (λ s. string_bytes s ≡ string_text part.entry.bytes.now part.entry.pos) }
         ensures unchanged { D.entry_of _deserializer.new ≡ D.entry_of _deserializer.old }
-        ensures refused { IfErr result (λ e. e ≡ OutOfMemory) }
+        ensures cause { IfErr result (λ e. e ≡ OutOfMemory) }
     {
         let view: Ref<'_, ArchivedString> = Ref::at(part);
         Ok(String::from_str(alloc, view.as_str())?)

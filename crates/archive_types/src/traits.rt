@@ -9,13 +9,13 @@ ghost use Rattle.archive_check.specs.Value.{Value, list};
 ghost use Rattle.archive_check.specs.Viewed.{Viewed};
 ghost use Rattle.archive_check.specs.declared.format.error.Error.TheVariants.{LengthTooLarge};
 ghost use Rattle.archive_types.specs.Words.Placed.{IsPlanned};
-ghost use Rattle.archive_types.specs.Words.Seen.{IsPartOf, RefusesPart, ReadsView, RefusesView};
+ghost use Rattle.archive_types.specs.Words.Seen.{IsPartOf};
 ghost use Rattle.archive_types.specs.Causes.{HindersAt, IsRefused, IsRegionRefused};
 ghost use Rattle.archive_types.specs.Plans.{HasPlan, HasRegionPlan, Serialized, SerializedRegion};
 ghost use Rattle.archive_types.specs.Runs.{each_keys, each_meaning};
 ghost use Rattle.archive_types.specs.Writing.{Naming, IsKeyed, ZeroedPlace, Resolves};
 ghost use Rattle.archive_write.specs.Written.{GoesOn};
-ghost use Rattle.archive_types.specs.Outcomes.{ResolvesAs, Serializes, WritesUnsized, CopiesElements};
+ghost use Rattle.archive_types.specs.Outcomes.{ResolvesAs, Serializes, WritesUnsized, CopiesElements, ReadsAs, ReadsView};
 
 use crate::place::Place;
 use crate::view::{RawView, Ref};
@@ -115,15 +115,13 @@ pub trait Serialize<S: Writer + Keys>: Archive {
 /// A format that can be read back as a `T`. As in rkyv 0.8.18, by views in place of references.
 pub trait Deserialize<T: Archive, D: Entries>: ArchivePointee {
     ghost use Rattle.archive_types.specs.FirstRead.{AreFirstRead};
-    ghost use Rattle.archive_types.specs.Words.Sources.{Read};
     ghost use Rattle.archive_types.specs.Views.{AreViewed};
 
     /// What implements this trait writes this call, over the part of a view, and callers use `deserialize`. Asks for what a view promises of the part.
     /// Our own.
     fn deserialize_part(alloc: Global, part: RawView<'_>, deserializer: &mut D) -> Result<T, Error>
         requires { IsPartOf Self.ArchivePointee part }
-        ensures read { IfOk result (Read Self.ArchivePointee part D.Entries deserializer T.Archive) }
-        ensures refused { IfErr result (RefusesPart Self.ArchivePointee part D.Entries deserializer) };
+        ensures { ReadsAs Self.ArchivePointee part D.Entries deserializer T.Archive result };
 
     /// Puts the first of `count` values that stand `step` bytes apart from the position `pos` on into `items`, in which there is nothing but room: as many
     /// as are read many at once, by default none. The others are read by `deserialize_part`. Asks for what a view promises of each. Our own.
@@ -153,8 +151,7 @@ pub trait Deserialize<T: Archive, D: Entries>: ArchivePointee {
         view: Ref<'_, Self>,
         deserializer: &mut D,
     ) -> Result<T, Error>
-        ensures read { IfOk result (λ t. ReadsView view.entry D.Entries deserializer (T.meaning t) (T.keys t)) }
-        ensures refused { IfErr result (RefusesView view.entry D.Entries deserializer) }
+        ensures { ReadsView view.entry D.Entries deserializer T.meaning T.keys result }
     {
         Self::deserialize_part(alloc, view.part(), deserializer)
     }
@@ -207,7 +204,6 @@ pub trait SerializeUnsized<S: Writer + Keys>: ArchiveUnsized {
 
 /// A pointee that can be read back as a `T`: the value, a vector of the elements, or a string. As in rkyv 0.8.18, by views in place of references.
 pub trait DeserializeUnsized<T: Archive, D: Entries>: ArchivePointee {
-    ghost use Rattle.archive_types.specs.Words.Sources.{Read};
 
     /// What implements this trait writes this call, over the part of a view, and callers use `deserialize_unsized`. Asks for what a view promises of
     /// the part. Our own.
@@ -217,8 +213,7 @@ pub trait DeserializeUnsized<T: Archive, D: Entries>: ArchivePointee {
         deserializer: &mut D,
     ) -> Result<T, Error>
         requires { IsPartOf Self.ArchivePointee part }
-        ensures read { IfOk result (Read Self.ArchivePointee part D.Entries deserializer T.Archive) }
-        ensures refused { IfErr result (RefusesPart Self.ArchivePointee part D.Entries deserializer) };
+        ensures { ReadsAs Self.ArchivePointee part D.Entries deserializer T.Archive result };
 
     /// What the view shows, as `Deserialize::deserialize` says it. Memory comes from `alloc`: refused with `OutOfMemory`, 1, where it is refused, and
     /// with `CyclicDeserialize`, 13, only where a shared position is met that is still being read.
@@ -227,8 +222,7 @@ pub trait DeserializeUnsized<T: Archive, D: Entries>: ArchivePointee {
         view: Ref<'_, Self>,
         deserializer: &mut D,
     ) -> Result<T, Error>
-        ensures read { IfOk result (λ t. ReadsView view.entry D.Entries deserializer (T.meaning t) (T.keys t)) }
-        ensures refused { IfErr result (RefusesView view.entry D.Entries deserializer) }
+        ensures { ReadsView view.entry D.Entries deserializer T.meaning T.keys result }
     {
         Self::deserialize_unsized_part(alloc, view.part(), deserializer)
     }

@@ -25,21 +25,20 @@ pub enum Event {
 ghost use Rattle.archive_core.specs.Definitions.{both, no_definition};
 ghost use Rattle.archive_core.specs.Keyed.{case_keyed, each_keyed, nothing_keyed, number_keyed, part_keyed, text_keyed};
 ghost use Rattle.archive_core.specs.LeafLayout.{no_definition_reached};
-ghost use Rattle.archive_core.specs.Outcomes.{ResolvesAs};
+ghost use Rattle.archive_core.specs.Outcomes.{ReadsAs, ResolvesAs};
 ghost use Rattle.archive_core.specs.PartsPlanned.{no_part_planned, part_planned};
 ghost use Rattle.archive_core.specs.Payloads.{payload_in};
 ghost use Rattle.archive_core.specs.Plain.{plain_choice, plain_own_check, plain_variant_planned};
 ghost use Rattle.archive_core.specs.Planned.{leaf_planned, string_planned};
 ghost use Rattle.archive_core.specs.PlannedOwners.{one_planned, slice_planned, vec_planned};
 ghost use Rattle.archive_core.specs.SealsWritten.{SealsBeside, seal_tag};
-ghost use Rattle.archive_core.specs.Seen.{IsPartOf, RefusesPart, ShowsValueOf, tag_of};
+ghost use Rattle.archive_core.specs.Seen.{IsPartOf, ShowsValueOf, tag_of};
 ghost use Rattle.archive_core.specs.Shape.{choice, no_part, no_variant, one, part, variant};
-ghost use Rattle.archive_core.specs.Sources.{Read};
 ghost use Rattle.archive_core.specs.Value.{case, no_value, value};
 ghost use Rattle.archive_core.specs.Viewed.{Viewed};
 ghost use Rattle.archive_core.specs.Writing.{ZeroedPlace};
 ghost use Rattle.std.proofs.Common.{inl, inr, lit≤};
-ghost use Rattle.std.specs.Prelude.{IfErr, IfOk, [], codes, length, refl, string_bytes, true, ℕ, ◌++◌, ◌+◌, ◌≡◌};
+ghost use Rattle.std.specs.Prelude.{[], codes, length, refl, string_bytes, true, ℕ, ◌++◌, ◌+◌, ◌≡◌};
 
 use archive_core::error::Error;
 use archive_core::fields::{
@@ -323,8 +322,10 @@ impl<D: Entries> Deserialize<Event, D> for ArchivedEvent {
         deserializer: &mut D,
     ) -> Result<Event, Error>
         requires { IsPartOf ⟦<Self as ArchivePointee>⟧ part }
-        ensures read { IfOk result (Read ⟦<Self as ArchivePointee>⟧ part D.Entries deserializer ⟦<Event as Archive>⟧) }
-        ensures refused { IfErr result (RefusesPart ⟦<Self as ArchivePointee>⟧ part D.Entries deserializer) }
+        ensures {
+            ReadsAs ⟦<Self as ArchivePointee>⟧ part D.Entries deserializer
+                ⟦<Event as Archive>⟧ result
+        }
     {
         match known_tag::<Self>(part) {
             0 => match read_case::<Self, (), (), D>(0, alloc, part, deserializer) {

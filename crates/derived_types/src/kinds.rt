@@ -67,7 +67,7 @@ ghost use Rattle.archive_core.specs.Keyed.{box_keyed, each_keyed, nothing_keyed,
 ghost use Rattle.archive_core.specs.LeafLayout.{no_definition_reached};
 ghost use Rattle.archive_core.specs.Nothing.{empty_product_keyed, empty_product_planned};
 ghost use Rattle.archive_core.specs.Options.{option_keyed, option_planned};
-ghost use Rattle.archive_core.specs.Outcomes.{ResolvesAs};
+ghost use Rattle.archive_core.specs.Outcomes.{ReadsAs, ResolvesAs};
 ghost use Rattle.archive_core.specs.PartsPlanned.{no_part_planned, part_planned, product_planned};
 ghost use Rattle.archive_core.specs.Plain.{plain_own_check, plain_record, plain_record_planned};
 ghost use Rattle.archive_core.specs.Planned.{leaf_planned, string_planned, text_planned};
@@ -75,14 +75,13 @@ ghost use Rattle.archive_core.specs.PlannedOwners.{box_planned, one_planned, sli
 ghost use Rattle.archive_core.specs.Results.{result_keyed, result_planned};
 ghost use Rattle.archive_core.specs.Runs.{each_keys, each_meaning};
 ghost use Rattle.archive_core.specs.SealsWritten.{SealsBeside};
-ghost use Rattle.archive_core.specs.Seen.{IsPartOf, RefusesPart, ShowsValueOf};
+ghost use Rattle.archive_core.specs.Seen.{IsPartOf, ShowsValueOf};
 ghost use Rattle.archive_core.specs.Shape.{no_part, one, part, parts, run, text};
-ghost use Rattle.archive_core.specs.Sources.{Read};
 ghost use Rattle.archive_core.specs.Value.{list, no_value, product, text_value, value};
 ghost use Rattle.archive_core.specs.Viewed.{Viewed};
 ghost use Rattle.archive_core.specs.Writing.{ZeroedPlace};
 ghost use Rattle.std.proofs.Common.{inl, inr, lit≤};
-ghost use Rattle.std.specs.Prelude.{IfErr, IfOk, [], length, refl, string_bytes, true, ◌++◌, ◌+◌, ◌≡◌};
+ghost use Rattle.std.specs.Prelude.{[], length, refl, string_bytes, true, ◌++◌, ◌+◌, ◌≡◌};
 
 use crate::pair::ArchivedPair;
 use crate::spot::ArchivedSpot;
@@ -329,8 +328,10 @@ impl<D: Entries> Deserialize<Numbers, D> for ArchivedNumbers {
         deserializer: &mut D,
     ) -> Result<Numbers, Error>
         requires { IsPartOf ⟦<Self as ArchivePointee>⟧ part }
-        ensures read { IfOk result (Read ⟦<Self as ArchivePointee>⟧ part D.Entries deserializer ⟦<Numbers as Archive>⟧) }
-        ensures refused { IfErr result (RefusesPart ⟦<Self as ArchivePointee>⟧ part D.Entries deserializer) }
+        ensures {
+            ReadsAs ⟦<Self as ArchivePointee>⟧ part D.Entries deserializer
+                ⟦<Numbers as Archive>⟧ result
+        }
     {
         match deserialize_record::<Self, NumbersOwned, D>(alloc, part, deserializer) {
             Ok((a0, (a1, (a2, (a3, (a4, (a5, ()))))))) => Ok(Numbers {
@@ -764,8 +765,10 @@ impl<D: Entries> Deserialize<Owners, D> for ArchivedOwners {
         deserializer: &mut D,
     ) -> Result<Owners, Error>
         requires { IsPartOf ⟦<Self as ArchivePointee>⟧ part }
-        ensures read { IfOk result (Read ⟦<Self as ArchivePointee>⟧ part D.Entries deserializer ⟦<Owners as Archive>⟧) }
-        ensures refused { IfErr result (RefusesPart ⟦<Self as ArchivePointee>⟧ part D.Entries deserializer) }
+        ensures {
+            ReadsAs ⟦<Self as ArchivePointee>⟧ part D.Entries deserializer
+                ⟦<Owners as Archive>⟧ result
+        }
     {
         match deserialize_record::<Self, OwnersOwned, D>(alloc, part, deserializer) {
             Ok((a0, (a1, (a2, (a3, (a4, ())))))) => Ok(Owners {
@@ -1145,8 +1148,10 @@ impl<D: Entries> Deserialize<Lists, D> for ArchivedLists {
         deserializer: &mut D,
     ) -> Result<Lists, Error>
         requires { IsPartOf ⟦<Self as ArchivePointee>⟧ part }
-        ensures read { IfOk result (Read ⟦<Self as ArchivePointee>⟧ part D.Entries deserializer ⟦<Lists as Archive>⟧) }
-        ensures refused { IfErr result (RefusesPart ⟦<Self as ArchivePointee>⟧ part D.Entries deserializer) }
+        ensures {
+            ReadsAs ⟦<Self as ArchivePointee>⟧ part D.Entries deserializer
+                ⟦<Lists as Archive>⟧ result
+        }
     {
         match deserialize_record::<Self, ListsOwned, D>(alloc, part, deserializer) {
             Ok((a0, (a1, (a2, ())))) => Ok(Lists {
@@ -1428,8 +1433,10 @@ impl<D: Entries> Deserialize<Empty, D> for ArchivedEmpty {
         deserializer: &mut D,
     ) -> Result<Empty, Error>
         requires { IsPartOf ⟦<Self as ArchivePointee>⟧ part }
-        ensures read { IfOk result (Read ⟦<Self as ArchivePointee>⟧ part D.Entries deserializer ⟦<Empty as Archive>⟧) }
-        ensures refused { IfErr result (RefusesPart ⟦<Self as ArchivePointee>⟧ part D.Entries deserializer) }
+        ensures {
+            ReadsAs ⟦<Self as ArchivePointee>⟧ part D.Entries deserializer
+                ⟦<Empty as Archive>⟧ result
+        }
     {
         match deserialize_record::<Self, EmptyOwned, D>(alloc, part, deserializer) {
             Ok(()) => Ok(Empty),
@@ -1624,8 +1631,10 @@ impl<D: Entries> Deserialize<Unnamed, D> for ArchivedUnnamed {
         deserializer: &mut D,
     ) -> Result<Unnamed, Error>
         requires { IsPartOf ⟦<Self as ArchivePointee>⟧ part }
-        ensures read { IfOk result (Read ⟦<Self as ArchivePointee>⟧ part D.Entries deserializer ⟦<Unnamed as Archive>⟧) }
-        ensures refused { IfErr result (RefusesPart ⟦<Self as ArchivePointee>⟧ part D.Entries deserializer) }
+        ensures {
+            ReadsAs ⟦<Self as ArchivePointee>⟧ part D.Entries deserializer
+                ⟦<Unnamed as Archive>⟧ result
+        }
     {
         match deserialize_record::<Self, UnnamedOwned, D>(alloc, part, deserializer) {
             Ok((a0, (a1, ()))) => Ok(Unnamed(a0, a1)),

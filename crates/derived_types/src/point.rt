@@ -19,20 +19,19 @@ ghost use Rattle.archive_core.specs.Definitions.{both, no_definition};
 ghost use Rattle.archive_core.specs.Fields.{field_in};
 ghost use Rattle.archive_core.specs.Keyed.{each_keyed, nothing_keyed, number_keyed, part_keyed, record_keyed, text_keyed};
 ghost use Rattle.archive_core.specs.LeafLayout.{no_definition_reached};
-ghost use Rattle.archive_core.specs.Outcomes.{ResolvesAs};
+ghost use Rattle.archive_core.specs.Outcomes.{ReadsAs, ResolvesAs};
 ghost use Rattle.archive_core.specs.PartsPlanned.{no_part_planned, part_planned};
 ghost use Rattle.archive_core.specs.Plain.{plain_own_check, plain_record, plain_record_planned};
 ghost use Rattle.archive_core.specs.Planned.{leaf_planned, string_planned};
 ghost use Rattle.archive_core.specs.PlannedOwners.{one_planned, slice_planned, vec_planned};
 ghost use Rattle.archive_core.specs.SealsWritten.{SealsBeside};
-ghost use Rattle.archive_core.specs.Seen.{IsPartOf, RefusesPart, ShowsValueOf};
+ghost use Rattle.archive_core.specs.Seen.{IsPartOf, ShowsValueOf};
 ghost use Rattle.archive_core.specs.Shape.{no_part, one, part, parts};
-ghost use Rattle.archive_core.specs.Sources.{Read};
 ghost use Rattle.archive_core.specs.Value.{no_value, product, value};
 ghost use Rattle.archive_core.specs.Viewed.{Viewed};
 ghost use Rattle.archive_core.specs.Writing.{ZeroedPlace};
 ghost use Rattle.std.proofs.Common.{inl, inr, lit≤};
-ghost use Rattle.std.specs.Prelude.{IfErr, IfOk, [], length, refl, string_bytes, true, ◌++◌, ◌+◌, ◌≡◌};
+ghost use Rattle.std.specs.Prelude.{[], length, refl, string_bytes, true, ◌++◌, ◌+◌, ◌≡◌};
 
 use archive_core::error::Error;
 use archive_core::fields::{part_in_record, resolve_record_4, serialize_record_4};
@@ -255,8 +254,10 @@ impl<D: Entries> Deserialize<Point, D> for ArchivedPoint {
         deserializer: &mut D,
     ) -> Result<Point, Error>
         requires { IsPartOf ⟦<Self as ArchivePointee>⟧ part }
-        ensures read { IfOk result (Read ⟦<Self as ArchivePointee>⟧ part D.Entries deserializer ⟦<Point as Archive>⟧) }
-        ensures refused { IfErr result (RefusesPart ⟦<Self as ArchivePointee>⟧ part D.Entries deserializer) }
+        ensures {
+            ReadsAs ⟦<Self as ArchivePointee>⟧ part D.Entries deserializer
+                ⟦<Point as Archive>⟧ result
+        }
     {
         match deserialize_record::<Self, PointOwned, D>(alloc, part, deserializer) {
             Ok((a0, (a1, (a2, (a3, ()))))) => Ok(Point {

@@ -49,20 +49,19 @@ ghost use Rattle.archive_core.specs.Fields.{field_in};
 ghost use Rattle.archive_core.specs.Keyed.{box_keyed, each_keyed, nothing_keyed, number_keyed, part_keyed, record_keyed};
 ghost use Rattle.archive_core.specs.LeafLayout.{no_definition_reached};
 ghost use Rattle.archive_core.specs.Options.{option_keyed, option_planned};
-ghost use Rattle.archive_core.specs.Outcomes.{ResolvesAs};
+ghost use Rattle.archive_core.specs.Outcomes.{ReadsAs, ResolvesAs};
 ghost use Rattle.archive_core.specs.PartsPlanned.{no_part_planned, part_planned};
 ghost use Rattle.archive_core.specs.Plain.{plain_own_check, plain_record, plain_record_planned};
 ghost use Rattle.archive_core.specs.Planned.{leaf_planned};
 ghost use Rattle.archive_core.specs.PlannedOwners.{boxed_one_planned, one_planned, slice_planned, vec_planned};
 ghost use Rattle.archive_core.specs.SealsWritten.{SealsBeside};
-ghost use Rattle.archive_core.specs.Seen.{IsPartOf, RefusesPart, ShowsValueOf};
+ghost use Rattle.archive_core.specs.Seen.{IsPartOf, ShowsValueOf};
 ghost use Rattle.archive_core.specs.Shape.{no_part, one, part, parts};
-ghost use Rattle.archive_core.specs.Sources.{Read};
 ghost use Rattle.archive_core.specs.Value.{no_value, product, value};
 ghost use Rattle.archive_core.specs.Viewed.{Viewed};
 ghost use Rattle.archive_core.specs.Writing.{ZeroedPlace};
 ghost use Rattle.std.proofs.Common.{inl, inr, lit≤};
-ghost use Rattle.std.specs.Prelude.{IfErr, IfOk, [], length, refl, true, ◌++◌, ◌+◌, ◌≡◌};
+ghost use Rattle.std.specs.Prelude.{[], length, refl, true, ◌++◌, ◌+◌, ◌≡◌};
 
 use crate::event::ArchivedEvent;
 use archive_core::boxed::ArchivedBox;
@@ -270,8 +269,10 @@ impl<D: Entries> Deserialize<Spot, D> for ArchivedSpot {
         deserializer: &mut D,
     ) -> Result<Spot, Error>
         requires { IsPartOf ⟦<Self as ArchivePointee>⟧ part }
-        ensures read { IfOk result (Read ⟦<Self as ArchivePointee>⟧ part D.Entries deserializer ⟦<Spot as Archive>⟧) }
-        ensures refused { IfErr result (RefusesPart ⟦<Self as ArchivePointee>⟧ part D.Entries deserializer) }
+        ensures {
+            ReadsAs ⟦<Self as ArchivePointee>⟧ part D.Entries deserializer
+                ⟦<Spot as Archive>⟧ result
+        }
     {
         match deserialize_record::<Self, SpotOwned, D>(alloc, part, deserializer) {
             Ok((a0, (a1, ()))) => Ok(Spot { right: a0, up: a1 }),
@@ -539,8 +540,10 @@ impl<D: Entries> Deserialize<Line, D> for ArchivedLine {
         deserializer: &mut D,
     ) -> Result<Line, Error>
         requires { IsPartOf ⟦<Self as ArchivePointee>⟧ part }
-        ensures read { IfOk result (Read ⟦<Self as ArchivePointee>⟧ part D.Entries deserializer ⟦<Line as Archive>⟧) }
-        ensures refused { IfErr result (RefusesPart ⟦<Self as ArchivePointee>⟧ part D.Entries deserializer) }
+        ensures {
+            ReadsAs ⟦<Self as ArchivePointee>⟧ part D.Entries deserializer
+                ⟦<Line as Archive>⟧ result
+        }
     {
         match deserialize_record::<Self, LineOwned, D>(alloc, part, deserializer) {
             Ok((a0, (a1, ()))) => Ok(Line { from: a0, to: a1 }),
@@ -832,8 +835,10 @@ impl<D: Entries> Deserialize<Drawing, D> for ArchivedDrawing {
         deserializer: &mut D,
     ) -> Result<Drawing, Error>
         requires { IsPartOf ⟦<Self as ArchivePointee>⟧ part }
-        ensures read { IfOk result (Read ⟦<Self as ArchivePointee>⟧ part D.Entries deserializer ⟦<Drawing as Archive>⟧) }
-        ensures refused { IfErr result (RefusesPart ⟦<Self as ArchivePointee>⟧ part D.Entries deserializer) }
+        ensures {
+            ReadsAs ⟦<Self as ArchivePointee>⟧ part D.Entries deserializer
+                ⟦<Drawing as Archive>⟧ result
+        }
     {
         match deserialize_record::<Self, DrawingOwned, D>(alloc, part, deserializer) {
             Ok((a0, (a1, (a2, (a3, ()))))) => Ok(Drawing {
@@ -1168,8 +1173,10 @@ impl<D: Entries> Deserialize<Atlas, D> for ArchivedAtlas {
         deserializer: &mut D,
     ) -> Result<Atlas, Error>
         requires { IsPartOf ⟦<Self as ArchivePointee>⟧ part }
-        ensures read { IfOk result (Read ⟦<Self as ArchivePointee>⟧ part D.Entries deserializer ⟦<Atlas as Archive>⟧) }
-        ensures refused { IfErr result (RefusesPart ⟦<Self as ArchivePointee>⟧ part D.Entries deserializer) }
+        ensures {
+            ReadsAs ⟦<Self as ArchivePointee>⟧ part D.Entries deserializer
+                ⟦<Atlas as Archive>⟧ result
+        }
     {
         match deserialize_record::<Self, AtlasOwned, D>(alloc, part, deserializer) {
             Ok((a0, (a1, ()))) => Ok(Atlas {

@@ -39,7 +39,7 @@ ghost use Rattle.archive_core.specs.Fields.{field_in};
 ghost use Rattle.archive_core.specs.Keyed.{box_keyed, case_keyed, each_keyed, nothing_keyed, number_keyed, part_keyed, record_keyed, text_keyed};
 ghost use Rattle.archive_core.specs.LeafLayout.{no_definition_reached};
 ghost use Rattle.archive_core.specs.Options.{option_keyed, option_planned};
-ghost use Rattle.archive_core.specs.Outcomes.{ResolvesAs};
+ghost use Rattle.archive_core.specs.Outcomes.{ReadsAs, ResolvesAs};
 ghost use Rattle.archive_core.specs.PartsPlanned.{no_part_planned, part_planned};
 ghost use Rattle.archive_core.specs.Payloads.{payload_in};
 ghost use Rattle.archive_core.specs.Plain.{plain_choice, plain_record, plain_record_planned, plain_variant_planned};
@@ -47,17 +47,16 @@ ghost use Rattle.archive_core.specs.Planned.{leaf_planned, text_planned};
 ghost use Rattle.archive_core.specs.PlannedOwners.{boxed_one_planned, one_planned, slice_planned};
 ghost use Rattle.archive_core.specs.Runs.{each_keys, each_meaning};
 ghost use Rattle.archive_core.specs.SealsWritten.{SealsBeside, seal_tag};
-ghost use Rattle.archive_core.specs.Seen.{IsPartOf, RefusesPart, ShowsValueOf, tag_of};
+ghost use Rattle.archive_core.specs.Seen.{IsPartOf, ShowsValueOf, tag_of};
 ghost use Rattle.archive_core.specs.SelfCheck.Laws.{by_schema};
 ghost use Rattle.archive_core.specs.Shape.{choice, no_part, no_variant, one, part, parts, run, text, variant};
 ghost use Rattle.archive_core.specs.SharedLaws.{weak_keyed, weak_planned};
 ghost use Rattle.archive_core.specs.SharedSources.{rc_flavor, rc_keyed, rc_keys, rc_one_planned, rc_planned};
-ghost use Rattle.archive_core.specs.Sources.{Read};
 ghost use Rattle.archive_core.specs.Value.{case, list, no_value, product, shared_value, text_value, value};
 ghost use Rattle.archive_core.specs.Viewed.{Viewed};
 ghost use Rattle.archive_core.specs.Writing.{ZeroedPlace};
 ghost use Rattle.std.proofs.Common.{inl, inr, lit≤};
-ghost use Rattle.std.specs.Prelude.{IfErr, IfOk, [], codes, length, refl, ℕ, ◌++◌, ◌+◌, ◌≡◌};
+ghost use Rattle.std.specs.Prelude.{[], codes, length, refl, ℕ, ◌++◌, ◌+◌, ◌≡◌};
 ghost use Rattle.std.specs.Rc.{rc_slice_items, rc_str_bytes};
 
 use crate::spot::ArchivedLine;
@@ -253,8 +252,10 @@ impl<D: Pooling<Shared<Line>>> Deserialize<Track, D> for ArchivedTrack {
         deserializer: &mut D,
     ) -> Result<Track, Error>
         requires { IsPartOf ⟦<Self as ArchivePointee>⟧ part }
-        ensures read { IfOk result (Read ⟦<Self as ArchivePointee>⟧ part D.Entries deserializer ⟦<Track as Archive>⟧) }
-        ensures refused { IfErr result (RefusesPart ⟦<Self as ArchivePointee>⟧ part D.Entries deserializer) }
+        ensures {
+            ReadsAs ⟦<Self as ArchivePointee>⟧ part D.Entries deserializer
+                ⟦<Track as Archive>⟧ result
+        }
     {
         match deserialize_record::<Self, TrackOwned, D>(alloc, part, deserializer) {
             Ok((a0, (a1, ()))) => Ok(Track {
@@ -516,8 +517,10 @@ impl<D: Pooling<SharedSlice<Line>> + Pooling<SharedStr> + Pooling<Shared<Line>>>
         deserializer: &mut D,
     ) -> Result<Runs, Error>
         requires { IsPartOf ⟦<Self as ArchivePointee>⟧ part }
-        ensures read { IfOk result (Read ⟦<Self as ArchivePointee>⟧ part D.Entries deserializer ⟦<Runs as Archive>⟧) }
-        ensures refused { IfErr result (RefusesPart ⟦<Self as ArchivePointee>⟧ part D.Entries deserializer) }
+        ensures {
+            ReadsAs ⟦<Self as ArchivePointee>⟧ part D.Entries deserializer
+                ⟦<Runs as Archive>⟧ result
+        }
     {
         match deserialize_record::<Self, RunsOwned, D>(alloc, part, deserializer) {
             Ok((a0, (a1, (a2, ())))) => Ok(Runs {
@@ -834,8 +837,10 @@ impl<D: Pooling<Shared<Line>>> Deserialize<Either, D> for ArchivedEither {
         deserializer: &mut D,
     ) -> Result<Either, Error>
         requires { IsPartOf ⟦<Self as ArchivePointee>⟧ part }
-        ensures read { IfOk result (Read ⟦<Self as ArchivePointee>⟧ part D.Entries deserializer ⟦<Either as Archive>⟧) }
-        ensures refused { IfErr result (RefusesPart ⟦<Self as ArchivePointee>⟧ part D.Entries deserializer) }
+        ensures {
+            ReadsAs ⟦<Self as ArchivePointee>⟧ part D.Entries deserializer
+                ⟦<Either as Archive>⟧ result
+        }
     {
         match known_tag::<Self>(part) {
             0 => match read_case::<Self, EitherAloneParts, EitherAloneOwned, D>(

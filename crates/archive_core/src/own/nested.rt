@@ -6,12 +6,11 @@ ghost use Rattle.archive_check.specs.Shape.{named};
 ghost use Rattle.archive_check.specs.Value.{case, box, no_value};
 ghost use Rattle.archive_core.specs.Nests.{AreNests, HoldsNothing, HoldsBox, IsTagOf, IsResolvedBy, nest_of, nest_flat};
 ghost use Rattle.archive_core.specs.NestsRead.{IsReadIn, IsRefusedIn};
-ghost use Rattle.archive_types.specs.Words.Seen.{IsPartOf, RefusesPart, part_tag};
-ghost use Rattle.archive_types.specs.Words.Sources.{Read};
+ghost use Rattle.archive_types.specs.Words.Seen.{IsPartOf, part_tag};
 ghost use Rattle.archive_types.specs.Members.Variants.{case_of};
 ghost use Rattle.archive_types.specs.Writing.{ZeroedPlace};
 ghost use Rattle.archive_write.specs.Written.{GoesOn};
-ghost use Rattle.archive_types.specs.Outcomes.{ResolvesAs, Serializes};
+ghost use Rattle.archive_types.specs.Outcomes.{ResolvesAs, Serializes, ReadsAs};
 
 use super::{ArchivedRecursive, RecursiveChoice};
 use archive_check::format::error::Error;
@@ -131,8 +130,10 @@ fn read_nested<N: RecursiveChoice, T: FromNested<N> + Drop, D: Entries>(
     deserializer: &mut D,
 ) -> Result<T, Error>
     requires { IsPartOf ⟦<ArchivedRecursive<N> as ArchivePointee>⟧ part }
-    ensures read { IfOk result (Read ⟦<ArchivedRecursive<N> as ArchivePointee>⟧ part D.Entries deserializer T.Archive) }
-    ensures refused { IfErr result (RefusesPart ⟦<ArchivedRecursive<N> as ArchivePointee>⟧ part D.Entries deserializer) }
+    ensures {
+        ReadsAs ⟦<ArchivedRecursive<N> as ArchivePointee>⟧ part D.Entries deserializer T.Archive
+            result
+    }
 {
     let view: Ref<'_, ArchivedRecursive<N>> = Ref::at(part);
     let tag = view.tag();
@@ -147,8 +148,7 @@ impl<N: RecursiveChoice, T: FromNested<N> + Drop, D: Entries> Deserialize<T, D>
     for ArchivedRecursive<N> {
     fn deserialize_part(alloc: Global, part: RawView<'_>, deserializer: &mut D) -> Result<T, Error>
         requires { IsPartOf ⟦<Self as ArchivePointee>⟧ part }
-        ensures read { IfOk result (Read ⟦<Self as ArchivePointee>⟧ part D.Entries deserializer T.Archive) }
-        ensures refused { IfErr result (RefusesPart ⟦<Self as ArchivePointee>⟧ part D.Entries deserializer) }
+        ensures { ReadsAs ⟦<Self as ArchivePointee>⟧ part D.Entries deserializer T.Archive result }
     {
         read_nested::<N, T, D>(alloc, part, deserializer)
     }

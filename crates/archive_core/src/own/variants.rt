@@ -1,13 +1,13 @@
 // Variants of a choice by their parts: what an own choice's impls call.
 
-ghost use Rattle.std.specs.Prelude.{◌≡◌, ◌+◌, ◌<◌, ◌≤◌, Some, IfOk, OnOk, IfErr, length};
+ghost use Rattle.std.specs.Prelude.{◌≡◌, ◌+◌, ◌<◌, ◌≤◌, Some, IfOk, OnOk, IfErr, length, slice_index};
 ghost use Rattle.archive_check.specs.Shape.{variant_at};
 ghost use Rattle.archive_check.specs.Value.{case};
 ghost use Rattle.archive_fields.specs.OwnChoices.{variant_definitions};
-ghost use Rattle.archive_types.specs.Words.Seen.{part_tag, IsPartOf, RefusesPart, ReadsVariant};
+ghost use Rattle.archive_types.specs.Words.Seen.{part_tag, IsPartOf};
 ghost use Rattle.archive_types.specs.Writing.{ZeroedPlace};
 ghost use Rattle.archive_write.specs.Written.{GoesOn};
-ghost use Rattle.archive_types.specs.Outcomes.{ResolvesAs, SerializesAs};
+ghost use Rattle.archive_types.specs.Outcomes.{ResolvesAs, SerializesAs, ReadsPart};
 
 use archive_check::format::error::Error;
 use archive_types::parts::{DeserializeParts, OwnedParts, SerializeParts, SourceParts};
@@ -66,8 +66,11 @@ pub fn deserialize_variant<X: Choice, P: DeserializeParts<T, D>, T: OwnedParts, 
     requires viewed { IsPartOf X.ArchivePointee part }
     requires variant { variant_at X.Variants.variants (part_tag part) ≡ Some P.parts }
     requires definitions { variant_definitions X.Variants.definitions (part_tag part) ≡ P.definitions }
-    ensures read { IfOk result (ReadsVariant X.ArchivePointee part D.Entries deserializer T.meanings T.keys) }
-    ensures refused { IfErr result (RefusesPart X.ArchivePointee part D.Entries deserializer) }
+    ensures {
+        ReadsPart X.ArchivePointee part D.Entries deserializer
+            (λ t. case (slice_index part.entry.bytes.now part.entry.pos) (T.meanings t)) T.keys
+            result
+    }
 {
     let RawView { bytes, pos, .. } = part;
     P::deserialize_parts(alloc, bytes, pos, 1, deserializer)

@@ -9,12 +9,12 @@ ghost use Rattle.archive_check.specs.Value.{list, shared_value, text_value};
 ghost use Rattle.archive_check.specs.Viewed.{Viewed};
 ghost use Rattle.archive_core.specs.Pooling.{kept_at};
 ghost use Rattle.archive_types.specs.Runs.{each_keys, each_meaning};
-ghost use Rattle.archive_types.specs.Words.Seen.{IsPartOf, RefusesPart};
+ghost use Rattle.archive_types.specs.Words.Seen.{IsPartOf};
 ghost use Rattle.archive_types.specs.Members.SharedLaws.{flavor_as, weak_keys, weak_value};
 ghost use Rattle.archive_types.specs.Members.SharedSources.{rc_keys};
-ghost use Rattle.archive_types.specs.Words.Sources.{Read};
 ghost use Rattle.archive_core.specs.SharedSeen.{HandsOutTarget, FinishesTarget};
 ghost use Rattle.archive_core.specs.Spans.{one_spans, text_spans, slice_spans, cloned_kept};
+ghost use Rattle.archive_types.specs.Outcomes.{ReadsAs};
 
 use super::{Shared, SharedSlice, SharedStr, WeakShared};
 use crate::pooling::{Pooled, Pooling, PoolingExt};
@@ -144,10 +144,12 @@ impl<
         deserializer: &mut D,
     ) -> Result<Shared<U>, Error>
         requires { IsPartOf ⟦<Self as ArchivePointee>⟧ part }
-        ensures read { IfOk result (Read ⟦<Self as ArchivePointee>⟧ part D.Entries deserializer ⟦<Shared<U> as Archive>⟧) }
+        ensures outcome {
+            ReadsAs ⟦<Self as ArchivePointee>⟧ part D.Entries deserializer ⟦<Shared<U> as Archive>⟧
+                result
+        }
         ensures handed_out { IfOk result (λ s. HandsOutTarget part D.Entries deserializer (⟦<Shared<U> as Pooled>⟧.kept s)) }
         ensures finished { D.keeps ≡ true → IfOk result (λ s. FinishesTarget part D.Entries deserializer (⟦<Shared<U> as Pooled>⟧.kept s)) }
-        ensures refused { IfErr result (RefusesPart ⟦<Self as ArchivePointee>⟧ part D.Entries deserializer) }
     {
         let view: Ref<'_, ArchivedRc<T, F>> = Ref::at(part);
         PoolingExt::<Shared<U>>::deserialize_shared(deserializer, alloc, view.get())
@@ -167,10 +169,12 @@ impl<
         deserializer: &mut D,
     ) -> Result<SharedSlice<U>, Error>
         requires { IsPartOf ⟦<Self as ArchivePointee>⟧ part }
-        ensures read { IfOk result (Read ⟦<Self as ArchivePointee>⟧ part D.Entries deserializer ⟦<SharedSlice<U> as Archive>⟧) }
+        ensures outcome {
+            ReadsAs ⟦<Self as ArchivePointee>⟧ part D.Entries deserializer
+                ⟦<SharedSlice<U> as Archive>⟧ result
+        }
         ensures handed_out { IfOk result (λ s. HandsOutTarget part D.Entries deserializer (⟦<SharedSlice<U> as Pooled>⟧.kept s)) }
         ensures finished { D.keeps ≡ true → IfOk result (λ s. FinishesTarget part D.Entries deserializer (⟦<SharedSlice<U> as Pooled>⟧.kept s)) }
-        ensures refused { IfErr result (RefusesPart ⟦<Self as ArchivePointee>⟧ part D.Entries deserializer) }
     {
         let view: Ref<'_, ArchivedRc<ArchivedSlice<T>, F>> = Ref::at(part);
         PoolingExt::<SharedSlice<U>>::deserialize_shared(deserializer, alloc, view.get())
@@ -185,10 +189,12 @@ impl<F: Flavor, D: Pooling<SharedStr>> Deserialize<SharedStr, D> for ArchivedRc<
         deserializer: &mut D,
     ) -> Result<SharedStr, Error>
         requires { IsPartOf ⟦<Self as ArchivePointee>⟧ part }
-        ensures read { IfOk result (Read ⟦<Self as ArchivePointee>⟧ part D.Entries deserializer ⟦<SharedStr as Archive>⟧) }
+        ensures outcome {
+            ReadsAs ⟦<Self as ArchivePointee>⟧ part D.Entries deserializer ⟦<SharedStr as Archive>⟧
+                result
+        }
         ensures handed_out { IfOk result (λ s. HandsOutTarget part D.Entries deserializer (⟦<SharedStr as Pooled>⟧.kept s)) }
         ensures finished { D.keeps ≡ true → IfOk result (λ s. FinishesTarget part D.Entries deserializer (⟦<SharedStr as Pooled>⟧.kept s)) }
-        ensures refused { IfErr result (RefusesPart ⟦<Self as ArchivePointee>⟧ part D.Entries deserializer) }
     {
         let view: Ref<'_, ArchivedRc<ArchivedStr, F>> = Ref::at(part);
         PoolingExt::<SharedStr>::deserialize_shared(deserializer, alloc, view.get())
@@ -208,12 +214,14 @@ impl<
         deserializer: &mut D,
     ) -> Result<WeakShared<U>, Error>
         requires { IsPartOf ⟦<Self as ArchivePointee>⟧ part }
-        ensures read { IfOk result (Read ⟦<Self as ArchivePointee>⟧ part D.Entries deserializer ⟦<WeakShared<U> as Archive>⟧) }
+        ensures outcome {
+            ReadsAs ⟦<Self as ArchivePointee>⟧ part D.Entries deserializer
+                ⟦<WeakShared<U> as Archive>⟧ result
+        }
         ensures handed_out { IfOk result (λ w. IfSome w.value (λ s.
             HandsOutTarget part D.Entries deserializer (⟦<Shared<U> as Pooled>⟧.kept s))) }
         ensures finished { D.keeps ≡ true → IfOk result (λ w. IfSome w.value (λ s.
             FinishesTarget part D.Entries deserializer (⟦<Shared<U> as Pooled>⟧.kept s))) }
-        ensures refused { IfErr result (RefusesPart ⟦<Self as ArchivePointee>⟧ part D.Entries deserializer) }
     {
         let view: Ref<'_, ArchivedRcWeak<T, F>> = Ref::at(part);
         let Some(value) = view.upgrade() else {

@@ -5,7 +5,8 @@ ghost use Rattle.archive_check.specs.Definitions.{no_definition};
 ghost use Rattle.archive_check.specs.Value.{case};
 ghost use Rattle.archive_fields.specs.Plain.{BeginsAt, are_none, case_count, is_choice, part_in, variant_in};
 ghost use Rattle.archive_types.specs.Payloads.{payload_in};
-ghost use Rattle.archive_types.specs.Words.Seen.{IsPartOf, RefusesPart, ReadsPart, ShowsValueOf, part_tag, tag_of};
+ghost use Rattle.archive_types.specs.Words.Seen.{IsPartOf, ShowsValueOf, part_tag, tag_of};
+ghost use Rattle.archive_types.specs.Outcomes.{ReadsPart};
 
 use archive_check::format::error::Error;
 use archive_types::parts::{DeserializeParts, OwnedParts};
@@ -48,8 +49,10 @@ pub fn read_case<X: Portable, P: DeserializeParts<T, D>, T: OwnedParts, D: Entri
     requires tag { part_tag part ≡ tag }
     requires variant { variant_in X.shape tag ≡ Some P.parts }
     requires nameless { are_none P.definitions ≡ true }
-    ensures read { IfOk result (λ t. ReadsPart X.ArchivePointee part D.Entries deserializer (case tag (T.meanings t)) (T.keys t)) }
-    ensures refused { IfErr result (RefusesPart X.ArchivePointee part D.Entries deserializer) }
+    ensures {
+        ReadsPart X.ArchivePointee part D.Entries deserializer (λ t. case tag (T.meanings t)) T.keys
+            result
+    }
 {
     let RawView { bytes, pos, .. } = part;
     P::deserialize_parts(alloc, bytes, pos, 1, deserializer)

@@ -1,22 +1,15 @@
 -- What is said of what a view shows, in the view's own words: a view has the definitions and the pointee of its type with it. `Both` is a parameter as a
 -- clause names it: what it was as the call began, and what it is at the return.
-use denote.Triple.Both.{Both}
-use denote.Ref.{MutBor}
 use Rattle.std.specs.declared.cmp.Ordering.{Ordering}
 use Rattle.std.specs.Prelude.{Bool, ◌≡◌, ◌+◌, ◌*◌, ◌-◌, ℕ, List, Option, Result, slice_index}
 use Rattle.archive_check.specs.Layout.{Layout}
-use Rattle.archive_check.specs.Shape.{Pointee, text}
+use Rattle.archive_check.specs.Shape.{text}
 use Rattle.archive_check.specs.LittleEndian.{little_number}
 use Rattle.archive_check.specs.Reads.{bytes_at, length_at}
 use Rattle.archive_check.specs.Readable.{target_from, string_text}
-use Rattle.archive_check.specs.Value.{Value, Values, product, case, shared_value}
-use Rattle.archive_check.specs.Denotes.{Naming}
-use Rattle.archive_check.specs.Definitions.{Definitions}
-use Rattle.archive_check.specs.Entries.{ReadsBack, RefusesReading}
+use Rattle.archive_check.specs.Value.{Value, shared_value}
 use Rattle.archive_check.specs.Viewed.{Viewed, Says}
-use Rattle.archive_check.specs.declared.format.error.Error.{Error}
 use Rattle.archive_check.specs.declared.format.traits.ArchivePointee as ArchivePointee
-use Rattle.archive_check.specs.declared.format.traits.Entries as Entries
 use Rattle.archive_types.specs.Compared.{Standing, standing, elements, elements_from, slice_of, result_in, result_order}
 use Rattle.archive_types.specs.Standing.{StandsWith, view}
 use Rattle.archive_types.specs.ValueOrder.{ComparesTo, EqualsTo}
@@ -83,34 +76,9 @@ ShowsValueOf {g = g} {h = h} u v taken = ShowsPart g.definitions v.bytes.now v.p
 abbrev pub StandsBeside : {T M U N : Type 0} {g : ArchivePointee.Ghosts T M} {h : ArchivePointee.Ghosts U N} → Ref U N h → Ref T M g → Type 0
 StandsBeside {g = g} {h = h} u v = StandsWith g.definitions v.bytes.now (view v.pos g.pointee v.len) (view u.pos h.pointee u.len)
 
--- what the view shows was read back as this value, with these keys
-abbrev pub ReadsView : {T M D : Type 0} {g : ArchivePointee.Ghosts T M} → Ref T M g → Entries.Ghosts D → Both (MutBor D) (MutBor D) → Value → List Naming → Type 0
-ReadsView {g = g} v d b w keys = ReadsBack g.definitions v.bytes.now v.pos g.pointee v.len (d.entry_of b.entry.now) (d.entry_of b.exit.now) w keys
-
--- why it wasn't
-abbrev pub RefusesView : {T M D : Type 0} {g : ArchivePointee.Ghosts T M} → Ref T M g → Entries.Ghosts D → Both (MutBor D) (MutBor D) → Error → Type 0
-RefusesView {g = g} v d b e = RefusesReading g.definitions v.bytes.now v.pos g.pointee v.len (d.entry_of b.entry.now) e
-
 -- what a view promises of a part, which has no type: it is one of that type
 abbrev pub IsPartOf : {T M : Type 0} → ArchivePointee.Ghosts T M → RawView → Type 0
 IsPartOf g p = Viewed g.definitions p.bytes.now p.pos g.pointee p.len
-
--- the part was read back as this value, with these keys
-abbrev pub ReadsPart : {T M D E : Type 0} → ArchivePointee.Ghosts T M → Both RawView E → Entries.Ghosts D → Both (MutBor D) (MutBor D) → Value → List Naming → Type 0
-ReadsPart g p d b w keys =
-    ReadsBack g.definitions p.entry.bytes.now p.entry.pos g.pointee p.entry.len (d.entry_of b.entry.now) (d.entry_of b.exit.now) w keys
-
--- why it wasn't
-abbrev pub RefusesPart : {T M D E : Type 0} → ArchivePointee.Ghosts T M → Both RawView E → Entries.Ghosts D → Both (MutBor D) (MutBor D) → Error → Type 0
-RefusesPart g p d b e = RefusesReading g.definitions p.entry.bytes.now p.entry.pos g.pointee p.entry.len (d.entry_of b.entry.now) e
-
--- the parts of a record were read back, with these meanings and keys
-abbrev pub ReadsRecord : {T M D E X : Type 0} → ArchivePointee.Ghosts T M → Both RawView E → Entries.Ghosts D → Both (MutBor D) (MutBor D) → (X → Values) → (X → List Naming) → X → Type 0
-ReadsRecord g p d b meanings keys t = ReadsPart g p d b (product (meanings t)) (keys t)
-
--- the parts of a variant were, of the one that the tag names
-abbrev pub ReadsVariant : {T M D E X : Type 0} → ArchivePointee.Ghosts T M → Both RawView E → Entries.Ghosts D → Both (MutBor D) (MutBor D) → (X → Values) → (X → List Naming) → X → Type 0
-ReadsVariant g p d b meanings keys t = ReadsPart g p d b (case (slice_index p.entry.bytes.now p.entry.pos) (meanings t)) (keys t)
 
 -- a view of the same buffer; one that begins so many bytes behind another's beginning
 abbrev pub IsBufferOf : {T M U N : Type 0} {g : ArchivePointee.Ghosts T M} {h : ArchivePointee.Ghosts U N} → Ref T M g → Ref U N h → Type 0

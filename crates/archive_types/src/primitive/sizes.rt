@@ -17,10 +17,9 @@ ghost use Rattle.archive_types.specs.Members.Planned.{leaf_planned};
 ghost use Rattle.archive_types.specs.Members.PlannedOwners.{one_planned};
 ghost use Rattle.archive_types.specs.Plans.{Serialized};
 ghost use Rattle.archive_types.specs.Words.Seen.{IsPartOf, part_number};
-ghost use Rattle.archive_types.specs.Words.Sources.{Read};
 ghost use Rattle.archive_types.specs.Writing.{ZeroedPlace, Resolves};
 ghost use Rattle.archive_write.specs.Written.{GoesOn};
-ghost use Rattle.archive_types.specs.Outcomes.{ResolvesAs, Serializes};
+ghost use Rattle.archive_types.specs.Outcomes.{ResolvesAs, Serializes, ReadsAs};
 
 use crate::place::Place;
 use crate::ser::serialize_one;
@@ -120,7 +119,10 @@ impl<D: Entries> Deserialize<usize, D> for ArchivedUsize {
         _deserializer: &mut D,
     ) -> Result<usize, Error>
         requires { IsPartOf ⟦<Self as ArchivePointee>⟧ part }
-        ensures read { IfOk result (Read ⟦<Self as ArchivePointee>⟧ part D.Entries _deserializer ⟦<usize as Archive>⟧) }
+        ensures outcome {
+            ReadsAs ⟦<Self as ArchivePointee>⟧ part D.Entries _deserializer ⟦<usize as Archive>⟧
+                result
+        }
         ensures number { IfOk result (λ n. n ≡ part_number part.entry 4) }
         ensures unchanged { D.entry_of _deserializer.new ≡ D.entry_of _deserializer.old }
         ensures succeeds { IsOk result }
@@ -216,7 +218,10 @@ impl<D: Entries> Deserialize<isize, D> for ArchivedIsize {
         _deserializer: &mut D,
     ) -> Result<isize, Error>
         requires { IsPartOf ⟦<Self as ArchivePointee>⟧ part }
-        ensures read { IfOk result (Read ⟦<Self as ArchivePointee>⟧ part D.Entries _deserializer ⟦<isize as Archive>⟧) }
+        ensures outcome {
+            ReadsAs ⟦<Self as ArchivePointee>⟧ part D.Entries _deserializer ⟦<isize as Archive>⟧
+                result
+        }
         ensures number { IfOk result (λ n. n ≡ cast_signed w32 (part_number part.entry 4)) }
         ensures unchanged { D.entry_of _deserializer.new ≡ D.entry_of _deserializer.old }
         ensures succeeds { IsOk result }

@@ -9,9 +9,10 @@ ghost use Rattle.archive_check.specs.Entries.{ReadsBack, RefusesReading};
 ghost use Rattle.archive_types.specs.ElementsRead.{ReadsEach, RefusesEach};
 ghost use Rattle.archive_types.specs.FirstRead.{AreFirstRead};
 ghost use Rattle.archive_types.specs.Runs.{each_meaning, each_keys};
-ghost use Rattle.archive_types.specs.Words.Seen.{IsPartOf, RefusesPart};
-ghost use Rattle.archive_types.specs.Words.Sources.{Read, AreElementsOf, ReadsElements, RefusesElements};
+ghost use Rattle.archive_types.specs.Words.Seen.{IsPartOf};
+ghost use Rattle.archive_types.specs.Words.Sources.{AreElementsOf, ReadsElements, RefusesElements};
 ghost use Rattle.archive_types.specs.Views.{AreViewed};
+ghost use Rattle.archive_types.specs.Outcomes.{ReadsAs};
 
 use super::ArchivedSlice;
 use super::iter::element_at;
@@ -88,8 +89,10 @@ impl<T: Portable + Deserialize<U, D>, U: Archive + Drop, D: Entries> Deserialize
         deserializer: &mut D,
     ) -> Result<Vec<U>, Error>
         requires { IsPartOf ⟦<Self as ArchivePointee>⟧ part }
-        ensures read { IfOk result (Read ⟦<Self as ArchivePointee>⟧ part D.Entries deserializer ⟦<Vec<U> as Archive>⟧) }
-        ensures refused { IfErr result (RefusesPart ⟦<Self as ArchivePointee>⟧ part D.Entries deserializer) }
+        ensures {
+            ReadsAs ⟦<Self as ArchivePointee>⟧ part D.Entries deserializer ⟦<Vec<U> as Archive>⟧
+                result
+        }
     {
         read_elements::<T, U, D>(alloc, part, deserializer)
     }

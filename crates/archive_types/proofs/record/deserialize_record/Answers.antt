@@ -6,8 +6,8 @@ use Rattle.archive_types.proofs.record.deserialize_record.Goals as goal
 pub deserialize_parts-requires : goal.deserialize_parts-requires
 deserialize_parts-requires g c = record { viewed = parts_viewed _ _ _ _ g.met.X.Record.has_parts _ _ _ (rw g.met.X.Portable.is_one at c.requires) }
 
-pub returns-clause-read : goal.returns-clause-read
-returns-clause-read g c = rw g.met.X.Portable.is_one (record_read _ _ _ _ g.met.X.Record.has_parts _ _ _ _ _ g.T.OwnedParts.meanings g.T.OwnedParts.keys c.deserialize_parts.result c.deserialize_parts.ensures.read)
-
-pub returns-clause-refused : goal.returns-clause-refused
-returns-clause-refused g c = rw g.met.X.Portable.is_one (err_from c.deserialize_parts.result c.deserialize_parts.ensures.refused (λ e h. record_refuses _ _ _ _ g.met.X.Record.has_parts _ _ _ _ e h))
+pub returns : goal.returns
+returns g c = record {
+  read = rw g.met.X.Portable.is_one (record_read _ _ _ _ g.met.X.Record.has_parts _ _ _ _ _ g.T.OwnedParts.meanings g.T.OwnedParts.keys c.deserialize_parts.result c.deserialize_parts.ensures.read);
+  refused = rw g.met.X.Portable.is_one (err_from c.deserialize_parts.result c.deserialize_parts.ensures.refused (λ e h. record_refuses _ _ _ _ g.met.X.Record.has_parts _ _ _ _ e h));
+}

@@ -8,10 +8,10 @@ deserialize_parts-requires g c = record {
   viewed = variant_viewed _ _ _ _ _ g.met.X.Choice.has_variants _ _ c.requires.variant _ c.requires.definitions _ _ _ refl (rw g.met.X.Portable.is_one at c.requires.viewed);
 }
 
-pub returns-clause-read : goal.returns-clause-read
-returns-clause-read g c = rw g.met.X.Portable.is_one (variant_read _ _ _ _ _ g.met.X.Choice.has_variants _ _ c.requires.variant _ c.requires.definitions _ _ _ refl _ _ g.T.OwnedParts.meanings g.T.OwnedParts.keys
-    c.deserialize_parts.result c.deserialize_parts.ensures.read)
-
-pub returns-clause-refused : goal.returns-clause-refused
-returns-clause-refused g c = rw g.met.X.Portable.is_one (err_from c.deserialize_parts.result c.deserialize_parts.ensures.refused
-    (λ e h. variant_refuses _ _ _ _ _ g.met.X.Choice.has_variants _ _ c.requires.variant _ c.requires.definitions _ _ _ refl _ e h))
+pub returns : goal.returns
+returns g c = record {
+  read = rw g.met.X.Portable.is_one (variant_read _ _ _ _ _ g.met.X.Choice.has_variants _ _ c.requires.variant _ c.requires.definitions _ _ _ refl _ _ g.T.OwnedParts.meanings g.T.OwnedParts.keys
+    c.deserialize_parts.result c.deserialize_parts.ensures.read);
+  refused = rw g.met.X.Portable.is_one (err_from c.deserialize_parts.result c.deserialize_parts.ensures.refused
+    (λ e h. variant_refuses _ _ _ _ _ g.met.X.Choice.has_variants _ _ c.requires.variant _ c.requires.definitions _ _ _ refl _ e h));
+}

@@ -1,5 +1,9 @@
+use Rattle.std.proofs.Common.{rules}
 use Rattle.archive_types.specs.PartsReading.{no_part_read_back}
 use Rattle.archive_types.proofs.parts.UnitDeserializeParts.deserialize_parts.Goals as goal
 
-pub returns-clause-read : goal.returns-clause-read
-returns-clause-read g c = no_part_read_back
+pub returns : goal.returns
+returns g c = record {
+  read = no_part_read_back;
+  refused = search rules;
+}

@@ -1,6 +1,9 @@
-use Rattle.std.proofs.Common.{refl}
+use Rattle.std.proofs.Common.{rules, refl}
 use Rattle.archive_types.proofs.Writing.Nothing.{empty_product_read_back}
 use Rattle.archive_types.proofs.phantom.PhantomDataDeserialize.deserialize_part.Goals as goal
 
-pub returns-clause-read : goal.returns-clause-read
-returns-clause-read g c = empty_product_read_back _ _ _ _ _ _ refl
+pub returns-clause-outcome : goal.returns-clause-outcome
+returns-clause-outcome g c = record {
+  read = empty_product_read_back _ _ _ _ _ _ refl;
+  refused = search rules;
+}

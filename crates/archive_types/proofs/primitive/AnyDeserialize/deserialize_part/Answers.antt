@@ -1,8 +1,11 @@
-use Rattle.std.proofs.Common.{refl}
+use Rattle.std.proofs.Common.{rules, refl}
 use Rattle.archive_check.proofs.Reading.ReadBack.{leaf_read_back}
 use Rattle.archive_types.proofs.primitive.AnyDeserialize.deserialize_part.Goals as goal
 
-pub returns-clause-read : goal.returns-clause-read
-returns-clause-read g c =
+pub returns-clause-outcome : goal.returns-clause-outcome
+returns-clause-outcome g c = record {
+  read =
     rw g.met.N.Plain.same_pointee
-    (leaf_read_back _ _ _ _ _ _ refl _ _ (rw (c.at-view.ensures.buffer, c.at-view.ensures.position, c.at-view.ensures.length, g.met.N.Plain.same_pointee) at c.get.ensures.says))
+    (leaf_read_back _ _ _ _ _ _ refl _ _ (rw (c.at-view.ensures.buffer, c.at-view.ensures.position, c.at-view.ensures.length, g.met.N.Plain.same_pointee) at c.get.ensures.says));
+  refused = search rules;
+}

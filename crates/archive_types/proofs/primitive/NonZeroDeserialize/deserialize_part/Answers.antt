@@ -1,6 +1,9 @@
-use Rattle.std.proofs.Common.{refl}
+use Rattle.std.proofs.Common.{rules, refl}
 use Rattle.archive_check.proofs.Reading.ReadBack.{leaf_read_back}
 use Rattle.archive_types.proofs.primitive.NonZeroDeserialize.deserialize_part.Goals as goal
 
-pub returns-clause-read : goal.returns-clause-read
-returns-clause-read g c = rw c.from_native.ensures (leaf_read_back _ _ _ _ _ _ refl _ _ (rw (c.at-view.ensures.buffer, c.at-view.ensures.position, c.at-view.ensures.length) at c.get.ensures.says))
+pub returns-clause-outcome : goal.returns-clause-outcome
+returns-clause-outcome g c = record {
+  read = rw c.from_native.ensures (leaf_read_back _ _ _ _ _ _ refl _ _ (rw (c.at-view.ensures.buffer, c.at-view.ensures.position, c.at-view.ensures.length) at c.get.ensures.says));
+  refused = search rules;
+}
