@@ -1,23 +1,16 @@
 -- Items that come from an iterator, each written where it is to stand: what that leaves, and why it is refused.
-use denote.Triple.Both.{Both}
-use denote.Ref.{MutBor}
-use Rattle.std.specs.Prelude.{◌≡◌, ℕ, ◌+◌, ◌<◌, ◌≤◌, List, [], ◌∷◌, ◌++◌, length, Option, Some, Contains}
-use Rattle.std.specs.Iterator.{Yields, Drains}
-use Rattle.archive_check.specs.Shape.{Flavor, Shape, vec}
+use Rattle.std.specs.Prelude.{◌≡◌, ℕ, ◌+◌, ◌<◌, ◌≤◌, List, [], ◌∷◌, ◌++◌, length, Some, Contains}
+use Rattle.archive_check.specs.Shape.{Flavor, Shape}
 use Rattle.archive_check.specs.Layout.{Layout}
 use Rattle.archive_check.specs.Definitions.{Definitions}
-use Rattle.archive_check.specs.Value.{Pointer, Value, list, pointers}
+use Rattle.archive_check.specs.Value.{Pointer, Value, pointers}
 use Rattle.archive_check.specs.WriterState.{WriterState, Pads}
 use Rattle.archive_check.specs.declared.format.error.Error.{Error}
 use Rattle.archive_check.specs.declared.format.error.Error.TheVariants.{PositionTooLarge, LengthTooLarge, ItemWrote}
-use Rattle.archive_check.specs.declared.format.traits.Keys as Keys
 use Rattle.archive_write.specs.Written.{padding, ExplainsRefusal}
 use Rattle.archive_types.specs.Causes.{Explains, HindersRegionAt, IsRefused}
-use Rattle.archive_check.specs.Words.Formats.{FormatOf}
 use Rattle.archive_types.specs.Plans.{Serialized}
-use Rattle.archive_types.specs.Runs.{each_keys, each_meaning}
-use Rattle.archive_types.specs.Writing.{Naming, Puts, vec_flat}
-use Rattle.archive_types.specs.declared.traits.Archive as Archive
+use Rattle.archive_types.specs.Writing.{Naming, Puts}
 
 -- each of the pointers is shared
 abbrev pub AllShared : List Pointer → Type 0
@@ -63,21 +56,3 @@ module _ {A R : Type 0} (D : Definitions) (X : Shape) (L : Layout) (k : A → Li
     too_far : Pads L.align old new → 4294967295 < length new.bytes → ItemsRefused came old new PositionTooLarge
     too_many : (xs : List A) (x : A) (t : ℕ) → came (xs ++ x ∷ []) → ItemsLaid xs t old new → 4294967295 ≤ length xs → ItemsRefused came old new LengthTooLarge
     one_refused : {e : Error} (xs : List A) (x : A) (t : ℕ) (mid : WriterState) → came (xs ++ x ∷ []) → ItemsLaid xs t old mid → ItemRefused x mid new e → ItemsRefused came old new e
-
--- the same of an item of a source's type, and of the items of an iterator, which came to an end
-abbrev pub ItemPut : {T A R M C S : Type 0} → Archive.Ghosts T A R C M → FormatOf M → T → Keys.Ghosts S → Both (MutBor S) (MutBor S) → Type 0
-ItemPut a f x k w = ItemWritten f.definitions f.shape f.layout a.keys a.meaning a.flat a.belongs x (k.state w.entry.now) (k.state w.exit.now)
-
-abbrev pub ItemUnput : {T A R M C S : Type 0} → Archive.Ghosts T A R C M → FormatOf M → T → Keys.Ghosts S → Both (MutBor S) (MutBor S) → Error → Type 0
-ItemUnput a f x k w = ItemRefused f.definitions f.shape f.layout a.keys a.meaning a.flat a.belongs x (k.state w.entry.now) (k.state w.exit.now)
-
--- They are as many as a vector may have, and stand from t on; where none has a pointer to a region of its own, they are a vector's elements.
-abbrev pub ItemsStored : {I T A R M C S : Type 0} → (I → Option T → I → Type 0) → I → Archive.Ghosts T A R C M → FormatOf M → Keys.Ghosts S → Both (MutBor S) (MutBor S) → ℕ → Type 0
-ItemsStored {T = T} steps s a f k w t = (xs : List T) × Drains steps s xs × (length xs ≤ 4294967295)
-    × ItemsLaid f.definitions f.shape f.layout a.keys a.meaning a.flat a.belongs xs t (k.state w.entry.now) (k.state w.exit.now)
-    × (OwnNoRegion a.flat a.belongs xs → 
-        Serialized f.definitions (vec f.shape) (each_keys a.keys xs) (list (each_meaning a.meaning xs)) (vec_flat f.shape (length xs) t) (k.state w.entry.now) (k.state w.exit.now))
-
-abbrev pub ItemsUnstored : {I T A R M C S : Type 0} → (I → Option T → I → Type 0) → I → Archive.Ghosts T A R C M → FormatOf M → Keys.Ghosts S → Both (MutBor S) (MutBor S) → Error → Type 0
-ItemsUnstored {I = I} steps s a f k w =
-    ItemsRefused f.definitions f.shape f.layout a.keys a.meaning a.flat a.belongs (λ xs. (u : I) × Yields steps s xs u) (k.state w.entry.now) (k.state w.exit.now)

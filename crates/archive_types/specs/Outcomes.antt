@@ -2,6 +2,7 @@
 -- both cases. `Both` is a parameter as a clause names it: what it was as the call began, and what it is at the return.
 use denote.Triple.Both.{Both}
 use denote.Ref.{MutBor}
+use Rattle.std.specs.Iterator.{Yields, Drains}
 use Rattle.std.specs.Prelude.{◌≡◌, ◌⊎◌, ◌+◌, ◌≤◌, ◌*◌, ℕ, List, length, Option, None, Result, OnOk, IfOk, IfErr, IfSome}
 use Rattle.archive_check.specs.Definitions.{Definitions}
 use Rattle.archive_check.specs.Words.Formats.{FormatOf}
@@ -19,6 +20,7 @@ use Rattle.archive_check.specs.declared.format.traits.Keys as Keys
 use Rattle.archive_check.specs.declared.self_check.parts.CheckedParts as CheckedParts
 use Rattle.archive_types.specs.Causes.{Explains, HindersAt, HindersRegionAt, IsOfWriting, IsRefused, IsRegionRefused}
 use Rattle.archive_types.specs.Copies.{AreCopied, EachOwnsNothing, IsCopyRefused, copies_from, copies_to}
+use Rattle.archive_types.specs.ItemsWritten.{ItemWritten, ItemRefused, ItemsLaid, ItemsRefused, OwnNoRegion}
 use Rattle.archive_types.specs.Inner.{IsBoxed, IsPutAt, IsNotBoxed}
 use Rattle.archive_types.specs.Parts.{SerializedParts, ArePartsRefused, ResolvesParts, HindersPartsAt}
 use Rattle.archive_types.specs.Words.PlacedParts.{ChangesOnly}
@@ -143,6 +145,21 @@ pub record PutsElements {M T R W A : Type 0} (f : FormatOf M) (flat : T → R �
       (λ n. n ≤ length (k.state w.entry.now).bytes + length xs * f.layout.size) (k.state w.entry.now) (k.state w.exit.now))
   pub goes_on : GoesOn (k.state w.entry.now) (k.state w.exit.now)
   pub keys : KeepsKeys (k.state w.entry.now).states (k.state w.exit.now).states
+
+-- Writing an item where the writer stands, or why not; and those of an iterator, which come to an end: they are as many as a vector may have, and stand where
+-- the call answers; where none has a pointer to a region of its own, they are a vector's elements.
+pub record WritesItem {T A R M C S E : Type 0} (a : Archive.Ghosts T A R C M) (f : FormatOf M) (x : T) (k : Keys.Ghosts S) (w : Both (MutBor S) (MutBor S)) (result : Result E Error) : Type 0 where
+  pub written : OnOk result (ItemWritten f.definitions f.shape f.layout a.keys a.meaning a.flat a.belongs x (k.state w.entry.now) (k.state w.exit.now))
+  pub goes_on : GoesOn (k.state w.entry.now) (k.state w.exit.now)
+  pub refused : IfErr result (ItemRefused f.definitions f.shape f.layout a.keys a.meaning a.flat a.belongs x (k.state w.entry.now) (k.state w.exit.now))
+
+pub record WritesItems {I T A R M C S : Type 0} (steps : I → Option T → I → Type 0) (s : I) (a : Archive.Ghosts T A R C M) (f : FormatOf M) (k : Keys.Ghosts S) (w : Both (MutBor S) (MutBor S)) (result : Result ℕ Error) : Type 0 where
+  pub stored : IfOk result (λ t. (xs : List T) × Drains steps s xs × (length xs ≤ 4294967295)
+      × ItemsLaid f.definitions f.shape f.layout a.keys a.meaning a.flat a.belongs xs t (k.state w.entry.now) (k.state w.exit.now)
+      × (OwnNoRegion a.flat a.belongs xs → Serialized f.definitions (vec f.shape) (each_keys a.keys xs) (list (each_meaning a.meaning xs)) (vec_flat f.shape (length xs) t)
+      (k.state w.entry.now) (k.state w.exit.now)))
+  pub goes_on : GoesOn (k.state w.entry.now) (k.state w.exit.now)
+  pub refused : IfErr result (ItemsRefused f.definitions f.shape f.layout a.keys a.meaning a.flat a.belongs (λ xs. (u : I) × Yields steps s xs u) (k.state w.entry.now) (k.state w.exit.now))
 
 -- Boxing a value, from whatever it was serialized: its region stands at t, behind zeros, and a box of it is serialized, too; or why not.
 pub record BoxesInner {T A R M C S : Type 0} (a : Archive.Ghosts T A R C M) (f : FormatOf M) (v : T) (r : R) (k : Keys.Ghosts S) (w : Both (MutBor S) (MutBor S)) (result : Result ℕ Error) : Type 0 where

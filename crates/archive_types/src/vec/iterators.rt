@@ -3,9 +3,8 @@
 ghost use Rattle.std.specs.Prelude.{◌≡◌, ◌≤◌, ◌⊎◌, List, IfOk, OnOk, IfErr, length};
 ghost use Rattle.std.specs.Iterator.{IsFinite, Drains};
 ghost use Rattle.archive_check.specs.declared.format.error.Error.TheVariants.{OutOfMemory};
-ghost use Rattle.archive_types.specs.ItemsWritten.{ItemPut, ItemUnput, ItemsStored, ItemsUnstored};
 ghost use Rattle.archive_write.specs.Written.{GoesOn};
-ghost use Rattle.archive_types.specs.Outcomes.{SerializesItems};
+ghost use Rattle.archive_types.specs.Outcomes.{SerializesItems, WritesItem, WritesItems};
 
 use super::{ArchivedVec, VecResolver};
 use crate::owner_pointers::position_of;
@@ -21,9 +20,7 @@ fn write_item<A: Allocator + Drop, S: Writer, U: Serialize<S>>(
     item: &U,
     serializer: &mut S,
 ) -> Result<(), Error>
-    ensures written { OnOk result (ItemPut U.Archive U.Archived.Portable item.now S.Keys serializer) }
-    ensures goes_on { GoesOn (S.state serializer.old) (S.state serializer.new) }
-    ensures refused { IfErr result (ItemUnput U.Archive U.Archived.Portable item.now S.Keys serializer) }
+    ensures { WritesItem U.Archive U.Archived.Portable item.now S.Keys serializer result }
 {
     let before = serializer.pos();
     let resolver = item.serialize(serializer)?;
@@ -69,9 +66,7 @@ impl<T: Portable> ArchivedVec<T> {
     >(iter: I, serializer: &mut S) -> Result<VecResolver, Error>
         requires can { I.can_next iter }
         requires ends { IsFinite (I.remaining iter) }
-        ensures stored { IfOk result (ItemsStored I.next_gives iter U.Archive T.Portable S.Keys serializer) }
-        ensures goes_on { GoesOn (S.state serializer.old) (S.state serializer.new) }
-        ensures refused { IfErr result (ItemsUnstored I.next_gives iter U.Archive T.Portable S.Keys serializer) }
+        ensures { WritesItems I.next_gives iter U.Archive T.Portable S.Keys serializer result }
     {
         let alloc = serializer.resolver_alloc();
         let pos = serializer.align_for::<T>()?;
