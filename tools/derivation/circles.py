@@ -2,6 +2,7 @@
 
 from typing import Dict, Iterator, List, Optional, Tuple
 
+from . import recursive_refusals as refusals
 from .model import Declaration, Refused, Type
 
 POINTERS = {"Box", "BoxSlice", "Vec", "Shared", "SharedSlice", "WeakShared"}
@@ -100,11 +101,15 @@ def check_circles(declarations: List[Declaration]):
     for it in every:
         way = circle(it, edges, True)
         it.recursive = way is not None
+    for it in every:
+        way = circle(it, edges, True)
         if way:
             refuse_recursive(it, way)
+        else:
+            refusals.check_held(it)
 
 
 def refuse_recursive(it: Declaration, way: List[Edge]):
-    """Types that hold themselves behind a pointer aren't written yet; once they are, this goes."""
+    """What isn't written yet of types that hold themselves behind a pointer."""
     names = " > ".join([it.name] + [edge[0].name for edge in way])
-    raise Refused(it.path, way[0][2], f"`{it.name}` is recursive ({names}), which tools/derive doesn't write yet; write it by hand, as docs/OWN_TYPES.md shows")
+    refusals.check_recursive(it, way[0][2], names)

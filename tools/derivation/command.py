@@ -70,7 +70,7 @@ def main(arguments: List[str]) -> int:
 
 def put(path: str, text: str) -> bool:
     try:
-        files.put(path, text)
+        files.put(path, files.with_lines_of(path, text))
         return True
     except OSError as error:
         print(f"{path}:1: this can't be written ({error.strerror}); give leave to write it", file=sys.stderr)

@@ -24,7 +24,18 @@ def wanted(module: Module) -> Dict[str, str]:
     crate = crate_folder(module)
     out.update({path: "" for path in proofs_there(module, crate)})
     out.update({os.path.normpath(os.path.join(crate, path)): text for path, text in write.proofs(module).items()})
+    named = [os.path.basename(path)[:-len(".antt")] for path in out if os.path.dirname(path) == os.path.join(crate, "specs")]
+    if named:
+        path = os.path.join(crate, "specs", "Lib.antt")
+        out[path] = naming(text_of(path) if os.path.isfile(path) else "", sorted(named))
     return out
+
+
+def naming(lib: str, names: List[str]) -> str:
+    """The list of a crate's definitions, which names these files as well."""
+    lines = lib.splitlines()
+    lines += [line for line in (f"pub mod {name}" for name in names) if line not in lines]
+    return "\n".join(lines) + "\n"
 
 
 def crate_folder(module: Module) -> str:
@@ -53,6 +64,14 @@ def above(module: Module) -> str:
     if head and not head.endswith("\n"):
         head += end
     return head if not head or head.endswith(end + end) else head + end
+
+
+def with_lines_of(path: str, text: str) -> str:
+    """A list of definitions with those lines as well that another file of the same run brought to it."""
+    if os.path.basename(path) != "Lib.antt" or not os.path.isfile(path):
+        return text
+    now = text_of(path).splitlines()
+    return "\n".join(now + [line for line in text.splitlines() if line not in now]) + "\n"
 
 
 # ---- what differs ----

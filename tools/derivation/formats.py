@@ -268,6 +268,8 @@ class Formats:
         kind = self.kind(type)
         if kind == "parameter":
             return f"{type.name}.Archived.definitions"
+        if kind == "own" and type.own.recursive:
+            return f"⟦<{self.archived(type)} as ArchivePointee>⟧.definitions"
         if kind == "Result":
             return f"(both {self.definitions(type.args[0])} {self.definitions(type.args[1])})"
         if kind == "tuple" or kind == "own" and type.args:
@@ -285,7 +287,7 @@ class Formats:
         """Whether the type, or one that it holds, is one of these."""
         if type.name in names and type.own is None:
             return True
-        if type.own is not None and any(self.any_of(field, names) for field in self.fields(type)):
+        if type.own is not None and not type.own.recursive and any(self.any_of(field, names) for field in self.fields(type)):
             return True
         return any(self.any_of(arg, names) for arg in type.args)
 
@@ -304,7 +306,7 @@ class Formats:
     def pooled(self, type):
         """The shared values that are kept to read it back, as types."""
         out = []
-        if type.own is not None:
+        if type.own is not None and not type.own.recursive:
             out = [inner for field in self.fields(type) for inner in self.pooled(field)]
         elif type.name in SHARING:
             out = [replace(type, name="Shared", text="") if type.name == "WeakShared" else type]

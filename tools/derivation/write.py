@@ -2,7 +2,7 @@
 
 import re
 
-from . import generics, records, variants
+from . import generics, records, recursive, variants
 from .formats import USERS, Formats
 from .layout import use
 from .model import MARK
@@ -20,13 +20,16 @@ def proofs(module):
     formats = Formats(module)
     out = {}
     for declaration in module.declarations:
-        if declaration.kind == "struct" and not declaration.parameters:
+        if declaration.kind == "struct" and not declaration.parameters and not declaration.recursive:
             out.update(records.proofs(formats, declaration))
+    out.update(recursive.files(module))
     return out
 
 
 def form(declaration):
     """What writes the impls of a declaration."""
+    if declaration.recursive:
+        return recursive.text
     if declaration.parameters:
         return generics.text
     return records.text if declaration.kind == "struct" else variants.text

@@ -7,6 +7,7 @@ use archive_core::core_impls::ArchivedTuple2;
 use archive_core::option::ArchivedOption;
 use archive_core::rc::{ArchivedRc, ArchivedRcWeak, RcFlavor};
 use archive_core::traits::{Portable, PortablePointee};
+use archive_core::vec::ArchivedVec;
 use std::alloc::{AllocError, Global};
 use std::process::Abort;
 
@@ -62,6 +63,15 @@ pub(crate) fn assert_hostile<T: Portable>(rt: &impl Abort, alloc: Global, rows: 
     for (what, archive) in rows {
         assert_archive::<T>(rt, what, alloc, &form, archive);
     }
+}
+
+// And of archives of a vector.
+pub(crate) fn assert_hostile_vectors<T: Portable>(
+    rt: &impl Abort,
+    alloc: Global,
+    rows: &[(&str, &[u8])],
+) {
+    assert_hostile::<ArchivedVec<T>>(rt, alloc, rows);
 }
 
 // And of archives of an option of a box.

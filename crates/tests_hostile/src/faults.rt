@@ -54,7 +54,11 @@ fn a_string_is_cut_short(rt: HostRuntime) {
 }
 
 // In each row bytes, and the fault in them that is met first.
-fn assert_first_faults<T: Portable>(rt: &impl Abort, alloc: Global, rows: &[(&[u8], Error)]) {
+pub(crate) fn assert_first_faults<T: Portable>(
+    rt: &impl Abort,
+    alloc: Global,
+    rows: &[(&[u8], Error)],
+) {
     let form = form_of::<T>(rt, alloc);
     for (bytes, fault) in rows {
         assert_answer::<T>(rt, "a fault", alloc, &form, bytes, Some(*fault));

@@ -8,6 +8,8 @@ mod archives;
 #[cfg(test)]
 mod assertions;
 #[cfg(test)]
+mod derived;
+#[cfg(test)]
 mod faults;
 #[cfg(test)]
 mod inner;

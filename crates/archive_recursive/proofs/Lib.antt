@@ -1,0 +1,13 @@
+pub mod EndsBefore
+pub mod RecordAs
+pub use Rattle.archive_fields.proofs.OwnChoices
+pub use Rattle.archive_fields.proofs.ReadChoices
+pub use Rattle.archive_types.proofs.Planning.Causes
+pub use Rattle.archive_types.proofs.Planning.Owners
+pub use Rattle.archive_types.proofs.Planning.Planned
+pub use Rattle.archive_types.proofs.Planning.PlannedParts
+pub use Rattle.archive_types.proofs.Planning.Runs
+pub use Rattle.archive_types.proofs.Reading.OwnersRead
+pub use Rattle.archive_types.proofs.Reading.ReadElements
+pub use Rattle.archive_types.proofs.Reading.ReadRecords
+pub use Rattle.archive_types.proofs.Writing.RunRegions

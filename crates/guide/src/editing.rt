@@ -1,0 +1,38 @@
+//! An entry is edited in place: its number, and the field of a variant.
+
+use crate::entries::{archived, moved, step, viewed};
+use crate::entry::{ArchivedEntry, EntrySeal, EntryView};
+use crate::event::EventSeal;
+use archive_core::api::access_mut;
+use archive_core::error::Error;
+use std::alloc::Global;
+use std::test::Fail;
+
+/// Writes other seconds over those of an entry.
+pub fn write_seconds(alloc: Global, bytes: &mut [u8], seconds: u64) -> Result<(), Error> {
+    let entry = access_mut::<ArchivedEntry>(alloc, bytes)?;
+    entry.seconds_mut().write(seconds);
+    Ok(())
+}
+
+/// Writes over how far an entry moves to the right. Whether it moves.
+pub fn write_moved(alloc: Global, bytes: &mut [u8], x: i32) -> Result<bool, Error> {
+    let event = access_mut::<ArchivedEntry>(alloc, bytes)?.event_mut();
+    // `Move` is the fourth variant, and tags count from 0.
+    if event.as_ref().tag() != 3 {
+        return Ok(false);
+    }
+    event.move_x_mut().write(x);
+    Ok(true)
+}
+
+#[test]
+fn an_entry_is_edited(rt: HostRuntime) -> Result<(), Fail> {
+    let mut bytes = archived(rt.alloc(), &step())?;
+    write_seconds(rt.alloc(), &mut bytes, 10)?;
+    assert!(rt; write_moved(rt.alloc(), &mut bytes, 5)?);
+    let view = viewed(rt.alloc(), &bytes)?;
+    assert_eq!(rt; view.seconds().get(), 10);
+    assert_eq!(rt; moved(view), 5);
+    Ok(())
+}

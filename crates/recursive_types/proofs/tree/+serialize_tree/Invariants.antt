@@ -1,0 +1,9 @@
+-- Written by tools/derive: change the declaration, and run it again.
+use Rattle.archive_recursive.proofs.Runs.{Continues}
+use Rattle.recursive_types.specs.TreeMeaning.{tree_meaning, tree_keys, tree_flat, tree_belongs}
+use Rattle.recursive_types.specs.TreeShape.{tree_shape, tree_definitions}
+use Rattle.std.proofs.Common.{drop}
+use Rattle.recursive_types.proofs.tree.+serialize_tree.Given as goal
+
+abbrev pub invariant-serialize_each_tree-loop-value : goal.invariant-serialize_each_tree-loop-value
+invariant-serialize_each_tree-loop-value g l = record { continues : Continues tree_definitions tree_shape tree_keys tree_meaning tree_flat tree_belongs (g.S.Keys.state l.initial.serializer) (g.S.Keys.state l.serializer) l.values (drop l.value-index l.values) l.resolvers.items }

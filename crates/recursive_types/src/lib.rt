@@ -1,0 +1,6 @@
+//! Recursive types as a user declares them, with what tools/derive writes for them. The tests are in tests_recursive.
+#![tactic(auto)]
+
+pub mod expr;
+pub mod list;
+pub mod tree;

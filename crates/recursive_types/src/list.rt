@@ -1,0 +1,510 @@
+//! A list with a payload.
+
+/// A list of numbers.
+#[derive(Debug, PartialEq, Drop)]
+pub enum List {
+    /// No more.
+    Nil,
+    /// A number, and the rest.
+    Cons(u32, Box<List>),
+}
+
+// Below this line all is written by tools/derive: change what is above it, and run it again.
+
+ghost use Rattle.archive_core.specs.CallOutcomes.{ResolvesAs};
+ghost use Rattle.archive_core.specs.Causes.{IsRefused};
+ghost use Rattle.archive_core.specs.Definitions.{no_definition};
+ghost use Rattle.archive_core.specs.Error.TheVariants.{OutOfMemory};
+ghost use Rattle.archive_core.specs.Expressions.{shape_of, shapes_in};
+ghost use Rattle.archive_core.specs.Payloads.{payload_in};
+ghost use Rattle.archive_core.specs.PlannedOwners.{one_planned};
+ghost use Rattle.archive_core.specs.Plans.{Serialized};
+ghost use Rattle.archive_core.specs.SealsWritten.{SealsBeside, seal_tag};
+ghost use Rattle.archive_core.specs.Seen.{IsPartOf, RefusesPart, ShowsValueOf, part_tag, tag_of};
+ghost use Rattle.archive_core.specs.SelfCheck.Laws.{by_schema};
+ghost use Rattle.archive_core.specs.Shape.{boxed, one, part, parts, variant, vec};
+ghost use Rattle.archive_core.specs.Sources.{Read};
+ghost use Rattle.archive_core.specs.Value.{case, no_value, value};
+ghost use Rattle.archive_core.specs.Viewed.{Viewed};
+ghost use Rattle.archive_core.specs.Writing.{ZeroedPlace};
+ghost use Rattle.archive_core.specs.Written.{GoesOn};
+ghost use Rattle.recursive_types.specs.ListShape.{list_cons_parts, list_definitions, list_has_layout, list_has_variants, list_is_align, list_layout, list_name, list_no_others, list_shape, list_stands_for};
+ghost use Rattle.std.proofs.Common.{lit≤};
+ghost use Rattle.std.specs.Prelude.{IfErr, IfOk, [], length, refl, ℕ, ◌++◌, ◌+◌, ◌≡◌, ◌≤◌};
+
+use archive_core::boxed::{ArchivedBox, BoxResolver, serialize_inner};
+use archive_core::error::Error;
+use archive_core::place::Place;
+use archive_core::primitive::ArchivedU32;
+use archive_core::seal::Seal;
+use archive_core::self_check::BySchema;
+use archive_core::ser::{ResolverAlloc, Writer, serialize_one};
+use archive_core::shape::{Defs, Expr, Pointee};
+use archive_core::traits::{
+    Archive, ArchivePointee, ArchiveUnsized, Choice, Deserialize, Entries, Keys, Portable,
+    Serialize, SerializeUnsized,
+};
+use archive_core::view::{RawView, Ref};
+use archive_recursive::{
+    BoxAt, before_box, choice_of, define_name, part_of_variant, read_part, resolve_named_case_0,
+    resolve_named_case_2, seal_of_payload, serialize_part, tag_of_choice, tag_of_view,
+    view_of_payload,
+};
+use std::alloc::Global;
+
+/// An archived `List`: 12 bytes at a multiple of 4. It is validated by its schema.
+pub struct ArchivedList;
+
+type ListConsParts = (ArchivedU32, (ArchivedBox<ArchivedList>, ()));
+
+type ListVariants = ((), (ListConsParts, ()));
+
+impl ArchivePointee for ArchivedList {
+    type ArchivedMetadata = ();
+
+    ghost pointee = { one list_shape };
+
+    ghost definitions = { list_definitions };
+
+    ghost metadata_length = { λ _. 0 };
+
+    fn pointer_metadata(_metadata: &()) -> usize {
+        0
+    }
+}
+
+// The parts of `Cons`.
+fn list_cons_expressions(alloc: Global) -> Result<Vec<Expr>, Error>
+    ensures shapes { IfOk result (λ list. shapes_in list.items ≡ list_cons_parts) }
+    ensures refused { IfErr result (λ e. e ≡ OutOfMemory) }
+{
+    let a0 = <ArchivedU32 as Portable>::expr(alloc)?;
+    let a1 = Expr::Box(Box::new(alloc, Pointee::One(Expr::Named("ArchivedList")))?);
+    Ok(vec![in alloc; a0, a1]?)
+}
+
+// What the name stands for.
+fn list_expression(alloc: Global) -> Result<Expr, Error>
+    ensures shape { IfOk result (λ e. shape_of e ≡ list_stands_for) }
+    ensures refused { IfErr result (λ e. e ≡ OutOfMemory) }
+{
+    let v0 = vec![in alloc]?;
+    let v1 = list_cons_expressions(alloc)?;
+    let variants = vec![in alloc; v0, v1]?;
+    Ok(choice_of("ArchivedList", variants))
+}
+
+impl Portable for ArchivedList {
+    ghost shape = { list_shape };
+
+    ghost layout = { list_layout };
+
+    type Check = BySchema;
+
+    ghost is_one = { refl };
+
+    ghost is_align = { list_is_align };
+
+    ghost has_layout = { list_has_layout };
+
+    ghost no_others = { list_no_others };
+
+    ghost checks = { λ direct. by_schema direct };
+
+    fn size() -> usize {
+        12
+    }
+
+    fn align() -> usize {
+        4
+    }
+
+    fn expr(_alloc: Global) -> Result<Expr, Error> {
+        Ok(Expr::Named("ArchivedList"))
+    }
+
+    fn define(alloc: Global, defs: &mut Defs) -> Result<(), Error> {
+        let stands_for = match list_expression(alloc) {
+            Ok(stands_for) => stands_for,
+            Err(error) => return Err(error),
+        };
+        define_name("ArchivedList", stands_for, defs)
+    }
+}
+
+impl Choice for ArchivedList {
+    type Variants = ListVariants;
+
+    ghost name = { list_name };
+
+    ghost has_variants = { list_has_variants };
+
+    ghost holds = { lit≤ tt };
+}
+
+/// What is kept of `List` from its serialization until it is resolved.
+#[derive(Drop)]
+pub enum ListResolver {
+    /// Of `Nil`.
+    Nil,
+    /// Of `Cons`.
+    Cons((<u32 as Archive>::Resolver, (BoxResolver, ()))),
+}
+
+impl Archive for List {
+    ghost use Rattle.recursive_types.specs.ListMeaning.{list_meaning, list_flat, list_keys, list_belongs, list_keyed, list_planned};
+
+    type Archived = ArchivedList;
+
+    type Resolver = ListResolver;
+
+    ghost meaning = { list_meaning };
+
+    ghost flat = { list_flat };
+
+    ghost keys = { list_keys };
+
+    ghost belongs = { list_belongs };
+
+    ghost keyed = { list_keyed };
+
+    ghost planned = { list_planned };
+
+    fn resolve(
+        &self,
+        resolver: Self::Resolver,
+        place: Place<'_, Self::Archived>,
+    ) -> Result<(), Error>
+        requires zeroed { ZeroedPlace 12 place.pos place.bytes.now }
+        requires same_value { ⟦<Self as Archive>⟧.belongs self.now resolver }
+        ensures { ResolvesAs ⟦<Self::Archived as Portable>⟧ place
+            (⟦<Self as Archive>⟧.flat self.now resolver) result }
+    {
+        let Place { bytes, pos, .. } = place;
+        match self {
+            List::Nil => { resolve_named_case_0::<ArchivedList>(0, (), Place::new(pos, bytes)) }
+            List::Cons(a0, _a1) => {
+                let ListResolver::Cons(kept) = resolver else {
+                    unreachable!();
+                };
+                let h1: BoxAt<ArchivedList> = BoxAt::new();
+                resolve_named_case_2::<u32, BoxAt<ArchivedList>, ArchivedList>(
+                    1,
+                    a0,
+                    &h1,
+                    kept,
+                    Place::new(pos, bytes),
+                )
+            }
+        }
+    }
+}
+
+// Writes what a box owns.
+#[cycle(serialize_list)]
+fn serialize_box_list<S: Writer + Keys + ResolverAlloc>(
+    value: &Box<List>,
+    serializer: &mut S,
+) -> Result<BoxResolver, Error>
+    ensures serialized { IfOk result (λ r. Serialized list_definitions (boxed (one list_shape))
+        (⟦<Box<List> as Archive>⟧.keys value.now) (⟦<Box<List> as Archive>⟧.meaning value.now)
+        (⟦<Box<List> as Archive>⟧.flat value.now r) (S.state serializer.old)
+        (S.state serializer.new)) }
+    ensures same_value { IfOk result (λ r. ⟦<Box<List> as Archive>⟧.belongs value.now r) }
+    ensures goes_on { GoesOn (S.state serializer.old) (S.state serializer.new) }
+    ensures refused { IfErr result (IsRefused list_definitions (boxed (one list_shape))
+        (⟦<Box<List> as Archive>⟧.keys value.now) (⟦<Box<List> as Archive>⟧.meaning value.now)
+        (S.state serializer.old) (S.state serializer.new)) }
+{
+    let inner = &**value;
+    let kept = match serialize_list(inner, serializer) {
+        Ok(kept) => kept,
+        Err(error) => return Err(error),
+    };
+    match serialize_inner(inner, kept, serializer) {
+        Ok(at) => Ok(at),
+        Err(error) => Err(error),
+    }
+}
+
+// Writes what the parts of `Cons` own, in order.
+#[cycle(serialize_list)]
+fn serialize_list_cons<S: Writer + Keys + ResolverAlloc>(
+    a0: &u32,
+    a1: &Box<List>,
+    serializer: &mut S,
+) -> Result<(<u32 as Archive>::Resolver, (BoxResolver, ())), Error>
+    ensures serialized { IfOk result (λ r. Serialized list_definitions list_shape
+        (⟦<u32 as Archive>⟧.keys a0.now ++ (⟦<Box<List> as Archive>⟧.keys a1.now ++ []))
+        (case 1 (value (⟦<u32 as Archive>⟧.meaning a0.now)
+        (value (⟦<Box<List> as Archive>⟧.meaning a1.now) no_value)))
+        (case 1 (value (⟦<u32 as Archive>⟧.flat a0.now r.0)
+        (value (⟦<Box<List> as Archive>⟧.flat a1.now r.1.0) no_value))) (S.state serializer.old)
+        (S.state serializer.new)) }
+    ensures same_values { IfOk result (λ r. ⟦<u32 as Archive>⟧.belongs a0.now r.0
+        × (⟦<Box<List> as Archive>⟧.belongs a1.now r.1.0 × Unit {0})) }
+    ensures goes_on { GoesOn (S.state serializer.old) (S.state serializer.new) }
+    ensures refused { IfErr result (IsRefused list_definitions list_shape
+        (⟦<u32 as Archive>⟧.keys a0.now ++ (⟦<Box<List> as Archive>⟧.keys a1.now ++ []))
+        (case 1 (value (⟦<u32 as Archive>⟧.meaning a0.now)
+        (value (⟦<Box<List> as Archive>⟧.meaning a1.now) no_value))) (S.state serializer.old)
+        (S.state serializer.new)) }
+{
+    let a0 = match serialize_part(a0, serializer) {
+        Ok(a0) => a0,
+        Err(error) => return Err(error),
+    };
+    let a1 = match serialize_box_list(a1, serializer) {
+        Ok(a1) => a1,
+        Err(error) => return Err(error),
+    };
+    Ok((a0, (a1, ())))
+}
+
+// Writes what a value owns.
+#[cycle(serialize_list)]
+fn serialize_list<S: Writer + Keys + ResolverAlloc>(
+    value: &List,
+    serializer: &mut S,
+) -> Result<ListResolver, Error>
+    ensures serialized { IfOk result (λ r. Serialized list_definitions list_shape
+        (⟦<List as Archive>⟧.keys value.now) (⟦<List as Archive>⟧.meaning value.now)
+        (⟦<List as Archive>⟧.flat value.now r) (S.state serializer.old) (S.state serializer.new)) }
+    ensures same_value { IfOk result (λ r. ⟦<List as Archive>⟧.belongs value.now r) }
+    ensures goes_on { GoesOn (S.state serializer.old) (S.state serializer.new) }
+    ensures refused { IfErr result (IsRefused list_definitions list_shape
+        (⟦<List as Archive>⟧.keys value.now) (⟦<List as Archive>⟧.meaning value.now)
+        (S.state serializer.old) (S.state serializer.new)) }
+{
+    match value {
+        List::Nil => Ok(ListResolver::Nil),
+        List::Cons(a0, a1) => match serialize_list_cons(a0, a1, serializer) {
+            Ok(kept) => Ok(ListResolver::Cons(kept)),
+            Err(error) => Err(error),
+        },
+    }
+}
+
+impl<S: Writer + Keys + ResolverAlloc> Serialize<S> for List {
+    fn serialize(&self, serializer: &mut S) -> Result<Self::Resolver, Error> {
+        serialize_list(self, serializer)
+    }
+}
+
+/// As a region of its own: the value itself.
+impl ArchiveUnsized for List {
+    ghost use Rattle.recursive_types.specs.contracts.list.ListArchive.TheImpl.Laws.{keyed-law as keyed_of_list, planned-law as planned_of_list};
+
+    type Archived = ArchivedList;
+
+    ghost source_length = { λ _. 0 };
+
+    ghost meaning = { ⟦<List as Archive>⟧.meaning };
+
+    ghost keys = { ⟦<List as Archive>⟧.keys };
+
+    ghost keyed = { keyed_of_list };
+
+    ghost one_length = { λ _ _. refl };
+
+    ghost planned = { λ v. one_planned list_definitions list_shape (⟦<List as Archive>⟧.keys v)
+        (⟦<List as Archive>⟧.meaning v) (planned_of_list v) };
+
+    fn archived_metadata(&self) -> Result<(), Error> {
+        Ok(())
+    }
+}
+
+impl<S: Writer + Keys + ResolverAlloc> SerializeUnsized<S> for List {
+    fn serialize_unsized(&self, serializer: &mut S) -> Result<usize, Error> {
+        serialize_one(self, serializer)
+    }
+}
+
+// Reads a box back.
+#[cycle(read_list)]
+fn read_box_list<D: Entries>(
+    alloc: Global,
+    part: RawView<'_>,
+    deserializer: &mut D,
+) -> Result<Box<List>, Error>
+    requires { IsPartOf ⟦<ArchivedBox<ArchivedList> as ArchivePointee>⟧ part }
+    ensures read { IfOk result (Read ⟦<ArchivedBox<ArchivedList> as ArchivePointee>⟧ part D.Entries
+        deserializer ⟦<Box<List> as Archive>⟧) }
+    ensures refused { IfErr result (RefusesPart ⟦<ArchivedBox<ArchivedList> as ArchivePointee>⟧ part
+        D.Entries deserializer) }
+{
+    let view: Ref<'_, ArchivedBox<ArchivedList>> = Ref::at(part);
+    let value = read_list(alloc, before_box(view).part(), deserializer)?;
+    let whole = Box::new(alloc, value)?;
+    Ok(whole)
+}
+
+// Reads `Nil` back.
+fn read_list_nil<D: Entries>(
+    _alloc: Global,
+    part: RawView<'_>,
+    _deserializer: &mut D,
+) -> Result<List, Error>
+    requires viewed { IsPartOf ⟦<ArchivedList as ArchivePointee>⟧ part }
+    requires tag { part_tag part ≡ 0 }
+    ensures read { IfOk result (Read ⟦<ArchivedList as ArchivePointee>⟧ part D.Entries _deserializer
+        ⟦<List as Archive>⟧) }
+    ensures refused { IfErr result (RefusesPart ⟦<ArchivedList as ArchivePointee>⟧ part D.Entries
+        _deserializer) }
+{
+    Ok(List::Nil)
+}
+
+// Reads `Cons` back.
+#[cycle(read_list)]
+fn read_list_cons<D: Entries>(
+    alloc: Global,
+    part: RawView<'_>,
+    deserializer: &mut D,
+) -> Result<List, Error>
+    requires viewed { IsPartOf ⟦<ArchivedList as ArchivePointee>⟧ part }
+    requires tag { part_tag part ≡ 1 }
+    ensures read { IfOk result (Read ⟦<ArchivedList as ArchivePointee>⟧ part D.Entries deserializer
+        ⟦<List as Archive>⟧) }
+    ensures refused { IfErr result (RefusesPart ⟦<ArchivedList as ArchivePointee>⟧ part D.Entries
+        deserializer) }
+{
+    let p0 = part_of_variant::<ArchivedList, ArchivedU32>(part, 1, 0, 4);
+    let a0 = read_part::<ArchivedU32, u32, D>(alloc, p0, deserializer)?;
+    let p1 = part_of_variant::<ArchivedList, ArchivedBox<ArchivedList>>(part, 1, 1, 8);
+    let a1 = read_box_list(alloc, p1, deserializer)?;
+    Ok(List::Cons(a0, a1))
+}
+
+// Reads a value back.
+#[cycle(read_list)]
+fn read_list<D: Entries>(
+    alloc: Global,
+    part: RawView<'_>,
+    deserializer: &mut D,
+) -> Result<List, Error>
+    requires { IsPartOf ⟦<ArchivedList as ArchivePointee>⟧ part }
+    ensures read { IfOk result (Read ⟦<ArchivedList as ArchivePointee>⟧ part D.Entries deserializer
+        ⟦<List as Archive>⟧) }
+    ensures refused { IfErr result (RefusesPart ⟦<ArchivedList as ArchivePointee>⟧ part D.Entries
+        deserializer) }
+{
+    match tag_of_choice::<ArchivedList>(part) {
+        0 => read_list_nil(alloc, part, deserializer),
+        _ => read_list_cons(alloc, part, deserializer),
+    }
+}
+
+impl<D: Entries> Deserialize<List, D> for ArchivedList {
+    fn deserialize_part(
+        alloc: Global,
+        part: RawView<'_>,
+        deserializer: &mut D,
+    ) -> Result<List, Error>
+        requires { IsPartOf ⟦<Self as ArchivePointee>⟧ part }
+        ensures read { IfOk result (Read ⟦<Self as ArchivePointee>⟧ part D.Entries deserializer
+            ⟦<List as Archive>⟧) }
+        ensures refused { IfErr result (RefusesPart ⟦<Self as ArchivePointee>⟧ part D.Entries
+            deserializer) }
+    {
+        read_list(alloc, part, deserializer)
+    }
+}
+
+/// What a view of an archived `List` shows, by its tag.
+#[derive(Drop)]
+pub enum ViewOfList<'a> {
+    /// No more.
+    Nil,
+    /// A number, and the rest.
+    Cons(Ref<'a, ArchivedU32>, Ref<'a, ArchivedBox<ArchivedList>>),
+}
+
+/// The variant of an archived `List`, where it lies.
+pub trait ListView<'a> {
+    /// The variant that the tag names, with views of its fields.
+    fn variant(self) -> ViewOfList<'a>;
+}
+
+impl<'a> ListView<'a> for Ref<'a, ArchivedList> {
+    ghost use Rattle.recursive_types.specs.declared.list.ViewOfList.TheVariants.{Cons as ListConsShown, Nil as ListNilShown};
+
+    fn variant(self) -> ViewOfList<'a>
+        ensures shows { elim result [
+          | ListNilShown ↦ (tag_of self.entry ≡ 0)
+          | ListConsShown a0 a1 ↦ (tag_of self.entry ≡ 1) × (a0.bytes.now ≡ self.entry.bytes.now)
+              × (a0.pos ≡ self.entry.pos + 4) × (a0.len ≡ 0)
+              × ShowsValueOf a0 self.entry (payload_in 0) × (a1.bytes.now ≡ self.entry.bytes.now)
+              × (a1.pos ≡ self.entry.pos + 8) × (a1.len ≡ 0)
+              × ShowsValueOf a1 self.entry (payload_in 1)
+        ] }
+    {
+        match tag_of_view(self) {
+            0 => ViewOfList::Nil,
+            _ => {
+                let a0 = view_of_payload::<ArchivedList, ArchivedU32>(self, 1, 0, 4);
+                let a1 = view_of_payload::<ArchivedList, ArchivedBox<ArchivedList>>(self, 1, 1, 8);
+                ViewOfList::Cons(a0, a1)
+            }
+        }
+    }
+}
+
+/// The fields of an archived `List`, sealed where they lie. Each call asks that the tag is its variant's.
+pub trait ListSeal<'a> {
+    // The seal shows a part of a buffer that was checked.
+    ghost sealed: { Self → Type 0 };
+
+    // The tag that it shows.
+    ghost tag: { Self → ℕ };
+
+    /// The field `0` of `Cons`.
+    fn cons_0_mut(self) -> Seal<'a, ArchivedU32>
+        requires viewed { sealed self }
+        requires tag { tag self ≡ 1 };
+
+    /// The field `1` of `Cons`.
+    fn cons_1_mut(self) -> Seal<'a, ArchivedBox<ArchivedList>>
+        requires viewed { sealed self }
+        requires tag { tag self ≡ 1 };
+}
+
+impl<'a> ListSeal<'a> for Seal<'a, ArchivedList> {
+    ghost sealed = { λ s. Viewed list_definitions s.bytes.now s.pos
+        (one ⟦<ArchivedList as Portable>⟧.shape) s.len };
+
+    ghost tag = { λ s. seal_tag s };
+
+    fn cons_0_mut(self) -> Seal<'a, ArchivedU32>
+        requires viewed { Viewed list_definitions self.bytes.now self.pos
+            (one ⟦<ArchivedList as Portable>⟧.shape) self.len }
+        requires tag { seal_tag self ≡ 1 }
+        ensures same_reference { result.bytes.ghost_name ≡ self.entry.bytes.ghost_name }
+        ensures buffer { result.bytes.now ≡ self.entry.bytes.now }
+        ensures position { result.pos ≡ self.entry.pos + 4 }
+        ensures length { result.len ≡ 0 }
+        ensures viewed { Viewed no_definition result.bytes.now result.pos
+            ⟦<ArchivedU32 as ArchivePointee>⟧.pointee result.len }
+        ensures beside { SealsBeside list_definitions (one ⟦<ArchivedList as Portable>⟧.shape)
+            ⟦<ArchivedU32 as ArchivePointee>⟧.pointee result self.entry }
+    {
+        seal_of_payload::<ArchivedList, ArchivedU32>(self, 1, 0, 4)
+    }
+
+    fn cons_1_mut(self) -> Seal<'a, ArchivedBox<ArchivedList>>
+        requires viewed { Viewed list_definitions self.bytes.now self.pos
+            (one ⟦<ArchivedList as Portable>⟧.shape) self.len }
+        requires tag { seal_tag self ≡ 1 }
+        ensures same_reference { result.bytes.ghost_name ≡ self.entry.bytes.ghost_name }
+        ensures buffer { result.bytes.now ≡ self.entry.bytes.now }
+        ensures position { result.pos ≡ self.entry.pos + 8 }
+        ensures length { result.len ≡ 0 }
+        ensures viewed { Viewed ⟦<ArchivedList as ArchivePointee>⟧.definitions result.bytes.now
+            result.pos ⟦<ArchivedBox<ArchivedList> as ArchivePointee>⟧.pointee result.len }
+        ensures beside { SealsBeside list_definitions (one ⟦<ArchivedList as Portable>⟧.shape)
+            ⟦<ArchivedBox<ArchivedList> as ArchivePointee>⟧.pointee result self.entry }
+    {
+        seal_of_payload::<ArchivedList, ArchivedBox<ArchivedList>>(self, 1, 1, 8)
+    }
+}

@@ -1,0 +1,31 @@
+//! Tests of the types of derived_types, as a user's own, through public calls. The bytes of each archive were worked out by hand, from docs/FORMAT.md.
+#![tactic(auto)]
+
+#[cfg(test)]
+mod assertions;
+#[cfg(test)]
+mod drawings;
+#[cfg(test)]
+mod entries;
+#[cfg(test)]
+mod events;
+#[cfg(test)]
+mod judgements;
+#[cfg(test)]
+mod kinds;
+#[cfg(test)]
+mod lists;
+#[cfg(test)]
+mod owners;
+#[cfg(test)]
+mod points;
+#[cfg(test)]
+mod runs;
+#[cfg(test)]
+mod spots;
+#[cfg(test)]
+mod tracks;
+#[cfg(test)]
+mod turns;
+#[cfg(test)]
+mod words;

@@ -1,0 +1,119 @@
+// Records of numbers, and records of such records.
+
+use crate::assertions::{assert_archived, assert_bytes, assert_same, sealed, viewed};
+use crate::judgements::{assert_refused, outside, unaligned};
+use archive_core::view::Ref;
+use derived_types::spot::{
+    ArchivedLine, ArchivedSpot, Line, LineSeal, LineView, Spot, SpotSeal, SpotView,
+};
+use std::process::Abort;
+
+// The number 7, and -2 in two's complement.
+const SPOT: &[u8; 4] = b"\x07\0\xfe\xff";
+
+// 1 and -2, and behind them 3 and 4.
+const LINE: &[u8; 8] = b"\x01\0\xfe\xff\x03\0\x04\0";
+
+// The place that those bytes are the archive of.
+fn spot() -> Spot {
+    Spot { right: 7, up: -2 }
+}
+
+// And the line.
+pub(crate) fn line() -> Line {
+    Line {
+        from: Spot { right: 1, up: -2 },
+        to: Spot { right: 3, up: 4 },
+    }
+}
+
+// A line between places of which each number is by one greater than the one before.
+pub(crate) fn rising(first: u8) -> Line {
+    let from = Spot {
+        right: first as u16,
+        up: first.wrapping_add(1) as i16,
+    };
+    let to = Spot {
+        right: first.wrapping_add(2) as u16,
+        up: first.wrapping_add(3) as i16,
+    };
+    Line { from, to }
+}
+
+#[test]
+fn a_spot_is_written_and_read_back(rt: HostRuntime) {
+    assert_archived(&rt, rt.alloc(), &spot(), 4, SPOT);
+}
+
+// A view shows a place.
+pub(crate) fn assert_spot(rt: &impl Abort, view: Ref<'_, ArchivedSpot>, right: u16, up: i16) {
+    assert_same(rt, "right", view.right().get(), right);
+    assert_same(rt, "up", view.up().get(), up);
+}
+
+#[test]
+fn a_spot_is_viewed_and_edited(rt: HostRuntime) {
+    let view = viewed::<ArchivedSpot>(&rt, rt.alloc(), SPOT);
+    assert_spot(&rt, view, 7, -2);
+    let mut bytes = *SPOT;
+    sealed::<ArchivedSpot>(&rt, rt.alloc(), &mut bytes)
+        .right_mut()
+        .write(258);
+    assert_bytes(&rt, "another right", &bytes, b"\x02\x01\xfe\xff");
+    sealed::<ArchivedSpot>(&rt, rt.alloc(), &mut bytes)
+        .up_mut()
+        .write(5);
+    assert_bytes(&rt, "another up", &bytes, b"\x02\x01\x05\0");
+}
+
+#[test]
+fn a_spot_is_checked(rt: HostRuntime) {
+    assert_refused::<ArchivedSpot>(
+        &rt,
+        rt.alloc(),
+        &[
+            (b"\x07\0\xfe", outside(0, 4, 0, 3)),
+            (b"\0\x07\0\xfe\xff", unaligned(1, 2)),
+        ],
+    );
+}
+
+#[test]
+fn a_line_is_written_and_read_back(rt: HostRuntime) {
+    assert_archived(&rt, rt.alloc(), &line(), 8, LINE);
+}
+
+#[test]
+fn a_line_is_viewed_and_edited(rt: HostRuntime) {
+    let view = viewed::<ArchivedLine>(&rt, rt.alloc(), LINE);
+    assert_spot(&rt, view.from(), 1, -2);
+    assert_spot(&rt, view.to(), 3, 4);
+    let mut bytes = *LINE;
+    sealed::<ArchivedLine>(&rt, rt.alloc(), &mut bytes)
+        .to_mut()
+        .up_mut()
+        .write(-1);
+    assert_bytes(&rt, "another end", &bytes, b"\x01\0\xfe\xff\x03\0\xff\xff");
+    sealed::<ArchivedLine>(&rt, rt.alloc(), &mut bytes)
+        .from_mut()
+        .right_mut()
+        .write(9);
+    assert_bytes(
+        &rt,
+        "another beginning",
+        &bytes,
+        b"\x09\0\xfe\xff\x03\0\xff\xff",
+    );
+}
+
+#[test]
+fn a_line_is_checked(rt: HostRuntime) {
+    assert_refused::<ArchivedLine>(
+        &rt,
+        rt.alloc(),
+        &[
+            (b"\x01\0\xfe\xff\x03\0\x04", outside(0, 8, 0, 7)),
+            (b"\0\x01\0\xfe\xff\x03\0\x04\0", unaligned(1, 2)),
+        ],
+    );
+}

@@ -1,0 +1,80 @@
+// Archives of types that tools/derive wrote: a struct of structs, enums in a vector, and structs that share.
+
+use crate::agreement::{assert_hostile, assert_hostile_vectors};
+use crate::faults::assert_first_faults;
+use archive_core::error::Error;
+use derived_types::event::ArchivedEvent;
+use derived_types::spot::ArchivedDrawing;
+use derived_types::track::{ArchivedEither, ArchivedRuns, ArchivedTrack};
+
+// Two lines and two numbers, and at 24 the drawing: a line, the vector that points back at the first of those, the box that points back at the second one, and
+// the event whose vector points back at the numbers.
+const DRAWING: &[u8] =
+    b"\x05\0\x06\0\x07\0\x08\0\x09\0\x0a\0\x0b\0\x0c\0\x01\0\0\0\x02\0\0\0\x01\0\xfe\xff\x03\0\x04\0\xe0\xff\xff\xff\x01\0\0\0\x01\0\0\0\xdc\xff\xff\xff\x04\0\0\0\xdc\xff\xff\xff\x02\0\0\0";
+
+// A text and a zero, two numbers, and at 20 three events: the text, the numbers, and the char A. At 56 the vector that points back at them.
+const EVENTS: &[u8] =
+    b"hello world\0\x01\0\0\0\x02\0\0\0\x02\0\0\0\x8b\0\0\0\xe8\xff\xff\xff\x04\0\0\0\xe8\xff\xff\xff\x02\0\0\0\x01\0\0\0A\0\0\0\0\0\0\0\xdc\xff\xff\xff\x03\0\0\0";
+
+// Two lines, and at 16 and at 28 two tracks with pointers to the first one, the second also with a box of the second line. At 40 the vector of both.
+const TRACKS: &[u8] =
+    b"\x01\0\xfe\xff\x03\0\x04\0\x05\0\x06\0\x07\0\x08\0\xf0\xff\xff\xff\0\0\0\0\0\0\0\0\xe4\xff\xff\xff\x01\0\0\0\xe4\xff\xff\xff\xe8\xff\xff\xff\x02\0\0\0";
+
+// A line, a text and a zero, and a line; and at 20 a shared slice of the first one, the shared text, and a weak pointer to the second one.
+const RUNS: &[u8] =
+    b"\x05\0\x06\0\x07\0\x08\0h\xc3\xa9\0\x01\0\xfe\xff\x03\0\x04\0\xec\xff\xff\xff\x01\0\0\0\xec\xff\xff\xff\x03\0\0\0\xe8\xff\xff\xff";
+
+// A line, and at 8 the variant with a pointer to it.
+const TOGETHER: &[u8] = b"\x01\0\xfe\xff\x03\0\x04\0\x01\0\0\0\xf4\xff\xff\xff\x09\0\0\0";
+
+#[test]
+fn hostile_structs_of_structs(rt: HostRuntime) {
+    assert_hostile::<ArchivedDrawing>(&rt, rt.alloc(), &[("a drawing", DRAWING)]);
+}
+
+#[test]
+fn hostile_enums_in_a_vector(rt: HostRuntime) {
+    assert_hostile_vectors::<ArchivedEvent>(&rt, rt.alloc(), &[("three events", EVENTS)]);
+}
+
+#[test]
+fn hostile_structs_that_share(rt: HostRuntime) {
+    assert_hostile_vectors::<ArchivedTrack>(&rt, rt.alloc(), &[("two tracks", TRACKS)]);
+}
+
+#[test]
+fn hostile_structs_that_share_runs(rt: HostRuntime) {
+    assert_hostile::<ArchivedRuns>(&rt, rt.alloc(), &[("runs", RUNS)]);
+}
+
+#[test]
+fn a_hostile_enum_that_shares(rt: HostRuntime) {
+    assert_hostile::<ArchivedEither>(&rt, rt.alloc(), &[("together", TOGETHER)]);
+}
+
+// A drawing with three faults: four lines in place of one, an option and an event with unknown tags.
+const THREE_FAULTS: &[u8] =
+    b"\x05\0\x06\0\x07\0\x08\0\x09\0\x0a\0\x0b\0\x0c\0\x01\0\0\0\x02\0\0\0\x01\0\xfe\xff\x03\0\x04\0\xe0\xff\xff\xff\x04\0\0\0\x02\0\0\0\xdc\xff\xff\xff\x07\0\0\0\xdc\xff\xff\xff\x02\0\0\0";
+
+// The last two of them alone.
+const TWO_FAULTS: &[u8] =
+    b"\x05\0\x06\0\x07\0\x08\0\x09\0\x0a\0\x0b\0\x0c\0\x01\0\0\0\x02\0\0\0\x01\0\xfe\xff\x03\0\x04\0\xe0\xff\xff\xff\x01\0\0\0\x02\0\0\0\xdc\xff\xff\xff\x07\0\0\0\xdc\xff\xff\xff\x02\0\0\0";
+
+#[test]
+fn of_three_faults_of_a_drawing_the_first_is_told(rt: HostRuntime) {
+    let outside = Error::InvalidSubtreePointer {
+        position: 0,
+        size: 32,
+        start: 0,
+        end: 24,
+    };
+    let unknown = Error::InvalidDiscriminant {
+        name: "ArchivedOption",
+        value: 2,
+    };
+    assert_first_faults::<ArchivedDrawing>(
+        &rt,
+        rt.alloc(),
+        &[(THREE_FAULTS, outside), (TWO_FAULTS, unknown)],
+    );
+}

@@ -1,0 +1,81 @@
+// Recursive values byte for byte, as docs/FORMAT.md has them: written, validated and read back.
+
+use crate::assertions::{assert_read, assert_written};
+use recursive_types::expr::Expr;
+use recursive_types::list::List;
+use recursive_types::tree::Tree;
+use std::alloc::{AllocError, Global};
+use std::process::Abort;
+
+// A list of these numbers.
+pub(crate) fn list_of(alloc: Global, numbers: &[u32]) -> Result<List, AllocError> {
+    let mut list = List::Nil;
+    for number in numbers.iter().rev() {
+        list = List::Cons(*number, Box::new(alloc, list)?);
+    }
+    Ok(list)
+}
+
+// The end of the list at 0, the last node at 12, and the first one at 24: a tag, the number four bytes behind it, and the offset of the box.
+const TWO: &[u8] =
+    b"\0\0\0\0\0\0\0\0\0\0\0\0\x01\0\0\0\x02\0\0\0\xec\xff\xff\xff\x01\0\0\0\x01\0\0\0\xec\xff\xff\xff";
+
+#[test]
+fn list_of_two(rt: HostRuntime) {
+    let list = list_of(rt.alloc(), &[1, 2]).expect(&rt, "a list");
+    assert_written(&rt, rt.alloc(), &list, TWO);
+    assert_read(&rt, rt.alloc(), TWO, &list);
+}
+
+#[test]
+fn empty_list(rt: HostRuntime) {
+    assert_written(&rt, rt.alloc(), &List::Nil, b"\0\0\0\0\0\0\0\0\0\0\0\0");
+}
+
+fn leaf(alloc: Global, value: u32) -> Tree {
+    Tree {
+        value,
+        children: Vec::new(alloc),
+    }
+}
+
+fn three(alloc: Global) -> Result<Tree, AllocError> {
+    let four = leaf(alloc, 4);
+    let three = Tree {
+        value: 3,
+        children: vec![in alloc; four]?,
+    };
+    let two = leaf(alloc, 2);
+    Ok(Tree {
+        value: 1,
+        children: vec![in alloc; two, three]?,
+    })
+}
+
+// The tree below 3 at 0, with no child; those below 1 at 12 and 24; and 1 at 36. A vector is an offset and a length.
+const TREE: &[u8] =
+    b"\x04\0\0\0\xfc\xff\xff\xff\0\0\0\0\x02\0\0\0\xf0\xff\xff\xff\0\0\0\0\x03\0\0\0\xe4\xff\xff\xff\x01\0\0\0\x01\0\0\0\xe4\xff\xff\xff\x02\0\0\0";
+
+#[test]
+fn tree_of_four(rt: HostRuntime) {
+    let tree = three(rt.alloc()).expect(&rt, "a tree");
+    assert_written(&rt, rt.alloc(), &tree, TREE);
+    assert_read(&rt, rt.alloc(), TREE, &tree);
+}
+
+fn call(alloc: Global) -> Result<Expr, AllocError> {
+    let name = String::from_str(alloc, "f")?;
+    let call = Expr::Call(name, vec![in alloc; Expr::Num(-1)]?);
+    Ok(Expr::Negated(Box::new(alloc, call)?))
+}
+
+// The number -1 at 0, the call at 24 with its name in place, and at 48 the box that leads back to it. A number of 64 bits begins eight bytes behind the tag.
+const CALL: &[u8] =
+    b"\0\0\0\0\0\0\0\0\xff\xff\xff\xff\xff\xff\xff\xff\0\0\0\0\0\0\0\0\x02\0\0\0f\xff\xff\xff\xff\xff\xff\xff\xdc\xff\xff\xff\x01\0\0\0\0\0\0\0\x01\0\0\0\xe4\xff\xff\xff\0\0\0\0\0\0\0\0\0\0\0\0\0\0\0\0";
+
+#[test]
+fn expression(rt: HostRuntime) {
+    let call = call(rt.alloc()).expect(&rt, "an expression");
+    assert_written(&rt, rt.alloc(), &call, CALL);
+    assert_read(&rt, rt.alloc(), CALL, &call);
+}

@@ -1,0 +1,7 @@
+//! Tests of the types of recursive_types, through public calls.
+#![tactic(auto)]
+
+#[cfg(test)]
+mod assertions;
+#[cfg(test)]
+mod bytes;

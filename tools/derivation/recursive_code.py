@@ -1,0 +1,660 @@
+"""The module of a recursive type: its format, and the functions that write and read it, which call each other."""
+
+import re
+
+from . import records, variants
+from .common import chain, doc_lines, infix
+from .formats import snake
+from .layout import Generic, Group, call, flat, implementation, literal, pair, signature, statement
+
+SERIALIZED = """    ensures serialized {{ IfOk result (λ r. Serialized {D} {X} (⟦<{T} as Archive>⟧.keys {v}.now)
+        (⟦<{T} as Archive>⟧.meaning {v}.now) (⟦<{T} as Archive>⟧.flat {v}.now r)
+        (S.state serializer.old) (S.state serializer.new)) }}
+    ensures same_value {{ IfOk result (λ r. ⟦<{T} as Archive>⟧.belongs {v}.now r) }}
+    ensures goes_on {{ GoesOn (S.state serializer.old) (S.state serializer.new) }}
+    ensures refused {{ IfErr result (IsRefused {D} {X} (⟦<{T} as Archive>⟧.keys {v}.now)
+        (⟦<{T} as Archive>⟧.meaning {v}.now) (S.state serializer.old) (S.state serializer.new)) }}
+"""
+READ = """    requires {{ IsPartOf ⟦<{X} as ArchivePointee>⟧ part }}
+    ensures read {{ IfOk result (Read ⟦<{X} as ArchivePointee>⟧ part D.Entries deserializer ⟦<{T} as Archive>⟧) }}
+    ensures refused {{ IfErr result (RefusesPart ⟦<{X} as ArchivePointee>⟧ part D.Entries deserializer) }}
+"""
+WRITER = "S: Writer + Keys + ResolverAlloc"
+
+
+def text(it):
+    bring(it)
+    pieces = [types(it), pointee(it), stands_for(it), portable(it), view_of(it), resolver(it), archive(it), writing(it), serialize(it), region(it), reading(it), deserialize(it)]
+    pieces += [accessors(it, records.views, variants.views), accessors(it, records.seals, variants.seals)]
+    return "\n".join(piece for piece in pieces if piece)
+
+
+def bring(it):
+    f = it.formats
+    f.use("archive_core::error", "Error")
+    f.use("archive_core::place", "Place")
+    f.use("archive_core::self_check", "BySchema")
+    f.use("archive_core::shape", "Defs", "Expr", "Pointee")
+    f.use("archive_core::ser", "ResolverAlloc", "Writer", "serialize_one")
+    f.use("archive_core::boxed", "BoxResolver", "serialize_inner")
+    f.use("archive_core::vec", "VecResolver")
+    f.use("archive_recursive", "BoxAt", "VecAt", "before_box", "before_vec", "choice_of", "define_name", "part_of_record", "part_of_variant", "read_part", "record_of")
+    f.use("archive_recursive", "serialize_inner_slice", "serialize_part", "tag_of_choice")
+    f.use("archive_core::traits", "Archive", "ArchivePointee", "ArchiveUnsized", "Choice", "Deserialize", "Entries", "Keys", "Portable", "Record", "Serialize", "SerializeUnsized")
+    f.use("archive_core::view", "RawView", "Ref")
+    f.use("std::alloc", "AllocError", "Global")
+    f.ghost("std.specs.Prelude", "◌≡◌", "◌++◌", "◌+◌", "◌≤◌", "[]", "refl", "length", "Some", "IfOk", "IfErr", "codes")
+    f.ghost("std.proofs.Common", "lit≤")
+    f.ghost("SelfCheck.Laws", "by_schema")
+    f.ghost("Expressions", "shape_of", "shapes_in")
+    f.ghost("Shape", "one", "boxed", "vec")
+    f.ghost("Value", "case", "product", "value", "no_value")
+    f.ghost("Error.TheVariants", "OutOfMemory")
+    f.ghost("Seen", "IsPartOf", "RefusesPart", "ReadsPart", "part_tag")
+    f.ghost("Sources", "Read")
+    f.ghost("CallOutcomes", "ResolvesAs")
+    f.ghost("Causes", "IsRefused")
+    f.ghost("Plans", "Serialized")
+    f.ghost("Runs", "EachBelongs", "IsRunRefused", "SerializedRun", "each_flat", "each_keys", "each_meaning")
+    f.ghost("Writing", "ZeroedPlace")
+    f.ghost("PlannedOwners", "one_planned")
+    f.ghost("Written", "GoesOn")
+    n = it.n
+    names = [f"{n}_{w}" for w in ("name", "shape", "stands_for", "definitions", "layout", "is_align", "has_layout", "no_others")]
+    names += [f"{n}_has_parts", f"{n}_parts"] if it.is_record else [f"{n}_has_variants"] + [f"{case.n}_parts" for case in it.cases]
+    f.ghosts.setdefault(f"{it.declaration.crate}.specs.{it.name}Shape", set()).update(names)
+
+
+# ---- the format ----
+
+
+def types(it):
+    lines = []
+    for case in it.cases:
+        if case.count:
+            lines.append(statement(0, f"type {word(it, case)}Parts = ", pair(case.archived), ";"))
+    if not it.is_record:
+        lines.append(statement(0, f"type {it.name}Variants = ", pair([f"{word(it, case)}Parts" if case.count else "()" for case in it.cases]), ";"))
+    return f"""/// An archived `{it.name}`: {it.size} bytes at a multiple of {it.align}. It is validated by its schema.
+pub struct {it.archived};
+
+{chr(10).join(lines)}"""
+
+
+def word(it, case):
+    return it.name if it.is_record else f"{it.name}{case.name}"
+
+
+def pointee(it):
+    return f"""impl ArchivePointee for {it.archived} {{
+    type ArchivedMetadata = ();
+
+    ghost pointee = {{ one {it.n}_shape }};
+
+    ghost definitions = {{ {it.n}_definitions }};
+
+    ghost metadata_length = {{ λ _. 0 }};
+
+    fn pointer_metadata(_metadata: &()) -> usize {{
+        0
+    }}
+}}
+"""
+
+
+def expression(it, type):
+    """The expression of a part."""
+    if it.terms.is_self(type):
+        return f'Expr::Named("{it.archived}")'
+    if not it.terms.leads_back(type):
+        return f"<{it.formats.archived(type)} as Portable>::expr(alloc)?"
+    item = expression(it, type.args[0])
+    if type.name == "Box":
+        return f"Expr::Box(Box::new(alloc, Pointee::One({item}))?)"
+    return f"Expr::Vec(Box::new(alloc, {item})?)"
+
+
+def stands_for(it):
+    """What the name stands for, as an expression: of each variant one after another."""
+    n = it.n
+    out = []
+    for case in it.cases:
+        if not case.count:
+            continue
+        lets = "".join(statement(4, f"let {name} = ", expression(it, type), ";") for name, type in zip(case.names, case.types))
+        out.append(f"""// The parts of `{case.name}`.
+fn {case.n}_expressions(alloc: Global) -> Result<Vec<Expr>, Error>
+    ensures shapes {{ IfOk result (λ list. shapes_in list.items ≡ {case.n}_parts) }}
+    ensures refused {{ IfErr result (λ e. e ≡ OutOfMemory) }}
+{{
+{lets}    Ok(vec![in alloc; {', '.join(case.names)}]?)
+}}
+""")
+    if it.is_record:
+        body = f"    let parts = {n}_expressions(alloc)?;\n    Ok(record_of(parts))\n"
+    else:
+        lets = "".join(f"    let v{case.tag} = {case.n}_expressions(alloc)?;\n" if case.count else f"    let v{case.tag} = vec![in alloc]?;\n" for case in it.cases)
+        body = lets + statement(4, "let variants = ", Group("vec![in alloc; ", [f"v{case.tag}" for case in it.cases], "]?"), ";") + f'    Ok(choice_of("{it.archived}", variants))\n'
+    out.append(f"""// What the name stands for.
+fn {n}_expression(alloc: Global) -> Result<Expr, Error>
+    ensures shape {{ IfOk result (λ e. shape_of e ≡ {n}_stands_for) }}
+    ensures refused {{ IfErr result (λ e. e ≡ OutOfMemory) }}
+{{
+{body}}}
+""")
+    return "\n".join(out)
+
+
+def portable(it):
+    n = it.n
+    return f"""impl Portable for {it.archived} {{
+    ghost shape = {{ {n}_shape }};
+
+    ghost layout = {{ {n}_layout }};
+
+    type Check = BySchema;
+
+    ghost is_one = {{ refl }};
+
+    ghost is_align = {{ {n}_is_align }};
+
+    ghost has_layout = {{ {n}_has_layout }};
+
+    ghost no_others = {{ {n}_no_others }};
+
+    ghost checks = {{ λ direct. by_schema direct }};
+
+    fn size() -> usize {{
+        {it.size}
+    }}
+
+    fn align() -> usize {{
+        {it.align}
+    }}
+
+    fn expr(_alloc: Global) -> Result<Expr, Error> {{
+        Ok(Expr::Named("{it.archived}"))
+    }}
+
+    fn define(alloc: Global, defs: &mut Defs) -> Result<(), Error> {{
+        let stands_for = match {n}_expression(alloc) {{
+            Ok(stands_for) => stands_for,
+            Err(error) => return Err(error),
+        }};
+        define_name("{it.archived}", stands_for, defs)
+    }}
+}}
+"""
+
+
+def view_of(it):
+    """Its parts or variants."""
+    n = it.n
+    if it.is_record:
+        return f"""impl Record for {it.archived} {{
+    type Parts = {it.name}Parts;
+
+    ghost has_parts = {{ {n}_has_parts }};
+
+    ghost holds = {{ lit≤ tt }};
+}}
+"""
+    return f"""impl Choice for {it.archived} {{
+    type Variants = {it.name}Variants;
+
+    ghost name = {{ {n}_name }};
+
+    ghost has_variants = {{ {n}_has_variants }};
+
+    ghost holds = {{ lit≤ tt }};
+}}
+"""
+
+
+# ---- the value ----
+
+
+def kept(it, type):
+    """The resolver of a part."""
+    if not it.terms.leads_back(type):
+        return f"<{it.formats.rust(type)} as Archive>::Resolver"
+    return "BoxResolver" if type.name == "Box" else "VecResolver"
+
+
+def kept_of(it, case):
+    return pair([kept(it, type) for type in case.types])
+
+
+def resolver(it):
+    if it.is_record:
+        return f"""/// What is kept of `{it.name}` from its serialization until it is resolved.
+#[derive(Drop)]
+pub struct {it.resolver} {{
+{statement(4, "kept: ", kept_of(it, it.cases[0]), ",")}}}
+"""
+    lines = ""
+    for case in it.cases:
+        lines += f"    /// Of `{case.name}`.\n"
+        lines += statement(4, "", Group(f"{case.name}(", [kept_of(it, case)], ")"), ",") if case.count else f"    {case.name},\n"
+    return f"""/// What is kept of `{it.name}` from its serialization until it is resolved.
+#[derive(Drop)]
+pub enum {it.resolver} {{
+{lines}}}
+"""
+
+
+def hollow(it, type):
+    """What stands for a part that was written: its type."""
+    item = it.formats.archived(type.args[0])
+    return f"{'BoxAt' if type.name == 'Box' else 'VecAt'}<{item}>"
+
+
+def hollows(it, case):
+    """The types and the values by which the parts are resolved, and the lines before."""
+    rust, values, lines = [], [], []
+    for name, type, mine, back, field in zip(case.names, case.types, case.rust, case.leads_back, case.fields):
+        at = f"self.{field.name}" if it.is_record else name
+        if not back:
+            rust.append(mine)
+            values.append(f"&{at}" if it.is_record else at)
+            continue
+        made = "BoxAt::new()" if type.name == "Box" else f"VecAt::of({at}.len())"
+        rust.append(hollow(it, type))
+        values.append(f"&h{name[1:]}")
+        lines.append((f"let h{name[1:]}: {hollow(it, type)} = ", made))
+    return rust, values, lines
+
+
+def pattern(it, case, names):
+    path = f"{it.name}::{case.name}"
+    if case.form == "struct":
+        return literal(path, [f"{field.name}: {name}" for field, name in zip(case.fields, names)])
+    return Group(f"{path}(", names, ")") if case.form == "tuple" else path
+
+
+def archive(it):
+    n = it.n
+    names = [f"{n}_{w}" for w in ("meaning", "flat", "keys", "belongs", "keyed", "planned")]
+    if it.is_record:
+        case = it.cases[0]
+        rust, values, lines = hollows(it, case)
+        body = f"        let {it.resolver} {{ kept }} = resolver;\n" + "".join(statement(8, before, made, ";") for before, made in lines)
+        body += statement(8, "", Generic(f"resolve_named_record_{case.count}", rust + [it.archived], values + ["kept", "Place::new(pos, bytes)"]), "")
+        it.formats.use("archive_recursive", f"resolve_named_record_{case.count}")
+    else:
+        body = "        match self {\n" + "".join(resolve_arm(it, case) for case in it.cases) + "        }\n"
+    return f"""impl Archive for {it.name} {{
+    ghost use Rattle.{it.declaration.crate}.specs.{it.name}Meaning.{{{', '.join(names)}}};
+
+    type Archived = {it.archived};
+
+    type Resolver = {it.resolver};
+
+    ghost meaning = {{ {n}_meaning }};
+
+    ghost flat = {{ {n}_flat }};
+
+    ghost keys = {{ {n}_keys }};
+
+    ghost belongs = {{ {n}_belongs }};
+
+    ghost keyed = {{ {n}_keyed }};
+
+    ghost planned = {{ {n}_planned }};
+
+    fn resolve(
+        &self,
+        resolver: Self::Resolver,
+        place: Place<'_, Self::Archived>,
+    ) -> Result<(), Error>
+        requires zeroed {{ ZeroedPlace {it.size} place.pos place.bytes.now }}
+        requires same_value {{ ⟦<Self as Archive>⟧.belongs self.now resolver }}
+        ensures {{ ResolvesAs ⟦<Self::Archived as Portable>⟧ place
+            (⟦<Self as Archive>⟧.flat self.now resolver) result }}
+    {{
+        let Place {{ bytes, pos, .. }} = place;
+{body}    }}
+}}
+"""
+
+
+def resolve_arm(it, case):
+    it.formats.use("archive_recursive", f"resolve_named_case_{case.count}")
+    rust, values, lines = hollows(it, case)
+    names = [name if not back or type.name == "Vec" else f"_{name}" for name, type, back in zip(case.names, case.types, case.leads_back)]
+    call_ = Generic(f"resolve_named_case_{case.count}", rust + [it.archived], [str(case.tag)] + values + ["kept" if case.count else "()", "Place::new(pos, bytes)"])
+    opened = f"let {it.resolver}::{case.name}(kept) = resolver" if case.count else f"let {it.resolver}::{case.name} = resolver"
+    other = " else {\n                    unreachable!();\n                }" if len(it.cases) > 1 else ""
+    if not case.count:
+        return f"            {flat(pattern(it, case, names))} => {{\n{statement(16, '', call_, '')}            }}\n"
+    return f"""            {flat(pattern(it, case, names))} => {{
+                {opened}{other};
+{"".join(statement(16, before, made, ";") for before, made in lines)}{statement(16, "", call_, "")}            }}
+"""
+
+
+# ---- writing ----
+
+
+def writing(it):
+    out = [owner_writing(it, type) for type in it.owners]
+    if it.is_record:
+        out.append(record_writing(it))
+    else:
+        out += [case_writing(it, case) for case in it.cases if case.count]
+        out.append(choice_writing(it))
+    return "\n".join(out)
+
+
+def contract(it, type, v):
+    return SERIALIZED.format(T=it.formats.rust(type), D=it.terms.definitions(type), X=it.terms.shape(type), v=v)
+
+
+def owner_writing(it, type):
+    item = type.args[0]
+    name = it.word(type)
+    T = it.formats.rust(type)
+    if type.name == "Box":
+        return f"""// Writes what a box owns.
+#[cycle(serialize_{it.n})]
+fn serialize_{name}<{WRITER}>(value: &{T}, serializer: &mut S) -> Result<BoxResolver, Error>
+{contract(it, type, "value")}{{
+    let inner = &**value;
+    let kept = match serialize_{it.word(item)}(inner, serializer) {{
+        Ok(kept) => kept,
+        Err(error) => return Err(error),
+    }};
+    match serialize_inner(inner, kept, serializer) {{
+        Ok(at) => Ok(at),
+        Err(error) => Err(error),
+    }}
+}}
+"""
+    its, D, X = it.formats.rust(item), it.terms.definitions(item), it.terms.shape(item)
+    run = f"{D} {X} (length values.now) (each_keys ⟦<{its} as Archive>⟧.keys values.now)\n        (each_meaning ⟦<{its} as Archive>⟧.meaning values.now)"
+    return f"""// Writes what each of the values owns, in order.
+#[cycle(serialize_{it.n})]
+fn serialize_each_{it.word(item)}<{WRITER}>(values: &[{its}], serializer: &mut S) -> Result<Vec<<{its} as Archive>::Resolver, S::Alloc>, Error>
+    ensures serialized {{ IfOk result (λ rs. SerializedRun {run}
+        (each_flat ⟦<{its} as Archive>⟧.flat values.now rs.items) (S.state serializer.old)
+        (S.state serializer.new)) }}
+    ensures same_values {{ IfOk result (λ rs. EachBelongs ⟦<{its} as Archive>⟧.belongs values.now rs.items) }}
+    ensures goes_on {{ GoesOn (S.state serializer.old) (S.state serializer.new) }}
+    ensures refused {{ IfErr result (IsRunRefused {run}
+        (S.state serializer.old) (S.state serializer.new)) }}
+{{
+    let alloc = serializer.resolver_alloc();
+    let mut resolvers = Vec::with_capacity(alloc, values.len())?;
+    for value in values {{
+        let resolver = match serialize_{it.word(item)}(value, serializer) {{
+            Ok(resolver) => resolver,
+            Err(error) => return Err(error),
+        }};
+        resolvers.push(resolver).map_err(AllocError::from)?;
+    }}
+    Ok(resolvers)
+}}
+
+// Writes what a vector owns.
+#[cycle(serialize_{it.n})]
+fn serialize_{name}<{WRITER}>(value: &{T}, serializer: &mut S) -> Result<VecResolver, Error>
+{contract(it, type, "value")}{{
+    if value.len() > u32::MAX as usize {{
+        return Err(Error::LengthTooLarge);
+    }}
+    let items = value.as_slice();
+    let kept = match serialize_each_{it.word(item)}(items, serializer) {{
+        Ok(kept) => kept,
+        Err(error) => return Err(error),
+    }};
+    match serialize_inner_slice(items, kept, serializer) {{
+        Ok(at) => Ok(at),
+        Err(error) => Err(error),
+    }}
+}}
+"""
+
+
+def parts_written(it, case, values):
+    lines = ""
+    for name, type, back, value in zip(case.names, case.types, case.leads_back, values):
+        function = f"serialize_{it.word(type)}" if back else "serialize_part"
+        lines += f"    let {name} = match {function}({value}, serializer) {{\n        Ok({name}) => {name},\n        Err(error) => return Err(error),\n    }};\n"
+    return lines
+
+
+def said_of_parts(it, case, kept_):
+    """The keys, what the parts mean, and what is read in their places, of arguments by their names."""
+    sources = [f"⟦<{rust} as Archive>⟧" for rust in case.rust]
+    keys = infix("++", [f"{q}.keys {a}.now" for q, a in zip(sources, case.names)], "[]")
+    meanings = chain("value", [f"({q}.meaning {a}.now)" for q, a in zip(sources, case.names)], "no_value")
+    flats = chain("value", [f"({q}.flat {a}.now {kept_}{'.1' * i}.0)" for i, (q, a) in enumerate(zip(sources, case.names))], "no_value")
+    belongs = infix("×", [f"{q}.belongs {a}.now {kept_}{'.1' * i}.0" for i, (q, a) in enumerate(zip(sources, case.names))], "Unit {0}")
+    return keys, meanings, flats, belongs
+
+
+def case_writing(it, case):
+    keys, meanings, flats, belongs = said_of_parts(it, case, "r")
+    n = it.n
+    D, X, states = f"{n}_definitions", f"{n}_shape", "(S.state serializer.old) (S.state serializer.new)"
+    head = signature(
+        f"fn serialize_{case.n}", [WRITER], [f"{name}: &{rust}" for name, rust in zip(case.names, case.rust)] + ["serializer: &mut S"], Group("Result<", [kept_of(it, case), "Error"], ">")
+    )
+    cycle = f"#[cycle(serialize_{it.n})]\n" if any(case.leads_back) else ""
+    return f"""// Writes what the parts of `{case.name}` own, in order.
+{cycle}{head}
+    ensures serialized {{ IfOk result (λ r. Serialized {D} {X} ({keys}) (case {case.tag} {meanings}) (case {case.tag} {flats}) {states}) }}
+    ensures same_values {{ IfOk result (λ r. {belongs}) }}
+    ensures goes_on {{ GoesOn {states} }}
+    ensures refused {{ IfErr result (IsRefused {D} {X} ({keys}) (case {case.tag} {meanings}) {states}) }}
+{{
+{parts_written(it, case, case.names)}    Ok({flat(pair(case.names))})
+}}
+"""
+
+
+def choice_writing(it):
+    arms = ""
+    for case in it.cases:
+        made = f"{it.resolver}::{case.name}"
+        if not case.count:
+            arms += f"        {flat(pattern(it, case, []))} => Ok({made}),\n"
+            continue
+        arms += f"""        {flat(pattern(it, case, case.names))} => match serialize_{case.n}({', '.join(case.names)}, serializer) {{
+            Ok(kept) => Ok({made}(kept)),
+            Err(error) => Err(error),
+        }},
+"""
+    return f"""// Writes what a value owns.
+#[cycle(serialize_{it.n})]
+fn serialize_{it.n}<{WRITER}>(value: &{it.name}, serializer: &mut S) -> Result<{it.resolver}, Error>
+{SERIALIZED.format(T=it.name, D=f"{it.n}_definitions", X=f"{it.n}_shape", v="value")}{{
+    match value {{
+{arms}    }}
+}}
+"""
+
+
+def record_writing(it):
+    case = it.cases[0]
+    values = [f"&value.{field.name}" for field in case.fields]
+    return f"""// Writes what a value owns, part by part.
+#[cycle(serialize_{it.n})]
+fn serialize_{it.n}<{WRITER}>(value: &{it.name}, serializer: &mut S) -> Result<{it.resolver}, Error>
+{SERIALIZED.format(T=it.name, D=f"{it.n}_definitions", X=f"{it.n}_shape", v="value")}{{
+{parts_written(it, case, values)}    Ok({it.resolver} {{ kept: {flat(pair(case.names))} }})
+}}
+"""
+
+
+def serialize(it):
+    return f"""impl<{WRITER}> Serialize<S> for {it.name} {{
+    fn serialize(&self, serializer: &mut S) -> Result<Self::Resolver, Error> {{
+        serialize_{it.n}(self, serializer)
+    }}
+}}
+"""
+
+
+def region(it):
+    """The value as a region of its own."""
+    n, f = it.n, it.formats
+    keyed, planned = f.law_of(it.declaration, "keyed"), f.law_of(it.declaration, "planned")
+    its = f"⟦<{it.name} as Archive>⟧"
+    return f"""/// As a region of its own: the value itself.
+impl ArchiveUnsized for {it.name} {{
+{f.law_lines()}    type Archived = {it.archived};
+
+    ghost source_length = {{ λ _. 0 }};
+
+    ghost meaning = {{ {its}.meaning }};
+
+    ghost keys = {{ {its}.keys }};
+
+    ghost keyed = {{ {keyed} }};
+
+    ghost one_length = {{ λ _ _. refl }};
+
+    ghost planned = {{ λ v. one_planned {n}_definitions {n}_shape ({its}.keys v) ({its}.meaning v) ({planned} v) }};
+
+    fn archived_metadata(&self) -> Result<(), Error> {{
+        Ok(())
+    }}
+}}
+
+impl<{WRITER}> SerializeUnsized<S> for {it.name} {{
+    fn serialize_unsized(&self, serializer: &mut S) -> Result<usize, Error> {{
+        serialize_one(self, serializer)
+    }}
+}}
+"""
+
+
+# ---- reading back ----
+
+
+def reading(it):
+    out = [owner_reading(it, type) for type in it.owners]
+    if it.is_record:
+        out.append(record_reading(it))
+    else:
+        out += [case_reading(it, case) for case in it.cases]
+        out.append(choice_reading(it))
+    return "\n".join(out)
+
+
+def reader(it, name, T, contract_, body, said, cycle=True):
+    mark = f"#[cycle(read_{it.n})]\n" if cycle else ""
+    return f"""// {said}
+{mark}fn read_{name}<D: Entries>(alloc: Global, part: RawView<'_>, deserializer: &mut D) -> Result<{T}, Error>
+{contract_}{{
+{body}}}
+"""
+
+
+def owner_reading(it, type):
+    item = type.args[0]
+    f = it.formats
+    T, X = f.rust(type), f.archived(type)
+    inner = f.archived(item)
+    if type.name == "Box":
+        body = f"""    let view: Ref<'_, ArchivedBox<{inner}>> = Ref::at(part);
+    let value = read_{it.word(item)}(alloc, before_box(view).part(), deserializer)?;
+    let whole = Box::new(alloc, value)?;
+    Ok(whole)
+"""
+    else:
+        body = f"""    let view: Ref<'_, ArchivedVec<{inner}>> = Ref::at(part);
+    let list = before_vec(view);
+    let mut items = Vec::with_capacity(alloc, list.len())?;
+    for index in 0..list.len() {{
+        let item = read_{it.word(item)}(alloc, list.index(index).part(), deserializer)?;
+        items.push_reserved(item);
+    }}
+    Ok(items)
+"""
+    return reader(it, it.word(type), T, READ.format(T=T, X=X), body, "Reads a box back." if type.name == "Box" else "Reads a vector back.")
+
+
+def parts_read(it, case):
+    lines = ""
+    for i, (name, type, back, X, T, offset) in enumerate(zip(case.names, case.types, case.leads_back, case.archived, case.rust, case.offsets)):
+        if it.is_record:
+            where = Generic("part_of_record", [it.archived, X], ["part", str(i), str(offset)])
+        else:
+            where = Generic("part_of_variant", [it.archived, X], ["part", str(case.tag), str(i), str(offset)])
+        lines += statement(4, f"let p{i} = ", where, ";")
+        read = call(f"read_{it.word(type)}", ["alloc", f"p{i}", "deserializer"], "?") if back else Generic("read_part", [X, T, "D"], ["alloc", f"p{i}", "deserializer"], "?")
+        lines += statement(4, f"let {name} = ", read, ";")
+    return lines
+
+
+def built(it, case):
+    if it.is_record:
+        if case.form == "tuple":
+            return Group(f"{it.name}(", case.names, ")")
+        return literal(it.name, [f"{field.name}: {name}" for field, name in zip(case.fields, case.names)])
+    return pattern(it, case, case.names)
+
+
+def case_reading(it, case):
+    contract_ = f"    requires viewed {{ IsPartOf ⟦<{it.archived} as ArchivePointee>⟧ part }}\n    requires tag {{ part_tag part ≡ {case.tag} }}\n"
+    contract_ += "".join(READ.format(T=it.name, X=it.archived).splitlines(True)[1:])
+    body = parts_read(it, case) + statement(4, "Ok(", built(it, case), ")")
+    text_ = reader(it, case.n, it.name, contract_, body, f"Reads `{case.name}` back.", any(case.leads_back))
+    return text_ if case.count else text_.replace("(alloc: Global", "(_alloc: Global").replace("deserializer", "_deserializer")
+
+
+def choice_reading(it):
+    arms = ""
+    for case in it.cases:
+        tag = "_" if case is it.cases[-1] else str(case.tag)
+        arms += f"        {tag} => read_{case.n}(alloc, part, deserializer),\n"
+    body = f"    match tag_of_choice::<{it.archived}>(part) {{\n{arms}    }}\n"
+    return reader(it, it.n, it.name, READ.format(T=it.name, X=it.archived), body, "Reads a value back.")
+
+
+def record_reading(it):
+    case = it.cases[0]
+    body = parts_read(it, case) + statement(4, "Ok(", built(it, case), ")")
+    return reader(it, it.n, it.name, READ.format(T=it.name, X=it.archived), body, "Reads a value back, part by part.")
+
+
+def deserialize(it):
+    return f"""impl<D: Entries> Deserialize<{it.name}, D> for {it.archived} {{
+    fn deserialize_part(
+        alloc: Global,
+        part: RawView<'_>,
+        deserializer: &mut D,
+    ) -> Result<{it.name}, Error>
+        requires {{ IsPartOf ⟦<Self as ArchivePointee>⟧ part }}
+        ensures read {{ IfOk result (Read ⟦<Self as ArchivePointee>⟧ part D.Entries deserializer ⟦<{it.name} as Archive>⟧) }}
+        ensures refused {{ IfErr result (RefusesPart ⟦<Self as ArchivePointee>⟧ part D.Entries deserializer) }}
+    {{
+        read_{it.n}(alloc, part, deserializer)
+    }}
+}}
+"""
+
+
+# ---- views and seals ----
+
+CALLS = {
+    "part_in_case": "view_of_payload",
+    "part_in_record": "view_of_field",
+    "sealed_part_in_case": "seal_of_payload",
+    "sealed_part_in_record": "seal_of_field",
+    "tag_in(self)": "tag_of_view(self)",
+}
+
+
+def accessors(it, of_record, of_choice):
+    """The accessors of other types, by the calls that know of names."""
+    f = it.formats
+    f.use("archive_recursive", "seal_of_field", "seal_of_payload", "tag_of_view", "view_of_field", "view_of_payload")
+    whole = records.Record(f, it.declaration) if it.is_record else variants.Choice(f, it.declaration)
+    text_ = of_record(whole) if it.is_record else of_choice(whole)
+    for name, other in CALLS.items():
+        text_ = re.sub(rf"(?<!\w){re.escape(name)}", other, text_)
+    text_ = re.sub(r"Viewed no_definition (self|s)\.", rf"Viewed {it.n}_definitions \1.", text_)
+    return text_.replace("SealsBeside no_definition", f"SealsBeside {it.n}_definitions")

@@ -1,0 +1,455 @@
+"""The proofs of the functions that write and read a recursive type: answers to the goals that the check leaves, which are named after the code."""
+
+from .formats import snake
+from .recursive_terms import brought, brought_owns
+
+# Lemmas and definitions that answers cite, by their modules.
+CITED = {
+    "std.proofs.Common": "◌≡◌ ◌<◌ ◌≤◌ ◌+◌ ◌*◌ ◌++◌ ◌∷◌ [] ℕ length drop inl inr refl sym ◌∙◌ arith rules pos string_bytes slice_index",
+    "std.proofs.lemmas.Int": "to_z-of_z",
+    "std.proofs.Math.ListN": "drop_of_length-le",
+    "std.proofs.lemmas.Grind": "common_steps",
+    "std.specs.Vec": "vec_len vec_capacity",
+    "std.specs.Prelude": "",
+    "archive_core.specs.Causes": "no_memory",
+    "archive_core.specs.Error.TheVariants": "OutOfMemory",
+    "archive_recursive.specs.Held": "keyed_as planned_as written_as refused_as read_as",
+    "archive_core.specs.PlannedOwners": "each_planned",
+    "archive_core.specs.PartsReading": "part_read_back no_part_read_back",
+    "archive_recursive.proofs.Causes": "err_by err_from goes_both goes_nowhere",
+    "archive_recursive.proofs.OwnChoices": "serialized_variant variant_refused",
+    "archive_recursive.proofs.Owners": "box_refused vec_refused",
+    "archive_recursive.proofs.OwnersRead": "box_read box_unread vec_read vec_unread",
+    "archive_recursive.proofs.Planned": "one_owned",
+    "archive_recursive.proofs.PlannedParts": "serialized_no_part serialized_part serialized_record record_refused first_refused later_refused",
+    "archive_recursive.proofs.ReadChoices": "variant_read_back variant_refuses",
+    "archive_recursive.proofs.ReadElements": "FirstElements all_have elements_more elements_all element_refused",
+    "archive_recursive.proofs.ReadRecords": "record_read_back record_refuses first_refuses later_refuses",
+    "archive_recursive.proofs.Runs": "Continues continues_step continues_broken continues_end belongs_end",
+    "archive_recursive.proofs.RunRegions": "run_owned long_run_refused",
+}
+
+
+class Answers:
+    """The answers to the goals of functions that call each other, or of one."""
+
+    def __init__(self, it, folder):
+        self.it = it
+        self.folder = folder
+        self.items = []
+        self.invariants = []
+
+    def answer(self, function, goal, body, args="g c"):
+        name = f"{function}-{goal}" if function else goal
+        args = args if not function or args != "g c" else "g t c"
+        self.items.append(f"pub {name} : goal.{name}\n{name} {args} = {body}\n")
+
+    def invariant(self, function, goal, body, args="g l"):
+        self.invariants.append(f"abbrev pub {goal} : goal.{goal}\n{goal} {args} = {body}\n")
+
+    def files(self):
+        it = self.it
+        module = "/".join(it.declaration.module)
+        dotted = ".".join(("Rattle", it.declaration.crate, "proofs") + tuple(it.declaration.module))
+        out = {}
+        for name, goals, items in (("Answers", "Goals", self.items), ("Invariants", "Given", self.invariants)):
+            if items:
+                body = "\n".join(items)
+                path = ".".join([dotted] + self.folder.split("/"))
+                out[f"proofs/{module}/{self.folder}/{name}.antt"] = f"-- {it.written}\n{head(it, body)}use {path}.{goals} as goal\n\n{body}"
+        return out
+
+
+def head(it, body):
+    """What a file of answers brings in."""
+    crate, N, n = it.declaration.crate, it.name, it.n
+    meaning = [f"{n}_{w}" for w in ("meaning", "keys", "flat", "belongs", "keyed", "planned", "means", "means_roll", "has_keys", "has_keys_roll")]
+    meaning += [f"{case.n}_{w}" for case in it.cases for w in ("means", "has_keys", "opens")]
+    shape = [f"{n}_{w}" for w in ("layout", "has_layout")] + it.shape_names()
+    declared = ".".join((crate, "specs", "declared") + tuple(it.declaration.module))
+    more = list(CITED.items()) + [
+        (f"{crate}.specs.{N}Shape", " ".join(shape)),
+        (f"{crate}.specs.{N}Meaning", " ".join(dict.fromkeys(meaning))),
+        (f"{declared}.{N}", f"out-{N}"),
+    ]
+    fits = "use mir.Val.{SFits}\n" if "SFits" in body else ""
+    return brought(body, more) + brought_owns(it.terms, body) + fits
+
+
+def under(count):
+    return " ".join(["_"] * count)
+
+
+# ---- parts ----
+
+
+class Parts:
+    """The terms of the parts of a case at values: from the part with an index on."""
+
+    def __init__(self, it, case, values):
+        self.it, self.case, self.values = it, case, values
+
+    def rest(self, i):
+        t, m, k = self.it.terms, f"{self.it.n}_meaning", f"{self.it.n}_keys"
+        types, values = self.case.types[i:], self.values[i:]
+        return t.parts_definitions(types), t.parts(types), t.parts_keys(types, values, k), t.parts_meaning(types, values, m)
+
+    def first(self, i):
+        t = self.it.terms
+        type, x = self.case.types[i], self.values[i]
+        return t.definitions(type), t.shape(type), t.keys(type, x, f"{self.it.n}_keys"), t.meaning(type, x, f"{self.it.n}_meaning")
+
+    def both(self, i):
+        """The arguments of a lemma on one part and those behind it: definitions, shapes, keys and meanings of each."""
+        D, X, K, V = self.first(i)
+        E, P, L, W = self.rest(i + 1)
+        return f"{D} {E} {X} {P} {K} {L} {V} {W}"
+
+    def plan(self, i):
+        types, values = self.case.types[i:], self.values[i:]
+        return self.it.terms.parts_planned(types, values, values, False)
+
+    def refused(self, i, written, goes, refusal, at=0):
+        """That the parts are refused, as the one with this index is."""
+        if at == i:
+            return f"(first_refused {self.both(at)} _ _ _ {self.plan(at + 1)} {refusal})"
+        later = goes[at + 1]
+        for go in goes[at + 2:i + 1]:
+            later = f"(goes_both _ _ _ {later} {go})"
+        return f"(later_refused {self.both(at)} _ _ _ _ _ {written[at]} {goes[at]} {later} {self.refused(i, written, goes, refusal, at + 1)})"
+
+    def written(self, written, at=0):
+        if at == len(self.values):
+            return "(serialized_no_part no_definition _)"
+        return f"(serialized_part {self.both(at)} _ _ _ _ _ {written[at]} {self.written(written, at + 1)})"
+
+
+def whole_of(it, case):
+    """The arguments of a lemma on the whole: of a record, or of a variant."""
+    n = it.n
+    if it.is_record:
+        return f"{n}_definitions {n}_shape {n}_part_definitions {n}_parts {n}_has_parts"
+    return f"{n}_definitions {n}_shape {n}_name {n}_variant_definitions {n}_variants {n}_has_variants {case.tag} {case.n}_parts refl {case.n}_definitions refl"
+
+
+def numbered(words):
+    """Names of calls one after another: the second of one name has `-2` behind it."""
+    seen, out = {}, []
+    for word in words:
+        seen[word] = seen.get(word, 0) + 1
+        out.append(word if seen[word] == 1 else f"{word}-{seen[word]}")
+    return out
+
+
+def residual(names, i):
+    return "from_residual" if i == 0 else f"from_residual-in_err-{names[i]}"
+
+
+def error_by(names, i, body):
+    r = residual(names, i)
+    return f"err_by c.{r}.result c.in_err-{names[i]}.field-0.0 _ c.{r}.ensures.1 {body}"
+
+
+# ---- writing ----
+
+
+def all_goes(goes):
+    out = goes[0]
+    for go in goes[1:]:
+        out = f"(goes_both _ _ _ {out} {go})"
+    return out
+
+
+def parts_written(it, case, answers, function, values, as_):
+    """The answers on parts that are written one after another. `as_` makes of what is said of the layer what is said of the value."""
+    words = [f"serialize_{it.word(type)}" if back else "serialize_part" for type, back in zip(case.types, case.leads_back)]
+    calls, oks, errs = numbered(words), matched("in-Ok", words), matched("in-Err", words)
+    written = [f"c.{ok}.ensures.serialized" for ok in oks]
+    goes = [f"c.{call}.ensures.goes_on" for call in calls]
+    parts = Parts(it, case, values)
+    lemma = "record_refused" if it.is_record else "variant_refused"
+    for i, err in enumerate(errs):
+        # both lemmas take the keys, the meaning, the states and the error
+        refused = f"({lemma} {whole_of(it, case)} _ _ _ _ _ {parts.refused(i, written, goes, f'c.{err}.ensures.refused')})"
+        answers.answer(function, f"returns-{err}-clause-refused", as_("refused_as", refused))
+        if i:
+            answers.answer(function, f"returns-{err}-clause-goes_on", all_goes(goes[:i + 1]))
+    lemma = "serialized_record" if it.is_record else "serialized_variant"
+    answers.answer(function, "returns-clause-serialized", as_("written_as", f"({lemma} {whole_of(it, case)} _ _ _ _ _ {parts.written(written)})"))
+    if case.count > 1:
+        answers.answer(function, "returns-clause-goes_on", all_goes(goes))
+
+
+def matched(arm, words):
+    """Names of the arms of matches on calls one after another: the first has no more, others are named after the call."""
+    return [arm] + [f"{arm}-{word}" for word in numbered(words[1:])]
+
+
+def writing(it):
+    out = {}
+    answers = Answers(it, f"+serialize_{it.n}")
+    for type in it.owners:
+        (box_written if type.name == "Box" else vec_written)(it, type, answers)
+    if it.is_record:
+        case = it.cases[0]
+        values = [f"(out-{it.name} c.args.value.now).{field.name}" for field in case.fields]
+
+        def as_(lemma, proof):
+            more = " refl" if lemma == "written_as" else ""
+            return f"({lemma} ({it.n}_has_keys c.args.value.now) ({it.n}_means c.args.value.now){more} {proof})"
+
+        parts_written(it, case, answers, f"serialize_{it.n}", values, as_)
+        return answers.files()
+    for case in it.cases:
+        if not case.count:
+            continue
+        values = [f"c.args.{name}.now" for name in case.names]
+        if any(case.leads_back):
+            parts_written(it, case, answers, f"serialize_{case.n}", values, lambda lemma, proof: proof)
+        else:
+            alone = Answers(it, f"serialize_{case.n}")
+            parts_written(it, case, alone, "", values, lambda lemma, proof: proof)
+            out.update(alone.files())
+    choice_written(it, answers)
+    out.update(answers.files())
+    return out
+
+
+def box_written(it, type, answers):
+    item = type.args[0]
+    function, inner = f"serialize_{it.word(type)}", f"serialize_{it.word(item)}"
+    D, X = it.terms.definitions(item), it.terms.shape(item)
+    same = "let same : c.deref-inner.result.now ≡ c.args.value.now.value = grind (arith, common_steps) in rw (← same)"
+    goes = f"(goes_both _ _ _ c.{inner}.ensures.goes_on c.serialize_inner.ensures.goes_on)"
+    answers.answer(
+        function, "returns-in-Err-clause-refused", f"({same} (box_refused {D} (one {X}) 0 _ _ _ _ _ (one_owned {D} {X} _ _ _ _ _ c.in-Err.ensures.refused)))"
+    )
+    answers.answer(function, "returns-in-Ok-serialize_inner-clause-serialized", f"({same} (c.in-Ok-serialize_inner.ensures.boxed.since _ c.{inner}.ensures.goes_on c.in-Ok.ensures.serialized))")
+    answers.answer(function, "returns-in-Ok-serialize_inner-clause-goes_on", goes)
+    answers.answer(function, "returns-in-Err-serialize_inner-clause-goes_on", goes)
+    answers.answer(function, "returns-in-Err-serialize_inner-clause-refused", f"({same} (c.in-Err-serialize_inner.ensures.refused.since _ c.{inner}.ensures.goes_on c.in-Ok.ensures.serialized))")
+
+
+def vec_written(it, type, answers):
+    item = type.args[0]
+    w = it.word(item)
+    each, function, inner = f"serialize_each_{w}", f"serialize_{it.word(type)}", f"serialize_{w}"
+    D, X, n = it.terms.definitions(item), it.terms.shape(item), it.n
+    state = "(g.S.Keys.state l.initial.serializer) (g.S.Keys.state l.serializer)"
+    answers.invariant(
+        each, f"invariant-{each}-loop-value",
+        f"record {{ continues : Continues {D} {X} {n}_keys {n}_meaning {n}_flat {n}_belongs {state} l.values (drop l.value-index l.values) l.resolvers.items }}",
+    )
+    kept = "c.loop-value.invariant.continues"
+    answers.answer(each, "returns-in_err-resolvers-clause-refused", "err_by c.from_residual.result OutOfMemory _ c.from_residual.ensures.1 no_memory")
+    answers.answer(each, "returns-in-Err-clause-goes_on", f"goes_both _ _ _ {kept}.goes c.{inner}.ensures.goes_on")
+    at = "_ _ _ _ _ _ _ _ _ _ c.loop-value.value-index"
+    answers.answer(each, "returns-in-Err-clause-refused", f"continues_broken {at} _ _ _ c.loop-value-test.true c.value-item.is {n}_planned {kept} c.{inner}.ensures.goes_on c.in-Err.ensures.refused")
+    answers.answer(each, "returns-in_err-map_err-clause-goes_on", f"goes_both _ _ _ {kept}.goes c.{inner}.ensures.goes_on")
+    answers.answer(each, "returns-in_err-map_err-clause-refused", "err_by c.from_residual-in_err-map_err.result OutOfMemory _ c.from_residual-in_err-map_err.ensures.1 no_memory")
+    step = f"continues_step {at} _ _ _ _ c.loop-value-test.true c.value-item.is (grind (arith, common_steps)) {kept} c.in-Ok.ensures.serialized c.in-Ok.ensures.same_value c.{inner}.ensures.goes_on"
+    answers.answer(each, "loop-value-preserved", f"record {{ continues = {step} }}")
+    end = f"_ _ _ _ _ _ _ _ _ _ _ (drop_of_length-le _ c.loop-value-test.false) {kept}"
+    answers.answer(each, "returns-clause-serialized", f"continues_end {end}")
+    answers.answer(each, "returns-clause-same_values", f"belongs_end {end}")
+    vec_owner_written(it, type, answers)
+
+
+def vec_owner_written(it, type, answers):
+    item = type.args[0]
+    each, function = f"serialize_each_{it.word(item)}", f"serialize_{it.word(type)}"
+    D, X, n = it.terms.definitions(item), it.terms.shape(item), it.n
+    value = "c.args.value.now"
+    plans = f"(each_planned {D} {X} {n}_keys {n}_meaning {n}_planned {value}.items)"
+    whole = f"{D} {X} (length {value}.items) (each_keys {n}_keys {value}.items)"
+    meaning = f"(list (each_meaning {n}_meaning {value}.items))"
+    goes = f"(goes_both _ _ _ c.{each}.ensures.goes_on c.serialize_inner_slice.ensures.goes_on)"
+    as_items = "rw c.as_slice-items.ensures.value at"
+    long = (
+        f"(let whole : length {value}.items ≡ c.len.result = grind (arith, common_steps, c.len.ensures) in omega (arith, c.if-len.true, whole))"
+    )
+    answers.answer(
+        function, "returns-then-len-clause-refused",
+        f"(let long : 4294967295 < length {value}.items = {long} in vec_refused {whole} {meaning} _ _ _ (long_run_refused {whole} (each_meaning {n}_meaning {value}.items) _ _ {plans} long))",
+    )
+    answers.answer(function, "returns-in-Err-clause-refused", f"vec_refused {whole} {meaning} _ _ _ (run_owned {whole} (each_meaning {n}_meaning {value}.items) _ _ _ ({as_items} c.in-Err.ensures.refused))")
+    listed = f"({as_items} c.in-Ok-serialize_inner_slice.ensures.listed).since _ c.{each}.ensures.goes_on ({as_items} c.in-Ok.ensures.serialized)"
+    unlisted = f"({as_items} c.in-Err-serialize_inner_slice.ensures.refused).since _ c.{each}.ensures.goes_on ({as_items} c.in-Ok.ensures.serialized)"
+    answers.answer(function, "returns-in-Ok-serialize_inner_slice-clause-serialized", listed)
+    answers.answer(function, "returns-in-Ok-serialize_inner_slice-clause-goes_on", goes)
+    answers.answer(function, "returns-in-Err-serialize_inner_slice-clause-goes_on", goes)
+    answers.answer(function, "returns-in-Err-serialize_inner_slice-clause-refused", unlisted)
+
+
+def choice_written(it, answers):
+    """The answers of the function that goes by the variant."""
+    function, N = f"serialize_{it.n}", it.name
+    first = next(case for case in it.cases if case.count)
+    for case in it.cases:
+        values = "".join(f" c.in-{case.name}.{name}" for name in case.names)
+        is_ = f"c.in-{case.name}.is"
+        if not case.count:
+            nothing = f"(serialized_variant {whole_of(it, case)} _ _ _ _ _ (serialized_no_part no_definition _))"
+            answers.answer(function, f"returns-in-{case.name}-clause-serialized", f"rw {is_} (written_as {case.n}_has_keys {case.n}_means (rw {case.n}_opens refl) {nothing})")
+            continue
+        # the first of several calls goes by no name
+        ok, err = ("in-Ok", "in-Err") if case is first else (f"in-Ok-serialize_{case.n}", f"in-Err-serialize_{case.n}")
+        answers.answer(function, f"returns-{ok}-clause-serialized", f"rw {is_} (written_as ({case.n}_has_keys{values}) ({case.n}_means{values}) (rw ({case.n}_opens{values}) refl) c.{ok}.ensures.serialized)")
+        answers.answer(function, f"returns-{ok}-clause-same_value", f"rw ({is_}, {case.n}_opens{values}) c.{ok}.ensures.same_values")
+        answers.answer(function, f"returns-{err}-clause-refused", f"rw {is_} (refused_as ({case.n}_has_keys{values}) ({case.n}_means{values}) c.{err}.ensures.refused)")
+
+
+# ---- reading back ----
+
+
+def reading(it):
+    out = {}
+    answers = Answers(it, f"+read_{it.n}")
+    measures(it, answers)
+    for type in it.owners:
+        (box_read if type.name == "Box" else vec_read)(it, type, answers)
+    for case in it.cases:
+        alone = not it.is_record and not any(case.leads_back)
+        here = Answers(it, f"read_{case.n}") if alone else answers
+        parts_read(it, case, here, "" if alone else f"read_{case.n}")
+        if alone:
+            out.update(here.files())
+    out.update(answers.files())
+    return out
+
+
+def measures(it, answers):
+    """Each function ends before its caller does: by the end of what it reads, and by which of them it is."""
+    for type in it.owners:
+        size = 4 if type.name == "Box" else 8
+        answers.invariant("", f"decreases-read_{it.word(type)}", f"(l.part.pos + {size}) * 4 + 1")
+    if not it.is_record:
+        for case in it.cases:
+            if any(case.leads_back):
+                answers.invariant("", f"decreases-read_{case.n}", f"(l.part.pos + {it.size}) * 4 + 2")
+    answers.invariant("", f"decreases-read_{it.n}", f"(l.part.pos + {it.size}) * 4 + 3")
+
+
+ARGS = "c.args.part.bytes.now c.args.part.pos c.args.part.len"
+TOLD = "(g.D.Entries.entry_of c.args.deserializer.now)"
+
+
+def box_read(it, type, answers):
+    item = type.args[0]
+    function = f"read_{it.word(type)}"
+    D, X = it.terms.definitions(item), it.terms.shape(item)
+    steps = [f"c.{call}.ensures.{clause}" for call in ("part", "before_box") for clause in ("buffer", "position", "length")]
+    steps = ", ".join(steps + ["c.at-view.ensures.buffer", "c.at-view.ensures.position"])
+    answers.answer(
+        function, "returns-in_err-value-clause-refused",
+        error_by(["value"], 0, f"(box_unread {D} {ARGS} (one {X}) {TOLD} c.in_err-value.field-0.0 c.requires (rw ({steps}) at c.in_err-value.ensures.refused))"),
+    )
+    answers.answer(
+        function, "returns-clause-read",
+        "(let same : c.in_ok-whole.whole.value ≡ c.in_ok-value.value = grind (arith, common_steps) in"
+        f" rw same (box_read {D} {ARGS} (one {X}) _ _ _ _ c.requires (rw ({steps}) at c.in_ok-value.ensures.read)))",
+    )
+
+
+def vec_read(it, type, answers):
+    item = type.args[0]
+    w, n = it.word(item), it.n
+    function = f"read_{it.word(type)}"
+    D, X, L, laid = it.terms.definitions(item), it.terms.shape(item), f"{n}_layout", f"{n}_has_layout"
+    its = f"{n}_meaning {n}_keys"
+    answers.invariant(
+        "", f"invariant-{function}-loop-index",
+        "(length l.items.items ≡ l.index) × (vec_len l.items ≡ l.index) × (l.list.len ≤ vec_capacity l.items)"
+        f" × FirstElements g.D.Entries.keeps {D} {X} {L} l.list.bytes.now l.list.pos (run {X}) l.list.len {its} (g.D.Entries.entry_of l.initial.deserializer) (g.D.Entries.entry_of l.deserializer) l.items.items",
+    )
+    lets = "let kept = c.loop-index.invariant in let b = c.before_vec-list.result.bytes.now in let q = c.before_vec-list.result.pos in let n = c.before_vec-list.result.len in"
+    below = "let below : c.loop-index.index < n = omega (arith, c.loop-index-test.true, c.loop-index.auto.index-end, c.len-index-end.ensures) in"
+    steps = ", ".join(f"c.{call}.ensures.{clause}" for call in ("part", "index") for clause in ("buffer", "position", "length"))
+    here = f"{D} {X} {L} {laid} b q (run {X}) n n (all_have {D} {X} {L} {laid} b q n (run {X}) n (inl (refl, refl))) {its} {TOLD}"
+    now = "(g.D.Entries.entry_of c.loop-index.deserializer)"
+    listed = ", ".join([f"c.before_vec-list.ensures.{clause}" for clause in ("buffer", "position", "length")] + ["c.at-view.ensures.buffer", "c.at-view.ensures.position"])
+    refused = f"element_refused {here} {now} c.loop-index.items.items c.loop-index.index (one {X}) c.in_err-item.field-0.0 refl below (kept.3) h"
+    answers.answer(
+        function, "returns-in_err-item-clause-refused",
+        f"({lets} {below} let h = rw ({steps}) at c.in_err-item.ensures.refused in let r = {refused} in "
+        + error_by(["items", "item"], 1, f"(vec_unread {D} {ARGS} {X} {TOLD} c.in_err-item.field-0.0 c.requires (rw ({listed}) at r))") + ")",
+    )
+    pushed = "let pushed : c.push_reserved.new.self.items ≡ c.loop-index.items.items ++ c.in_ok-item.item ∷ [] = grind (arith, common_steps) in"
+    more = "let more : length (c.loop-index.items.items ++ c.in_ok-item.item ∷ []) ≡ c.loop-index.index + 1 = grind (arith, common_steps, kept.0) in"
+    step = f"elements_more {here} {now} (g.D.Entries.entry_of c.read_{w}.new.deserializer) c.loop-index.items.items c.in_ok-item.item c.loop-index.index (one {X}) refl kept.0 below (kept.3) h"
+    answers.answer(
+        function, "loop-index-preserved",
+        f"({lets} {below} {pushed} {more} let h = rw ({steps}) at c.in_ok-item.ensures.read in"
+        f" rw pushed (more, grind (arith, common_steps, kept.1), grind (arith, common_steps, kept.2), {step}))",
+    )
+    whole = "let whole : length c.loop-index.items.items ≡ n = omega (arith, kept.0, c.loop-index-test.false, c.loop-index.auto.index-end, c.len-index-end.ensures) in"
+    answers.answer(
+        function, "returns-clause-read",
+        f"({lets} {whole} let r = elements_all {here} {now} c.loop-index.items.items whole (kept.3) in vec_read {D} {ARGS} {X} _ _ _ _ c.requires (rw ({listed}) at r))",
+    )
+
+
+def signed(case):
+    """What makes of a number with a sign, as a body has it, the number that was read."""
+    out, steps = "", []
+    for name, type in zip(case.names, case.types):
+        if type.name in ("i8", "i16", "i32", "i64", "i128") and type.own is None:
+            width, value = f"w{type.name[1:]}", f"c.in_ok-{name}.{name}"
+            out += f"let fits_{name} : SFits {width} {value} = search rules in "
+            steps.append(f"to_z-of_z {width} {value} fits_{name}")
+    return f"{out}rw ({', '.join(steps)}) " if steps else ""
+
+
+def parts_read(it, case, answers, function):
+    """The answers on parts that are read one after another."""
+    where = "part_of_record" if it.is_record else "part_of_variant"
+    told = ["rw (" + ", ".join(f"c.{where}-p{i}.ensures.{clause}" for clause in ("buffer", "position", "length")) + ") at " for i in range(case.count)]
+    values = [f"c.in_ok-{name}.{name}" for name in case.names]
+    parts = Parts(it, case, values)
+    laid = "(record { solved = λ s k. refl })"
+    sizes = [it.formats.layout(type) for type in case.types]
+    layouts = [f"(record {{ size = {size}; align = {align} }})" for size, align in sizes]
+    first = "" if it.is_record else "c.requires.tag "
+    starts = [0 if it.is_record else 1] + [offset + size for offset, (size, _) in zip(case.offsets, sizes)]
+
+    def refused(i, at=0):
+        D, X, _, _ = parts.first(at)
+        E, P, _, _ = parts.rest(at + 1)
+        head = f"{D} {E} {X} {layouts[at]} {laid} {P} _ _ {starts[at]} _ _"
+        if at == i:
+            return f"(first_refuses {head} ({told[i]}c.in_err-{case.names[i]}.ensures.refused))"
+        return f"(later_refuses {head} _ c.in_ok-{case.names[at]}.ensures.read.kept {refused(i, at + 1)})"
+
+    def read(at=0):
+        if at == case.count:
+            return "no_part_read_back"
+        _, _, K, _ = parts.first(at)
+        _, _, L, _ = parts.rest(at + 1)
+        return f"(part_read_back {{L = {layouts[at]}}} {{ks = {K}}} {{ls = {L}}} {laid} ({told[at]}c.in_ok-{case.names[at]}.ensures.read) {read(at + 1)})"
+
+    lemma = "record_refuses" if it.is_record else "variant_refuses"
+    for i, name in enumerate(case.names):
+        answers.answer(function, f"returns-in_err-{name}-clause-refused", error_by(case.names, i, f"({lemma} {whole_of(it, case)} _ _ _ {first}_ _ {refused(i)})"))
+    if it.is_record:
+        made = "(record { " + "; ".join(f"{field.name} = {value}" for field, value in zip(case.fields, values)) + " })"
+        body = f"read_as ({it.n}_has_keys_roll {made}) ({it.n}_means_roll {made}) (record_read_back {whole_of(it, case)} _ _ _ _ _ _ _ {read()})"
+    else:
+        its = "".join(f" {value}" for value in values)
+        body = f"read_as ({case.n}_has_keys{its}) ({case.n}_means{its}) (variant_read_back {whole_of(it, case)} _ _ _ {first}_ _ _ _ {read()})"
+    lets = signed(case)
+    answers.answer(function, "returns-clause-read", f"({lets}({body}))" if lets else body)
+
+
+def defining(it):
+    """The answers on the definition of the name."""
+    answers = Answers(it, f"{it.archived}Portable/define")
+    answers.answer("", "returns-clause-added", "rw c.in-Ok.ensures.shape at c.define_name.ensures.added", "c")
+    answers.answer("", "returns-clause-refused", "rw c.in-Ok.ensures.shape at c.define_name.ensures.refused", "c")
+    return answers.files()
+
+
+def files(it):
+    out = defining(it)
+    out.update(writing(it))
+    out.update(reading(it))
+    return out

@@ -1,0 +1,272 @@
+"""Terms of antt on the parts of recursive types: what a part looks like, what it means, and the laws of it.
+
+A part is plain (a number, a text, another type that `tools/derive` wrote), the type itself, or an owner of it: a box or a vector. A term is one at a value,
+which is a term itself: `meaning(type, "a0", m)`, where `m` is the meaning of the type itself.
+"""
+
+from .formats import INTEGERS, snake
+
+# Plain parts: shape, what a value means, what is read in its place, and which resolvers are its own.
+LEAVES = {
+    **{f"u{n}": (f"leaf (number_kind unsigned w{n})", "number (pos {x})") for n in (8, 16, 32, 64, 128)},
+    **{f"i{n}": (f"leaf (number_kind signed w{n})", "number {x}") for n in (8, 16, 32, 64, 128)},
+    "char": ("leaf char", "number (pos {x})"),
+}
+OWNERS = ("Box", "Vec")
+
+
+def is_taken(type):
+    """Whether a part that doesn't lead back may be of this type."""
+    return type.own is not None and not type.args and not type.own.recursive or type.name in LEAVES or type.name == "String"
+
+
+class Terms:
+    """The terms of a recursive type. It gathers what a file has to bring in."""
+
+    def __init__(self, declaration):
+        self.declaration = declaration
+        self.n = snake(declaration.name)
+        self.owns = {}  # a plain part's declaration, by its name
+
+    def is_self(self, type):
+        return type.own is self.declaration
+
+    def leads_back(self, type):
+        return self.is_self(type) or any(self.leads_back(arg) for arg in type.args)
+
+    def format_of(self, type):
+        self.owns[type.name] = type.own
+        return f"(format_of_{snake(type.name)}.ghosts)"
+
+    def source_of(self, type):
+        self.owns[type.name] = type.own
+        return f"(source_of_{snake(type.name)}.ghosts)"
+
+    # ---- formats ----
+
+    def shape(self, type):
+        if self.is_self(type):
+            return f"{self.n}_shape"
+        if type.own is not None:
+            return f"{self.format_of(type)}.shape"
+        if type.name in LEAVES:
+            return f"({LEAVES[type.name][0]})"
+        if type.name == "String":
+            return "str"
+        item = self.shape(type.args[0])
+        return f"(boxed (one {item}))" if type.name == "Box" else f"(vec {item})"
+
+    def definitions(self, type):
+        return f"{self.n}_definitions" if self.leads_back(type) else "no_definition"
+
+    # ---- values ----
+
+    def function(self, which, type, m):
+        """What a value means, or its keys, as a function."""
+        return m if self.is_self(type) else f"(λ y. {getattr(self, which)(type, 'y', m)})"
+
+    def meaning(self, type, x, m):
+        if self.is_self(type):
+            return f"({m} {x})"
+        if type.own is not None:
+            return f"({self.source_of(type)}.meaning {x})"
+        if type.name in LEAVES:
+            return f"({LEAVES[type.name][1].format(x=x)})"
+        if type.name == "String":
+            return f"(text_value (string_bytes {x}))"
+        item = type.args[0]
+        if type.name == "Box":
+            return f"(box {self.meaning(item, f'{x}.value', m)})"
+        return f"(list (each_meaning {self.function('meaning', item, m)} {x}.items))"
+
+    def keys(self, type, x, k):
+        if self.is_self(type):
+            return f"({k} {x})"
+        if type.own is not None:
+            return f"({self.source_of(type)}.keys {x})"
+        if type.name in LEAVES or type.name == "String":
+            return "[]"
+        item = type.args[0]
+        if type.name == "Box":
+            return self.keys(item, f"{x}.value", k)
+        return f"(each_keys {self.function('keys', item, k)} {x}.items)"
+
+    def flat(self, type, x, r):
+        if type.own is not None:
+            return f"({self.source_of(type)}.flat {x} {r})"
+        if type.name in LEAVES:
+            return self.meaning(type, x, "")
+        if type.name == "String":
+            return f"(string_flat (string_bytes {x}) {r})"
+        item = self.shape(type.args[0])
+        if type.name == "Box":
+            return f"(box (hole (to_pointee {r} (one {item}) 0)))"
+        return f"(hole (to_pointee {r} (run {item}) (length {x}.items)))"
+
+    def belongs(self, type, x, r):
+        if type.own is not None:
+            return f"({self.source_of(type)}.belongs {x} {r})"
+        if type.name in LEAVES or type.name == "Box":
+            return "⊤"
+        if type.name == "String":
+            return f"(length (string_bytes {x}) ≤ 1073741823)"
+        return f"(length {x}.items ≤ 4294967295)"
+
+    # ---- laws ----
+
+    def keyed(self, type, x):
+        """A proof that the keys of a part are those that its meaning leads to, where each value of the type itself has the law beside it."""
+        n = self.n
+        if self.is_self(type):
+            return f"{x}.1"
+        if type.own is not None:
+            return f"(keyed_of_{snake(type.name)} {x})" if self.source_of(type) else ""
+        if type.name in LEAVES:
+            return "(number_keyed _)"
+        if type.name == "String":
+            return f"(text_keyed (string_bytes {x}))"
+        item = type.args[0]
+        if type.name == "Box":
+            return f"(box_keyed _ _ {self.keyed(item, f'{x}.value')})"
+        return f"(held_keyed {n}_keys {n}_meaning {x}.items)"
+
+    def planned(self, type, x, held):
+        """A proof that there is a plan of a part; `held` where each value of the type itself has the law beside it."""
+        n = self.n
+        if self.is_self(type):
+            return f"{x}.1" if held else f"({n}_planned {x})"
+        if type.own is not None:
+            return f"(planned_of_{snake(type.name)} {x})" if self.source_of(type) else ""
+        if type.name in LEAVES:
+            return "(leaf_planned no_definition _ _ [] _ refl)"
+        if type.name == "String":
+            return f"(string_planned no_definition [] (string_bytes {x}))"
+        item = type.args[0]
+        D, X = f"{n}_definitions", self.shape(item)
+        if type.name == "Box":
+            return f"(boxed_one_planned {D} (one {X}) {X} refl _ _ {self.planned(item, f'{x}.value', held)})"
+        if held:
+            return f"(vec_planned {D} {X} _ _ _ (run_region_planned {D} {X} _ _ _ (held_planned {n}_keys {n}_meaning {D} {X} {x}.items)))"
+        return f"(vec_planned {D} {X} _ _ _ (slice_planned {D} {X} {n}_keys {n}_meaning {n}_planned {x}.items))"
+
+    # ---- parts one after another ----
+
+    def parts(self, types):
+        out = "no_part"
+        for type in reversed(types):
+            out = f"(part {self.shape(type)} {out})"
+        return out
+
+    def parts_definitions(self, types):
+        out = "no_definition"
+        for type in reversed(types):
+            out = f"(both {self.definitions(type)} {out})"
+        return out
+
+    def parts_meaning(self, types, values, m):
+        out = "no_value"
+        for type, x in reversed(list(zip(types, values))):
+            out = f"(value {self.meaning(type, x, m)} {out})"
+        return out
+
+    def parts_keys(self, types, values, k):
+        out = "[]"
+        for type, x in reversed(list(zip(types, values))):
+            out = f"({self.keys(type, x, k)} ++ {out})"
+        return out
+
+    def parts_flat(self, types, values, r):
+        out = "no_value"
+        for i, (type, x) in reversed(list(enumerate(zip(types, values)))):
+            out = f"(value {self.flat(type, x, r + '.1' * i + '.0')} {out})"
+        return out
+
+    def parts_belong(self, types, values, r):
+        out = "Unit {0}"
+        for i, (type, x) in reversed(list(enumerate(zip(types, values)))):
+            out = f"({self.belongs(type, x, r + '.1' * i + '.0')} × {out})"
+        return out
+
+    def parts_keyed(self, types, values):
+        out = "nothing_keyed"
+        for type, x in reversed(list(zip(types, values))):
+            out = f"(part_keyed {self.keyed(type, x)} {out})"
+        return out
+
+    def parts_planned(self, types, values, shown, held):
+        """`values` are those that have the law beside them where `held`, `shown` the values themselves."""
+        k, m = f"{self.n}_keys", f"{self.n}_meaning"
+        out = "no_part_planned"
+        for type, x, y in reversed(list(zip(types, values, shown))):
+            out = (
+                f"(part_planned {self.definitions(type)} {self.shape(type)} {self.keys(type, y, k)} {self.meaning(type, y, m)}"
+                f" {self.planned(type, x, held)} {out})"
+            )
+        return out
+
+
+PRELUDE = {
+    "std.specs.Prelude": "ℕ List [] ◌++◌ ◌≡◌ ◌≤◌ refl pos length map string_bytes codes ⊤ Some",
+    "std.specs.Int": "w8 w16 w32 w64 w128",
+    "std.proofs.Common": "ap subst sym ◌∙◌ inl inr",
+    "archive_core.specs.Definitions": "Definitions defines both no_definition HasLayout IsAlign NoOthers",
+    "archive_core.specs.Layout": "Layout",
+    "archive_core.specs.NamedLayout": "name_has_layout name_reached",
+    "archive_core.specs.PartsLayout": "IsRecord by_name knows_none",
+    "archive_core.specs.VariantsLayout": "IsChoice is_recursive_choice",
+    "archive_core.specs.Shape": "Name Shape Parts Variants named choice parts boxed vec str one run leaf char unsigned signed part no_part variant no_variant",
+    "archive_core.specs.Value": "Value Values case product list box hole number value no_value text_value",
+    "archive_core.specs.Keyed": "case_keyed record_keyed nothing_keyed part_keyed number_keyed text_keyed box_keyed",
+    "archive_core.specs.Planned": "leaf_planned string_planned",
+    "archive_core.specs.PlannedOwners": "boxed_one_planned vec_planned run_region_planned slice_planned",
+    "archive_core.specs.PartsPlanned": "part_planned no_part_planned record_planned",
+    "archive_core.specs.Plans": "HasPlan",
+    "archive_core.specs.Runs": "each_keys each_meaning HasRunPlan",
+    "archive_core.specs.Strings": "string_flat",
+    "archive_core.specs.Writing": "Naming IsKeyed to_pointee",
+    "archive_recursive.specs.Held": "knows_both each_mapped each_mapped_keys held_keyed held_planned variant_planned keyed_as planned_as",
+}
+RENAMED = {"number_kind": ("archive_core.specs.Shape", "number")}
+
+
+def words(text):
+    """The words of a text of antt."""
+    out, word = set(), ""
+    for letter in text + " ":
+        if letter.isspace() or letter in "(){}.;,λ":
+            out.add(word)
+            word = ""
+        else:
+            word += letter
+    return out
+
+
+def brought(body, more=()):
+    """The lines that bring in what a text names; `more` are names with their modules."""
+    used = words(body)
+    lines = []
+    known = dict(PRELUDE)
+    for path, names in more:
+        known[path] = " ".join(dict.fromkeys(f"{known.get(path, '')} {names}".split()))
+    for path, names in sorted(known.items()):
+        here = [n for n in names.split() if (n.replace("◌", "") if "◌" in n else n) in used or n == "[]" and "[]" in body]
+        here += [f"{name} as {alias}" for alias, (where, name) in RENAMED.items() if where == path and alias in used]
+        if here:
+            lines.append(f"use Rattle.{path}.{{{', '.join(here)}}}\n")
+    return "".join(lines)
+
+
+def brought_owns(terms, body):
+    """The lines that bring in what is said of plain parts that `tools/derive` wrote."""
+    lines = []
+    for name, own in sorted(terms.owns.items()):
+        path = ".".join(("Rattle", own.crate, "specs", "contracts") + tuple(own.module))
+        n = snake(name)
+        if f"format_of_{n}" in body:
+            lines.append(f"use {path}.{own.archived}Portable.TheImpl as format_of_{n}\n")
+        if f"source_of_{n}" in body:
+            lines.append(f"use {path}.{name}Archive.TheImpl as source_of_{n}\n")
+        laws = [f"{law}-law as {law}_of_{n}" for law in ("keyed", "planned") if f"{law}_of_{n}" in body]
+        if laws:
+            lines.append(f"use {path}.{name}Archive.TheImpl.Laws.{{{', '.join(laws)}}}\n")
+    return "".join(lines)
