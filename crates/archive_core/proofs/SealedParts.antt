@@ -13,7 +13,7 @@ use Rattle.archive_check.specs.Within.{IsPart, first_part, Within, whole, in_cho
 use Rattle.archive_check.specs.ComesTo.{to_root, to_part, to_element, to_text, to_target, IsComeTo}
 use Rattle.archive_check.specs.Definitions.{Definitions, Knows, HasLayout}
 use Rattle.archive_check.specs.Archives.{IsArchive}
-use Rattle.archive_check.specs.Members.PartsLayout.{part_at, PartsLaidOut, IsRecord}
+use Rattle.archive_check.specs.Members.PartsLayout.{part_at, offset_at, PartsLaidOut, IsRecord}
 use Rattle.archive_check.specs.Members.VariantsLayout.{payload_at, payload_offset, VariantsLaidOut, IsChoice}
 use Rattle.archive_check.proofs.Meanings.ReachedParts.{part_reached, pointer_reached}
 use Rattle.archive_check.proofs.Viewing.ViewedPayloads.{is_payload, offset_is, part_stands, choice_within}
@@ -25,6 +25,8 @@ use Rattle.archive_types.proofs.Viewing.StandingLeaves.{out_is}
 use Rattle.archive_types.specs.Members.KnownParts.{KnowsAlso}
 use Rattle.archive_types.specs.Standing.{View, view}
 use Rattle.archive_core.specs.SealsKept.{ComesWith}
+use Rattle.archive_core.specs.SealsWritten.{IsSealOf, SealsPart}
+use Rattle.archive_core.specs.declared.seal.Seal.{Seal}
 use Rattle.archive_core.proofs.ComePart.{come_part}
 
 -- the root of an archive is come to
@@ -113,6 +115,10 @@ module _ (D : Definitions) (X : Shape) (E : Definitions) (ps : Parts) (is : IsRe
   pub part_comes : (Q : Pointee) → Q ≡ one Y → ComesWith D bytes (view q P n) (view (q + off) Q 0)
   part_comes Q there = rw (there, one_is) (within_comes D bytes q n (q + off) X Y (λ s k. record_within (is.stands s k) (begins s k)))
 
+pub offset_comes : (D : Definitions) (X : Shape) (E : Definitions) (ps : Parts) → IsRecord D X E ps → (bytes : List ℕ) (q n : ℕ) (P : Pointee) → P ≡ one X
+    → (i off : ℕ) → ((s : Schema) → Knows s D → offset_at s.layouts 0 ps i ≡ off) → (Y : Shape) → part_at ps i ≡ Some Y → (Q : Pointee) → Q ≡ one Y → ComesWith D bytes (view q P n) (view (q + off) Q 0)
+offset_comes D X E ps is bytes q n P one_is i off starts Y at Q there = part_comes D X E ps is bytes q n P one_is i off Y (λ s k. rw (starts s k) at (part_stands s q 0 ps i Y at)) Q there
+
 pub field_comes : (D : Definitions) (X : Shape) (E : Definitions) (ps : Parts) → IsRecord D X E ps → (bytes : List ℕ) (q n : ℕ) (P : Pointee) → P ≡ one X → (a : ℕ) (end : ℕ → ℕ) (begin : ℕ → ℕ → ℕ)
     → PartsLaidOut E ps a end begin → (i : ℕ) (Y : Shape) → part_at ps i ≡ Some Y → (Q : Pointee) → Q ≡ one Y → ComesWith D bytes (view q P n) (view (q + begin 0 i) Q 0)
 field_comes D X E ps is bytes q n P one_is a end begin laid i Y at Q there = part_comes D X E ps is bytes q n P one_is i (begin 0 i) Y (λ s k. laid.begins s (is.known s k) q 0 i Y at) Q there
@@ -131,3 +137,15 @@ pub payload_comes : (D : Definitions) (X : Shape) (name : Name) (E : Definitions
     → ComesWith D bytes (view q P n) (view (q + begin (slice_index bytes q) i) Q 0)
 payload_comes D X name E vs is bytes q n P one_is a end begin laid i Y at Q there =
     behind_comes D X name E vs is bytes q n P one_is i (begin (slice_index bytes q) i) (λ s k. laid.offsets s (is.known s k) (slice_index bytes q) i) Y at Q there
+
+-- a seal of it
+pub sealed_part : {T U : Type 0} {D : Definitions} {P : Pointee} {E : Definitions} {Q : Pointee} {p n : ℕ} {v : Seal T} {u : Seal U} → u.bytes.ghost_name ≡ v.bytes.ghost_name → u.bytes.now ≡ v.bytes.now → u.pos ≡ p → u.len ≡ n → IsSealOf E Q u
+    → ComesWith D v.bytes.now (view v.pos P v.len) (view p Q n) → SealsPart D P E Q p n v u
+sealed_part same_reference buffer position length come_to beside = record {
+  same_reference = same_reference;
+  buffer = buffer;
+  position = position;
+  length = length;
+  come_to = come_to;
+  beside = rw (position, length) beside;
+}
