@@ -4,7 +4,6 @@ use Rattle.std.specs.FinMap.{get, insert}
 use Rattle.std.proofs.lemmas.Str.{IsUtf8-nil}
 use Rattle.archive_check.specs.declared.format.expr.Kind.{Kind as KindExpr}
 use Rattle.archive_check.specs.declared.format.expr.Key.{Key as KeyExpr}
-use Rattle.archive_check.specs.declared.format.expr.Key.TheVariants.{Leaf as LeafKey, Str as StrKey}
 use Rattle.archive_schema.specs.declared.plan.Node.{Node}
 use Rattle.archive_schema.specs.declared.plan.PointeeKind.{PointeeKind}
 use Rattle.archive_schema.specs.declared.plan.PointeeKind.TheVariants.{One, Run, Text, Entries as EntriesOf}
@@ -13,24 +12,25 @@ use Rattle.archive_schema.specs.declared.plan.NodeKind.TheVariants.{Free, Leaf, 
 use Rattle.archive_schema.specs.declared.plan.Span.{Span}
 use Rattle.archive_check.specs.declared.context.positions.SharedType.{SharedType}
 use Rattle.archive_schema.specs.declared.check.Checker.{Checker}
-use Rattle.archive_check.specs.Shape.{Kind, unit, bool, char, number, non_zero, raw_rel, Key, key_shape, entry_of, str, Flavor, Shape, Pointee, one, run, text, Parts, part, variant_at}
+use Rattle.archive_check.specs.Shape.{Kind, unit, bool, char, number, non_zero, raw_rel, Key, leaf_key, str_key, key_shape, entry_of, str, Flavor, Shape, Pointee, one, run, text, Parts, part, variant_at}
 use Rattle.archive_check.specs.Layout.{kind_size, key_size, key_align, Layouts, up, size_of, align_of}
-use Rattle.archive_check.specs.Keys.{ComesBehind, Ascend, order_of}
+use Rattle.archive_check.specs.Keys.{ComesBehind, Ascend}
 use Rattle.archive_check.specs.Value.{Pointer}
-use Rattle.archive_check.specs.Reads.{Schema, bytes_at, u32_at, i32_at, IsLegal, IsLegalNumber, kind_number, IsOutOfLine, before_end, decoded_length, length_at, pointer_at, map_at, string_at}
+use Rattle.archive_check.specs.Reads.{Schema, bytes_at, u32_at, i32_at, IsLegal, IsLegalNumber, kind_number, kind_value, IsOutOfLine, decoded_length, length_at, string_at}
 use Rattle.archive_check.specs.Depth.{Allows, inside}
 use Rattle.archive_check.specs.Tour.{Seen, Entry, pointee_size, pointee_align}
-use Rattle.archive_check.specs.Trail.{Fault, too_large, outside, unaligned, too_deep, cyclic, other_type, other_length, illegal, no_such_variant, no_text, no_string, unsorted, Trips, trips_leaf, trips_parts, trips_tag, trips_choice, trips_array, trips_boxed, trips_vec, trips_map, trips_inline, trips_short, trips_out_of_line, trips_shared, trips_weak, trips_named, TripsParts, trips_first, trips_later, TripsRun, trips_element, trips_later_element, TripsEntries, trips_key, trips_order, trips_value, trips_later_entry, TripsFollow, trips_unique, trips_before, trips_new, trips_type, trips_length, trips_cycle, TripsEnter, trips_size, trips_range, trips_align, trips_depth, trips_within, TripsContents, trips_one, trips_run, trips_entries, trips_text}
+use Rattle.archive_check.specs.Trail.{Fault, too_large, outside, unaligned, too_deep, cyclic, other_type, other_length, illegal, no_such_variant, unsorted, Trips, trips_leaf, trips_parts, trips_tag, trips_choice, trips_array, trips_boxed, trips_vec, trips_map, trips_inline, trips_short, trips_out_of_line, trips_shared, trips_weak, trips_named, TripsParts, trips_first, trips_later, TripsRun, trips_element, trips_later_element, TripsEntries, trips_key, trips_order, trips_value, trips_later_entry, TripsFollow, trips_unique, trips_before, trips_new, trips_type, trips_length, trips_cycle, TripsEnter, trips_size, trips_range, trips_align, trips_depth, trips_within, TripsContents, trips_one, trips_run, trips_entries, trips_text}
 use Rattle.archive_check.specs.Walk.{Walk, walk_leaf, walk_parts, walk_choice, walk_array, walk_boxed, walk_vec, walk_map, walk_inline, walk_out_of_line, walk_shared, walk_null, walk_weak, walk_named, WalkParts, walk_no_part, walk_part, WalkRun, walk_none, walk_element, Follow, follow_unique, follow_new, follow_again, Enter, enter, WalkContents, walk_one, walk_run, walk_entries, walk_text}
 use Rattle.archive_check.specs.Expressions.{kind_of, key_of, flavor_of, pointee_of}
 use Rattle.archive_check.specs.context.PositionStates.{SameType}
-use Rattle.archive_schema.specs.check.Runs.{pointer_bytes, pointee_count, pointee_length, entry_for, IsNode, Takes, EntryTakes, unit_size, unit_align, RegionIs, NodeRuns, run_free, run_leaf, run_illegal, run_record, run_choice, run_tag, run_array, run_pointer, run_str, run_shared, run_null, run_weak, FollowRuns, follow_before, follow_new as runs_new, follow_again as runs_again, follow_type, follow_length, follow_cycle, PartsRun, parts_end, parts_next, parts_stop, ElementsRun, elements_end, elements_next, elements_free, elements_stop, StringRuns, string_inline, string_no_text, string_short, string_out_of_line, KeyRuns, key_leaf, key_illegal, key_string, OrderRuns, order_key, order_wrong, order_kept, EntriesRun, entries_end, entries_key, entries_value, entries_next, EnterRuns, enter_too_large, enter_outside, enter_unaligned, enter_too_deep, enter_within, enter_stop, ContentsRun, contents_empty, contents_one, contents_run, contents_entries, contents_text, contents_no_text}
+use Rattle.archive_schema.specs.check.Runs.{pointer_bytes, pointee_count, pointee_length, entry_for, IsNode, Takes, EntryTakes, unit_size, unit_align, RegionIs, NodeRuns, run_free, run_leaf, run_illegal, run_record, run_choice, run_tag, run_array, run_pointer, run_str, run_shared, run_null, run_weak, FollowRuns, follow_before, follow_new as runs_new, follow_again as runs_again, follow_type, follow_length, follow_cycle, PartsRun, parts_end, parts_next, parts_stop, ElementsRun, elements_end, elements_next, elements_free, elements_stop, StringRuns, string_inline, string_no_text, string_short, string_out_of_line, KeyRuns, key_leaf, key_illegal, key_string, OrderRuns, order_key, order_wrong, order_kept, EntriesRun, entries_end, entries_key, entries_value, entries_next, EnterRuns, enter_too_large, enter_outside, enter_unaligned, enter_too_deep, enter_within, enter_stop, ContentsRun, contents_empty, contents_one, contents_run, contents_entries, contents_lone, contents_equal, contents_text, contents_no_text}
 use Rattle.archive_check.specs.Words.Elements.{IsAt}
 use Rattle.archive_check.specs.Outcomes.{Outcome, done, refused}
 use Rattle.archive_schema.specs.plan.SoundPlans.{NodeKindFits, IsSound}
 use Rattle.archive_schema.specs.plan.Represents.{StandsFor, stands, stands_named, PartsStand, parts_over, parts_more, Sized, Points, points_one, points_run, points_entries, points_text, Made, made_free, made_leaf, made_record, made_choice, made_array, made_boxed, made_vec, made_map, made_str, made_shared, made_weak, Represents, OutcomeSays}
 use Rattle.archive_check.proofs.Tours.ReadingUnique.{pos_one}
-use Rattle.archive_schema.proofs.plan.EntryLayouts.{key_takes, entry_layout, value_sized, walk_entry}
+use Rattle.archive_schema.proofs.plan.EmptyNodes.{Nothing, empty_number, empty_length, empty_kind, empty_text, empty_key, empty_order}
+use Rattle.archive_schema.proofs.plan.EntryLayouts.{key_takes, entry_layout, value_sized, walk_entry, entry_fits, empty_parts}
 use Rattle.archive_check.specs.Words.BoundedSizes.{fits, rounded}
 use Rattle.archive_schema.specs.plan.BoundedSizes.{sum_of}
 use Rattle.archive_check.proofs.BoundedSizes.{some_is, rounded_fits}
@@ -38,48 +38,12 @@ use Rattle.archive_schema.proofs.plan.BoundedSizes.{sum_fits}
 use Rattle.archive_schema.proofs.plan.PlanSizes.{take_same, times_some, times_many, sized_takes, element_few}
 use Rattle.archive_check.proofs.Elements.{same_at}
 use Rattle.archive_check.proofs.LittleEndian.{some_byte}
+use Rattle.archive_check.proofs.Tours.PartsInside.{up_le}
 use Rattle.std.proofs.Math.Nat.{eq_of_mul-eq-mul_left, mul-zero}
 
 pub says_map : {W V : ℕ → Seen → Type 0} {T F : Fault → Type 0} (o : Outcome) → ((a : ℕ) (k : Seen) → W a k → V a k) → ((e : Fault) → T e → F e) → OutcomeSays W T o → OutcomeSays V F o
 says_map (done a k) f g h = f a k h
 says_map (refused e) f g h = g e h
-
-empty_number : (kind : Kind) (n : ℕ) → kind_size kind ≡ 0 → IsLegalNumber kind n
-empty_number unit n e = tt
-empty_number bool n e = absurd (omega arith)
-empty_number char n e = absurd (omega arith)
-empty_number (number sign width) n e = tt
-empty_number (non_zero sign width) n e = absurd (omega (arith, e, some_byte width))
-empty_number (raw_rel sign width) n e = tt
-
-empty_length : (bytes : List ℕ) (p n : ℕ) → n ≡ 0 → length (bytes_at bytes p n) ≡ n
-unfolding bytes_at
-empty_length bytes p n e = length-take-le n (drop p bytes) (omega (arith, e))
-
--- what takes nothing and isn't free is such a leaf
-abbrev pub Nothing : NodeKind → Type 0
-Nothing kind = (kind ≡ Free) ⊎ ((leaf_kind : KindExpr) × (kind ≡ Leaf leaf_kind) × (kind_size (kind_of leaf_kind) ≡ 0))
-
-empty_target : (target : PointeeKind) → pointer_bytes target ≤ 0 → ⊥
-empty_target One h = omega arith
-empty_target Run h = omega arith
-empty_target Text h = omega arith
-empty_target (EntriesOf key) h = omega arith
-
-empty_kind : (m : Checker) (i : ℕ) (kind : NodeKind) → NodeKindFits m i 0 kind → Nothing kind
-empty_kind m i Free h = inl refl
-empty_kind m i (Leaf kind) h = inr (kind, refl, omega (arith, h))
-empty_kind m i (Record a b) h = absurd (omega (arith, h.0))
-empty_kind m i (Choice name a b) h = absurd (omega (arith, h.tag))
-empty_kind m i (Array n j) h = absurd (omega (arith, h.0))
-empty_kind m i (PointerNode target j) h = absurd (empty_target target h.0)
-empty_kind m i (Str j) h = absurd (omega (arith, h.0))
-empty_kind m i (Shared k target j) h = absurd (empty_target target h.0)
-empty_kind m i (Weak k target j) h = absurd (empty_target target h.0)
-
-empty_text : (bytes : List ℕ) (t n : ℕ) → n ≡ 0 → IsUtf8 (bytes_at bytes t n)
-unfolding bytes_at
-empty_text bytes t n e = rw e IsUtf8-nil
 
 -- a pointer to one value leads to one, and says no length
 abbrev pub Counts : PointeeKind → ℕ → ℕ → Type 0
@@ -100,21 +64,6 @@ leading sharing order where_to P l = record { target = where_to; sharing = shari
 -- a shared pointer, as its shared_type says
 abbrev pub sorted : SharedType → ℤ → ℕ → Pointer
 sorted shared_type where_to l = leading (Some (flavor_of shared_type.flavor)) None where_to (pointee_of shared_type.pointee) l
-
--- what an entry takes, by what its value's node does
-entry_fits : (names : Layouts) (key : KeyExpr) (V : Shape) (node : Node) → node.size ≡ fits (size_of names V) → node.align ≡ align_of names V
-    → (unit_size (EntriesOf key) node ≡ fits (size_of names (entry_of (key_of key) V))) × (unit_align (EntriesOf key) node ≡ align_of names (entry_of (key_of key) V))
-entry_fits names key V node size align =
-    let K = key_of key in
-    let positive : 0 < align_of names V = rw (← align) node.positive in
-    let laid = entry_layout names K V positive in
-    let high = ap (λ a. max (key_align K) a) align in
-    (
-      ap₂ (λ o a. rounded o a) (ap₂ sum_of (ap (λ a. fits (up (key_size K) a)) align) size ∙ sum_fits (up (key_size K) (align_of names V)) (size_of names V)) high
-          ∙ rounded_fits (up (key_size K) (align_of names V) + size_of names V) (max (key_align K) (align_of names V)) (omega (arith, positive))
-          ∙ ap fits (sym laid.0),
-      high ∙ sym laid.1,
-    )
 
 module _ (s : Schema) (shapes : ℕ → Shape) (m : Checker) where
   pub stands_walk : {X : Shape} {j : ℕ} {pending : List ℕ} {depth : Option ℕ} {stop p start later : ℕ} {seen last : Seen} → StandsFor s shapes X j → Walk s m.bytes.now pending depth stop p (shapes j) start seen later last → Walk s m.bytes.now pending depth stop p X start seen later last
@@ -197,8 +146,8 @@ module _ (s : Schema) (shapes : ℕ → Shape) (m : Checker) where
   free_run {X = X} (suc n) p st made e room = walk_element (stands_walk st (free_case made (omega (arith, e)))) (free_run n (p + size_of s.layouts X) st made e (omega arith))
 
   -- a pointer of its own is followed by entering its region
-  unique_case : {order : Option Key} (pending : List ℕ) (depth : Option ℕ) (stop start : ℕ) (seen : Seen) (where_to : ℤ) (P : Pointee) (l : ℕ) (o : Outcome) → EnterSays (leading None order where_to P l) pending depth stop start seen o → FollowSays (leading None order where_to P l) pending depth stop start seen o
-  unique_case pending depth stop start seen where_to P l o says = says_map o (λ a k w. follow_unique refl w.1) (λ e t. trips_unique refl t) says
+  unique_case : (order : Option Key) (pending : List ℕ) (depth : Option ℕ) (stop start : ℕ) (seen : Seen) (where_to : ℤ) (P : Pointee) (l : ℕ) (o : Outcome) → EnterSays (leading None order where_to P l) pending depth stop start seen o → FollowSays (leading None order where_to P l) pending depth stop start seen o
+  unique_case order pending depth stop start seen where_to P l o says = says_map o (λ a k w. follow_unique refl w.1) (λ e t. trips_unique refl t) says
 
   -- the plan and the shapes read the same length
   length_is : {target : PointeeKind} {order : Option Key} {j : ℕ} {P : Pointee} (p : ℕ) → Points s shapes m target order j P → pointee_length m.bytes.now p target ≡ length_at m.bytes.now p P
@@ -208,13 +157,12 @@ module _ (s : Schema) (shapes : ℕ → Shape) (m : Checker) where
   length_is p points_text = refl
 
   pointer_case : {X : Shape} {target : PointeeKind} {j : ℕ} (pending : List ℕ) (depth : Option ℕ) (stop p start : ℕ) (seen : Seen) (o : Outcome) → Made s shapes m (PointerNode target j) X → ((order : Option Key) (P : Pointee) → Points s shapes m target order j P → EnterSays (leading None order (pos p +ℤ i32_at m.bytes.now p) P (length_at m.bytes.now p P)) pending depth stop start seen o) → ShapeSays X pending depth stop p start seen o
-  pointer_case pending depth stop p start seen o (made_boxed h) says = says_map o (λ a k w. walk_boxed w) (λ e t. trips_boxed t) (unique_case pending depth stop start seen _ _ _ o (says _ _ h))
-  pointer_case pending depth stop p start seen o (made_vec h) says = says_map o (λ a k w. walk_vec w) (λ e t. trips_vec t) (unique_case pending depth stop start seen _ _ _ o (says _ _ h))
-
-  pointer_case pending depth stop p start seen o (made_map h) says = says_map o (λ a k w. walk_map w) (λ e t. trips_map t) (unique_case pending depth stop start seen _ _ _ o (says _ _ h))
+  pointer_case pending depth stop p start seen o (made_boxed h) says = says_map o (λ a k w. walk_boxed w) (λ e t. trips_boxed t) (unique_case None pending depth stop start seen _ _ _ o (says _ _ h))
+  pointer_case pending depth stop p start seen o (made_vec h) says = says_map o (λ a k w. walk_vec w) (λ e t. trips_vec t) (unique_case None pending depth stop start seen _ _ _ o (says _ _ h))
+  pointer_case pending depth stop p start seen o (made_map {key = key} h) says = says_map o (λ a k w. walk_map w) (λ e t. trips_map t) (unique_case (Some (key_of key)) pending depth stop start seen _ _ _ o (says _ _ h))
 
   string_case : (pending : List ℕ) (depth : Option ℕ) (stop p start : ℕ) (seen : Seen) (o : Outcome) → IsOutOfLine m.bytes.now p → 8 < decoded_length (u32_at m.bytes.now p) → EnterSays (string_at m.bytes.now p) pending depth stop start seen o → ShapeSays str pending depth stop p start seen o
-  string_case pending depth stop p start seen o out long says = says_map o (λ a k w. walk_out_of_line out long w) (λ e t. trips_out_of_line out long t) (unique_case pending depth stop start seen _ _ _ o says)
+  string_case pending depth stop p start seen o out long says = says_map o (λ a k w. walk_out_of_line out long w) (λ e t. trips_out_of_line out long t) (unique_case None pending depth stop start seen _ _ _ o says)
 
   str_case : {X : Shape} {j : ℕ} (pending : List ℕ) (depth : Option ℕ) (stop p start : ℕ) (seen : Seen) (o : Outcome) → Made s shapes m (Str j) X → ShapeSays str pending depth stop p start seen o → ShapeSays X pending depth stop p start seen o
   str_case pending depth stop p start seen o (made_str k) says = says
@@ -333,9 +281,9 @@ module _ (s : Schema) (shapes : ℕ → Shape) (m : Checker) where
   entries_case : (K : Key) (V : Shape) (pending : List ℕ) (depth : Option ℕ) (t start : ℕ) (seen : Seen) (l : ℕ) (o : Outcome) → EntriesSay l K V None pending depth t t start seen o → ContentsSay (Some K) (run (entry_of K V)) l t pending depth start seen o
   entries_case K V pending depth t start seen l o h = says_map o (λ a k w. walk_entries w.0 w.1) (λ e t. trips_entries t) h
 
-  entries_none : {K : Key} {V : Shape} {before : Option ℕ} {pending : List ℕ} {depth : Option ℕ} {stop p start : ℕ} {seen : Seen} (n : ℕ) → n ≡ 0 → EntriesSay n K V before pending depth stop p start seen (done start seen)
-  entries_none zero e = (walk_none, tt)
-  entries_none (suc n) e = absurd (omega arith)
+  entries_none : (K : Key) (before : Option ℕ) {V : Shape} {pending : List ℕ} {depth : Option ℕ} {stop p start : ℕ} {seen : Seen} (n : ℕ) → n ≡ 0 → EntriesSay n K V before pending depth stop p start seen (done start seen)
+  entries_none K before zero e = (walk_none, tt)
+  entries_none K before (suc n) e = absurd (omega arith)
 
   entries_key_case : {K : Key} {V : Shape} {before : Option ℕ} {pending : List ℕ} {depth : Option ℕ} {stop p start : ℕ} {seen : Seen} {e : Fault} (n : ℕ) → 0 < n → ((n : ℕ) → TripsEntries s m.bytes.now pending depth stop before p (suc n) K V start seen e) → TripsEntries s m.bytes.now pending depth stop before p n K V start seen e
   entries_key_case zero lt t = absurd (omega arith)
@@ -346,23 +294,22 @@ module _ (s : Schema) (shapes : ℕ → Shape) (m : Checker) where
   entries_value_case zero lt w b is t = absurd (omega arith)
   entries_value_case (suc n) lt w b is t = trips_value w b (rw is at t)
 
-  entries_next_case : {K : Key} {V : Shape} {before : Option ℕ} {pending : List ℕ} {depth : Option ℕ} {stop p start mid later offset size : ℕ} {seen known more : Seen} (n : ℕ) (o : Outcome) → 0 < n → Walk s m.bytes.now pending depth stop p (key_shape K) start seen mid known → ComesBehind K m.bytes.now before p → offset ≡ up (size_of s.layouts (key_shape K)) (align_of s.layouts V) → size ≡ size_of s.layouts (entry_of K V)
+  entries_next_case : (K : Key) (before : Option ℕ) {V : Shape} {pending : List ℕ} {depth : Option ℕ} {stop p start mid later offset size : ℕ} {seen known more : Seen} (n : ℕ) (o : Outcome) → 0 < n → Walk s m.bytes.now pending depth stop p (key_shape K) start seen mid known → ComesBehind K m.bytes.now before p → offset ≡ up (size_of s.layouts (key_shape K)) (align_of s.layouts V) → size ≡ size_of s.layouts (entry_of K V)
       → Walk s m.bytes.now pending depth stop (p + offset) V mid known later more → EntriesSay (n - 1) K V (Some p) pending depth stop (p + size) later more o → EntriesSay n K V before pending depth stop p start seen o
-  entries_next_case zero o lt w b is all v rest = absurd (omega arith)
-  entries_next_case {K = K} {V = V} (suc n) o lt w b is all v rest =
+  entries_next_case K before zero o lt w b is all v rest = absurd (omega arith)
+  entries_next_case K before {V = V} (suc n) o lt w b is all v rest =
       let less : suc n - 1 ≡ n = omega arith in
       let entry = walk_entry s m.bytes.now K V w (rw is at v) in
       says_map o (λ a k ws. let q = rw (less, all) at ws in (walk_element entry q.0, (b, q.1))) (λ f t. trips_later_entry entry b (rw (less, all) at t)) rest
 
-  entry_is : {key : KeyExpr} {V : Shape} {j offset size : ℕ} → Sized m j (size_of s.layouts V) (align_of s.layouts V) → EntryTakes m key j offset size → (offset ≡ up (size_of s.layouts (key_shape (key_of key))) (align_of s.layouts V)) × (size ≡ size_of s.layouts (entry_of (key_of key) V)) × Takes m j (size_of s.layouts V)
-  entry_is {key = key} {V = V} {offset = offset} k takes =
+  entry_is : {key : KeyExpr} (V : Shape) {j offset size : ℕ} → Sized m j (size_of s.layouts V) (align_of s.layouts V) → EntryTakes m key j offset size → (offset ≡ up (size_of s.layouts (key_shape (key_of key))) (align_of s.layouts V)) × (size ≡ size_of s.layouts (entry_of (key_of key) V)) × Takes m j (size_of s.layouts V)
+  entry_is {key = key} V {offset = offset} k takes =
       let same = same_at takes.at k.at in
       let sized = ap (λ q. q.size) same ∙ k.size_is in
       let aligned = ap (λ q. q.align) same ∙ k.align_is in
       let begin : fits (up (key_size (key_of key)) (align_of s.layouts V)) ≡ Some offset = ap (λ a. fits (up (key_size (key_of key)) a)) (sym aligned) ∙ takes.offset_is in
       let all = entry_fits s.layouts key V takes.node sized aligned in
-      let (value, value_is) = value_sized key takes.node takes.size_is in
-      (
+      let (value, value_is) = value_sized key takes.node takes.size_is in (
         sym (some_is begin) ∙ ap (λ n. up n (align_of s.layouts V)) (sym (key_takes s.layouts (key_of key))),
         sym (some_is (sym all.0 ∙ takes.size_is)),
         record { node = takes.node; at = takes.at; size_is = value_is ∙ ap Some (sym (some_is (sym sized ∙ value_is))) },
@@ -396,6 +343,29 @@ module _ (s : Schema) (shapes : ℕ → Shape) (m : Checker) where
     empty_case l plain (points_entries {key = key} k st) e room = absurd (plain key refl)
     empty_case {t = t} l plain points_text e room = walk_text (empty_text m.bytes.now t l e)
 
+    -- entries without a byte: a key and a value that are there, and a second key that isn't behind the first
+    empty_entry : {V : Shape} {j align : ℕ} {pending : List ℕ} {depth : Option ℕ} {stop p start : ℕ} {seen : Seen} (K : Key) → (key_size K ≡ 0) × (size_of s.layouts V ≡ 0) × (up (size_of s.layouts (key_shape K)) (align_of s.layouts V) ≡ 0) → StandsFor s shapes V j → Sized m j (size_of s.layouts V) align → p ≤ length m.bytes.now
+        → Walk s m.bytes.now pending depth stop p (entry_of K V) start seen start seen
+    empty_entry {V = V} K none st k room = walk_entry s m.bytes.now K V (empty_key s m.bytes.now K none.0) (rw none.2 (empty_walk st k none.1 (omega (arith, room))))
+
+    lone_case : {V : Shape} {j : ℕ} {pending : List ℕ} {depth : Option ℕ} {t start : ℕ} {seen : Seen} (K : Key) (l : ℕ) → l ≤ 1 → l * size_of s.layouts (entry_of K V) ≡ 0 → StandsFor s shapes V j → Sized m j (size_of s.layouts V) (align_of s.layouts V) → t ≤ length m.bytes.now
+        → WalkContents s m.bytes.now pending depth t t (Some K) (run (entry_of K V)) l start seen start seen
+    lone_case K zero few e st k room = walk_entries walk_none tt
+    lone_case {V = V} K (suc zero) few e st k room =
+        let none = empty_parts s.layouts K V (rw (← k.align_is) k.node.positive) (omega (arith, e)) in
+        walk_entries (walk_element (empty_entry K none st k room) walk_none) (tt, tt)
+    lone_case K (suc (suc l)) few e st k room = absurd (omega arith)
+
+    equal_case : {V : Shape} {j : ℕ} {pending : List ℕ} {depth : Option ℕ} {t start : ℕ} {seen : Seen} (K : Key) (l : ℕ) → 1 < l → l * size_of s.layouts (entry_of K V) ≡ 0 → StandsFor s shapes V j → Sized m j (size_of s.layouts V) (align_of s.layouts V) → t ≤ length m.bytes.now
+        → TripsContents s m.bytes.now pending depth t t (Some K) (run (entry_of K V)) l start seen unsorted
+    equal_case K zero many e st k room = absurd (omega arith)
+    equal_case K (suc zero) many e st k room = absurd (omega arith)
+    equal_case {V = V} K (suc (suc l)) many e st k room =
+        let lt : 0 < align_of s.layouts V = rw (← k.align_is) k.node.positive in
+        let whole : size_of s.layouts (entry_of K V) ≡ 0 = eq_of_mul-eq-mul_left (suc (suc l)) (omega arith) (size_of s.layouts (entry_of K V)) 0 (e ∙ sym (mul-zero (suc (suc l)))) in
+        let none = empty_parts s.layouts K V lt whole in
+        trips_entries (trips_later_entry (empty_entry K none st k room) tt (trips_order (empty_key s m.bytes.now K none.0) (empty_order m.bytes.now _ _ K none.0)))
+
     mutual
       pub node_says : {pending : List ℕ} {depth : Option ℕ} {stop i p start z : ℕ} {seen : Seen} {o : Outcome} → NodeRuns m pending depth stop i p start seen o → Takes m i z → stop ≤ length m.bytes.now → NodeSays pending depth stop i p start seen o
       node_says (run_free h t room) k le = let made = made_of r h t in free_case made.1 (omega (arith, made.0, room))
@@ -427,18 +397,18 @@ module _ (s : Schema) (shapes : ℕ → Shape) (m : Checker) where
       pub order_says : {pending : List ℕ} {depth : Option ℕ} {stop j p start : ℕ} {before : Option ℕ} {seen : Seen} {key : KeyExpr} {o : Outcome} (V : Shape) → OrderRuns m pending depth stop key j before p start seen o → stop ≤ length m.bytes.now
           → OutcomeSays (λ later last. Walk s m.bytes.now pending depth stop p (key_shape (key_of key)) start seen later last × ComesBehind (key_of key) m.bytes.now before p) (λ e. (n : ℕ) → TripsEntries s m.bytes.now pending depth stop before p (suc n) (key_of key) V start seen e) o
       order_says V (order_key v) le = λ n. trips_key (key_says v le)
-      order_says V (order_wrong v no) le = λ n. trips_order (key_says v le) no
-      order_says V (order_kept v yes) le = (key_says v le, yes)
+      order_says V (order_wrong v wrong) le = λ n. trips_order (key_says v le) wrong
+      order_says V (order_kept v behind) le = (key_says v le, behind)
 
       pub entries_say : {pending : List ℕ} {depth : Option ℕ} {stop j n p start : ℕ} {before : Option ℕ} {seen : Seen} {key : KeyExpr} {V : Shape} {o : Outcome} → EntriesRun m pending depth stop key j before n p start seen o → StandsFor s shapes V j → Sized m j (size_of s.layouts V) (align_of s.layouts V) → stop ≤ length m.bytes.now → EntriesSay n (key_of key) V before pending depth stop p start seen o
-      entries_say (entries_end {n = n} e) st k le = entries_none n e
+      entries_say (entries_end {n = n} {before = before} {key = key} e) st k le = entries_none (key_of key) before n e
       entries_say {V = V} (entries_key {n = n} lt v) st k le = entries_key_case n lt (order_says V v le)
       entries_say {V = V} (entries_value {n = n} lt v takes w) st k le =
-          let q = order_says V v le in let at = entry_is k takes in
+          let q = order_says V v le in let at = entry_is V k takes in
           entries_value_case n lt q.0 q.1 at.0 (stands_trips st (node_says w at.2 le))
-      entries_say {V = V} (entries_next {n = n} {o = o} lt v takes w vs) st k le =
-          let q = order_says V v le in let at = entry_is k takes in
-          entries_next_case n o lt q.0 q.1 at.0 at.1 (stands_walk st (node_says w at.2 le)) (entries_say vs st k le)
+      entries_say {V = V} (entries_next {n = n} {before = before} {key = key} {o = o} lt v takes w vs) st k le =
+          let q = order_says V v le in let at = entry_is V k takes in
+          entries_next_case (key_of key) before n o lt q.0 q.1 at.0 at.1 (stands_walk st (node_says w at.2 le)) (entries_say vs st k le)
 
       pub follow_says : {pending : List ℕ} {depth : Option ℕ} {stop k j n l start : ℕ} {target : PointeeKind} {where_to : ℤ} {seen : Seen} {o : Outcome} (shared_type : SharedType) → FollowRuns m pending depth stop k target j n l where_to start seen o → IsAt m.shared_types.now k shared_type → Points s shapes m target None j (pointee_of shared_type.pointee) → Counts target n l → stop ≤ length m.bytes.now → FollowSays (sorted shared_type where_to l) pending depth stop start seen o
       follow_says shared_type (follow_before {l = l} {o = o} {where_to = where_to} nowhere v) at h c le = before_case _ _ _ _ _ shared_type where_to l o nowhere (enter_says (Some (flavor_of shared_type.flavor)) refl l v h c le)
@@ -485,6 +455,8 @@ module _ (s : Schema) (shapes : ℕ → Shape) (m : Checker) where
       contents_say l (contents_one {o = o} lt v) (points_one sized st) c k le = one_case _ _ _ _ _ l o st (node_says v (sized_takes sized (omega (arith, k.0, k.1))) le)
       contents_say l (contents_run {n = n} {o = o} lt v) (points_run sized st) c k le =
           run_case _ _ _ _ _ _ l o (rw c at (elements_say v st (sized_takes sized (element_few n l _ _ c k.0 k.1 lt)) le))
-      contents_say l (contents_entries {n = n} {o = o} v) (points_entries sized st) c k le = entries_case _ _ _ _ _ _ _ l o (rw c at (entries_say v st sized le))
+      contents_say l (contents_lone {n = n} e few) (points_entries {key = key} sized st) c k le = lone_case (key_of key) l (rw c at few) (sym k.0 ∙ e) st sized le
+      contents_say l (contents_equal {n = n} e many) (points_entries {key = key} sized st) c k le = equal_case (key_of key) l (rw c at many) (sym k.0 ∙ e) st sized le
+      contents_say l (contents_entries {n = n} {o = o} lt v) (points_entries sized st) c k le = entries_case _ _ _ _ _ _ _ l o (rw c at (entries_say v st sized le))
       contents_say l (contents_text utf) points_text c k le = walk_text (rw k.0 at utf)
       contents_say l (contents_no_text wrong) points_text c k le = trips_text (rw k.0 at wrong)

@@ -1,14 +1,13 @@
 //! The check of shallow nodes. They lead to nothing that has to be listed, so the calls nest as deep as the shape does, and no deeper.
 
-ghost use Rattle.std.specs.Prelude.{◌≡◌, ◌≢◌, ◌+◌, ◌≤◌, ℕ, length, IsTrue, None};
+ghost use Rattle.std.specs.Prelude.{◌≡◌, ◌+◌, ◌<◌, ◌≤◌, ℕ, length, IsTrue, None};
 ghost use Rattle.archive_schema.specs.declared.plan.NodeKind.TheVariants.{Str, Leaf as LeafNode, Pointer as PointerNode};
-ghost use Rattle.archive_schema.specs.declared.plan.PointeeKind.TheVariants.{Text};
 ghost use Rattle.archive_schema.specs.check.Runs.{IsNode};
 ghost use Rattle.archive_schema.specs.plan.SoundPlans.{IsSound};
 ghost use Rattle.archive_check.specs.Words.Elements.{span};
-ghost use Rattle.archive_schema.specs.plan.Shallow.{marked, free_at, parts_shallow, IsShallow};
+ghost use Rattle.archive_schema.specs.plan.Shallow.{marked, target_shallow, parts_shallow, IsShallow};
 ghost use Rattle.archive_schema.specs.check.LoopInvariant.{PointeeFits, PartFits, PartsFit, ElementsFit, EntriesFit, KeyFits};
-ghost use Rattle.archive_schema.specs.check.Through.{Passes, PassesIf, PassesRegion, node_rule, parts_rule, span_rule, elements_rule, string_rule, key_rule, entries_rule};
+ghost use Rattle.archive_schema.specs.check.Through.{Passes, PassesIf, PassesRegion, node_rule, parts_rule, span_rule, elements_rule, string_rule, key_rule, order_rule, entries_rule};
 ghost use Rattle.archive_schema.specs.check.Turns.{IsCheckable};
 ghost use Rattle.archive_schema.specs.plan.PackedPlans.{size_at};
 ghost use Rattle.archive_schema.specs.check.Paid.{Pays, bytes_of_parts, bytes_of_elements, bytes_of_entries};
@@ -41,9 +40,10 @@ impl Checker<'_> {
         context: &mut C,
     ) -> Option<()>
         requires pointee { PointeeFits self.now target pointee count }
-        requires shallow { target ≢ Text → IsTrue (free_at self.now.nodes.now pointee) }
+        requires shallow { IsTrue (target_shallow self.now.nodes.now target pointee) }
         requires below { (C.state context.old).end ≤ length self.now.bytes.now }
-        ensures passes { PassesRegion C.Context self.now target pointee count position context work result }
+        ensures passes { PassesRegion C.Context self.now target pointee count position context work
+            result }
         ensures pays { Pays C.Context self.now 4 context work }
     {
         let region = self.enter_region(target, pointee, count, position, work, context)?;
@@ -90,7 +90,7 @@ impl Checker<'_> {
     ) -> Option<()>
         requires sound { IsSound self.now }
         requires kind { IsNode self.now node (PointerNode target pointee) }
-        requires shallow { target ≢ Text → IsTrue (free_at self.now.nodes.now pointee) }
+        requires shallow { IsTrue (target_shallow self.now.nodes.now target pointee) }
         requires fits { PartFits self.now node at }
         requires below { (C.state context.old).end ≤ length self.now.bytes.now }
         ensures passes { Passes C.Context (node_rule self.now node at) context work result }
@@ -158,9 +158,37 @@ impl Checker<'_> {
         Some(())
     }
 
-    /// Checks the key at `at`, and that it comes behind the one at `before`, if there is one. The entry's value is this node.
+    /// Checks the key at `at`. Any node serves for a string's text, and here it is the value's.
     #[inline(always)]
-    pub fn check_key<C: ArchiveContext>(
+    fn check_key<C: ArchiveContext>(
+        &self,
+        key: Key,
+        value: usize,
+        at: usize,
+        work: &mut Worklist,
+        context: &mut C,
+    ) -> Option<()>
+        requires known { value < length self.now.nodes.now }
+        requires fits { at + key_size (key_of key) ≤ length self.now.bytes.now }
+        requires below { (C.state context.old).end ≤ length self.now.bytes.now }
+        ensures passes { Passes C.Context (key_rule self.now key value at) context work result }
+        ensures pays { Pays C.Context self.now (key_size (key_of key)) context work }
+    {
+        match key {
+            Key::Leaf(kind) => {
+                if !is_legal(kind, self.bytes, at) {
+                    return work.refuse(illegal(kind));
+                }
+                Some(())
+            }
+            Key::Str => self.check_string(at, value, work, context),
+        }
+    }
+
+    /// Checks the key at `at`, and that it comes behind the one at `before`, if there is one. `value`
+    /// is the node of the entry's value.
+    #[inline(always)]
+    pub fn check_next_key<C: ArchiveContext>(
         &self,
         key: Key,
         value: usize,
@@ -172,15 +200,11 @@ impl Checker<'_> {
         requires known { value < length self.now.nodes.now }
         requires fits { KeyFits self.now key before at }
         requires below { (C.state context.old).end ≤ length self.now.bytes.now }
-        ensures passes { Passes C.Context (key_rule self.now key value before at) context work result }
+        ensures passes { Passes C.Context (order_rule self.now key value before at) context work
+            result }
         ensures pays { Pays C.Context self.now (key_size (key_of key)) context work }
     {
-        match key {
-            Key::Leaf(kind) => if !is_legal(kind, self.bytes, at) {
-                return work.refuse(illegal(kind));
-            },
-            Key::Str => self.check_string(at, value, work, context)?,
-        }
+        self.check_key(key, value, at, work, context)?;
         if !key.comes_behind(self.bytes, before, at) {
             return work.refuse(Error::UnsortedKeys);
         }
@@ -229,11 +253,13 @@ impl Checker<'_> {
         context: &mut C,
     ) -> Option<bool>
         requires plan { IsCheckable self.now }
-        requires shallow { IsTrue (parts_shallow self.now.shallow.now (span self.now.parts.now variant.first variant.last)) }
+        requires shallow { IsTrue (parts_shallow self.now.shallow.now
+            (span self.now.parts.now variant.first variant.last)) }
         requires fits { PartsFit self.now variant.first variant.last at }
         requires below { (C.state context.old).end ≤ length self.now.bytes.now }
         ensures passes { PassesIf C.Context (span_rule self.now variant at) context work result }
-        ensures pays { Pays C.Context self.now (bytes_of_parts self.now variant.first variant.last) context work }
+        ensures pays { Pays C.Context self.now (bytes_of_parts self.now variant.first variant.last)
+            context work }
     {
         if variant.last.saturating_sub(variant.first) == 1 {
             let part = self.parts[variant.first];
@@ -295,10 +321,12 @@ impl Checker<'_> {
         context: &mut C,
     ) -> Option<()>
         requires plan { IsCheckable self.now }
-        requires shallow { IsTrue (parts_shallow self.now.shallow.now (span self.now.parts.now first last)) }
+        requires shallow { IsTrue (parts_shallow self.now.shallow.now
+            (span self.now.parts.now first last)) }
         requires fits { PartsFit self.now first last base }
         requires below { (C.state context.old).end ≤ length self.now.bytes.now }
-        ensures passes { Passes C.Context (parts_rule self.now first last base) context work result }
+        ensures passes { Passes C.Context (parts_rule self.now first last base) context work
+            result }
         ensures pays { Pays C.Context self.now (bytes_of_parts self.now first last) context work }
     {
         for index in first..last {
@@ -323,8 +351,10 @@ impl Checker<'_> {
         requires shallow { IsTrue (marked self.now.shallow.now node) }
         requires fits { ElementsFit self.now node count at }
         requires below { (C.state context.old).end ≤ length self.now.bytes.now }
-        ensures passes { Passes C.Context (elements_rule self.now node count at) context work result }
-        ensures pays { Pays C.Context self.now (bytes_of_elements self.now node count) context work }
+        ensures passes { Passes C.Context (elements_rule self.now node count at) context work
+            result }
+        ensures pays { Pays C.Context self.now (bytes_of_elements self.now node count) context
+            work }
     {
         let size = self.nodes[node].size.unwrap_or(0);
         let passed = self.count_legal(node, count, at, size);
@@ -348,8 +378,10 @@ impl Checker<'_> {
         requires shallow { IsTrue (marked self.now.shallow.now value) }
         requires fits { EntriesFit self.now key value count at None }
         requires below { (C.state context.old).end ≤ length self.now.bytes.now }
-        ensures passes { Passes C.Context (entries_rule self.now key value count at) context work result }
-        ensures pays { Pays C.Context self.now (bytes_of_entries self.now key value count) context work }
+        ensures passes { Passes C.Context (entries_rule self.now key value None count at) context
+            work result }
+        ensures pays { Pays C.Context self.now (bytes_of_entries self.now key value count) context
+            work }
     {
         let node = self.nodes[value];
         let size = unit_of(PointeeKind::Entries(key), node).end.unwrap_or(0);
@@ -357,7 +389,7 @@ impl Checker<'_> {
         let mut before = None;
         for index in 0..count {
             let next = at + index * size;
-            self.check_key(key, value, before, next, work, context)?;
+            self.check_next_key(key, value, before, next, work, context)?;
             self.check_shallow(value, next + offset, work, context)?;
             before = Some(next);
         }
