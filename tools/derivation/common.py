@@ -1,7 +1,7 @@
 """What the impls of structs and of enums have in common."""
 
 from .formats import ALIGNS
-from .layout import WIDTH, flat, implementation, lay, one_line, statement
+from .layout import WIDTH, flat, implementation, lay, one_line, pair, statement
 
 
 def chain(head, words, end):
@@ -31,6 +31,16 @@ def ok_arm(values, made, indent):
     if len(f"{pad}Ok({values}) => Ok({made.head}") <= WIDTH:
         return f"{pad}Ok({values}) => Ok({lay(made, indent, indent + len(values) + 11, 2)}),\n"
     return f"{pad}Ok({values}) => {{\n{statement(indent + 4, 'Ok(', made, ')')}{pad}}}\n"
+
+
+def kept_of(count):
+    """The resolvers of so many fields, each by its name."""
+    return pair([f"r{i}" for i in range(count)])
+
+
+def taken_apart(count, indent):
+    """The line that names the resolvers. Handed on as one, those of another module's types are unknown to the check."""
+    return statement(indent, "let ", kept_of(count), " = kept;")
 
 
 class Source:

@@ -7,12 +7,14 @@ from .common import (
     deserialize,
     doc_lines,
     infix,
+    kept_of,
     ok_arm,
     own_check,
     portable,
     region,
     resolve_head,
     sealed_clauses,
+    taken_apart,
     view_clauses,
 )
 from .formats import layout_of, snake
@@ -129,8 +131,8 @@ def archive(record):
     planned = "no_part_planned"
     for type, q, v in reversed(list(zip(types, sources, values))):
         planned = f"(part_planned {f.definitions(type)} {f.shape(type)} ({q}.keys {v}) ({q}.meaning {v}) {f.planned(type, v)} {planned})"
-    kept = "kept" if record.count else "resolver"
-    opened = f"        let {record.resolver} {{ kept }} = resolver;\n" if record.count else ""
+    kept = kept_of(record.count) if record.count else "resolver"
+    opened = f"        let {record.resolver} {{ kept }} = resolver;\n{taken_apart(record.count, 8)}" if record.count else ""
     arguments = [f"&self.{field.name}" for field in record.fields] + [kept, "Place::new(pos, bytes)"]
     call = Generic(f"resolve_record_{record.count}", record.rust + [record.archived], arguments)
     return f"""impl Archive for {record.name} {{

@@ -7,12 +7,14 @@ from .common import (
     deserialize,
     doc_lines,
     infix,
+    kept_of,
     ok_arm,
     own_check,
     portable,
     region,
     resolve_head,
     sealed_clauses,
+    taken_apart,
     viewed,
 )
 from .formats import layout_of, snake
@@ -223,7 +225,7 @@ def archive(choice):
 def resolve_arm(choice, case):
     place = "Place::new(pos, bytes)"
     pattern = flat(case.pattern())
-    call = Generic(f"resolve_case_{case.count}", case.rust + [choice.archived], [str(case.tag)] + case.names + ["kept" if case.count else "()", place])
+    call = Generic(f"resolve_case_{case.count}", case.rust + [choice.archived], [str(case.tag)] + case.names + [kept_of(case.count), place])
     if not case.count:
         one = f"            {pattern} => {flat(call)},\n"
         if len(one) <= WIDTH + 1:
@@ -233,7 +235,7 @@ def resolve_arm(choice, case):
     other = " else {\n                    unreachable!();\n                }" if len(choice.cases) > 1 else ""
     return f"""            {pattern} => {{
                 {opened}{other};
-{statement(16, "", call, "")}            }}
+{taken_apart(case.count, 16)}{statement(16, "", call, "")}            }}
 """
 
 

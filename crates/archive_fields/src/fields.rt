@@ -2,6 +2,10 @@
 // Written by tools/fields: change that, and run it again.
 
 mod front;
+mod read_case_few;
+mod read_few;
+mod read_record_few;
+mod reading;
 mod records;
 mod resolve_case_few;
 mod resolve_few;
@@ -12,6 +16,16 @@ mod serialize_record_few;
 mod variants;
 
 pub use front::{resolve_0, serialize_0};
+pub use read_case_few::{
+    read_case_0, read_case_1, read_case_2, read_case_3, read_case_4, read_case_5, read_case_6,
+    read_case_7, read_case_8,
+};
+pub use read_few::{read_1, read_2, read_3, read_4, read_5, read_6, read_7, read_8};
+pub use read_record_few::{
+    read_record_0, read_record_1, read_record_2, read_record_3, read_record_4, read_record_5,
+    read_record_6, read_record_7, read_record_8,
+};
+pub use reading::read_0;
 pub use records::part_in_record;
 pub use resolve_case_few::{
     resolve_case_0, resolve_case_1, resolve_case_2, resolve_case_3, resolve_case_4, resolve_case_5,
@@ -37,4 +51,4 @@ pub use serialize_record_few::{
     serialize_record_4, serialize_record_5, serialize_record_6, serialize_record_7,
     serialize_record_8,
 };
-pub use variants::{known_tag, part_in_case, read_case, tag_in};
+pub use variants::{known_tag, part_in_case, tag_in};

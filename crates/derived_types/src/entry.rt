@@ -182,10 +182,11 @@ impl Archive for Entry {
     {
         let Place { bytes, pos, .. } = place;
         let EntryResolver { kept } = resolver;
+        let (r0, (r1, ())) = kept;
         resolve_record_2::<u64, Event, ArchivedEntry>(
             &self.seconds,
             &self.event,
-            kept,
+            (r0, (r1, ())),
             Place::new(pos, bytes),
         )
     }

@@ -228,25 +228,35 @@ impl Archive for Event {
                 let EventResolver::Key(kept) = resolver else {
                     unreachable!();
                 };
-                resolve_case_1::<char, ArchivedEvent>(1, a0, kept, Place::new(pos, bytes))
+                let (r0, ()) = kept;
+                resolve_case_1::<char, ArchivedEvent>(1, a0, (r0, ()), Place::new(pos, bytes))
             }
             Event::Text(a0) => {
                 let EventResolver::Text(kept) = resolver else {
                     unreachable!();
                 };
-                resolve_case_1::<String, ArchivedEvent>(2, a0, kept, Place::new(pos, bytes))
+                let (r0, ()) = kept;
+                resolve_case_1::<String, ArchivedEvent>(2, a0, (r0, ()), Place::new(pos, bytes))
             }
             Event::Move { x: a0, y: a1 } => {
                 let EventResolver::Move(kept) = resolver else {
                     unreachable!();
                 };
-                resolve_case_2::<i32, i32, ArchivedEvent>(3, a0, a1, kept, Place::new(pos, bytes))
+                let (r0, (r1, ())) = kept;
+                resolve_case_2::<i32, i32, ArchivedEvent>(
+                    3,
+                    a0,
+                    a1,
+                    (r0, (r1, ())),
+                    Place::new(pos, bytes),
+                )
             }
             Event::Batch(a0) => {
                 let EventResolver::Batch(kept) = resolver else {
                     unreachable!();
                 };
-                resolve_case_1::<Vec<u32>, ArchivedEvent>(4, a0, kept, Place::new(pos, bytes))
+                let (r0, ()) = kept;
+                resolve_case_1::<Vec<u32>, ArchivedEvent>(4, a0, (r0, ()), Place::new(pos, bytes))
             }
         }
     }

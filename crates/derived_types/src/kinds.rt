@@ -261,6 +261,7 @@ impl Archive for Numbers {
     {
         let Place { bytes, pos, .. } = place;
         let NumbersResolver { kept } = resolver;
+        let (r0, (r1, (r2, (r3, (r4, (r5, ())))))) = kept;
         resolve_record_6::<NonZero<u32>, usize, isize, i128, bool, (), ArchivedNumbers>(
             &self.some,
             &self.size,
@@ -268,7 +269,7 @@ impl Archive for Numbers {
             &self.wide,
             &self.so,
             &self.nothing,
-            kept,
+            (r0, (r1, (r2, (r3, (r4, (r5, ())))))),
             Place::new(pos, bytes),
         )
     }
@@ -682,6 +683,7 @@ impl Archive for Owners {
     {
         let Place { bytes, pos, .. } = place;
         let OwnersResolver { kept } = resolver;
+        let (r0, (r1, (r2, (r3, (r4, ()))))) = kept;
         resolve_record_5::<
             Result<u8, String>,
             BoxSlice<u16>,
@@ -695,7 +697,7 @@ impl Archive for Owners {
             &self.text,
             &self.both,
             &self.of,
-            kept,
+            (r0, (r1, (r2, (r3, (r4, ()))))),
             Place::new(pos, bytes),
         )
     }
@@ -1079,11 +1081,12 @@ impl Archive for Lists {
     {
         let Place { bytes, pos, .. } = place;
         let ListsResolver { kept } = resolver;
+        let (r0, (r1, (r2, ()))) = kept;
         resolve_record_3::<OwnedArray<i16, 4>, Vec<Option<Spot>>, Pair<u64, Spot>, ArchivedLists>(
             &self.four,
             &self.spots,
             &self.pair,
-            kept,
+            (r0, (r1, (r2, ()))),
             Place::new(pos, bytes),
         )
     }
@@ -1564,10 +1567,11 @@ impl Archive for Unnamed {
     {
         let Place { bytes, pos, .. } = place;
         let UnnamedResolver { kept } = resolver;
+        let (r0, (r1, ())) = kept;
         resolve_record_2::<u8, String, ArchivedUnnamed>(
             &self.0,
             &self.1,
-            kept,
+            (r0, (r1, ())),
             Place::new(pos, bytes),
         )
     }

@@ -195,12 +195,13 @@ impl Archive for Point {
     {
         let Place { bytes, pos, .. } = place;
         let PointResolver { kept } = resolver;
+        let (r0, (r1, (r2, (r3, ())))) = kept;
         resolve_record_4::<i32, i32, String, Vec<String>, ArchivedPoint>(
             &self.x,
             &self.y,
             &self.name,
             &self.tags,
-            kept,
+            (r0, (r1, (r2, (r3, ())))),
             Place::new(pos, bytes),
         )
     }

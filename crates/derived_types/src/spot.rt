@@ -214,10 +214,11 @@ impl Archive for Spot {
     {
         let Place { bytes, pos, .. } = place;
         let SpotResolver { kept } = resolver;
+        let (r0, (r1, ())) = kept;
         resolve_record_2::<u16, i16, ArchivedSpot>(
             &self.right,
             &self.up,
-            kept,
+            (r0, (r1, ())),
             Place::new(pos, bytes),
         )
     }
@@ -482,10 +483,11 @@ impl Archive for Line {
     {
         let Place { bytes, pos, .. } = place;
         let LineResolver { kept } = resolver;
+        let (r0, (r1, ())) = kept;
         resolve_record_2::<Spot, Spot, ArchivedLine>(
             &self.from,
             &self.to,
-            kept,
+            (r0, (r1, ())),
             Place::new(pos, bytes),
         )
     }
@@ -766,12 +768,13 @@ impl Archive for Drawing {
     {
         let Place { bytes, pos, .. } = place;
         let DrawingResolver { kept } = resolver;
+        let (r0, (r1, (r2, (r3, ())))) = kept;
         resolve_record_4::<Line, Vec<Line>, Option<Box<Line>>, Event, ArchivedDrawing>(
             &self.first,
             &self.lines,
             &self.last,
             &self.event,
-            kept,
+            (r0, (r1, (r2, (r3, ())))),
             Place::new(pos, bytes),
         )
     }
@@ -1105,10 +1108,11 @@ impl Archive for Atlas {
     {
         let Place { bytes, pos, .. } = place;
         let AtlasResolver { kept } = resolver;
+        let (r0, (r1, ())) = kept;
         resolve_record_2::<Vec<Drawing>, u8, ArchivedAtlas>(
             &self.drawings,
             &self.pages,
-            kept,
+            (r0, (r1, ())),
             Place::new(pos, bytes),
         )
     }

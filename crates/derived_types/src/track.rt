@@ -193,10 +193,11 @@ impl Archive for Track {
     {
         let Place { bytes, pos, .. } = place;
         let TrackResolver { kept } = resolver;
+        let (r0, (r1, ())) = kept;
         resolve_record_2::<Shared<Line>, Option<Box<Line>>, ArchivedTrack>(
             &self.line,
             &self.other,
-            kept,
+            (r0, (r1, ())),
             Place::new(pos, bytes),
         )
     }
@@ -450,11 +451,12 @@ impl Archive for Runs {
     {
         let Place { bytes, pos, .. } = place;
         let RunsResolver { kept } = resolver;
+        let (r0, (r1, (r2, ()))) = kept;
         resolve_record_3::<SharedSlice<Line>, SharedStr, WeakShared<Line>, ArchivedRuns>(
             &self.lines,
             &self.text,
             &self.weak,
-            kept,
+            (r0, (r1, (r2, ()))),
             Place::new(pos, bytes),
         )
     }
@@ -753,17 +755,19 @@ impl Archive for Either {
                 let EitherResolver::Alone(kept) = resolver else {
                     unreachable!();
                 };
-                resolve_case_1::<u8, ArchivedEither>(0, a0, kept, Place::new(pos, bytes))
+                let (r0, ()) = kept;
+                resolve_case_1::<u8, ArchivedEither>(0, a0, (r0, ()), Place::new(pos, bytes))
             }
             Either::Together(a0, a1) => {
                 let EitherResolver::Together(kept) = resolver else {
                     unreachable!();
                 };
+                let (r0, (r1, ())) = kept;
                 resolve_case_2::<Shared<Line>, u8, ArchivedEither>(
                     1,
                     a0,
                     a1,
-                    kept,
+                    (r0, (r1, ())),
                     Place::new(pos, bytes),
                 )
             }

@@ -205,13 +205,15 @@ impl Archive for Turn {
                 let TurnResolver::Left(kept) = resolver else {
                     unreachable!();
                 };
-                resolve_case_1::<u16, ArchivedTurn>(0, a0, kept, Place::new(pos, bytes))
+                let (r0, ()) = kept;
+                resolve_case_1::<u16, ArchivedTurn>(0, a0, (r0, ()), Place::new(pos, bytes))
             }
             Turn::Right(a0) => {
                 let TurnResolver::Right(kept) = resolver else {
                     unreachable!();
                 };
-                resolve_case_1::<u16, ArchivedTurn>(1, a0, kept, Place::new(pos, bytes))
+                let (r0, ()) = kept;
+                resolve_case_1::<u16, ArchivedTurn>(1, a0, (r0, ()), Place::new(pos, bytes))
             }
         }
     }
@@ -501,10 +503,11 @@ impl Archive for Steps {
     {
         let Place { bytes, pos, .. } = place;
         let StepsResolver { kept } = resolver;
+        let (r0, (r1, ())) = kept;
         resolve_record_2::<u16, u16, ArchivedSteps>(
             &self.first,
             &self.second,
-            kept,
+            (r0, (r1, ())),
             Place::new(pos, bytes),
         )
     }

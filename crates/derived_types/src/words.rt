@@ -198,12 +198,13 @@ impl Archive for Words {
     {
         let Place { bytes, pos, .. } = place;
         let WordsResolver { kept } = resolver;
+        let (r0, (r1, (r2, (r3, ())))) = kept;
         resolve_record_4::<u8, u8, u8, u8, ArchivedWords>(
             &self.data,
             &self.result,
             &self.pos,
             &self.len,
-            kept,
+            (r0, (r1, (r2, (r3, ())))),
             Place::new(pos, bytes),
         )
     }
@@ -549,7 +550,8 @@ impl Archive for Level {
                 let LevelResolver::Ok(kept) = resolver else {
                     unreachable!();
                 };
-                resolve_case_1::<Words, ArchivedLevel>(2, a0, kept, Place::new(pos, bytes))
+                let (r0, ()) = kept;
+                resolve_case_1::<Words, ArchivedLevel>(2, a0, (r0, ()), Place::new(pos, bytes))
             }
         }
     }

@@ -37,7 +37,7 @@ fn resolve_into<T: Archive>(
 
 // Where a `T` begins behind an offset.
 #[inline(always)]
-fn begin_of<T: Portable>(start: usize) -> usize
+pub(super) fn begin_of<T: Portable>(start: usize) -> usize
     ensures { result ≡ min (up start T.layout.align) 18446744073709551615 }
 {
     multiple_of(start, T::align())

@@ -1,0 +1,15 @@
+use Rattle.std.proofs.Common.{◌≡◌, ◌++◌, []}
+use Rattle.archive_check.specs.Value.{value, no_value}
+use Rattle.archive_types.proofs.Causes.{err_from}
+use Rattle.archive_fields.proofs.ReadChoices.{variant_viewed, variant_read, variant_refuses}
+use Rattle.archive_fields.proofs.Ties.{variant_of, plain_case, lone_at}
+use Rattle.archive_fields.proofs.fields.read_case_few.read_case_6.Goals as goal
+
+pub read_6-requires : goal.read_6-requires
+read_6-requires g c = record { viewed = variant_viewed _ _ _ _ _ (plain_case c.requires.nothing (variant_of _ _ _ c.requires.variant) _ c.requires.nameless) c.args.tag _ (variant_of _ _ _ c.requires.variant).at _ (lone_at c.args.tag _) _ _ _ c.requires.tag (rw g.met.X.Portable.is_one at c.requires.viewed) }
+
+pub returns-clause-read : goal.returns-clause-read
+returns-clause-read g c = rw g.met.X.Portable.is_one (variant_read _ _ _ _ _ (plain_case c.requires.nothing (variant_of _ _ _ c.requires.variant) _ c.requires.nameless) c.args.tag _ (variant_of _ _ _ c.requires.variant).at _ (lone_at c.args.tag _) _ _ _ c.requires.tag _ _ (λ r. (value (g.A.Archive.meaning r.0) (value (g.B.Archive.meaning r.1.0) (value (g.C.Archive.meaning r.1.1.0) (value (g.D.Archive.meaning r.1.1.1.0) (value (g.E.Archive.meaning r.1.1.1.1.0) (value (g.F.Archive.meaning r.1.1.1.1.1.0) no_value))))))) (λ r. (g.A.Archive.keys r.0 ++ (g.B.Archive.keys r.1.0 ++ (g.C.Archive.keys r.1.1.0 ++ (g.D.Archive.keys r.1.1.1.0 ++ (g.E.Archive.keys r.1.1.1.1.0 ++ (g.F.Archive.keys r.1.1.1.1.1.0 ++ []))))))) c.read_6.result c.read_6.ensures.read)
+
+pub returns-clause-refused : goal.returns-clause-refused
+returns-clause-refused g c = rw g.met.X.Portable.is_one (err_from c.read_6.result c.read_6.ensures.refused (λ e h. variant_refuses _ _ _ _ _ (plain_case c.requires.nothing (variant_of _ _ _ c.requires.variant) _ c.requires.nameless) c.args.tag _ (variant_of _ _ _ c.requires.variant).at _ (lone_at c.args.tag _) _ _ _ c.requires.tag _ e h))

@@ -1,0 +1,15 @@
+use Rattle.std.proofs.Common.{◌≡◌, ◌++◌, []}
+use Rattle.archive_check.specs.Value.{value, no_value}
+use Rattle.archive_types.proofs.Causes.{err_from}
+use Rattle.archive_types.proofs.ReadRecords.{parts_viewed, record_read, record_refuses}
+use Rattle.archive_fields.proofs.Ties.{plain_record_of}
+use Rattle.archive_fields.proofs.fields.read_record_few.read_record_4.Goals as goal
+
+pub read_4-requires : goal.read_4-requires
+read_4-requires g c = record { viewed = parts_viewed _ _ _ _ (plain_record_of c.requires.nothing c.requires.parts _ c.requires.nameless) _ _ _ (rw g.met.X.Portable.is_one at c.requires.viewed) }
+
+pub returns-clause-read : goal.returns-clause-read
+returns-clause-read g c = rw g.met.X.Portable.is_one (record_read _ _ _ _ (plain_record_of c.requires.nothing c.requires.parts _ c.requires.nameless) _ _ _ _ _ (λ r. (value (g.A.Archive.meaning r.0) (value (g.B.Archive.meaning r.1.0) (value (g.C.Archive.meaning r.1.1.0) (value (g.D.Archive.meaning r.1.1.1.0) no_value))))) (λ r. (g.A.Archive.keys r.0 ++ (g.B.Archive.keys r.1.0 ++ (g.C.Archive.keys r.1.1.0 ++ (g.D.Archive.keys r.1.1.1.0 ++ []))))) c.read_4.result c.read_4.ensures.read)
+
+pub returns-clause-refused : goal.returns-clause-refused
+returns-clause-refused g c = rw g.met.X.Portable.is_one (err_from c.read_4.result c.read_4.ensures.refused (λ e h. record_refuses _ _ _ _ (plain_record_of c.requires.nothing c.requires.parts _ c.requires.nameless) _ _ _ _ e h))

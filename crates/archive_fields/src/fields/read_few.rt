@@ -1,0 +1,267 @@
+// Fields are read back, by their number: 1 to 8.
+// Written by tools/fields: change that, and run it again.
+
+ghost use Rattle.std.specs.Prelude.{◌≡◌, ◌++◌, [], IfOk, IfErr};
+ghost use Rattle.archive_check.specs.Definitions.{both, no_definition};
+ghost use Rattle.archive_check.specs.Shape.{part, no_part};
+ghost use Rattle.archive_check.specs.Value.{value, no_value};
+ghost use Rattle.archive_types.specs.PartsReading.{PartsReadBack, PartsViewed, RefusesParts};
+
+use super::reading::{end_of, read_0, read_front};
+use archive_check::format::error::Error;
+use archive_types::traits::{Archive, Deserialize, Entries, Portable};
+use std::alloc::Global;
+
+/// Reads back one field from the offset `start` on of what begins at `pos`.
+#[inline(always)]
+pub fn read_1<FA: Portable + Deserialize<A, S>, A: Archive + Drop, S: Entries>(
+    alloc: Global,
+    bytes: &[u8],
+    pos: usize,
+    start: usize,
+    deserializer: &mut S,
+) -> Result<(A, ()), Error>
+    requires viewed { PartsViewed (both FA.definitions no_definition) bytes.now pos start (part FA.shape no_part) }
+    ensures read { IfOk result (λ r. PartsReadBack bytes.now pos (both FA.definitions no_definition) (part FA.shape no_part) start (S.entry_of deserializer.old) (S.entry_of deserializer.new) (value (A.meaning r.0) no_value) (A.keys r.0 ++ [])) }
+    ensures refused { IfErr result (RefusesParts (both FA.definitions no_definition) bytes.now pos (part FA.shape no_part) start (S.entry_of deserializer.old)) }
+{
+    let first = read_front::<FA, A, S>(alloc, bytes, pos, start, deserializer)?;
+    let end = end_of::<FA>(bytes, pos, start);
+    let others = read_0::<S>(alloc, bytes, pos, end, deserializer)?;
+    Ok((first, others))
+}
+
+/// Reads back 2 fields from the offset `start` on of what begins at `pos`: each at the next multiple of its alignment.
+#[inline(always)]
+pub fn read_2<
+    FA: Portable + Deserialize<A, S>,
+    A: Archive + Drop,
+    FB: Portable + Deserialize<B, S>,
+    B: Archive + Drop,
+    S: Entries,
+>(
+    alloc: Global,
+    bytes: &[u8],
+    pos: usize,
+    start: usize,
+    deserializer: &mut S,
+) -> Result<(A, (B, ())), Error>
+    requires viewed { PartsViewed (both FA.definitions (both FB.definitions no_definition)) bytes.now pos start (part FA.shape (part FB.shape no_part)) }
+    ensures read { IfOk result (λ r. PartsReadBack bytes.now pos (both FA.definitions (both FB.definitions no_definition)) (part FA.shape (part FB.shape no_part)) start (S.entry_of deserializer.old) (S.entry_of deserializer.new) (value (A.meaning r.0) (value (B.meaning r.1.0) no_value)) (A.keys r.0 ++ (B.keys r.1.0 ++ []))) }
+    ensures refused { IfErr result (RefusesParts (both FA.definitions (both FB.definitions no_definition)) bytes.now pos (part FA.shape (part FB.shape no_part)) start (S.entry_of deserializer.old)) }
+{
+    let first = read_front::<FA, A, S>(alloc, bytes, pos, start, deserializer)?;
+    let end = end_of::<FA>(bytes, pos, start);
+    let others = read_1::<FB, B, S>(alloc, bytes, pos, end, deserializer)?;
+    Ok((first, others))
+}
+
+/// Reads back 3 fields from the offset `start` on of what begins at `pos`: each at the next multiple of its alignment.
+#[inline(always)]
+pub fn read_3<
+    FA: Portable + Deserialize<A, S>,
+    A: Archive + Drop,
+    FB: Portable + Deserialize<B, S>,
+    B: Archive + Drop,
+    FC: Portable + Deserialize<C, S>,
+    C: Archive + Drop,
+    S: Entries,
+>(
+    alloc: Global,
+    bytes: &[u8],
+    pos: usize,
+    start: usize,
+    deserializer: &mut S,
+) -> Result<(A, (B, (C, ()))), Error>
+    requires viewed { PartsViewed (both FA.definitions (both FB.definitions (both FC.definitions no_definition))) bytes.now pos start (part FA.shape (part FB.shape (part FC.shape no_part))) }
+    ensures read { IfOk result (λ r. PartsReadBack bytes.now pos (both FA.definitions (both FB.definitions (both FC.definitions no_definition))) (part FA.shape (part FB.shape (part FC.shape no_part))) start (S.entry_of deserializer.old) (S.entry_of deserializer.new) (value (A.meaning r.0) (value (B.meaning r.1.0) (value (C.meaning r.1.1.0) no_value))) (A.keys r.0 ++ (B.keys r.1.0 ++ (C.keys r.1.1.0 ++ [])))) }
+    ensures refused { IfErr result (RefusesParts (both FA.definitions (both FB.definitions (both FC.definitions no_definition))) bytes.now pos (part FA.shape (part FB.shape (part FC.shape no_part))) start (S.entry_of deserializer.old)) }
+{
+    let first = read_front::<FA, A, S>(alloc, bytes, pos, start, deserializer)?;
+    let end = end_of::<FA>(bytes, pos, start);
+    let others = read_2::<FB, B, FC, C, S>(alloc, bytes, pos, end, deserializer)?;
+    Ok((first, others))
+}
+
+/// Reads back 4 fields from the offset `start` on of what begins at `pos`: each at the next multiple of its alignment.
+#[inline(always)]
+pub fn read_4<
+    FA: Portable + Deserialize<A, S>,
+    A: Archive + Drop,
+    FB: Portable + Deserialize<B, S>,
+    B: Archive + Drop,
+    FC: Portable + Deserialize<C, S>,
+    C: Archive + Drop,
+    FD: Portable + Deserialize<D, S>,
+    D: Archive + Drop,
+    S: Entries,
+>(
+    alloc: Global,
+    bytes: &[u8],
+    pos: usize,
+    start: usize,
+    deserializer: &mut S,
+) -> Result<(A, (B, (C, (D, ())))), Error>
+    requires viewed { PartsViewed (both FA.definitions (both FB.definitions (both FC.definitions (both FD.definitions no_definition)))) bytes.now pos start (part FA.shape (part FB.shape (part FC.shape (part FD.shape no_part)))) }
+    ensures read { IfOk result (λ r. PartsReadBack bytes.now pos (both FA.definitions (both FB.definitions (both FC.definitions (both FD.definitions no_definition)))) (part FA.shape (part FB.shape (part FC.shape (part FD.shape no_part)))) start (S.entry_of deserializer.old) (S.entry_of deserializer.new) (value (A.meaning r.0) (value (B.meaning r.1.0) (value (C.meaning r.1.1.0) (value (D.meaning r.1.1.1.0) no_value)))) (A.keys r.0 ++ (B.keys r.1.0 ++ (C.keys r.1.1.0 ++ (D.keys r.1.1.1.0 ++ []))))) }
+    ensures refused { IfErr result (RefusesParts (both FA.definitions (both FB.definitions (both FC.definitions (both FD.definitions no_definition)))) bytes.now pos (part FA.shape (part FB.shape (part FC.shape (part FD.shape no_part)))) start (S.entry_of deserializer.old)) }
+{
+    let first = read_front::<FA, A, S>(alloc, bytes, pos, start, deserializer)?;
+    let end = end_of::<FA>(bytes, pos, start);
+    let others = read_3::<FB, B, FC, C, FD, D, S>(alloc, bytes, pos, end, deserializer)?;
+    Ok((first, others))
+}
+
+/// Reads back 5 fields from the offset `start` on of what begins at `pos`: each at the next multiple of its alignment.
+#[inline(always)]
+pub fn read_5<
+    FA: Portable + Deserialize<A, S>,
+    A: Archive + Drop,
+    FB: Portable + Deserialize<B, S>,
+    B: Archive + Drop,
+    FC: Portable + Deserialize<C, S>,
+    C: Archive + Drop,
+    FD: Portable + Deserialize<D, S>,
+    D: Archive + Drop,
+    FE: Portable + Deserialize<E, S>,
+    E: Archive + Drop,
+    S: Entries,
+>(
+    alloc: Global,
+    bytes: &[u8],
+    pos: usize,
+    start: usize,
+    deserializer: &mut S,
+) -> Result<(A, (B, (C, (D, (E, ()))))), Error>
+    requires viewed { PartsViewed (both FA.definitions (both FB.definitions (both FC.definitions (both FD.definitions (both FE.definitions no_definition))))) bytes.now pos start (part FA.shape (part FB.shape (part FC.shape (part FD.shape (part FE.shape no_part))))) }
+    ensures read { IfOk result (λ r. PartsReadBack bytes.now pos (both FA.definitions (both FB.definitions (both FC.definitions (both FD.definitions (both FE.definitions no_definition))))) (part FA.shape (part FB.shape (part FC.shape (part FD.shape (part FE.shape no_part))))) start (S.entry_of deserializer.old) (S.entry_of deserializer.new) (value (A.meaning r.0) (value (B.meaning r.1.0) (value (C.meaning r.1.1.0) (value (D.meaning r.1.1.1.0) (value (E.meaning r.1.1.1.1.0) no_value))))) (A.keys r.0 ++ (B.keys r.1.0 ++ (C.keys r.1.1.0 ++ (D.keys r.1.1.1.0 ++ (E.keys r.1.1.1.1.0 ++ [])))))) }
+    ensures refused { IfErr result (RefusesParts (both FA.definitions (both FB.definitions (both FC.definitions (both FD.definitions (both FE.definitions no_definition))))) bytes.now pos (part FA.shape (part FB.shape (part FC.shape (part FD.shape (part FE.shape no_part))))) start (S.entry_of deserializer.old)) }
+{
+    let first = read_front::<FA, A, S>(alloc, bytes, pos, start, deserializer)?;
+    let end = end_of::<FA>(bytes, pos, start);
+    let others = read_4::<FB, B, FC, C, FD, D, FE, E, S>(alloc, bytes, pos, end, deserializer)?;
+    Ok((first, others))
+}
+
+/// Reads back 6 fields from the offset `start` on of what begins at `pos`: each at the next multiple of its alignment.
+#[inline(always)]
+pub fn read_6<
+    FA: Portable + Deserialize<A, S>,
+    A: Archive + Drop,
+    FB: Portable + Deserialize<B, S>,
+    B: Archive + Drop,
+    FC: Portable + Deserialize<C, S>,
+    C: Archive + Drop,
+    FD: Portable + Deserialize<D, S>,
+    D: Archive + Drop,
+    FE: Portable + Deserialize<E, S>,
+    E: Archive + Drop,
+    FF: Portable + Deserialize<F, S>,
+    F: Archive + Drop,
+    S: Entries,
+>(
+    alloc: Global,
+    bytes: &[u8],
+    pos: usize,
+    start: usize,
+    deserializer: &mut S,
+) -> Result<(A, (B, (C, (D, (E, (F, ())))))), Error>
+    requires viewed { PartsViewed (both FA.definitions (both FB.definitions (both FC.definitions (both FD.definitions (both FE.definitions (both FF.definitions no_definition)))))) bytes.now pos start (part FA.shape (part FB.shape (part FC.shape (part FD.shape (part FE.shape (part FF.shape no_part)))))) }
+    ensures read { IfOk result (λ r. PartsReadBack bytes.now pos (both FA.definitions (both FB.definitions (both FC.definitions (both FD.definitions (both FE.definitions (both FF.definitions no_definition)))))) (part FA.shape (part FB.shape (part FC.shape (part FD.shape (part FE.shape (part FF.shape no_part)))))) start (S.entry_of deserializer.old) (S.entry_of deserializer.new) (value (A.meaning r.0) (value (B.meaning r.1.0) (value (C.meaning r.1.1.0) (value (D.meaning r.1.1.1.0) (value (E.meaning r.1.1.1.1.0) (value (F.meaning r.1.1.1.1.1.0) no_value)))))) (A.keys r.0 ++ (B.keys r.1.0 ++ (C.keys r.1.1.0 ++ (D.keys r.1.1.1.0 ++ (E.keys r.1.1.1.1.0 ++ (F.keys r.1.1.1.1.1.0 ++ []))))))) }
+    ensures refused { IfErr result (RefusesParts (both FA.definitions (both FB.definitions (both FC.definitions (both FD.definitions (both FE.definitions (both FF.definitions no_definition)))))) bytes.now pos (part FA.shape (part FB.shape (part FC.shape (part FD.shape (part FE.shape (part FF.shape no_part)))))) start (S.entry_of deserializer.old)) }
+{
+    let first = read_front::<FA, A, S>(alloc, bytes, pos, start, deserializer)?;
+    let end = end_of::<FA>(bytes, pos, start);
+    let others = read_5::<FB, B, FC, C, FD, D, FE, E, FF, F, S>(
+        alloc,
+        bytes,
+        pos,
+        end,
+        deserializer,
+    )?;
+    Ok((first, others))
+}
+
+/// Reads back 7 fields from the offset `start` on of what begins at `pos`: each at the next multiple of its alignment.
+#[inline(always)]
+pub fn read_7<
+    FA: Portable + Deserialize<A, S>,
+    A: Archive + Drop,
+    FB: Portable + Deserialize<B, S>,
+    B: Archive + Drop,
+    FC: Portable + Deserialize<C, S>,
+    C: Archive + Drop,
+    FD: Portable + Deserialize<D, S>,
+    D: Archive + Drop,
+    FE: Portable + Deserialize<E, S>,
+    E: Archive + Drop,
+    FF: Portable + Deserialize<F, S>,
+    F: Archive + Drop,
+    FG: Portable + Deserialize<G, S>,
+    G: Archive + Drop,
+    S: Entries,
+>(
+    alloc: Global,
+    bytes: &[u8],
+    pos: usize,
+    start: usize,
+    deserializer: &mut S,
+) -> Result<(A, (B, (C, (D, (E, (F, (G, ()))))))), Error>
+    requires viewed { PartsViewed (both FA.definitions (both FB.definitions (both FC.definitions (both FD.definitions (both FE.definitions (both FF.definitions (both FG.definitions no_definition))))))) bytes.now pos start (part FA.shape (part FB.shape (part FC.shape (part FD.shape (part FE.shape (part FF.shape (part FG.shape no_part))))))) }
+    ensures read { IfOk result (λ r. PartsReadBack bytes.now pos (both FA.definitions (both FB.definitions (both FC.definitions (both FD.definitions (both FE.definitions (both FF.definitions (both FG.definitions no_definition))))))) (part FA.shape (part FB.shape (part FC.shape (part FD.shape (part FE.shape (part FF.shape (part FG.shape no_part))))))) start (S.entry_of deserializer.old) (S.entry_of deserializer.new) (value (A.meaning r.0) (value (B.meaning r.1.0) (value (C.meaning r.1.1.0) (value (D.meaning r.1.1.1.0) (value (E.meaning r.1.1.1.1.0) (value (F.meaning r.1.1.1.1.1.0) (value (G.meaning r.1.1.1.1.1.1.0) no_value))))))) (A.keys r.0 ++ (B.keys r.1.0 ++ (C.keys r.1.1.0 ++ (D.keys r.1.1.1.0 ++ (E.keys r.1.1.1.1.0 ++ (F.keys r.1.1.1.1.1.0 ++ (G.keys r.1.1.1.1.1.1.0 ++ [])))))))) }
+    ensures refused { IfErr result (RefusesParts (both FA.definitions (both FB.definitions (both FC.definitions (both FD.definitions (both FE.definitions (both FF.definitions (both FG.definitions no_definition))))))) bytes.now pos (part FA.shape (part FB.shape (part FC.shape (part FD.shape (part FE.shape (part FF.shape (part FG.shape no_part))))))) start (S.entry_of deserializer.old)) }
+{
+    let first = read_front::<FA, A, S>(alloc, bytes, pos, start, deserializer)?;
+    let end = end_of::<FA>(bytes, pos, start);
+    let others = read_6::<FB, B, FC, C, FD, D, FE, E, FF, F, FG, G, S>(
+        alloc,
+        bytes,
+        pos,
+        end,
+        deserializer,
+    )?;
+    Ok((first, others))
+}
+
+/// Reads back 8 fields from the offset `start` on of what begins at `pos`: each at the next multiple of its alignment.
+#[inline(always)]
+pub fn read_8<
+    FA: Portable + Deserialize<A, S>,
+    A: Archive + Drop,
+    FB: Portable + Deserialize<B, S>,
+    B: Archive + Drop,
+    FC: Portable + Deserialize<C, S>,
+    C: Archive + Drop,
+    FD: Portable + Deserialize<D, S>,
+    D: Archive + Drop,
+    FE: Portable + Deserialize<E, S>,
+    E: Archive + Drop,
+    FF: Portable + Deserialize<F, S>,
+    F: Archive + Drop,
+    FG: Portable + Deserialize<G, S>,
+    G: Archive + Drop,
+    FH: Portable + Deserialize<H, S>,
+    H: Archive + Drop,
+    S: Entries,
+>(
+    alloc: Global,
+    bytes: &[u8],
+    pos: usize,
+    start: usize,
+    deserializer: &mut S,
+) -> Result<(A, (B, (C, (D, (E, (F, (G, (H, ())))))))), Error>
+    requires viewed { PartsViewed (both FA.definitions (both FB.definitions (both FC.definitions (both FD.definitions (both FE.definitions (both FF.definitions (both FG.definitions (both FH.definitions no_definition)))))))) bytes.now pos start (part FA.shape (part FB.shape (part FC.shape (part FD.shape (part FE.shape (part FF.shape (part FG.shape (part FH.shape no_part)))))))) }
+    ensures read { IfOk result (λ r. PartsReadBack bytes.now pos (both FA.definitions (both FB.definitions (both FC.definitions (both FD.definitions (both FE.definitions (both FF.definitions (both FG.definitions (both FH.definitions no_definition)))))))) (part FA.shape (part FB.shape (part FC.shape (part FD.shape (part FE.shape (part FF.shape (part FG.shape (part FH.shape no_part)))))))) start (S.entry_of deserializer.old) (S.entry_of deserializer.new) (value (A.meaning r.0) (value (B.meaning r.1.0) (value (C.meaning r.1.1.0) (value (D.meaning r.1.1.1.0) (value (E.meaning r.1.1.1.1.0) (value (F.meaning r.1.1.1.1.1.0) (value (G.meaning r.1.1.1.1.1.1.0) (value (H.meaning r.1.1.1.1.1.1.1.0) no_value)))))))) (A.keys r.0 ++ (B.keys r.1.0 ++ (C.keys r.1.1.0 ++ (D.keys r.1.1.1.0 ++ (E.keys r.1.1.1.1.0 ++ (F.keys r.1.1.1.1.1.0 ++ (G.keys r.1.1.1.1.1.1.0 ++ (H.keys r.1.1.1.1.1.1.1.0 ++ []))))))))) }
+    ensures refused { IfErr result (RefusesParts (both FA.definitions (both FB.definitions (both FC.definitions (both FD.definitions (both FE.definitions (both FF.definitions (both FG.definitions (both FH.definitions no_definition)))))))) bytes.now pos (part FA.shape (part FB.shape (part FC.shape (part FD.shape (part FE.shape (part FF.shape (part FG.shape (part FH.shape no_part)))))))) start (S.entry_of deserializer.old)) }
+{
+    let first = read_front::<FA, A, S>(alloc, bytes, pos, start, deserializer)?;
+    let end = end_of::<FA>(bytes, pos, start);
+    let others = read_7::<FB, B, FC, C, FD, D, FE, E, FF, F, FG, G, FH, H, S>(
+        alloc,
+        bytes,
+        pos,
+        end,
+        deserializer,
+    )?;
+    Ok((first, others))
+}
